@@ -1,0 +1,11 @@
+pub mod Answer
+pub mod Board
+pub mod Body
+pub mod Canonical
+pub mod FormReading
+pub mod Nurikabe
+pub mod Rule
+pub mod Slither
+pub mod Sudoku
+pub mod Text
+pub mod Walk

@@ -1,0 +1,68 @@
+-- The names of rules, sets of them as numbers, and how a verdict is written.
+use Rattle.std.specs.Prelude.{ℕ, Bool, not, List, [], ◌∷◌, ◌++◌, codes, filter, bit_and, ◌^◌, ◌==◌, IsBitSet}
+use Rattle.std.specs.List.{flat_map}
+use Rattle.hall_grid.specs.declared.rule.Rule.{Rule}
+use Rattle.hall_grid.specs.declared.rule.Rule.TheVariants.{A0, U1, U2, U3, U4, S1, S2, S3, S4, S5, N1, N2, N3, N4, N5, N6}
+
+-- the place of a name in the table of names, from 0
+abbrev pub place : Rule → ℕ
+place A0 = 0
+place U1 = 1
+place U2 = 2
+place U3 = 3
+place U4 = 4
+place S1 = 5
+place S2 = 6
+place S3 = 7
+place S4 = 8
+place S5 = 9
+place N1 = 10
+place N2 = 11
+place N3 = 12
+place N4 = 13
+place N5 = 14
+place N6 = 15
+
+-- the set, the sum of 2^place over its names, has this name
+abbrev pub Names : ℕ → Rule → Type 0
+Names names rule = IsBitSet names (place rule)
+
+-- the table of names
+abbrev pub all_rules : List Rule
+all_rules = A0 ∷ U1 ∷ U2 ∷ U3 ∷ U4 ∷ S1 ∷ S2 ∷ S3 ∷ S4 ∷ S5 ∷ N1 ∷ N2 ∷ N3 ∷ N4 ∷ N5 ∷ N6 ∷ []
+
+-- a name as it is written
+abbrev pub name_of : Rule → List ℕ
+name_of A0 = codes "A0"
+name_of U1 = codes "U1"
+name_of U2 = codes "U2"
+name_of U3 = codes "U3"
+name_of U4 = codes "U4"
+name_of S1 = codes "S1"
+name_of S2 = codes "S2"
+name_of S3 = codes "S3"
+name_of S4 = codes "S4"
+name_of S5 = codes "S5"
+name_of N1 = codes "N1"
+name_of N2 = codes "N2"
+name_of N3 = codes "N3"
+name_of N4 = codes "N4"
+name_of N5 = codes "N5"
+name_of N6 = codes "N6"
+
+-- whether the set has this name
+abbrev pub is_named : ℕ → Rule → Bool
+is_named names rule = not (bit_and names (2 ^ place rule) == 0)
+
+-- a name after a space
+abbrev pub spaced_name : Rule → List ℕ
+spaced_name rule = 32 ∷ name_of rule
+
+-- no broken rule is right; else the names follow, each after one space
+abbrev pub verdict_of : List Rule → List ℕ
+verdict_of [] = codes "right"
+verdict_of (rule ∷ rules) = codes "wrong" ++ flat_map spaced_name (rule ∷ rules)
+
+-- a verdict as it is written: the names of the set in the table's order
+abbrev pub verdict_text : ℕ → List ℕ
+verdict_text names = verdict_of (filter (is_named names) all_rules)

@@ -1,0 +1,21 @@
+//! Boards, puzzle texts, fillings and answer texts.
+#![tactic(auto)]
+
+mod board;
+mod body;
+mod fault;
+mod filling;
+mod form;
+mod puzzle;
+mod rule;
+mod text;
+
+pub use board::{Clue, Kind, Size};
+pub use fault::TextFault;
+pub use filling::Filling;
+pub use puzzle::Puzzle;
+pub use rule::{Broken, Rule};
+pub use text::parse_puzzle;
+
+#[cfg(test)]
+mod tests;
