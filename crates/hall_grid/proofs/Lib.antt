@@ -1,3 +1,4 @@
+pub mod Names
 pub mod Number16
 pub mod Cell4
 pub mod Forms
@@ -6,3 +7,4 @@ pub mod Fields
 pub mod Rules
 pub mod Rows
 pub mod Unique
+pub mod Values
