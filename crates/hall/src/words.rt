@@ -3,6 +3,7 @@
 use clap::error::ErrorKind;
 use std::alloc::{AllocError, Global};
 use std::env;
+use std::io;
 use std::rt::Env;
 
 /// What the program is asked to do.
@@ -30,6 +31,16 @@ impl From<clap::Error> for WordsFault {
     }
 }
 
+/// A word that is no text is none of a command.
+impl From<io::Error> for WordsFault {
+    fn from(e: io::Error) -> WordsFault {
+        match e.kind() {
+            io::ErrorKind::OutOfMemory => WordsFault::Memory,
+            _ => WordsFault::Line,
+        }
+    }
+}
+
 impl From<AllocError> for WordsFault {
     fn from(_e: AllocError) -> WordsFault {
         WordsFault::Memory
@@ -38,9 +49,7 @@ impl From<AllocError> for WordsFault {
 
 /// The command that the words after the program's name spell.
 pub fn read_words(rt: &(impl Env + AllocGlobal)) -> Result<Command, WordsFault> {
-    let Ok(words) = env::args(rt) else {
-        return Err(WordsFault::Line);
-    };
+    let words = env::args(rt)?;
     let words: Vec<String> = words.skip(1).collect(rt.alloc())?;
     command_of(rt.alloc(), &words)
 }
