@@ -6,3 +6,7 @@ pub mod Fields
 pub mod Rules
 pub mod Rows
 pub mod Unique
+pub mod Walks
+pub mod Labelling
+pub mod Floods
+pub mod Joined

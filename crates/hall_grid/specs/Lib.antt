@@ -9,3 +9,5 @@ pub mod Slither
 pub mod Sudoku
 pub mod Text
 pub mod Walk
+pub mod Component
+pub mod Reached

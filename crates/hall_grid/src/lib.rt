@@ -4,6 +4,7 @@
 mod board;
 mod body;
 mod fault;
+mod graph;
 mod filling;
 mod form;
 mod puzzle;
@@ -13,6 +14,7 @@ mod text;
 pub use board::{Clue, Kind, Size};
 pub use fault::TextFault;
 pub use filling::Filling;
+pub use graph::{Graph, components};
 pub use puzzle::Puzzle;
 pub use rule::{Broken, Rule};
 pub use text::parse_puzzle;
