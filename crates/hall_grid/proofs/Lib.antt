@@ -10,3 +10,4 @@ pub mod Walks
 pub mod Labelling
 pub mod Floods
 pub mod Joined
+pub mod Touching

@@ -11,3 +11,4 @@ pub mod Text
 pub mod Walk
 pub mod Component
 pub mod Reached
+pub mod Beside
