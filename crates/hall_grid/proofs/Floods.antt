@@ -1,13 +1,15 @@
 -- A flood: what has the new label is joined to the root, and what has it and isn't on the stack has its neighbours labelled.
-use Rattle.std.proofs.Common.{◌≡◌, ℕ, zero, suc, ◌+◌, ◌*◌, ◌<◌, ◌≤◌, ◌⊎◌, ◌++◌, List, [], ◌∷◌, length, get_or, replicate, take, drop, Option, Some, None, refl, sym, ap, ◌∙◌, subst, inl, inr, arith}
+use Rattle.std.proofs.Common.{◌≡◌, ℕ, zero, suc, ◌+◌, ◌*◌, ◌<◌, ◌≤◌, ◌⊎◌, ◌++◌, List, [], ◌∷◌, length, get_or, replicate, take, drop, map, Option, Some, None, refl, sym, ap, ◌∙◌, subst, inl, inr, arith}
 use Rattle.std.specs.Prelude.{Contains}
-use Rattle.std.proofs.lemmas.List.{length-replicate, take_at}
+use Rattle.std.specs.Option.{is_some}
+use Rattle.std.proofs.lemmas.List.{length-replicate, length-map, take_at}
 use Rattle.std.proofs.lemmas.List.Elements.{Contains-append_left, Contains-push, Contains-push_cases}
 use Rattle.std.proofs.lemmas.Bool.{cases_lt}
 use Rattle.hall_grid.specs.Walk.{Walk, at, on}
 use Rattle.hall_grid.specs.Component.{IsLabelled, AreComponents, HasComponents, Floods, Labels}
+use Rattle.hall_grid.specs.Reached.{IsMarked, IsReach}
 use Rattle.hall_grid.proofs.Labelling.{one_label, labelled_below}
-use Rattle.hall_grid.proofs.Walks.{Walk-along, Walk-end}
+use Rattle.hall_grid.proofs.Walks.{Walk-along, Walk-start, Walk-end}
 
 pub record Flooding (nodes : ℕ) (IsNext : ℕ → ℕ → Type 0) (IsMember : ℕ → Type 0) (root : ℕ) (old labels : List (Option ℕ)) (stack : List ℕ) : Type 0 where
   pub exact : length labels ≡ nodes
@@ -157,3 +159,34 @@ AreComponents-from_Labelling nodes IsNext IsMember labels below done e l = recor
 -- what a borrowed vector holds after its whole slice was written
 pub written : {A : Type 0} → (n : ℕ) (xs ys : List A) → length xs ≡ n → take n (xs ++ drop (length xs) ys) ≡ xs
 written n xs ys e = take_at xs (drop (length xs) ys) n e
+
+marked_label : (labels : List (Option ℕ)) (a : ℕ) → IsMarked (map is_some labels) a → (label : ℕ) × IsLabelled labels a label
+marked_label [] a h = absurd (cc)
+marked_label (None ∷ labels) zero h = absurd (cc)
+marked_label (Some x ∷ labels) zero h = (x, refl)
+marked_label (x ∷ labels) (suc a) h = marked_label labels a h
+
+label_marked : (labels : List (Option ℕ)) (a label : ℕ) → IsLabelled labels a label → IsMarked (map is_some labels) a
+label_marked [] a label h = absurd (cc)
+label_marked (None ∷ labels) zero label h = absurd (cc)
+label_marked (Some x ∷ labels) zero label h = refl
+label_marked (x ∷ labels) (suc a) label h = label_marked labels a label h
+
+-- after a flood over no labels those with a label are reached
+pub IsReach-from_Floods : (nodes : ℕ) (IsNext : ℕ → ℕ → Type 0) (IsMember : ℕ → Type 0) (from n : ℕ) (labels : List (Option ℕ))
+    → Floods nodes IsNext IsMember from (replicate n None) labels → IsReach nodes IsNext IsMember from (map is_some labels)
+IsReach-from_Floods nodes IsNext IsMember from n labels f = record {
+  exact = length-map labels is_some ∙ f.components.exact;
+  walks = λ a. (
+    (λ h.
+      let l = marked_label labels a h in
+      elim (f.only a l.0 l.1) [
+        | inl k ↦ absurd (none_labelled n a l.0 k)
+        | inr e ↦ subst (λ x. Walk IsNext IsMember x a) e (f.components.joined a l.0 l.1)
+      ]),
+    (λ w.
+      let l = f.begun (Walk-start IsNext IsMember from a w) in
+      label_marked labels a l.0
+      (Walk-along IsNext IsMember (λ x. IsLabelled labels x l.0) (λ x y k n m. f.components.closed x y l.0 k n m) from a l.1 w)),
+  );
+}

@@ -3,6 +3,7 @@ use Rattle.std.proofs.Common.{◌≡◌, ℕ, zero, suc, ◌+◌, ◌-◌, ◌*�
 use Rattle.std.specs.Prelude.{Contains}
 use Rattle.std.proofs.lemmas.Nat.{div-mul-add, mod-mul-add, div-add-mod', div_below, mod_below}
 use Rattle.std.proofs.Math.Nat.{mul-le-mul_right}
+use Rattle.std.proofs.lemmas.List.Elements.{Contains-append_left, Contains-append_cases}
 use Rattle.hall_grid.specs.declared.board.Size.{Size}
 use Rattle.hall_grid.specs.Board.{cells, row, col, Touch, DifferByOne}
 use Rattle.hall_grid.specs.Beside.{IsAbove, IsLeft, IsRight, IsBelow, Holds}
@@ -91,6 +92,11 @@ module _ (size : Size) (cell : ℕ) (some : 0 < size.cols) (board : cell < cells
         let c = q.2 in
         omega arith)
 
+no_place : (other : ℕ) → Contains (None ∷ None ∷ []) (Some other) → ⊥
+no_place other (zero, h, e) = absurd (cc)
+no_place other (suc zero, h, e) = absurd (cc)
+no_place other (suc (suc k), h, e) = absurd (omega arith)
+
 -- four places that hold the cells above, to the left, to the right and below hold the cells that touch
 module _ (size : Size) (cell : ℕ) (up left right down : Option ℕ) (above : Holds up (IsAbove size cell)) (before : Holds left (IsLeft size cell))
     (after : Holds right (IsRight size cell)) (under : Holds down (IsBelow size cell)) where
@@ -110,10 +116,13 @@ module _ (size : Size) (cell : ℕ) (up left right down : Option ℕ) (above : H
   pub touching_are : (other : ℕ) → Contains (up ∷ left ∷ right ∷ down ∷ []) (Some other) ↔ ((other < cells size) × Touch size cell other)
   touching_are other = (touching other, among other)
 
-DifferByOne-turn : (a b : ℕ) → DifferByOne a b → DifferByOne b a
-DifferByOne-turn a b (inl e) = inr e
-DifferByOne-turn a b (inr e) = inl e
+  -- the same, filled up with empty places
+  pub padded_touching : (other : ℕ) → Contains (up ∷ left ∷ right ∷ down ∷ None ∷ None ∷ []) (Some other) → (other < cells size) × Touch size cell other
+  padded_touching other h =
+      elim (Contains-append_cases (up ∷ left ∷ right ∷ down ∷ []) (None ∷ None ∷ []) (Some other) h) [
+        | inl k ↦ touching other k
+        | inr k ↦ absurd (no_place other k)
+      ]
 
-pub Touch-turn : (size : Size) (a b : ℕ) → Touch size a b → Touch size b a
-Touch-turn size a b (inl (r, c)) = inl (sym r, DifferByOne-turn _ _ c)
-Touch-turn size a b (inr (r, c)) = inr (DifferByOne-turn _ _ r, sym c)
+  pub padded_among : (other : ℕ) → other < cells size → Touch size cell other → Contains (up ∷ left ∷ right ∷ down ∷ None ∷ None ∷ []) (Some other)
+  padded_among other low t = Contains-append_left (up ∷ left ∷ right ∷ down ∷ []) (None ∷ None ∷ []) (Some other) (among other (low, t))

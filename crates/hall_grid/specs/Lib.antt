@@ -12,3 +12,4 @@ pub mod Walk
 pub mod Component
 pub mod Reached
 pub mod Beside
+pub mod RegionLaws

@@ -1,6 +1,8 @@
 //! Graphs on numbers: floods and components.
-ghost use Rattle.std.specs.Prelude.{◌≡◌, ℕ, ◌<◌, ◌↔◌, ◌⊎◌, IsTrue, IfOk, OnOk, length, Contains, []};
+ghost use Rattle.std.specs.Prelude.{◌≡◌, ℕ, ◌<◌, ◌↔◌, ◌⊎◌, IsTrue, IfOk, OnOk, length, map, Contains, []};
+ghost use Rattle.std.specs.Option.{is_some};
 ghost use Rattle.hall_grid.specs.Component.{AreComponents, Floods, HasComponents, IsLabelled, Labels};
+ghost use Rattle.hall_grid.specs.Reached.{IsReach};
 
 use std::alloc::{AllocError, Global};
 
@@ -89,6 +91,24 @@ fn flood<G: Graph>(
         label_around(graph, labels, stack, node, root)?;
     }
     Ok(())
+}
+
+/// Whether each node has a label.
+fn labelled(alloc: Global, labels: &[Option<usize>]) -> Result<Vec<bool>, AllocError>
+    ensures { IfOk result (λ marks. marks.items ≡ map is_some labels.now) }
+{
+    labels.iter().map(|label| label.is_some()).collect(alloc)
+}
+
+/// The nodes that a walk over members reaches from a node.
+pub fn reached<G: Graph>(alloc: Global, graph: &G, from: usize) -> Result<Vec<bool>, AllocError>
+    requires { from < G.nodes graph.now }
+    ensures { IfOk result (λ marks. IsReach (G.nodes graph.now) (G.IsNext graph.now) (G.IsMember graph.now) from marks.items) }
+{
+    let mut labels = vec![in alloc; None; graph.nodes()]?;
+    let mut stack = Vec::new(alloc);
+    flood(graph, &mut labels, &mut stack, from)?;
+    labelled(alloc, &labels)
 }
 
 /// The components of a graph: for each member the number of one member of its component, the same for all of them.
