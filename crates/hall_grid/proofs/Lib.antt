@@ -8,3 +8,8 @@ pub mod Rules
 pub mod Rows
 pub mod Unique
 pub mod Values
+pub mod Walks
+pub mod Labelling
+pub mod Floods
+pub mod Joined
+pub mod Touching

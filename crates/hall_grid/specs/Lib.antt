@@ -12,3 +12,7 @@ pub mod Sudoku
 pub mod Text
 pub mod Values
 pub mod Walk
+pub mod Component
+pub mod Reached
+pub mod Beside
+pub mod RegionLaws

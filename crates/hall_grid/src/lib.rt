@@ -6,9 +6,12 @@ mod board;
 mod body;
 mod counted;
 mod fault;
+mod graph;
+mod neighbour;
 mod filling;
 mod form;
 mod puzzle;
+mod region;
 mod rule;
 mod text;
 
@@ -17,7 +20,10 @@ pub use board::{Clue, Kind, Size};
 pub use counted::Counted;
 pub use fault::TextFault;
 pub use filling::Filling;
+pub use graph::{Graph, components, reached};
+pub use neighbour::{dot_ends, neighbours, sides};
 pub use puzzle::Puzzle;
+pub use region::{reach, regions};
 pub use rule::{Broken, Rule};
 pub use text::parse_puzzle;
 
