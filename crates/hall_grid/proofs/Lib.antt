@@ -6,3 +6,5 @@ pub mod Fields
 pub mod Rules
 pub mod Rows
 pub mod Unique
+pub mod Written
+pub mod Writings

@@ -9,3 +9,4 @@ pub mod Slither
 pub mod Sudoku
 pub mod Text
 pub mod Walk
+pub mod Writing

@@ -9,6 +9,7 @@ mod form;
 mod puzzle;
 mod rule;
 mod text;
+mod write;
 
 pub use board::{Clue, Kind, Size};
 pub use fault::TextFault;
@@ -16,6 +17,7 @@ pub use filling::Filling;
 pub use puzzle::Puzzle;
 pub use rule::{Broken, Rule};
 pub use text::parse_puzzle;
+pub use write::write_puzzle;
 
 #[cfg(test)]
 mod tests;
