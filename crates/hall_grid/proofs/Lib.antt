@@ -8,3 +8,5 @@ pub mod Rows
 pub mod Unique
 pub mod Written
 pub mod Writings
+pub mod Spelled
+pub mod OneWriting

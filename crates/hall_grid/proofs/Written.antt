@@ -73,7 +73,7 @@ hex_below b n (inl h) = omega arith
 hex_below b n (inr h) = omega arith
 
 -- past the empty cells there are none but empty cells
-get_or_blanks : (k j : ℕ) → get_or (replicate k Blank) j Blank ≡ Blank
+pub get_or_blanks : (k j : ℕ) → get_or (replicate k Blank) j Blank ≡ Blank
 get_or_blanks zero j = refl
 get_or_blanks (suc k) zero = refl
 get_or_blanks (suc k) (suc j) = get_or_blanks k j

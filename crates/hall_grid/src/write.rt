@@ -152,6 +152,9 @@ fn push_body(text: &mut String, puzzle: &Puzzle) -> Result<(), AllocError>
 /// The canonical text of the puzzle, in ASCII.
 pub fn write_puzzle(alloc: Global, puzzle: &Puzzle) -> Result<String, AllocError>
     ensures canonical { IfOk result (λ text. CanonicalText (string_bytes text) puzzle.now) }
+    ensures reads_back { IfOk result (λ text. SpellsText (string_bytes text) puzzle.now) }
+    ensures only { IfOk result
+        (λ text. (other : List ℕ) → CanonicalText other puzzle.now → other ≡ string_bytes text) }
 {
     let mut text = head(alloc, puzzle.kind(), puzzle.size())?;
     push_body(&mut text, puzzle)?;
