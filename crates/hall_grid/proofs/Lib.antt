@@ -13,3 +13,7 @@ pub mod Labelling
 pub mod Floods
 pub mod Joined
 pub mod Touching
+pub mod Written
+pub mod Writings
+pub mod Spelled
+pub mod OneWriting

@@ -14,7 +14,7 @@ use Rattle.hall_grid.specs.FormReading.{form_at}
 use Rattle.hall_grid.proofs.Number16.{ok_is}
 use Rattle.hall_grid.proofs.Forms.{form_again}
 
-some_bytes : (kind : Kind) (form : List ℕ) (clues : List Clue) → Form kind form clues → 0 < length form
+pub some_bytes : (kind : Kind) (form : List ℕ) (clues : List Clue) → Form kind form clues → 0 < length form
 some_bytes kind form clues (one _ _) = omega arith
 some_bytes kind form clues (two _ _ _) = omega arith
 some_bytes kind form clues (three _ _ _ _) = omega arith

@@ -16,3 +16,4 @@ pub mod Component
 pub mod Reached
 pub mod Beside
 pub mod RegionLaws
+pub mod Writing

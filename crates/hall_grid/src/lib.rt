@@ -14,6 +14,7 @@ mod puzzle;
 mod region;
 mod rule;
 mod text;
+mod write;
 
 pub use answer::{parse_answer, write_answer};
 pub use board::{Clue, Kind, Size};
@@ -26,6 +27,7 @@ pub use puzzle::Puzzle;
 pub use region::{reach, regions};
 pub use rule::{Broken, Rule};
 pub use text::parse_puzzle;
+pub use write::write_puzzle;
 
 #[cfg(test)]
 mod tests;
