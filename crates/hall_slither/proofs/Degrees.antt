@@ -32,7 +32,7 @@ mul_pred r k n h = subst (λ r. k * n + n ≡ r * n) h (omega arith)
 -- A side that has the dot at row r and column c as an end is one of the four from there.
 module _ (size : Size) (r c s : ℕ) (some : 0 < size.cols) (within : c ≤ size.cols) where
   -- the left end of a horizontal side
-  right_from_end : s < flat_sides size → dot size (s / size.cols) (s % size.cols) ≡ dot size r c → Holds (side_right size r c) s
+  pub right_from_end : s < flat_sides size → dot size (s / size.cols) (s % size.cols) ≡ dot size r c → Holds (side_right size r c) s
   right_from_end low e =
       let b = mod_below s size.cols some in
       let p = same_from_place (s / size.cols) (s % size.cols) r c (size.cols + 1) (omega arith) (omega arith) e in
@@ -51,7 +51,7 @@ module _ (size : Size) (r c s : ℕ) (some : 0 < size.cols) (within : c ≤ size
       same_place (size.cols + 1) (s / size.cols) (s % size.cols) r c q.0 q.1
 
   -- the right end of a horizontal side
-  left_from_end : s < flat_sides size → dot size (s / size.cols) (s % size.cols + 1) ≡ dot size r c → Holds (side_left size r c) s
+  pub left_from_end : s < flat_sides size → dot size (s / size.cols) (s % size.cols + 1) ≡ dot size r c → Holds (side_left size r c) s
   left_from_end low e =
       let b = mod_below s size.cols some in
       let p = same_from_place (s / size.cols) (s % size.cols + 1) r c (size.cols + 1) (omega arith) (omega arith) e in
@@ -72,7 +72,7 @@ module _ (size : Size) (r c s : ℕ) (some : 0 < size.cols) (within : c ≤ size
       same_place (size.cols + 1) (s / size.cols) (s % size.cols + 1) r c q.0 (omega arith)
 
   -- the upper end of an upright side
-  down_from_end : flat_sides size ≤ s → s < all_sides size
+  pub down_from_end : flat_sides size ≤ s → s < all_sides size
       → dot size ((s - flat_sides size) / (size.cols + 1)) ((s - flat_sides size) % (size.cols + 1)) ≡ dot size r c → Holds (side_down size r c) s
   down_from_end high low e =
       let b = mod_below (s - flat_sides size) (size.cols + 1) (omega arith) in
@@ -91,7 +91,7 @@ module _ (size : Size) (r c s : ℕ) (some : 0 < size.cols) (within : c ≤ size
       omega arith
 
   -- the lower end of an upright side
-  up_from_end : flat_sides size ≤ s → s < all_sides size
+  pub up_from_end : flat_sides size ≤ s → s < all_sides size
       → dot size ((s - flat_sides size) / (size.cols + 1) + 1) ((s - flat_sides size) % (size.cols + 1)) ≡ dot size r c → Holds (side_up size r c) s
   up_from_end high low e =
       let b = mod_below (s - flat_sides size) (size.cols + 1) (omega arith) in

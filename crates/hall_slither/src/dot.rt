@@ -1,9 +1,10 @@
 //! Dots, the sides at them and their degrees.
-ghost use Rattle.std.specs.Prelude.{◌≡◌, ℕ, ◌+◌, ◌-◌, ◌*◌, ◌/◌, ◌%◌, ◌<◌, ◌≤◌, length, IfSome};
+ghost use Rattle.std.specs.Prelude.{◌≡◌, ℕ, ◌+◌, ◌-◌, ◌*◌, ◌/◌, ◌%◌, ◌<◌, ◌≤◌, ◌⊎◌, length, IfSome, Contains};
 ghost use Rattle.hall_grid.specs.Board.{IsSize};
-ghost use Rattle.hall_grid.specs.Slither.{dots, all_sides, degree, is_line};
+ghost use Rattle.hall_grid.specs.Slither.{dots, all_sides, degree, is_line, ShareDot};
 ghost use Rattle.hall_slither.specs.SidesAt.{sides_at, count_at};
 
+use crate::stand_in::dot_ends;
 use hall_grid::Size;
 
 /// How many dots the board has; they are numbered row by row, from 0.
@@ -61,4 +62,22 @@ pub(crate) fn degree(size: Size, lines: &[u8], dot: usize) -> usize
 {
     let [up, left, right, down] = sides_at(size, dot);
     line_at(lines, up) + line_at(lines, left) + line_at(lines, right) + line_at(lines, down)
+}
+
+/// The at most six other sides that share a dot with a side.
+pub(crate) fn sides_beside(size: Size, side: usize) -> [Option<usize>; 6]
+    requires size { IsSize size }
+    requires board { side < all_sides size }
+    ensures below { (other : ℕ) → Contains result (Some other) → other < all_sides size }
+    ensures share { (other : ℕ) → Contains result (Some other) → ShareDot size side other }
+    ensures all { (other : ℕ) → ShareDot size side other → other < all_sides size → (other ≡ side) ⊎ Contains result (Some other) }
+{
+    let (first, second) = dot_ends(size, side);
+    let [up, left, right, down] = sides_at(size, first);
+    let [other_up, other_left, other_right, other_down] = sides_at(size, second);
+    if side < (size.rows + 1) * size.cols {
+        [up, left, down, other_up, other_right, other_down]
+    } else {
+        [up, left, right, other_left, other_right, other_down]
+    }
 }

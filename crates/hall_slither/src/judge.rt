@@ -1,11 +1,14 @@
 //! The judge.
 ghost use Rattle.std.specs.Prelude.{◌≡◌, ◌<◌, ◌↔◌, IsTrue, IfOk, length, All, count_by};
 ghost use Rattle.hall_grid.specs.Board.{IsSize, Board};
-ghost use Rattle.hall_grid.specs.Slither.{all_sides, is_line, HasNoLine, HasLooseEnd, HasCrossing, HasOtherCount, HasLinesApart};
+ghost use Rattle.hall_grid.specs.Answer.{IsFilling, AreBroken};
+ghost use Rattle.hall_grid.specs.Slither.{all_sides, is_line, HasNoLine, HasLooseEnd, HasCrossing, HasOtherCount};
 
 use crate::dot::{degree, dot_count};
+use crate::lines::has_lines_apart;
 use crate::stand_in::sides;
-use hall_grid::{Clue, Kind, Puzzle, Size};
+use hall_grid::{Broken, Clue, Filling, Kind, Puzzle, Rule, Size};
+use std::alloc::{AllocError, Global};
 
 /// Whether there is no line.
 fn has_no_line(size: Size, lines: &[u8]) -> bool
@@ -66,4 +69,21 @@ fn has_other_count(puzzle: &Puzzle, lines: &[u8]) -> bool
         }
     }
     false
+}
+
+/// The names of the rules that the filling breaks.
+pub fn broken(alloc: Global, puzzle: &Puzzle, filling: &Filling) -> Result<Broken, AllocError>
+    requires kind { puzzle.now.kind ≡ Kind.Slither }
+    requires filling { IsFilling puzzle.now filling.now }
+    ensures { IfOk result (AreBroken puzzle.now filling.now) }
+{
+    let size = puzzle.size();
+    let lines = filling.as_slice();
+    let mut broken = Broken::new();
+    broken.insert_if(Rule::S1, has_no_line(size, lines));
+    broken.insert_if(Rule::S2, has_loose_end(size, lines));
+    broken.insert_if(Rule::S3, has_crossing(size, lines));
+    broken.insert_if(Rule::S4, has_other_count(puzzle, lines));
+    broken.insert_if(Rule::S5, has_lines_apart(alloc, size, lines)?);
+    Ok(broken)
 }

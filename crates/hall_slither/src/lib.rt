@@ -3,6 +3,7 @@
 
 mod dot;
 mod judge;
+mod lines;
 mod stand_in;
 
-
+pub use judge::broken;
