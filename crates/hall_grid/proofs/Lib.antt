@@ -1,3 +1,4 @@
+pub mod Names
 pub mod Number16
 pub mod Cell4
 pub mod Forms
@@ -11,3 +12,4 @@ pub mod Labelling
 pub mod Floods
 pub mod Joined
 pub mod Touching
+pub mod Values

@@ -2,12 +2,15 @@ pub mod Answer
 pub mod Board
 pub mod Body
 pub mod Canonical
+pub mod Device
+pub mod Fault
 pub mod FormReading
 pub mod Nurikabe
 pub mod Rule
 pub mod Slither
 pub mod Sudoku
 pub mod Text
+pub mod Values
 pub mod Walk
 pub mod Component
 pub mod Reached

@@ -1,8 +1,10 @@
 //! Boards, puzzle texts, fillings and answer texts.
 #![tactic(auto)]
 
+mod answer;
 mod board;
 mod body;
+mod counted;
 mod fault;
 mod graph;
 mod neighbour;
@@ -13,7 +15,9 @@ mod region;
 mod rule;
 mod text;
 
+pub use answer::{parse_answer, write_answer};
 pub use board::{Clue, Kind, Size};
+pub use counted::Counted;
 pub use fault::TextFault;
 pub use filling::Filling;
 pub use graph::{Graph, components, reached};
