@@ -7,7 +7,6 @@ pub mod Fields
 pub mod Rules
 pub mod Rows
 pub mod Unique
-pub mod Values
 pub mod Walks
 pub mod Labelling
 pub mod Floods
@@ -17,3 +16,4 @@ pub mod Written
 pub mod Writings
 pub mod Spelled
 pub mod OneWriting
+pub mod Values
