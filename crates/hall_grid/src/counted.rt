@@ -37,6 +37,14 @@ impl<D> Counted<D> {
         }
     }
 
+    /// The device.
+    pub fn into_inner(self) -> D
+        ensures { result ≡ self.device }
+    {
+        let Counted { device, failures: _ } = self;
+        device
+    }
+
     /// How many calls failed.
     pub fn failures(&self) -> u64
         ensures { result ≡ self.now.failures }
