@@ -135,7 +135,7 @@ fn takes_8192_bytes_and_no_more(rt: HostRuntime) -> Result<(), Fail> {
         (8193, b"refused input\n".as_slice(), 2),
     ] {
         let mut input = Vec::from_slice(rt.alloc(), b"sudoku/4/4/123434122143432g\n")?;
-        while input.len() < spare {
+        for _ in input.len()..spare {
             input.push(b'1')?;
         }
         let mut reader = Counted::new(input.as_slice());
