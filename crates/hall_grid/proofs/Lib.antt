@@ -10,3 +10,5 @@ pub mod Written
 pub mod Writings
 pub mod Spelled
 pub mod OneWriting
+pub mod OneFault
+pub mod OneReading

@@ -10,3 +10,4 @@ pub mod Sudoku
 pub mod Text
 pub mod Walk
 pub mod Writing
+pub mod Laws
