@@ -12,3 +12,4 @@ pub mod Spelled
 pub mod OneWriting
 pub mod OneFault
 pub mod OneReading
+pub mod TextRows
