@@ -17,3 +17,6 @@ pub mod Writings
 pub mod Spelled
 pub mod OneWriting
 pub mod Values
+pub mod OneFault
+pub mod OneReading
+pub mod TextRows

@@ -17,3 +17,4 @@ pub mod Reached
 pub mod Beside
 pub mod RegionLaws
 pub mod Writing
+pub mod Laws
