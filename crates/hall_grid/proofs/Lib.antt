@@ -11,3 +11,4 @@ pub mod Labelling
 pub mod Floods
 pub mod Joined
 pub mod Touching
+pub mod Naming

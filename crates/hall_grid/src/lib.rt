@@ -25,3 +25,5 @@ pub use text::parse_puzzle;
 
 #[cfg(test)]
 mod tests;
+#[cfg(test)]
+mod walk_tests;
