@@ -179,14 +179,14 @@ IsReach-from_Floods nodes IsNext IsMember from n labels f = record {
   exact = length-map labels is_some ∙ f.components.exact;
   walks = λ a. (
     (λ h.
-      let l = marked_label labels a h in
-      elim (f.only a l.0 l.1) [
-        | inl k ↦ absurd (none_labelled n a l.0 k)
-        | inr e ↦ subst (λ x. Walk IsNext IsMember x a) e (f.components.joined a l.0 l.1)
-      ]),
+        let l = marked_label labels a h in
+        elim (f.only a l.0 l.1) [
+          | inl k ↦ absurd (none_labelled n a l.0 k)
+          | inr e ↦ subst (λ x. Walk IsNext IsMember x a) e (f.components.joined a l.0 l.1)
+        ]),
     (λ w.
-      let l = f.begun (Walk-start IsNext IsMember from a w) in
-      label_marked labels a l.0
-      (Walk-along IsNext IsMember (λ x. IsLabelled labels x l.0) (λ x y k n m. f.components.closed x y l.0 k n m) from a l.1 w)),
+        let l = f.begun (Walk-start IsNext IsMember from a w) in
+        label_marked labels a l.0
+        (Walk-along IsNext IsMember (λ x. IsLabelled labels x l.0) (λ x y k n m. f.components.closed x y l.0 k n m) from a l.1 w)),
   );
 }

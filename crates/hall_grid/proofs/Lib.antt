@@ -1,3 +1,4 @@
+pub mod Names
 pub mod Number16
 pub mod Cell4
 pub mod Forms
@@ -12,3 +13,11 @@ pub mod Floods
 pub mod Joined
 pub mod Touching
 pub mod Naming
+pub mod Written
+pub mod Writings
+pub mod Spelled
+pub mod OneWriting
+pub mod Values
+pub mod OneFault
+pub mod OneReading
+pub mod TextRows

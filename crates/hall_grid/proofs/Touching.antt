@@ -46,11 +46,11 @@ module _ (size : Size) (cell : ℕ) (some : 0 < size.cols) (board : cell < cells
       Holds-some (IsAbove size cell) (cell - size.cols)
       (omega arith, let r = p.0 in omega arith, p.1)
       (λ x q.
-        let z : row size x * size.cols + col size x ≡ x = div-add-mod' x size.cols in
-        let same : row size x ≡ k.0 = let r = q.1 in omega arith in
-        let m : row size x * size.cols ≡ k.0 * size.cols = ap (λ r. r * size.cols) same in
-        let c = q.2 in
-        omega arith)
+      let z : row size x * size.cols + col size x ≡ x = div-add-mod' x size.cols in
+      let same : row size x ≡ k.0 = let r = q.1 in omega arith in
+      let m : row size x * size.cols ≡ k.0 * size.cols = ap (λ r. r * size.cols) same in
+      let c = q.2 in
+      omega arith)
 
   pub left_is : 0 < col size cell → Holds (Some (cell - 1)) (IsLeft size cell)
   left_is h =
@@ -61,10 +61,10 @@ module _ (size : Size) (cell : ℕ) (some : 0 < size.cols) (board : cell < cells
       Holds-some (IsLeft size cell) (cell - 1)
       (omega arith, p.0, let c = p.1 in omega arith)
       (λ x q.
-        let z : row size x * size.cols + col size x ≡ x = div-add-mod' x size.cols in
-        let m : row size x * size.cols ≡ row size cell * size.cols = ap (λ r. r * size.cols) q.1 in
-        let c = q.2 in
-        omega arith)
+      let z : row size x * size.cols + col size x ≡ x = div-add-mod' x size.cols in
+      let m : row size x * size.cols ≡ row size cell * size.cols = ap (λ r. r * size.cols) q.1 in
+      let c = q.2 in
+      omega arith)
 
   pub right_is : col size cell + 1 < size.cols → Holds (Some (cell + 1)) (IsRight size cell)
   right_is h =
@@ -74,10 +74,10 @@ module _ (size : Size) (cell : ℕ) (some : 0 < size.cols) (board : cell < cells
       Holds-some (IsRight size cell) (cell + 1)
       (below_is size (cell + 1) (row size cell) (col size cell + 1) e row_low h, p.0, p.1)
       (λ x q.
-        let z : row size x * size.cols + col size x ≡ x = div-add-mod' x size.cols in
-        let m : row size x * size.cols ≡ row size cell * size.cols = ap (λ r. r * size.cols) q.1 in
-        let c = q.2 in
-        omega arith)
+      let z : row size x * size.cols + col size x ≡ x = div-add-mod' x size.cols in
+      let m : row size x * size.cols ≡ row size cell * size.cols = ap (λ r. r * size.cols) q.1 in
+      let c = q.2 in
+      omega arith)
 
   pub below_is_cell : row size cell + 1 < size.rows → Holds (Some (cell + size.cols)) (IsBelow size cell)
   below_is_cell h =
@@ -87,10 +87,10 @@ module _ (size : Size) (cell : ℕ) (some : 0 < size.cols) (board : cell < cells
       Holds-some (IsBelow size cell) (cell + size.cols)
       (below_is size (cell + size.cols) (row size cell + 1) (col size cell) e h col_low, p.0, p.1)
       (λ x q.
-        let z : row size x * size.cols + col size x ≡ x = div-add-mod' x size.cols in
-        let m : row size x * size.cols ≡ (row size cell + 1) * size.cols = ap (λ r. r * size.cols) q.1 in
-        let c = q.2 in
-        omega arith)
+      let z : row size x * size.cols + col size x ≡ x = div-add-mod' x size.cols in
+      let m : row size x * size.cols ≡ (row size cell + 1) * size.cols = ap (λ r. r * size.cols) q.1 in
+      let c = q.2 in
+      omega arith)
 
 no_place : (other : ℕ) → Contains (None ∷ None ∷ []) (Some other) → ⊥
 no_place other (zero, h, e) = absurd (cc)

@@ -14,7 +14,7 @@ use Rattle.hall_grid.specs.FormReading.{form_at}
 use Rattle.hall_grid.proofs.Number16.{ok_is}
 use Rattle.hall_grid.proofs.Forms.{form_again}
 
-some_bytes : (kind : Kind) (form : List ℕ) (clues : List Clue) → Form kind form clues → 0 < length form
+pub some_bytes : (kind : Kind) (form : List ℕ) (clues : List Clue) → Form kind form clues → 0 < length form
 some_bytes kind form clues (one _ _) = omega arith
 some_bytes kind form clues (two _ _ _) = omega arith
 some_bytes kind form clues (three _ _ _ _) = omega arith
@@ -48,13 +48,13 @@ one_spelling kind size body a b s t =
     s.gives ∙ ap (fitted (cells size)) (same_clues kind size 0 0 s.pieces t.pieces s.chain t.chain (sym s.whole ∙ t.whole)) ∙ sym t.gives
 
 -- the piece of the longer chain that stands where the shorter one ends
-record Stands (kind : Kind) (size : Size) (given : ℕ) (rest : List ℕ) : Type 0 where
-  piece : Piece
-  after : List ℕ
-  front : rest ≡ piece.bytes ++ after
-  room : given < cells size
-  form : Form kind piece.bytes piece.clues
-  ranges : All (IsClue kind size) piece.clues
+pub record Stands (kind : Kind) (size : Size) (given : ℕ) (rest : List ℕ) : Type 0 where
+  pub piece : Piece
+  pub after : List ℕ
+  pub front : rest ≡ piece.bytes ++ after
+  pub room : given < cells size
+  pub form : Form kind piece.bytes piece.clues
+  pub ranges : All (IsClue kind size) piece.clues
 
 stands : (kind : Kind) (size : Size) (g h : ℕ) (ps qs : List Piece) (rest : List ℕ) → g ≡ h → IsChain kind size g ps → IsChain kind size h qs
     → bytes_of ps ≡ bytes_of qs ++ rest → 0 < length rest → Stands kind size (h + length (clues_of qs)) rest
@@ -76,7 +76,7 @@ stands kind size g h (p ∷ ps) (q ∷ qs) rest s c d e some =
     subst (λ m. Stands kind size m rest) moved t
 
 -- a form at the front begins with the first byte
-begun : (kind : Kind) (b : ℕ) (rest form after : List ℕ) (clues : List Clue) → b ∷ rest ≡ form ++ after → Form kind form clues
+pub begun : (kind : Kind) (b : ℕ) (rest form after : List ℕ) (clues : List Clue) → b ∷ rest ≡ form ++ after → Form kind form clues
     → ((bytes : List ℕ) (clues : List Clue) → Form kind (b ∷ bytes) clues → ⊥) → ⊥
 begun kind b rest [] after clues e f none = let some = some_bytes kind [] clues f in omega arith
 begun kind b rest (x ∷ form) after clues e f none =
@@ -91,7 +91,7 @@ one_form kind bytes form form' after after' clues clues' e e' f f' =
     ap (λ (x : List Clue × List ℕ). x.0) (ok_is (clues, after) (clues', after') r)
 
 -- no piece stands where something is wrong
-wrong_or_stands : (kind : Kind) (size : Size) (given : ℕ) (rest : List ℕ) (fault : TextFault) → Stands kind size given rest → IsWrong kind size given rest fault → ⊥
+pub wrong_or_stands : (kind : Kind) (size : Size) (given : ℕ) (rest : List ℕ) (fault : TextFault) → Stands kind size given rest → IsWrong kind size given rest fault → ⊥
 wrong_or_stands kind size given rest (faults.After _) s w = let r = s.room in omega arith
 wrong_or_stands kind size given rest (faults.Cut _) s w = w.3 s.piece.bytes s.after s.piece.clues s.form s.front
 wrong_or_stands kind size given [] (faults.Strange _) s w = w.1

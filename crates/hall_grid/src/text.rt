@@ -1,7 +1,7 @@
 //! Whole puzzle texts.
-ghost use Rattle.std.specs.Prelude.{◌≡◌, ℕ, ◌<◌, ◌⊎◌, ◌↔◌, ◌∷◌, [], ◌==◌, position, IsTrue, IfOk, IfErr, MatchOption, option_copied};
+ghost use Rattle.std.specs.Prelude.{◌≡◌, ℕ, ◌<◌, ◌⊎◌, ◌↔◌, ◌∷◌, [], ◌==◌, position, IsTrue, IfOk, IfErr, MatchOption, MatchResult, option_copied};
 ghost use Rattle.std.specs.List.{before_first, after_first};
-ghost use Rattle.hall_grid.specs.Board.{HasSize, IsBoard};
+ghost use Rattle.hall_grid.specs.Board.{Board, HasSize, IsBoard};
 ghost use Rattle.hall_grid.specs.Text.{bare, has_address, is_slash, word_of, IsSide, IsNoSide, without_final_slash, SpellsText, FaultOf};
 
 use crate::board::{Kind, Size};
@@ -110,6 +110,7 @@ fn has_size(kind: Kind, size: Size) -> bool
 pub fn parse_puzzle(alloc: Global, text: &[u8]) -> Result<Puzzle, TextFault>
     ensures ok { IfOk result (SpellsText text.now) }
     ensures err { IfErr result (λ e. (e ≡ TextFault.Memory) ⊎ FaultOf text.now e) }
+    ensures only { (board : Board) → SpellsText text.now board → MatchResult result (λ p. p ≡ board) (λ e. e ≡ TextFault.Memory) }
 {
     let start = without_address(text).ok_or(TextFault::Kind)?;
     let (word, sides) = split_field(start);

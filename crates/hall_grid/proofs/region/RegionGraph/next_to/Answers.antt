@@ -15,4 +15,4 @@ returns-clause-next c = λ other h.
 pub returns-clause-all : goal.returns-clause-all
 returns-clause-all c = λ other t m.
     inr (padded_among c.args.self.now.size c.args.node _ _ _ _ c.neighbours.ensures.up c.neighbours.ensures.left c.neighbours.ensures.right c.neighbours.ensures.down other
-      (marked_below c.args.self.now.allowed.now other (cells c.args.self.now.size) c.args.self.now.exact m) t)
+    (marked_below c.args.self.now.allowed.now other (cells c.args.self.now.size) c.args.self.now.exact m) t)

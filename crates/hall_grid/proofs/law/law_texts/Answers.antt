@@ -1,0 +1,23 @@
+use Rattle.hall_grid.proofs.Bodies.{IsBoard-from_Spells}
+use Rattle.hall_grid.proofs.OneReading.{one_puzzle, no_text_fault, one_text_fault}
+use Rattle.hall_grid.proofs.OneWriting.{one_canonical_text}
+use Rattle.hall_grid.proofs.Spelled.{SpellsText-from_CanonicalText}
+use Rattle.hall_grid.proofs.law.law_texts.Goals as goal
+
+pub returns-clause-one_puzzle : goal.returns-clause-one_puzzle
+returns-clause-one_puzzle c = one_puzzle
+
+pub returns-clause-boards : goal.returns-clause-boards
+returns-clause-boards c = λ text board s. IsBoard-from_Spells board.kind board.size _ board.clues s.size s.body
+
+pub returns-clause-no_fault : goal.returns-clause-no_fault
+returns-clause-no_fault c = no_text_fault
+
+pub returns-clause-one_fault : goal.returns-clause-one_fault
+returns-clause-one_fault c = one_text_fault
+
+pub returns-clause-canonical_spells : goal.returns-clause-canonical_spells
+returns-clause-canonical_spells c = λ text board is_board canonical. SpellsText-from_CanonicalText text board is_board.size canonical
+
+pub returns-clause-one_canonical_text : goal.returns-clause-one_canonical_text
+returns-clause-one_canonical_text c = one_canonical_text
