@@ -2,7 +2,7 @@
 use Rattle.std.proofs.Common.{◌≡◌, ℕ, ◌<◌, ◌↔◌, List, Option, None, Some, get_or, sym, ◌∙◌, subst}
 use Rattle.hall_grid.specs.Walk.{Walk}
 use Rattle.hall_grid.specs.Component.{IsLabelled, AreComponents}
-use Rattle.hall_grid.proofs.Walks.{Walk-start, Walk-end, Walk-join, Walk-reverse}
+use Rattle.hall_grid.proofs.Walks.{Walk-start, Walk-end, Walk-join, Walk-reverse, Walk-map}
 
 module _ (nodes : ℕ) (IsNext : ℕ → ℕ → Type 0) (IsMember : ℕ → Type 0) (labels : List (Option ℕ)) (are : AreComponents nodes IsNext IsMember labels) where
   -- only members have labels, and a label is a member that has itself as its label
@@ -32,3 +32,13 @@ module _ (nodes : ℕ) (IsNext : ℕ → ℕ → Type 0) (IsMember : ℕ → Typ
     (λ e. let l = are.labelled a m in walk_from_label turn a b l.0 l.1 (sym e ∙ l.1)),
     (λ w. let l = label_from_walk a b w in l.1 ∙ sym l.2),
   )
+
+-- labels of components where the same nodes are said to be members in other words
+pub AreComponents-members : (nodes : ℕ) (IsNext : ℕ → ℕ → Type 0) (S T : ℕ → Type 0) (labels : List (Option ℕ)) → ((a : ℕ) → S a ↔ T a)
+    → AreComponents nodes IsNext S labels → AreComponents nodes IsNext T labels
+AreComponents-members nodes IsNext S T labels same are = record {
+  exact = are.exact;
+  labelled = λ a m. are.labelled a ((same a).1 m);
+  joined = λ a label h. Walk-map IsNext IsNext S T (λ x. (same x).0) (λ x y _ _ n. n) label a (are.joined a label h);
+  shared = λ a b label w h. are.shared a b label (Walk-map IsNext IsNext T S (λ x. (same x).1) (λ x y _ _ n. n) a b w) h;
+}

@@ -12,6 +12,7 @@ pub mod Labelling
 pub mod Floods
 pub mod Joined
 pub mod Touching
+pub mod Naming
 pub mod Written
 pub mod Writings
 pub mod Spelled

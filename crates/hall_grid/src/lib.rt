@@ -33,3 +33,5 @@ pub use write::write_puzzle;
 
 #[cfg(test)]
 mod tests;
+#[cfg(test)]
+mod walk_tests;

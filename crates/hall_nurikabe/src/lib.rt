@@ -1,0 +1,7 @@
+//! Nurikabe: the judge.
+#![tactic(auto)]
+
+mod island;
+mod judge;
+
+pub use judge::broken;
