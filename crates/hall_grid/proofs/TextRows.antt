@@ -95,10 +95,17 @@ row_canonical =
         gives = refl;
         covers = omega arith;
         chosen = (
-          inl (full 1 (omega arith), refl), one_byte Slither _,
-          (inl (full 2 (omega arith), refl), one_byte Slither _,
-          (inl (full 3 (omega arith), refl), one_byte Slither _,
-          (inr (inr ((λ e. let none = e.2 in cc), (λ e. let none = e.2 in cc), refl)), one_byte Slither _, tt))),
+          inl (full 1 (omega arith), refl),
+          one_byte Slither _,
+          (
+            inl (full 2 (omega arith), refl),
+            one_byte Slither _,
+            (
+              inl (full 3 (omega arith), refl),
+              one_byte Slither _,
+              (inr (inr ((λ e. let none = e.2 in cc), (λ e. let none = e.2 in cc), refl)), one_byte Slither _, tt),
+            ),
+          ),
         );
       };
       whole = rw (decimal_digit 2 (omega arith)) refl;
@@ -134,26 +141,45 @@ row_written_empty =
       canonical = record {
         pieces = piece (122 ∷ []) (replicate 20 Blank) ∷ piece (122 ∷ []) (replicate 20 Blank) ∷ piece (122 ∷ []) (replicate 20 Blank) ∷ piece (122 ∷ []) (replicate 20 Blank) ∷ piece (103 ∷ []) (replicate 1 Blank) ∷ [];
         chain = (
-          omega arith, empty_run 20 (omega arith) (omega arith),
-          (omega arith, empty_run 20 (omega arith) (omega arith),
-          (omega arith, empty_run 20 (omega arith) (omega arith),
-          (omega arith, empty_run 20 (omega arith) (omega arith),
-          (omega arith, empty_run 1 (omega arith) (omega arith), tt)))),
+          omega arith,
+          empty_run 20 (omega arith) (omega arith),
+          (
+            omega arith,
+            empty_run 20 (omega arith) (omega arith),
+            (
+              omega arith,
+              empty_run 20 (omega arith) (omega arith),
+              (
+                omega arith,
+                empty_run 20 (omega arith) (omega arith),
+                (omega arith, empty_run 1 (omega arith) (omega arith), tt),
+              ),
+            ),
+          ),
         );
         whole = refl;
         gives = refl;
         covers = omega arith;
         chosen = (
-          record { within = omega arith; stops = inl refl }, one_byte Sudoku _,
-          (record { within = omega arith; stops = inl refl }, one_byte Sudoku _,
-          (record { within = omega arith; stops = inl refl }, one_byte Sudoku _,
-          (record { within = omega arith; stops = inl refl }, one_byte Sudoku _,
-          (record { within = omega arith; stops = inr (λ e. cc) }, one_byte Sudoku _, tt)))),
+          record { within = omega arith; stops = inl refl },
+          one_byte Sudoku _,
+          (
+            record { within = omega arith; stops = inl refl },
+            one_byte Sudoku _,
+            (
+              record { within = omega arith; stops = inl refl },
+              one_byte Sudoku _,
+              (
+                record { within = omega arith; stops = inl refl },
+                one_byte Sudoku _,
+                (record { within = omega arith; stops = inr (λ e. cc) }, one_byte Sudoku _, tt),
+              ),
+            ),
+          ),
         );
       };
       whole = rw (decimal_digit 9 (omega arith)) refl;
     }
-
 
 -- a fault of the body's first byte
 first_fault : (kind : Kind) (size : Size) (body : List ℕ) (fault : TextFault) → 0 < length body → HasPlace fault 0 → IsWrong kind size 0 body fault → FaultAt kind size body fault

@@ -160,3 +160,6 @@ pub fn write_puzzle(alloc: Global, puzzle: &Puzzle) -> Result<String, AllocError
     push_body(&mut text, puzzle)?;
     Ok(text)
 }
+
+#[cfg(test)]
+mod tests;
