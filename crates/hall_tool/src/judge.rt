@@ -1,7 +1,7 @@
 //! The command `judge`.
 ghost use Rattle.std.specs.Prelude.{◌≡◌, ◌⊎◌, ℕ, List, IfOk, IfErr, IfSome, OnErr, IsErrOf, string_bytes};
 ghost use Rattle.std.specs.Io.KnownBytes.{Appends};
-ghost use Rattle.hall_grid.specs.Answer.{Verdict, IsNoForm};
+ghost use Rattle.hall_grid.specs.Answer.{Verdict, IsNoForm, IsFilling, AreBroken};
 ghost use Rattle.hall_grid.specs.Fault.{fault_text};
 ghost use Rattle.hall_grid.specs.Device.{HasFailed};
 ghost use Rattle.hall_tool.specs.JudgeText.{JudgeText, AnswersTexts, IsVerdictLine, refusal_of};
@@ -9,8 +9,9 @@ ghost use Rattle.hall_tool.specs.JudgeText.{JudgeText, AnswersTexts, IsVerdictLi
 use crate::device::{read_input, write_line};
 use crate::fault::ToolFault;
 use crate::input::{LIMIT, two_lines};
-use hall_grid::{Broken, Counted, Kind, Puzzle, Rule, TextFault, parse_answer, parse_puzzle};
-use hall_sudoku::broken;
+use hall_grid::{
+    Broken, Counted, Filling, Kind, Puzzle, Rule, TextFault, parse_answer, parse_puzzle,
+};
 use std::alloc::{AllocError, Global};
 use std::io::{Read, Write};
 
@@ -23,12 +24,23 @@ pub struct Answer {
 
 /// The names for an answer text: the rules that it breaks, or A0 where it says no filling.
 fn verdict(alloc: Global, puzzle: &Puzzle, text: &[u8]) -> Result<Broken, AllocError>
-    requires { puzzle.now.kind ≡ Kind.Sudoku }
     ensures { IfOk result (Verdict puzzle.now text.now) }
 {
     match parse_answer(alloc, puzzle, text)? {
-        Some(filling) => Ok(broken(puzzle, &filling)),
+        Some(filling) => broken(alloc, puzzle, &filling),
         None => Ok(no_form()),
+    }
+}
+
+/// The names of the rules that the filling breaks, by the judge of the puzzle's kind.
+fn broken(alloc: Global, puzzle: &Puzzle, filling: &Filling) -> Result<Broken, AllocError>
+    requires { IsFilling puzzle.now filling.now }
+    ensures { IfOk result (AreBroken puzzle.now filling.now) }
+{
+    match puzzle.kind() {
+        Kind::Sudoku => Ok(hall_sudoku::broken(puzzle, filling)),
+        Kind::Slither => hall_slither::broken(alloc, puzzle, filling),
+        Kind::Nurikabe => hall_nurikabe::broken(alloc, puzzle, filling),
     }
 }
 
@@ -51,7 +63,6 @@ fn refused(alloc: Global, fault: TextFault) -> Result<Answer, AllocError>
 
 /// The verdict on an answer text, as a line.
 fn judged(alloc: Global, puzzle: &Puzzle, answer: &[u8]) -> Result<Answer, AllocError>
-    requires { puzzle.now.kind ≡ Kind.Sudoku }
     ensures { IfOk result (λ a. IsVerdictLine puzzle.now answer.now (string_bytes a.line) a.status) }
 {
     let names = verdict(alloc, puzzle, answer)?;
@@ -65,8 +76,7 @@ fn answer_texts(alloc: Global, text: &[u8], answer: &[u8]) -> Result<Answer, All
     ensures { IfOk result (λ a. AnswersTexts text.now answer.now (string_bytes a.line) a.status) }
 {
     match parse_puzzle(alloc, text) {
-        Ok(puzzle) if puzzle.kind() == Kind::Sudoku => judged(alloc, &puzzle, answer),
-        Ok(_) => refused(alloc, TextFault::Kind),
+        Ok(puzzle) => judged(alloc, &puzzle, answer),
         Err(TextFault::Memory) => Err(AllocError),
         Err(fault) => refused(alloc, fault),
     }

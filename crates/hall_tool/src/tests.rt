@@ -62,7 +62,7 @@ const RIGHT: &[u8] = b"sudoku/4/4/123434122143432g\n1234341221434321\n";
 
 #[test]
 fn answers_with_the_line_and_the_status(rt: HostRuntime) -> Result<(), Fail> {
-    let rows: [(&[u8], &[u8], u8); 17] = [
+    let rows: [(&[u8], &[u8], u8); 29] = [
         (RIGHT, b"right\n", 0),
         (
             b"sudoku/4/4/123434122143432g\n1234341221434312\n",
@@ -115,6 +115,22 @@ fn answers_with_the_line_and_the_status(rt: HostRuntime) -> Result<(), Fail> {
             b"wrong A0\n",
             1,
         ),
+        (b"slither/3/1/i\n101101/1111\n", b"wrong S5\n", 1),
+        (b"slither/1/1/a\n00/00\n", b"wrong S1\n", 1),
+        (b"slither/2/1/g\n1010/110\n", b"right\n", 0),
+        (b"slither/2/1/g\n1010/100\n", b"wrong S2\n", 1),
+        (
+            b"https://puzz.link/p?slither/2/2/222c/\n110011/101101\n",
+            b"right\n",
+            0,
+        ),
+        (b"nurikabe/2/2/1i\n.##.\n", b"wrong N3 N4\n", 1),
+        (b"nurikabe/2/2/1i\n####\n", b"wrong N1 N2\n", 1),
+        (b"nurikabe/2/1/.g\n#.\n", b"wrong N1 N4\n", 1),
+        (b"slither/2/2/f\n1\n", b"refused E5 0\n", 2),
+        (b"nurikabe/2/2/-0\n1\n", b"refused E6 0\n", 2),
+        (b"slither/1/1/00\n1\n", b"refused E8 1\n", 2),
+        (b"nurikabe/2/2/1i\n.###\n", b"right\n", 0),
         (b"\xff\xfe\n\x00\n", b"refused E2\n", 2),
     ];
     for (input, line, status) in &rows {
