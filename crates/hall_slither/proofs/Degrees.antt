@@ -1,12 +1,12 @@
 -- The degree of a dot is the count over its at most four sides.
 use Rattle.std.proofs.Common.{◌≡◌, ℕ, ◌+◌, ◌-◌, ◌*◌, ◌/◌, ◌%◌, ◌<◌, ◌≤◌, ◌⊎◌, Bool, true, false, cond, ltb, eqb, ◌&&◌, ◌||◌, List, Option, Some, None, refl, sym, ap, ◌∙◌, subst, inl, inr, arith}
-use Rattle.std.specs.Prelude.{nat_lt, ◌==◌, IfSome}
+use Rattle.std.specs.Prelude.{IfSome}
 use Rattle.std.proofs.lemmas.Nat.{div-add-mod', div_below, mod_below, same_from_place, mul-add-lt}
 use Rattle.std.proofs.lemmas.Bool.{cases_lt, cases_Bool, lt-ltb, le-ltb, ltb-true, eq-eqb, eqb-true, or_cases, or_left, or_right}
 use Rattle.hall_grid.specs.declared.board.Size.{Size}
-use Rattle.hall_grid.specs.Slither.{dot, dots, flat_sides, all_sides, flat_side, upright_side, ends, ends_of_flat, ends_of_upright, is_end, is_line, degree}
+use Rattle.hall_grid.specs.Slither.{dot, dots, flat_sides, all_sides, flat_side, upright_side, ends_of_flat, ends_of_upright, is_end, is_line, degree}
 use Rattle.hall_slither.specs.SidesAt.{dot_row, dot_col, side_up, side_left, side_right, side_down, count_at}
-use Rattle.hall_slither.proofs.Tallies.{tally, hits, count_by-numbers, tally-or, tally-same, tally-hits}
+use Rattle.hall_slither.proofs.Tallies.{tally, hits, count_by-numbers, tally-or, tally-hits}
 
 -- the option has this number
 abbrev pub Holds : Option ℕ → ℕ → Type 0
@@ -264,12 +264,12 @@ module _ (size : Size) (r c : ℕ) (some : 0 < size.cols) (high : r ≤ size.row
       let n = all_sides size in
       let up = side_up size r c in let left = side_left size r c in let right = side_right size r c in let down = side_down size r c in
       let whole = tally-or (λ s. p s && is_end size (dot size r c) s) (λ s. p s && (hits up s || hits left s)) (λ s. p s && (hits right s || hits down s)) n
-          (λ s l. ap (λ b. p s && b) (end_is s l) ∙ and_or (p s) _ _)
-          (λ s l a b. apart s (or_cases (hits up s) (hits left s) (and_second (p s) _ a)) (or_cases (hits right s) (hits down s) (and_second (p s) _ b))) in
+      (λ s l. ap (λ b. p s && b) (end_is s l) ∙ and_or (p s) _ _)
+      (λ s l a b. apart s (or_cases (hits up s) (hits left s) (and_second (p s) _ a)) (or_cases (hits right s) (hits down s) (and_second (p s) _ b))) in
       let first = tally-or (λ s. p s && (hits up s || hits left s)) (λ s. p s && hits up s) (λ s. p s && hits left s) n
-          (λ s l. and_or (p s) _ _) (λ s l a b. up_or_left s (and_second (p s) _ a) (and_second (p s) _ b)) in
+      (λ s l. and_or (p s) _ _) (λ s l a b. up_or_left s (and_second (p s) _ a) (and_second (p s) _ b)) in
       let second = tally-or (λ s. p s && (hits right s || hits down s)) (λ s. p s && hits right s) (λ s. p s && hits down s) n
-          (λ s l. and_or (p s) _ _) (λ s l a b. right_or_down s (and_second (p s) _ a) (and_second (p s) _ b)) in
+      (λ s l. and_or (p s) _ _) (λ s l a b. right_or_down s (and_second (p s) _ a) (and_second (p s) _ b)) in
       let u = tally-hits p up n (all_held up (λ s. s < n) (λ s h. (up_high s h).1)) in
       let l = tally-hits p left n (all_held left (λ s. s < n) (λ s h. let k = left_low s h in omega arith)) in
       let r = tally-hits p right n (all_held right (λ s. s < n) (λ s h. let k = right_low s h in omega arith)) in
@@ -286,7 +286,7 @@ dot_within size d low =
 -- how many lines are at a dot
 pub degree_is : (size : Size) (f : List ℕ) (d : ℕ) → 0 < size.cols → d < dots size
     → degree size f d ≡ (count_at (is_line f) (side_up size (dot_row size d) (dot_col size d)) + count_at (is_line f) (side_left size (dot_row size d) (dot_col size d)))
-        + (count_at (is_line f) (side_right size (dot_row size d) (dot_col size d)) + count_at (is_line f) (side_down size (dot_row size d) (dot_col size d)))
+    + (count_at (is_line f) (side_right size (dot_row size d) (dot_col size d)) + count_at (is_line f) (side_down size (dot_row size d) (dot_col size d)))
 degree_is size f d some low =
     let w = dot_within size d low in
     count_by-numbers (λ side. is_line f side && is_end size d side) (all_sides size)
@@ -296,7 +296,7 @@ degree_is size f d some low =
 -- the sides at a dot are on the board
 pub sides_below : (size : Size) (d s : ℕ) → 0 < size.cols → d < dots size
     → (Holds (side_up size (dot_row size d) (dot_col size d)) s ⊎ Holds (side_left size (dot_row size d) (dot_col size d)) s)
-        ⊎ (Holds (side_right size (dot_row size d) (dot_col size d)) s ⊎ Holds (side_down size (dot_row size d) (dot_col size d)) s)
+    ⊎ (Holds (side_right size (dot_row size d) (dot_col size d)) s ⊎ Holds (side_down size (dot_row size d) (dot_col size d)) s)
     → s < all_sides size
 sides_below size d s some low h =
     let w = dot_within size d low in

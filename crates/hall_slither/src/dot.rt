@@ -4,8 +4,7 @@ ghost use Rattle.hall_grid.specs.Board.{IsSize};
 ghost use Rattle.hall_grid.specs.Slither.{dots, all_sides, degree, is_line, ShareDot};
 ghost use Rattle.hall_slither.specs.SidesAt.{sides_at, count_at};
 
-use crate::stand_in::dot_ends;
-use hall_grid::Size;
+use hall_grid::{Size, dot_ends};
 
 /// How many dots the board has; they are numbered row by row, from 0.
 pub(crate) fn dot_count(size: Size) -> usize
@@ -23,7 +22,7 @@ pub(crate) fn sides_at(size: Size, dot: usize) -> [Option<usize>; 4]
 {
     let row = dot / (size.cols + 1);
     let col = dot % (size.cols + 1);
-    let flat_sides = (size.rows + 1) * size.cols;
+    let flat_sides = size.flat_sides();
     let flat = row * size.cols + col;
     let up = if row > 0 {
         Some(flat_sides + (row - 1) * (size.cols + 1) + col)
@@ -75,7 +74,7 @@ pub(crate) fn sides_beside(size: Size, side: usize) -> [Option<usize>; 6]
     let (first, second) = dot_ends(size, side);
     let [up, left, right, down] = sides_at(size, first);
     let [other_up, other_left, other_right, other_down] = sides_at(size, second);
-    if side < (size.rows + 1) * size.cols {
+    if side < size.flat_sides() {
         [up, left, down, other_up, other_right, other_down]
     } else {
         [up, left, right, other_left, other_right, other_down]

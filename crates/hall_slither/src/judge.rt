@@ -6,8 +6,7 @@ ghost use Rattle.hall_grid.specs.Slither.{all_sides, is_line, HasNoLine, HasLoos
 
 use crate::dot::{degree, dot_count};
 use crate::lines::has_lines_apart;
-use crate::stand_in::sides;
-use hall_grid::{Broken, Clue, Filling, Kind, Puzzle, Rule, Size};
+use hall_grid::{Broken, Clue, Filling, Kind, Puzzle, Rule, Size, sides};
 use std::alloc::{AllocError, Global};
 
 /// Whether there is no line.
@@ -71,7 +70,8 @@ fn has_other_count(puzzle: &Puzzle, lines: &[u8]) -> bool
     false
 }
 
-/// The names of the rules that the filling breaks.
+/// The names of the rules that the filling breaks: S1 where there is no line, S2 where a dot has one line, S3 where a dot has three or four,
+/// S4 where a number isn't the count of lines on its cell's four sides, S5 where the lines aren't all joined. The one error is want of memory.
 pub fn broken(alloc: Global, puzzle: &Puzzle, filling: &Filling) -> Result<Broken, AllocError>
     requires kind { puzzle.now.kind ≡ Kind.Slither }
     requires filling { IsFilling puzzle.now filling.now }

@@ -4,6 +4,8 @@
 mod dot;
 mod judge;
 mod lines;
-mod stand_in;
 
 pub use judge::broken;
+
+#[cfg(test)]
+mod tests;

@@ -1,5 +1,4 @@
-use Rattle.std.proofs.Common.{◌≡◌, ◌+◌, ◌<◌, length, inl, inr, sym, ◌∙◌, arith}
-use Rattle.hall_slither.specs.SidesAt.{dot_row, dot_col, side_down}
+use Rattle.std.proofs.Common.{◌<◌, length, inr, arith}
 use Rattle.hall_slither.proofs.Degrees.{all_held, sides_below, degree_is}
 use Rattle.hall_slither.proofs.dot.degree.Goals as goal
 

@@ -1,11 +1,11 @@
-use Rattle.std.proofs.Common.{◌≡◌, ◌<◌, ◌≤◌, ℕ, inl, inr, below_more, sym, ◌∙◌, arith}
+use Rattle.std.proofs.Common.{◌<◌, ◌≤◌, ℕ, inl, inr, below_more, arith}
 use Rattle.std.proofs.lemmas.Bool.{false≢true}
 use Rattle.hall_grid.specs.Slither.{degree, dots}
 use Rattle.hall_slither.proofs.judge.has_crossing.Goals as goal
 
 pub loop-dot-preserved : goal.loop-dot-preserved
 loop-dot-preserved c =
-    let here : degree c.args.size c.args.lines.now c.loop-dot.dot ≤ 2 = let e = c.degree.ensures.degree in let k = c.if-degree-gt2.false in omega arith in
+    let here : degree c.args.size c.args.lines.now c.loop-dot.dot ≤ 2 = let e = c.degree.ensures.degree in omega arith in
     below_more (λ d. degree c.args.size c.args.lines.now d ≤ 2) _ c.loop-dot.invariant here
 
 pub returns : goal.returns

@@ -1,11 +1,12 @@
-use Rattle.std.proofs.Common.{◌≡◌, ◌<◌, ℕ, below_more, sym, ◌∙◌, arith}
+use Rattle.std.proofs.Common.{◌≡◌, ◌<◌, ℕ, below_more, arith}
 use Rattle.std.proofs.lemmas.Bool.{false≢true}
 use Rattle.hall_grid.specs.Slither.{degree, dots}
 use Rattle.hall_slither.proofs.judge.has_loose_end.Goals as goal
 
 pub loop-dot-preserved : goal.loop-dot-preserved
 loop-dot-preserved c =
-    below_more (λ d. degree c.args.size c.args.lines.now d ≡ 1 → ⊥) _ c.loop-dot.invariant (λ e. c.if-degree-eq1.false (c.degree.ensures.degree ∙ e))
+    let here : degree c.args.size c.args.lines.now c.loop-dot.dot ≡ 1 → ⊥ = λ e. (let d = c.degree.ensures.degree in omega arith) in
+    below_more (λ d. degree c.args.size c.args.lines.now d ≡ 1 → ⊥) _ c.loop-dot.invariant here
 
 pub returns : goal.returns
 returns c =
