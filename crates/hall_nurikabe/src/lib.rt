@@ -5,3 +5,6 @@ mod island;
 mod judge;
 
 pub use judge::broken;
+
+#[cfg(test)]
+mod tests;
