@@ -10,5 +10,9 @@ IsFront limit known bytes = IfSome known (λ all. bytes ≡ take limit all)
 abbrev pub HasTwoLines : List ℕ → List ℕ → List ℕ → Type 0
 HasTwoLines input first second = (length input ≤ 8192) × (lines input ≡ first ∷ second ∷ [])
 
+-- the input is at most 8,192 bytes in one line
+abbrev pub HasOneLine : List ℕ → List ℕ → Type 0
+HasOneLine input line = (length input ≤ 8192) × (lines input ≡ line ∷ [])
+
 abbrev pub is_line_feed : ℕ → Bool
 is_line_feed byte = byte == 10

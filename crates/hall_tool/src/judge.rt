@@ -2,10 +2,10 @@
 ghost use Rattle.std.specs.Prelude.{◌≡◌, ◌⊎◌, ℕ, List, IfOk, IfErr, IfSome, OnErr, IsErrOf, string_bytes};
 ghost use Rattle.std.specs.Io.KnownBytes.{Appends};
 ghost use Rattle.hall_grid.specs.Answer.{Verdict, IsNoForm, IsFilling, AreBroken};
-ghost use Rattle.hall_grid.specs.Fault.{fault_text};
 ghost use Rattle.hall_grid.specs.Device.{HasFailed};
-ghost use Rattle.hall_tool.specs.JudgeText.{JudgeText, AnswersTexts, IsVerdictLine, refusal_of};
+ghost use Rattle.hall_tool.specs.JudgeText.{JudgeText, AnswersTexts, IsVerdictLine};
 
+use crate::answer::{Answer, refused, refused_input};
 use crate::device::{read_input, write_line};
 use crate::fault::ToolFault;
 use crate::input::{LIMIT, two_lines};
@@ -14,13 +14,6 @@ use hall_grid::{
 };
 use std::alloc::{AllocError, Global};
 use std::io::{Read, Write};
-
-/// A line to be written, and the exit status that goes with it.
-#[derive(Drop)]
-pub struct Answer {
-    pub line: String,
-    pub status: u8,
-}
 
 /// The names for an answer text: the rules that it breaks, or A0 where it says no filling.
 fn verdict(alloc: Global, puzzle: &Puzzle, text: &[u8]) -> Result<Broken, AllocError>
@@ -53,14 +46,6 @@ fn no_form() -> Broken
     names
 }
 
-/// A refusal.
-fn refused(alloc: Global, fault: TextFault) -> Result<Answer, AllocError>
-    ensures { IfOk result (λ a. (string_bytes a.line ≡ refusal_of (fault_text fault)) × (a.status ≡ 2)) }
-{
-    let line = format!(in alloc; "refused {fault}\n")?;
-    Ok(Answer { line, status: 2 })
-}
-
 /// The verdict on an answer text, as a line.
 fn judged(alloc: Global, puzzle: &Puzzle, answer: &[u8]) -> Result<Answer, AllocError>
     ensures { IfOk result (λ a. IsVerdictLine puzzle.now answer.now (string_bytes a.line) a.status) }
@@ -88,10 +73,7 @@ fn answer_input(alloc: Global, input: &[u8]) -> Result<Answer, AllocError>
 {
     match two_lines(input) {
         Some((text, answer)) => answer_texts(alloc, text, answer),
-        None => {
-            let line = String::from_str(alloc, "refused input\n")?;
-            Ok(Answer { line, status: 2 })
-        }
+        None => refused_input(alloc),
     }
 }
 
