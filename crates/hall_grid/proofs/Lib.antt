@@ -13,3 +13,5 @@ pub mod OneWriting
 pub mod OneFault
 pub mod OneReading
 pub mod TextRows
+pub mod EveryText
+pub mod EveryPuzzle
