@@ -1,3 +1,4 @@
+pub mod Names
 pub mod Number16
 pub mod Cell4
 pub mod Forms
@@ -6,10 +7,17 @@ pub mod Fields
 pub mod Rules
 pub mod Rows
 pub mod Unique
+pub mod Walks
+pub mod Labelling
+pub mod Floods
+pub mod Joined
+pub mod Touching
+pub mod Naming
 pub mod Written
 pub mod Writings
 pub mod Spelled
 pub mod OneWriting
+pub mod Values
 pub mod OneFault
 pub mod OneReading
 pub mod TextRows

@@ -1,5 +1,5 @@
 -- The names of rules, sets of them as numbers, and how a verdict is written.
-use Rattle.std.specs.Prelude.{ℕ, Bool, not, List, [], ◌∷◌, ◌++◌, codes, filter, bit_and, ◌^◌, ◌==◌, IsBitSet}
+use Rattle.std.specs.Prelude.{ℕ, Bool, not, List, [], ◌∷◌, ◌++◌, codes, bit_and, ◌^◌, ◌==◌, if◌then◌else◌, IsBitSet}
 use Rattle.std.specs.List.{flat_map}
 use Rattle.hall_grid.specs.declared.rule.Rule.{Rule}
 use Rattle.hall_grid.specs.declared.rule.Rule.TheVariants.{A0, U1, U2, U3, U4, S1, S2, S3, S4, S5, N1, N2, N3, N4, N5, N6}
@@ -54,15 +54,10 @@ name_of N6 = codes "N6"
 abbrev pub is_named : ℕ → Rule → Bool
 is_named names rule = not (bit_and names (2 ^ place rule) == 0)
 
--- a name after a space
-abbrev pub spaced_name : Rule → List ℕ
-spaced_name rule = 32 ∷ name_of rule
+-- a name after one space where the set has it
+abbrev pub named_text : ℕ → Rule → List ℕ
+named_text names rule = if is_named names rule then 32 ∷ name_of rule else []
 
--- no broken rule is right; else the names follow, each after one space
-abbrev pub verdict_of : List Rule → List ℕ
-verdict_of [] = codes "right"
-verdict_of (rule ∷ rules) = codes "wrong" ++ flat_map spaced_name (rule ∷ rules)
-
--- a verdict as it is written: the names of the set in the table's order
+-- a verdict as it is written: right for the empty set, else the names of the set in the table's order
 abbrev pub verdict_text : ℕ → List ℕ
-verdict_text names = verdict_of (filter (is_named names) all_rules)
+verdict_text names = if names == 0 then codes "right" else codes "wrong" ++ flat_map (named_text names) all_rules

@@ -1,0 +1,18 @@
+use Rattle.std.proofs.Common.{inr}
+use Rattle.hall_grid.specs.Board.{cells}
+use Rattle.hall_grid.specs.RegionLaws.{marked_below}
+use Rattle.hall_grid.proofs.Touching.{padded_touching, padded_among}
+use Rattle.hall_grid.proofs.region.RegionGraph.next_to.Goals as goal
+
+pub returns-clause-below : goal.returns-clause-below
+returns-clause-below c = λ other h.
+    (padded_touching c.args.self.now.size c.args.node _ _ _ _ c.neighbours.ensures.up c.neighbours.ensures.left c.neighbours.ensures.right c.neighbours.ensures.down other h).0
+
+pub returns-clause-next : goal.returns-clause-next
+returns-clause-next c = λ other h.
+    (padded_touching c.args.self.now.size c.args.node _ _ _ _ c.neighbours.ensures.up c.neighbours.ensures.left c.neighbours.ensures.right c.neighbours.ensures.down other h).1
+
+pub returns-clause-all : goal.returns-clause-all
+returns-clause-all c = λ other t m.
+    inr (padded_among c.args.self.now.size c.args.node _ _ _ _ c.neighbours.ensures.up c.neighbours.ensures.left c.neighbours.ensures.right c.neighbours.ensures.down other
+    (marked_below c.args.self.now.allowed.now other (cells c.args.self.now.size) c.args.self.now.exact m) t)

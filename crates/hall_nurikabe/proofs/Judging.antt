@@ -1,0 +1,197 @@
+-- What marks, labels and counts say of the rules.
+use Rattle.std.proofs.Common.{◌≡◌, ◌≢◌, ℕ, ◌+◌, ◌<◌, ◌≤◌, ◌⊎◌, ◌↔◌, Bool, List, [], ◌∷◌, length, Option, Some, refl, sym, ◌∙◌, subst, inl, inr, arith}
+use Rattle.std.specs.Prelude.{slice_index, slice_get, IsTrue}
+use Rattle.std.proofs.lemmas.Bool.{cases_eq}
+use Rattle.hall_grid.specs.declared.board.Size.{Size}
+use Rattle.hall_grid.specs.declared.board.Clue.TheVariants.{Number}
+use Rattle.hall_grid.specs.declared.rule.Rule.{Rule}
+use Rattle.hall_grid.specs.declared.rule.Rule.TheVariants.{A0, U1, U2, U3, U4, S1, S2, S3, S4, S5, N1, N2, N3, N4, N5, N6}
+use Rattle.hall_grid.specs.Rule.{Names}
+use Rattle.hall_grid.specs.Board.{Board, cells, Touch}
+use Rattle.hall_grid.specs.Walk.{Walk}
+use Rattle.hall_grid.specs.Component.{IsLabelled, AreComponents}
+use Rattle.hall_grid.specs.Reached.{IsMarked}
+use Rattle.hall_grid.specs.RegionLaws.{Touch-turn, marked_below}
+use Rattle.hall_grid.specs.Nurikabe.{IsWhite, IsWall, IsNumbered, InIsland, Lists, HasNumberInWall, HasPool, HasWallsApart, HasIslandWithoutNumber, HasIslandWithTwo, HasIslandOfOtherSize}
+use Rattle.hall_grid.specs.Answer.{BreaksNurikabe}
+use Rattle.hall_grid.proofs.Labelling.{one_label, labelled_below}
+use Rattle.hall_grid.proofs.Walks.{Walk-start, Walk-end}
+use Rattle.hall_grid.proofs.Joined.{AreComponents-members, own_label, labelled_member, walk_from_label, label_from_walk}
+use Rattle.hall_grid.proofs.Naming.{Test, IsTested, nothing_put_in, one_more, names_are}
+use Rattle.hall_nurikabe.specs.Tally.{HasCount, IsCounted, Tallies, AreCells, MarksColour, MarksNumbers}
+use Rattle.hall_nurikabe.proofs.Counting.{same_length, Lists-same, HasCount-same, HasCount-empty, HasCount-some, HasCount-two, two_HasCount}
+
+pub through : {A B C : Type 0} → (A ↔ B) → (B ↔ C) → A ↔ C
+through p q = ((λ a. q.0 (p.0 a)), (λ c. p.1 (q.1 c)))
+
+-- labels of the regions of one colour
+module _ (size : Size) (f : List ℕ) (colour : ℕ) (marks : List Bool) (labels : List (Option ℕ)) (exact : length f ≡ cells size)
+    (m : MarksColour f colour marks) (a : AreComponents (cells size) (Touch size) (IsMarked marks) labels) where
+  colour_is : (cell : ℕ) → IsMarked marks cell ↔ ((cell < cells size) × (slice_index f cell ≡ colour))
+  colour_is cell = (
+    (λ h. let k = (m.marked cell).0 h in (let low = k.0 in omega arith, k.1)),
+    (λ h. (m.marked cell).1 (let low = h.0 in omega arith, h.1)),
+  )
+
+  pub regions_are : AreComponents (cells size) (Touch size) (λ cell. (cell < cells size) × (slice_index f cell ≡ colour)) labels
+  regions_are = AreComponents-members (cells size) (Touch size) (IsMarked marks) _ labels colour_is a
+
+-- the labels are numbers of cells
+pub AreCells-from_regions : (n : ℕ) (size : Size) (IsMember : ℕ → Type 0) (labels : List (Option ℕ)) → AreComponents n (Touch size) IsMember labels
+    → AreCells labels
+AreCells-from_regions n size IsMember labels a cell label h =
+    labelled_below labels label label (own_label n (Touch size) IsMember labels a (Touch-turn size) cell label h)
+
+-- two labels of walls
+module _ (size : Size) (f : List ℕ) (labels : List (Option ℕ)) (a : AreComponents (cells size) (Touch size) (IsWall size f) labels) where
+  walls_apart : ((a b x y : ℕ) × IsLabelled labels a x × IsLabelled labels b y × (x ≢ y)) → HasWallsApart size f
+  walls_apart (c, d, x, y, p, q, ne) = (
+    c,
+    d,
+    labelled_member (cells size) (Touch size) (IsWall size f) labels a c x p,
+    labelled_member (cells size) (Touch size) (IsWall size f) labels a d y q,
+    (λ w. ne (one_label labels d x y (a.shared c d x w p) q)),
+  )
+
+  labels_apart : HasWallsApart size f → (a b x y : ℕ) × IsLabelled labels a x × IsLabelled labels b y × (x ≢ y)
+  labels_apart (c, d, p, q, none) =
+      let x = a.labelled c p in
+      let y = a.labelled d q in
+      (c, d, x.0, y.0, x.1, y.1, (λ e. none (walk_from_label (cells size) (Touch size) (IsWall size f) labels a (Touch-turn size) c d y.0
+        (subst (λ l. IsLabelled labels c l) e x.1) y.1)))
+
+  pub apart_are : ((a b x y : ℕ) × IsLabelled labels a x × IsLabelled labels b y × (x ≢ y)) ↔ HasWallsApart size f
+  apart_are = (walls_apart, labels_apart)
+
+-- the numbers and the sizes of islands
+module _ (board : Board) (f : List ℕ) (labels : List (Option ℕ)) (a : AreComponents (cells board.size) (Touch board.size) (IsWhite board.size f) labels) where
+  IsIsland : ℕ → ℕ → Type 0
+  IsIsland label cell = IsLabelled labels cell label
+
+  label_low : (cell label : ℕ) → IsLabelled labels cell label → label < length labels
+  label_low cell label h = AreCells-from_regions (cells board.size) board.size (IsWhite board.size f) labels a cell label h
+
+  white : (cell label : ℕ) → IsLabelled labels cell label → IsWhite board.size f cell
+  white cell label h = labelled_member (cells board.size) (Touch board.size) (IsWhite board.size f) labels a cell label h
+
+  walk : (c d label : ℕ) → IsLabelled labels c label → IsLabelled labels d label → InIsland board.size f c d
+  walk c d label p q = walk_from_label (cells board.size) (Touch board.size) (IsWhite board.size f) labels a (Touch-turn board.size) c d label p q
+
+  module _ (marks : List Bool) (numbers : List ℕ) (n : MarksNumbers board marks) (t : Tallies labels marks (length labels) numbers) where
+    without_number : ((cell label : ℕ) × IsLabelled labels cell label × (slice_index numbers label ≡ 0)) → HasIslandWithoutNumber board f
+    without_number (cell, label, h, e) = (cell, white cell label h, (λ other w numbered.
+      let there = a.shared cell other label w h in
+      HasCount-empty (IsCounted labels marks (length labels) label) other
+      (subst (HasCount (IsCounted labels marks (length labels) label)) e (t.counted label (label_low cell label h)))
+      (labelled_below labels other label there, there, (n.marked other).1 numbered)))
+
+    none_counted : HasIslandWithoutNumber board f → (cell label : ℕ) × IsLabelled labels cell label × (slice_index numbers label ≡ 0)
+    none_counted (cell, is_white, none) =
+        let l = a.labelled cell is_white in
+        (cell, l.0, l.1, elim (cases_eq (slice_index numbers l.0) 0) [
+          | inl e ↦ e
+          | inr ne ↦
+              let some = HasCount-some (IsCounted labels marks (length labels) l.0) _ (omega arith) (t.counted l.0 (label_low cell l.0 l.1)) in
+              absurd (none some.0 (walk cell some.0 l.0 l.1 some.1.1) ((n.marked some.0).0 some.1.2))
+        ])
+
+    pub without_number_are : ((cell label : ℕ) × IsLabelled labels cell label × (slice_index numbers label ≡ 0)) ↔ HasIslandWithoutNumber board f
+    without_number_are = (without_number, none_counted)
+
+    with_two : ((label : ℕ) × (label < length numbers) × (1 < slice_index numbers label)) → HasIslandWithTwo board f
+    with_two (label, low, many) =
+        let whole = t.exact in
+        let p = HasCount-two (IsCounted labels marks (length labels) label) _ many (t.counted label (omega arith)) in
+        (p.0, p.1, p.4, (n.marked p.0).0 p.2.2, (n.marked p.1).0 p.3.2, walk p.0 p.1 label p.2.1 p.3.1)
+
+    two_counted : HasIslandWithTwo board f → (label : ℕ) × (label < length numbers) × (1 < slice_index numbers label)
+    two_counted (c, d, ne, p, q, w) =
+        let l = label_from_walk (cells board.size) (Touch board.size) (IsWhite board.size f) labels a c d w in
+        let low = label_low c l.0 l.1 in
+        let whole = t.exact in
+        (l.0, omega arith, two_HasCount (IsCounted labels marks (length labels) l.0) _ c d ne
+          (labelled_below labels c l.0 l.1, l.1, (n.marked c).1 p) (labelled_below labels d l.0 l.2, l.2, (n.marked d).1 q) (t.counted l.0 low))
+
+    pub with_two_are : ((label : ℕ) × (label < length numbers) × (1 < slice_index numbers label)) ↔ HasIslandWithTwo board f
+    with_two_are = (with_two, two_counted)
+
+  module _ (marks : List Bool) (sizes : List ℕ) (m : (cell : ℕ) → IsWhite board.size f cell → IsMarked marks cell)
+      (t : Tallies labels marks (length labels) sizes) where
+    island_is : (cell label : ℕ) → IsLabelled labels cell label → (x : ℕ) → IsCounted labels marks (length labels) label x ↔ InIsland board.size f cell x
+    island_is cell label h x = (
+      (λ k. walk cell x label h k.1),
+      (λ w.
+        let there = a.shared cell x label w h in
+        (labelled_below labels x label there, there, m x (white x label there))),
+    )
+
+    other_size : ((cell given label : ℕ) × (slice_get board.clues cell ≡ Some (Number given)) × IsLabelled labels cell label × (slice_index sizes label ≢ given))
+        → HasIslandOfOtherSize board f
+    other_size (cell, given, label, clue, h, ne) =
+        let c = HasCount-same _ (InIsland board.size f cell) _ (island_is cell label h) (t.counted label (label_low cell label h)) in
+        (cell, given, c.0, clue, white cell label h, c.1, (λ e. ne (sym c.2 ∙ e)))
+
+    other_count : HasIslandOfOtherSize board f
+        → (cell given label : ℕ) × (slice_get board.clues cell ≡ Some (Number given)) × IsLabelled labels cell label × (slice_index sizes label ≢ given)
+    other_count (cell, given, members, clue, is_white, lists, ne) =
+        let l = a.labelled cell is_white in
+        let c = t.counted l.0 (label_low cell l.0 l.1) in
+        (cell, given, l.0, clue, l.1, (λ e. ne
+          (sym (same_length _ (InIsland board.size f cell) c.0 members (island_is cell l.0 l.1) c.1 lists) ∙ c.2 ∙ e)))
+
+    pub other_size_are :
+        ((cell given label : ℕ) × (slice_get board.clues cell ≡ Some (Number given)) × IsLabelled labels cell label × (slice_index sizes label ≢ given))
+        ↔ HasIslandOfOtherSize board f
+    other_size_are = (other_size, other_count)
+
+-- a number in a wall
+pub number_in_wall_are : (board : Board) (f : List ℕ) (numbered walls : List Bool) → length f ≡ cells board.size → MarksNumbers board numbered → MarksColour f 1 walls
+    → ((cell : ℕ) × IsMarked numbered cell × IsMarked walls cell) ↔ HasNumberInWall board f
+number_in_wall_are board f numbered walls e n w = (
+  (λ (c, p, q). (c, (n.marked c).0 p, (let k = (w.marked c).0 q in (let low = k.0 in omega arith, k.1)))),
+  (λ (c, p, q). (c, (n.marked c).1 p, (w.marked c).1 (let low = q.0 in omega arith, q.1))),
+)
+
+-- the tests of a filling, the last one first
+abbrev pub six_tests : Bool → Bool → Bool → Bool → Bool → Bool → List Test
+six_tests b1 b2 b3 b4 b5 b6 =
+    record { rule = N6; holds = b6 } ∷ record { rule = N5; holds = b5 } ∷ record { rule = N4; holds = b4 }
+    ∷ record { rule = N3; holds = b3 } ∷ record { rule = N2; holds = b2 } ∷ record { rule = N1; holds = b1 } ∷ []
+
+-- the rules of Nurikabe are all asked
+pub tested : (board : Board) (f : List ℕ) (b1 b2 b3 b4 b5 b6 : Bool) (rule : Rule) → BreaksNurikabe board f rule
+    → IsTested (six_tests b1 b2 b3 b4 b5 b6) rule
+tested board f b1 b2 b3 b4 b5 b6 A0 h = absurd h
+tested board f b1 b2 b3 b4 b5 b6 U1 h = absurd h
+tested board f b1 b2 b3 b4 b5 b6 U2 h = absurd h
+tested board f b1 b2 b3 b4 b5 b6 U3 h = absurd h
+tested board f b1 b2 b3 b4 b5 b6 U4 h = absurd h
+tested board f b1 b2 b3 b4 b5 b6 S1 h = absurd h
+tested board f b1 b2 b3 b4 b5 b6 S2 h = absurd h
+tested board f b1 b2 b3 b4 b5 b6 S3 h = absurd h
+tested board f b1 b2 b3 b4 b5 b6 S4 h = absurd h
+tested board f b1 b2 b3 b4 b5 b6 S5 h = absurd h
+tested board f b1 b2 b3 b4 b5 b6 N1 h = inl (inl (inl (inl (inl (inr refl)))))
+tested board f b1 b2 b3 b4 b5 b6 N2 h = inl (inl (inl (inl (inr refl))))
+tested board f b1 b2 b3 b4 b5 b6 N3 h = inl (inl (inl (inr refl)))
+tested board f b1 b2 b3 b4 b5 b6 N4 h = inl (inl (inr refl))
+tested board f b1 b2 b3 b4 b5 b6 N5 h = inl (inr refl)
+tested board f b1 b2 b3 b4 b5 b6 N6 h = inr refl
+
+-- new is old with the name where the test holds
+abbrev pub Adds : ℕ → ℕ → Rule → Bool → Type 0
+Adds old new rule holds = (other : Rule) → Names new other ↔ (Names old other ⊎ ((other ≡ rule) × IsTrue holds))
+
+-- the set that the six tests put together
+pub nurikabe_names : (board : Board) (f : List ℕ) (n0 n1 n2 n3 n4 n5 n6 : ℕ) (b1 b2 b3 b4 b5 b6 : Bool) → ((rule : Rule) → Names n0 rule → ⊥)
+    → Adds n0 n1 N1 b1 → Adds n1 n2 N2 b2 → Adds n2 n3 N3 b3 → Adds n3 n4 N4 b4 → Adds n4 n5 N5 b5 → Adds n5 n6 N6 b6
+    → IsTrue b1 ↔ HasNumberInWall board f → IsTrue b2 ↔ HasPool board.size f → IsTrue b3 ↔ HasWallsApart board.size f
+    → IsTrue b4 ↔ HasIslandWithoutNumber board f → IsTrue b5 ↔ HasIslandWithTwo board f → IsTrue b6 ↔ HasIslandOfOtherSize board f
+    → (rule : Rule) → Names n6 rule ↔ BreaksNurikabe board f rule
+nurikabe_names board f n0 n1 n2 n3 n4 n5 n6 b1 b2 b3 b4 b5 b6 none a1 a2 a3 a4 a5 a6 e1 e2 e3 e4 e5 e6 =
+    let p1 = one_more n0 n1 [] N1 b1 (nothing_put_in n0 none) a1 in
+    let p2 = one_more n1 n2 _ N2 b2 p1 a2 in
+    let p3 = one_more n2 n3 _ N3 b3 p2 a3 in
+    let p4 = one_more n3 n4 _ N4 b4 p3 a4 in
+    let p5 = one_more n4 n5 _ N5 b5 p4 a5 in
+    names_are (BreaksNurikabe board f) (six_tests b1 b2 b3 b4 b5 b6) n6 (one_more n5 n6 _ N6 b6 p5 a6) ((((((tt, e1), e2), e3), e4), e5), e6) (tested board f b1 b2 b3 b4 b5 b6)

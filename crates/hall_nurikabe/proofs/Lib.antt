@@ -1,0 +1,5 @@
+pub mod Counting
+pub mod Tallies
+pub mod Pools
+pub mod Numbers
+pub mod Judging

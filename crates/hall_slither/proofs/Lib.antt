@@ -1,0 +1,5 @@
+pub mod Degrees
+pub mod Tallies
+pub mod Neighbours
+pub mod Apart
+pub mod Naming

@@ -1,0 +1,73 @@
+-- Counts over the numbers below n.
+use Rattle.std.proofs.Common.{◌≡◌, ℕ, zero, suc, ◌+◌, ◌<◌, Bool, true, false, ◌&&◌, ◌||◌, cond, Option, Some, None, refl, ap, ◌∙◌, subst, inl, inr, arith}
+use Rattle.std.specs.Prelude.{count_by, ◌==◌, IfSome}
+use Rattle.std.proofs.lemmas.List.Sums.{sum_by-cons}
+use Rattle.std.proofs.lemmas.Bool.{cases_eq, eq-eqb, ne_eqb, and_right}
+use Rattle.hall_grid.specs.Slither.{numbers}
+use Rattle.hall_slither.specs.SidesAt.{count_at}
+
+abbrev pub worth : Bool → ℕ
+worth b = cond b 1 0
+
+-- how many numbers below n pass
+abbrev pub tally : (ℕ → Bool) → ℕ → ℕ
+tally p zero = 0
+tally p (suc n) = worth (p n) + tally p n
+
+pub count_by-numbers : (p : ℕ → Bool) (n : ℕ) → count_by p (numbers n) ≡ tally p n
+count_by-numbers p zero = refl
+count_by-numbers p (suc n) = sum_by-cons (λ x. cond (p x) 1 0) n (numbers n) ∙ ap (λ k. cond (p n) 1 0 + k) (count_by-numbers p n)
+
+-- whether the option has this number
+abbrev pub hits : Option ℕ → ℕ → Bool
+hits None s = false
+hits (Some a) s = a == s
+
+split_one : (p a b : Bool) → p ≡ (a || b) → (a ≡ true → b ≡ true → ⊥) → cond p 1 0 ≡ cond a 1 0 + cond b 1 0
+split_one p true true e h = absurd (h refl refl)
+split_one p true false e h = ap (λ b. cond b 1 0) e
+split_one p false true e h = ap (λ b. cond b 1 0) e
+split_one p false false e h = ap (λ b. cond b 1 0) e
+
+-- a test that passes where one of two others does, and no number passes both
+pub tally-or : (p a b : ℕ → Bool) (n : ℕ) → ((s : ℕ) → s < n → p s ≡ (a s || b s)) → ((s : ℕ) → s < n → a s ≡ true → b s ≡ true → ⊥)
+    → tally p n ≡ tally a n + tally b n
+tally-or p a b zero e h = refl
+tally-or p a b (suc n) e h =
+    let here = split_one (p n) (a n) (b n) (e n (omega arith)) (h n (omega arith)) in
+    let rest = tally-or p a b n (λ s l. e s (omega arith)) (λ s l. h s (omega arith)) in
+    omega arith
+
+pub tally-same : (p q : ℕ → Bool) (n : ℕ) → ((s : ℕ) → s < n → p s ≡ q s) → tally p n ≡ tally q n
+tally-same p q zero e = refl
+tally-same p q (suc n) e =
+    let here : worth (p n) ≡ worth (q n) = ap worth (e n (omega arith)) in
+    let rest = tally-same p q n (λ s l. e s (omega arith)) in
+    omega arith
+
+pub tally-none : (p : ℕ → Bool) (n : ℕ) → ((s : ℕ) → s < n → p s ≡ false) → tally p n ≡ 0
+tally-none p zero e = refl
+tally-none p (suc n) e =
+    let here : worth (p n) ≡ 0 = ap worth (e n (omega arith)) in
+    let rest = tally-none p n (λ s l. e s (omega arith)) in
+    omega arith
+
+and_true : (b : Bool) → worth (b && true) ≡ worth b
+and_true true = refl
+and_true false = refl
+
+-- the number that an option has, where it passes
+pub tally-hits : (p : ℕ → Bool) (o : Option ℕ) (n : ℕ) → IfSome o (λ a. a < n) → tally (λ s. p s && hits o s) n ≡ count_at p o
+tally-hits p None n h = tally-none (λ s. p s && false) n (λ s l. and_right (p s) false refl)
+tally-hits p (Some a) zero h = absurd (omega arith)
+tally-hits p (Some a) (suc n) h =
+    elim (cases_eq a n) [
+      | inl e ↦
+          let none = tally-none (λ s. p s && (a == s)) n (λ s l. and_right (p s) (a == s) (ne_eqb a s (λ k. omega arith))) in
+          let here : worth (p n && (a == n)) ≡ worth (p a) = rw (eq-eqb a n e) (subst (λ m. worth (p m && true) ≡ worth (p a)) e (and_true (p a))) in
+          omega arith
+      | inr ne ↦
+          let rest = tally-hits p (Some a) n (omega arith) in
+          let here : worth (p n && (a == n)) ≡ 0 = ap worth (and_right (p n) (a == n) (ne_eqb a n ne)) in
+          omega arith
+    ]

@@ -1,0 +1,89 @@
+//! The judge.
+ghost use Rattle.std.specs.Prelude.{◌≡◌, ◌<◌, ◌↔◌, IsTrue, IfOk, length, All, count_by};
+ghost use Rattle.hall_grid.specs.Board.{IsSize, Board};
+ghost use Rattle.hall_grid.specs.Answer.{IsFilling, AreBroken};
+ghost use Rattle.hall_grid.specs.Slither.{all_sides, is_line, HasNoLine, HasLooseEnd, HasCrossing, HasOtherCount};
+
+use crate::dot::{degree, dot_count};
+use crate::lines::has_lines_apart;
+use hall_grid::{Broken, Clue, Filling, Kind, Puzzle, Rule, Size, sides};
+use std::alloc::{AllocError, Global};
+
+/// Whether there is no line.
+fn has_no_line(size: Size, lines: &[u8]) -> bool
+    requires { length lines.now ≡ all_sides size }
+    ensures { IsTrue result ↔ HasNoLine size lines.now }
+{
+    lines.iter().all(|line| *line != 1)
+}
+
+/// Whether a dot has one line.
+fn has_loose_end(size: Size, lines: &[u8]) -> bool
+    requires size { IsSize size }
+    requires lines { length lines.now ≡ all_sides size }
+    ensures { IsTrue result ↔ HasLooseEnd size lines.now }
+{
+    for dot in 0..dot_count(size) {
+        if degree(size, lines, dot) == 1 {
+            return true;
+        }
+    }
+    false
+}
+
+/// Whether a dot has three or four lines.
+fn has_crossing(size: Size, lines: &[u8]) -> bool
+    requires size { IsSize size }
+    requires lines { length lines.now ≡ all_sides size }
+    ensures { IsTrue result ↔ HasCrossing size lines.now }
+{
+    for dot in 0..dot_count(size) {
+        if degree(size, lines, dot) > 2 {
+            return true;
+        }
+    }
+    false
+}
+
+/// How many of the sides are lines.
+fn count_lines(lines: &[u8], sides: &[usize]) -> usize
+    requires { All (λ side. side < length lines.now) sides.now }
+    ensures { result ≡ count_by (is_line lines.now) sides.now }
+{
+    sides.iter().filter(|side| lines[**side] == 1).count()
+}
+
+/// Whether a number differs from the count of lines on its cell's four sides.
+fn has_other_count(puzzle: &Puzzle, lines: &[u8]) -> bool
+    requires kind { puzzle.now.kind ≡ Kind.Slither }
+    requires lines { length lines.now ≡ all_sides puzzle.now.size }
+    ensures { IsTrue result ↔ HasOtherCount puzzle.now lines.now }
+{
+    let size = puzzle.size();
+    for cell in 0..puzzle.cells() {
+        if let Clue::Number(number) = puzzle.clue(cell) {
+            if count_lines(lines, &sides(size, cell)) != number as usize {
+                return true;
+            }
+        }
+    }
+    false
+}
+
+/// The names of the rules that the filling breaks: S1 where there is no line, S2 where a dot has one line, S3 where a dot has three or four,
+/// S4 where a number isn't the count of lines on its cell's four sides, S5 where the lines aren't all joined. The one error is want of memory.
+pub fn broken(alloc: Global, puzzle: &Puzzle, filling: &Filling) -> Result<Broken, AllocError>
+    requires kind { puzzle.now.kind ≡ Kind.Slither }
+    requires filling { IsFilling puzzle.now filling.now }
+    ensures { IfOk result (AreBroken puzzle.now filling.now) }
+{
+    let size = puzzle.size();
+    let lines = filling.as_slice();
+    let mut broken = Broken::new();
+    broken.insert_if(Rule::S1, has_no_line(size, lines));
+    broken.insert_if(Rule::S2, has_loose_end(size, lines));
+    broken.insert_if(Rule::S3, has_crossing(size, lines));
+    broken.insert_if(Rule::S4, has_other_count(puzzle, lines));
+    broken.insert_if(Rule::S5, has_lines_apart(alloc, size, lines)?);
+    Ok(broken)
+}

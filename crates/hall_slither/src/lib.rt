@@ -1,0 +1,11 @@
+//! Slitherlink: the judge.
+#![tactic(auto)]
+
+mod dot;
+mod judge;
+mod lines;
+
+pub use judge::broken;
+
+#[cfg(test)]
+mod tests;

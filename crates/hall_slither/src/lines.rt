@@ -1,0 +1,68 @@
+//! The graph of lines: two sides that share a dot are next to each other.
+ghost use Rattle.std.specs.Prelude.{◌≡◌, ◌↔◌, ◌⊎◌, ◌<◌, ℕ, IsTrue, IfOk, length, Contains};
+ghost use Rattle.hall_grid.specs.Board.{IsSize};
+ghost use Rattle.hall_grid.specs.Slither.{all_sides, IsLine, ShareDot, HasLinesApart};
+ghost use Rattle.hall_slither.specs.Label.{LabelsDiffer};
+
+use crate::dot::sides_beside;
+use hall_grid::{Graph, Size, components};
+use std::alloc::{AllocError, Global};
+
+/// The sides of a board, of which the lines are members.
+#[derive(Drop)]
+struct Lines<'a> {
+    size: Size,
+    lines: &'a [u8],
+    ghost limits: { IsSize size },
+    ghost exact: { length lines.now ≡ all_sides size },
+}
+
+impl Graph for Lines<'_> {
+    ghost nodes = { λ graph. all_sides graph.size };
+
+    ghost IsMember = { λ graph side. IsLine graph.size graph.lines.now side };
+
+    ghost IsNext = { λ graph a b. ShareDot graph.size a b };
+
+    ghost member_below = { λ graph side line. line.0 };
+
+    ghost symmetric = { λ graph a b shared. (shared.0, shared.2, shared.1) };
+
+    fn nodes(&self) -> usize {
+        self.lines.len()
+    }
+
+    fn is_member(&self, node: usize) -> bool {
+        self.lines[node] == 1
+    }
+
+    fn next_to(&self, node: usize) -> [Option<usize>; 6] {
+        sides_beside(self.size, node)
+    }
+}
+
+/// Whether two nodes have different labels.
+fn labels_differ(labels: &[Option<usize>]) -> bool
+    ensures { IsTrue result ↔ LabelsDiffer labels.now }
+{
+    let mut known = None;
+    for node in 0..labels.len() {
+        if let Some(label) = labels[node] {
+            match known {
+                Some(other) if other != label => return true,
+                _ => known = Some(label),
+            }
+        }
+    }
+    false
+}
+
+/// Whether there are two lines with no chain of lines from the one to the other.
+pub(crate) fn has_lines_apart(alloc: Global, size: Size, lines: &[u8]) -> Result<bool, AllocError>
+    requires size { IsSize size }
+    requires lines { length lines.now ≡ all_sides size }
+    ensures { IfOk result (λ apart. IsTrue apart ↔ HasLinesApart size lines.now) }
+{
+    let labels = components(alloc, &Lines { size, lines })?;
+    Ok(labels_differ(&labels))
+}

@@ -1,0 +1,18 @@
+-- The input of the commands judge and solve: lines of at most 8,192 bytes together.
+use Rattle.std.specs.Prelude.{◌≡◌, ℕ, ◌≤◌, ◌==◌, Bool, Option, List, [], ◌∷◌, length, take, IfSome}
+use Rattle.std.specs.Str.Lines.{lines}
+
+-- known input is this up to the limit
+abbrev pub IsFront : ℕ → Option (List ℕ) → List ℕ → Type 0
+IsFront limit known bytes = IfSome known (λ all. bytes ≡ take limit all)
+
+-- the input is at most 8,192 bytes in two lines: each ends with a line feed, which the last one may lack, and loses a carriage return before it
+abbrev pub HasTwoLines : List ℕ → List ℕ → List ℕ → Type 0
+HasTwoLines input first second = (length input ≤ 8192) × (lines input ≡ first ∷ second ∷ [])
+
+-- the input is at most 8,192 bytes in one line
+abbrev pub HasOneLine : List ℕ → List ℕ → Type 0
+HasOneLine input line = (length input ≤ 8192) × (lines input ≡ line ∷ [])
+
+abbrev pub is_line_feed : ℕ → Bool
+is_line_feed byte = byte == 10

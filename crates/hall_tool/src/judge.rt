@@ -1,0 +1,99 @@
+//! The command `judge`.
+ghost use Rattle.std.specs.Prelude.{◌≡◌, ◌⊎◌, ℕ, List, IfOk, IfErr, IfSome, OnErr, IsErrOf, string_bytes};
+ghost use Rattle.std.specs.Io.KnownBytes.{Appends};
+ghost use Rattle.hall_grid.specs.Answer.{Verdict, IsNoForm, IsFilling, AreBroken};
+ghost use Rattle.hall_grid.specs.Device.{HasFailed};
+ghost use Rattle.hall_tool.specs.JudgeText.{JudgeText, AnswersTexts, IsVerdictLine};
+
+use crate::answer::{Answer, refused, refused_input};
+use crate::device::{read_input, write_line};
+use crate::fault::ToolFault;
+use crate::input::{LIMIT, two_lines};
+use hall_grid::{
+    Broken, Counted, Filling, Kind, Puzzle, Rule, TextFault, parse_answer, parse_puzzle,
+};
+use std::alloc::{AllocError, Global};
+use std::io::{Read, Write};
+
+/// The names for an answer text: the rules that it breaks, or A0 where it says no filling.
+fn verdict(alloc: Global, puzzle: &Puzzle, text: &[u8]) -> Result<Broken, AllocError>
+    ensures { IfOk result (Verdict puzzle.now text.now) }
+{
+    match parse_answer(alloc, puzzle, text)? {
+        Some(filling) => broken(alloc, puzzle, &filling),
+        None => Ok(no_form()),
+    }
+}
+
+/// The names of the rules that the filling breaks, by the judge of the puzzle's kind.
+fn broken(alloc: Global, puzzle: &Puzzle, filling: &Filling) -> Result<Broken, AllocError>
+    requires { IsFilling puzzle.now filling.now }
+    ensures { IfOk result (AreBroken puzzle.now filling.now) }
+{
+    match puzzle.kind() {
+        Kind::Sudoku => Ok(hall_sudoku::broken(puzzle, filling)),
+        Kind::Slither => hall_slither::broken(alloc, puzzle, filling),
+        Kind::Nurikabe => hall_nurikabe::broken(alloc, puzzle, filling),
+    }
+}
+
+/// A0 alone.
+fn no_form() -> Broken
+    ensures { IsNoForm result }
+{
+    let mut names = Broken::new();
+    names.insert(Rule::A0);
+    names
+}
+
+/// The verdict on an answer text, as a line.
+fn judged(alloc: Global, puzzle: &Puzzle, answer: &[u8]) -> Result<Answer, AllocError>
+    ensures { IfOk result (λ a. IsVerdictLine puzzle.now answer.now (string_bytes a.line) a.status) }
+{
+    let names = verdict(alloc, puzzle, answer)?;
+    let line = format!(in alloc; "{names}\n")?;
+    let status = if names.bits() == 0 { 0 } else { 1 };
+    Ok(Answer { line, status })
+}
+
+/// The line for a puzzle text and an answer text.
+fn answer_texts(alloc: Global, text: &[u8], answer: &[u8]) -> Result<Answer, AllocError>
+    ensures { IfOk result (λ a. AnswersTexts text.now answer.now (string_bytes a.line) a.status) }
+{
+    match parse_puzzle(alloc, text) {
+        Ok(puzzle) => judged(alloc, &puzzle, answer),
+        Err(TextFault::Memory) => Err(AllocError),
+        Err(fault) => refused(alloc, fault),
+    }
+}
+
+/// The line for an input.
+fn answer_input(alloc: Global, input: &[u8]) -> Result<Answer, AllocError>
+    ensures { IfOk result (λ a. JudgeText input.now (string_bytes a.line) a.status) }
+{
+    match two_lines(input) {
+        Some((text, answer)) => answer_texts(alloc, text, answer),
+        None => refused_input(alloc),
+    }
+}
+
+/// Reads a puzzle text and an answer text, each on a line, and writes the verdict on a line, or why the texts are refused. The result is the exit
+/// status: 0 for right, 1 for wrong, 2 for refused.
+pub fn judge_run<R: Read, W: Write>(
+    alloc: Global,
+    reader: &mut Counted<R>,
+    writer: &mut Counted<W>,
+) -> Result<u8, ToolFault>
+    ensures line { IfOk result (λ status. IfSome (R.remaining reader.old.device) (λ input. (line : List ℕ)
+        × JudgeText input line status × Appends (W.contents writer.old.device) (W.contents writer.new.device) line)) }
+    ensures device { IsErrOf result ToolFault.Device
+        → HasFailed reader.old.failures reader.new.failures ⊎ HasFailed writer.old.failures writer.new.failures }
+    // A refusal for memory leaves the writer as it was.
+    ensures memory { IsErrOf result ToolFault.Memory → writer.new ≡ writer.old }
+    ensures no_store { IsErrOf result ToolFault.Store → ⊥ }
+{
+    let input = read_input(alloc, reader, LIMIT + 1)?;
+    let answer = answer_input(alloc, &input)?;
+    write_line(writer, answer.line.as_bytes())?;
+    Ok(answer.status)
+}

@@ -1,0 +1,200 @@
+use crate::{ToolFault, judge_run};
+use hall_grid::Counted;
+use std::io;
+use std::io::{Read, Write};
+use std::test::Fail;
+
+/// Gives its bytes one at a time, and fails at call `fails_at`, counted from 0.
+#[derive(Drop)]
+struct Dripping<'a> {
+    bytes: &'a [u8],
+    call: usize,
+    fails_at: usize,
+}
+
+impl Read for Dripping<'_> {
+    fn read(&mut self, buf: &mut [u8]) -> io::Result<usize> {
+        if self.call >= self.fails_at {
+            return Err(io::Error::from(io::ErrorKind::Other));
+        }
+        self.call = self.call.saturating_add(1);
+        if buf.is_empty() {
+            return Ok(0);
+        }
+        let Some((first, rest)) = self.bytes.split_first() else {
+            return Ok(0);
+        };
+        buf[0] = *first;
+        self.bytes = rest;
+        Ok(1)
+    }
+}
+
+/// Takes one byte at a call, and fails at call `fails_at`: by an error, or by taking none.
+#[derive(Drop)]
+struct Sipping {
+    taken: usize,
+    fails_at: usize,
+    by_taking_none: bool,
+}
+
+impl Write for Sipping {
+    fn write(&mut self, buf: &[u8]) -> io::Result<usize> {
+        if buf.is_empty() {
+            return Ok(0);
+        }
+        if self.taken >= self.fails_at {
+            if self.by_taking_none {
+                return Ok(0);
+            }
+            return Err(io::Error::from(io::ErrorKind::Other));
+        }
+        self.taken = self.taken.saturating_add(1);
+        Ok(1)
+    }
+
+    fn flush(&mut self) -> io::Result<()> {
+        Ok(())
+    }
+}
+
+const RIGHT: &[u8] = b"sudoku/4/4/123434122143432g\n1234341221434321\n";
+
+#[test]
+fn answers_with_the_line_and_the_status(rt: HostRuntime) -> Result<(), Fail> {
+    let rows: [(&[u8], &[u8], u8); 29] = [
+        (RIGHT, b"right\n", 0),
+        (
+            b"sudoku/4/4/123434122143432g\n1234341221434312\n",
+            b"wrong U2 U4\n",
+            1,
+        ),
+        (
+            b"https://puzz.link/p?sudoku/4/4/123434122143432g/\n1234341221434321\n",
+            b"right\n",
+            0,
+        ),
+        (
+            b"sudoku/4/4/123434122143432g\n123434122143432\n",
+            b"wrong A0\n",
+            1,
+        ),
+        (
+            b"sudoku/4/4/123434122143432g\n1234341221434325\n",
+            b"wrong A0\n",
+            1,
+        ),
+        (
+            b"sudoku/4/4/123434122143432g\n2134341221434321\n",
+            b"wrong U2 U4\n",
+            1,
+        ),
+        (b"https://puzz.link/p\n1\n", b"refused E2\n", 2),
+        (b"sudoku/4/4/5u\n1\n", b"refused E7 0\n", 2),
+        (b"sudoku/9/8/g\n1\n", b"refused E4\n", 2),
+        (b"sudoku/4/4/123434122143432g\n", b"refused input\n", 2),
+        (b"", b"refused input\n", 2),
+        (b"\n", b"refused input\n", 2),
+        (
+            b"sudoku/4/4/123434122143432g\n1234341221434321\n\n",
+            b"refused input\n",
+            2,
+        ),
+        (
+            b"sudoku/4/4/123434122143432g\r\n1234341221434321\r\n",
+            b"right\n",
+            0,
+        ),
+        (
+            b"sudoku/4/4/123434122143432g\n1234341221434321",
+            b"right\n",
+            0,
+        ),
+        (
+            b"sudoku/4/4/123434122143432g\n1234341221434321\r",
+            b"wrong A0\n",
+            1,
+        ),
+        (b"slither/3/1/i\n101101/1111\n", b"wrong S5\n", 1),
+        (b"slither/1/1/a\n00/00\n", b"wrong S1\n", 1),
+        (b"slither/2/1/g\n1010/110\n", b"right\n", 0),
+        (b"slither/2/1/g\n1010/100\n", b"wrong S2\n", 1),
+        (
+            b"https://puzz.link/p?slither/2/2/222c/\n110011/101101\n",
+            b"right\n",
+            0,
+        ),
+        (b"nurikabe/2/2/1i\n.##.\n", b"wrong N3 N4\n", 1),
+        (b"nurikabe/2/2/1i\n####\n", b"wrong N1 N2\n", 1),
+        (b"nurikabe/2/1/.g\n#.\n", b"wrong N1 N4\n", 1),
+        (b"slither/2/2/f\n1\n", b"refused E5 0\n", 2),
+        (b"nurikabe/2/2/-0\n1\n", b"refused E6 0\n", 2),
+        (b"slither/1/1/00\n1\n", b"refused E8 1\n", 2),
+        (b"nurikabe/2/2/1i\n.###\n", b"right\n", 0),
+        (b"\xff\xfe\n\x00\n", b"refused E2\n", 2),
+    ];
+    for (input, line, status) in &rows {
+        let mut reader = Counted::new(*input);
+        let mut writer = Counted::new(Vec::new(rt.alloc()));
+        let ended = judge_run(rt.alloc(), &mut reader, &mut writer);
+        assert!(rt; ended == Ok(*status));
+        let written = writer.into_inner();
+        assert!(rt; written.as_slice() == *line);
+    }
+    Ok(())
+}
+
+#[test]
+fn takes_8192_bytes_and_no_more(rt: HostRuntime) -> Result<(), Fail> {
+    for (spare, line, status) in [
+        (8192usize, b"wrong A0\n".as_slice(), 1u8),
+        (8193, b"refused input\n".as_slice(), 2),
+    ] {
+        let mut input = Vec::from_slice(rt.alloc(), b"sudoku/4/4/123434122143432g\n")?;
+        for _ in input.len()..spare {
+            input.push(b'1')?;
+        }
+        let mut reader = Counted::new(input.as_slice());
+        let mut writer = Counted::new(Vec::new(rt.alloc()));
+        let ended = judge_run(rt.alloc(), &mut reader, &mut writer);
+        assert!(rt; ended == Ok(status));
+        let written = writer.into_inner();
+        assert!(rt; written.as_slice() == line);
+    }
+    Ok(())
+}
+
+#[test]
+fn a_failing_reader_is_a_device_fault(rt: HostRuntime) -> Result<(), Fail> {
+    for fails_at in 0..RIGHT.len() + 1 {
+        let dripping = Dripping {
+            bytes: RIGHT,
+            call: 0,
+            fails_at,
+        };
+        let mut reader = Counted::new(dripping);
+        let mut writer = Counted::new(Vec::new(rt.alloc()));
+        assert!(rt; judge_run(rt.alloc(), &mut reader, &mut writer) == Err(ToolFault::Device));
+        assert!(rt; reader.failures() == 1);
+        assert!(rt; writer.into_inner().is_empty());
+    }
+    Ok(())
+}
+
+#[test]
+fn a_failing_writer_is_a_device_fault(rt: HostRuntime) -> Result<(), Fail> {
+    for by_taking_none in [false, true] {
+        for fails_at in 0..6 {
+            let sipping = Sipping {
+                taken: 0,
+                fails_at,
+                by_taking_none,
+            };
+            let mut reader = Counted::new(RIGHT);
+            let mut writer = Counted::new(sipping);
+            assert!(rt; judge_run(rt.alloc(), &mut reader, &mut writer) == Err(ToolFault::Device));
+            assert!(rt; writer.failures() == 1);
+        }
+    }
+    Ok(())
+}
