@@ -21,3 +21,5 @@ pub mod Values
 pub mod OneFault
 pub mod OneReading
 pub mod TextRows
+pub mod EveryText
+pub mod EveryPuzzle

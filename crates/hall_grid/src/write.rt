@@ -160,6 +160,3 @@ pub fn write_puzzle(alloc: Global, puzzle: &Puzzle) -> Result<String, AllocError
     push_body(&mut text, puzzle)?;
     Ok(text)
 }
-
-#[cfg(test)]
-mod tests;
