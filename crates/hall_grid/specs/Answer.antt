@@ -90,6 +90,7 @@ Breaks Sudoku = BreaksSudoku
 Breaks Slither = BreaksSlither
 Breaks Nurikabe = BreaksNurikabe
 
+-- the filling breaks the rule of this name, by the rules of the board's kind
 abbrev pub IsBroken : Board → List ℕ → Rule → Type 0
 IsBroken board f rule = Breaks board.kind board f rule
 

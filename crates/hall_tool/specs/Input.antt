@@ -15,6 +15,7 @@ HasTwoLines input first second = (length input ≤ 8192) × (lines input ≡ fir
 abbrev pub HasOneLine : List ℕ → List ℕ → Type 0
 HasOneLine input line = (length input ≤ 8192) × (lines input ≡ line ∷ [])
 
+-- whether the byte is a line feed
 abbrev pub is_line_feed : ℕ → Bool
 is_line_feed byte = byte == 10
 
