@@ -3,3 +3,4 @@ pub mod Tallies
 pub mod Neighbours
 pub mod Apart
 pub mod Naming
+pub mod Demands

@@ -4,6 +4,7 @@
 mod dot;
 mod judge;
 mod lines;
+mod spot;
 
 pub use judge::broken;
 

@@ -1,0 +1,109 @@
+//! Deductions: one finding at a time, a pass over all places to look, and passes until nothing follows.
+//!
+//! A deduction is a type of its own under [`Look`]; [`sweep`] goes once over its spots. One that
+//! sets many places at a time writes a pass of its own. A kind's [`Deduce::pass`] tries one after
+//! another, and [`settle`] calls it until a pass sets nothing.
+ghost use Rattle.std.specs.Prelude.{◌≡◌, ℕ, ◌<◌, IfOk, OnErr};
+ghost use Rattle.hall_solve.specs.Question.{Question, IsPartial, IsHopeless, Narrows};
+ghost use Rattle.hall_solve.specs.Deduction.{IsSound, IsDeduced};
+
+use crate::partial::Partial;
+use crate::rules::Step;
+use std::alloc::{AllocError, Global};
+
+/// What a look at one spot found.
+#[derive(Clone, Copy, Debug, PartialEq, Eq)]
+pub enum Finding {
+    /// Nothing new.
+    Nothing,
+    /// Every solution has this value at this place, which is open.
+    Must(usize, u8),
+    /// There is no solution.
+    Impossible,
+}
+
+/// What one pass of deductions came to.
+#[derive(Clone, Copy, Debug, PartialEq, Eq)]
+pub enum Pass {
+    /// Nothing follows, and nothing was set.
+    Settled,
+    /// At least one place was set.
+    Advanced,
+    /// There is no solution.
+    Dead,
+}
+
+/// A deduction that looks at one spot at a time, such as a cell, a block or a number.
+pub trait Look {
+    /// What is to be solved.
+    ghost question: { Self → Question };
+
+    /// How many spots there are.
+    ghost spots: { Self → ℕ };
+
+    /// How many spots there are to look at.
+    fn spots(&self) -> usize
+        ensures { result ≡ spots self.now };
+
+    /// What follows at the spot.
+    fn look(&self, alloc: Global, partial: &Partial, spot: usize) -> Result<Finding, AllocError>
+        requires partial { IsPartial (question self.now) partial.now }
+        requires spot { spot < spots self.now }
+        ensures { IfOk result (IsSound (question self.now) partial.now) };
+}
+
+/// Deductions about a partial filling.
+pub trait Deduce {
+    /// What is to be solved.
+    ghost question: { Self → Question };
+
+    /// One pass: sets places that follow.
+    fn pass(&self, alloc: Global, partial: &mut Partial) -> Result<Pass, AllocError>
+        requires { IsPartial (question self.now) partial.old }
+        ensures deduced { IfOk result (IsDeduced (question self.now) partial.old partial.new) }
+        ensures err { OnErr result (Narrows (question self.now) partial.old partial.new) };
+}
+
+/// Looks at each spot once, and sets at once what each look finds.
+pub fn sweep<L: Look>(
+    alloc: Global,
+    deduction: &L,
+    partial: &mut Partial,
+) -> Result<Pass, AllocError>
+    requires { IsPartial (L.question deduction.now) partial.old }
+    ensures deduced { IfOk result (IsDeduced (L.question deduction.now) partial.old partial.new) }
+    ensures err { OnErr result (Narrows (L.question deduction.now) partial.old partial.new) }
+{
+    let mut pass = Pass::Settled;
+    for spot in 0..deduction.spots() {
+        match deduction.look(alloc, partial, spot)? {
+            Finding::Nothing => {}
+            Finding::Must(place, value) => {
+                partial.set(place, value);
+                pass = Pass::Advanced;
+            }
+            Finding::Impossible => return Ok(Pass::Dead),
+        }
+    }
+    Ok(pass)
+}
+
+/// Makes passes until nothing more follows.
+pub fn settle<D: Deduce>(
+    alloc: Global,
+    deductions: &D,
+    partial: &mut Partial,
+) -> Result<Step, AllocError>
+    requires { IsPartial (D.question deductions.now) partial.old }
+    ensures live { IfOk result (λ step. step ≡ Step.Live → Narrows (D.question deductions.now) partial.old partial.new) }
+    ensures dead { IfOk result (λ step. step ≡ Step.Dead → IsHopeless (D.question deductions.now) partial.old) }
+    ensures err { OnErr result (Narrows (D.question deductions.now) partial.old partial.new) }
+{
+    'settling: loop {
+        match deductions.pass(alloc, partial)? {
+            Pass::Settled => return Ok(Step::Live),
+            Pass::Advanced => {}
+            Pass::Dead => return Ok(Step::Dead),
+        }
+    }
+}

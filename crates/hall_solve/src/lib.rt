@@ -1,0 +1,18 @@
+//! A search for the fillings of a board that obey rules: none, one, or more than one.
+//!
+//! A kind of puzzle says what is right by an `impl Rules`; [`search`] is proved once, for every kind.
+#![tactic(auto)]
+
+mod deduce;
+mod explore;
+mod outcome;
+mod partial;
+mod rules;
+#[cfg(test)]
+mod tests;
+
+pub use deduce::{Deduce, Finding, Look, Pass, settle, sweep};
+pub use explore::search;
+pub use outcome::Outcome;
+pub use partial::Partial;
+pub use rules::{Rules, Step};

@@ -1,0 +1,77 @@
+//! What a kind of puzzle tells a search.
+ghost use Rattle.std.specs.Prelude.{◌≡◌, ◌↔◌, ℕ, ◌+◌, ◌-◌, ◌^◌, ◌<◌, List, IfOk, OnErr, IfSome, IfNone, IsTrue, length};
+ghost use Rattle.hall_solve.specs.Question.{Question, IsSame, IsFilling, IsPartial, IsHopeless, IsOpen, IsWhole, Narrows};
+
+use crate::partial::Partial;
+use hall_grid::Filling;
+use std::alloc::{AllocError, Global};
+
+/// What one visit to a partial filling found.
+#[derive(Clone, Copy, Debug, PartialEq, Eq)]
+pub enum Step {
+    /// A solution may extend it.
+    Live,
+    /// No solution extends it.
+    Dead,
+}
+
+/// The rules of one puzzle, as a search asks them.
+pub trait Rules {
+    /// What is to be solved.
+    ghost question: { Self → Question };
+
+    /// How often `propagate` was called.
+    ghost visits: { Self → ℕ };
+
+    /// How often `accepts` was called.
+    ghost asked: { Self → ℕ };
+
+    /// How many places a filling has.
+    fn cells(&self) -> usize
+        ensures { result ≡ (question self.now).cells };
+
+    /// How many values a place may have; they are numbered from 0.
+    fn values(&self) -> u8
+        ensures { result ≡ (question self.now).values };
+
+    /// How many visits were made: calls of `propagate`.
+    fn visits(&self) -> u64
+        ensures { result ≡ visits self.now };
+
+    /// How many whole fillings were asked about: calls of `accepts`.
+    fn asked(&self) -> u64
+        ensures { result ≡ asked self.now };
+
+    /// Visits a partial filling: sets what follows from what is set, or finds that nothing solves it.
+    ///
+    /// Where memory is refused it is a partial filling that `Live` could have left.
+    fn propagate(&mut self, alloc: Global, partial: &mut Partial) -> Result<Step, AllocError>
+        requires countable { visits self.old < 2 ^ 64 - 1 }
+        requires partial { IsPartial (question self.old) partial.old }
+        ensures live { IfOk result (λ step. step ≡ Step.Live → Narrows (question self.old) partial.old partial.new) }
+        ensures dead { IfOk result (λ step. step ≡ Step.Dead → IsHopeless (question self.old) partial.old) }
+        ensures err { OnErr result (Narrows (question self.old) partial.old partial.new) }
+        ensures counted { visits self.new ≡ visits self.old + 1 }
+        ensures not_asked { asked self.new ≡ asked self.old }
+        ensures same { IsSame (question self.old) (question self.new) };
+
+    /// Whether the filling is right.
+    fn accepts(&mut self, alloc: Global, filling: &Filling) -> Result<bool, AllocError>
+        requires countable { asked self.old < 2 ^ 64 - 1 }
+        requires filling { IsFilling (question self.old) filling.now }
+        ensures right { IfOk result (λ yes. IsTrue yes ↔ (question self.old).right filling.now) }
+        ensures counted { asked self.new ≡ asked self.old + 1 }
+        ensures not_visited { visits self.new ≡ visits self.old }
+        ensures same { IsSame (question self.old) (question self.new) };
+
+    /// The place to try values at, `None` where every place is set.
+    ///
+    /// Any place that isn't set will do. The one with the fewest values left keeps a search short.
+    fn branch_place(&self, partial: &Partial) -> Option<usize>
+        requires partial { IsPartial (question self.now) partial.now }
+        ensures unset { IfSome result (IsOpen partial.now) }
+        ensures whole { IfNone result (IsWhole partial.now) }
+    {
+        partial.first_unset()
+    }
+}
