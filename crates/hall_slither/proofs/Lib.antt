@@ -4,3 +4,5 @@ pub mod Neighbours
 pub mod Apart
 pub mod Naming
 pub mod Demands
+pub mod Tellings
+pub mod Setting

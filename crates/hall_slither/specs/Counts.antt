@@ -1,10 +1,10 @@
 -- Counts of lines at dots and round cells, and what follows from them for the open sides.
-use Rattle.std.specs.Prelude.{◌≡◌, ◌≢◌, ◌⊎◌, ℕ, ◌+◌, ◌*◌, ◌<◌, ◌≤◌, ◌==◌, Bool, true, false, List, [], ◌∷◌, Option, Some, None, All, Contains, IfSome, length, slice_index_or, is_none, map}
+use Rattle.std.specs.Prelude.{◌≡◌, ◌≢◌, ◌⊎◌, ℕ, ◌+◌, ◌*◌, ◌<◌, ◌≤◌, ◌==◌, Bool, true, false, List, [], ◌∷◌, Option, Some, None, All, Contains, IfSome, length, slice_index, slice_index_or, is_none, map}
 use Rattle.std.specs.List.{sum_by}
 use Rattle.hall_grid.specs.declared.board.Size.{Size}
 use Rattle.hall_grid.specs.Board.{Board, cells}
 use Rattle.hall_grid.specs.Slither.{dots, sides_of, is_line}
-use Rattle.hall_solve.specs.Question.{Keeps, IsOpen, open_places}
+use Rattle.hall_solve.specs.Question.{Question, Solves, IsHopeless, Keeps, IsOpen, open_places}
 use Rattle.hall_slither.specs.declared.spot.Spot.{Spot}
 use Rattle.hall_slither.specs.declared.spot.Spot.TheVariants.{Dot, Cell}
 use Rattle.hall_slither.specs.declared.spot.Demand.{Demand}
@@ -70,3 +70,12 @@ AreSet sides p = (s : ℕ) → Contains sides (Some s) → slice_index_or p s No
 -- a set side brings at most four spots
 abbrev pub work : List (Option ℕ) → List Spot → ℕ
 work p spots = 5 * open_places p + length spots
+
+-- what is told of the open ones of the sides is true of each solution
+abbrev pub IsTold : Question → List (Option ℕ) → List (Option ℕ) → Outcome → Type 0
+IsTold q p sides Nothing = Unit {0}
+IsTold q p sides (AllBe value) =
+    (value < 2)
+    × ((s : ℕ) × Contains sides (Some s) × IsOpen p s)
+    × ((f : List ℕ) (s : ℕ) → Solves q p f → Contains sides (Some s) → IsOpen p s → slice_index f s ≡ value)
+IsTold q p sides Impossible = IsHopeless q p

@@ -1,5 +1,5 @@
 -- What a search asks of a Slitherlink puzzle.
-use Rattle.std.specs.Prelude.{ℕ, List}
+use Rattle.std.specs.Prelude.{◌≡◌, ℕ, List, Option, None, length, slice_index_or}
 use Rattle.hall_grid.specs.declared.rule.Rule.{Rule}
 use Rattle.hall_grid.specs.Board.{Board}
 use Rattle.hall_grid.specs.Slither.{all_sides}
@@ -22,3 +22,8 @@ pub record Progress : Type 0 where
 
 abbrev pub begun : Board → Progress
 begun board = record { board = board; visits = 0; asked = 0 }
+
+-- a place for each side, and none of them set
+pub record IsUnset (board : Board) (p : List (Option ℕ)) : Type 0 where
+  pub exact : length p ≡ all_sides board.size
+  pub unset : (side : ℕ) → slice_index_or p side None ≡ None
