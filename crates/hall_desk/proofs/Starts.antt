@@ -1,6 +1,6 @@
 -- Where the search of a puzzle starts, and what its outcome says of the puzzle.
 use Rattle.std.proofs.Common.{◌≡◌, ◌≢◌, ℕ, ◌+◌, ◌-◌, ◌<◌, ◌≤◌, List, Option, Some, None, length, map, get_or, refl, sym, ap, ◌∙◌, subst, inl, inr, arith}
-use Rattle.std.specs.Prelude.{slice_get, ◌↔◌, replicate}
+use Rattle.std.specs.Prelude.{slice_get, ◌↔◌, replicate, Result, Ok, Err, IfOk}
 use Rattle.std.proofs.lemmas.List.{get_or-map, length-map, same_lists, get_or_default, length-replicate, get_or-replicate}
 use Rattle.std.proofs.lemmas.List.Elements.{All-get_or}
 use Rattle.std.proofs.lemmas.Option.{get_or_from_slice_get, slice_get-get_or, slice_get_within}
@@ -51,12 +51,12 @@ sudoku_start : (board : Board) (p : List (Option ℕ)) → board.kind ≡ Sudoku
 sudoku_start board p k b s =
     same_lists p (map (given_of Sudoku) board.clues) (s.exact ∙ sym b.clues ∙ sym (length-map board.clues (given_of Sudoku)))
     (λ i d h.
-      let few : i < length board.clues = let e = s.exact in let f = b.clues in omega arith in
-      let at = slice_get-get_or board.clues i Blank few in
-      let clue = get_or board.clues i Blank in
-      get_or_default p i d None h
-      ∙ given_at board.clues p i clue (s.givens i) at (λ n e. sudoku_number board i n k b (at ∙ ap Some e))
-      ∙ sym (get_or-map (given_of Sudoku) board.clues i Blank d few))
+    let few : i < length board.clues = let e = s.exact in let f = b.clues in omega arith in
+    let at = slice_get-get_or board.clues i Blank few in
+    let clue = get_or board.clues i Blank in
+    get_or_default p i d None h
+    ∙ given_at board.clues p i clue (s.givens i) at (λ n e. sudoku_number board i n k b (at ∙ ap Some e))
+    ∙ sym (get_or-map (given_of Sudoku) board.clues i Blank d few))
 
 -- the outcome of the search of a start that equals the puzzle's is the puzzle's
 moved : (board : Board) (p : List (Option ℕ)) (budget : ℕ) (o : Outcome) (kind : Kind) → board.kind ≡ kind → p ≡ start_of kind board
@@ -74,7 +74,7 @@ slither_start : (board : Board) (p : List (Option ℕ)) → IsUnset board p → 
 slither_start board p u =
     same_lists p (replicate (all_sides board.size) None) (u.exact ∙ sym (length-replicate (all_sides board.size) None))
     (λ i d h. let few : i < all_sides board.size = let e = u.exact in omega arith in
-      get_or_default p i d None h ∙ u.unset i ∙ sym (get_or-replicate (all_sides board.size) None i d few))
+    get_or_default p i d None h ∙ u.unset i ∙ sym (get_or-replicate (all_sides board.size) i None d few))
 
 pub slither_outcome : (board : Board) (p : List (Option ℕ)) (budget : ℕ) (o : Outcome) → board.kind ≡ Slither → IsUnset board p
     → OutcomeOf (slither_question board) p budget o → OutcomeOfPuzzle board budget o
@@ -92,14 +92,19 @@ nurikabe_start : (board : Board) (p : List (Option ℕ)) → IsBoard board → S
 nurikabe_start board p b s =
     same_lists p (map (given_of Nurikabe) board.clues) (s.exact ∙ sym b.clues ∙ sym (length-map board.clues (given_of Nurikabe)))
     (λ i d h.
-      let few : i < length board.clues = let e = s.exact in let f = b.clues in omega arith in
-      let clue = get_or board.clues i Blank in
-      get_or_default p i d None h
-      ∙ white_at board p i clue (get_or p i None) refl (slice_get-get_or board.clues i Blank few) (s.givens i)
-      ∙ sym (get_or-map (given_of Nurikabe) board.clues i Blank d few))
+    let few : i < length board.clues = let e = s.exact in let f = b.clues in omega arith in
+    let clue = get_or board.clues i Blank in
+    get_or_default p i d None h
+    ∙ white_at board p i clue (get_or p i None) refl (slice_get-get_or board.clues i Blank few) (s.givens i)
+    ∙ sym (get_or-map (given_of Nurikabe) board.clues i Blank d few))
 
 pub nurikabe_outcome : (board : Board) (p : List (Option ℕ)) (budget : ℕ) (o : Outcome) → board.kind ≡ Nurikabe → IsBoard board → SetsNumbered board p
     → OutcomeOf (nurikabe_question board) p budget o → OutcomeOfPuzzle board budget o
 nurikabe_outcome board p budget o k b s found =
     moved board p budget o Nurikabe k (nurikabe_start board p b s)
     (subst (λ kind. OutcomeOf (record { cells = cells board.size; values = 2; right = λ f. (rule : Rule) → Breaks kind board f rule → ⊥ }) p budget o) (sym k) found)
+
+-- what is true of an outcome in another form
+pub if_ok : {E : Type 0} (r : Result Outcome E) (P Q : Outcome → Type 0) → IfOk r P → ((o : Outcome) → P o → Q o) → IfOk r Q
+if_ok (Ok o) P Q p turn = turn o p
+if_ok (Err e) P Q p turn = tt

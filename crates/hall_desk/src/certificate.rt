@@ -21,7 +21,7 @@ fn certify_sudoku(alloc: Global, puzzle: &Puzzle, budget: u64) -> Result<Outcome
     requires { puzzle.now.kind ≡ Kind.Sudoku }
     ensures { IfOk result (OutcomeOfPuzzle puzzle.now budget) }
 {
-    let _size = puzzle.size();
+    let _board = puzzle.size();
     let mut rules = hall_sudoku::SudokuRules::new(alloc, puzzle)?;
     let start = hall_sudoku::start(alloc, puzzle)?;
     search(alloc, &mut rules, &start, budget)
@@ -31,7 +31,7 @@ fn certify_slither(alloc: Global, puzzle: &Puzzle, budget: u64) -> Result<Outcom
     requires { puzzle.now.kind ≡ Kind.Slither }
     ensures { IfOk result (OutcomeOfPuzzle puzzle.now budget) }
 {
-    let _size = puzzle.size();
+    let _board = puzzle.size();
     let mut rules = hall_slither::SlitherRules::new(puzzle);
     let start = hall_slither::start(alloc, puzzle)?;
     search(alloc, &mut rules, &start, budget)
@@ -41,7 +41,7 @@ fn certify_nurikabe(alloc: Global, puzzle: &Puzzle, budget: u64) -> Result<Outco
     requires { puzzle.now.kind ≡ Kind.Nurikabe }
     ensures { IfOk result (OutcomeOfPuzzle puzzle.now budget) }
 {
-    let _size = puzzle.size();
+    let _board = puzzle.size();
     let mut rules = hall_nurikabe::NurikabeRules::new(puzzle);
     let start = hall_nurikabe::start(alloc, puzzle)?;
     search(alloc, &mut rules, &start, budget)

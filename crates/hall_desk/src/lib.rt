@@ -6,6 +6,3 @@ mod verdict;
 
 pub use certificate::certify;
 pub use verdict::judge;
-
-#[cfg(test)]
-mod tests;

@@ -1,13 +1,12 @@
 //! The command `judge`.
 ghost use Rattle.std.specs.Prelude.{◌≡◌, ◌⊎◌, ℕ, List, IfOk, IfErr, IfSome, OnErr, IsErrOf, string_bytes};
 ghost use Rattle.std.specs.Io.KnownBytes.{Appends};
-ghost use Rattle.hall_grid.specs.Answer.{Verdict, IsNoForm, IsFilling, AreBroken};
 ghost use Rattle.hall_grid.specs.Device.{HasFailed};
 ghost use Rattle.hall_tool.specs.JudgeText.{JudgeText, AnswersTexts, IsVerdictLine};
 ghost use Rattle.hall_tool.specs.Input.{WritesPart};
 
-use crate::answer::{Answer, refused, refused_input};
 use crate::device::{read_input, write_line};
+use crate::ending::{Ending, refused, refused_input};
 use crate::fault::ToolFault;
 use crate::input::{LIMIT, two_lines};
 use hall_grid::{
@@ -16,52 +15,18 @@ use hall_grid::{
 use std::alloc::{AllocError, Global};
 use std::io::{Read, Write};
 
-/// The names for an answer text: the rules that it breaks, or A0 where it says no filling.
-fn verdict(alloc: Global, puzzle: &Puzzle, text: &[u8]) -> Result<Broken, AllocError>
-    ensures { IfOk result (Verdict puzzle.now text.now) }
-{
-    let names = match parse_answer(alloc, puzzle, text)? {
-        Some(filling) => broken(alloc, puzzle, &filling)?,
-        None => no_form(),
-    };
-    // The bits show that the set has no name beyond the table.
-    let _bits = names.bits();
-    Ok(names)
-}
-
-/// The names of the rules that the filling breaks, by the judge of the puzzle's kind.
-fn broken(alloc: Global, puzzle: &Puzzle, filling: &Filling) -> Result<Broken, AllocError>
-    requires { IsFilling puzzle.now filling.now }
-    ensures { IfOk result (AreBroken puzzle.now filling.now) }
-{
-    match puzzle.kind() {
-        Kind::Sudoku => Ok(hall_sudoku::broken(puzzle, filling)),
-        Kind::Slither => hall_slither::broken(alloc, puzzle, filling),
-        Kind::Nurikabe => hall_nurikabe::broken(alloc, puzzle, filling),
-    }
-}
-
-/// A0 alone.
-fn no_form() -> Broken
-    ensures { IsNoForm result }
-{
-    let mut names = Broken::new();
-    names.insert(Rule::A0);
-    names
-}
-
 /// The verdict on an answer text, as a line.
-fn judged(alloc: Global, puzzle: &Puzzle, answer: &[u8]) -> Result<Answer, AllocError>
+fn judged(alloc: Global, puzzle: &Puzzle, answer: &[u8]) -> Result<Ending, AllocError>
     ensures { IfOk result (λ a. IsVerdictLine puzzle.now answer.now (string_bytes a.line) a.status) }
 {
-    let names = verdict(alloc, puzzle, answer)?;
+    let names = judge(alloc, puzzle, answer)?;
     let line = format!(in alloc; "{names}\n")?;
     let status = if names.bits() == 0 { 0 } else { 1 };
-    Ok(Answer { line, status })
+    Ok(Ending { line, status })
 }
 
 /// The line for a puzzle text and an answer text.
-fn answer_texts(alloc: Global, text: &[u8], answer: &[u8]) -> Result<Answer, AllocError>
+fn answer_texts(alloc: Global, text: &[u8], answer: &[u8]) -> Result<Ending, AllocError>
     ensures { IfOk result (λ a. AnswersTexts text.now answer.now (string_bytes a.line) a.status) }
 {
     match parse_puzzle(alloc, text) {
@@ -72,7 +37,7 @@ fn answer_texts(alloc: Global, text: &[u8], answer: &[u8]) -> Result<Answer, All
 }
 
 /// The line for an input.
-fn answer_input(alloc: Global, input: &[u8]) -> Result<Answer, AllocError>
+fn answer_input(alloc: Global, input: &[u8]) -> Result<Ending, AllocError>
     ensures { IfOk result (λ a. JudgeText input.now (string_bytes a.line) a.status) }
 {
     match two_lines(input) {
@@ -100,7 +65,7 @@ pub fn judge_run<R: Read, W: Write>(
     ensures no_store { IsErrOf result ToolFault.Store → ⊥ }
 {
     let input = read_input(alloc, reader, LIMIT + 1)?;
-    let answer = answer_input(alloc, &input)?;
-    write_line(writer, answer.line.as_bytes())?;
-    Ok(answer.status)
+    let ending = answer_input(alloc, &input)?;
+    write_line(writer, ending.line.as_bytes())?;
+    Ok(ending.status)
 }
