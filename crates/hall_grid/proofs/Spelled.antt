@@ -90,13 +90,13 @@ side_is n some few =
     ]
 
 -- the sides of a board are small
-record HasSmallSides (size : Size) : Type 0 where
-  some_cols : 1 ≤ size.cols
-  few_cols : size.cols ≤ 50
-  some_rows : 1 ≤ size.rows
-  few_rows : size.rows ≤ 50
+pub record HasSmallSides (size : Size) : Type 0 where
+  pub some_cols : 1 ≤ size.cols
+  pub few_cols : size.cols ≤ 50
+  pub some_rows : 1 ≤ size.rows
+  pub few_rows : size.rows ≤ 50
 
-small_sides : (kind : Kind) (size : Size) → HasSize kind size → HasSmallSides size
+pub small_sides : (kind : Kind) (size : Size) → HasSize kind size → HasSmallSides size
 small_sides Sudoku size (e, inl side) = record { some_cols = omega arith; few_cols = omega arith; some_rows = omega arith; few_rows = omega arith }
 small_sides Sudoku size (e, inr (inl side)) = record { some_cols = omega arith; few_cols = omega arith; some_rows = omega arith; few_rows = omega arith }
 small_sides Sudoku size (e, inr (inr (inl side))) = record { some_cols = omega arith; few_cols = omega arith; some_rows = omega arith; few_rows = omega arith }
