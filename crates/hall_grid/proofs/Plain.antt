@@ -1,5 +1,5 @@
 -- A canonical text is short, in printable ASCII.
-use Rattle.std.proofs.Common.{◌≡◌, ℕ, ◌+◌, ◌-◌, ◌*◌, ◌/◌, ◌%◌, ◌<◌, ◌≤◌, ◌⊎◌, List, [], ◌∷◌, ◌++◌, length, refl, sym, ap, ◌∙◌, subst, inl, inr, arith, decimal, true, nat_le, ◌&&◌}
+use Rattle.std.proofs.Common.{◌≡◌, ℕ, ◌+◌, ◌-◌, ◌*◌, ◌/◌, ◌%◌, ◌≤◌, List, [], ◌∷◌, ◌++◌, length, refl, sym, ap, ◌∙◌, inl, inr, arith, decimal, true, nat_le, ◌&&◌}
 use Rattle.std.specs.Prelude.{All}
 use Rattle.std.specs.List.{list_all}
 use Rattle.std.proofs.lemmas.Bool.{cases_lt, and_parts, leb-true}
@@ -14,8 +14,8 @@ use Rattle.hall_grid.specs.declared.board.Clue.TheVariants.{Blank}
 use Rattle.hall_grid.specs.Board.{Board, cells, HasSize}
 use Rattle.hall_grid.specs.Body.{IsHexDigit, Form, one, two, three, some_number, alone, before_one, before_two, some_count, run, Piece, IsChain, bytes_of}
 use Rattle.hall_grid.specs.Text.{word_of}
-use Rattle.hall_grid.specs.Canonical.{Canonical, CanonicalText, IsPrintable, IsPlain, head_of}
-use Rattle.hall_grid.proofs.Spelled.{HasSmallSides, small_sides}
+use Rattle.hall_grid.specs.Canonical.{CanonicalText, IsPrintable, IsPlain, head_of}
+use Rattle.hall_grid.proofs.Spelled.{small_sides}
 
 abbrev ArePrintable : List ℕ → Type 0
 ArePrintable bytes = All IsPrintable bytes
