@@ -4,7 +4,7 @@ ghost use Rattle.hall_grid.specs.Board.{cells, HasSize, IsClue};
 ghost use Rattle.hall_grid.specs.Body.{Spells, FaultAt, IsWrong, HasPlace, TakesForm, fitted};
 ghost use Rattle.hall_grid.specs.FormReading.{given_clues};
 
-use crate::board::{Clue, Kind, Size};
+use crate::board::{Clue, Kind, MOST_NUMBER, Size};
 use crate::fault::TextFault;
 use crate::form::{FormFault, Given, form_of};
 use std::alloc::{AllocError, Global};
@@ -18,7 +18,7 @@ fn fits(kind: Kind, size: Size, clue: Clue) -> bool
         (kind, Clue::Unknown) => kind != Kind::Sudoku,
         (Kind::Sudoku, Clue::Number(n)) => n >= 1 && n as usize <= size.cols,
         (Kind::Slither, Clue::Number(n)) => n <= 4,
-        (Kind::Nurikabe, Clue::Number(n)) => n >= 1 && n <= 4095,
+        (Kind::Nurikabe, Clue::Number(n)) => n >= 1 && n <= MOST_NUMBER,
     }
 }
 

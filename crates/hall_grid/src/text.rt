@@ -4,7 +4,7 @@ ghost use Rattle.std.specs.List.{before_first, after_first};
 ghost use Rattle.hall_grid.specs.Board.{Board, HasSize};
 ghost use Rattle.hall_grid.specs.Text.{bare, has_address, is_slash, word_of, IsSide, IsNoSide, without_final_slash, SpellsText, FaultOf};
 
-use crate::board::{Kind, Size};
+use crate::board::{Kind, MOST_CELLS, MOST_SIDE, Size};
 use crate::body::parse_body;
 use crate::fault::TextFault;
 use crate::puzzle::Puzzle;
@@ -102,10 +102,10 @@ fn has_size(kind: Kind, size: Size) -> bool
         Kind::Sudoku => size.cols == size.rows && matches!(size.cols, 4 | 6 | 9 | 16),
         _ => {
             size.cols >= 1
-                && size.cols <= 50
+                && size.cols <= MOST_SIDE
                 && size.rows >= 1
-                && size.rows <= 50
-                && size.cols * size.rows <= 1000
+                && size.rows <= MOST_SIDE
+                && size.cols * size.rows <= MOST_CELLS
         }
     }
 }

@@ -3,3 +3,5 @@ pub mod Tallies
 pub mod Pools
 pub mod Numbers
 pub mod Judging
+pub mod Solutions
+pub mod Blocking

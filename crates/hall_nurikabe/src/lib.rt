@@ -1,10 +1,16 @@
-//! Nurikabe: the judge.
+//! Nurikabe: the judge, and the rules as a search asks them.
 #![tactic(auto)]
 
+mod blocks;
+mod deduce;
+mod givens;
 mod island;
 mod judge;
+mod rules;
 
+pub use givens::start;
 pub use judge::broken;
+pub use rules::NurikabeRules;
 
 #[cfg(test)]
 mod tests;

@@ -1,2 +1,4 @@
+pub mod Counts
 pub mod Label
+pub mod Search
 pub mod SidesAt

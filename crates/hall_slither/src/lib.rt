@@ -4,8 +4,12 @@
 mod dot;
 mod judge;
 mod lines;
+mod rules;
+mod spot;
+mod spread;
 
 pub use judge::broken;
+pub use rules::{SlitherRules, start};
 
 #[cfg(test)]
 mod tests;

@@ -23,3 +23,9 @@ pub known_decides : (known : Option (List ℕ)) (input line : List ℕ) (status 
     → IfSome known (λ all. (line : List ℕ) × JudgeText all line status × P line)
 known_decides None input line status P front j p = tt
 known_decides (Some all) input line status P front j p = (line, front_decides all line status (subst (λ input. JudgeText input line status) front j), p)
+
+-- the same, with the status told
+pub known_tells : (known : Option (List ℕ)) (input line : List ℕ) (status : ℕ) (P : List ℕ → Type 0) → IsFront 8193 known input → JudgeText input line status → P line
+    → IfSome known (λ all. (line : List ℕ) × (status : ℕ) × JudgeText all line status × P line)
+known_tells None input line status P front j p = tt
+known_tells (Some all) input line status P front j p = (line, status, front_decides all line status (subst (λ input. JudgeText input line status) front j), p)

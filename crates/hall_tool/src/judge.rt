@@ -4,6 +4,7 @@ ghost use Rattle.std.specs.Io.KnownBytes.{Appends};
 ghost use Rattle.hall_grid.specs.Answer.{Verdict, IsNoForm, IsFilling, AreBroken};
 ghost use Rattle.hall_grid.specs.Device.{HasFailed};
 ghost use Rattle.hall_tool.specs.JudgeText.{JudgeText, AnswersTexts, IsVerdictLine};
+ghost use Rattle.hall_tool.specs.Input.{WritesPart};
 
 use crate::answer::{Answer, refused, refused_input};
 use crate::device::{read_input, write_line};
@@ -19,10 +20,13 @@ use std::io::{Read, Write};
 fn verdict(alloc: Global, puzzle: &Puzzle, text: &[u8]) -> Result<Broken, AllocError>
     ensures { IfOk result (Verdict puzzle.now text.now) }
 {
-    match parse_answer(alloc, puzzle, text)? {
-        Some(filling) => broken(alloc, puzzle, &filling),
-        None => Ok(no_form()),
-    }
+    let names = match parse_answer(alloc, puzzle, text)? {
+        Some(filling) => broken(alloc, puzzle, &filling)?,
+        None => no_form(),
+    };
+    // The bits show that the set has no name beyond the table.
+    let _bits = names.bits();
+    Ok(names)
 }
 
 /// The names of the rules that the filling breaks, by the judge of the puzzle's kind.
@@ -88,6 +92,9 @@ pub fn judge_run<R: Read, W: Write>(
         × JudgeText input line status × Appends (W.contents writer.old.device) (W.contents writer.new.device) line)) }
     ensures device { IsErrOf result ToolFault.Device
         → HasFailed reader.old.failures reader.new.failures ⊎ HasFailed writer.old.failures writer.new.failures }
+    // At a device's fault a first part of the line was written, perhaps none of it.
+    ensures part { IsErrOf result ToolFault.Device → (writer.new ≡ writer.old) ⊎ IfSome (R.remaining reader.old.device)
+        (λ input. (line : List ℕ) × (status : ℕ) × JudgeText input line status × WritesPart (W.contents writer.old.device) (W.contents writer.new.device) line) }
     // A refusal for memory leaves the writer as it was.
     ensures memory { IsErrOf result ToolFault.Memory → writer.new ≡ writer.old }
     ensures no_store { IsErrOf result ToolFault.Store → ⊥ }

@@ -1,5 +1,5 @@
 use Rattle.hall_grid.proofs.Values.{value_at}
-use Rattle.hall_grid.proofs.answer.values_of.Goals as goal
+use Rattle.hall_grid.proofs.answer.parse_values.Goals as goal
 
 pub returns-in-None : goal.returns-in-None
 returns-in-None c = λ vs s.
