@@ -1,6 +1,6 @@
 -- Each puzzle has a canonical text.
-use Rattle.std.proofs.Common.{◌≡◌, ℕ, zero, suc, ◌+◌, ◌-◌, ◌<◌, ◌≤◌, ◌⊎◌, List, [], ◌∷◌, ◌++◌, length, Option, Some, None, refl, sym, ap, ◌∙◌, subst, inl, inr, arith, add-zero}
-use Rattle.std.specs.Prelude.{slice_get, All}
+use Rattle.std.proofs.Common.{◌≡◌, ℕ, zero, suc, ◌+◌, ◌-◌, ◌<◌, ◌≤◌, ◌⊎◌, List, [], ◌++◌, length, Option, Some, None, refl, sym, subst, inl, inr, arith}
+use Rattle.std.specs.Prelude.{slice_get}
 use Rattle.std.proofs.lemmas.Bool.{cases_lt}
 use Rattle.std.proofs.lemmas.Option.{slice_get_cases}
 use Rattle.hall_grid.specs.declared.board.Kind.{Kind}
@@ -11,7 +11,7 @@ use Rattle.hall_grid.specs.declared.form.Given.{Given}
 use Rattle.hall_grid.specs.Board.{Board, IsBoard, cells}
 use Rattle.hall_grid.specs.Canonical.{IsEmpty, IsFull, Takes, CanonicalText, head_of}
 use Rattle.hall_grid.specs.FormReading.{given_clues}
-use Rattle.hall_grid.specs.Writing.{IsRunAt, IsChoiceAt, IsChoice, written, AppendsBody}
+use Rattle.hall_grid.specs.Writing.{IsRunAt, IsChoice, written, AppendsBody}
 use Rattle.hall_grid.proofs.Written.{choice_covers}
 use Rattle.hall_grid.proofs.Writings.{IsWritten, IsWritten-start, IsWritten-more, AppendsBody-from_IsWritten}
 

@@ -1,5 +1,5 @@
 -- Each text spells a puzzle or has a fault.
-use Rattle.std.proofs.Common.{◌≡◌, ℕ, zero, suc, ◌+◌, ◌-◌, ◌*◌, ◌<◌, ◌≤◌, ◌⊎◌, List, [], ◌∷◌, ◌++◌, length, replicate, Option, Some, None, Result, Ok, Err, refl, sym, ap, ◌∙◌, subst, inl, inr, arith}
+use Rattle.std.proofs.Common.{◌≡◌, ℕ, zero, suc, ◌+◌, ◌-◌, ◌*◌, ◌<◌, ◌≤◌, ◌⊎◌, List, [], ◌∷◌, ◌++◌, length, Option, Some, None, Result, Ok, Err, refl, ap, ◌∙◌, subst, inl, inr, arith}
 use Rattle.std.specs.Prelude.{All}
 use Rattle.std.proofs.lemmas.Bool.{cases_lt, cases_eq}
 use Rattle.std.proofs.lemmas.List.{append-nil, length-append}
@@ -14,10 +14,9 @@ use Rattle.hall_grid.specs.declared.form.FormFault.TheVariants.{Strange, Cut}
 use Rattle.hall_grid.specs.declared.fault.TextFault.{TextFault}
 use Rattle.hall_grid.specs.declared.fault.TextFault.TheVariants as faults
 use Rattle.hall_grid.specs.Board.{Board, IsSize, IsSudokuSide, HasSize, IsClue, cells, of_parts}
-use Rattle.hall_grid.specs.Body.{IsDigit, Form, bytes_of, clues_of, fitted, Spells, FaultAt, IsWrong, HasPlace, TakesForm}
+use Rattle.hall_grid.specs.Body.{IsDigit, bytes_of, clues_of, fitted, Spells, FaultAt, IsWrong, HasPlace}
 use Rattle.hall_grid.specs.FormReading.{form_at}
 use Rattle.hall_grid.specs.Text.{bare, IsBare, IsSide, IsNoSide, word_of, word_field, cols_field, rows_field, body_of, Heads, SpellsText, FaultOf}
-use Rattle.hall_grid.proofs.Number16.{Reads}
 use Rattle.hall_grid.proofs.Forms.{form_is, is_cut, is_strange, takes_form, has_wrong}
 use Rattle.hall_grid.proofs.Bodies.{IsRead, IsRead-start, IsRead-more}
 use Rattle.hall_grid.proofs.Unique.{some_bytes}

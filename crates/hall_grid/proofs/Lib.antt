@@ -23,3 +23,4 @@ pub mod OneReading
 pub mod TextRows
 pub mod EveryText
 pub mod EveryPuzzle
+pub mod Plain

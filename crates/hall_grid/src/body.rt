@@ -1,5 +1,5 @@
 //! The body of a puzzle text.
-ghost use Rattle.std.specs.Prelude.{◌≡◌, ℕ, ◌<◌, ◌≤◌, ◌-◌, ◌*◌, ◌⊎◌, ◌↔◌, ◌++◌, IsTrue, IfOk, IfErr, OnOk, length, vec_len, replicate, All};
+ghost use Rattle.std.specs.Prelude.{◌≡◌, ◌<◌, ◌-◌, ◌*◌, ◌⊎◌, ◌↔◌, ◌++◌, IsTrue, IfOk, IfErr, OnOk, length, replicate, All};
 ghost use Rattle.hall_grid.specs.Board.{cells, HasSize, IsClue};
 ghost use Rattle.hall_grid.specs.Body.{Spells, FaultAt, IsWrong, HasPlace, TakesForm, fitted};
 ghost use Rattle.hall_grid.specs.FormReading.{given_clues};
@@ -62,8 +62,12 @@ fn read_form<'a>(
 ) -> Result<&'a [u8], TextFault>
     requires some { 0 < length bytes.now }
     requires room { length clues.old.items < cells size }
-    ensures ok { IfOk result (λ after. TakesForm kind size bytes.now clues.old.items clues.new.items after.now) }
-    ensures err { IfErr result (λ e. (e ≡ TextFault.Memory) ⊎ (HasPlace e place × IsWrong kind size (length clues.old.items) bytes.now e)) }
+    ensures ok { IfOk result
+        (λ after. TakesForm kind size bytes.now clues.old.items clues.new.items after.now) }
+    ensures err { IfErr result
+        (λ e.
+        (e ≡ TextFault.Memory)
+        ⊎ (HasPlace e place × IsWrong kind size (length clues.old.items) bytes.now e)) }
 {
     match form_of(kind, bytes) {
         Err(FormFault::Strange) => Err(TextFault::Strange(place)),
