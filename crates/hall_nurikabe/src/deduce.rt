@@ -18,6 +18,12 @@ impl Deduce for Deductions<'_> {
     ghost question = { λ deductions. question_of deductions.puzzle.now };
 
     fn pass(&self, alloc: Global, partial: &mut Partial) -> Result<Pass, AllocError> {
-        sweep(alloc, &Blocks { puzzle: self.puzzle }, partial)
+        sweep(
+            alloc,
+            &Blocks {
+                puzzle: self.puzzle,
+            },
+            partial,
+        )
     }
 }

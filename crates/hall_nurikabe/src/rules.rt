@@ -72,7 +72,13 @@ impl<'a> Rules for NurikabeRules<'a> {
 
     fn propagate(&mut self, alloc: Global, partial: &mut Partial) -> Result<Step, AllocError> {
         self.visits += 1;
-        settle(alloc, &Deductions { puzzle: self.puzzle }, partial)
+        settle(
+            alloc,
+            &Deductions {
+                puzzle: self.puzzle,
+            },
+            partial,
+        )
     }
 
     fn accepts(&mut self, alloc: Global, filling: &Filling) -> Result<bool, AllocError> {

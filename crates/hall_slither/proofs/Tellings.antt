@@ -54,7 +54,7 @@ none_further f p (o ∷ os) s h e (zero, low, is) u =
     let x = count-cons (has_line p) o os in let y = count-cons (is_line f) o os in
     let a = (at_bounds f p o h).0 in let r = (count_bounds f p os h).0 in
     let here : count_at (is_line f) (Some s) ≡ count_at (has_line p) (Some s) =
-        subst (λ t. count_at (is_line f) t ≡ count_at (has_line p) t) is (omega arith) in
+    subst (λ t. count_at (is_line f) t ≡ count_at (has_line p) t) is (omega arith) in
     let z = (open_at f p s u).0 in
     elim (cases_Bool (is_line f s)) [
       | inr t ↦ t
@@ -74,7 +74,7 @@ all_further f p (o ∷ os) s h e (zero, low, is) u =
     let x = count-cons (has_line p) o os in let y = count-cons (is_line f) o os in let w = count-cons (is_open p) o os in
     let a = (at_bounds f p o h).1 in let r = (count_bounds f p os h).1 in
     let here : count_at (is_line f) (Some s) ≡ count_at (has_line p) (Some s) + count_at (is_open p) (Some s) =
-        subst (λ t. count_at (is_line f) t ≡ count_at (has_line p) t + count_at (is_open p) t) is (omega arith) in
+    subst (λ t. count_at (is_line f) t ≡ count_at (has_line p) t + count_at (is_open p) t) is (omega arith) in
     let z = open_at f p s u in
     let z0 = z.0 in let z1 = z.1 in
     elim (cases_Bool (is_line f s)) [

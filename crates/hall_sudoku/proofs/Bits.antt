@@ -46,15 +46,15 @@ has_small s v small h =
 pub has_without : (a b v : ℕ) → a < 2 ^ 32 → b < 2 ^ 32 → Has (bit_and a (4294967295 - b)) v ↔ (Has a v × (Has b v → ⊥))
 has_without a b v small_a small_b = (
   (λ h.
-    let both = (has_and a (4294967295 - b) v).0 h in
-    let lt : v < 32 = has_small a v small_a both.0 in
-    let turned : bit_at (4294967295 - b) v ≡ 1 - bit_at b v = bit_at_not w32 b v small_b lt in
-    (both.0, λ k. omega (arith, both.1, turned))),
+      let both = (has_and a (4294967295 - b) v).0 h in
+      let lt : v < 32 = has_small a v small_a both.0 in
+      let turned : bit_at (4294967295 - b) v ≡ 1 - bit_at b v = bit_at_not w32 b v small_b lt in
+      (both.0, λ k. omega (arith, both.1, turned))),
   (λ h.
-    let lt : v < 32 = has_small a v small_a h.0 in
-    let turned : bit_at (4294967295 - b) v ≡ 1 - bit_at b v = bit_at_not w32 b v small_b lt in
-    let off : bit_at b v ≡ 0 = not_has b v h.1 in
-    (has_and a (4294967295 - b) v).1 (h.0, omega (arith, turned, off))),
+      let lt : v < 32 = has_small a v small_a h.0 in
+      let turned : bit_at (4294967295 - b) v ≡ 1 - bit_at b v = bit_at_not w32 b v small_b lt in
+      let off : bit_at b v ≡ 0 = not_has b v h.1 in
+      (has_and a (4294967295 - b) v).1 (h.0, omega (arith, turned, off))),
 )
 
 -- one bit
@@ -75,7 +75,6 @@ has_below k v lt = (
 
 pub has_tested : (s k : ℕ) → k < 32 → bit_and s (1 * 2 ^ k % 4294967296) ≡ bit_at s k * 2 ^ k
 has_tested s k lt = rw (one_bit k lt) (and_pow s k)
-
 
 pub bit_not_zero : (s k : ℕ) → (bit_at s k * 2 ^ k ≢ 0) ↔ Has s k
 bit_not_zero s k = (

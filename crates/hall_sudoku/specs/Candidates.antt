@@ -77,6 +77,6 @@ pub record Lacks (side : ℕ) (seen : List ℕ) : Type 0 where
 pub record IsSole (size : Size) (candidates : List ℕ) (shared : Shared) (cell value : ℕ) : Type 0 where
   pub may : Has (slice_index candidates cell) value
   pub sole : ((w : ℕ) → Has (slice_index candidates cell) w → w ≡ value)
-    ⊎ (Has (slice_index shared.rows (row size cell)) value → ⊥)
-    ⊎ (Has (slice_index shared.columns (col size cell)) value → ⊥)
-    ⊎ (Has (slice_index shared.boxes (box size cell)) value → ⊥)
+      ⊎ (Has (slice_index shared.rows (row size cell)) value → ⊥)
+      ⊎ (Has (slice_index shared.columns (col size cell)) value → ⊥)
+      ⊎ (Has (slice_index shared.boxes (box size cell)) value → ⊥)

@@ -37,10 +37,8 @@ impl Model for Units {
 
     ghost view = { λ u. u.size };
 
-    ghost invariant = {
-        λ u. HasSize Sudoku u.size × IsDivision u.size (row u.size) u.rows.items
-        × IsDivision u.size (col u.size) u.columns.items × IsDivision u.size (box u.size) u.boxes.items
-    };
+    ghost invariant = { λ u. HasSize Sudoku u.size × IsDivision u.size (row u.size) u.rows.items
+        × IsDivision u.size (col u.size) u.columns.items × IsDivision u.size (box u.size) u.boxes.items };
 }
 
 impl Units {

@@ -9,9 +9,8 @@ use crate::device::{read_input, write_line};
 use crate::ending::{Ending, refused, refused_input};
 use crate::fault::ToolFault;
 use crate::input::{LIMIT, two_lines};
-use hall_grid::{
-    Broken, Counted, Filling, Kind, Puzzle, Rule, TextFault, parse_answer, parse_puzzle,
-};
+use hall_desk::judge;
+use hall_grid::{Counted, Puzzle, TextFault, parse_puzzle};
 use std::alloc::{AllocError, Global};
 use std::io::{Read, Write};
 

@@ -28,10 +28,10 @@ loop-cell-preserved c =
       | in-Some+else-contains w ↦ rw w.taken-is (record {
         size = length-set _ _ _ ∙ c.loop-cell.invariant.size;
         below = taken_more unit c.args.partial.now c.loop-cell.cell w.in-Some.value w.or.result c.loop-cell.taken c.loop-cell.invariant.below
-        (omega (arith, c.loop-cell-test.true, c.requires.exact))
-        small
-        (sym c.get.ensures ∙ w.in-Some.is)
-        (λ v h. elim ((w.or.ensures v).0 h) [ inl old ↦ inl ((read_has c.loop-cell.taken (get_or c.args.units.now c.loop-cell.cell 0) w.index-taken-unit-in-Some.result v small).0 old) | inr new ↦ inr ((w.of.ensures v).0 new) ]);
+            (omega (arith, c.loop-cell-test.true, c.requires.exact))
+            small
+            (sym c.get.ensures ∙ w.in-Some.is)
+            (λ v h. elim ((w.or.ensures v).0 h) [ inl old ↦ inl ((read_has c.loop-cell.taken (get_or c.args.units.now c.loop-cell.cell 0) w.index-taken-unit-in-Some.result v small).0 old) | inr new ↦ inr ((w.of.ensures v).0 new) ]);
       })
       | in_default w ↦ rw w.taken-is (record { size = c.loop-cell.invariant.size; below = taken_skip unit c.args.partial.now c.loop-cell.cell c.loop-cell.taken c.loop-cell.invariant.below })
     ]
