@@ -1,16 +1,16 @@
 -- What the sets of candidates say of every solution.
-use Rattle.std.proofs.Common.{◌≡◌, ◌≢◌, ◌⊎◌, ◌↔◌, ℕ, ◌+◌, ◌*◌, ◌<◌, ◌≤◌, List, Option, Some, None, length, get_or, refl, sym, ◌∙◌, ap, subst, inl, inr, arith}
+use Rattle.std.proofs.Common.{◌≡◌, ◌≢◌, ◌↔◌, ℕ, ◌+◌, ◌*◌, ◌<◌, List, Option, Some, None, length, get_or, refl, sym, ◌∙◌, ap, subst, inl, inr, arith}
 use Rattle.std.proofs.lemmas.Bool.{cases_eq, cases_lt}
 use Rattle.hall_grid.specs.declared.board.Size.{Size}
 use Rattle.hall_grid.specs.Board.{cells, row, col}
 use Rattle.hall_grid.specs.Sudoku.{box, Repeats}
-use Rattle.hall_solve.specs.Question.{Solves, IsHopeless, IsPartial}
+use Rattle.hall_solve.specs.Question.{Solves, IsPartial}
 use Rattle.hall_solve.specs.Deduction.{HasAlways}
 use Rattle.hall_sudoku.specs.Values.{Has}
-use Rattle.hall_sudoku.specs.Units.{units_question, IsDivision, RepeatsNothing}
+use Rattle.hall_sudoku.specs.Units.{units_question}
 use Rattle.hall_sudoku.specs.declared.singles.Shared.{Shared}
 use Rattle.hall_sudoku.specs.declared.candidates.Taken.{Taken}
-use Rattle.hall_sudoku.specs.Candidates.{StandsIn, AreTaken, Clashes, IsLeft, AreCandidates, AreShared, AreAllShared, IsMissing, IsSole, AreAllTaken}
+use Rattle.hall_sudoku.specs.Candidates.{StandsIn, Clashes, IsLeft, AreCandidates, AreShared, AreAllShared, IsMissing, IsSole, AreAllTaken}
 use Rattle.hall_sudoku.proofs.Sizes.{IsUnit, IsSquare, row_unit, column_unit, box_unit, box_cell}
 use Rattle.hall_sudoku.proofs.Pigeons.{no_value_missing}
 

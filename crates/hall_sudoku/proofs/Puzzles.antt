@@ -1,9 +1,8 @@
 -- The question of a puzzle against that of its units alone, and the givens.
-use Rattle.std.proofs.Common.{◌≡◌, ◌≢◌, ◌⊎◌, ◌↔◌, ℕ, ◌+◌, ◌-◌, ◌<◌, ◌≤◌, List, Option, Some, None, length, get_or, set, refl, sym, ◌∙◌, ap, subst, inl, inr, arith}
+use Rattle.std.proofs.Common.{◌≡◌, ◌≢◌, ◌↔◌, ℕ, ◌+◌, ◌-◌, ◌<◌, ◌≤◌, List, Option, Some, None, length, get_or, set, sym, ◌∙◌, ap, subst, inl, inr, arith}
 use Rattle.std.specs.Prelude.{slice_get}
 use Rattle.std.proofs.lemmas.Bool.{cases_eq, cases_lt}
-use Rattle.std.proofs.lemmas.List.{get_or-set_same, get_or-set_other, length-set}
-use Rattle.std.proofs.lemmas.List.Elements.{All-from_get_or}
+use Rattle.std.proofs.lemmas.List.{get_or-set_same, get_or-set_other}
 use Rattle.std.proofs.lemmas.Option.{slice_get_within, get_or_from_slice_get}
 use Rattle.hall_grid.specs.declared.board.Clue.{Clue}
 use Rattle.hall_grid.specs.declared.board.Clue.TheVariants.{Blank, Number}
@@ -11,8 +10,8 @@ use Rattle.hall_grid.specs.declared.board.Kind.TheVariants.{Sudoku}
 use Rattle.hall_grid.specs.declared.rule.Rule.{Rule}
 use Rattle.hall_grid.specs.declared.rule.Rule.TheVariants.{U1, U2, U3, U4}
 use Rattle.hall_grid.specs.Board.{Board, IsBoard, IsClue, cells}
-use Rattle.hall_grid.specs.Answer.{IsBroken, Breaks}
-use Rattle.hall_solve.specs.Question.{Question, IsFilling, IsPartial, Solves, IsHopeless, Narrows}
+use Rattle.hall_grid.specs.Answer.{Breaks}
+use Rattle.hall_solve.specs.Question.{IsPartial, Solves, IsHopeless, Narrows}
 use Rattle.hall_sudoku.specs.Units.{question_of, units_question, IsRight, RepeatsNothing, SetsGivens}
 
 -- a filling that breaks no rule of a Sudoku breaks this one

@@ -1,11 +1,11 @@
 -- Tables of sets, filled cell by cell.
-use Rattle.std.proofs.Common.{◌≡◌, ◌≢◌, ◌⊎◌, ◌↔◌, ℕ, ◌+◌, ◌<◌, ◌≤◌, List, Option, Some, None, Bool, true, false, not, length, get_or, set, bit_and, refl, sym, ◌∙◌, ap, subst, inl, inr, arith}
+use Rattle.std.proofs.Common.{◌≡◌, ◌≢◌, ◌⊎◌, ◌↔◌, ℕ, ◌+◌, ◌<◌, List, Option, Some, None, Bool, true, not, length, get_or, set, refl, sym, ◌∙◌, ap, subst, inl, inr, arith}
 use Rattle.std.specs.Prelude.{is_some}
-use Rattle.std.proofs.lemmas.Bool.{cases_eq, cases_lt}
+use Rattle.std.proofs.lemmas.Bool.{cases_eq}
 use Rattle.std.proofs.lemmas.List.{get_or-set_same, get_or-set_other, get_or_default}
 use Rattle.hall_grid.specs.declared.board.Size.{Size}
 use Rattle.hall_grid.specs.Board.{cells}
-use Rattle.hall_solve.specs.Question.{IsOpen, IsWhole}
+use Rattle.hall_solve.specs.Question.{IsOpen}
 use Rattle.hall_sudoku.specs.Values.{Has}
 use Rattle.hall_sudoku.specs.Units.{IsDivision}
 use Rattle.hall_sudoku.specs.Candidates.{StandsIn, AreTaken, Clashes, AreSeen, AreShared, IsLeft, IsMissing}

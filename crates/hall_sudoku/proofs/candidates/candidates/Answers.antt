@@ -1,10 +1,7 @@
-use Rattle.std.proofs.Common.{◌≡◌, ℕ, ◌+◌, ◌*◌, ◌<◌, ◌≤◌, List, Option, Some, None, length, get_or, set, ◌∙◌, sym, arith}
+use Rattle.std.proofs.Common.{◌+◌, ◌*◌, ◌<◌, length, get_or, ◌∙◌, arith}
 use Rattle.std.proofs.lemmas.List.{length-set}
-use Rattle.hall_grid.specs.declared.board.Size.{Size}
-use Rattle.hall_grid.specs.Board.{cells, row, col}
+use Rattle.hall_grid.specs.Board.{row, col}
 use Rattle.hall_grid.specs.Sudoku.{box}
-use Rattle.hall_solve.specs.Question.{IsPartial, IsHopeless}
-use Rattle.hall_sudoku.specs.Units.{units_question}
 use Rattle.hall_sudoku.proofs.Sizes.{square_of, row_unit, column_unit, box_unit, box_cell}
 use Rattle.hall_sudoku.proofs.Tables.{taken_of, clash_of, left_more}
 use Rattle.hall_sudoku.proofs.Deductions.{no_clash}

@@ -1,4 +1,4 @@
-use Rattle.std.proofs.Common.{◌≡◌, ◌↔◌, ◌<◌, ℕ, List, length, get_or, Some, None, sym, ◌∙◌, subst, arith}
+use Rattle.std.proofs.Common.{◌≡◌, ◌↔◌, ◌<◌, ℕ, List, length, get_or, None, sym, ◌∙◌, subst, arith}
 use Rattle.hall_sudoku.specs.Values.{Has}
 use Rattle.hall_sudoku.proofs.Sizes.{square_of}
 use Rattle.hall_sudoku.proofs.Tables.{read_has}

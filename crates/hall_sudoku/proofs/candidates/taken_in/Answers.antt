@@ -1,6 +1,5 @@
-use Rattle.std.proofs.Common.{◌≡◌, ◌⊎◌, ◌+◌, ◌<◌, ℕ, length, get_or, set, Some, None, sym, ◌∙◌, inl, inr, arith}
+use Rattle.std.proofs.Common.{◌<◌, ℕ, length, get_or, sym, ◌∙◌, inl, inr, arith}
 use Rattle.std.proofs.lemmas.List.{length-set}
-use Rattle.hall_sudoku.specs.Values.{Has}
 use Rattle.hall_sudoku.proofs.Tables.{read_has, taken_skip, taken_more}
 use Rattle.hall_sudoku.proofs.candidates.taken_in.Goals as goal
 use Rattle.hall_sudoku.proofs.candidates.taken_in.Goals.{in-Some+else-contains, in_default}

@@ -1,10 +1,7 @@
-use Rattle.std.proofs.Common.{◌≡◌, ◌≢◌, ℕ, ◌+◌, ◌-◌, ◌<◌, ◌≤◌, List, Option, Some, None, length, get_or, set, sym, ◌∙◌, ap, arith}
+use Rattle.std.proofs.Common.{◌≡◌, ◌≢◌, ◌-◌, ◌<◌, Some, None, length, ◌∙◌, ap, arith}
 use Rattle.std.specs.Prelude.{slice_get}
 use Rattle.std.proofs.lemmas.List.{length-set, get_or-set_other}
-use Rattle.hall_grid.specs.declared.board.Clue.{Clue}
 use Rattle.hall_grid.specs.declared.board.Clue.TheVariants.{Number}
-use Rattle.hall_grid.specs.Board.{Board, cells}
-use Rattle.hall_sudoku.specs.Units.{SetsGivens}
 use Rattle.hall_sudoku.proofs.Puzzles.{givens_skip, givens_more, given_small, sets_givens, givens_partial, givens_extend}
 use Rattle.hall_sudoku.proofs.givens.start.Goals as goal
 use Rattle.hall_sudoku.proofs.givens.start.Goals.{in-Number, in_default}

@@ -1,5 +1,4 @@
-use Rattle.std.proofs.Common.{◌≡◌, ℕ, ◌+◌, ◌*◌, ◌<◌, List, length, ◌∙◌, sym, subst}
-use Rattle.hall_grid.specs.declared.board.Size.{Size}
+use Rattle.std.proofs.Common.{◌+◌, ◌*◌, subst}
 use Rattle.hall_grid.specs.Board.{cells, row, col}
 use Rattle.hall_grid.specs.Sudoku.{box}
 use Rattle.hall_sudoku.specs.Candidates.{IsMissing}

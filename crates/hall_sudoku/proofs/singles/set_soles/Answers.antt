@@ -1,6 +1,6 @@
-use Rattle.std.proofs.Common.{◌≡◌, ℕ, ◌<◌, ◌≤◌, List, Option, Some, None, length, get_or, set, sym, ◌∙◌, arith, true}
-use Rattle.hall_solve.specs.Question.{IsOpen, Narrows, open_places}
-use Rattle.hall_solve.specs.Deduction.{IsForced, IsDeduced}
+use Rattle.std.proofs.Common.{◌≡◌, ◌<◌, sym, ◌∙◌, arith}
+use Rattle.hall_solve.specs.Question.{IsOpen}
+use Rattle.hall_solve.specs.Deduction.{IsForced}
 use Rattle.hall_solve.specs.declared.deduce.Pass.TheVariants.{Advanced, Dead}
 use Rattle.hall_solve.proofs.Boards.{Solves-keeps, forced_after}
 use Rattle.hall_sudoku.specs.Units.{units_question}

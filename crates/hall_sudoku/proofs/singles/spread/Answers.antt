@@ -1,6 +1,5 @@
-use Rattle.std.proofs.Common.{◌≡◌, ◌⊎◌, ℕ, ◌+◌, ◌<◌, List, length, get_or, set, ◌∙◌, sym, inl, inr, arith}
+use Rattle.std.proofs.Common.{ℕ, ◌<◌, length, get_or, ◌∙◌, inl, inr, arith}
 use Rattle.std.proofs.lemmas.List.{length-set}
-use Rattle.hall_sudoku.specs.Values.{Has}
 use Rattle.hall_sudoku.proofs.Tables.{read_has, read_is, seen_more, shared_more}
 use Rattle.hall_sudoku.proofs.singles.spread.Goals as goal
 

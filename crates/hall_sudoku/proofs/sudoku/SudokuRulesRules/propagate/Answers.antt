@@ -1,11 +1,8 @@
-use Rattle.std.proofs.Common.{◌≡◌, ℕ, ◌∙◌, sym, ap, subst, List, Option}
+use Rattle.std.proofs.Common.{subst}
 use Rattle.std.proofs.lemmas.Result.{IfOk-weaker, on_err_weaker}
-use Rattle.hall_solve.specs.declared.rules.Step.{Step}
-use Rattle.hall_solve.specs.declared.rules.Step.TheVariants.{Live, Dead}
 use Rattle.hall_solve.specs.Question.{Narrows, IsHopeless}
-use Rattle.hall_grid.specs.Board.{Board}
 use Rattle.hall_grid.specs.declared.board.Size.{Size}
-use Rattle.hall_sudoku.specs.Units.{question_of, units_question}
+use Rattle.hall_sudoku.specs.Units.{units_question}
 use Rattle.hall_sudoku.proofs.Puzzles.{narrows_of, hopeless_of}
 use Rattle.hall_sudoku.proofs.sudoku.SudokuRulesRules.propagate.Goals as goal
 

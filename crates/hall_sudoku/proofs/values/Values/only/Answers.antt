@@ -1,4 +1,4 @@
-use Rattle.std.proofs.Common.{◌≡◌, ◌∙◌, sym, subst}
+use Rattle.std.proofs.Common.{◌∙◌, sym, subst}
 use Rattle.hall_sudoku.specs.Values.{Has}
 use Rattle.hall_sudoku.proofs.Bits.{has_of}
 use Rattle.hall_sudoku.proofs.values.Values.only.Goals as goal
