@@ -6,3 +6,5 @@ pub mod Naming
 pub mod Demands
 pub mod Tellings
 pub mod Setting
+pub mod Loops
+pub mod Chaining

@@ -1,6 +1,7 @@
 //! Slitherlink: the judge.
 #![tactic(auto)]
 
+mod chain;
 mod dot;
 mod judge;
 mod lines;
