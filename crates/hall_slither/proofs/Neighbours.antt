@@ -247,3 +247,6 @@ from_four size d s (inr (inr h)) = inr (inr (inr (inl h)))
 
 pub contained_from_end : (size : Size) (d s : ℕ) → 0 < size.cols → d < dots size → s < all_sides size → is_end size d s ≡ true → Contains (sides_at size d) (Some s)
 contained_from_end size d s some low lim e = contains_from_among (sides_at size d) s (from_four size d s (from_end size d s some low lim e))
+
+pub contained_below : (size : Size) (d s : ℕ) → 0 < size.cols → d < dots size → Contains (sides_at size d) (Some s) → s < all_sides size
+contained_below size d s some low h = sides_below size d s some low (four_from size d s (among_from_contains (sides_at size d) s h))
