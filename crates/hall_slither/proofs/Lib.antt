@@ -8,3 +8,4 @@ pub mod Tellings
 pub mod Setting
 pub mod Loops
 pub mod Chaining
+pub mod Closings

@@ -48,7 +48,7 @@ pub(crate) fn lines_so_far(alloc: Global, partial: &Partial) -> Result<Vec<u8>, 
 }
 
 /// The first of the sides that is a line.
-fn first_line(lines: &[u8], sides: &[Option<usize>]) -> Option<usize>
+pub(crate) fn first_line(lines: &[u8], sides: &[Option<usize>]) -> Option<usize>
     requires { AreBelow (length lines.now) sides.now }
     ensures found { IfSome result (λ s. Contains sides.now (Some s) × (slice_index lines.now s ≡ 1)) }
     ensures none { IfNone result ((s : ℕ) → Contains sides.now (Some s) → slice_index lines.now s ≡ 1 → ⊥) }

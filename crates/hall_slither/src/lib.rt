@@ -2,6 +2,7 @@
 #![tactic(auto)]
 
 mod chain;
+mod close;
 mod dot;
 mod judge;
 mod lines;
