@@ -1,29 +1,53 @@
 -- Chains that are loops, and a side that would close one.
 use Rattle.std.proofs.Common.{◌≡◌, ◌≢◌, ℕ, ◌+◌, ◌<◌, ◌≤◌, ◌⊎◌, ◌∙◌, Bool, true, false, eqb, List, [], ◌∷◌, length, get_or, set, Option, Some, None, refl, sym, ap, subst, inl, inr, arith}
-use Rattle.std.specs.Prelude.{slice_index, slice_get, count_by, IsTrue, All}
+use Rattle.std.specs.Prelude.{slice_index, slice_get, count_by, is_some}
 use Rattle.std.proofs.lemmas.Bool.{cases_eq, eq-eqb, ne_eqb}
+use Rattle.std.proofs.lemmas.Nat.{div_below, mod_below, mul-add-lt}
+use Rattle.std.proofs.lemmas.Option.{slice_get_within}
 use Rattle.std.proofs.lemmas.List.{get_or-set_same, get_or-set_other}
 use Rattle.hall_grid.specs.declared.board.Size.{Size}
 use Rattle.hall_grid.specs.declared.board.Kind.{Kind}
 use Rattle.hall_grid.specs.declared.board.Kind.TheVariants.{Slither}
-use Rattle.hall_grid.specs.Board.{Board, IsBoard, IsSize, HasSize, cells}
+use Rattle.hall_grid.specs.Board.{Board, IsBoard, IsSize, HasSize, cells, row, col}
 use Rattle.hall_grid.specs.Walk.{at, on}
-use Rattle.hall_grid.specs.Slither.{dots, all_sides, sides_of, is_line, is_end, IsLine, ShareDot, degree, HasOtherCount}
+use Rattle.hall_grid.specs.Slither.{dots, all_sides, flat_side, upright_side, sides_of, is_line, is_end, IsLine, ShareDot, degree, HasOtherCount}
 use Rattle.hall_grid.specs.Component.{IsLabelled, AreComponents}
 use Rattle.hall_grid.proofs.Joined.{labelled_member}
-use Rattle.hall_solve.specs.Question.{Question, Solves, IsHopeless, IsOpen}
+use Rattle.hall_solve.specs.Question.{Solves, IsHopeless, IsOpen}
+use Rattle.hall_solve.specs.Deduction.{IsForced}
 use Rattle.hall_slither.specs.Label.{LabelsDiffer}
 use Rattle.hall_slither.specs.Chains.{IsEndOf, Touches, HaveEnds}
 use Rattle.hall_slither.specs.declared.chain.Ends.{Ends}
 use Rattle.hall_slither.specs.declared.chain.Ends.TheVariants.{Closed, Two}
 use Rattle.hall_slither.specs.Closing.{Layout, IsLayout, IsClosed, HasLines, layout_question, Closes}
-use Rattle.hall_slither.proofs.Tallies.{count_by-numbers, tally-le, tally-two}
+use Rattle.hall_slither.proofs.Tallies.{worth, count_by-numbers, tally-le, tally-two}
 use Rattle.hall_slither.proofs.Neighbours.{first_end, second_end, is_end_cases, is_end_first, is_end_second}
 use Rattle.hall_slither.proofs.Demands.{counts}
 use Rattle.hall_slither.proofs.Loops.{line_end, line_end_from, line_end_parts, end_below, all_within}
 
 pub size_of_board : (board : Board) → board.kind ≡ Slither → IsBoard board → IsSize board.size
 size_of_board board kind is = subst (λ k. HasSize k board.size) kind is.size
+
+-- the four sides of a cell are on the board
+sides_on_board : (size : Size) (cell : ℕ) → 0 < size.cols → cell < cells size → (P : ℕ → Type 0) → ((s : ℕ) → s < all_sides size → P s)
+    → P (flat_side size (row size cell) (col size cell)) × P (upright_side size (row size cell) (col size cell))
+        × P (upright_side size (row size cell) (col size cell + 1)) × P (flat_side size (row size cell + 1) (col size cell))
+sides_on_board size cell some low P h =
+    let r = div_below cell size.cols size.rows some low in
+    let c = mod_below cell size.cols some in
+    let top = mul-add-lt (row size cell) size.cols (col size cell) (size.rows + 1) (omega arith) c in
+    let left = mul-add-lt (row size cell) (size.cols + 1) (col size cell) size.rows r (omega arith) in
+    let right = mul-add-lt (row size cell) (size.cols + 1) (col size cell + 1) size.rows r (omega arith) in
+    let bottom = mul-add-lt (row size cell + 1) size.cols (col size cell) (size.rows + 1) (omega arith) c in
+    (h _ (omega arith), h _ (omega arith), h _ (omega arith), h _ (omega arith))
+
+-- tests that agree on the board count the same round a cell
+same_count : (size : Size) (p q : ℕ → Bool) (cell : ℕ) → 0 < size.cols → cell < cells size → ((s : ℕ) → s < all_sides size → p s ≡ q s)
+    → count_by p (sides_of size cell) ≡ count_by q (sides_of size cell)
+same_count size p q cell some low same =
+    let e = sides_on_board size cell some low (λ s. worth (p s) ≡ worth (q s)) (λ s l. ap worth (same s l)) in
+    let e0 = e.0 in let e1 = e.1 in let e2 = e.2 in let e3 = e.3 in
+    omega arith
 
 labelled_or : (v : Option ℕ) (label : ℕ) → (v ≡ Some label) ⊎ (v ≡ Some label → ⊥)
 labelled_or None label = inr (λ e. cc)
@@ -203,3 +227,63 @@ module _ (layout : Layout) (is : IsLayout layout) (p : List (Option ℕ)) (f : L
         | inr ns ↦ ne_eqb (slice_index f y) 1 ne ∙ sym (ne_eqb (slice_index with_side y) 1 ns)
       ]
     ]
+
+    pub meets_numbers : HasOtherCount layout.board (set layout.lines side 1) → ⊥
+    unfolding with_side
+    meets_numbers other =
+        let low_cell : other.0 < cells layout.board.size =
+            (let k = slice_get_within layout.board.clues other.0 _ other.2 in let e = is.board.clues in omega arith) in
+        let same = same_count layout.board.size (is_line f) (is_line with_side) other.0 some_cols low_cell same_line in
+        other.3 (sym same ∙ counts layout.board f other.0 other.1 is.kind sol.right.0 other.2)
+
+not_one : (n : ℕ) → n < 2 → (n ≡ 1 → ⊥) → n ≡ 0
+not_one n small ne = elim (cases_eq n 1) [ inl e ↦ absurd (ne e) | inr h ↦ omega arith ]
+
+module _ (layout : Layout) (is : IsLayout layout) (p : List (Option ℕ)) where
+  -- another chain beside a loop
+  pub hopeless_apart : (label : ℕ) → IsClosed layout label → LabelsDiffer layout.labels → IsHopeless (layout_question layout) p
+  hopeless_apart label closed differ f sol = loop_is_alone layout is p f sol label closed differ
+
+  forced_off : (side : ℕ) → IsOpen p side → side < all_sides layout.board.size → ((f : List ℕ) → Solves (layout_question layout) p f → slice_index f side ≡ 1 → ⊥)
+      → IsForced (layout_question layout) p side 0
+  forced_off side unset low off = record {
+    unset = unset;
+    in_range = omega arith;
+    forced = λ f sol. not_one (slice_index f side) (sol.filling.in_range side low) (off f sol);
+  }
+
+  pub forced_beside : (label side : ℕ) → IsClosed layout label → IsOpen p side → side < all_sides layout.board.size → slice_index layout.lines side ≢ 1
+      → IsForced (layout_question layout) p side 0
+  forced_beside label side closed unset low off =
+      forced_off side unset low (λ f sol. beside_loop layout is p f sol label side closed off low)
+
+  -- a side that would close a loop too early
+  pub forced_closing : (side : ℕ) → Closes layout side → IsOpen p side → side < all_sides layout.board.size → slice_index layout.lines side ≢ 1
+      → LabelsDiffer layout.labels ⊎ HasOtherCount layout.board (set layout.lines side 1) → IsForced (layout_question layout) p side 0
+  forced_closing side closes unset low off wrong =
+      let size = layout.board.size in
+      let a = first_end size side in
+      let b = second_end size side in
+      let cases : (d : ℕ) → is_end size d side ≡ true → (d ≡ a) ⊎ (d ≡ b) =
+          λ d e. elim (is_end_cases size d side e) [ inl k ↦ inl (sym k) | inr k ↦ inr (sym k) ] in
+      let turned : (d : ℕ) → is_end size d side ≡ true → (d ≡ b) ⊎ (d ≡ a) =
+          λ d e. elim (is_end_cases size d side e) [ inl k ↦ inr (sym k) | inr k ↦ inl (sym k) ] in
+      forced_off side unset low
+      (λ f sol line. elim closes.1 [
+        | inl ends ↦ elim wrong [
+          | inl differ ↦ not_apart layout is p f sol side closes.0 a b low off line ends (is_end_first size side) (is_end_second size side) cases differ
+          | inr other ↦ meets_numbers layout is p f sol side closes.0 a b low off line ends (is_end_first size side) (is_end_second size side) cases other
+        ]
+        | inr ends ↦ elim wrong [
+          | inl differ ↦ not_apart layout is p f sol side closes.0 b a low off line ends (is_end_second size side) (is_end_first size side) turned differ
+          | inr other ↦ meets_numbers layout is p f sol side closes.0 b a low off line ends (is_end_second size side) (is_end_first size side) turned other
+        ]
+      ])
+
+pub some_from : (o : Option ℕ) → is_some o ≡ true → (n : ℕ) × (o ≡ Some n)
+some_from None e = absurd (cc)
+some_from (Some n) e = (n, refl)
+
+pub none_from : (o : Option ℕ) → is_some o ≡ false → o ≡ None
+none_from None e = refl
+none_from (Some n) e = absurd (cc)

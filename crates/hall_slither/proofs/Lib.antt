@@ -9,3 +9,4 @@ pub mod Setting
 pub mod Loops
 pub mod Chaining
 pub mod Closings
+pub mod Questions

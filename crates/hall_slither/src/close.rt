@@ -109,8 +109,11 @@ impl<'a> Chains<'a> {
         let Some(label) = self.labels[line] else {
             return false;
         };
-        let ends = self.ends[label];
-        ends == Ends::Two(first, second) || ends == Ends::Two(second, first)
+        match self.ends[label] {
+            Ends::Two(a, b) if a == first && b == second => true,
+            Ends::Two(a, b) if a == second && b == first => true,
+            _ => false,
+        }
     }
 }
 
