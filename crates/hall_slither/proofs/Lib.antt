@@ -6,3 +6,7 @@ pub mod Naming
 pub mod Demands
 pub mod Tellings
 pub mod Setting
+pub mod Loops
+pub mod Chaining
+pub mod Closings
+pub mod Questions

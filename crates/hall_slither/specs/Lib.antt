@@ -1,3 +1,5 @@
+pub mod Chains
+pub mod Closing
 pub mod Counts
 pub mod Label
 pub mod Search

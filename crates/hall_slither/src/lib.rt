@@ -1,6 +1,8 @@
 //! Slitherlink: the judge.
 #![tactic(auto)]
 
+mod chain;
+mod close;
 mod dot;
 mod judge;
 mod lines;

@@ -3,6 +3,7 @@ ghost use Rattle.std.specs.Prelude.{◌≡◌, IfOk};
 ghost use Rattle.hall_solve.specs.Question.{IsPartial};
 ghost use Rattle.hall_slither.specs.Search.{question_of, IsUnset};
 
+use crate::close::close_chains;
 use crate::judge::broken;
 use crate::spread::follow_counts;
 use hall_grid::{Filling, Kind, Puzzle};
@@ -33,7 +34,10 @@ impl<'a> Deduce for Deductions<'a> {
     ghost question = { question_of };
 
     fn pass(&self, alloc: Global, partial: &mut Partial) -> Result<Pass, AllocError> {
-        follow_counts(alloc, self.puzzle, partial)
+        match follow_counts(alloc, self.puzzle, partial)? {
+            Pass::Settled => close_chains(alloc, self.puzzle, partial),
+            pass => Ok(pass),
+        }
     }
 }
 
