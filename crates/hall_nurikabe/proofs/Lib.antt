@@ -5,3 +5,6 @@ pub mod Numbers
 pub mod Judging
 pub mod Solutions
 pub mod Blocking
+pub mod Forcing
+pub mod Regioning
+pub mod Sound

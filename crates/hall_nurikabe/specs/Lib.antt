@@ -1,3 +1,4 @@
 pub mod Tally
 pub mod Solving
 pub mod Block
+pub mod Forced

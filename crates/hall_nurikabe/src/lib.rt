@@ -3,9 +3,11 @@
 
 mod blocks;
 mod deduce;
+mod forced;
 mod givens;
 mod island;
 mod judge;
+mod region;
 mod rules;
 
 pub use givens::start;
