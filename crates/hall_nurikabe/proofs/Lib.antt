@@ -8,3 +8,5 @@ pub mod Blocking
 pub mod Forcing
 pub mod Regioning
 pub mod Sound
+pub mod Rising
+pub mod Distance

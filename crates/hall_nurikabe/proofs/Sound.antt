@@ -23,7 +23,7 @@ use Rattle.hall_nurikabe.proofs.Solutions.{set_wall, set_white, white_or_wall, w
 
 module _ (board : Board) (p : List (Option ℕ)) (part : IsPartial (question_of board) p) where
   -- what is white in a solution isn't set to wall, and the other way round
-  open_white : (f : List ℕ) → Solves (question_of board) p f → (x : ℕ) → IsWhite board.size f x → IsOpenTo p 1 x
+  pub open_white : (f : List ℕ) → Solves (question_of board) p f → (x : ℕ) → IsWhite board.size f x → IsOpenTo p 1 x
   open_white f s x w = (let low = w.0 in let size = part.size in omega arith, λ h. let one = s.extends x 1 h in let none = w.1 in omega arith)
 
   open_wall : (f : List ℕ) → Solves (question_of board) p f → (x : ℕ) → IsWall board.size f x → IsOpenTo p 0 x
@@ -77,7 +77,7 @@ module _ (board : Board) (p : List (Option ℕ)) (part : IsPartial (question_of 
       | inr ne ↦ absurd (s.right N6 (cell, given, xs, clue, white f s, lists, ne))
     ]
 
-    counted : (f : List ℕ) → Solves (question_of board) p f → (HasCount (InIsland board.size f cell) given → ⊥) → ⊥
+    pub counted : (f : List ℕ) → Solves (question_of board) p f → (HasCount (InIsland board.size f cell) given → ⊥) → ⊥
     counted f s none =
         not_uncounted (InIsland board.size f cell) (cells board.size) (λ x w. (Walk-end (Touch board.size) (IsWhite board.size f) cell x w).0)
         (λ m c. none (subst (HasCount (InIsland board.size f cell)) (count_is f m s c) c))

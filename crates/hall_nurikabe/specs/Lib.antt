@@ -2,3 +2,4 @@ pub mod Tally
 pub mod Solving
 pub mod Block
 pub mod Forced
+pub mod Spreading

@@ -7,11 +7,13 @@ ghost use Rattle.hall_solve.specs.Deduction.{IsDeduced};
 ghost use Rattle.hall_grid.specs.declared.board.Kind.TheVariants.{Nurikabe};
 ghost use Rattle.hall_nurikabe.specs.Solving.{question_of};
 ghost use Rattle.hall_nurikabe.specs.Forced.{AreForced, AreOwners, AreRegions, IsOpenTo, IsSetTo};
+ghost use Rattle.hall_nurikabe.specs.Spreading.{IsSpread};
 
 use crate::blocks::Blocks;
 use crate::forced::{Forced, force_label, force_walls_beside};
 use crate::judge::{WALL, WHITE};
 use crate::region::{Regions, are_apart, is_between, owners, places_open_to, places_set_to};
+use crate::spread::spread;
 use hall_grid::{Clue, Puzzle, regions};
 use hall_solve::{Deduce, Partial, Pass, sweep};
 use std::alloc::{AllocError, Global};
@@ -99,6 +101,20 @@ fn look_at_groups(
     Ok(close_groups(puzzle, partial, &groups.labels, &groups.sizes, forced))
 }
 
+/// Forces walls where no number comes.
+fn wall_far_cells(puzzle: &Puzzle, _partial: &Partial, left: &[usize], forced: &mut [Option<u8>])
+    requires partial { IsPartial (question_of puzzle.now) _partial.now }
+    requires left { IsSpread puzzle.now (IsOpenTo _partial.now 1) left.now }
+    requires forced { AreForced puzzle.now _partial.now forced.old }
+    ensures { AreForced puzzle.now _partial.now forced.new }
+{
+    for cell in 0..puzzle.cells() {
+        if left[cell] == 0 {
+            forced[cell] = Some(WALL);
+        }
+    }
+}
+
 /// Forces what the reaches of numbers say; tells whether they leave no solution.
 fn look_at_reaches(
     alloc: Global,
@@ -113,6 +129,8 @@ fn look_at_reaches(
     ensures forced { OnOk result (AreForced puzzle.now partial.now forced.new) }
 {
     let open = places_open_to(alloc, partial, WALL)?;
+    let left = spread(alloc, puzzle, &open)?;
+    wall_far_cells(puzzle, partial, &left, forced);
     let reaches = Regions::new(alloc, puzzle.size(), &open)?;
     Ok(fill_reaches(puzzle, partial, &reaches.labels, &reaches.sizes, forced))
 }
