@@ -23,17 +23,29 @@ MakePool-at size cell inner low = record {
 -- the first of the cells at the second place, at the third, at the fourth
 pub MakePool-second : (size : Size) (a b c d : ℕ) → MakePool size a b c d → MakePool size b a c d
 MakePool-second size a b c d m = record {
-  a_within = m.b_within; b_within = m.a_within; c_within = m.c_within; d_within = m.d_within; pool = λ f w x y z. m.pool f x w y z;
+  a_within = m.b_within;
+  b_within = m.a_within;
+  c_within = m.c_within;
+  d_within = m.d_within;
+  pool = λ f w x y z. m.pool f x w y z;
 }
 
 pub MakePool-third : (size : Size) (a b c d : ℕ) → MakePool size a b c d → MakePool size c a b d
 MakePool-third size a b c d m = record {
-  a_within = m.c_within; b_within = m.a_within; c_within = m.b_within; d_within = m.d_within; pool = λ f w x y z. m.pool f x y w z;
+  a_within = m.c_within;
+  b_within = m.a_within;
+  c_within = m.b_within;
+  d_within = m.d_within;
+  pool = λ f w x y z. m.pool f x y w z;
 }
 
 pub MakePool-fourth : (size : Size) (a b c d : ℕ) → MakePool size a b c d → MakePool size d a b c
 MakePool-fourth size a b c d m = record {
-  a_within = m.d_within; b_within = m.a_within; c_within = m.b_within; d_within = m.c_within; pool = λ f w x y z. m.pool f x y z w;
+  a_within = m.d_within;
+  b_within = m.a_within;
+  c_within = m.b_within;
+  d_within = m.c_within;
+  pool = λ f w x y z. m.pool f x y z w;
 }
 
 module _ (board : Board) (p : List (Option ℕ)) (a b c d : ℕ) (m : MakePool board.size a b c d)

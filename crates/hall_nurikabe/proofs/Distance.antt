@@ -28,8 +28,8 @@ taken size IsMember left falls c x v (on {b = b} w n k) low high =
     elim (cases_lt v (get_or left b 0)) [
       | inr more ↦ taken size IsMember left falls c b v w more high
       | inl less ↦ (
-        let step = falls b x n (Walk-end (Touch size) IsMember c b w) k (omega arith) in
-        (x, on w n k, omega arith))
+          let step = falls b x n (Walk-end (Touch size) IsMember c b w) k (omega arith) in
+          (x, on w n k, omega arith))
     ]
 
 module _ (size : Size) (IsMember : ℕ → Type 0) (left : List ℕ) (falls : FallsByOne size IsMember left 0) (n c x : ℕ)
@@ -42,7 +42,7 @@ module _ (size : Size) (IsMember : ℕ → Type 0) (left : List ℕ) (falls : Fa
         | inr empty ↦
             let e : m ≡ 0 = omega arith in
             absurd (HasCount-empty (λ y. Walk (Touch size) IsMember c y × (get_or left y 0 ≤ 0)) x
-              (subst (HasCount (λ y. Walk (Touch size) IsMember c y × (get_or left y 0 ≤ 0))) e count) (w, omega arith))
+            (subst (HasCount (λ y. Walk (Touch size) IsMember c y × (get_or left y 0 ≤ 0))) e count) (w, omega arith))
       ]
   many (suc v) m high count =
       let there = taken size IsMember left falls c x (suc v) w (omega arith) high in
@@ -51,7 +51,7 @@ module _ (size : Size) (IsMember : ℕ → Type 0) (left : List ℕ) (falls : Fa
         | inr few ↦ absurd (not_uncounted (λ y. Walk (Touch size) IsMember c y × (get_or left y 0 ≤ v)) n (λ y h. low y (Walk-end (Touch size) IsMember c y h.0)) (λ k fewer.
             let before = many v k (omega arith) fewer in
             let more = HasCount-lacks (λ y. Walk (Touch size) IsMember c y × (get_or left y 0 ≤ v)) (λ y. Walk (Touch size) IsMember c y × (get_or left y 0 ≤ suc v)) k m there.0
-              (λ y h. (h.0, let l = h.1 in omega arith)) (there.1, let e = there.2 in omega arith) (λ h. let l = h.1 in let e = there.2 in absurd (omega arith)) fewer count in
+            (λ y h. (h.0, let l = h.1 in omega arith)) (there.1, let e = there.2 in omega arith) (λ h. let l = h.1 in let e = there.2 in absurd (omega arith)) fewer count in
             omega arith))
       ]
 
@@ -76,16 +76,16 @@ module _ (board : Board) (p : List (Option ℕ)) (part : IsPartial (question_of 
   numberless f s x none other w (inl (n, clue)) =
       let back = Walk-reverse (Touch board.size) (IsWhite board.size f) (Touch-turn board.size) x other w in
       counted board p part whole other n clue f s (λ c.
-        let k = more_than_left board.size (IsWhite board.size f) left (white_falls f s) (cells board.size) other x back none (λ y h. h.0) n c in
-        let l = spread.numbers.known other n clue in
-        omega arith)
+      let k = more_than_left board.size (IsWhite board.size f) left (white_falls f s) (cells board.size) other x back none (λ y h. h.0) n c in
+      let l = spread.numbers.known other n clue in
+      omega arith)
   numberless f s x none other w (inr clue) =
       let back = Walk-reverse (Touch board.size) (IsWhite board.size f) (Touch-turn board.size) x other w in
       not_uncounted (InIsland board.size f other) (cells board.size) (λ y h. (Walk-end (Touch board.size) (IsWhite board.size f) other y h).0) (λ m c.
-        let k = more_than_left board.size (IsWhite board.size f) left (white_falls f s) (cells board.size) other x back none (λ y h. h.0) m c in
-        let l = spread.numbers.unknown other clue in
-        let b = HasCount-bound (InIsland board.size f other) m (cells board.size) (λ y h. (Walk-end (Touch board.size) (IsWhite board.size f) other y h).0) c in
-        omega arith)
+      let k = more_than_left board.size (IsWhite board.size f) left (white_falls f s) (cells board.size) other x back none (λ y h. h.0) m c in
+      let l = spread.numbers.unknown other clue in
+      let b = HasCount-bound (InIsland board.size f other) m (cells board.size) (λ y h. (Walk-end (Touch board.size) (IsWhite board.size f) other y h).0) c in
+      omega arith)
 
   pub far_forced : (x : ℕ) → x < cells board.size → get_or left x 0 ≡ 0 → HasAlways (question_of board) p x 1
   far_forced x low none = λ f s. wall_or_white board f x s.filling low (λ white. s.right N4 (x, white, λ other w numbered. numberless f s x none other w numbered))

@@ -63,4 +63,3 @@ AreForced-none board p n e = record {
   exact = length-replicate n None ∙ e;
   always = λ cell v h. absurd (no_value n cell v h);
 }
-

@@ -21,8 +21,8 @@ Raises-set reach old cur i low less r = record {
       | inr k ↦ absurd (let x = k.1 in omega arith)
     ]
     | inr ne ↦ (
-      let at : get_or (set cur i reach) c 0 ≡ get_or cur c 0 = get_or-set_other cur i c reach 0 ne in
-      elim (r.only c) [ inl same ↦ inl (at ∙ same) | inr k ↦ inr (k.0, at ∙ k.1) ])
+        let at : get_or (set cur i reach) c 0 ≡ get_or cur c 0 = get_or-set_other cur i c reach 0 ne in
+        elim (r.only c) [ inl same ↦ inl (at ∙ same) | inr k ↦ inr (k.0, at ∙ k.1) ])
   ];
 }
 

@@ -56,10 +56,10 @@ Begun-set board p cell low numbered b = record {
       (λ k. (
         subst (λ x. IsNumbered board x) (sym e) numbered,
         (let a : get_or (set p cell (Some 0)) cell None ≡ Some v = subst (λ x. get_or (set p cell (Some 0)) x None ≡ Some v) e k in
-        let z : Some 0 ≡ Some v = sym (get_or-set_same p cell (Some 0) None low) ∙ a in cc),
+            let z : Some 0 ≡ Some v = sym (get_or-set_same p cell (Some 0) None low) ∙ a in cc),
       )),
       (λ k. subst (λ x. get_or (set p cell (Some 0)) x None ≡ Some v) (sym e)
-        (get_or-set_same p cell (Some 0) None low ∙ (let z = k.1 in cc))),
+          (get_or-set_same p cell (Some 0) None low ∙ (let z = k.1 in cc))),
     )
     | inr ne ↦ (
       (λ k. (b.givens c v (omega arith)).0 (sym (get_or-set_other p cell c (Some 0) None ne) ∙ k)),

@@ -33,9 +33,15 @@ module _ (board : Board) (p : List (Option ℕ)) (part : IsPartial (question_of 
   pub apart_hopeless : (labels : List (Option ℕ)) → AreComponents (cells board.size) (Touch board.size) (IsOpenTo p 0) labels
       → AreApart p 1 labels → IsHopeless (question_of board) p
   apart_hopeless labels a (c, d, x, y, pc, pd, lc, ld, ne) = λ f s.
-      s.right N3 (c, d, set_wall board p f part s c pc, set_wall board p f part s d pd, (λ w.
-        let v = Walk-map (Touch board.size) (Touch board.size) (IsWall board.size f) (IsOpenTo p 0) (open_wall f s) (λ _ _ _ _ n. n) c d w in
-        ne (one_label labels d x y (a.shared c d x v lc) ld)))
+      s.right N3 (
+        c,
+        d,
+        set_wall board p f part s c pc,
+        set_wall board p f part s d pd,
+        (λ w.
+            let v = Walk-map (Touch board.size) (Touch board.size) (IsWall board.size f) (IsOpenTo p 0) (open_wall f s) (λ _ _ _ _ n. n) c d w in
+            ne (one_label labels d x y (a.shared c d x v lc) ld)),
+      )
 
   white_walk : (f : List ℕ) → Solves (question_of board) p f → (c d : ℕ) → Walk (Touch board.size) (IsSetTo p 0) c d → InIsland board.size f c d
   white_walk f s c d w =
@@ -58,10 +64,16 @@ module _ (board : Board) (p : List (Option ℕ)) (part : IsPartial (question_of 
         let oc = o.owner x c ox in
         let od = o.owner y d oy in
         wall_or_white board f cell s.filling low (λ white.
-          let there = on (island f s c u x oc.1 lu) (Touch-turn board.size cell u tu) white in
-          let back = on there tv (let m = Walk-start (Touch board.size) (IsWhite board.size f) v d (island f s v d y lv od.1) in m) in
-          s.right N5 (c, d, (λ e. ne (one_label labels d x y (subst (λ z. IsLabelled labels z x) e oc.1) od.1)), oc.0, od.0,
-            Walk-join (Touch board.size) (IsWhite board.size f) c v d back (island f s v d y lv od.1)))
+        let there = on (island f s c u x oc.1 lu) (Touch-turn board.size cell u tu) white in
+        let back = on there tv (let m = Walk-start (Touch board.size) (IsWhite board.size f) v d (island f s v d y lv od.1) in m) in
+        s.right N5 (
+          c,
+          d,
+          (λ e. ne (one_label labels d x y (subst (λ z. IsLabelled labels z x) e oc.1) od.1)),
+          oc.0,
+          od.0,
+          Walk-join (Touch board.size) (IsWhite board.size f) c v d back (island f s v d y lv od.1),
+        ))
 
   -- the island of a known number has that many cells
   module _ (whole : length board.clues ≡ cells board.size) (cell given : ℕ) (clue : slice_get board.clues cell ≡ Some (Number given)) where
@@ -104,7 +116,7 @@ module _ (board : Board) (p : List (Option ℕ)) (part : IsPartial (question_of 
           → HasAlways (question_of board) p x 1
       full_forced full x low unlabelled (y, t, h) = λ f s. wall_or_white board f x s.filling low (λ white_x. counted f s (λ c.
           let k = HasCount-lacks (λ x. IsLabelled labels x label) (InIsland board.size f cell) (get_or sizes label 0) given x (in_group f s)
-            (on (in_group f s y h) (Touch-turn board.size x y t) white_x) (λ l. let none : None ≡ Some label = sym unlabelled ∙ l in absurd (cc)) group_count c in
+          (on (in_group f s y h) (Touch-turn board.size x y t) white_x) (λ l. let none : None ≡ Some label = sym unlabelled ∙ l in absurd (cc)) group_count c in
           omega arith))
 
     -- the cells that a known number reaches without wall
@@ -128,6 +140,6 @@ module _ (board : Board) (p : List (Option ℕ)) (part : IsPartial (question_of 
           let low = labelled_below labels x label h in
           let e = r.components.exact in
           white_or_wall board f x s.filling (omega arith) (λ wall. counted f s (λ c.
-            let k = HasCount-lacks (InIsland board.size f cell) (λ x. IsLabelled labels x label) given _ x (in_reach f s) h
-              (λ w. let v = (Walk-end (Touch board.size) (IsWhite board.size f) cell x w).1 in let one = wall.1 in absurd (omega arith)) c reach_count in
-            omega arith))
+          let k = HasCount-lacks (InIsland board.size f cell) (λ x. IsLabelled labels x label) given _ x (in_reach f s) h
+          (λ w. let v = (Walk-end (Touch board.size) (IsWhite board.size f) cell x w).1 in let one = wall.1 in absurd (omega arith)) c reach_count in
+          omega arith))

@@ -29,7 +29,13 @@ impl Deduce for Deductions<'_> {
     ghost question = { λ deductions. question_of deductions.puzzle.now };
 
     fn pass(&self, alloc: Global, partial: &mut Partial) -> Result<Pass, AllocError> {
-        match sweep(alloc, &Blocks { puzzle: self.puzzle }, partial)? {
+        match sweep(
+            alloc,
+            &Blocks {
+                puzzle: self.puzzle,
+            },
+            partial,
+        )? {
             Pass::Settled => {}
             pass => return Ok(pass),
         }

@@ -21,7 +21,11 @@ pub(crate) struct Regions {
 }
 
 /// Which places are set to the value.
-pub(crate) fn places_set_to(alloc: Global, partial: &Partial, value: u8) -> Result<Vec<bool>, AllocError>
+pub(crate) fn places_set_to(
+    alloc: Global,
+    partial: &Partial,
+    value: u8,
+) -> Result<Vec<bool>, AllocError>
     ensures { IfOk result (λ marks. MarksSet (IsSetTo partial.now value) (length partial.now) marks.items) }
 {
     let mut marks = Vec::new(alloc);
@@ -32,7 +36,11 @@ pub(crate) fn places_set_to(alloc: Global, partial: &Partial, value: u8) -> Resu
 }
 
 /// Which places aren't set to the value.
-pub(crate) fn places_open_to(alloc: Global, partial: &Partial, value: u8) -> Result<Vec<bool>, AllocError>
+pub(crate) fn places_open_to(
+    alloc: Global,
+    partial: &Partial,
+    value: u8,
+) -> Result<Vec<bool>, AllocError>
     ensures { IfOk result (λ marks. MarksSet (IsOpenTo partial.now value) (length partial.now) marks.items) }
 {
     let mut marks = Vec::new(alloc);

@@ -39,13 +39,37 @@ fn answer(alloc: Global, puzzle: &[u8], budget: u64) -> Result<Vec<u8>, AllocErr
 #[test]
 fn small_boards(rt: HostRuntime) -> Result<(), Fail> {
     let alloc = rt.alloc();
-    assert_eq!(rt; answer(alloc, b"nurikabe/2/2/1i", 200000)?.as_slice(), b"one .###".as_slice());
-    assert_eq!(rt; answer(alloc, b"nurikabe/2/2/2i", 31)?.as_slice(), b"more".as_slice());
-    assert_eq!(rt; answer(alloc, b"nurikabe/2/2/j", 31)?.as_slice(), b"none".as_slice());
-    assert_eq!(rt; answer(alloc, b"nurikabe/2/1/.g", 200000)?.as_slice(), b"more".as_slice());
-    assert_eq!(rt; answer(alloc, b"nurikabe/5/5/-19zj", 200000)?.as_slice(), b"one .........................".as_slice());
-    assert_eq!(rt; answer(alloc, b"nurikabe/6/6/1zu", 200000)?.as_slice(), b"none".as_slice());
-    assert_eq!(rt; answer(alloc, b"nurikabe/2/2/1i", 0)?.as_slice(), b"gave up".as_slice());
-    assert_eq!(rt; answer(alloc, b"nurikabe/1/1/g", 200000)?.as_slice(), b"one #".as_slice());
+    assert_eq!(rt;
+        answer(alloc, b"nurikabe/2/2/1i", 200000)?.as_slice(),
+        b"one .###".as_slice()
+    );
+    assert_eq!(rt;
+        answer(alloc, b"nurikabe/2/2/2i", 31)?.as_slice(),
+        b"more".as_slice()
+    );
+    assert_eq!(rt;
+        answer(alloc, b"nurikabe/2/2/j", 31)?.as_slice(),
+        b"none".as_slice()
+    );
+    assert_eq!(rt;
+        answer(alloc, b"nurikabe/2/1/.g", 200000)?.as_slice(),
+        b"more".as_slice()
+    );
+    assert_eq!(rt;
+        answer(alloc, b"nurikabe/5/5/-19zj", 200000)?.as_slice(),
+        b"one .........................".as_slice()
+    );
+    assert_eq!(rt;
+        answer(alloc, b"nurikabe/6/6/1zu", 200000)?.as_slice(),
+        b"none".as_slice()
+    );
+    assert_eq!(rt;
+        answer(alloc, b"nurikabe/2/2/1i", 0)?.as_slice(),
+        b"gave up".as_slice()
+    );
+    assert_eq!(rt;
+        answer(alloc, b"nurikabe/1/1/g", 200000)?.as_slice(),
+        b"one #".as_slice()
+    );
     Ok(())
 }

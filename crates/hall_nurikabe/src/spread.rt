@@ -70,7 +70,11 @@ fn greatest(values: &[usize]) -> usize
 }
 
 /// What numbers have left in the marked cells that they reach by sides over marked cells: one less with each step, and 0 where none comes.
-pub(crate) fn spread(alloc: Global, puzzle: &Puzzle, marks: &[bool]) -> Result<Vec<usize>, AllocError>
+pub(crate) fn spread(
+    alloc: Global,
+    puzzle: &Puzzle,
+    marks: &[bool],
+) -> Result<Vec<usize>, AllocError>
     requires size { IsSize puzzle.now.size }
     requires marks { length marks.now ≡ cells puzzle.now.size }
     ensures { IfOk result (λ left. IsSpread puzzle.now (IsMarked marks.now) left.items) }

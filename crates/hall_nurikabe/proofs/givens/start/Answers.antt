@@ -16,9 +16,9 @@ loop-cell-preserved c =
       | else-is_number w ↦
           rw w.partial-is
           (Begun-skip c.args.puzzle.now c.loop-cell.partial c.loop-cell.cell (λ h.
-            let yes : c.is_number.result ≡ true = c.is_number.ensures.1 ((numbered_clue c.args.puzzle.now c.loop-cell.cell c.clue.result c.clue.ensures).1 h) in
-            let no : c.is_number.result ≡ false = w.if-is_number.false in
-            absurd (cc)) c.loop-cell.invariant)
+          let yes : c.is_number.result ≡ true = c.is_number.ensures.1 ((numbered_clue c.args.puzzle.now c.loop-cell.cell c.clue.result c.clue.ensures).1 h) in
+          let no : c.is_number.result ≡ false = w.if-is_number.false in
+          absurd (cc)) c.loop-cell.invariant)
     ]
 
 given : (c : goal.After-loop-cell) → SetsGivens c.args.puzzle.now c.loop-cell.partial

@@ -11,7 +11,7 @@ returns-in-Some-index c =
     let low = c.requires.labels c.loop-cell.cell c.in-Some.label c.in-Some.is in
     let e = c.requires.exact in
     let at : get_or c.loop-cell.owners.items c.in-Some.label c.index.result.now ≡ get_or c.loop-cell.owners.items c.in-Some.label None =
-      get_or_default c.loop-cell.owners.items c.in-Some.label c.index.result.now None (omega arith) in
+    get_or_default c.loop-cell.owners.items c.in-Some.label c.index.result.now None (omega arith) in
     two_owners c.args.puzzle.now c.args.labels.now c.loop-cell.owners.items c.loop-cell.cell c.in-Some.label c.in-Some-index.field-0
     ((numbered_clue c.args.puzzle.now c.loop-cell.cell c.clue.result c.clue.ensures).0 (c.is_number.ensures.0 c.if-is_number.true)) c.in-Some.is
     (sym at ∙ sym c.index.ensures ∙ c.in-Some-index.is) c.loop-cell.invariant

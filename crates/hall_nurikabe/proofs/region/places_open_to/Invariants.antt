@@ -7,5 +7,5 @@ use Rattle.hall_nurikabe.proofs.region.places_open_to.Given as goal
 abbrev pub invariant-loop-place : goal.invariant-loop-place
 invariant-loop-place l = record {
   exact : length l.marks.items ≡ l.place;
-  marked : (cell : ℕ) → cell < l.place → IsMarked l.marks.items cell ↔ IsOpenTo l.partial l.value cell
+  marked : (cell : ℕ) → cell < l.place → IsMarked l.marks.items cell ↔ IsOpenTo l.partial l.value cell;
 }

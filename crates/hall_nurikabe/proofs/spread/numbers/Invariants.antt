@@ -8,5 +8,5 @@ abbrev pub invariant-loop-cell : goal.invariant-loop-cell
 invariant-loop-cell l = record {
   exact : length l.left.items ≡ l.cell;
   known : (cell n : ℕ) → cell < l.cell → slice_get l.puzzle.clues cell ≡ Some (Number n) → n ≤ get_or l.left.items cell 0;
-  unknown : (cell : ℕ) → cell < l.cell → slice_get l.puzzle.clues cell ≡ Some Unknown → cells l.puzzle.size ≤ get_or l.left.items cell 0
+  unknown : (cell : ℕ) → cell < l.cell → slice_get l.puzzle.clues cell ≡ Some Unknown → cells l.puzzle.size ≤ get_or l.left.items cell 0;
 }

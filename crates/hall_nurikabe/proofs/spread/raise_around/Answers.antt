@@ -12,16 +12,16 @@ use Rattle.hall_nurikabe.proofs.spread.raise_around.Goals.{in-Some+then-marks-ot
 pub bounds-marks-other : goal.bounds-marks-other
 bounds-marks-other c =
     let low : c.in-Some.other < cells c.args.size =
-      ((c.neighbours-place-items.ensures.touching c.in-Some.other).0
-      (place_in c.neighbours-place-items.result c.loop-place.place-index _ _ (omega arith) c.in-Some.is)).0 in
+    ((c.neighbours-place-items.ensures.touching c.in-Some.other).0
+    (place_in c.neighbours-place-items.result c.loop-place.place-index _ _ (omega arith) c.in-Some.is)).0 in
     omega arith
 
 pub loop-place-preserved : goal.loop-place-preserved
 loop-place-preserved c = elim c.match-place.branch [
   | in-Some+then-marks-other+then-left-other w ↦
       let low : w.in-Some.other < cells c.args.size =
-        ((c.neighbours-place-items.ensures.touching w.in-Some.other).0
-        (place_in c.neighbours-place-items.result c.loop-place.place-index _ _ (omega arith) w.in-Some.is)).0 in
+      ((c.neighbours-place-items.ensures.touching w.in-Some.other).0
+      (place_in c.neighbours-place-items.result c.loop-place.place-index _ _ (omega arith) w.in-Some.is)).0 in
       let here : w.in-Some.other < length c.loop-place.left = omega arith in
       rw w.left-is
       record {
@@ -30,7 +30,7 @@ loop-place-preserved c = elim c.match-place.branch [
           | inl k ↦
               let before = c.loop-place.invariant.beside other k m in
               let up = rises c.args.reach c.loop-place.left (set c.loop-place.left w.in-Some.other c.args.reach) other
-                (Raises-set c.args.reach c.loop-place.left c.loop-place.left w.in-Some.other here w.if-left-other.true (Raises-none c.args.reach c.loop-place.left)) in
+              (Raises-set c.args.reach c.loop-place.left c.loop-place.left w.in-Some.other here w.if-left-other.true (Raises-none c.args.reach c.loop-place.left)) in
               omega arith
           | inr e ↦
               let k : Some w.in-Some.other ≡ Some other = sym w.in-Some.is ∙ e in
