@@ -1,5 +1,5 @@
 -- How many members a set has.
-use Rattle.std.proofs.Common.{◌≡◌, ℕ, ◌+◌, ◌<◌, ◌≤◌, ◌⊎◌, ◌↔◌, ◌++◌, Bool, true, false, List, [], ◌∷◌, length, get_or, refl, sym, ◌∙◌, subst, inl, inr, arith}
+use Rattle.std.proofs.Common.{◌≡◌, ℕ, zero, suc, ◌+◌, ◌<◌, ◌≤◌, ◌⊎◌, ◌↔◌, ◌++◌, Bool, true, false, List, [], ◌∷◌, length, get_or, refl, sym, ◌∙◌, subst, inl, inr, arith}
 use Rattle.std.specs.Prelude.{Contains, nat_eq}
 use Rattle.std.specs.List.{IsDistinct, list_any}
 use Rattle.std.specs.Cmp.{nat_eq_equiv}
@@ -99,3 +99,34 @@ two_HasCount P n x y ne p q (xs, lists, e) =
       | inl same ↦ absurd (ne (sym i.2 ∙ get_or_default xs i.0 x y i.1 ∙ subst (λ k. get_or xs k y ≡ y) (sym same) j.2))
       | inr other ↦ (let a = i.1 in let b = j.1 in omega arith)
     ]
+
+-- a set within another has no more members
+pub HasCount-within : (P Q : ℕ → Type 0) (m n : ℕ) → ((x : ℕ) → P x → Q x) → HasCount P m → HasCount Q n → m ≤ n
+HasCount-within P Q m n within (xs, a, e) (ys, b, d) = let k = Lists-shorter P Q xs ys within a b in omega arith
+
+-- a set within another that lacks one of its members has fewer
+pub HasCount-lacks : (P Q : ℕ → Type 0) (m n k : ℕ) → ((x : ℕ) → P x → Q x) → Q k → (P k → ⊥) → HasCount P m → HasCount Q n → m + 1 ≤ n
+HasCount-lacks P Q m n k within there lacks c d =
+    HasCount-within (λ x. P x ⊎ (x ≡ k)) Q (m + 1) n
+    (λ x h. elim h [ inl p ↦ within x p | inr e ↦ subst Q (sym e) there ])
+    (HasCount-more P (λ x. P x ⊎ (x ≡ k)) m k lacks (λ x. ((λ h. h), (λ h. h))) c) d
+
+count_below : (P : ℕ → Type 0) (n : ℕ) → ((m : ℕ) → HasCount (λ x. (x < n) × P x) m → ⊥) → ⊥
+count_below P zero none = none 0 (HasCount-none (λ x. (x < 0) × P x) (λ x h. let low = h.0 in omega arith))
+count_below P (suc n) none = count_below P n (λ m c.
+    let out : P n → ⊥ = λ here. none (m + 1)
+    (HasCount-more (λ x. (x < n) × P x) (λ x. (x < suc n) × P x) m n (λ h. let low = h.0 in omega arith)
+    (λ x. (
+      (λ h. elim (cases_eq x n) [ inl e ↦ inr e | inr ne ↦ inl (let low = h.0 in omega arith, h.1) ]),
+      (λ h. elim h [ inl k ↦ (let low = k.0 in omega arith, k.1) | inr e ↦ (omega arith, subst P (sym e) here) ]),
+    )) c) in
+    none m (HasCount-same (λ x. (x < n) × P x) (λ x. (x < suc n) × P x) m
+    (λ x. (
+      (λ h. (let low = h.0 in omega arith, h.1)),
+      (λ h. elim (cases_eq x n) [ inl e ↦ absurd (out (subst P e h.1)) | inr ne ↦ (let low = h.0 in omega arith, h.1) ]),
+    )) c))
+
+-- it can't be that a set of numbers below an end has no count
+pub not_uncounted : (P : ℕ → Type 0) (n : ℕ) → ((x : ℕ) → P x → x < n) → ((m : ℕ) → HasCount P m → ⊥) → ⊥
+not_uncounted P n low none =
+    count_below P n (λ m c. none m (HasCount-same (λ x. (x < n) × P x) P m (λ x. ((λ h. h.1), (λ h. (low x h, h)))) c))

@@ -5,3 +5,8 @@ pub mod Numbers
 pub mod Judging
 pub mod Solutions
 pub mod Blocking
+pub mod Forcing
+pub mod Regioning
+pub mod Sound
+pub mod Rising
+pub mod Distance

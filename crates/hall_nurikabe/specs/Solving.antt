@@ -31,3 +31,7 @@ pub record Progress : Type 0 where
 
 abbrev pub begun : Board → Progress
 begun board = record { board = board; visits = 0; asked = 0 }
+
+-- the filling has the values of the list, where there are any
+abbrev pub with_forced : Board → List (Option ℕ) → Question
+with_forced board forced = record { cells = cells board.size; values = 2; right = λ f. IsRight board f × Extends f forced }

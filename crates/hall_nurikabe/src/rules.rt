@@ -72,13 +72,10 @@ impl<'a> Rules for NurikabeRules<'a> {
 
     fn propagate(&mut self, alloc: Global, partial: &mut Partial) -> Result<Step, AllocError> {
         self.visits += 1;
-        settle(
-            alloc,
-            &Deductions {
-                puzzle: self.puzzle,
-            },
-            partial,
-        )
+        let deductions = Deductions {
+            puzzle: self.puzzle,
+        };
+        settle(alloc, &deductions, partial)
     }
 
     fn accepts(&mut self, alloc: Global, filling: &Filling) -> Result<bool, AllocError> {
