@@ -1,11 +1,11 @@
 -- Open sides that are set.
-use Rattle.std.proofs.Common.{◌≡◌, ◌≢◌, ℕ, ◌+◌, ◌*◌, ◌<◌, ◌≤◌, ◌⊎◌, ◌∙◌, List, [], ◌∷◌, length, get_or, set, take, true, false, Option, Some, None, refl, sym, ap, subst, inl, inr, arith}
+use Rattle.std.proofs.Common.{◌≡◌, ◌≢◌, ℕ, ◌+◌, ◌<◌, ◌≤◌, ◌⊎◌, ◌∙◌, List, length, get_or, set, take, true, false, Option, Some, None, refl, sym, ap, subst, inl, inr, arith}
 use Rattle.std.specs.Prelude.{Contains, is_some, not, Bool, Result, Ok, Err, OnErr}
 use Rattle.std.proofs.lemmas.Bool.{cases_eq}
 use Rattle.std.proofs.lemmas.List.{length-set, get_or-set_same, get_or-set_other, get_or_default, take_more, take_all}
 use Rattle.std.proofs.lemmas.List.Elements.{Contains-push_cases}
-use Rattle.hall_solve.specs.Question.{Question, Solves, Narrows, Keeps, IsPartial, IsOpen, open_places}
-use Rattle.hall_solve.proofs.Boards.{set_keeps, open-set, open-keeps, set_within}
+use Rattle.hall_solve.specs.Question.{Question, Narrows, Keeps, IsOpen, open_places}
+use Rattle.hall_solve.proofs.Boards.{set_keeps, open-set, open-keeps}
 use Rattle.hall_slither.specs.Counts.{SetsAmong, AreSet, IsTold, work}
 use Rattle.hall_slither.specs.declared.spot.Spot.{Spot}
 use Rattle.hall_slither.specs.declared.spot.Outcome.TheVariants.{AllBe}
@@ -21,17 +21,20 @@ SetsAmong-none sides value p = record { size = refl; keeps = λ i v e. e; only =
 pub SetsAmong-set : (sides : List (Option ℕ)) (value : ℕ) (old p : List (Option ℕ)) (s : ℕ) → SetsAmong sides value old p → Contains sides (Some s) → IsOpen p s
     → SetsAmong sides value old (set p s (Some value))
 SetsAmong-set sides value old p s among has is_unset =
-    let was : IsOpen old s = (let a = among.size in let b = is_unset.0 in omega arith, elim (none_or_some (get_or old s None)) [
-      | inl e ↦ e
-      | inr w ↦ absurd (let there = among.keeps s w.0 w.1 in let none = is_unset.1 in cc)
-    ]) in
+    let was : IsOpen old s = (
+      let a = among.size in let b = is_unset.0 in omega arith,
+      elim (none_or_some (get_or old s None)) [
+        | inl e ↦ e
+        | inr w ↦ absurd (let there = among.keeps s w.0 w.1 in let none = is_unset.1 in cc)
+      ],
+    ) in
     record {
       size = length-set p s (Some value) ∙ among.size;
       keeps = λ i v e. set_keeps p s value is_unset.1 i v (among.keeps i v e);
       only = λ i v e. elim (cases_eq i s) [
         | inl same ↦
             let here : get_or (set p s (Some value)) i None ≡ Some value =
-                subst (λ k. get_or (set p s (Some value)) k None ≡ Some value) (sym same) (get_or-set_same p s (Some value) None is_unset.0) in
+            subst (λ k. get_or (set p s (Some value)) k None ≡ Some value) (sym same) (get_or-set_same p s (Some value) None is_unset.0) in
             let is : v ≡ value = cc in
             inr (subst (λ k. Contains sides (Some k)) (sym same) has, subst (λ k. IsOpen old k) (sym same) was, is)
         | inr other ↦ among.only i v (sym (get_or-set_other p s i (Some value) None other) ∙ e)
@@ -74,7 +77,7 @@ fewer_open q p new sides value told among all =
           let le = open-keeps (set p s (Some w.0)) new (length-set p s (Some w.0) ∙ sym among.size) (λ i v e. elim (cases_eq i s) [
             | inl same ↦
                 let here : get_or (set p s (Some w.0)) i None ≡ Some w.0 =
-                    subst (λ k. get_or (set p s (Some w.0)) k None ≡ Some w.0) (sym same) (get_or-set_same p s (Some w.0) None told.1.2.0) in
+                subst (λ k. get_or (set p s (Some w.0)) k None ≡ Some w.0) (sym same) (get_or-set_same p s (Some w.0) None told.1.2.0) in
                 let there : get_or new i None ≡ Some w.0 = subst (λ k. get_or new k None ≡ Some w.0) (sym same) w.1 in
                 there ∙ sym here ∙ e
             | inr other ↦ among.keeps i v (sym (get_or-set_other p s i (Some w.0) None other) ∙ e)

@@ -1,12 +1,11 @@
 -- What a count says of the open ones of some sides.
-use Rattle.std.proofs.Common.{◌≡◌, ◌≢◌, ℕ, zero, suc, ◌+◌, ◌*◌, ◌<◌, ◌≤◌, ◌⊎◌, Bool, true, false, cond, eqb, List, [], ◌∷◌, length, get_or, Option, Some, None, refl, sym, ap, ◌∙◌, subst, inl, inr, arith}
-use Rattle.std.specs.Prelude.{All, Contains, IfSome, is_none, slice_index}
-use Rattle.std.proofs.lemmas.Bool.{cases_eq, cases_Bool, eq-eqb, ne_eqb, eqb-true, cases_lt}
-use Rattle.std.proofs.lemmas.List.{get_or_past}
+use Rattle.std.proofs.Common.{◌≡◌, ℕ, zero, suc, ◌+◌, ◌*◌, ◌<◌, ◌≤◌, ◌⊎◌, Bool, true, false, cond, eqb, List, [], ◌∷◌, length, get_or, Option, Some, None, refl, sym, ap, subst, inl, inr, arith}
+use Rattle.std.specs.Prelude.{Contains, IfSome, is_none, slice_index}
+use Rattle.std.proofs.lemmas.Bool.{cases_eq, cases_Bool, eq-eqb, eqb-true}
 use Rattle.std.proofs.lemmas.List.Elements.{All-head, All-tail}
 use Rattle.std.proofs.lemmas.List.Sums.{sum_by-cons}
 use Rattle.hall_grid.specs.Slither.{is_line}
-use Rattle.hall_solve.specs.Question.{Question, Solves, Extends, IsHopeless, IsOpen}
+use Rattle.hall_solve.specs.Question.{Question, Solves, Extends, IsOpen}
 use Rattle.hall_slither.specs.SidesAt.{count_at}
 use Rattle.hall_slither.specs.Counts.{AreBelow, count_sides, is_one, has_line, is_open, Meets, Follows, IsTold}
 use Rattle.hall_slither.specs.declared.spot.Demand.{Demand}
@@ -54,7 +53,7 @@ none_further f p (o ∷ os) s h e (zero, low, is) u =
     let x = count-cons (has_line p) o os in let y = count-cons (is_line f) o os in
     let a = (at_bounds f p o h).0 in let r = (count_bounds f p os h).0 in
     let here : count_at (is_line f) (Some s) ≡ count_at (has_line p) (Some s) =
-        subst (λ t. count_at (is_line f) t ≡ count_at (has_line p) t) is (omega arith) in
+    subst (λ t. count_at (is_line f) t ≡ count_at (has_line p) t) is (omega arith) in
     let z = (open_at f p s u).0 in
     elim (cases_Bool (is_line f s)) [
       | inr t ↦ t
@@ -74,7 +73,7 @@ all_further f p (o ∷ os) s h e (zero, low, is) u =
     let x = count-cons (has_line p) o os in let y = count-cons (is_line f) o os in let w = count-cons (is_open p) o os in
     let a = (at_bounds f p o h).1 in let r = (count_bounds f p os h).1 in
     let here : count_at (is_line f) (Some s) ≡ count_at (has_line p) (Some s) + count_at (is_open p) (Some s) =
-        subst (λ t. count_at (is_line f) t ≡ count_at (has_line p) t + count_at (is_open p) t) is (omega arith) in
+    subst (λ t. count_at (is_line f) t ≡ count_at (has_line p) t + count_at (is_open p) t) is (omega arith) in
     let z = open_at f p s u in
     let z0 = z.0 in let z1 = z.1 in
     elim (cases_Bool (is_line f s)) [

@@ -21,14 +21,30 @@ fn cells_beside(size: Size, side: usize) -> [Option<usize>; 2]
 {
     let flat_sides = size.flat_sides();
     if side < flat_sides {
-        let above = if side >= size.cols { Some(side - size.cols) } else { None };
-        let below = if side < size.rows * size.cols { Some(side) } else { None };
+        let above = if side >= size.cols {
+            Some(side - size.cols)
+        } else {
+            None
+        };
+        let below = if side < size.rows * size.cols {
+            Some(side)
+        } else {
+            None
+        };
         [above, below]
     } else {
         let row = (side - flat_sides) / (size.cols + 1);
         let col = (side - flat_sides) % (size.cols + 1);
-        let left = if col > 0 { Some(row * size.cols + (col - 1)) } else { None };
-        let right = if col < size.cols { Some(row * size.cols + col) } else { None };
+        let left = if col > 0 {
+            Some(row * size.cols + (col - 1))
+        } else {
+            None
+        };
+        let right = if col < size.cols {
+            Some(row * size.cols + col)
+        } else {
+            None
+        };
         [left, right]
     }
 }

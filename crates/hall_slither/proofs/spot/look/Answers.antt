@@ -8,7 +8,7 @@ use Rattle.hall_slither.proofs.spot.look.Goals as goal
 pub returns : goal.returns
 returns c =
     let sides_are : c.spot_sides.result ≡ spot_sides c.args.puzzle.now.size c.args.spot =
-        c.spot_sides.ensures.sides ∙ ap (λ size. spot_sides size c.args.spot) c.size.ensures.size in
+    c.spot_sides.ensures.sides ∙ ap (λ size. spot_sides size c.args.spot) c.size.ensures.size in
     let room : all_sides c.size.result ≡ length c.args.partial.now = ap all_sides c.size.ensures.size ∙ sym c.requires.partial.size in
     let below : AreBelow (length c.args.partial.now) c.spot_sides.result = subst (λ n. AreBelow n c.spot_sides.result) room c.spot_sides.ensures.below in
     IsTold-from_counts (question_of c.args.puzzle.now) c.args.partial.now (spot_sides c.args.puzzle.now.size c.args.spot) c.demand_at.result

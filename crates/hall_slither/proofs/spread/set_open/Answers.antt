@@ -1,4 +1,4 @@
-use Rattle.std.proofs.Common.{◌≡◌, ◌≢◌, ◌+◌, ◌<◌, ◌≤◌, length, get_or, set, take, None, Some, ℕ, sym, ap, ◌∙◌, subst, arith, rules}
+use Rattle.std.proofs.Common.{◌≡◌, ◌≢◌, ◌+◌, ◌<◌, ◌≤◌, length, get_or, set, take, None, Some, sym, ◌∙◌, subst, arith, rules}
 use Rattle.hall_solve.specs.Question.{IsOpen}
 use Rattle.hall_solve.proofs.Boards.{set_keeps}
 use Rattle.hall_slither.specs.Counts.{SetsAmong, AreSet, work}
@@ -9,7 +9,7 @@ use Rattle.hall_slither.proofs.spread.set_open.Goals.{in-Some+then-is_none+in_ok
 pub returns-in_err-push_beside-clause-among : goal.returns-in_err-push_beside-clause-among
 returns-in_err-push_beside-clause-among c =
     let is_unset : IsOpen c.loop-side.partial c.in-Some.side =
-        (search rules, sym c.get.ensures ∙ unset_from c.get.result c.is_none.result c.is_none.ensures c.if-is_none.true) in
+    (search rules, sym c.get.ensures ∙ unset_from c.get.result c.is_none.result c.is_none.ensures c.if-is_none.true) in
     subst (λ p. SetsAmong c.args.sides.now c.args.value c.args.partial.now p) (sym c.set.ensures)
     (SetsAmong-set c.args.sides.now c.args.value c.args.partial.now c.loop-side.partial c.in-Some.side c.loop-side.invariant.among
     (at_index c.args.sides.now c.loop-side.side-index c.in-Some.side (omega arith) c.in-Some.is) is_unset)
@@ -21,7 +21,7 @@ loop-side-preserved c =
     elim c.match-side.branch [
       | in-Some+then-is_none+in_ok-push_beside w ↦
           let is_unset : IsOpen c.loop-side.partial w.in-Some.side =
-              (search rules, sym w.get.ensures ∙ unset_from w.get.result w.is_none.result w.is_none.ensures w.if-is_none.true) in
+          (search rules, sym w.get.ensures ∙ unset_from w.get.result w.is_none.result w.is_none.ensures w.if-is_none.true) in
           rw (w.partial-is, w.stack-is) record {
             among = subst (λ p. SetsAmong c.args.sides.now c.args.value c.args.partial.now p) (sym w.set.ensures)
                 (SetsAmong-set c.args.sides.now c.args.value c.args.partial.now c.loop-side.partial w.in-Some.side c.loop-side.invariant.among
@@ -38,7 +38,7 @@ loop-side-preserved c =
           }
       | in-Some+else-is_none w ↦
           let is_set : get_or c.loop-side.partial w.in-Some.side None ≢ None =
-              (λ e. set_from w.get.result w.is_none.result w.is_none.ensures w.if-is_none.false (w.get.ensures ∙ e)) in
+          (λ e. set_from w.get.result w.is_none.result w.is_none.ensures w.if-is_none.false (w.get.ensures ∙ e)) in
           rw (w.partial-is, w.stack-is) record {
             among = c.loop-side.invariant.among;
             set = AreSet-more c.args.sides.now c.loop-side.partial i low c.loop-side.invariant.set
