@@ -1,12 +1,12 @@
 -- The ends of chains, dot by dot.
-use Rattle.std.proofs.Common.{◌≡◌, ◌≢◌, ℕ, zero, suc, ◌+◌, ◌<◌, ◌≤◌, ◌⊎◌, ◌∙◌, true, List, length, get_or, set, replicate, Option, Some, None, refl, sym, ap, subst, inl, inr, arith}
+use Rattle.std.proofs.Common.{◌≡◌, ◌≢◌, ℕ, zero, suc, ◌+◌, ◌<◌, ◌≤◌, ◌∙◌, true, List, length, get_or, set, replicate, Option, refl, sym, ap, subst, inl, inr, arith}
 use Rattle.std.proofs.lemmas.Bool.{cases_eq}
 use Rattle.std.proofs.lemmas.List.{length-set, get_or-set_same, get_or-set_other, length-replicate}
 use Rattle.hall_grid.specs.declared.board.Size.{Size}
 use Rattle.hall_grid.specs.Walk.{at, on}
-use Rattle.hall_grid.specs.Slither.{dots, all_sides, IsLine, ShareDot, is_end, degree}
+use Rattle.hall_grid.specs.Slither.{all_sides, IsLine, ShareDot, is_end, degree}
 use Rattle.hall_grid.specs.Component.{IsLabelled, AreComponents}
-use Rattle.hall_grid.proofs.Joined.{labelled_member, label_member}
+use Rattle.hall_grid.proofs.Joined.{labelled_member}
 use Rattle.hall_slither.specs.Chains.{IsEndOf, with_end, Touches, HaveEnds}
 use Rattle.hall_slither.specs.declared.chain.Ends.{Ends}
 use Rattle.hall_slither.specs.declared.chain.Ends.TheVariants.{Closed, One, Two, Many}

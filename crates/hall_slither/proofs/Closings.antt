@@ -1,25 +1,23 @@
 -- Chains that are loops, and a side that would close one.
-use Rattle.std.proofs.Common.{◌≡◌, ◌≢◌, ℕ, ◌+◌, ◌<◌, ◌≤◌, ◌⊎◌, ◌∙◌, Bool, true, false, eqb, List, [], ◌∷◌, length, get_or, set, Option, Some, None, refl, sym, ap, subst, inl, inr, arith}
-use Rattle.std.specs.Prelude.{slice_index, slice_get, count_by, is_some}
+use Rattle.std.proofs.Common.{◌≡◌, ◌≢◌, ℕ, ◌+◌, ◌<◌, ◌≤◌, ◌⊎◌, ◌∙◌, Bool, true, false, List, length, get_or, set, Option, Some, None, refl, sym, ap, subst, inl, inr, arith}
+use Rattle.std.specs.Prelude.{slice_index, count_by, is_some}
 use Rattle.std.proofs.lemmas.Bool.{cases_eq, eq-eqb, ne_eqb}
 use Rattle.std.proofs.lemmas.Nat.{div_below, mod_below, mul-add-lt}
 use Rattle.std.proofs.lemmas.Option.{slice_get_within}
 use Rattle.std.proofs.lemmas.List.{get_or-set_same, get_or-set_other}
 use Rattle.hall_grid.specs.declared.board.Size.{Size}
-use Rattle.hall_grid.specs.declared.board.Kind.{Kind}
 use Rattle.hall_grid.specs.declared.board.Kind.TheVariants.{Slither}
 use Rattle.hall_grid.specs.Board.{Board, IsBoard, IsSize, HasSize, cells, row, col}
 use Rattle.hall_grid.specs.Walk.{at, on}
-use Rattle.hall_grid.specs.Slither.{dots, all_sides, flat_side, upright_side, sides_of, is_line, is_end, IsLine, ShareDot, degree, HasOtherCount}
-use Rattle.hall_grid.specs.Component.{IsLabelled, AreComponents}
+use Rattle.hall_grid.specs.Slither.{all_sides, flat_side, upright_side, sides_of, is_line, is_end, IsLine, ShareDot, degree, HasOtherCount}
+use Rattle.hall_grid.specs.Component.{IsLabelled}
 use Rattle.hall_grid.proofs.Joined.{labelled_member}
 use Rattle.hall_solve.specs.Question.{Solves, IsHopeless, IsOpen}
 use Rattle.hall_solve.specs.Deduction.{IsForced}
 use Rattle.hall_slither.specs.Label.{LabelsDiffer}
-use Rattle.hall_slither.specs.Chains.{IsEndOf, Touches, HaveEnds}
-use Rattle.hall_slither.specs.declared.chain.Ends.{Ends}
+use Rattle.hall_slither.specs.Chains.{IsEndOf, Touches}
 use Rattle.hall_slither.specs.declared.chain.Ends.TheVariants.{Closed, Two}
-use Rattle.hall_slither.specs.Closing.{Layout, IsLayout, IsClosed, HasLines, layout_question, Closes}
+use Rattle.hall_slither.specs.Closing.{Layout, IsLayout, IsClosed, layout_question, Closes}
 use Rattle.hall_slither.proofs.Tallies.{worth, count_by-numbers, tally-le, tally-two}
 use Rattle.hall_slither.proofs.Neighbours.{first_end, second_end, is_end_cases, is_end_first, is_end_second}
 use Rattle.hall_slither.proofs.Demands.{counts}
@@ -31,7 +29,7 @@ size_of_board board kind is = subst (λ k. HasSize k board.size) kind is.size
 -- the four sides of a cell are on the board
 sides_on_board : (size : Size) (cell : ℕ) → 0 < size.cols → cell < cells size → (P : ℕ → Type 0) → ((s : ℕ) → s < all_sides size → P s)
     → P (flat_side size (row size cell) (col size cell)) × P (upright_side size (row size cell) (col size cell))
-        × P (upright_side size (row size cell) (col size cell + 1)) × P (flat_side size (row size cell + 1) (col size cell))
+    × P (upright_side size (row size cell) (col size cell + 1)) × P (flat_side size (row size cell + 1) (col size cell))
 sides_on_board size cell some low P h =
     let r = div_below cell size.cols size.rows some low in
     let c = mod_below cell size.cols some in
@@ -131,9 +129,9 @@ module _ (layout : Layout) (is : IsLayout layout) (p : List (Option ℕ)) (f : L
         let m = member x label h in
         let e = count_by-numbers (line_end layout.board.size with_side d) (all_sides layout.board.size) in
         let two = tally-two (line_end layout.board.size with_side d) (all_sides layout.board.size) x side m.0 low
-            (λ same. off (subst (λ y. slice_index layout.lines y ≡ 1) same m.1))
-            (line_end_from layout.board.size with_side d x (kept_line x m.1) ex)
-            (line_end_from layout.board.size with_side d side now_line es) in
+        (λ same. off (subst (λ y. slice_index layout.lines y ≡ 1) same m.1))
+        (line_end_from layout.board.size with_side d x (kept_line x m.1) ex)
+        (line_end_from layout.board.size with_side d side now_line es) in
         omega arith
 
     more_with : (d : ℕ) → 2 ≤ degree layout.board.size layout.lines d → 2 ≤ degree layout.board.size with_side d
@@ -141,8 +139,8 @@ module _ (layout : Layout) (is : IsLayout layout) (p : List (Option ℕ)) (f : L
         let e = count_by-numbers (line_end layout.board.size with_side d) (all_sides layout.board.size) in
         let g = count_by-numbers (line_end layout.board.size layout.lines d) (all_sides layout.board.size) in
         let le = tally-le (line_end layout.board.size layout.lines d) (line_end layout.board.size with_side d) (all_sides layout.board.size)
-            (λ s l t. let parts = line_end_parts layout.board.size layout.lines d s t in
-            line_end_from layout.board.size with_side d s (kept_line s parts.0) parts.1) in
+        (λ s l t. let parts = line_end_parts layout.board.size layout.lines d s t in
+        line_end_from layout.board.size with_side d s (kept_line s parts.0) parts.1) in
         omega arith
 
     two_at : (x d : ℕ) → InLoop x → is_end layout.board.size d x ≡ true → 2 ≤ degree layout.board.size with_side d
@@ -232,7 +230,7 @@ module _ (layout : Layout) (is : IsLayout layout) (p : List (Option ℕ)) (f : L
     unfolding with_side
     meets_numbers other =
         let low_cell : other.0 < cells layout.board.size =
-            (let k = slice_get_within layout.board.clues other.0 _ other.2 in let e = is.board.clues in omega arith) in
+        (let k = slice_get_within layout.board.clues other.0 _ other.2 in let e = is.board.clues in omega arith) in
         let same = same_count layout.board.size (is_line f) (is_line with_side) other.0 some_cols low_cell same_line in
         other.3 (sym same ∙ counts layout.board f other.0 other.1 is.kind sol.right.0 other.2)
 
@@ -265,9 +263,9 @@ module _ (layout : Layout) (is : IsLayout layout) (p : List (Option ℕ)) where
       let a = first_end size side in
       let b = second_end size side in
       let cases : (d : ℕ) → is_end size d side ≡ true → (d ≡ a) ⊎ (d ≡ b) =
-          λ d e. elim (is_end_cases size d side e) [ inl k ↦ inl (sym k) | inr k ↦ inr (sym k) ] in
+      λ d e. elim (is_end_cases size d side e) [ inl k ↦ inl (sym k) | inr k ↦ inr (sym k) ] in
       let turned : (d : ℕ) → is_end size d side ≡ true → (d ≡ b) ⊎ (d ≡ a) =
-          λ d e. elim (is_end_cases size d side e) [ inl k ↦ inr (sym k) | inr k ↦ inl (sym k) ] in
+      λ d e. elim (is_end_cases size d side e) [ inl k ↦ inr (sym k) | inr k ↦ inl (sym k) ] in
       forced_off side unset low
       (λ f sol line. elim closes.1 [
         | inl ends ↦ elim wrong [

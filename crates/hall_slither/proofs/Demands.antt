@@ -1,21 +1,20 @@
 -- How many lines a solution has at a dot and round a cell with a number.
-use Rattle.std.proofs.Common.{◌≡◌, ◌≢◌, ℕ, zero, suc, ◌+◌, ◌<◌, ◌≤◌, ◌⊎◌, Bool, true, false, cond, List, [], ◌∷◌, Option, Some, None, refl, sym, ap, ◌∙◌, subst, inl, inr, arith}
+use Rattle.std.proofs.Common.{◌≡◌, ℕ, zero, suc, ◌<◌, ◌≤◌, ◌⊎◌, Bool, true, false, cond, List, [], ◌∷◌, Option, Some, None, refl, sym, ◌∙◌, subst, inl, inr, arith}
 use Rattle.std.specs.Prelude.{All, IfSome, slice_get, count_by}
 use Rattle.std.proofs.lemmas.Bool.{cases_eq}
 use Rattle.std.proofs.lemmas.List.Elements.{All-nil, All-cons}
 use Rattle.hall_grid.specs.declared.board.Size.{Size}
-use Rattle.hall_grid.specs.declared.board.Kind.{Kind}
 use Rattle.hall_grid.specs.declared.board.Kind.TheVariants.{Slither}
 use Rattle.hall_grid.specs.declared.board.Clue.TheVariants.{Number}
 use Rattle.hall_grid.specs.declared.rule.Rule.{Rule}
-use Rattle.hall_grid.specs.declared.rule.Rule.TheVariants.{S1, S2, S3, S4, S5}
-use Rattle.hall_grid.specs.Board.{Board, cells}
+use Rattle.hall_grid.specs.declared.rule.Rule.TheVariants.{S2, S3, S4}
+use Rattle.hall_grid.specs.Board.{Board}
 use Rattle.hall_grid.specs.Slither.{dots, all_sides, sides_of, is_line, degree}
 use Rattle.hall_grid.specs.Answer.{Breaks, BreaksSlither}
 use Rattle.hall_slither.specs.SidesAt.{sides_at, count_at, dot_row, dot_col, side_up, side_left, side_right, side_down}
 use Rattle.hall_slither.specs.Counts.{AreBelow, count_sides}
 use Rattle.hall_slither.specs.Search.{IsRight}
-use Rattle.hall_slither.proofs.Degrees.{Holds, all_held, degree_is, sides_below}
+use Rattle.hall_slither.proofs.Degrees.{all_held, degree_is, sides_below}
 
 All_four : (P : Option ℕ → Type 0) (a b c d : Option ℕ) → P a → P b → P c → P d → All P (a ∷ b ∷ c ∷ d ∷ [])
 All_four P a b c d pa pb pc pd =

@@ -1,17 +1,16 @@
 -- Lines that are closed among themselves are all the lines of a solution.
-use Rattle.std.proofs.Common.{◌≡◌, ◌≢◌, ℕ, ◌+◌, ◌<◌, ◌≤◌, ◌⊎◌, Bool, true, false, ◌&&◌, eqb, List, length, get_or, set, Option, Some, None, refl, sym, ap, ◌∙◌, subst, inl, inr, arith}
-use Rattle.std.specs.Prelude.{slice_index, count_by}
-use Rattle.std.proofs.lemmas.Bool.{cases_eq, cases_Bool, eq-eqb, eqb-true, and_from}
+use Rattle.std.proofs.Common.{◌≡◌, ℕ, ◌<◌, ◌≤◌, ◌⊎◌, Bool, true, false, ◌&&◌, List, refl, subst, inl, inr, arith}
+use Rattle.std.specs.Prelude.{slice_index}
+use Rattle.std.proofs.lemmas.Bool.{eq-eqb, eqb-true, and_from}
 use Rattle.hall_grid.specs.declared.board.Size.{Size}
 use Rattle.hall_grid.specs.declared.board.Kind.TheVariants.{Slither}
 use Rattle.hall_grid.specs.declared.rule.Rule.TheVariants.{S5}
 use Rattle.hall_grid.specs.Board.{Board}
-use Rattle.hall_grid.specs.Walk.{Walk, at, on}
 use Rattle.hall_grid.specs.Slither.{dots, all_sides, is_line, is_end, IsLine, ShareDot, degree}
 use Rattle.hall_grid.proofs.Walks.{Walk-along}
 use Rattle.hall_slither.specs.Search.{IsRight}
-use Rattle.hall_slither.proofs.Tallies.{tally, count_by-numbers, tally-full, tally-le, tally-two}
-use Rattle.hall_slither.proofs.Neighbours.{ends_below, is_end_cases, first_end, second_end}
+use Rattle.hall_slither.proofs.Tallies.{count_by-numbers, tally-full}
+use Rattle.hall_slither.proofs.Neighbours.{ends_below, is_end_cases}
 use Rattle.hall_slither.proofs.Demands.{keeps_rules, passes}
 
 and_both : (a b : Bool) → (a && b) ≡ true → (a ≡ true) × (b ≡ true)
@@ -58,10 +57,15 @@ module _ (board : Board) (f k : List ℕ) (kind : board.kind ≡ Slither) (some 
   all_within C below decide two turn x0 here line0 y line =
       elim (decide y) [
         | inl h ↦ h
-        | inr out ↦ absurd (keeps_rules board f kind right S5 (x0, y, line0, line,
-            λ w. out (Walk-along (ShareDot board.size) (IsLine board.size f) C
-            (λ b c has share member.
-            turn b c share.0 has share.1 share.2
-            (no_further share.0 c (end_below board.size share.0 b some (below b has) share.1) (two b share.0 has share.1) member share.2))
-            x0 y here w)))
+        | inr out ↦ absurd (keeps_rules board f kind right S5 (
+          x0,
+          y,
+          line0,
+          line,
+          λ w. out (Walk-along (ShareDot board.size) (IsLine board.size f) C
+              (λ b c has share member.
+              turn b c share.0 has share.1 share.2
+              (no_further share.0 c (end_below board.size share.0 b some (below b has) share.1) (two b share.0 has share.1) member share.2))
+              x0 y here w),
+        ))
       ]

@@ -1,13 +1,11 @@
 -- The question with the lines given, and the question of the puzzle.
-use Rattle.std.proofs.Common.{◌≡◌, ℕ, List, Option, Some, None, get_or, subst, sym, ◌∙◌}
-use Rattle.std.specs.Prelude.{slice_index}
-use Rattle.hall_grid.specs.Slither.{all_sides}
-use Rattle.hall_solve.specs.Question.{Solves, Narrows, IsHopeless, IsPartial, Keeps}
+use Rattle.std.proofs.Common.{ℕ, List, Option}
+use Rattle.hall_solve.specs.Question.{Solves, Narrows}
 use Rattle.hall_solve.specs.Deduction.{IsDeduced}
 use Rattle.hall_solve.specs.declared.deduce.Pass.{Pass}
 use Rattle.hall_solve.specs.declared.deduce.Pass.TheVariants.{Settled, Advanced, Dead}
 use Rattle.hall_slither.specs.Chains.{AreLines}
-use Rattle.hall_slither.specs.Closing.{Layout, layout_question, HasLines}
+use Rattle.hall_slither.specs.Closing.{Layout, layout_question}
 use Rattle.hall_slither.specs.Search.{question_of}
 
 -- old: a partial filling that has these lines

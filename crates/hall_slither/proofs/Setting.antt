@@ -1,11 +1,11 @@
 -- Open sides that are set.
-use Rattle.std.proofs.Common.{◌≡◌, ◌≢◌, ℕ, ◌+◌, ◌*◌, ◌<◌, ◌≤◌, ◌⊎◌, ◌∙◌, List, [], ◌∷◌, length, get_or, set, take, true, false, Option, Some, None, refl, sym, ap, subst, inl, inr, arith}
+use Rattle.std.proofs.Common.{◌≡◌, ◌≢◌, ℕ, ◌+◌, ◌<◌, ◌≤◌, ◌⊎◌, ◌∙◌, List, length, get_or, set, take, true, false, Option, Some, None, refl, sym, ap, subst, inl, inr, arith}
 use Rattle.std.specs.Prelude.{Contains, is_some, not, Bool, Result, Ok, Err, OnErr}
 use Rattle.std.proofs.lemmas.Bool.{cases_eq}
 use Rattle.std.proofs.lemmas.List.{length-set, get_or-set_same, get_or-set_other, get_or_default, take_more, take_all}
 use Rattle.std.proofs.lemmas.List.Elements.{Contains-push_cases}
-use Rattle.hall_solve.specs.Question.{Question, Solves, Narrows, Keeps, IsPartial, IsOpen, open_places}
-use Rattle.hall_solve.proofs.Boards.{set_keeps, open-set, open-keeps, set_within}
+use Rattle.hall_solve.specs.Question.{Question, Narrows, Keeps, IsOpen, open_places}
+use Rattle.hall_solve.proofs.Boards.{set_keeps, open-set, open-keeps}
 use Rattle.hall_slither.specs.Counts.{SetsAmong, AreSet, IsTold, work}
 use Rattle.hall_slither.specs.declared.spot.Spot.{Spot}
 use Rattle.hall_slither.specs.declared.spot.Outcome.TheVariants.{AllBe}

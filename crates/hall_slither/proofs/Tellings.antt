@@ -1,12 +1,11 @@
 -- What a count says of the open ones of some sides.
-use Rattle.std.proofs.Common.{◌≡◌, ◌≢◌, ℕ, zero, suc, ◌+◌, ◌*◌, ◌<◌, ◌≤◌, ◌⊎◌, Bool, true, false, cond, eqb, List, [], ◌∷◌, length, get_or, Option, Some, None, refl, sym, ap, ◌∙◌, subst, inl, inr, arith}
-use Rattle.std.specs.Prelude.{All, Contains, IfSome, is_none, slice_index}
-use Rattle.std.proofs.lemmas.Bool.{cases_eq, cases_Bool, eq-eqb, ne_eqb, eqb-true, cases_lt}
-use Rattle.std.proofs.lemmas.List.{get_or_past}
+use Rattle.std.proofs.Common.{◌≡◌, ℕ, zero, suc, ◌+◌, ◌*◌, ◌<◌, ◌≤◌, ◌⊎◌, Bool, true, false, cond, eqb, List, [], ◌∷◌, length, get_or, Option, Some, None, refl, sym, ap, subst, inl, inr, arith}
+use Rattle.std.specs.Prelude.{Contains, IfSome, is_none, slice_index}
+use Rattle.std.proofs.lemmas.Bool.{cases_eq, cases_Bool, eq-eqb, eqb-true}
 use Rattle.std.proofs.lemmas.List.Elements.{All-head, All-tail}
 use Rattle.std.proofs.lemmas.List.Sums.{sum_by-cons}
 use Rattle.hall_grid.specs.Slither.{is_line}
-use Rattle.hall_solve.specs.Question.{Question, Solves, Extends, IsHopeless, IsOpen}
+use Rattle.hall_solve.specs.Question.{Question, Solves, Extends, IsOpen}
 use Rattle.hall_slither.specs.SidesAt.{count_at}
 use Rattle.hall_slither.specs.Counts.{AreBelow, count_sides, is_one, has_line, is_open, Meets, Follows, IsTold}
 use Rattle.hall_slither.specs.declared.spot.Demand.{Demand}

@@ -1,9 +1,9 @@
 -- Counts of lines at dots and round cells, and what follows from them for the open sides.
-use Rattle.std.specs.Prelude.{◌≡◌, ◌≢◌, ◌⊎◌, ℕ, ◌+◌, ◌*◌, ◌<◌, ◌≤◌, ◌==◌, Bool, true, false, List, [], ◌∷◌, Option, Some, None, All, Contains, IfSome, length, slice_index, slice_index_or, is_none, map}
+use Rattle.std.specs.Prelude.{◌≡◌, ◌≢◌, ◌⊎◌, ℕ, ◌+◌, ◌*◌, ◌<◌, ◌≤◌, ◌==◌, Bool, false, List, Option, Some, None, All, Contains, IfSome, length, slice_index, slice_index_or, is_none, map}
 use Rattle.std.specs.List.{sum_by}
 use Rattle.hall_grid.specs.declared.board.Size.{Size}
-use Rattle.hall_grid.specs.Board.{Board, cells}
-use Rattle.hall_grid.specs.Slither.{dots, sides_of, is_line}
+use Rattle.hall_grid.specs.Board.{cells}
+use Rattle.hall_grid.specs.Slither.{dots, sides_of}
 use Rattle.hall_solve.specs.Question.{Question, Solves, IsHopeless, Keeps, IsOpen, open_places}
 use Rattle.hall_slither.specs.declared.spot.Spot.{Spot}
 use Rattle.hall_slither.specs.declared.spot.Spot.TheVariants.{Dot, Cell}

@@ -4,7 +4,7 @@ use Rattle.hall_grid.specs.declared.rule.Rule.{Rule}
 use Rattle.hall_grid.specs.Board.{Board}
 use Rattle.hall_grid.specs.Slither.{all_sides}
 use Rattle.hall_grid.specs.Answer.{IsBroken}
-use Rattle.hall_solve.specs.Question.{Question}
+use Rattle.hall_solve.specs.Question.{Question, IsFilling, Extends}
 
 -- no rule is broken
 abbrev pub IsRight : Board → List ℕ → Type 0
@@ -27,3 +27,7 @@ begun board = record { board = board; visits = 0; asked = 0 }
 pub record IsUnset (board : Board) (p : List (Option ℕ)) : Type 0 where
   pub exact : length p ≡ all_sides board.size
   pub unset : (side : ℕ) → slice_index_or p side None ≡ None
+
+-- every solution has what is set
+abbrev pub AllExtend : Board → List (Option ℕ) → Type 0
+AllExtend board p = (f : List ℕ) → IsFilling (question_of board) f → IsRight board f → Extends f p

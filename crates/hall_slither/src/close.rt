@@ -133,7 +133,11 @@ impl<'a> Look for Chains<'a> {
             return Ok(Finding::Nothing);
         }
         if self.closed.is_some() {
-            return Ok(if self.apart { Finding::Impossible } else { Finding::Must(spot, 0) });
+            return Ok(if self.apart {
+                Finding::Impossible
+            } else {
+                Finding::Must(spot, 0)
+            });
         }
         if !self.closes(spot) {
             return Ok(Finding::Nothing);

@@ -1,7 +1,7 @@
 //! The rules of a Slitherlink puzzle, as a search asks them.
 ghost use Rattle.std.specs.Prelude.{◌≡◌, IfOk};
 ghost use Rattle.hall_solve.specs.Question.{IsPartial};
-ghost use Rattle.hall_slither.specs.Search.{question_of, IsUnset};
+ghost use Rattle.hall_slither.specs.Search.{question_of, IsUnset, AllExtend};
 
 use crate::close::close_chains;
 use crate::judge::broken;
@@ -117,6 +117,7 @@ pub fn start(alloc: Global, puzzle: &Puzzle) -> Result<Partial, AllocError>
     requires { puzzle.now.kind ≡ Kind.Slither }
     ensures givens { IfOk result (IsUnset puzzle.now) }
     ensures partial { IfOk result (IsPartial (question_of puzzle.now)) }
+    ensures solutions { IfOk result (AllExtend puzzle.now) }
 {
     Partial::new(alloc, puzzle.size().all_sides())
 }

@@ -111,7 +111,11 @@ fn solves(rt: HostRuntime) -> Result<(), Fail> {
         ("slither/2/2/222c", 200000, "one 110011/101101"),
         ("slither/1/1/g", 200000, "one 11/11"),
         ("slither/1/1/a", 200000, "none"),
-        ("slither/3/3/21210121c", 200000, "one 111000000111/100110011001"),
+        (
+            "slither/3/3/21210121c",
+            200000,
+            "one 111000000111/100110011001",
+        ),
         ("slither/1/1/g", 0, "gave up"),
         ("slither/3/3/", 200000, "more"),
         ("slither/50/1/", 200000, "more"),

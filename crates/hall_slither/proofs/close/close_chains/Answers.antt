@@ -1,4 +1,4 @@
-use Rattle.std.proofs.Common.{◌≡◌, sym, ap, subst}
+use Rattle.std.proofs.Common.{◌≡◌, subst}
 use Rattle.std.specs.Prelude.{Result, Ok, Err, IfOk, OnErr, List, Option, ℕ}
 use Rattle.hall_grid.specs.Board.{Board}
 use Rattle.hall_solve.specs.Question.{Narrows}

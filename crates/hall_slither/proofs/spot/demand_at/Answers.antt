@@ -1,9 +1,7 @@
-use Rattle.std.proofs.Common.{◌≡◌, ◌<◌, Some, ap, ◌∙◌, subst}
-use Rattle.hall_grid.specs.Board.{cells}
-use Rattle.hall_grid.specs.Slither.{dots, is_line}
-use Rattle.hall_slither.specs.Counts.{IsSpot, Meets, count_sides, spot_sides}
+use Rattle.std.proofs.Common.{◌<◌, Some, ap, ◌∙◌, subst}
+use Rattle.hall_grid.specs.Slither.{dots}
+use Rattle.hall_slither.specs.Counts.{IsSpot}
 use Rattle.hall_slither.specs.declared.spot.Spot.{Spot}
-use Rattle.hall_slither.specs.declared.spot.Demand.TheVariants.{Through, Exactly}
 use Rattle.hall_slither.proofs.Demands.{passes_count, counts}
 use Rattle.hall_slither.proofs.spot.demand_at.Goals as goal
 

@@ -1,6 +1,5 @@
-use Rattle.std.proofs.Common.{◌≡◌, ◌≢◌, ◌<◌, ◌≤◌, length, sym, ap, ◌∙◌, refl, subst, arith}
-use Rattle.hall_grid.specs.Slither.{all_sides}
-use Rattle.hall_solve.specs.Question.{Narrows, open_places}
+use Rattle.std.proofs.Common.{◌≡◌, sym, ap, ◌∙◌, refl, subst, arith}
+use Rattle.hall_solve.specs.Question.{Narrows}
 use Rattle.hall_solve.proofs.Boards.{open-keeps}
 use Rattle.hall_solve.specs.declared.deduce.Pass.TheVariants.{Advanced, Dead}
 use Rattle.hall_slither.specs.Counts.{spot_sides, IsTold}

@@ -1,6 +1,5 @@
-use Rattle.std.proofs.Common.{◌≡◌, ◌≢◌}
+use Rattle.std.proofs.Common.{◌≢◌}
 use Rattle.std.specs.Prelude.{All}
-use Rattle.hall_grid.specs.Board.{IsSize}
 use Rattle.hall_solve.specs.Question.{Narrows}
 use Rattle.hall_solve.specs.Deduction.{IsDeduced}
 use Rattle.hall_solve.specs.declared.deduce.Pass.TheVariants.{Dead}

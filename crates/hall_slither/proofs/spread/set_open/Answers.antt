@@ -1,4 +1,4 @@
-use Rattle.std.proofs.Common.{◌≡◌, ◌≢◌, ◌+◌, ◌<◌, ◌≤◌, length, get_or, set, take, None, Some, ℕ, sym, ap, ◌∙◌, subst, arith, rules}
+use Rattle.std.proofs.Common.{◌≡◌, ◌≢◌, ◌+◌, ◌<◌, ◌≤◌, length, get_or, set, take, None, Some, sym, ◌∙◌, subst, arith, rules}
 use Rattle.hall_solve.specs.Question.{IsOpen}
 use Rattle.hall_solve.proofs.Boards.{set_keeps}
 use Rattle.hall_slither.specs.Counts.{SetsAmong, AreSet, work}

@@ -36,29 +36,31 @@ two_are ends label a b x y was room got is e f = get_or_default ends label Close
 pub index-requires-2 : goal.index-requires-2
 index-requires-2 c =
     let room = label_room c.self.inside.puzzle.now.size c.size-size.result c.self.inside.lines.items c.self.inside.labels.items c.self.inside.ends.items
-        c.spot_sides.result c.in-Some.line c.in-Some-index.label c.index.result.now c.size-size.ensures.size c.self.invariant.components c.self.invariant.ends
-        c.spot_sides.ensures.below c.in-Some.ensures.found.0 c.index.ensures c.in-Some-index.is in
+    c.spot_sides.result c.in-Some.line c.in-Some-index.label c.index.result.now c.size-size.ensures.size c.self.invariant.components c.self.invariant.ends
+    c.spot_sides.ensures.below c.in-Some.ensures.found.0 c.index.ensures c.in-Some-index.is in
     let ok = c.self.inside.ends.ok.0 in
     omega arith
 
 pub returns-in-Two : goal.returns-in-Two
 returns-in-Two c = λ _.
     let room = label_room c.self.inside.puzzle.now.size c.size-size.result c.self.inside.lines.items c.self.inside.labels.items c.self.inside.ends.items
-        c.spot_sides.result c.in-Some.line c.in-Some-index.label c.index.result.now c.size-size.ensures.size c.self.invariant.components c.self.invariant.ends
-        c.spot_sides.ensures.below c.in-Some.ensures.found.0 c.index.ensures c.in-Some-index.is in
+    c.spot_sides.result c.in-Some.line c.in-Some-index.label c.index.result.now c.size-size.ensures.size c.self.invariant.components c.self.invariant.ends
+    c.spot_sides.ensures.below c.in-Some.ensures.found.0 c.index.ensures c.in-Some-index.is in
     let dots_are = c.dot_ends-first.ensures.ends ∙ ap (λ size. ends size c.args.side) c.size-size.ensures.size in
-    subst (λ (l : Layout). Closes l c.args.side) c.self.view_is
-    (c.in-Some-index.label,
-    inl (two_are c.self.inside.ends.items c.in-Some-index.label c.in-Two.a c.in-Two.b _ _ c.index-2.result.now room c.index-2.ensures c.in-Two.is
-    (c.if-a-first.true ∙ ap (λ p. p.0) dots_are) (c.if-b-second.true ∙ ap (λ p. p.1) dots_are)))
+    subst (λ (l : Layout). Closes l c.args.side) c.self.view_is (
+      c.in-Some-index.label,
+      inl (two_are c.self.inside.ends.items c.in-Some-index.label c.in-Two.a c.in-Two.b _ _ c.index-2.result.now room c.index-2.ensures c.in-Two.is
+          (c.if-a-first.true ∙ ap (λ p. p.0) dots_are) (c.if-b-second.true ∙ ap (λ p. p.1) dots_are)),
+    )
 
 pub returns-in-Two-2 : goal.returns-in-Two-2
 returns-in-Two-2 c = λ _.
     let room = label_room c.self.inside.puzzle.now.size c.size-size.result c.self.inside.lines.items c.self.inside.labels.items c.self.inside.ends.items
-        c.spot_sides.result c.in-Some.line c.in-Some-index.label c.index.result.now c.size-size.ensures.size c.self.invariant.components c.self.invariant.ends
-        c.spot_sides.ensures.below c.in-Some.ensures.found.0 c.index.ensures c.in-Some-index.is in
+    c.spot_sides.result c.in-Some.line c.in-Some-index.label c.index.result.now c.size-size.ensures.size c.self.invariant.components c.self.invariant.ends
+    c.spot_sides.ensures.below c.in-Some.ensures.found.0 c.index.ensures c.in-Some-index.is in
     let dots_are = c.dot_ends-first.ensures.ends ∙ ap (λ size. ends size c.args.side) c.size-size.ensures.size in
-    subst (λ (l : Layout). Closes l c.args.side) c.self.view_is
-    (c.in-Some-index.label,
-    inr (two_are c.self.inside.ends.items c.in-Some-index.label c.in-Two-2.a c.in-Two-2.b _ _ c.index-2.result.now room c.index-2.ensures c.in-Two-2.is
-    (c.if-a-second.true ∙ ap (λ p. p.1) dots_are) (c.if-b-first.true ∙ ap (λ p. p.0) dots_are)))
+    subst (λ (l : Layout). Closes l c.args.side) c.self.view_is (
+      c.in-Some-index.label,
+      inr (two_are c.self.inside.ends.items c.in-Some-index.label c.in-Two-2.a c.in-Two-2.b _ _ c.index-2.result.now room c.index-2.ensures c.in-Two-2.is
+          (c.if-a-second.true ∙ ap (λ p. p.1) dots_are) (c.if-b-first.true ∙ ap (λ p. p.0) dots_are)),
+    )

@@ -1,4 +1,4 @@
-use Rattle.std.proofs.Common.{◌≡◌, ◌≢◌, ◌<◌, ◌∙◌, length, get_or, set, refl, sym, ap, subst, inl, inr, arith}
+use Rattle.std.proofs.Common.{◌≢◌, ◌<◌, ◌∙◌, length, get_or, set, refl, sym, ap, subst, inl, inr, arith}
 use Rattle.std.specs.Prelude.{is_some, slice_index}
 use Rattle.std.proofs.lemmas.List.{get_or_default}
 use Rattle.hall_grid.specs.Slither.{HasOtherCount}
@@ -21,12 +21,12 @@ returns-else-self c =
     let is : IsLayout now = subst IsLayout c.self.view_is c.self.invariant in
     let found = some_from now.closed (sym (ap (λ (l : Layout). is_some l.closed) c.self.view_is) ∙ sym c.is_some-2.ensures ∙ c.if-is_some-2.true) in
     let unset : IsOpen c.args.partial.now c.args.spot =
-        (let size = c.requires.partial.size in let low = c.requires.spot in omega arith, sym c.get.ensures ∙ none_from c.get.result (sym c.if-is_some.ensures)) in
+    (let size = c.requires.partial.size in let low = c.requires.spot in omega arith, sym c.get.ensures ∙ none_from c.get.result (sym c.if-is_some.ensures)) in
     let room : c.args.spot < length now.lines = let e = is.exact in let low = c.requires.spot in omega arith in
     let lines_are = ap (λ (l : Layout). l.lines) c.self.view_is in
     let off : slice_index now.lines c.args.spot ≢ 1 = λ e.
-        c.if-index-eq1.false
-        (c.index.ensures ∙ ap (λ xs. get_or xs c.args.spot c.index.result.now) lines_are ∙ get_or_default now.lines c.args.spot c.index.result.now 0 room ∙ e) in
+    c.if-index-eq1.false
+    (c.index.ensures ∙ ap (λ xs. get_or xs c.args.spot c.index.result.now) lines_are ∙ get_or_default now.lines c.args.spot c.index.result.now 0 room ∙ e) in
     forced_beside now is c.args.partial.now found.0 c.args.spot (is.closed found.0 found.1) unset c.requires.spot off
 
 pub returns-then-self-2 : goal.returns-then-self-2
@@ -34,12 +34,12 @@ returns-then-self-2 c =
     let now = c.args.self.now in
     let is : IsLayout now = subst IsLayout c.self.view_is c.self.invariant in
     let unset : IsOpen c.args.partial.now c.args.spot =
-        (let size = c.requires.partial.size in let low = c.requires.spot in omega arith, sym c.get.ensures ∙ none_from c.get.result (sym c.if-is_some.ensures)) in
+    (let size = c.requires.partial.size in let low = c.requires.spot in omega arith, sym c.get.ensures ∙ none_from c.get.result (sym c.if-is_some.ensures)) in
     let room : c.args.spot < length now.lines = let e = is.exact in let low = c.requires.spot in omega arith in
     let lines_are = ap (λ (l : Layout). l.lines) c.self.view_is in
     let off : slice_index now.lines c.args.spot ≢ 1 = λ e.
-        c.if-index-eq1.false
-        (c.index.ensures ∙ ap (λ xs. get_or xs c.args.spot c.index.result.now) lines_are ∙ get_or_default now.lines c.args.spot c.index.result.now 0 room ∙ e) in
+    c.if-index-eq1.false
+    (c.index.ensures ∙ ap (λ xs. get_or xs c.args.spot c.index.result.now) lines_are ∙ get_or_default now.lines c.args.spot c.index.result.now 0 room ∙ e) in
     let closes : Closes now c.args.spot = c.if-not-closes.ensures refl in
     forced_closing now is c.args.partial.now c.args.spot closes unset c.requires.spot off
     (elim c.then-self-2.branch [
