@@ -205,69 +205,24 @@ enum Who {
     Rex,
 }
 
-/// What the desk found, in short.
-#[derive(Clone, Copy)]
-struct Found {
-    who: Who,
-    held: Held,
-    /// The puzzle that is named is kept.
-    puzzle: bool,
-    /// An answer stands under the token, with the same text or another.
-    answer: Option<bool>,
-    /// The protest under the token is kept, with this ruling.
-    protest: Option<Option<Ruling>>,
-    /// The test that a rule of this number reads.
-    test: u8,
-    count: u64,
+/// What stands under the key or token.
+#[derive(Clone, Copy, PartialEq, Eq)]
+enum Under {
+    Nothing,
+    Puzzle,
+    /// The same answer.
+    Same,
+    /// An answer with another text.
+    Other,
+    /// An open protest.
+    Open,
+    /// A protest that is upheld with three points.
+    Upheld,
 }
 
-/// Nothing was found but the caller and the round.
-fn by(who: Who) -> Found {
-    Found {
-        who,
-        held: Held::Released,
-        puzzle: false,
-        answer: None,
-        protest: None,
-        test: 0,
-        count: 0,
-    }
-}
-
-impl Found {
-    fn held(self, held: Held) -> Found {
-        Found { held, ..self }
-    }
-
-    fn puzzle(self) -> Found {
-        Found {
-            puzzle: true,
-            ..self
-        }
-    }
-
-    fn answer(self, same: bool) -> Found {
-        Found {
-            answer: Some(same),
-            ..self
-        }
-    }
-
-    fn protest(self, ruling: Option<Ruling>) -> Found {
-        Found {
-            protest: Some(ruling),
-            ..self
-        }
-    }
-
-    fn test(self, test: u8) -> Found {
-        Found { test, ..self }
-    }
-
-    fn count(self, count: u64) -> Found {
-        Found { count, ..self }
-    }
-}
+/// A row of a table of decisions: who asks, the round, what stands under the key or token, the number of the rule whose test was found true, how much there is of what is
+/// limited, the moment, and the rule that denies; 0 where the action is allowed and 100 where it is repeated.
+type Row = (Who, Held, Under, u8, u64, u64, u8);
 
 fn caller(alloc: Global, who: Who) -> Result<Option<Person>, Fail> {
     let (name, role) = match who {
@@ -299,8 +254,8 @@ fn puzzle(alloc: Global) -> Result<Puzzle, Fail> {
     }
 }
 
-fn puzzle_row(alloc: Global, kept: bool) -> Result<Option<PuzzleRow>, Fail> {
-    if !kept {
+fn puzzle_row(alloc: Global, under: Under) -> Result<Option<PuzzleRow>, Fail> {
+    if under != Under::Puzzle {
         return Ok(None);
     }
     let key = puzzle_key(alloc, "bob", "p1")?;
@@ -313,9 +268,11 @@ fn number(n: u64) -> Result<PuzzleNumber, Fail> {
     Ok(PuzzleNumber::new(n).ok_or("number")?)
 }
 
-fn answer_row(alloc: Global, answer: Option<bool>) -> Result<Option<AnswerRow>, Fail> {
-    let Some(same) = answer else {
-        return Ok(None);
+fn answer_row(alloc: Global, under: Under) -> Result<Option<AnswerRow>, Fail> {
+    let answer = match under {
+        Under::Same => "1234",
+        Under::Other => "4321",
+        _ => return Ok(None),
     };
     let n = AnswerNumber::new(1).ok_or("n")?;
     let moment = Moment::new(START).ok_or("moment")?;
@@ -329,14 +286,20 @@ fn answer_row(alloc: Global, answer: Option<bool>) -> Result<Option<AnswerRow>, 
         key,
         n,
         moment,
-        answer: text(alloc, if same { "1234" } else { "4321" })?,
+        answer: text(alloc, answer)?,
         verdict: Broken::new(),
     }))
 }
 
-fn protest_row(alloc: Global, protest: Option<Option<Ruling>>) -> Result<Option<ProtestRow>, Fail> {
-    let Some(ruling) = protest else {
-        return Ok(None);
+fn three() -> Result<Ruling, Fail> {
+    Ok(Ruling::Upheld(RulingPoints::new(3).ok_or("points")?))
+}
+
+fn protest_row(alloc: Global, under: Under) -> Result<Option<ProtestRow>, Fail> {
+    let ruling = match under {
+        Under::Open => None,
+        Under::Upheld => Some(three()?),
+        _ => return Ok(None),
     };
     let number = number(1)?;
     let key = ProtestKey {
@@ -352,38 +315,74 @@ fn protest_row(alloc: Global, protest: Option<Option<Ruling>>) -> Result<Option<
     }))
 }
 
-fn facts(alloc: Global, found: &Found) -> Result<Facts, Fail> {
-    let caller = caller(alloc, found.who)?;
-    let puzzle = puzzle_row(alloc, found.puzzle)?;
-    let round = round_row(alloc, found.held)?;
-    let answer = answer_row(alloc, found.answer)?;
-    let protest = protest_row(alloc, found.protest)?;
+fn facts(alloc: Global, row: &Row) -> Result<Facts, Fail> {
+    let (who, held, under, test, count, _, _) = *row;
+    let caller = caller(alloc, who)?;
+    let puzzle = puzzle_row(alloc, under)?;
+    let round = round_row(alloc, held)?;
+    let answer = answer_row(alloc, under)?;
+    let protest = protest_row(alloc, under)?;
     Ok(Facts {
         caller,
-        author_is_there: found.test != 4,
+        author_is_there: test != 4,
         puzzle,
-        sheet_lacks: found.test == 4,
+        sheet_lacks: test == 4,
         round,
         answer,
         protest,
-        in_released: found.test == 11,
-        uncertified: found.test == 12,
-        open_protest: found.test == 16,
-        involved: found.test == 17,
-        count: found.count,
-        conflict: found.test == 20,
+        in_released: test == 11,
+        uncertified: test == 12,
+        open_protest: test == 16,
+        involved: test == 17,
+        count,
+        conflict: test == 20,
     })
 }
 
-/// Decides what the facts say of the action; 0 is allowed and 100 repeated.
-fn decided(alloc: Global, found: &Found, action: &Action, second: u64) -> Result<u8, Fail> {
-    let t = Moment::new(second).ok_or("moment")?;
-    let facts = facts(alloc, found)?;
+/// Decides what the facts say of the action.
+fn decided(alloc: Global, row: &Row, action: &Action) -> Result<u8, Fail> {
+    let t = Moment::new(row.5).ok_or("moment")?;
+    let facts = facts(alloc, row)?;
     Ok(match decide(&facts, action, t) {
         Decision::Allow => 0,
         Decision::Repeat => 100,
         Decision::Deny(rule) => rule,
     })
+}
+
+/// The first row that is decided otherwise.
+fn other_row(alloc: Global, rows: &[Row], action: &Action) -> Result<Option<usize>, Fail> {
+    for (place, row) in rows.iter().enumerate() {
+        if decided(alloc, row, action)? != row.6 {
+            return Ok(Some(place));
+        }
+    }
+    Ok(None)
+}
+
+/// The first row that is decided otherwise of the action.
+fn other(alloc: Global, rows: &[Row], action: Result<Action, Fail>) -> Result<Option<usize>, Fail> {
+    let action = action?;
+    other_row(alloc, rows, &action)
+}
+
+/// An action that names the round alone.
+fn named(alloc: Global, name: &str) -> Result<Action, Fail> {
+    let round = text(alloc, "r1")?;
+    Ok(match name {
+        "release" => Action::Release { round },
+        "read" => Action::ReadRound { round },
+        "answers" => Action::Answers { round },
+        "solutions" => Action::Solutions { round },
+        "protests" => Action::Protests { round },
+        "publish" => Action::Publish { round },
+        _ => Action::Table { round },
+    })
+}
+
+fn import(alloc: Global) -> Result<Action, Fail> {
+    let people = People::new(Vec::new(alloc)).ok_or("people")?;
+    Ok(Action::Import { people })
 }
 
 fn submit(alloc: Global, n: u64) -> Result<Action, Fail> {
@@ -395,87 +394,106 @@ fn submit(alloc: Global, n: u64) -> Result<Action, Fail> {
     })
 }
 
-fn answers_rows() -> [(Found, u64, u8); 17] {
-    [
-        (by(Who::Eve), START - 1, 7),
-        (by(Who::Eve), START, 0),
-        (by(Who::Eve), END - 1, 0),
-        (by(Who::Eve), END, 8),
-        (by(Who::Eve).count(49), START, 0),
-        (by(Who::Eve).count(50), START, 19),
-        (by(Who::Eve).count(50), END, 8),
-        (by(Who::Eve).answer(true).count(50), START, 100),
-        (by(Who::Eve).answer(true), START - 1, 100),
-        (by(Who::Eve).answer(true), END, 100),
-        (by(Who::Eve).answer(false), END, 6),
-        (by(Who::Player), START - 1, 5),
-        (by(Who::Bob), START - 1, 2),
-        (by(Who::Nobody), START - 1, 1),
-        (by(Who::Eve).held(Held::Draft), START, 4),
-        (by(Who::Eve).held(Held::NoRound), START, 4),
-        (by(Who::Eve).held(Held::Published), START, 15),
-    ]
-}
+const ANSWERS: [Row; 17] = [
+    (Who::Eve, Held::Released, Under::Nothing, 0, 0, START - 1, 7),
+    (Who::Eve, Held::Released, Under::Nothing, 0, 0, START, 0),
+    (Who::Eve, Held::Released, Under::Nothing, 0, 0, END - 1, 0),
+    (Who::Eve, Held::Released, Under::Nothing, 0, 0, END, 8),
+    (Who::Eve, Held::Released, Under::Nothing, 0, 49, START, 0),
+    (Who::Eve, Held::Released, Under::Nothing, 0, 50, START, 19),
+    (Who::Eve, Held::Released, Under::Nothing, 0, 50, END, 8),
+    (Who::Eve, Held::Released, Under::Same, 0, 50, START, 100),
+    (Who::Eve, Held::Released, Under::Same, 0, 0, START - 1, 100),
+    (Who::Eve, Held::Released, Under::Same, 0, 0, END, 100),
+    (Who::Eve, Held::Released, Under::Other, 0, 0, END, 6),
+    (
+        Who::Player,
+        Held::Released,
+        Under::Nothing,
+        0,
+        0,
+        START - 1,
+        5,
+    ),
+    (Who::Bob, Held::Released, Under::Nothing, 0, 0, START - 1, 2),
+    (
+        Who::Nobody,
+        Held::Released,
+        Under::Nothing,
+        0,
+        0,
+        START - 1,
+        1,
+    ),
+    (Who::Eve, Held::Draft, Under::Nothing, 0, 0, START, 4),
+    (Who::Eve, Held::NoRound, Under::Nothing, 0, 0, START, 4),
+    (Who::Eve, Held::Published, Under::Nothing, 0, 0, START, 15),
+];
+
+const ANSWERS_TO_TWO: [Row; 1] = [(Who::Player, Held::Released, Under::Nothing, 0, 0, START, 4)];
 
 #[test]
 fn answers(rt: HostRuntime) -> Result<(), Fail> {
     let alloc = rt.alloc();
-    let rows = answers_rows();
-    let action = submit(alloc, 1)?;
-    for (found, second, wanted) in rows.iter() {
-        assert_eq!(rt; decided(alloc, found, &action, *second)?, *wanted);
-    }
-    let second = submit(alloc, 2)?;
-    assert_eq!(rt; decided(alloc, &by(Who::Player), &second, START)?, 4);
+    assert_eq!(rt; other(alloc, &ANSWERS, submit(alloc, 1))?, None);
+    assert_eq!(rt; other(alloc, &ANSWERS_TO_TWO, submit(alloc, 2))?, None);
     Ok(())
 }
 
-fn puzzles_are_named_by_their_authors_rows() -> [(Found, u8, u8, u8); 10] {
-    [
-        (by(Who::Ada), 3, 3, 3),
-        (by(Who::Ada).puzzle(), 3, 3, 3),
-        (by(Who::Bob), 4, 4, 0),
-        (by(Who::Dora), 4, 4, 0),
-        (by(Who::Bob).puzzle(), 0, 0, 0),
-        (by(Who::Bob).test(4), 4, 4, 4),
-        (by(Who::Bob).test(11), 4, 4, 11),
-        (by(Who::Bob).count(499), 4, 4, 0),
-        (by(Who::Bob).count(500), 4, 4, 19),
-        (by(Who::Bob).count(500).puzzle(), 0, 0, 0),
-    ]
+fn put_puzzle(alloc: Global) -> Result<Action, Fail> {
+    let puzzle = puzzle(alloc)?;
+    let key = puzzle_key(alloc, "bob", "p1")?;
+    Ok(Action::PutPuzzle { key, puzzle })
 }
+
+fn certify(alloc: Global) -> Result<Action, Fail> {
+    let budget = Budget::new(1).ok_or("budget")?;
+    let key = puzzle_key(alloc, "bob", "p1")?;
+    Ok(Action::Certify { key, budget })
+}
+
+fn read_puzzle(alloc: Global) -> Result<Action, Fail> {
+    let key = puzzle_key(alloc, "bob", "p1")?;
+    Ok(Action::ReadPuzzle { key })
+}
+
+const READ_PUZZLES: [Row; 6] = [
+    (Who::Ada, Held::Released, Under::Nothing, 0, 0, START, 3),
+    (Who::Ada, Held::Released, Under::Puzzle, 0, 0, START, 3),
+    (Who::Bob, Held::Released, Under::Nothing, 0, 0, START, 4),
+    (Who::Dora, Held::Released, Under::Nothing, 0, 0, START, 4),
+    (Who::Bob, Held::Released, Under::Puzzle, 0, 0, START, 0),
+    (Who::Eve, Held::Released, Under::Puzzle, 0, 0, START, 2),
+];
+
+const PUT_PUZZLES: [Row; 8] = [
+    (Who::Ada, Held::Released, Under::Nothing, 4, 0, START, 3),
+    (Who::Bob, Held::Released, Under::Nothing, 4, 0, START, 4),
+    (Who::Bob, Held::Released, Under::Nothing, 0, 0, START, 0),
+    (Who::Bob, Held::Released, Under::Nothing, 11, 500, START, 11),
+    (Who::Bob, Held::Released, Under::Nothing, 0, 499, START, 0),
+    (Who::Bob, Held::Released, Under::Nothing, 0, 500, START, 19),
+    (Who::Bob, Held::Released, Under::Puzzle, 0, 500, START, 0),
+    (Who::Dora, Held::Released, Under::Nothing, 0, 0, START, 0),
+];
+
+const OWN_PUZZLES: [Row; 2] = [
+    (Who::Eve, Held::Released, Under::Nothing, 0, 0, START, 2),
+    (Who::Ada, Held::Released, Under::Nothing, 0, 0, START, 0),
+];
 
 #[test]
 fn puzzles_are_named_by_their_authors(rt: HostRuntime) -> Result<(), Fail> {
     let alloc = rt.alloc();
-    let rows = puzzles_are_named_by_their_authors_rows();
-    let read = Action::ReadPuzzle {
-        key: puzzle_key(alloc, "bob", "p1")?,
-    };
-    for (found, wanted, _, _) in rows.iter() {
-        assert_eq!(rt; decided(alloc, found, &read, 0)?, *wanted);
-    }
-    let budget = Budget::new(1).ok_or("budget")?;
-    let certify = Action::Certify {
-        key: puzzle_key(alloc, "bob", "p1")?,
-        budget,
-    };
-    for (found, _, wanted, _) in rows.iter() {
-        assert_eq!(rt; decided(alloc, found, &certify, 0)?, *wanted);
-    }
-    let puzzle = puzzle(alloc)?;
-    let put = Action::PutPuzzle {
-        key: puzzle_key(alloc, "bob", "p1")?,
-        puzzle,
-    };
-    for (found, _, _, wanted) in rows.iter() {
-        assert_eq!(rt; decided(alloc, found, &put, 0)?, *wanted);
-    }
+    assert_eq!(rt; other(alloc, &READ_PUZZLES, read_puzzle(alloc))?, None);
+    assert_eq!(rt; other(alloc, &READ_PUZZLES, certify(alloc))?, None);
+    assert_eq!(rt; other(alloc, &PUT_PUZZLES, put_puzzle(alloc))?, None);
+    assert_eq!(rt; other(alloc, &OWN_PUZZLES, Ok(Action::ListPuzzles))?, None);
     Ok(())
 }
 
-fn sheet(alloc: Global) -> Result<Sheet, Fail> {
-    Ok(Sheet {
+fn put_round(alloc: Global) -> Result<Action, Fail> {
+    let sheet = Sheet {
         start: Moment::new(START).ok_or("start")?,
         minutes: Minutes::new(60).ok_or("minutes")?,
         protest_minutes: ProtestMinutes::new(30).ok_or("protest minutes")?,
@@ -484,101 +502,98 @@ fn sheet(alloc: Global) -> Result<Sheet, Fail> {
         bonus: Bonus::new(0).ok_or("bonus")?,
         title: text(alloc, "Morning")?,
         puzzles: puzzles(alloc)?,
-    })
+    };
+    let round = text(alloc, "r1")?;
+    Ok(Action::PutRound { round, sheet })
 }
 
-fn drafts_are_put_and_released_rows() -> [(Found, u64, u8, u8); 8] {
-    [
-        (by(Who::Dora), START - 1, 13, 13),
-        (by(Who::Dora).held(Held::Draft), START - 1, 0, 0),
-        (by(Who::Dora).held(Held::Draft), START, 0, 14),
-        (by(Who::Dora).held(Held::Draft).test(12), START, 0, 12),
-        (by(Who::Dora).held(Held::Draft).test(11), START, 0, 11),
-        (by(Who::Dora).held(Held::Draft).test(4), START - 1, 4, 0),
-        (by(Who::Dora).held(Held::NoRound), START - 1, 0, 4),
-        (by(Who::Eve), START - 1, 2, 2),
-    ]
-}
+const PUT_ROUNDS: [Row; 5] = [
+    (Who::Dora, Held::Released, Under::Nothing, 0, 0, START, 13),
+    (Who::Dora, Held::Draft, Under::Nothing, 0, 0, START, 0),
+    (Who::Dora, Held::Draft, Under::Nothing, 4, 0, START, 4),
+    (Who::Dora, Held::NoRound, Under::Nothing, 0, 0, START, 0),
+    (Who::Eve, Held::Draft, Under::Nothing, 0, 0, START, 2),
+];
+
+const RELEASES: [Row; 6] = [
+    (
+        Who::Dora,
+        Held::Released,
+        Under::Nothing,
+        0,
+        0,
+        START - 1,
+        13,
+    ),
+    (Who::Dora, Held::Draft, Under::Nothing, 0, 0, START - 1, 0),
+    (Who::Dora, Held::Draft, Under::Nothing, 0, 0, START, 14),
+    (Who::Dora, Held::Draft, Under::Nothing, 12, 0, START, 12),
+    (Who::Dora, Held::Draft, Under::Nothing, 11, 0, START, 11),
+    (Who::Dora, Held::NoRound, Under::Nothing, 0, 0, START, 4),
+];
 
 #[test]
 fn drafts_are_put_and_released(rt: HostRuntime) -> Result<(), Fail> {
     let alloc = rt.alloc();
-    let rows = drafts_are_put_and_released_rows();
-    let sheet = sheet(alloc)?;
-    let put = Action::PutRound {
-        round: text(alloc, "r1")?,
-        sheet,
-    };
-    for (found, second, wanted, _) in rows.iter() {
-        assert_eq!(rt; decided(alloc, found, &put, *second)?, *wanted);
-    }
-    let release = Action::Release {
-        round: text(alloc, "r1")?,
-    };
-    for (found, second, _, wanted) in rows.iter() {
-        assert_eq!(rt; decided(alloc, found, &release, *second)?, *wanted);
-    }
+    assert_eq!(rt; other(alloc, &PUT_ROUNDS, put_round(alloc))?, None);
+    assert_eq!(rt; other(alloc, &RELEASES, named(alloc, "release"))?, None);
     Ok(())
 }
 
-fn rounds_are_read_rows() -> [(Found, u64, u8, u8); 9] {
-    [
-        (by(Who::Rex), START - 1, 7, 9),
-        (by(Who::Rex), START, 0, 9),
-        (by(Who::Rex), END - 1, 0, 9),
-        (by(Who::Rex), END, 0, 0),
-        (by(Who::Dora), START - 1, 0, 9),
-        (by(Who::Dora).held(Held::Draft), START - 1, 0, 4),
-        (by(Who::Eve).held(Held::Draft), END, 4, 4),
-        (by(Who::Bob), END, 2, 2),
-        (by(Who::Player), START - 1, 5, 9),
-    ]
-}
+const READ_ROUNDS: [Row; 7] = [
+    (Who::Rex, Held::Released, Under::Nothing, 0, 0, START - 1, 7),
+    (Who::Rex, Held::Released, Under::Nothing, 0, 0, START, 0),
+    (
+        Who::Dora,
+        Held::Released,
+        Under::Nothing,
+        0,
+        0,
+        START - 1,
+        0,
+    ),
+    (Who::Dora, Held::Draft, Under::Nothing, 0, 0, START - 1, 0),
+    (Who::Eve, Held::Draft, Under::Nothing, 0, 0, END, 4),
+    (Who::Bob, Held::Released, Under::Nothing, 0, 0, END, 2),
+    (
+        Who::Player,
+        Held::Released,
+        Under::Nothing,
+        0,
+        0,
+        START - 1,
+        5,
+    ),
+];
+
+const ROUNDS: [Row; 2] = [
+    (Who::Eve, Held::Released, Under::Nothing, 0, 0, START, 0),
+    (Who::Nobody, Held::Released, Under::Nothing, 0, 0, START, 1),
+];
+
+const SOLUTIONS: [Row; 5] = [
+    (Who::Rex, Held::Released, Under::Nothing, 0, 0, END - 1, 9),
+    (Who::Rex, Held::Released, Under::Nothing, 0, 0, END, 0),
+    (Who::Dora, Held::Released, Under::Nothing, 0, 0, END - 1, 9),
+    (Who::Dora, Held::Draft, Under::Nothing, 0, 0, END, 4),
+    (Who::Player, Held::Released, Under::Nothing, 0, 0, END, 0),
+];
+
+const LISTINGS: [Row; 4] = [
+    (Who::Eve, Held::Released, Under::Nothing, 0, 0, START - 1, 0),
+    (Who::Bob, Held::Released, Under::Nothing, 0, 0, END, 2),
+    (Who::Dora, Held::Draft, Under::Nothing, 0, 0, END, 4),
+    (Who::Nobody, Held::Released, Under::Nothing, 0, 0, END, 1),
+];
 
 #[test]
 fn rounds_are_read(rt: HostRuntime) -> Result<(), Fail> {
     let alloc = rt.alloc();
-    let rows = rounds_are_read_rows();
-    let read = Action::ReadRound {
-        round: text(alloc, "r1")?,
-    };
-    for (found, second, wanted, _) in rows.iter() {
-        assert_eq!(rt; decided(alloc, found, &read, *second)?, *wanted);
-    }
-    let solutions = Action::Solutions {
-        round: text(alloc, "r1")?,
-    };
-    for (found, second, _, wanted) in rows.iter() {
-        assert_eq!(rt; decided(alloc, found, &solutions, *second)?, *wanted);
-    }
-    Ok(())
-}
-
-#[test]
-fn lists_are_read(rt: HostRuntime) -> Result<(), Fail> {
-    let alloc = rt.alloc();
-    let answers = Action::Answers {
-        round: text(alloc, "r1")?,
-    };
-    let protests = Action::Protests {
-        round: text(alloc, "r1")?,
-    };
-    for (found, rule, list) in [
-        (by(Who::Eve), 2, 0),
-        (by(Who::Bob), 0, 2),
-        (by(Who::Nobody), 1, 1),
-    ]
-    .iter()
-    {
-        assert_eq!(rt; decided(alloc, found, &answers, 0)?, *list);
-        assert_eq!(rt; decided(alloc, found, &protests, 0)?, *list);
-        assert_eq!(rt; decided(alloc, found, &Action::ListPuzzles, 0)?, *rule);
-    }
-    assert_eq!(rt; decided(alloc, &by(Who::Eve), &Action::ListRounds, 0)?, 0);
-    assert_eq!(rt;
-        decided(alloc, &by(Who::Nobody), &Action::ListRounds, 0)?,
-        1
-    );
+    assert_eq!(rt; other(alloc, &READ_ROUNDS, named(alloc, "read"))?, None);
+    assert_eq!(rt; other(alloc, &ROUNDS, Ok(Action::ListRounds))?, None);
+    assert_eq!(rt; other(alloc, &SOLUTIONS, named(alloc, "solutions"))?, None);
+    assert_eq!(rt; other(alloc, &LISTINGS, named(alloc, "answers"))?, None);
+    assert_eq!(rt; other(alloc, &LISTINGS, named(alloc, "protests"))?, None);
     Ok(())
 }
 
@@ -591,32 +606,24 @@ fn protest(alloc: Global, n: u64) -> Result<Action, Fail> {
     })
 }
 
-fn protests_rows() -> [(Found, u64, u8); 8] {
-    [
-        (by(Who::Eve), END - 1, 9),
-        (by(Who::Eve), END, 0),
-        (by(Who::Eve), CLOSE - 1, 0),
-        (by(Who::Eve), CLOSE, 10),
-        (by(Who::Eve).count(4), END, 0),
-        (by(Who::Eve).count(5), END, 19),
-        (by(Who::Eve).protest(None), CLOSE, 100),
-        (by(Who::Eve).held(Held::Published), END, 15),
-    ]
-}
+const PROTESTS: [Row; 8] = [
+    (Who::Eve, Held::Released, Under::Nothing, 0, 0, END - 1, 9),
+    (Who::Eve, Held::Released, Under::Nothing, 0, 0, END, 0),
+    (Who::Eve, Held::Released, Under::Nothing, 0, 0, CLOSE - 1, 0),
+    (Who::Eve, Held::Released, Under::Nothing, 0, 0, CLOSE, 10),
+    (Who::Eve, Held::Released, Under::Nothing, 0, 4, END, 0),
+    (Who::Eve, Held::Released, Under::Nothing, 0, 5, END, 19),
+    (Who::Eve, Held::Released, Under::Open, 0, 5, CLOSE, 100),
+    (Who::Eve, Held::Published, Under::Nothing, 0, 0, END, 15),
+];
+
+const PROTESTS_ON_TWO: [Row; 1] = [(Who::Eve, Held::Released, Under::Open, 0, 0, END, 4)];
 
 #[test]
 fn protests(rt: HostRuntime) -> Result<(), Fail> {
     let alloc = rt.alloc();
-    let rows = protests_rows();
-    let action = protest(alloc, 1)?;
-    for (found, second, wanted) in rows.iter() {
-        assert_eq!(rt; decided(alloc, found, &action, *second)?, *wanted);
-    }
-    let second = protest(alloc, 2)?;
-    assert_eq!(rt;
-        decided(alloc, &by(Who::Eve).protest(None), &second, END)?,
-        4
-    );
+    assert_eq!(rt; other(alloc, &PROTESTS, protest(alloc, 1))?, None);
+    assert_eq!(rt; other(alloc, &PROTESTS_ON_TWO, protest(alloc, 2))?, None);
     Ok(())
 }
 
@@ -629,76 +636,69 @@ fn rule(alloc: Global, ruling: Ruling) -> Result<Action, Fail> {
     })
 }
 
-fn rulings_rows(three: Ruling) -> [(Found, u8, u8); 5] {
-    [
-        (by(Who::Rex), 4, 4),
-        (by(Who::Rex).protest(None), 0, 0),
-        (by(Who::Rex).protest(None).test(17), 17, 17),
-        (by(Who::Rex).protest(Some(three)), 100, 18),
-        (by(Who::Rex).protest(Some(three)).test(17), 17, 17),
-    ]
-}
+const RULINGS: [Row; 5] = [
+    (Who::Rex, Held::Released, Under::Nothing, 0, 0, END, 4),
+    (Who::Rex, Held::Released, Under::Open, 0, 0, END, 0),
+    (Who::Rex, Held::Released, Under::Open, 17, 0, END, 17),
+    (Who::Rex, Held::Released, Under::Upheld, 0, 0, END, 100),
+    (Who::Rex, Held::Released, Under::Upheld, 17, 0, END, 17),
+];
+
+const REJECTIONS: [Row; 2] = [
+    (Who::Rex, Held::Released, Under::Open, 0, 0, END, 0),
+    (Who::Rex, Held::Released, Under::Upheld, 0, 0, END, 18),
+];
 
 #[test]
 fn rulings(rt: HostRuntime) -> Result<(), Fail> {
     let alloc = rt.alloc();
-    let three = Ruling::Upheld(RulingPoints::new(3).ok_or("points")?);
-    let rows = rulings_rows(three);
-    let upheld = rule(alloc, three)?;
-    for (found, wanted, _) in rows.iter() {
-        assert_eq!(rt; decided(alloc, found, &upheld, 0)?, *wanted);
-    }
-    let rejected = rule(alloc, Ruling::Rejected)?;
-    for (found, _, wanted) in rows.iter() {
-        assert_eq!(rt; decided(alloc, found, &rejected, 0)?, *wanted);
-    }
+    assert_eq!(rt; other(alloc, &RULINGS, rule(alloc, three()?))?, None);
+    assert_eq!(rt;
+        other(alloc, &REJECTIONS, rule(alloc, Ruling::Rejected))?,
+        None
+    );
     Ok(())
 }
 
-fn publishing_rows() -> [(Found, u64, u8, u8); 7] {
-    [
-        (by(Who::Dora), CLOSE - 1, 9, 15),
-        (by(Who::Dora), CLOSE, 0, 15),
-        (by(Who::Dora).test(16), CLOSE, 16, 15),
-        (by(Who::Dora).held(Held::Published), CLOSE, 15, 0),
-        (by(Who::Dora).held(Held::Published).test(16), CLOSE, 15, 0),
-        (by(Who::Nobody).held(Held::Published), CLOSE, 1, 0),
-        (by(Who::Dora).held(Held::Draft), CLOSE, 4, 4),
-    ]
-}
+const PUBLICATIONS: [Row; 5] = [
+    (
+        Who::Dora,
+        Held::Released,
+        Under::Nothing,
+        0,
+        0,
+        CLOSE - 1,
+        9,
+    ),
+    (Who::Dora, Held::Released, Under::Nothing, 0, 0, CLOSE, 0),
+    (Who::Dora, Held::Released, Under::Nothing, 16, 0, CLOSE, 16),
+    (Who::Dora, Held::Published, Under::Nothing, 16, 0, CLOSE, 15),
+    (Who::Dora, Held::Draft, Under::Nothing, 0, 0, CLOSE, 4),
+];
+
+const TABLES: [Row; 3] = [
+    (Who::Nobody, Held::Released, Under::Nothing, 0, 0, CLOSE, 15),
+    (Who::Nobody, Held::Published, Under::Nothing, 0, 0, START, 0),
+    (Who::Dora, Held::Draft, Under::Nothing, 0, 0, CLOSE, 4),
+];
 
 #[test]
 fn publishing(rt: HostRuntime) -> Result<(), Fail> {
     let alloc = rt.alloc();
-    let rows = publishing_rows();
-    let publish = Action::Publish {
-        round: text(alloc, "r1")?,
-    };
-    for (found, second, wanted, _) in rows.iter() {
-        assert_eq!(rt; decided(alloc, found, &publish, *second)?, *wanted);
-    }
-    let table = Action::Table {
-        round: text(alloc, "r1")?,
-    };
-    for (found, second, _, wanted) in rows.iter() {
-        assert_eq!(rt; decided(alloc, found, &table, *second)?, *wanted);
-    }
+    assert_eq!(rt; other(alloc, &PUBLICATIONS, named(alloc, "publish"))?, None);
+    assert_eq!(rt; other(alloc, &TABLES, named(alloc, "table"))?, None);
     Ok(())
 }
+
+const IMPORTS: [Row; 3] = [
+    (Who::Dora, Held::Released, Under::Nothing, 0, 0, START, 0),
+    (Who::Dora, Held::Released, Under::Nothing, 20, 0, START, 20),
+    (Who::Eve, Held::Released, Under::Nothing, 20, 0, START, 2),
+];
 
 #[test]
 fn lists_may_conflict(rt: HostRuntime) -> Result<(), Fail> {
     let alloc = rt.alloc();
-    let people = People::new(Vec::new(alloc)).ok_or("people")?;
-    let import = Action::Import { people };
-    for (found, wanted) in [
-        (by(Who::Dora), 0),
-        (by(Who::Dora).test(20), 20),
-        (by(Who::Eve), 2),
-    ]
-    .iter()
-    {
-        assert_eq!(rt; decided(alloc, found, &import, 0)?, *wanted);
-    }
+    assert_eq!(rt; other(alloc, &IMPORTS, import(alloc))?, None);
     Ok(())
 }
