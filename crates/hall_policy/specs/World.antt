@@ -1,0 +1,66 @@
+-- What the hall keeps: finite maps from keys to rows, the keys' orders, and what a round's row says.
+use Rattle.std.specs.Prelude.{nat_eq, ◌≡◌, ◌+◌, ◌*◌, ℕ, zero, suc, Bool, List, Option, Some, None, slice_get}
+use Rattle.std.specs.declared.cmp.Ordering.{Ordering}
+use Rattle.std.specs.Ordering.{nat_cmp, ordering_then}
+use Rattle.std.specs.Cmp.Lexicographic.{pointwise}
+use Rattle.std.specs.FinMap.{FinMap, get, values}
+use Rattle.hall_policy.specs.Text.{text_cmp}
+use Rattle.hall_policy.specs.declared.record.Person.{Person}
+use Rattle.hall_policy.specs.declared.record.PuzzleKey.{PuzzleKey}
+use Rattle.hall_policy.specs.declared.record.PuzzleRow.{PuzzleRow}
+use Rattle.hall_policy.specs.declared.record.Round.{Round}
+use Rattle.hall_policy.specs.declared.record.Entry.{Entry}
+use Rattle.hall_policy.specs.declared.record.RoundRow.{RoundRow}
+use Rattle.hall_policy.specs.declared.record.PlaceKey.{PlaceKey}
+use Rattle.hall_policy.specs.declared.record.AnswerKey.{AnswerKey}
+use Rattle.hall_policy.specs.declared.record.AnswerRow.{AnswerRow}
+use Rattle.hall_policy.specs.declared.record.ProtestKey.{ProtestKey}
+use Rattle.hall_policy.specs.declared.record.ProtestRow.{ProtestRow}
+
+-- the order of puzzles' keys: by author, then label
+abbrev pub puzzle_cmp : PuzzleKey → PuzzleKey → Ordering
+puzzle_cmp a b = ordering_then (text_cmp a.author b.author) (text_cmp a.label b.label)
+
+-- the order of places: by round, then number
+abbrev pub place_cmp : PlaceKey → PlaceKey → Ordering
+place_cmp a b = ordering_then (text_cmp a.round b.round) (nat_cmp a.number b.number)
+
+-- the order of answers' keys: by entrant, round, number, then token
+abbrev pub answer_cmp : AnswerKey → AnswerKey → Ordering
+answer_cmp a b = ordering_then (text_cmp a.entrant b.entrant) (ordering_then (text_cmp a.round b.round) (ordering_then (nat_cmp a.number b.number) (text_cmp a.token b.token)))
+
+-- the order of protests' keys: by entrant, round, then token
+abbrev pub protest_cmp : ProtestKey → ProtestKey → Ordering
+protest_cmp a b = ordering_then (text_cmp a.entrant b.entrant) (ordering_then (text_cmp a.round b.round) (text_cmp a.token b.token))
+
+-- the whole content of the hall: people by name, puzzles by author and label, rounds by id, the puzzles of rounds by round and number,
+-- answers by entrant, round, number and token, protests by entrant, round and token
+pub record World : Type 0 where
+  pub people : FinMap text_cmp Person
+  pub puzzles : FinMap puzzle_cmp PuzzleRow
+  pub rounds : FinMap text_cmp Round
+  pub places : FinMap place_cmp Entry
+  pub answers : FinMap answer_cmp AnswerRow
+  pub protests : FinMap protest_cmp ProtestRow
+
+-- whether two texts are one
+abbrev pub same_text : List ℕ → List ℕ → Bool
+same_text = pointwise nat_eq
+
+-- the second at which the round is over
+abbrev pub end_of : Round → ℕ
+end_of round = round.start + 60 * round.minutes
+
+-- the second from which on no protest is taken
+abbrev pub close_of : Round → ℕ
+close_of round = end_of round + 60 * round.protest_minutes
+
+-- the entry with this number, counted from 1
+abbrev pub entry_at : List Entry → ℕ → Option Entry
+entry_at entries zero = None
+entry_at entries (suc before) = slice_get entries before
+
+-- the row is what the world keeps of the round: its head, and its whole list
+pub record IsRoundAt (world : World) (id : List ℕ) (row : RoundRow) : Type 0 where
+  pub head : get world.rounds id ≡ Some row.round
+  pub list : (number : ℕ) → get world.places (record { round = id; number = number }) ≡ entry_at row.puzzles number

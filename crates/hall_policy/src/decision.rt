@@ -1,0 +1,301 @@
+//! Which rule decides a request.
+ghost use Rattle.std.specs.Prelude.{◌≡◌, ◌↔◌, ◌⊎◌, IsTrue, Contains, Any, option_copied, IsSome, Option, List, ℕ};
+ghost use Rattle.hall_policy.specs.World.{World, entry_at};
+ghost use Rattle.hall_policy.specs.Rules.{KeyIsUnknown, LacksRole, NamesOtherAuthor, IsMissing, IsOwnPuzzle, SameContent, IsBeforeStart, IsAfterEnd, IsBeforeEnd, IsAfterClose, IsNoDraft, IsAfterStart, IsPublished, SameRuling, IsAtLimit, ListsAuthor, is_director};
+ghost use Rattle.hall_policy.specs.First.{Sentence, SameBefore, First};
+ghost use Rattle.hall_policy.specs.Facts.{Tells, TrueUpTo, deciding, HidesRound, LacksNumber, IsRoundFound};
+ghost use Rattle.hall_policy.specs.Finding.{IsFinding, finding_of, standing};
+ghost use Rattle.hall_policy.specs.declared.record.Entry.{Entry as declared_Entry};
+
+use crate::asked::{finds_drafts, may, puzzle_named, rules_asked};
+use crate::facts::Facts;
+use crate::number::{Moment, PuzzleNumber};
+use crate::record::Entry;
+use crate::request::Action;
+use crate::rule::{Decision, Rule};
+use crate::text::Name;
+
+fn is_director(facts: &Facts) -> bool
+    ensures { result ≡ is_director facts.now.caller }
+{
+    match &facts.caller {
+        Some(person) => person.roles.director,
+        None => false,
+    }
+}
+
+fn lacks_role(facts: &Facts, action: &Action) -> bool
+    ensures { IsTrue result ↔ LacksRole facts.now.caller action.now }
+{
+    match &facts.caller {
+        Some(person) => !may(person.roles, action),
+        None => false,
+    }
+}
+
+fn names_other_author(facts: &Facts, action: &Action) -> bool
+    ensures { IsTrue result ↔ NamesOtherAuthor facts.now.caller action.now }
+{
+    match (&facts.caller, puzzle_named(action)) {
+        (Some(person), Some(key)) => !person.roles.director && !key.author.is_same(&person.name),
+        _ => false,
+    }
+}
+
+fn is_before_start(facts: &Facts, action: &Action, t: Moment) -> bool
+    ensures { (world : World) → Tells Rule.NotStarted facts.now world action.now → (IsTrue result ↔ IsBeforeStart world facts.now.caller action.now t) }
+{
+    match &facts.round {
+        Some(row) => !is_director(facts) && t.get() < row.round.start.get(),
+        None => false,
+    }
+}
+
+fn is_after_end(facts: &Facts, action: &Action, t: Moment) -> bool
+    ensures { (world : World) → Tells Rule.Ended facts.now world action.now → (IsTrue result ↔ IsAfterEnd world action.now t) }
+{
+    match &facts.round {
+        Some(row) => row.round.end() <= t.get(),
+        None => false,
+    }
+}
+
+fn is_before_end(facts: &Facts, action: &Action, t: Moment) -> bool
+    ensures { (world : World) → Tells Rule.NotEnded facts.now world action.now → (IsTrue result ↔ IsBeforeEnd world action.now t) }
+{
+    match (&facts.round, action) {
+        (Some(row), Action::Publish { .. }) => t.get() < row.round.close(),
+        (Some(row), _) => t.get() < row.round.end(),
+        (None, _) => false,
+    }
+}
+
+fn is_after_close(facts: &Facts, action: &Action, t: Moment) -> bool
+    ensures { (world : World) → Tells Rule.Closed facts.now world action.now → (IsTrue result ↔ IsAfterClose world action.now t) }
+{
+    match &facts.round {
+        Some(row) => row.round.close() <= t.get(),
+        None => false,
+    }
+}
+
+fn is_after_start(facts: &Facts, action: &Action, t: Moment) -> bool
+    ensures { (world : World) → Tells Rule.Started facts.now world action.now → (IsTrue result ↔ IsAfterStart world action.now t) }
+{
+    match &facts.round {
+        Some(row) => row.round.start.get() <= t.get(),
+        None => false,
+    }
+}
+
+fn is_no_draft(facts: &Facts, action: &Action) -> bool
+    ensures { (world : World) → Tells Rule.NoDraft facts.now world action.now → (IsTrue result ↔ IsNoDraft world action.now) }
+{
+    match &facts.round {
+        Some(row) => row.round.released,
+        None => false,
+    }
+}
+
+fn is_published(facts: &Facts, action: &Action) -> bool
+    ensures { (world : World) → Tells Rule.Published facts.now world action.now → (IsTrue result ↔ IsPublished world action.now) }
+{
+    match (&facts.round, action) {
+        (Some(row), Action::Table { .. }) => !row.round.published,
+        (Some(row), _) => row.round.published,
+        (None, _) => false,
+    }
+}
+
+/// Whether the round that was found can't be seen.
+fn hides_round(facts: &Facts, action: &Action) -> bool
+    ensures { IsTrue result ↔ HidesRound facts.now action.now }
+{
+    match &facts.round {
+        Some(row) => !row.round.released && !(is_director(facts) && finds_drafts(action)),
+        None => true,
+    }
+}
+
+/// Whether the round that was found has no puzzle of this number.
+fn lacks_number(facts: &Facts, number: PuzzleNumber) -> bool
+    ensures { IsTrue result ↔ LacksNumber facts.now number }
+{
+    match &facts.round {
+        Some(row) => is_beyond(row.puzzles.as_slice(), number),
+        None => true,
+    }
+}
+
+fn is_beyond(entries: &[Entry], number: PuzzleNumber) -> bool
+    ensures { IsTrue result ↔ (entry_at entries.now number ≡ None) }
+{
+    entries.len() < number.get() as usize
+}
+
+fn is_missing(facts: &Facts, action: &Action) -> bool
+    ensures { (world : World) → Tells Rule.Missing facts.now world action.now → (IsTrue result ↔ IsMissing world facts.now.caller action.now) }
+{
+    match action {
+        Action::Import { .. } | Action::ListPuzzles | Action::ListRounds => false,
+        Action::PutPuzzle { .. } => !facts.author_is_there,
+        Action::ReadPuzzle { .. } | Action::Certify { .. } => facts.puzzle.is_none(),
+        Action::PutRound { .. } => facts.sheet_lacks,
+        Action::Submit { number, .. } | Action::Protest { number, .. } => hides_round(facts, action)
+            || lacks_number(facts, *number),
+        Action::Rule { .. } => hides_round(facts, action) || facts.protest.is_none(),
+        _ => hides_round(facts, action),
+    }
+}
+
+fn is_own_puzzle(facts: &Facts, action: &Action) -> bool
+    ensures { (world : World) → Tells Rule.OwnPuzzle facts.now world action.now → (IsTrue result ↔ IsOwnPuzzle world facts.now.caller action.now) }
+{
+    match &facts.caller {
+        Some(person) => person.roles.entrant && lists_author_of(facts, &person.name),
+        None => false,
+    }
+}
+
+/// Whether the round that was found has a puzzle by the author.
+fn lists_author_of(facts: &Facts, author: &Name) -> bool
+    ensures { (world : World) (named : Option (List ℕ)) → IsRoundFound world named facts.now.round → (IsTrue result ↔ ListsAuthor world named author.now) }
+{
+    match &facts.round {
+        Some(row) => lists_author(row.puzzles.as_slice(), author),
+        None => false,
+    }
+}
+
+/// Whether one of the puzzles is by the author.
+fn lists_author(entries: &[Entry], author: &Name) -> bool
+    ensures { IsTrue result ↔ ((entry : declared_Entry) × Contains entries.now entry × (entry.puzzle.author ≡ author.now)) }
+{
+    entries
+        .iter()
+        .any(|entry| entry.puzzle.author.is_same(author))
+}
+
+/// What the facts say of one rule.
+#[derive(Clone, Copy, PartialEq, Eq)]
+enum Finding {
+    Passes,
+    Forbids,
+    Repeats,
+}
+
+fn finding_of(forbids: bool) -> Finding
+    ensures { result ≡ finding_of forbids }
+{
+    if forbids {
+        Finding::Forbids
+    } else {
+        Finding::Passes
+    }
+}
+
+fn standing(same: bool) -> Finding
+    ensures { result ≡ standing same }
+{
+    if same {
+        Finding::Repeats
+    } else {
+        Finding::Forbids
+    }
+}
+
+/// What stands under the token.
+fn token_finding(facts: &Facts, action: &Action) -> Finding
+    ensures { (world : World) → Tells Rule.TokenTaken facts.now world action.now → IsFinding result (Sentence Rule.TokenTaken world facts.now.caller action.now 0) (SameContent world facts.now.caller action.now) }
+{
+    match &facts.caller {
+        Some(_) => token_finding_of_caller(facts, action),
+        None => Finding::Passes,
+    }
+}
+
+fn token_finding_of_caller(facts: &Facts, action: &Action) -> Finding
+    requires { IsSome facts.now.caller }
+    ensures { (world : World) → Tells Rule.TokenTaken facts.now world action.now → IsFinding result (Sentence Rule.TokenTaken world facts.now.caller action.now 0) (SameContent world facts.now.caller action.now) }
+{
+    match action {
+        Action::Submit { answer, .. } => match &facts.answer {
+            Some(row) => standing(row.answer.is_same(answer)),
+            None => Finding::Passes,
+        },
+        Action::Protest { number, text, .. } => match &facts.protest {
+            Some(row) => standing(row.number == *number && row.text.is_same(text)),
+            None => Finding::Passes,
+        },
+        _ => Finding::Passes,
+    }
+}
+
+/// How the protest was ruled before.
+fn ruling_finding(facts: &Facts, action: &Action) -> Finding
+    ensures { (world : World) → Tells Rule.RuledOtherwise facts.now world action.now → IsFinding result (Sentence Rule.RuledOtherwise world facts.now.caller action.now 0) (SameRuling world action.now) }
+{
+    match action {
+        Action::Rule { ruling, .. } => match &facts.protest {
+            Some(row) => match &row.ruling {
+                Some(given) => standing(*given == *ruling),
+                None => Finding::Passes,
+            },
+            None => Finding::Passes,
+        },
+        _ => Finding::Passes,
+    }
+}
+
+fn is_at_limit(facts: &Facts, action: &Action) -> bool
+    ensures { (world : World) → Tells Rule.LimitReached facts.now world action.now → (IsTrue result ↔ IsAtLimit world facts.now.caller action.now) }
+{
+    match action {
+        Action::Submit { .. } => facts.caller.is_some() && facts.count >= 50,
+        Action::Protest { .. } => facts.caller.is_some() && facts.count >= 5,
+        Action::PutPuzzle { .. } => facts.puzzle.is_none() && facts.count >= 500,
+        _ => false,
+    }
+}
+
+fn check_rule(rule: Rule, facts: &Facts, action: &Action, t: Moment) -> Finding
+    ensures tells { (world : World) → Tells rule facts.now world action.now → IsFinding result (Sentence rule world facts.now.caller action.now t) (SameBefore rule world facts.now.caller action.now) }
+    ensures repeats { result ≡ Finding.Repeats → (rule ≡ Rule.TokenTaken) ⊎ (rule ≡ Rule.RuledOtherwise) }
+{
+    match rule {
+        Rule::UnknownKey => finding_of(facts.caller.is_none()),
+        Rule::NoRole => finding_of(lacks_role(facts, action)),
+        Rule::OtherAuthor => finding_of(names_other_author(facts, action)),
+        Rule::Missing => finding_of(is_missing(facts, action)),
+        Rule::OwnPuzzle => finding_of(is_own_puzzle(facts, action)),
+        Rule::TokenTaken => token_finding(facts, action),
+        Rule::NotStarted => finding_of(is_before_start(facts, action, t)),
+        Rule::Ended => finding_of(is_after_end(facts, action, t)),
+        Rule::NotEnded => finding_of(is_before_end(facts, action, t)),
+        Rule::Closed => finding_of(is_after_close(facts, action, t)),
+        Rule::InReleasedRound => finding_of(facts.in_released),
+        Rule::NotCertified => finding_of(facts.uncertified),
+        Rule::NoDraft => finding_of(is_no_draft(facts, action)),
+        Rule::Started => finding_of(is_after_start(facts, action, t)),
+        Rule::Published => finding_of(is_published(facts, action)),
+        Rule::OpenProtest => finding_of(facts.open_protest),
+        Rule::Involved => finding_of(facts.involved),
+        Rule::RuledOtherwise => ruling_finding(facts, action),
+        Rule::LimitReached => finding_of(is_at_limit(facts, action)),
+        Rule::ListConflict => finding_of(facts.conflict),
+    }
+}
+
+/// The first rule that forbids or repeats, of those asked of the action.
+pub fn decide(facts: &Facts, action: &Action, t: Moment) -> Decision
+    ensures { (world : World) → TrueUpTo (deciding action.now result) facts.now world action.now → First world facts.now.caller action.now t result }
+{
+    for rule in rules_asked(action) {
+        match check_rule(*rule, facts, action, t) {
+            Finding::Forbids => return Decision::Deny(rule.number()),
+            Finding::Repeats => return Decision::Repeat,
+            Finding::Passes => {}
+        }
+    }
+    Decision::Allow
+}

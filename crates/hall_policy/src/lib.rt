@@ -1,0 +1,32 @@
+//! The hall's records, its policy, and which of its rules decides a request.
+#![tactic(auto)]
+
+mod asked;
+mod decision;
+mod facts;
+mod list;
+mod number;
+mod record;
+mod request;
+mod rule;
+mod text;
+
+pub use decision::decide;
+pub use facts::Facts;
+pub use list::{Entries, People};
+pub use number::{
+    AnswerNumber, Bonus, Budget, Minutes, Moment, Penalty, Points, ProtestMinutes, PuzzleNumber,
+    RulingPoints, Within,
+};
+pub use record::{
+    AnswerKey, AnswerRow, Entry, Mode, Person, PlaceKey, ProtestKey, ProtestRow, PuzzleKey,
+    PuzzleRow, PuzzleState, Roles, Round, RoundRow, Ruling,
+};
+pub use request::{Action, Request, Sheet};
+pub use rule::{Decision, Rule};
+pub use text::{
+    AnswerText, Checked, Key, Label, Name, ProtestText, PuzzleText, RoundId, TextKind, Title, Token,
+};
+
+#[cfg(test)]
+mod tests;

@@ -1,0 +1,88 @@
+//! The rules of the policy, and what they decide.
+ghost use Rattle.std.specs.Prelude.{◌≡◌, ◌≤◌};
+ghost use Rattle.hall_policy.specs.Actions.{number_of};
+
+/// The rules, in the order of their numbers.
+#[derive(Clone, Copy, Debug, PartialEq, Eq)]
+pub enum Rule {
+    /// The key is unknown.
+    UnknownKey,
+    /// No role of the caller allows the action.
+    NoRole,
+    /// A caller who is no director names another author.
+    OtherAuthor,
+    /// The object isn't there.
+    Missing,
+    /// The caller is an entrant and author of a puzzle of the round.
+    OwnPuzzle,
+    /// The token stands with other content.
+    TokenTaken,
+    /// Before the start; not asked of a director.
+    NotStarted,
+    /// At or after the end.
+    Ended,
+    /// Before the end; for Publish, before the close.
+    NotEnded,
+    /// At or after the close.
+    Closed,
+    /// The puzzle stands in a released round; for Release, a puzzle of the round stands in another released round.
+    InReleasedRound,
+    /// A puzzle of the round isn't in state one.
+    NotCertified,
+    /// The round is there and is no draft.
+    NoDraft,
+    /// At or after the start.
+    Started,
+    /// Published already; for Table, not published yet.
+    Published,
+    /// A protest of the round is open.
+    OpenProtest,
+    /// The caller has an answer in the round or made the protest.
+    Involved,
+    /// The protest is ruled otherwise already.
+    RuledOtherwise,
+    /// 50 answers of the caller to the puzzle in the round; 5 protests of the caller in the round; 500 puzzles of the author.
+    LimitReached,
+    /// The list gives a known name another key or other roles, or gives a key of another person, or joins director and entrant.
+    ListConflict,
+}
+
+impl Rule {
+    /// The number by which a denial names the rule.
+    pub fn number(self) -> u8
+        ensures { result ≡ number_of self }
+    {
+        match self {
+            Rule::UnknownKey => 1,
+            Rule::NoRole => 2,
+            Rule::OtherAuthor => 3,
+            Rule::Missing => 4,
+            Rule::OwnPuzzle => 5,
+            Rule::TokenTaken => 6,
+            Rule::NotStarted => 7,
+            Rule::Ended => 8,
+            Rule::NotEnded => 9,
+            Rule::Closed => 10,
+            Rule::InReleasedRound => 11,
+            Rule::NotCertified => 12,
+            Rule::NoDraft => 13,
+            Rule::Started => 14,
+            Rule::Published => 15,
+            Rule::OpenProtest => 16,
+            Rule::Involved => 17,
+            Rule::RuledOtherwise => 18,
+            Rule::LimitReached => 19,
+            Rule::ListConflict => 20,
+        }
+    }
+}
+
+/// What is decided of a request.
+#[derive(Clone, Copy, Debug, PartialEq, Eq)]
+pub enum Decision {
+    Allow,
+    /// What is asked was done before.
+    Repeat,
+    /// The number of the first rule that forbids it.
+    Deny(u8),
+}
