@@ -81,13 +81,13 @@ reads_none text d other =
 pub number_writes : (text : List ℕ) (n : ℕ) → number_in text ≡ Some n → (text ≡ decimal n) × (n < 2 ^ 64)
 number_writes text n e =
     elim (cases_Bool (is_decimal text && nat_lt (digits_value 10 text) (2 ^ 64))) [
-      inl t ↦
-        let (d, s) = and_parts _ _ t in
-        let small = ltb-true _ _ s in
-        let got : digits_value 10 text ≡ n = let both : Some (digits_value 10 text) ≡ Some n = sym (reads text d small) ∙ e in cc in
-        let written : decimal (digits_value 10 text) ≡ text = decimal-digits_value own text (decimal_digits text d) (decimal_some text d) (decimal_zero text d) small in
-        (sym written ∙ ap decimal got, rw got at small)
-    | inr f ↦ absurd (let none = rw f at e in cc)
+      | inl t ↦
+          let (d, s) = and_parts _ _ t in
+          let small = ltb-true _ _ s in
+          let got : digits_value 10 text ≡ n = let both : Some (digits_value 10 text) ≡ Some n = sym (reads text d small) ∙ e in cc in
+          let written : decimal (digits_value 10 text) ≡ text = decimal-digits_value own text (decimal_digits text d) (decimal_some text d) (decimal_zero text d) small in
+          (sym written ∙ ap decimal got, rw got at small)
+      | inr f ↦ absurd (let none = rw f at e in cc)
     ]
 
 -- the decimal of a number is one
@@ -95,10 +95,10 @@ pub is_decimal_of : (n : ℕ) → n < 2 ^ 64 → is_decimal (decimal n) ≡ true
 is_decimal_of n small =
     let some = decimal_nonempty n small in
     let begins : (length (decimal n) == 1 || not (slice_index (decimal n) 0 == 48)) ≡ true =
-      elim (cases_lt n 10) [
-        inl one ↦ or_left _ _ (eq-eqb (length (decimal n)) 1 (ap length (decimal_digit n one)))
+    elim (cases_lt n 10) [
+      | inl one ↦ or_left _ _ (eq-eqb (length (decimal n)) 1 (ap length (decimal_digit n one)))
       | inr more ↦ or_right _ _ (not_from_false _ (ne_eqb (slice_index (decimal n) 0) 48 (λ z. let above : 48 < get_or (decimal n) 0 0 = first_decimal n (omega arith) small in absurd (omega arith))))
-      ] in
+    ] in
     and_from _ _ (and_from _ _ (not_from_false _ (ne_eqb (length (decimal n)) 0 (λ z. absurd (omega arith)))) (digits_decimal own n small)) begins
 
 -- the decimal of a number reads as it

@@ -61,15 +61,15 @@ puzzle_data p = object (number_member (codes "number") p.number (number_member (
 -- the round's members in the order of their names, the last being its title
 abbrev pub round_data : ShownRound → Data
 round_data r = object (
-  number_member (codes "bonus") r.bonus (
-  text_member (codes "id") r.id (
-  number_member (codes "minutes") r.minutes (
-  text_member (codes "mode") (mode_text r.mode) (
-  number_member (codes "penalty") r.penalty (
-  number_member (codes "protest_minutes") r.protest_minutes (
-  member (codes "puzzles") (array (items_of (map puzzle_data r.puzzles))) (
-  number_member (codes "start") r.start (
-  text_member (codes "title") r.title no_members)))))))))
+    number_member (codes "bonus") r.bonus (
+    text_member (codes "id") r.id (
+    number_member (codes "minutes") r.minutes (
+    text_member (codes "mode") (mode_text r.mode) (
+    number_member (codes "penalty") r.penalty (
+    number_member (codes "protest_minutes") r.protest_minutes (
+    member (codes "puzzles") (array (items_of (map puzzle_data r.puzzles))) (
+    number_member (codes "start") r.start (
+    text_member (codes "title") r.title no_members)))))))))
 
 -- the verdict's member, where a verdict is told
 abbrev pub verdict_member : Option ℕ → Members
@@ -83,13 +83,13 @@ received_data n verdict = object (number_member (codes "received") n (verdict_me
 -- an answer's members in the order of their names, the last being its verdict
 abbrev pub answer_data : AnswerLine → Data
 answer_data a = object (
-  text_member (codes "answer") a.answer (
-  text_member (codes "entrant") a.entrant (
-  number_member (codes "moment") a.moment (
-  number_member (codes "n") a.n (
-  number_member (codes "number") a.number (
-  text_member (codes "token") a.token (
-  verdict_member a.verdict)))))))
+    text_member (codes "answer") a.answer (
+    text_member (codes "entrant") a.entrant (
+    number_member (codes "moment") a.moment (
+    number_member (codes "n") a.n (
+    number_member (codes "number") a.number (
+    text_member (codes "token") a.token (
+    verdict_member a.verdict)))))))
 
 -- {"answers":[A,..]}
 abbrev pub answers_data : List AnswerLine → Data

@@ -62,7 +62,11 @@ fn reply_status(reply: &Reply) -> Status
 fn denied_status(rule: u8) -> Status
     ensures { result ≡ denied_status rule }
 {
-    if rule == 4 { Status::NotFound } else { Status::Forbidden }
+    if rule == 4 {
+        Status::NotFound
+    } else {
+        Status::Forbidden
+    }
 }
 
 /// The status for bytes that are no request.

@@ -40,7 +40,11 @@ pub fn route_of(alloc: Global, method: &[u8], path: &[u8]) -> Result<Route, Requ
 fn expect_method(method: &[u8], name: &[u8]) -> Result<(), RequestFault>
     ensures { Gives (λ r. r) result (is_method name.now method.now) }
 {
-    if method == name { Ok(()) } else { Err(NO_ROUTE) }
+    if method == name {
+        Ok(())
+    } else {
+        Err(NO_ROUTE)
+    }
 }
 
 fn puzzle_route(alloc: Global, method: &[u8], rest: &[u8]) -> Result<Route, RequestFault>

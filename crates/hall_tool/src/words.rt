@@ -10,7 +10,7 @@ use hall_policy::{Checked, TextKind};
 use std::alloc::Global;
 
 /// Where the first such byte stands.
-fn place_of(text: &[u8], mark: u8) -> Option<usize>
+pub fn place_of(text: &[u8], mark: u8) -> Option<usize>
     ensures { result ≡ position (λ byte. byte == mark) text.now }
 {
     text.iter().position(|byte| *byte == mark)
