@@ -1,17 +1,20 @@
 -- What the loop of a replay keeps, and how each of its ends follows.
 use Rattle.std.proofs.Common.{◌≡◌, ◌≢◌, ◌∙◌, sym, ap, subst, refl, arith, ℕ, zero, suc, ◌+◌, ◌<◌, ◌≤◌, ◌⊎◌, inl, inr, List, [], ◌∷◌, ◌++◌, length, take, drop, Option, Some, None, append_assoc, length-append, flat_map}
-use Rattle.std.specs.Prelude.{Result, Ok, Err, Bool, true, false}
+use Rattle.std.specs.Prelude.{Result, Ok, Err, Bool, true, false, MatchResult}
 use Rattle.std.proofs.lemmas.List.{append-nil, take-append-drop, take_at}
 use Rattle.std.proofs.Math.Seq.{take-append-add}
 use Rattle.std.proofs.lemmas.List.Concat.{flat_map-append}
 use Rattle.std.proofs.KnownBytes.{Appends-nil, Appends-trans, Consumes-nil, Consumes-trans}
 use Rattle.std.specs.Io.KnownBytes.{Appends, Consumes, IsAtEnd}
 use Rattle.hall_grid.specs.Device.{HasFailed}
+use Rattle.std.specs.Prelude.{All}
+use Rattle.std.proofs.lemmas.List.Elements.{All-nil, All-cons}
+use Rattle.hall_desk.specs.Run.{Run}
 use Rattle.hall_policy.specs.World.{World}
 use Rattle.hall_tool.specs.declared.session.ReplayFault.{ReplayFault}
 use Rattle.hall_tool.specs.declared.session.ReplayFault.TheVariants as fault
 use Rattle.hall_tool.specs.Records.{Record, IsRecord, record_bytes, header_of, HasNoRecord, NeverHasRecord, IsCut, bytes_between}
-use Rattle.hall_tool.specs.Replay.{Exchange, Exchanged, Answers, Session, records_of, lines_of, LacksRecord, Ended, IsReplayed, ReadsMore}
+use Rattle.hall_tool.specs.Replay.{Exchange, Exchanged, Answers, Session, records_of, lines_of, IsRunOver, LacksRecord, Ended, IsReplayed, ReadsMore}
 
 records_more : (xs : List Exchange) (x : Exchange) → records_of (xs ++ x ∷ []) ≡ records_of xs ++ record_bytes x.asked
 records_more xs x = flat_map-append (λ x. record_bytes x.asked) xs (x ∷ []) ∙ ap (λ s. records_of xs ++ s) (append-nil (record_bytes x.asked))
@@ -23,6 +26,25 @@ session_more : (a : World) (xs : List Exchange) (b : World) (x : Exchange) (c : 
 session_more a [] b x c same step = (c, subst (λ w. Exchanged w x c) same step, refl)
 session_more a (y ∷ ys) b x c (next, first, rest) step = (next, first, session_more next ys b x c rest step)
 
+-- a session is a run of the hall over its requests
+pub run_over : (old : World) (xs : List Exchange) (new : World) → Session old xs new → IsRunOver old xs new
+run_over old [] new same = record { requests = []; replies = []; run = same; made = (refl, refl) }
+run_over old (x ∷ xs) new (next, (is, inl step), rest) =
+    let run = run_over next xs new rest in
+    record {
+      requests = (x.asked.moment, step.request) ∷ run.requests;
+      replies = step.reply ∷ run.replies;
+      run = (next, step.step, run.run);
+      made = inr ((x.asked.moment, step.request), step.reply, run.requests, run.replies, refl, refl, record { moment = refl; reads = step.reads; written = step.written }, run.made);
+    }
+run_over old (x ∷ xs) new (next, (is, inr (other, same)), rest) =
+    let run = run_over next xs new rest in
+    record { requests = run.requests; replies = run.replies; run = subst (λ w. Run w run.requests run.replies new) same run.run; made = inl (other, run.made) }
+
+pub all_records : (old : World) (xs : List Exchange) (new : World) → Session old xs new → All (λ x. IsRecord x.asked) xs
+all_records old [] new same = All-nil (λ x. IsRecord x.asked)
+all_records old (x ∷ xs) new (next, step, rest) = All-cons (λ x. IsRecord x.asked) x xs step.0 (all_records next xs new rest)
+
 -- a whole record is at least a byte
 pub some_record : (bytes : List ℕ) (r : Record) (start end : ℕ) → IsCut bytes r start end → 0 < end
 some_record bytes r start zero h = absurd (let z : length (take 0 bytes) ≡ length (record_bytes r) = ap length h.whole in omega (arith, length-append (header_of r.moment (length r.request)) (10 ∷ r.request)))
@@ -33,6 +55,9 @@ pub never_nil : NeverHasRecord [] → ⊥
 never_nil h =
     let r : Record = record { moment = 0; request = [] } in
     h (record_bytes r) r [] (record { moment = omega arith; size = omega arith }) (sym (append-nil (record_bytes r)))
+
+pub not_nil : (xs : List ℕ) → 0 < length xs → xs ≢ []
+not_nil xs some e = let z : length xs ≡ 0 = ap length e in omega arith
 
 -- after some turns: the records answered, and what was read after them
 pub record Kept (stream after wrote written : Option (List ℕ)) (old new : World) (inbox : List ℕ) (reads : ℕ) : Type 0 where
@@ -82,7 +107,7 @@ module _ (stream after wrote written : Option (List ℕ)) (old new : World) (inb
         let front : lines_of kept.done ++ take k line ≡ take (length (lines_of kept.done) + k) (lines_of (kept.done ++ x ∷ [])) =
           sym (ap (take (length (lines_of kept.done) + k)) (lines_more kept.done x) ∙ take-append-add (lines_of kept.done) line k) in
         record {
-          answered = kept.done ++ x ∷ []; unread = drop end inbox; session = longer; consumed = rw same_bytes kept.consumed;
+          answered = kept.done ++ x ∷ []; unread = drop end inbox; whole = all_records old (kept.done ++ x ∷ []) next longer; run = run_over old (kept.done ++ x ∷ []) next longer; consumed = rw same_bytes kept.consumed;
           ended = (length (lines_of kept.done) + k, subst (λ s. Appends wrote then s) front (Appends-trans wrote written then (lines_of kept.done) (take k line) kept.replied sent), rose);
         }
 
@@ -92,26 +117,26 @@ module _ (stream after wrote written : Option (List ℕ)) (old new : World) (inb
   module _ {U : Type 0} (failed : Type 0) where
     pub unread_device : (then : Option (List ℕ)) → Consumes after then [] → failed → IsReplayed {U = U} stream then wrote written old new failed (Err fault.Device)
     unread_device then none rose = record {
-      answered = kept.done; unread = inbox; session = kept.session;
+      answered = kept.done; unread = inbox; whole = all_records old kept.done new kept.session; run = run_over old kept.done new kept.session;
       consumed = still then none;
       ended = (length (lines_of kept.done), subst (λ s. Appends wrote written s) (sym (let whole = append-nil (lines_of kept.done) in ap (take (length (lines_of kept.done))) (sym whole) ∙ take_at (lines_of kept.done) [] _ refl)) kept.replied, rose);
     }
 
     pub no_memory : (then : Option (List ℕ)) (piece : List ℕ) → Consumes after then piece → IsReplayed {U = U} stream then wrote written old new failed (Err fault.Memory)
     no_memory then piece more = record {
-      answered = kept.done; unread = inbox ++ piece; session = kept.session;
+      answered = kept.done; unread = inbox ++ piece; whole = all_records old kept.done new kept.session; run = run_over old kept.done new kept.session;
       consumed = subst (λ s. Consumes stream then s) (append_assoc (records_of kept.done) inbox piece) (Consumes-trans stream after then (records_of kept.done ++ inbox) piece kept.consumed more);
       ended = kept.replied;
     }
 
     pub finished : (u : U) (then : Option (List ℕ)) → Consumes after then [] → IsAtEnd then → inbox ≡ [] → IsReplayed {U = U} stream then wrote written old new failed (Ok u)
-    finished u then none over empty = record { answered = kept.done; unread = inbox; session = kept.session; consumed = still then none; ended = (kept.replied, empty, over) }
+    finished u then none over empty = record { answered = kept.done; unread = inbox; whole = all_records old kept.done new kept.session; run = run_over old kept.done new kept.session; consumed = still then none; ended = (kept.replied, empty, over) }
 
     pub no_record : (then : Option (List ℕ)) → Consumes after then [] → LacksRecord then inbox → IsReplayed {U = U} stream then wrote written old new failed (Err fault.Record)
-    no_record then none lacks = record { answered = kept.done; unread = inbox; session = kept.session; consumed = still then none; ended = (kept.replied, inl lacks) }
+    no_record then none lacks = record { answered = kept.done; unread = inbox; whole = all_records old kept.done new kept.session; run = run_over old kept.done new kept.session; consumed = still then none; ended = (kept.replied, inl lacks) }
 
     pub too_many : 1000000000 ≤ reads → IsReplayed {U = U} stream after wrote written old new failed (Err fault.Record)
-    too_many many = record { answered = kept.done; unread = inbox; session = kept.session; consumed = kept.consumed; ended = (kept.replied, inr (omega (arith, kept.pieces))) }
+    too_many many = record { answered = kept.done; unread = inbox; whole = all_records old kept.done new kept.session; run = run_over old kept.done new kept.session; consumed = kept.consumed; ended = (kept.replied, inr (omega (arith, kept.pieces))) }
 
     -- a read was refused
     pub read_refused : (then : Option (List ℕ)) (now : List ℕ) (rf rg : ℕ) (e : ReplayFault) → ReadsMore after then inbox now rf rg (Err e) → (HasFailed rf rg → failed)
@@ -120,9 +145,13 @@ module _ (stream after wrote written : Option (List ℕ)) (old new : World) (inb
     read_refused then now rf rg fault.Memory (piece, more) told = no_memory then piece more
     read_refused then now rf rg fault.Record h told = absurd h
 
+    -- the input is at its end
+    pub at_end : (result : Result U ReplayFault) (then : Option (List ℕ)) (now : List ℕ) (rf rg : ℕ) → ReadsMore after then inbox now rf rg (Ok false) → HasNoRecord inbox
+        → MatchResult result (λ _. now ≡ []) (λ e. (e ≡ fault.Record) × (0 < length now)) → IsReplayed {U = U} stream then wrote written old new failed result
+    at_end (Ok u) then now rf rg (same, none, over, steady) has empty = finished u then none over (sym same ∙ empty)
+    at_end (Err e) then now rf rg (same, none, over, steady) has (is, some) =
+        rw is (no_record then none (not_nil inbox (subst (λ s. 0 < length s) same some), inl (has, over)))
+
     -- no record begins so
     pub never_record : NeverHasRecord inbox → IsReplayed {U = U} stream after wrote written old new failed (Err fault.Record)
     never_record never = no_record after (Consumes-nil after) ((λ e. never_nil (subst NeverHasRecord e never)), inr never)
-
-pub not_nil : (xs : List ℕ) → 0 < length xs → xs ≢ []
-not_nil xs some e = let z : length xs ≡ 0 = ap length e in omega arith

@@ -1,10 +1,11 @@
 -- A replay: records of a stream, answered one after another.
-use Rattle.std.specs.Prelude.{◌≡◌, ◌≢◌, ◌<◌, ◌≤◌, ◌⊎◌, ℕ, List, [], ◌∷◌, ◌++◌, length, take, flat_map, Option, Result, Ok, Err, Bool, true, false, codes, string_bytes}
+use Rattle.std.specs.Prelude.{◌≡◌, ◌≢◌, ◌<◌, ◌≤◌, ◌⊎◌, ℕ, List, [], ◌∷◌, ◌++◌, length, take, flat_map, All, Option, Result, Ok, Err, Bool, true, false, codes, string_bytes}
 use Rattle.std.specs.Io.KnownBytes.{Appends, Consumes, IsAtEnd}
 use Rattle.hall_grid.specs.Device.{HasFailed}
 use Rattle.hall_policy.specs.World.{World}
 use Rattle.hall_policy.specs.declared.request.Request.{Request}
 use Rattle.hall_desk.specs.Step.{Step}
+use Rattle.hall_desk.specs.Run.{Run}
 use Rattle.hall_desk.specs.declared.reply.Reply.{Reply}
 use Rattle.hall_desk.specs.declared.reply.Reply.TheVariants.{Unavailable as NotServed}
 use Rattle.hall_tool.specs.declared.form.FormFault.{FormFault}
@@ -53,6 +54,31 @@ abbrev pub Session : World → List Exchange → World → Type 0
 Session world [] last = last ≡ world
 Session world (x ∷ xs) last = (next : World) × Exchanged world x next × Session next xs last
 
+-- the record's bytes aren't made into a request: they are none, or no memory was left to tell
+abbrev pub IsNotMade : Exchange → Type 0
+IsNotMade x = IsRefused x.asked.request x.line ⊎ BytesOf NotServed x.line
+
+-- the record is this request at its moment, and its line is the reply's
+pub record IsMade (x : Exchange) (request : ℕ × Request) (reply : Reply) : Type 0 where
+  pub moment : request.0 ≡ x.asked.moment
+  pub reads : RequestOf x.asked.request (Ok request.1)
+  pub written : BytesOf reply x.line
+
+-- the records' requests, in their order, and the replies to them, in theirs
+abbrev pub AreMade : List Exchange → List (ℕ × Request) → List Reply → Type 0
+AreMade [] requests replies = (requests ≡ []) × (replies ≡ [])
+AreMade (x ∷ xs) requests replies =
+    (IsNotMade x × AreMade xs requests replies)
+    ⊎ ((request : ℕ × Request) × (reply : Reply) × (later : List (ℕ × Request)) × (rest : List Reply)
+    × (requests ≡ request ∷ later) × (replies ≡ reply ∷ rest) × IsMade x request reply × AreMade xs later rest)
+
+-- the requests of the records have these replies in a run of the hall
+pub record IsRunOver (old : World) (xs : List Exchange) (new : World) : Type 0 where
+  pub requests : List (ℕ × Request)
+  pub replies : List Reply
+  pub run : Run old requests replies new
+  pub made : AreMade xs requests replies
+
 -- the bytes of the records, and those of the lines
 abbrev pub records_of : List Exchange → List ℕ
 records_of xs = flat_map (λ x. record_bytes x.asked) xs
@@ -76,7 +102,8 @@ Ended (Err fault.Memory) after wrote written xs unread failed = Appends wrote wr
 pub record IsReplayed {U : Type 0} (stream after wrote written : Option (List ℕ)) (old new : World) (failed : Type 0) (end : Result U ReplayFault) : Type 0 where
   pub answered : List Exchange
   pub unread : List ℕ
-  pub session : Session old answered new
+  pub whole : All (λ x. IsRecord x.asked) answered
+  pub run : IsRunOver old answered new
   pub consumed : Consumes stream after (records_of answered ++ unread)
   pub ended : Ended end after wrote written answered unread failed
 

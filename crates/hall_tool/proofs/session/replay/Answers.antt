@@ -1,8 +1,8 @@
-use Rattle.std.proofs.Common.{◌≡◌, ◌∙◌, sym, subst, inl, inr, rules, refl, Err, []}
+use Rattle.std.proofs.Common.{◌≡◌, ◌∙◌, sym, subst, inl, inr, rules, refl, arith, Err, []}
 use Rattle.std.proofs.KnownBytes.{Consumes-nil}
 use Rattle.hall_tool.specs.declared.session.ReplayFault.TheVariants as fault
 use Rattle.hall_tool.specs.Replay.{Answers}
-use Rattle.hall_tool.proofs.Turns.{kept_start, kept_answered, unsent, no_memory, read_refused, never_record}
+use Rattle.hall_tool.proofs.Turns.{kept_start, kept_answered, unsent, no_memory, read_refused, never_record, at_end, too_many}
 use Rattle.hall_tool.proofs.session.replay.Goals as goal
 
 pub returns-in_err-inbox : goal.returns-in_err-inbox
@@ -34,3 +34,11 @@ returns-in-Err-read_more g c =
 
 pub returns-in-Never : goal.returns-in-Never
 returns-in-Never g c = never_record _ _ _ _ _ _ _ _ c.records.invariant.kept _ (rw c.as_slice.ensures.value at c.in-Never.ensures)
+
+pub returns-then-reads-eq-READ_LIMIT : goal.returns-then-reads-eq-READ_LIMIT
+returns-then-reads-eq-READ_LIMIT g c = too_many _ _ _ _ _ _ _ _ c.records.invariant.kept _ (omega (arith, c.if-reads-eq-READ_LIMIT.true))
+
+pub returns-in-Ok-false : goal.returns-in-Ok-false
+returns-in-Ok-false g c =
+    let ends = rw c.in-Ok-false.field-0-test at c.in-Ok-false.ensures in
+    at_end _ _ _ _ _ _ _ _ c.records.invariant.kept _ c.end_of_input.result _ c.read_more.new.inbox.items _ _ ends (rw c.as_slice.ensures.value at c.in-More.ensures) (rw c.deref.ensures.value at c.end_of_input.ensures)
