@@ -1,13 +1,13 @@
 -- The reading of a form in the scheme 4Cell, and the table of forms.
-use Rattle.std.proofs.Common.{◌≡◌, ℕ, ◌+◌, ◌-◌, ◌<◌, ◌≤◌, ◌⊎◌, ◌&&◌, Bool, true, false, cond, List, [], ◌∷◌, ◌++◌, length, replicate, Option, Some, None, Result, Ok, Err, refl, sym, ap, ◌∙◌, subst, inl, inr, arith, nat_le, ◌==◌}
+use Rattle.std.proofs.Common.{◌≡◌, ℕ, ◌+◌, ◌≤◌, ◌⊎◌, List, [], ◌∷◌, ◌++◌, replicate, Option, Some, None, Ok, Err, refl, sym, subst, inl, inr, arith, ◌==◌}
 use Rattle.std.proofs.lemmas.Grind.{common_steps}
 use Rattle.std.proofs.lemmas.Bool.Decides.{nat_tests}
 use Rattle.std.proofs.lemmas.Bool.{ne_eqb, eqb-true}
 use Rattle.hall_grid.specs.declared.board.Kind.TheVariants.{Slither}
 use Rattle.hall_grid.specs.declared.board.Clue.{Clue}
-use Rattle.hall_grid.specs.declared.board.Clue.TheVariants.{Blank, Unknown, Number}
+use Rattle.hall_grid.specs.declared.board.Clue.TheVariants.{Blank, Number}
 use Rattle.hall_grid.specs.declared.form.FormFault.{FormFault}
-use Rattle.hall_grid.specs.declared.form.FormFault.TheVariants.{Strange, Cut}
+use Rattle.hall_grid.specs.declared.form.FormFault.TheVariants.{Strange}
 use Rattle.hall_grid.specs.Body.{IsRun, Form, one, two, three, alone, before_one, before_two, some_count, run, BeginsNone}
 use Rattle.hall_grid.specs.FormReading.{run_value, cell4_value, cell4_form, cell4_short}
 use Rattle.hall_grid.proofs.Number16.{Reads, chosen, ok_is, run_again, run_is}

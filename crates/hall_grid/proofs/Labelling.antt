@@ -109,7 +109,7 @@ if_some None true e h = absurd (cc)
 if_some None false e h = absurd (cc)
 
 -- the places up to an index and the place there
-more_place : (places : List (Option ℕ)) (i : ℕ) (d x : Option ℕ) → i < length places → Contains (take (i + 1) places) x
+pub more_place : (places : List (Option ℕ)) (i : ℕ) (d x : Option ℕ) → i < length places → Contains (take (i + 1) places) x
     → Contains (take i places) x ⊎ (get_or places i d ≡ x)
 more_place places i d x h k = Contains-push_cases (take i places) (get_or places i d) x (subst (λ l. Contains l x) (take_more places i d h) k)
 

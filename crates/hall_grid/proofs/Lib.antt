@@ -21,3 +21,6 @@ pub mod Values
 pub mod OneFault
 pub mod OneReading
 pub mod TextRows
+pub mod EveryText
+pub mod EveryPuzzle
+pub mod Plain

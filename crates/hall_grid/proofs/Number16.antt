@@ -1,19 +1,16 @@
 -- The reading of a form in the scheme Number16, and the table of forms.
-use Rattle.std.proofs.Common.{◌≡◌, ℕ, ◌+◌, ◌-◌, ◌*◌, ◌<◌, ◌≤◌, ◌⊎◌, ◌&&◌, Bool, true, false, cond, List, [], ◌∷◌, ◌++◌, length, replicate, Option, Some, None, Result, Ok, Err, refl, sym, ap, ◌∙◌, subst, inl, inr, arith, nat_le, nat_lt, ◌==◌}
+use Rattle.std.proofs.Common.{◌≡◌, ℕ, ◌+◌, ◌*◌, ◌⊎◌, ◌&&◌, Bool, true, false, cond, List, [], ◌∷◌, ◌++◌, Option, Some, None, Result, Ok, Err, refl, sym, ap, subst, inl, inr, arith, ◌==◌}
 use Rattle.std.proofs.lemmas.Grind.{common_steps}
 use Rattle.std.proofs.lemmas.Bool.Decides.{nat_tests}
-use Rattle.std.proofs.lemmas.Bool.{ne_eqb, eqb-true, eqb-false}
+use Rattle.std.proofs.lemmas.Bool.{ne_eqb, eqb-true}
 use Rattle.hall_grid.specs.declared.board.Kind.{Kind}
 use Rattle.hall_grid.specs.declared.board.Kind.TheVariants.{Sudoku, Slither, Nurikabe}
 use Rattle.hall_grid.specs.declared.board.Clue.{Clue}
-use Rattle.hall_grid.specs.declared.board.Clue.TheVariants.{Blank, Unknown, Number}
+use Rattle.hall_grid.specs.declared.board.Clue.TheVariants.{Unknown, Number}
 use Rattle.hall_grid.specs.declared.form.FormFault.{FormFault}
 use Rattle.hall_grid.specs.declared.form.FormFault.TheVariants.{Strange, Cut}
-use Rattle.hall_grid.specs.declared.board.Size.{Size}
-use Rattle.std.specs.Prelude.{All}
-use Rattle.hall_grid.specs.Board.{IsClue}
-use Rattle.hall_grid.specs.Body.{Piece, TakesForm, HasWrong, IsDigit, IsHexDigit, IsRun, HasNumber16, Form, one, two, three, some_number, alone, before_one, before_two, some_count, run, BeginsNone, BeginsLong, HasNone}
-use Rattle.hall_grid.specs.FormReading.{hex_value, run_value, two_at, three_at, number16_form, short_form, long_form, run_form, is_nurikabe, ◌>>=◌}
+use Rattle.hall_grid.specs.Body.{IsHexDigit, IsRun, HasNumber16, Form, one, two, three, some_number, alone, before_one, before_two, some_count, run, BeginsNone, BeginsLong}
+use Rattle.hall_grid.specs.FormReading.{hex_value, run_value, two_at, three_at, number16_form, short_form, long_form, is_nurikabe, ◌>>=◌}
 
 -- a digit is read as itself
 hex_again : (b n : ℕ) → IsHexDigit b n → hex_value b ≡ Some n

@@ -1,14 +1,13 @@
 -- A text spells one puzzle, or has one fault.
-use Rattle.std.proofs.Common.{◌≡◌, ℕ, ◌+◌, ◌*◌, ◌⊎◌, List, [], ◌∷◌, get_or, Some, None, refl, sym, ap, ◌∙◌, subst, inl, inr, arith}
+use Rattle.std.proofs.Common.{◌≡◌, ℕ, ◌⊎◌, List, [], ◌∷◌, get_or, refl, sym, ap, ◌∙◌, subst, inl, inr, arith}
 use Rattle.hall_grid.specs.declared.board.Size.{Size}
 use Rattle.hall_grid.specs.declared.board.Kind.{Kind}
 use Rattle.hall_grid.specs.declared.board.Kind.TheVariants.{Sudoku, Slither, Nurikabe}
-use Rattle.hall_grid.specs.declared.board.Clue.{Clue}
 use Rattle.hall_grid.specs.declared.fault.TextFault.{TextFault}
 use Rattle.hall_grid.specs.declared.fault.TextFault.TheVariants as faults
 use Rattle.hall_grid.specs.Board.{Board, HasSize}
 use Rattle.hall_grid.specs.Body.{Spells, FaultAt}
-use Rattle.hall_grid.specs.Text.{bare, IsBare, IsSide, IsNoSide, word_of, word_field, cols_field, rows_field, body_of, Heads, SpellsText, HasNoKind, HasNoSide, HasNoLimit, HasBodyFault, FaultOf}
+use Rattle.hall_grid.specs.Text.{IsBare, IsSide, word_of, word_field, cols_field, rows_field, body_of, Heads, SpellsText, HasNoKind, HasNoSide, HasNoLimit, HasBodyFault, FaultOf}
 use Rattle.hall_grid.proofs.Number16.{some_is}
 use Rattle.hall_grid.proofs.Unique.{one_spelling, no_fault}
 use Rattle.hall_grid.proofs.OneFault.{one_fault}

@@ -1,10 +1,10 @@
 -- What is canonical spells its puzzle.
-use Rattle.std.proofs.Common.{◌≡◌, ℕ, zero, suc, ◌+◌, ◌-◌, ◌*◌, ◌/◌, ◌%◌, ◌<◌, ◌≤◌, ◌⊎◌, ◌&&◌, Bool, true, false, List, [], ◌∷◌, ◌++◌, length, get_or, take, drop, Option, Some, None, refl, sym, ap, ◌∙◌, subst, inl, inr, arith, nat_eq, ◌==◌, append_assoc, decimal}
+use Rattle.std.proofs.Common.{◌≡◌, ℕ, ◌+◌, ◌-◌, ◌/◌, ◌%◌, ◌<◌, ◌≤◌, false, List, [], ◌∷◌, ◌++◌, length, get_or, drop, refl, sym, ap, ◌∙◌, subst, inl, inr, arith, nat_eq, append_assoc, decimal}
 use Rattle.std.specs.Prelude.{All}
 use Rattle.std.specs.List.{position_or_len, before_first, after_first, ends_with}
 use Rattle.std.specs.Cmp.Lexicographic.{pointwise}
 use Rattle.std.proofs.lemmas.Bool.{cases_lt, ne_eqb, eqb-false, cond-false}
-use Rattle.std.proofs.lemmas.List.{append-nil, length-append, get_or_append_left, get_or_at, take_at, drop_at, drop_more, drop_all}
+use Rattle.std.proofs.lemmas.List.{length-append, get_or_append_left, get_or_at, take_at, drop_at, drop_more, drop_all}
 use Rattle.std.proofs.lemmas.List.Elements.{All-nil, All-cons, All-append, All-get_or, All-same}
 use Rattle.std.proofs.lemmas.List.Sums.{position_or_len_is}
 use Rattle.std.proofs.lemmas.Fmt.{decimal_digit, decimal_step}
@@ -12,9 +12,9 @@ use Rattle.hall_grid.specs.declared.board.Size.{Size}
 use Rattle.hall_grid.specs.declared.board.Kind.{Kind}
 use Rattle.hall_grid.specs.declared.board.Kind.TheVariants.{Sudoku, Slither, Nurikabe}
 use Rattle.hall_grid.specs.declared.board.Clue.{Clue}
-use Rattle.hall_grid.specs.Board.{Board, IsBoard, cells, HasSize}
-use Rattle.hall_grid.specs.Body.{IsDigit, IsHexDigit, IsRun, Form, one, two, three, some_number, alone, before_one, before_two, some_count, run, Piece, IsChain, bytes_of, Spells}
-use Rattle.hall_grid.specs.Text.{is_slash, has_address, word_of, word_field, cols_field, rows_field, rest_field, without_final_slash, body_of, IsSide, IsBare, Heads, SpellsText}
+use Rattle.hall_grid.specs.Board.{Board, HasSize}
+use Rattle.hall_grid.specs.Body.{IsHexDigit, Form, one, two, three, some_number, alone, before_one, before_two, some_count, run, Piece, IsChain, bytes_of, Spells}
+use Rattle.hall_grid.specs.Text.{is_slash, word_of, rest_field, without_final_slash, body_of, IsSide, IsBare, Heads, SpellsText}
 use Rattle.hall_grid.specs.Canonical.{Canonical, CanonicalText, head_of}
 
 -- no byte is a slash
@@ -90,13 +90,13 @@ side_is n some few =
     ]
 
 -- the sides of a board are small
-record HasSmallSides (size : Size) : Type 0 where
-  some_cols : 1 ≤ size.cols
-  few_cols : size.cols ≤ 50
-  some_rows : 1 ≤ size.rows
-  few_rows : size.rows ≤ 50
+pub record HasSmallSides (size : Size) : Type 0 where
+  pub some_cols : 1 ≤ size.cols
+  pub few_cols : size.cols ≤ 50
+  pub some_rows : 1 ≤ size.rows
+  pub few_rows : size.rows ≤ 50
 
-small_sides : (kind : Kind) (size : Size) → HasSize kind size → HasSmallSides size
+pub small_sides : (kind : Kind) (size : Size) → HasSize kind size → HasSmallSides size
 small_sides Sudoku size (e, inl side) = record { some_cols = omega arith; few_cols = omega arith; some_rows = omega arith; few_rows = omega arith }
 small_sides Sudoku size (e, inr (inl side)) = record { some_cols = omega arith; few_cols = omega arith; some_rows = omega arith; few_rows = omega arith }
 small_sides Sudoku size (e, inr (inr (inl side))) = record { some_cols = omega arith; few_cols = omega arith; some_rows = omega arith; few_rows = omega arith }

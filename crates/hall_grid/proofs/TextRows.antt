@@ -1,21 +1,20 @@
 -- Worked texts, against the definitions.
-use Rattle.std.proofs.Common.{◌≡◌, ◌+◌, ◌<◌, ◌≤◌, ◌⊎◌, ℕ, zero, suc, List, [], ◌∷◌, ◌++◌, length, get_or, replicate, Some, None, refl, sym, ap, ◌∙◌, inl, inr, arith}
+use Rattle.std.proofs.Common.{◌≡◌, ◌+◌, ◌<◌, ◌≤◌, ℕ, zero, suc, List, [], ◌∷◌, length, get_or, replicate, refl, ap, inl, inr, arith}
 use Rattle.std.specs.Prelude.{codes, All}
-use Rattle.std.specs.Fmt.{digits}
 use Rattle.std.proofs.lemmas.Fmt.{decimal_digit}
-use Rattle.std.proofs.lemmas.List.Elements.{All-nil, All-cons, All-head, All-replicate}
+use Rattle.std.proofs.lemmas.List.Elements.{All-cons, All-head, All-replicate}
 use Rattle.hall_grid.specs.declared.board.Size.{Size}
 use Rattle.hall_grid.specs.declared.board.Kind.{Kind}
 use Rattle.hall_grid.specs.declared.board.Kind.TheVariants.{Sudoku, Slither, Nurikabe}
 use Rattle.hall_grid.specs.declared.board.Clue.{Clue}
-use Rattle.hall_grid.specs.declared.board.Clue.TheVariants.{Blank, Unknown, Number}
+use Rattle.hall_grid.specs.declared.board.Clue.TheVariants.{Blank, Number}
 use Rattle.hall_grid.specs.declared.fault.TextFault.{TextFault}
 use Rattle.hall_grid.specs.declared.fault.TextFault.TheVariants as faults
 use Rattle.hall_grid.specs.Board.{Board, IsBoard, IsClue, HasSize, of_parts}
-use Rattle.hall_grid.specs.Body.{Piece, IsPiece, Form, one, two, three, some_number, alone, before_one, before_two, some_count, run, Spells, FaultAt, HasPlace, IsWrong}
+use Rattle.hall_grid.specs.Body.{Piece, IsPiece, Form, one, alone, before_two, run, FaultAt, HasPlace, IsWrong}
 use Rattle.hall_grid.specs.FormReading.{number16_form, cell4_form}
-use Rattle.hall_grid.specs.Text.{word_of, word_field, Heads, SpellsText, FaultOf}
-use Rattle.hall_grid.specs.Canonical.{IsFull, Canonical, CanonicalText}
+use Rattle.hall_grid.specs.Text.{word_of, word_field, SpellsText, FaultOf}
+use Rattle.hall_grid.specs.Canonical.{IsFull, CanonicalText}
 use Rattle.hall_grid.proofs.Forms.{is_strange, is_cut}
 use Rattle.hall_grid.proofs.Bodies.{IsBoard-from_Spells}
 use Rattle.hall_grid.proofs.Unique.{some_bytes}

@@ -1,16 +1,14 @@
 -- The writer's loop: the forms so far, and the canonical body.
-use Rattle.std.proofs.Common.{◌≡◌, ℕ, zero, suc, ◌+◌, ◌-◌, ◌*◌, ◌<◌, ◌≤◌, ◌⊎◌, List, [], ◌∷◌, ◌++◌, length, get_or, take, replicate, Option, Some, None, refl, sym, ap, ◌∙◌, subst, inl, inr, arith, append_assoc, add-zero}
-use Rattle.std.specs.Prelude.{All}
+use Rattle.std.proofs.Common.{◌≡◌, ℕ, ◌+◌, ◌-◌, ◌<◌, ◌≤◌, List, [], ◌∷◌, ◌++◌, length, get_or, take, refl, sym, ap, ◌∙◌, subst, inl, inr, arith, append_assoc, add-zero}
 use Rattle.std.proofs.lemmas.Bool.{cases_lt}
 use Rattle.std.proofs.lemmas.List.{append-nil, length-append, length-take-le, get_or-take, get_or_append_left, get_or-append_right, ext_get_or}
-use Rattle.hall_grid.specs.declared.board.Size.{Size}
 use Rattle.hall_grid.specs.declared.board.Kind.{Kind}
 use Rattle.hall_grid.specs.declared.board.Clue.{Clue}
 use Rattle.hall_grid.specs.declared.board.Clue.TheVariants.{Blank}
 use Rattle.hall_grid.specs.declared.form.Given.{Given}
 use Rattle.hall_grid.specs.Board.{Board, IsBoard, cells}
-use Rattle.hall_grid.specs.Body.{Piece, bytes_of, clues_of, IsPiece, IsChain, fitted}
-use Rattle.hall_grid.specs.Canonical.{IsChosen, IsShortest, AreChosen, Canonical}
+use Rattle.hall_grid.specs.Body.{Piece, bytes_of, clues_of, IsChain, fitted}
+use Rattle.hall_grid.specs.Canonical.{IsChosen, IsShortest, AreChosen}
 use Rattle.hall_grid.specs.FormReading.{given_clues}
 use Rattle.hall_grid.specs.Writing.{IsChoice, written, AppendsBody}
 use Rattle.hall_grid.proofs.Bodies.{bytes_of-push, clues_of-push, IsChain-push}

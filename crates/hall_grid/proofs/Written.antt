@@ -1,10 +1,9 @@
 -- The writer's forms are forms of the table, with the clues that stand there.
-use Rattle.std.proofs.Common.{◌≡◌, ℕ, zero, suc, ◌+◌, ◌-◌, ◌*◌, ◌/◌, ◌%◌, ◌<◌, ◌≤◌, ◌⊎◌, Bool, true, false, cond, List, [], ◌∷◌, ◌++◌, length, get_or, take, replicate, Option, Some, None, refl, sym, ap, ◌∙◌, subst, inl, inr, arith, nat_lt, if◌then◌else◌, add-zero, add-one}
-use Rattle.std.proofs.lemmas.Grind.{common_steps}
+use Rattle.std.proofs.Common.{◌≡◌, ℕ, zero, suc, ◌+◌, ◌*◌, ◌/◌, ◌%◌, ◌<◌, ◌≤◌, false, List, [], ◌∷◌, ◌++◌, length, get_or, replicate, Option, Some, None, refl, sym, ap, ◌∙◌, subst, inl, inr, arith, nat_lt, if◌then◌else◌, add-zero, add-one}
 use Rattle.std.proofs.lemmas.Bool.{cases_lt, lt-ltb, le-ltb, ne_eqb, eq-eqb}
 use Rattle.std.proofs.lemmas.Bool.Decides.{nat_tests}
-use Rattle.std.proofs.lemmas.List.{length-replicate, get_or-replicate, get_or_past}
-use Rattle.std.proofs.lemmas.List.Elements.{All-get_or, All-append, All-cons, All-nil, All-replicate}
+use Rattle.std.proofs.lemmas.List.{length-replicate, get_or_past}
+use Rattle.std.proofs.lemmas.List.Elements.{All-get_or, All-cons, All-replicate}
 use Rattle.std.proofs.lemmas.Option.{slice_get_within, get_or_from_slice_get, slice_get_cases}
 use Rattle.std.proofs.lemmas.Fmt.{hex_one_digit, hex_two_digits}
 use Rattle.std.specs.Fmt.{digits, digits_onto, digit_glyph}
@@ -14,11 +13,9 @@ use Rattle.hall_grid.specs.declared.board.Kind.{Kind}
 use Rattle.hall_grid.specs.declared.board.Kind.TheVariants.{Sudoku, Slither, Nurikabe}
 use Rattle.hall_grid.specs.declared.board.Clue.{Clue}
 use Rattle.hall_grid.specs.declared.board.Clue.TheVariants.{Blank, Unknown, Number}
-use Rattle.hall_grid.specs.declared.form.Given.{Given}
-use Rattle.hall_grid.specs.Board.{Board, IsBoard, cells, HasSize, IsClue}
-use Rattle.hall_grid.specs.Body.{IsHexDigit, HasNumber16, Form, one, two, three, some_number, alone, before_one, before_two, some_count, run, Piece, IsPiece}
-use Rattle.hall_grid.specs.Canonical.{IsEmpty, IsFull, Takes, IsChosen, IsShortest}
-use Rattle.hall_grid.specs.FormReading.{given_clues}
+use Rattle.hall_grid.specs.Board.{HasSize, IsClue}
+use Rattle.hall_grid.specs.Body.{IsHexDigit, HasNumber16, Form, one, two, three, some_number, alone, before_one, before_two, some_count, run}
+use Rattle.hall_grid.specs.Canonical.{IsEmpty, IsFull, Takes, IsChosen}
 use Rattle.hall_grid.proofs.Bodies.{blank_in_range}
 use Rattle.hall_grid.proofs.Unique.{some_bytes}
 use Rattle.hall_grid.specs.Writing.{IsRunAt, IsChoiceAt, IsShort, number16_bytes, form_bytes}

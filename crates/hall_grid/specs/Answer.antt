@@ -6,7 +6,7 @@ use Rattle.hall_grid.specs.declared.board.Kind.TheVariants.{Sudoku, Slither, Nur
 use Rattle.hall_grid.specs.declared.rule.Rule.{Rule}
 use Rattle.hall_grid.specs.declared.rule.Rule.TheVariants.{A0, U1, U2, U3, U4, S1, S2, S3, S4, S5, N1, N2, N3, N4, N5, N6}
 use Rattle.hall_grid.specs.Board.{Board, cells}
-use Rattle.hall_grid.specs.Rule.{Names}
+use Rattle.hall_grid.specs.Rule.{Names, IsNameSet}
 use Rattle.hall_grid.specs.Sudoku.{RepeatsInRow, RepeatsInColumn, RepeatsInBox, ChangesGiven}
 use Rattle.hall_grid.specs.Slither.{all_sides, flat_sides, HasNoLine, HasLooseEnd, HasCrossing, HasOtherCount, HasLinesApart}
 use Rattle.hall_grid.specs.Nurikabe.{HasNumberInWall, HasPool, HasWallsApart, HasIslandWithoutNumber, HasIslandWithTwo, HasIslandOfOtherSize}
@@ -90,6 +90,7 @@ Breaks Sudoku = BreaksSudoku
 Breaks Slither = BreaksSlither
 Breaks Nurikabe = BreaksNurikabe
 
+-- the filling breaks the rule of this name, by the rules of the board's kind
 abbrev pub IsBroken : Board → List ℕ → Rule → Type 0
 IsBroken board f rule = Breaks board.kind board f rule
 
@@ -108,4 +109,5 @@ SaysNothing board text = (f : List ℕ) → AnswerText board text f → ⊥
 -- the names for an answer text: those of its filling, or A0 where there is none
 abbrev pub Verdict : Board → List ℕ → ℕ → Type 0
 Verdict board text names =
-    ((f : List ℕ) × AnswerText board text f × AreBroken board f names) ⊎ (SaysNothing board text × IsNoForm names)
+    IsNameSet names
+    × (((f : List ℕ) × AnswerText board text f × AreBroken board f names) ⊎ (SaysNothing board text × IsNoForm names))

@@ -1,5 +1,5 @@
 -- Reading forms from left to right, with the first fault that is met. The relations of Body.antt are proved of it.
-use Rattle.std.specs.Prelude.{◌≡◌, ℕ, ◌+◌, ◌-◌, ◌*◌, ◌&&◌, Bool, true, false, List, [], ◌∷◌, ◌++◌, length, replicate, option_to_list, Option, Some, None, Result, Ok, Err, nat_le, nat_lt, ◌==◌, if◌then◌else◌}
+use Rattle.std.specs.Prelude.{ℕ, ◌+◌, ◌-◌, ◌*◌, ◌&&◌, Bool, true, false, List, [], ◌∷◌, ◌++◌, replicate, option_to_list, Option, Some, None, Result, Ok, Err, nat_le, ◌==◌, if◌then◌else◌}
 use Rattle.hall_grid.specs.declared.board.Kind.{Kind}
 use Rattle.hall_grid.specs.declared.board.Kind.TheVariants.{Sudoku, Slither, Nurikabe}
 use Rattle.hall_grid.specs.declared.board.Clue.{Clue}
@@ -8,6 +8,7 @@ use Rattle.hall_grid.specs.declared.form.Given.{Given}
 use Rattle.hall_grid.specs.declared.form.FormFault.{FormFault}
 use Rattle.hall_grid.specs.declared.form.FormFault.TheVariants.{Strange, Cut}
 
+-- the clues of a form: a number or none, and then empty cells
 abbrev pub given_clues : Given → List Clue
 given_clues given = option_to_list given.clue ++ replicate given.blanks Blank
 
@@ -20,10 +21,12 @@ abbrev pub run_value : ℕ → Option ℕ
 run_value b = if nat_le 103 b && nat_le b 122 then Some (b - 102) else None
 
 infixl 10 ◌>>=◌
+-- the next reading goes on from what was read
 abbrev pub ◌>>=◌ : {A B : Type 0} → Option A → (A → Option B) → Option B
 None >>= f = None
 (Some x) >>= f = f x
 
+-- the number of two hexadecimal digits, and what follows them
 abbrev pub two_at : List ℕ → Option (ℕ × List ℕ)
 two_at [] = None
 two_at (a ∷ []) = None
@@ -32,6 +35,7 @@ two_at (a ∷ b ∷ rest) = do
   n ← hex_value b
   Some (16 * m + n, rest)
 
+-- the number of three hexadecimal digits, and what follows them
 abbrev pub three_at : List ℕ → Option (ℕ × List ℕ)
 three_at [] = None
 three_at (a ∷ []) = None
@@ -47,14 +51,17 @@ abbrev pub long_form : Option (ℕ × List ℕ) → Result (List Clue × List �
 long_form None = Err Cut
 long_form (Some r) = Ok (Number r.0 ∷ [], r.1)
 
+-- a run of empty cells and what follows it
 abbrev pub run_form : Option ℕ → List ℕ → Result (List Clue × List ℕ) FormFault
 run_form None rest = Err Strange
 run_form (Some n) rest = Ok (replicate n Blank, rest)
 
+-- a form of one byte: a digit, or a run
 abbrev pub short_form : Option ℕ → Option ℕ → List ℕ → Result (List Clue × List ℕ) FormFault
 short_form None blanks rest = run_form blanks rest
 short_form (Some n) blanks rest = Ok (Number n ∷ [], rest)
 
+-- whether the kind is Nurikabe
 abbrev pub is_nurikabe : Kind → Bool
 is_nurikabe Sudoku = false
 is_nurikabe Slither = false
@@ -77,6 +84,7 @@ cell4_value b =
     else if nat_le 97 b && nat_le b 101 then Some (b - 97, 2)
     else None
 
+-- a form of one byte in the scheme 4Cell: a number, or a run
 abbrev pub cell4_short : Option (ℕ × ℕ) → Option ℕ → List ℕ → Result (List Clue × List ℕ) FormFault
 cell4_short None blanks rest = run_form blanks rest
 cell4_short (Some n) blanks rest = Ok (Number n.0 ∷ replicate n.1 Blank, rest)

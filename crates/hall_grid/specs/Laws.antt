@@ -1,5 +1,5 @@
 -- Laws of puzzle texts, which `law_texts` proves.
-use Rattle.std.specs.Prelude.{◌≡◌, ℕ, List}
+use Rattle.std.specs.Prelude.{◌≡◌, ◌⊎◌, ℕ, List}
 use Rattle.hall_grid.specs.declared.fault.TextFault.{TextFault}
 use Rattle.hall_grid.specs.Board.{Board, IsBoard}
 use Rattle.hall_grid.specs.Text.{SpellsText, FaultOf}
@@ -8,6 +8,10 @@ use Rattle.hall_grid.specs.Canonical.{CanonicalText}
 -- no text spells two puzzles
 abbrev pub SpellsOnePuzzle : Type 0
 SpellsOnePuzzle = (text : List ℕ) (a b : Board) → SpellsText text a → SpellsText text b → a ≡ b
+
+-- each text spells a puzzle or has a fault
+abbrev pub SpellsOrHasFault : Type 0
+SpellsOrHasFault = (text : List ℕ) → ((board : Board) × SpellsText text board) ⊎ ((fault : TextFault) × FaultOf text fault)
 
 -- what a text spells is a puzzle: its sides, its clues and their numbers are in the limits
 abbrev pub SpellsBoardsAlone : Type 0
@@ -24,6 +28,10 @@ HasOneFault = (text : List ℕ) (a b : TextFault) → FaultOf text a → FaultOf
 -- the canonical text of a puzzle spells it
 abbrev pub CanonicalSpells : Type 0
 CanonicalSpells = (text : List ℕ) (board : Board) → IsBoard board → CanonicalText text board → SpellsText text board
+
+-- each puzzle has a canonical text
+abbrev pub HasCanonicalText : Type 0
+HasCanonicalText = (board : Board) → IsBoard board → (text : List ℕ) × CanonicalText text board
 
 -- a puzzle has one canonical text
 abbrev pub HasOneCanonicalText : Type 0

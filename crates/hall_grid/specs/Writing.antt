@@ -1,5 +1,5 @@
 -- Writing forms: what the writer chooses at a cell, and the bytes of a form.
-use Rattle.std.specs.Prelude.{◌≡◌, ℕ, ◌+◌, ◌<◌, ◌≤◌, List, [], ◌∷◌, ◌++◌, length, replicate, slice_get, Option, Some, None, Result, nat_lt, if◌then◌else◌, zero, suc}
+use Rattle.std.specs.Prelude.{◌≡◌, ℕ, ◌+◌, ◌<◌, ◌≤◌, List, [], ◌∷◌, ◌++◌, slice_get, Option, Some, None, nat_lt, if◌then◌else◌, zero, suc}
 use Rattle.std.specs.Fmt.{digits}
 use Rattle.std.specs.Prelude.{false}
 use Rattle.hall_grid.specs.declared.board.Kind.{Kind}
@@ -48,6 +48,7 @@ cell4_first zero = 48
 cell4_first (suc zero) = 53
 cell4_first (suc (suc n)) = 97
 
+-- the bytes of a number with so many empty cells after it
 abbrev pub number_bytes : Kind → ℕ → ℕ → List ℕ
 number_bytes Sudoku n blanks = number16_bytes n
 number_bytes Slither n blanks = (cell4_first blanks + n) ∷ []
@@ -60,6 +61,7 @@ form_bytes kind (Some Blank) blanks = (102 + blanks) ∷ []
 form_bytes kind (Some Unknown) blanks = 46 ∷ []
 form_bytes kind (Some (Number n)) blanks = number_bytes kind n blanks
 
+-- the bytes of a form
 abbrev pub written : Kind → Given → List ℕ
 written kind given = form_bytes kind given.clue given.blanks
 

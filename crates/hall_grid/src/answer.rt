@@ -18,14 +18,14 @@ fn value_of(kind: Kind, size: Size, byte: u8) -> Option<u8>
         (λ v. (v < values_of kind size) × (byte ≡ value_byte kind v)) }
 {
     match kind {
-        Kind::Sudoku => number_of(size.cols, byte),
-        Kind::Slither => line_of(byte),
-        Kind::Nurikabe => wall_of(byte),
+        Kind::Sudoku => number_value(size.cols, byte),
+        Kind::Slither => line_value(byte),
+        Kind::Nurikabe => wall_value(byte),
     }
 }
 
 /// A number less 1, of a Sudoku with this side.
-fn number_of(side: usize, byte: u8) -> Option<u8>
+fn number_value(side: usize, byte: u8) -> Option<u8>
     requires { side ≤ 25 }
     ensures { MatchOption result
         ((v : ℕ) → v < side → byte ≢ sudoku_byte v)
@@ -44,7 +44,7 @@ fn number_of(side: usize, byte: u8) -> Option<u8>
 }
 
 /// A line or none.
-fn line_of(byte: u8) -> Option<u8>
+fn line_value(byte: u8) -> Option<u8>
     ensures { MatchOption result
         ((v : ℕ) → v < 2 → byte ≢ slither_byte v)
         (λ v. (v < 2) × (byte ≡ slither_byte v)) }
@@ -57,7 +57,7 @@ fn line_of(byte: u8) -> Option<u8>
 }
 
 /// Wall or white.
-fn wall_of(byte: u8) -> Option<u8>
+fn wall_value(byte: u8) -> Option<u8>
     ensures { MatchOption result
         ((v : ℕ) → v < 2 → byte ≢ nurikabe_byte v)
         (λ v. (v < 2) × (byte ≡ nurikabe_byte v)) }
@@ -70,7 +70,7 @@ fn wall_of(byte: u8) -> Option<u8>
 }
 
 /// The values that the bytes stand for, one each.
-fn values_of(
+fn parse_values(
     alloc: Global,
     kind: Kind,
     size: Size,
@@ -99,7 +99,7 @@ fn parse_cells(alloc: Global, puzzle: &Puzzle, text: &[u8]) -> Result<Option<Fil
     if text.len() != puzzle.cells() {
         return Ok(None);
     }
-    let found = values_of(alloc, puzzle.kind(), puzzle.size(), text)?;
+    let found = parse_values(alloc, puzzle.kind(), puzzle.size(), text)?;
     match found {
         Some(values) => Ok(Some(Filling::new(values))),
         None => Ok(None),
@@ -116,10 +116,10 @@ fn parse_sides(alloc: Global, puzzle: &Puzzle, text: &[u8]) -> Result<Option<Fil
     if text.len() != size.all_sides() + 1 || text[flat] != b'/' {
         return Ok(None);
     }
-    let Some(mut values) = values_of(alloc, Kind::Slither, size, &text[..flat])? else {
+    let Some(mut values) = parse_values(alloc, Kind::Slither, size, &text[..flat])? else {
         return Ok(None);
     };
-    let Some(upright) = values_of(alloc, Kind::Slither, size, &text[flat + 1..])? else {
+    let Some(upright) = parse_values(alloc, Kind::Slither, size, &text[flat + 1..])? else {
         return Ok(None);
     };
     values.extend_from_slice(&upright)?;
@@ -185,3 +185,6 @@ pub fn write_answer(alloc: Global, puzzle: &Puzzle, filling: &Filling) -> Result
     }
     Ok(text)
 }
+
+#[cfg(test)]
+mod tests;

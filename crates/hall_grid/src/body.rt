@@ -1,10 +1,10 @@
 //! The body of a puzzle text.
-ghost use Rattle.std.specs.Prelude.{◌≡◌, ℕ, ◌<◌, ◌≤◌, ◌-◌, ◌*◌, ◌⊎◌, ◌↔◌, ◌++◌, IsTrue, IfOk, IfErr, OnOk, length, vec_len, replicate, All};
+ghost use Rattle.std.specs.Prelude.{◌≡◌, ◌<◌, ◌-◌, ◌*◌, ◌⊎◌, ◌↔◌, ◌++◌, IsTrue, IfOk, IfErr, OnOk, length, replicate, All};
 ghost use Rattle.hall_grid.specs.Board.{cells, HasSize, IsClue};
 ghost use Rattle.hall_grid.specs.Body.{Spells, FaultAt, IsWrong, HasPlace, TakesForm, fitted};
 ghost use Rattle.hall_grid.specs.FormReading.{given_clues};
 
-use crate::board::{Clue, Kind, Size};
+use crate::board::{Clue, Kind, MOST_NUMBER, Size};
 use crate::fault::TextFault;
 use crate::form::{FormFault, Given, form_of};
 use std::alloc::{AllocError, Global};
@@ -18,7 +18,7 @@ fn fits(kind: Kind, size: Size, clue: Clue) -> bool
         (kind, Clue::Unknown) => kind != Kind::Sudoku,
         (Kind::Sudoku, Clue::Number(n)) => n >= 1 && n as usize <= size.cols,
         (Kind::Slither, Clue::Number(n)) => n <= 4,
-        (Kind::Nurikabe, Clue::Number(n)) => n >= 1 && n <= 4095,
+        (Kind::Nurikabe, Clue::Number(n)) => n >= 1 && n <= MOST_NUMBER,
     }
 }
 
@@ -62,8 +62,12 @@ fn read_form<'a>(
 ) -> Result<&'a [u8], TextFault>
     requires some { 0 < length bytes.now }
     requires room { length clues.old.items < cells size }
-    ensures ok { IfOk result (λ after. TakesForm kind size bytes.now clues.old.items clues.new.items after.now) }
-    ensures err { IfErr result (λ e. (e ≡ TextFault.Memory) ⊎ (HasPlace e place × IsWrong kind size (length clues.old.items) bytes.now e)) }
+    ensures ok { IfOk result
+        (λ after. TakesForm kind size bytes.now clues.old.items clues.new.items after.now) }
+    ensures err { IfErr result
+        (λ e.
+        (e ≡ TextFault.Memory)
+        ⊎ (HasPlace e place × IsWrong kind size (length clues.old.items) bytes.now e)) }
 {
     match form_of(kind, bytes) {
         Err(FormFault::Strange) => Err(TextFault::Strange(place)),

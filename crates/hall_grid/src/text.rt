@@ -1,10 +1,10 @@
 //! Whole puzzle texts.
-ghost use Rattle.std.specs.Prelude.{◌≡◌, ℕ, ◌<◌, ◌⊎◌, ◌↔◌, ◌∷◌, [], ◌==◌, position, IsTrue, IfOk, IfErr, MatchOption, MatchResult, option_copied};
+ghost use Rattle.std.specs.Prelude.{◌≡◌, ◌<◌, ◌⊎◌, ◌↔◌, [], ◌==◌, position, IsTrue, IfOk, IfErr, MatchOption, MatchResult, option_copied};
 ghost use Rattle.std.specs.List.{before_first, after_first};
-ghost use Rattle.hall_grid.specs.Board.{Board, HasSize, IsBoard};
+ghost use Rattle.hall_grid.specs.Board.{Board, HasSize};
 ghost use Rattle.hall_grid.specs.Text.{bare, has_address, is_slash, word_of, IsSide, IsNoSide, without_final_slash, SpellsText, FaultOf};
 
-use crate::board::{Kind, Size};
+use crate::board::{Kind, MOST_CELLS, MOST_SIDE, Size};
 use crate::body::parse_body;
 use crate::fault::TextFault;
 use crate::puzzle::Puzzle;
@@ -49,7 +49,9 @@ fn without_address(text: &[u8]) -> Option<&[u8]>
 }
 
 fn kind_of(word: &[u8]) -> Option<Kind>
-    ensures { MatchOption result ((kind : Kind) → word.now ≡ word_of kind → ⊥) (λ kind. word.now ≡ word_of kind) }
+    ensures { MatchOption result
+        ((kind : Kind) → word.now ≡ word_of kind → ⊥)
+        (λ kind. word.now ≡ word_of kind) }
 {
     if word == b"sudoku".as_slice() {
         Some(Kind::Sudoku)
@@ -76,7 +78,9 @@ fn side_of(field: &[u8]) -> Option<usize>
 }
 
 fn size_of(cols: &[u8], rows: &[u8]) -> Option<Size>
-    ensures { MatchOption result (IsNoSide cols.now ⊎ IsNoSide rows.now) (λ size. IsSide cols.now size.cols × IsSide rows.now size.rows) }
+    ensures { MatchOption result
+        (IsNoSide cols.now ⊎ IsNoSide rows.now)
+        (λ size. IsSide cols.now size.cols × IsSide rows.now size.rows) }
 {
     let cols = side_of(cols)?;
     let rows = side_of(rows)?;
@@ -98,19 +102,21 @@ fn has_size(kind: Kind, size: Size) -> bool
         Kind::Sudoku => size.cols == size.rows && matches!(size.cols, 4 | 6 | 9 | 16),
         _ => {
             size.cols >= 1
-                && size.cols <= 50
+                && size.cols <= MOST_SIDE
                 && size.rows >= 1
-                && size.rows <= 50
-                && size.cols * size.rows <= 1000
+                && size.rows <= MOST_SIDE
+                && size.cols * size.rows <= MOST_CELLS
         }
     }
 }
 
-/// The puzzle that the text spells, or the first fault of the text.
+/// The puzzle that the text spells, or the first fault of the text. Want of memory may come in place of either.
 pub fn parse_puzzle(alloc: Global, text: &[u8]) -> Result<Puzzle, TextFault>
     ensures ok { IfOk result (SpellsText text.now) }
     ensures err { IfErr result (λ e. (e ≡ TextFault.Memory) ⊎ FaultOf text.now e) }
-    ensures only { (board : Board) → SpellsText text.now board → MatchResult result (λ p. p ≡ board) (λ e. e ≡ TextFault.Memory) }
+    ensures only { (board : Board)
+        → SpellsText text.now board
+        → MatchResult result (λ p. p ≡ board) (λ e. e ≡ TextFault.Memory) }
 {
     let start = without_address(text).ok_or(TextFault::Kind)?;
     let (word, sides) = split_field(start);

@@ -8,8 +8,14 @@ fn neighbours_stop_at_the_edge(rt: HostRuntime) {
     assert_eq!(rt; neighbours(size, 1), [None, Some(0), Some(2), Some(4)]);
     assert_eq!(rt; neighbours(size, 2), [None, Some(1), None, Some(5)]);
     assert_eq!(rt; neighbours(size, 4), [Some(1), Some(3), Some(5), None]);
-    assert_eq!(rt; neighbours(Size { cols: 1, rows: 1 }, 0), [None, None, None, None]);
-    assert_eq!(rt; neighbours(Size { cols: 50, rows: 20 }, 999), [Some(949), Some(998), None, None]);
+    assert_eq!(rt;
+        neighbours(Size { cols: 1, rows: 1 }, 0),
+        [None, None, None, None]
+    );
+    assert_eq!(rt;
+        neighbours(Size { cols: 50, rows: 20 }, 999),
+        [Some(949), Some(998), None, None]
+    );
 }
 
 #[test]
@@ -30,9 +36,15 @@ fn reaches_by_sides_alone(rt: HostRuntime) -> Result<(), Fail> {
     // Cells 0 and 4 meet at a corner, and so do 4 and 2.
     let allowed = [true, false, true, false, true, true];
     let marks = reach(rt.alloc(), size, 0, &allowed)?;
-    assert_eq!(rt; marks.as_slice(), [true, false, false, false, false, false].as_slice());
+    assert_eq!(rt;
+        marks.as_slice(),
+        [true, false, false, false, false, false].as_slice()
+    );
     let marks = reach(rt.alloc(), size, 4, &allowed)?;
-    assert_eq!(rt; marks.as_slice(), [false, false, true, false, true, true].as_slice());
+    assert_eq!(rt;
+        marks.as_slice(),
+        [false, false, true, false, true, true].as_slice()
+    );
     let marks = reach(rt.alloc(), size, 1, &allowed)?;
     assert_eq!(rt; marks.as_slice(), [false; 6].as_slice());
     Ok(())
@@ -42,6 +54,9 @@ fn reaches_by_sides_alone(rt: HostRuntime) -> Result<(), Fail> {
 fn labels_each_region(rt: HostRuntime) -> Result<(), Fail> {
     let size = Size { cols: 3, rows: 2 };
     let labels = regions(rt.alloc(), size, &[true, false, true, false, true, true])?;
-    assert_eq!(rt; labels.as_slice(), [Some(0), None, Some(2), None, Some(2), Some(2)].as_slice());
+    assert_eq!(rt;
+        labels.as_slice(),
+        [Some(0), None, Some(2), None, Some(2), Some(2)].as_slice()
+    );
     Ok(())
 }

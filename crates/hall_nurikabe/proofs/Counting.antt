@@ -1,5 +1,5 @@
 -- How many members a set has.
-use Rattle.std.proofs.Common.{◌≡◌, ℕ, ◌+◌, ◌<◌, ◌≤◌, ◌⊎◌, ◌↔◌, ◌++◌, Bool, true, false, List, [], ◌∷◌, length, get_or, refl, sym, ◌∙◌, subst, inl, inr, arith}
+use Rattle.std.proofs.Common.{◌≡◌, ℕ, zero, suc, ◌+◌, ◌<◌, ◌≤◌, ◌⊎◌, ◌↔◌, ◌++◌, Bool, true, false, List, [], ◌∷◌, length, get_or, refl, sym, ◌∙◌, subst, inl, inr, arith}
 use Rattle.std.specs.Prelude.{Contains, nat_eq}
 use Rattle.std.specs.List.{IsDistinct, list_any}
 use Rattle.std.specs.Cmp.{nat_eq_equiv}
@@ -51,17 +51,20 @@ not_true false h = refl
 
 -- one more member
 pub HasCount-more : (P Q : ℕ → Type 0) (n k : ℕ) → (P k → ⊥) → ((x : ℕ) → Q x ↔ (P x ⊎ (x ≡ k))) → HasCount P n → HasCount Q (n + 1)
-HasCount-more P Q n k fresh more (xs, lists, e) =
-    (xs ++ k ∷ [], record {
-      distinct = IsDistinct-push nat_eq_equiv xs k lists.distinct (not_true _ (λ h. fresh ((lists.each k).0 (member_of xs k h))));
-      each = λ x. (
-        (λ h. elim (Contains-push_cases xs k x h) [ inl m ↦ (more x).1 (inl ((lists.each x).0 m)) | inr m ↦ (more x).1 (inr (sym m)) ]),
-        (λ h. elim ((more x).0 h) [
-          | inl m ↦ Contains-append_left xs (k ∷ []) x ((lists.each x).1 m)
-          | inr m ↦ subst (λ y. Contains (xs ++ k ∷ []) y) (sym m) (Contains-push xs k)
-        ]),
-      );
-    }, let p = length_push xs k in omega arith)
+HasCount-more P Q n k fresh more (xs, lists, e) = (
+  xs ++ k ∷ [],
+  record {
+    distinct = IsDistinct-push nat_eq_equiv xs k lists.distinct (not_true _ (λ h. fresh ((lists.each k).0 (member_of xs k h))));
+    each = λ x. (
+      (λ h. elim (Contains-push_cases xs k x h) [ inl m ↦ (more x).1 (inl ((lists.each x).0 m)) | inr m ↦ (more x).1 (inr (sym m)) ]),
+      (λ h. elim ((more x).0 h) [
+        | inl m ↦ Contains-append_left xs (k ∷ []) x ((lists.each x).1 m)
+        | inr m ↦ subst (λ y. Contains (xs ++ k ∷ []) y) (sym m) (Contains-push xs k)
+      ]),
+    );
+  },
+  let p = length_push xs k in omega arith,
+)
 
 -- numbers below an end are at most as many
 pub HasCount-bound : (P : ℕ → Type 0) (n end : ℕ) → ((x : ℕ) → P x → x < end) → HasCount P n → n ≤ end
@@ -83,9 +86,9 @@ HasCount-two P n h (xs, lists, e) = (
   (lists.each (get_or xs 0 0)).0 (Contains-get_or xs 0 0 (omega arith)),
   (lists.each (get_or xs 1 0)).0 (Contains-get_or xs 1 0 (omega arith)),
   (λ same.
-    let apart : nat_eq (get_or xs 0 0) (get_or xs 1 0) ≡ false = apart_from_distinct nat_eq xs 0 1 0 lists.distinct (omega arith) (omega arith) in
-    let yes : nat_eq (get_or xs 0 0) (get_or xs 1 0) ≡ true = eq-eqb _ _ same in
-    absurd (cc)),
+      let apart : nat_eq (get_or xs 0 0) (get_or xs 1 0) ≡ false = apart_from_distinct nat_eq xs 0 1 0 lists.distinct (omega arith) (omega arith) in
+      let yes : nat_eq (get_or xs 0 0) (get_or xs 1 0) ≡ true = eq-eqb _ _ same in
+      absurd (cc)),
 )
 
 pub two_HasCount : (P : ℕ → Type 0) (n x y : ℕ) → (x ≡ y → ⊥) → P x → P y → HasCount P n → 1 < n
@@ -96,3 +99,34 @@ two_HasCount P n x y ne p q (xs, lists, e) =
       | inl same ↦ absurd (ne (sym i.2 ∙ get_or_default xs i.0 x y i.1 ∙ subst (λ k. get_or xs k y ≡ y) (sym same) j.2))
       | inr other ↦ (let a = i.1 in let b = j.1 in omega arith)
     ]
+
+-- a set within another has no more members
+pub HasCount-within : (P Q : ℕ → Type 0) (m n : ℕ) → ((x : ℕ) → P x → Q x) → HasCount P m → HasCount Q n → m ≤ n
+HasCount-within P Q m n within (xs, a, e) (ys, b, d) = let k = Lists-shorter P Q xs ys within a b in omega arith
+
+-- a set within another that lacks one of its members has fewer
+pub HasCount-lacks : (P Q : ℕ → Type 0) (m n k : ℕ) → ((x : ℕ) → P x → Q x) → Q k → (P k → ⊥) → HasCount P m → HasCount Q n → m + 1 ≤ n
+HasCount-lacks P Q m n k within there lacks c d =
+    HasCount-within (λ x. P x ⊎ (x ≡ k)) Q (m + 1) n
+    (λ x h. elim h [ inl p ↦ within x p | inr e ↦ subst Q (sym e) there ])
+    (HasCount-more P (λ x. P x ⊎ (x ≡ k)) m k lacks (λ x. ((λ h. h), (λ h. h))) c) d
+
+count_below : (P : ℕ → Type 0) (n : ℕ) → ((m : ℕ) → HasCount (λ x. (x < n) × P x) m → ⊥) → ⊥
+count_below P zero none = none 0 (HasCount-none (λ x. (x < 0) × P x) (λ x h. let low = h.0 in omega arith))
+count_below P (suc n) none = count_below P n (λ m c.
+    let out : P n → ⊥ = λ here. none (m + 1)
+    (HasCount-more (λ x. (x < n) × P x) (λ x. (x < suc n) × P x) m n (λ h. let low = h.0 in omega arith)
+    (λ x. (
+      (λ h. elim (cases_eq x n) [ inl e ↦ inr e | inr ne ↦ inl (let low = h.0 in omega arith, h.1) ]),
+      (λ h. elim h [ inl k ↦ (let low = k.0 in omega arith, k.1) | inr e ↦ (omega arith, subst P (sym e) here) ]),
+    )) c) in
+    none m (HasCount-same (λ x. (x < n) × P x) (λ x. (x < suc n) × P x) m
+    (λ x. (
+      (λ h. (let low = h.0 in omega arith, h.1)),
+      (λ h. elim (cases_eq x n) [ inl e ↦ absurd (out (subst P e h.1)) | inr ne ↦ (let low = h.0 in omega arith, h.1) ]),
+    )) c))
+
+-- it can't be that a set of numbers below an end has no count
+pub not_uncounted : (P : ℕ → Type 0) (n : ℕ) → ((x : ℕ) → P x → x < n) → ((m : ℕ) → HasCount P m → ⊥) → ⊥
+not_uncounted P n low none =
+    count_below P n (λ m c. none m (HasCount-same (λ x. (x < n) × P x) P m (λ x. ((λ h. h.1), (λ h. (low x h, h)))) c))

@@ -56,9 +56,16 @@ module _ (size : Size) (f : List ℕ) (labels : List (Option ℕ)) (a : AreCompo
   labels_apart : HasWallsApart size f → (a b x y : ℕ) × IsLabelled labels a x × IsLabelled labels b y × (x ≢ y)
   labels_apart (c, d, p, q, none) =
       let x = a.labelled c p in
-      let y = a.labelled d q in
-      (c, d, x.0, y.0, x.1, y.1, (λ e. none (walk_from_label (cells size) (Touch size) (IsWall size f) labels a (Touch-turn size) c d y.0
-        (subst (λ l. IsLabelled labels c l) e x.1) y.1)))
+      let y = a.labelled d q in (
+        c,
+        d,
+        x.0,
+        y.0,
+        x.1,
+        y.1,
+        (λ e. none (walk_from_label (cells size) (Touch size) (IsWall size f) labels a (Touch-turn size) c d y.0
+            (subst (λ l. IsLabelled labels c l) e x.1) y.1)),
+      )
 
   pub apart_are : ((a b x y : ℕ) × IsLabelled labels a x × IsLabelled labels b y × (x ≢ y)) ↔ HasWallsApart size f
   apart_are = (walls_apart, labels_apart)
@@ -79,21 +86,29 @@ module _ (board : Board) (f : List ℕ) (labels : List (Option ℕ)) (a : AreCom
 
   module _ (marks : List Bool) (numbers : List ℕ) (n : MarksNumbers board marks) (t : Tallies labels marks (length labels) numbers) where
     without_number : ((cell label : ℕ) × IsLabelled labels cell label × (slice_index numbers label ≡ 0)) → HasIslandWithoutNumber board f
-    without_number (cell, label, h, e) = (cell, white cell label h, (λ other w numbered.
-      let there = a.shared cell other label w h in
-      HasCount-empty (IsCounted labels marks (length labels) label) other
-      (subst (HasCount (IsCounted labels marks (length labels) label)) e (t.counted label (label_low cell label h)))
-      (labelled_below labels other label there, there, (n.marked other).1 numbered)))
+    without_number (cell, label, h, e) = (
+      cell,
+      white cell label h,
+      (λ other w numbered.
+          let there = a.shared cell other label w h in
+          HasCount-empty (IsCounted labels marks (length labels) label) other
+          (subst (HasCount (IsCounted labels marks (length labels) label)) e (t.counted label (label_low cell label h)))
+          (labelled_below labels other label there, there, (n.marked other).1 numbered)),
+    )
 
     none_counted : HasIslandWithoutNumber board f → (cell label : ℕ) × IsLabelled labels cell label × (slice_index numbers label ≡ 0)
     none_counted (cell, is_white, none) =
-        let l = a.labelled cell is_white in
-        (cell, l.0, l.1, elim (cases_eq (slice_index numbers l.0) 0) [
-          | inl e ↦ e
-          | inr ne ↦
-              let some = HasCount-some (IsCounted labels marks (length labels) l.0) _ (omega arith) (t.counted l.0 (label_low cell l.0 l.1)) in
-              absurd (none some.0 (walk cell some.0 l.0 l.1 some.1.1) ((n.marked some.0).0 some.1.2))
-        ])
+        let l = a.labelled cell is_white in (
+          cell,
+          l.0,
+          l.1,
+          elim (cases_eq (slice_index numbers l.0) 0) [
+            | inl e ↦ e
+            | inr ne ↦
+                let some = HasCount-some (IsCounted labels marks (length labels) l.0) _ (omega arith) (t.counted l.0 (label_low cell l.0 l.1)) in
+                absurd (none some.0 (walk cell some.0 l.0 l.1 some.1.1) ((n.marked some.0).0 some.1.2))
+          ],
+        )
 
     pub without_number_are : ((cell label : ℕ) × IsLabelled labels cell label × (slice_index numbers label ≡ 0)) ↔ HasIslandWithoutNumber board f
     without_number_are = (without_number, none_counted)
@@ -108,9 +123,12 @@ module _ (board : Board) (f : List ℕ) (labels : List (Option ℕ)) (a : AreCom
     two_counted (c, d, ne, p, q, w) =
         let l = label_from_walk (cells board.size) (Touch board.size) (IsWhite board.size f) labels a c d w in
         let low = label_low c l.0 l.1 in
-        let whole = t.exact in
-        (l.0, omega arith, two_HasCount (IsCounted labels marks (length labels) l.0) _ c d ne
-          (labelled_below labels c l.0 l.1, l.1, (n.marked c).1 p) (labelled_below labels d l.0 l.2, l.2, (n.marked d).1 q) (t.counted l.0 low))
+        let whole = t.exact in (
+          l.0,
+          omega arith,
+          two_HasCount (IsCounted labels marks (length labels) l.0) _ c d ne
+              (labelled_below labels c l.0 l.1, l.1, (n.marked c).1 p) (labelled_below labels d l.0 l.2, l.2, (n.marked d).1 q) (t.counted l.0 low),
+        )
 
     pub with_two_are : ((label : ℕ) × (label < length numbers) × (1 < slice_index numbers label)) ↔ HasIslandWithTwo board f
     with_two_are = (with_two, two_counted)
@@ -121,8 +139,8 @@ module _ (board : Board) (f : List ℕ) (labels : List (Option ℕ)) (a : AreCom
     island_is cell label h x = (
       (λ k. walk cell x label h k.1),
       (λ w.
-        let there = a.shared cell x label w h in
-        (labelled_below labels x label there, there, m x (white x label there))),
+          let there = a.shared cell x label w h in
+          (labelled_below labels x label there, there, m x (white x label there))),
     )
 
     other_size : ((cell given label : ℕ) × (slice_get board.clues cell ≡ Some (Number given)) × IsLabelled labels cell label × (slice_index sizes label ≢ given))
@@ -135,9 +153,15 @@ module _ (board : Board) (f : List ℕ) (labels : List (Option ℕ)) (a : AreCom
         → (cell given label : ℕ) × (slice_get board.clues cell ≡ Some (Number given)) × IsLabelled labels cell label × (slice_index sizes label ≢ given)
     other_count (cell, given, members, clue, is_white, lists, ne) =
         let l = a.labelled cell is_white in
-        let c = t.counted l.0 (label_low cell l.0 l.1) in
-        (cell, given, l.0, clue, l.1, (λ e. ne
-          (sym (same_length _ (InIsland board.size f cell) c.0 members (island_is cell l.0 l.1) c.1 lists) ∙ c.2 ∙ e)))
+        let c = t.counted l.0 (label_low cell l.0 l.1) in (
+          cell,
+          given,
+          l.0,
+          clue,
+          l.1,
+          (λ e. ne
+              (sym (same_length _ (InIsland board.size f cell) c.0 members (island_is cell l.0 l.1) c.1 lists) ∙ c.2 ∙ e)),
+        )
 
     pub other_size_are :
         ((cell given label : ℕ) × (slice_get board.clues cell ≡ Some (Number given)) × IsLabelled labels cell label × (slice_index sizes label ≢ given))

@@ -3,3 +3,10 @@ pub mod Tallies
 pub mod Pools
 pub mod Numbers
 pub mod Judging
+pub mod Solutions
+pub mod Blocking
+pub mod Forcing
+pub mod Regioning
+pub mod Sound
+pub mod Rising
+pub mod Distance

@@ -11,8 +11,7 @@ wall_at size f a b e w = subst (IsWall size f) e w
 
 pub HasPool-from_at : (size : Size) (f : List ℕ) (cell : ℕ) → IsPoolAt size f cell → HasPool size f
 HasPool-from_at size f cell (inner, a, b, c, d) =
-    let e : row size cell * size.cols + col size cell ≡ cell = div-add-mod' cell size.cols in
-    (
+    let e : row size cell * size.cols + col size cell ≡ cell = div-add-mod' cell size.cols in (
       row size cell,
       col size cell,
       inner,
@@ -24,8 +23,7 @@ HasPool-from_at size f cell (inner, a, b, c, d) =
 
 pub HasPool-at : (size : Size) (f : List ℕ) → HasPool size f → (cell : ℕ) × (cell < cells size) × IsPoolAt size f cell
 HasPool-at size f (r, c, inner, a, b, d, e) =
-    let same : (r * size.cols + c) % size.cols ≡ c = mod-mul-add r size.cols c (omega arith) in
-    (
+    let same : (r * size.cols + c) % size.cols ≡ c = mod-mul-add r size.cols c (omega arith) in (
       r * size.cols + c,
       a.0,
       (

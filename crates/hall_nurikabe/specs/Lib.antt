@@ -1,1 +1,5 @@
 pub mod Tally
+pub mod Solving
+pub mod Block
+pub mod Forced
+pub mod Spreading

@@ -7,7 +7,7 @@ use hall_grid::{Clue, Puzzle};
 use std::alloc::{AllocError, Global};
 
 /// Whether the clue is a number, known or not.
-fn is_number(clue: Clue) -> bool
+pub(crate) fn is_number(clue: Clue) -> bool
     ensures { IsTrue result ↔ IsNumber clue }
 {
     match clue {

@@ -11,9 +11,9 @@ use crate::island::{cells_of, numbered_cells, tally};
 use hall_grid::{Broken, Clue, Filling, Kind, Puzzle, Rule, Size, regions};
 use std::alloc::{AllocError, Global};
 
-const WHITE: u8 = 0;
+pub(crate) const WHITE: u8 = 0;
 
-const WALL: u8 = 1;
+pub(crate) const WALL: u8 = 1;
 
 /// Whether some cell is marked in both.
 fn have_common_cell(a: &[bool], b: &[bool]) -> bool

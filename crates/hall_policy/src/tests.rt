@@ -395,10 +395,8 @@ fn submit(alloc: Global, n: u64) -> Result<Action, Fail> {
     })
 }
 
-#[test]
-fn answers(rt: HostRuntime) -> Result<(), Fail> {
-    let alloc = rt.alloc();
-    let rows = [
+fn answers_rows() -> [(Found, u64, u8); 17] {
+    [
         (by(Who::Eve), START - 1, 7),
         (by(Who::Eve), START, 0),
         (by(Who::Eve), END - 1, 0),
@@ -416,7 +414,13 @@ fn answers(rt: HostRuntime) -> Result<(), Fail> {
         (by(Who::Eve).held(Held::Draft), START, 4),
         (by(Who::Eve).held(Held::NoRound), START, 4),
         (by(Who::Eve).held(Held::Published), START, 15),
-    ];
+    ]
+}
+
+#[test]
+fn answers(rt: HostRuntime) -> Result<(), Fail> {
+    let alloc = rt.alloc();
+    let rows = answers_rows();
     let action = submit(alloc, 1)?;
     for (found, second, wanted) in rows.iter() {
         assert_eq!(rt; decided(alloc, found, &action, *second)?, *wanted);
@@ -426,10 +430,8 @@ fn answers(rt: HostRuntime) -> Result<(), Fail> {
     Ok(())
 }
 
-#[test]
-fn puzzles_are_named_by_their_authors(rt: HostRuntime) -> Result<(), Fail> {
-    let alloc = rt.alloc();
-    let rows = [
+fn puzzles_are_named_by_their_authors_rows() -> [(Found, u8, u8, u8); 10] {
+    [
         (by(Who::Ada), 3, 3, 3),
         (by(Who::Ada).puzzle(), 3, 3, 3),
         (by(Who::Bob), 4, 4, 0),
@@ -440,7 +442,13 @@ fn puzzles_are_named_by_their_authors(rt: HostRuntime) -> Result<(), Fail> {
         (by(Who::Bob).count(499), 4, 4, 0),
         (by(Who::Bob).count(500), 4, 4, 19),
         (by(Who::Bob).count(500).puzzle(), 0, 0, 0),
-    ];
+    ]
+}
+
+#[test]
+fn puzzles_are_named_by_their_authors(rt: HostRuntime) -> Result<(), Fail> {
+    let alloc = rt.alloc();
+    let rows = puzzles_are_named_by_their_authors_rows();
     let read = Action::ReadPuzzle {
         key: puzzle_key(alloc, "bob", "p1")?,
     };
@@ -479,10 +487,8 @@ fn sheet(alloc: Global) -> Result<Sheet, Fail> {
     })
 }
 
-#[test]
-fn drafts_are_put_and_released(rt: HostRuntime) -> Result<(), Fail> {
-    let alloc = rt.alloc();
-    let rows = [
+fn drafts_are_put_and_released_rows() -> [(Found, u64, u8, u8); 8] {
+    [
         (by(Who::Dora), START - 1, 13, 13),
         (by(Who::Dora).held(Held::Draft), START - 1, 0, 0),
         (by(Who::Dora).held(Held::Draft), START, 0, 14),
@@ -491,7 +497,13 @@ fn drafts_are_put_and_released(rt: HostRuntime) -> Result<(), Fail> {
         (by(Who::Dora).held(Held::Draft).test(4), START - 1, 4, 0),
         (by(Who::Dora).held(Held::NoRound), START - 1, 0, 4),
         (by(Who::Eve), START - 1, 2, 2),
-    ];
+    ]
+}
+
+#[test]
+fn drafts_are_put_and_released(rt: HostRuntime) -> Result<(), Fail> {
+    let alloc = rt.alloc();
+    let rows = drafts_are_put_and_released_rows();
     let sheet = sheet(alloc)?;
     let put = Action::PutRound {
         round: text(alloc, "r1")?,
@@ -509,10 +521,8 @@ fn drafts_are_put_and_released(rt: HostRuntime) -> Result<(), Fail> {
     Ok(())
 }
 
-#[test]
-fn rounds_are_read(rt: HostRuntime) -> Result<(), Fail> {
-    let alloc = rt.alloc();
-    let rows = [
+fn rounds_are_read_rows() -> [(Found, u64, u8, u8); 9] {
+    [
         (by(Who::Rex), START - 1, 7, 9),
         (by(Who::Rex), START, 0, 9),
         (by(Who::Rex), END - 1, 0, 9),
@@ -522,7 +532,13 @@ fn rounds_are_read(rt: HostRuntime) -> Result<(), Fail> {
         (by(Who::Eve).held(Held::Draft), END, 4, 4),
         (by(Who::Bob), END, 2, 2),
         (by(Who::Player), START - 1, 5, 9),
-    ];
+    ]
+}
+
+#[test]
+fn rounds_are_read(rt: HostRuntime) -> Result<(), Fail> {
+    let alloc = rt.alloc();
+    let rows = rounds_are_read_rows();
     let read = Action::ReadRound {
         round: text(alloc, "r1")?,
     };
@@ -575,10 +591,8 @@ fn protest(alloc: Global, n: u64) -> Result<Action, Fail> {
     })
 }
 
-#[test]
-fn protests(rt: HostRuntime) -> Result<(), Fail> {
-    let alloc = rt.alloc();
-    let rows = [
+fn protests_rows() -> [(Found, u64, u8); 8] {
+    [
         (by(Who::Eve), END - 1, 9),
         (by(Who::Eve), END, 0),
         (by(Who::Eve), CLOSE - 1, 0),
@@ -587,7 +601,13 @@ fn protests(rt: HostRuntime) -> Result<(), Fail> {
         (by(Who::Eve).count(5), END, 19),
         (by(Who::Eve).protest(None), CLOSE, 100),
         (by(Who::Eve).held(Held::Published), END, 15),
-    ];
+    ]
+}
+
+#[test]
+fn protests(rt: HostRuntime) -> Result<(), Fail> {
+    let alloc = rt.alloc();
+    let rows = protests_rows();
     let action = protest(alloc, 1)?;
     for (found, second, wanted) in rows.iter() {
         assert_eq!(rt; decided(alloc, found, &action, *second)?, *wanted);
@@ -609,17 +629,21 @@ fn rule(alloc: Global, ruling: Ruling) -> Result<Action, Fail> {
     })
 }
 
-#[test]
-fn rulings(rt: HostRuntime) -> Result<(), Fail> {
-    let alloc = rt.alloc();
-    let three = Ruling::Upheld(RulingPoints::new(3).ok_or("points")?);
-    let rows = [
+fn rulings_rows(three: Ruling) -> [(Found, u8, u8); 5] {
+    [
         (by(Who::Rex), 4, 4),
         (by(Who::Rex).protest(None), 0, 0),
         (by(Who::Rex).protest(None).test(17), 17, 17),
         (by(Who::Rex).protest(Some(three)), 100, 18),
         (by(Who::Rex).protest(Some(three)).test(17), 17, 17),
-    ];
+    ]
+}
+
+#[test]
+fn rulings(rt: HostRuntime) -> Result<(), Fail> {
+    let alloc = rt.alloc();
+    let three = Ruling::Upheld(RulingPoints::new(3).ok_or("points")?);
+    let rows = rulings_rows(three);
     let upheld = rule(alloc, three)?;
     for (found, wanted, _) in rows.iter() {
         assert_eq!(rt; decided(alloc, found, &upheld, 0)?, *wanted);
@@ -631,10 +655,8 @@ fn rulings(rt: HostRuntime) -> Result<(), Fail> {
     Ok(())
 }
 
-#[test]
-fn publishing(rt: HostRuntime) -> Result<(), Fail> {
-    let alloc = rt.alloc();
-    let rows = [
+fn publishing_rows() -> [(Found, u64, u8, u8); 7] {
+    [
         (by(Who::Dora), CLOSE - 1, 9, 15),
         (by(Who::Dora), CLOSE, 0, 15),
         (by(Who::Dora).test(16), CLOSE, 16, 15),
@@ -642,7 +664,13 @@ fn publishing(rt: HostRuntime) -> Result<(), Fail> {
         (by(Who::Dora).held(Held::Published).test(16), CLOSE, 15, 0),
         (by(Who::Nobody).held(Held::Published), CLOSE, 1, 0),
         (by(Who::Dora).held(Held::Draft), CLOSE, 4, 4),
-    ];
+    ]
+}
+
+#[test]
+fn publishing(rt: HostRuntime) -> Result<(), Fail> {
+    let alloc = rt.alloc();
+    let rows = publishing_rows();
     let publish = Action::Publish {
         round: text(alloc, "r1")?,
     };

@@ -3,3 +3,10 @@ pub mod Tallies
 pub mod Neighbours
 pub mod Apart
 pub mod Naming
+pub mod Demands
+pub mod Tellings
+pub mod Setting
+pub mod Loops
+pub mod Chaining
+pub mod Closings
+pub mod Questions

@@ -5,7 +5,7 @@ use Rattle.std.proofs.lemmas.Nat.{div_below, mod_below, mul-add-lt}
 use Rattle.std.proofs.lemmas.Bool.{cases_lt, lt-ltb, le-ltb, eq-eqb, eqb-true, or_cases, or_left, or_right}
 use Rattle.hall_grid.specs.declared.board.Size.{Size}
 use Rattle.hall_grid.specs.Slither.{dot, dots, flat_sides, all_sides, ends, ends_of_flat, ends_of_upright, is_end, ShareDot}
-use Rattle.hall_slither.specs.SidesAt.{dot_row, dot_col, side_up, side_left, side_right, side_down}
+use Rattle.hall_slither.specs.SidesAt.{sides_at, dot_row, dot_col, side_up, side_left, side_right, side_down}
 use Rattle.hall_slither.proofs.Degrees.{Holds, ends_by, dot_within, sides_below, end_cases, end_from_up_side, end_from_left_side, end_from_right_side, end_from_down_side, right_from_end, left_from_end, down_from_end, up_from_end}
 
 -- the side up, left, right or down from a dot
@@ -227,3 +227,26 @@ module _ (size : Size) (s : ℕ) (some : 0 < size.cols) (low : s < all_sides siz
         share = λ other k. from_shares other (upright_from size s other (among_from_contains (beside_upright size s) other k));
         all = λ other share lim. elim (from_upright h other (shares_from other share lim)) [ inl e ↦ inl e | inr k ↦ inr (contains_from_among (beside_upright size s) other k) ];
       } in subst (AreBeside size s) (sym e) are
+
+four_from : (size : Size) (d s : ℕ) → Among (sides_at size d) s → IsFrom size d s
+four_from size d s (inl h) = inl (inl h)
+four_from size d s (inr (inl h)) = inl (inr h)
+four_from size d s (inr (inr (inl h))) = inr (inl h)
+four_from size d s (inr (inr (inr (inl h)))) = inr (inr h)
+four_from size d s (inr (inr (inr (inr h)))) = absurd h
+
+-- the four sides from a dot, as a list
+pub end_of_contained : (size : Size) (d s : ℕ) → 0 < size.cols → d < dots size → Contains (sides_at size d) (Some s) → is_end size d s ≡ true
+end_of_contained size d s some low h = end_of_from size d s some low (four_from size d s (among_from_contains (sides_at size d) s h))
+
+from_four : (size : Size) (d s : ℕ) → IsFrom size d s → Among (sides_at size d) s
+from_four size d s (inl (inl h)) = inl h
+from_four size d s (inl (inr h)) = inr (inl h)
+from_four size d s (inr (inl h)) = inr (inr (inl h))
+from_four size d s (inr (inr h)) = inr (inr (inr (inl h)))
+
+pub contained_from_end : (size : Size) (d s : ℕ) → 0 < size.cols → d < dots size → s < all_sides size → is_end size d s ≡ true → Contains (sides_at size d) (Some s)
+contained_from_end size d s some low lim e = contains_from_among (sides_at size d) s (from_four size d s (from_end size d s some low lim e))
+
+pub contained_below : (size : Size) (d s : ℕ) → 0 < size.cols → d < dots size → Contains (sides_at size d) (Some s) → s < all_sides size
+contained_below size d s some low h = sides_below size d s some low (four_from size d s (among_from_contains (sides_at size d) s h))

@@ -1,5 +1,5 @@
 -- Counts over the numbers below n.
-use Rattle.std.proofs.Common.{◌≡◌, ℕ, zero, suc, ◌+◌, ◌<◌, Bool, true, false, ◌&&◌, ◌||◌, cond, Option, Some, None, refl, ap, ◌∙◌, subst, inl, inr, arith}
+use Rattle.std.proofs.Common.{◌≡◌, ℕ, zero, suc, ◌+◌, ◌<◌, ◌≤◌, Bool, true, false, ◌&&◌, ◌||◌, cond, Option, Some, None, refl, sym, ap, ◌∙◌, subst, inl, inr, arith}
 use Rattle.std.specs.Prelude.{count_by, ◌==◌, IfSome}
 use Rattle.std.proofs.lemmas.List.Sums.{sum_by-cons}
 use Rattle.std.proofs.lemmas.Bool.{cases_eq, eq-eqb, ne_eqb, and_right}
@@ -70,4 +70,61 @@ tally-hits p (Some a) (suc n) h =
           let rest = tally-hits p (Some a) n (omega arith) in
           let here : worth (p n && (a == n)) ≡ 0 = ap worth (and_right (p n) (a == n) (ne_eqb a n ne)) in
           omega arith
+    ]
+
+worth-le : (p q : Bool) → (p ≡ true → q ≡ true) → worth p ≤ worth q
+worth-le true q h = subst (λ q. 1 ≤ worth q) (sym (h refl)) (omega arith)
+worth-le false q h = omega arith
+
+-- a test that passes less often counts less
+pub tally-le : (p q : ℕ → Bool) (n : ℕ) → ((s : ℕ) → s < n → p s ≡ true → q s ≡ true) → tally p n ≤ tally q n
+tally-le p q zero h = omega arith
+tally-le p q (suc n) h =
+    let here = worth-le (p n) (q n) (h n (omega arith)) in
+    let rest = tally-le p q n (λ s l. h s (omega arith)) in
+    omega arith
+
+worth-true : (p q : Bool) → worth q ≤ worth p → q ≡ true → p ≡ true
+worth-true true q h e = refl
+worth-true false true h e = absurd (omega arith)
+worth-true false false h e = e
+
+-- a test that passes no more often than one that it implies is the same
+pub tally-full : (p q : ℕ → Bool) (n y : ℕ) → ((s : ℕ) → s < n → p s ≡ true → q s ≡ true) → tally q n ≤ tally p n → y < n → q y ≡ true → p y ≡ true
+tally-full p q zero y h le low e = absurd (omega arith)
+tally-full p q (suc n) y h le low e =
+    let here = worth-le (p n) (q n) (h n (omega arith)) in
+    let rest = tally-le p q n (λ s l. h s (omega arith)) in
+    elim (cases_eq y n) [
+      | inl is ↦ subst (λ k. p k ≡ true) (sym is) (worth-true (p n) (q n) (omega arith) (subst (λ k. q k ≡ true) is e))
+      | inr not_n ↦ tally-full p q n y (λ s l. h s (omega arith)) (omega arith) (omega arith) e
+    ]
+
+worth-one : (p : Bool) → p ≡ true → worth p ≡ 1
+worth-one p e = ap worth e
+
+-- one passes; two pass
+pub tally-one : (p : ℕ → Bool) (n x : ℕ) → x < n → p x ≡ true → 1 ≤ tally p n
+tally-one p zero x low e = absurd (omega arith)
+tally-one p (suc n) x low e =
+    elim (cases_eq x n) [
+      | inl is ↦ let here = worth-one (p n) (subst (λ k. p k ≡ true) is e) in omega arith
+      | inr not_n ↦ let rest = tally-one p n x (omega arith) e in omega arith
+    ]
+
+pub tally-two : (p : ℕ → Bool) (n x y : ℕ) → x < n → y < n → (x ≡ y → ⊥) → p x ≡ true → p y ≡ true → 2 ≤ tally p n
+tally-two p zero x y lx ly ne e f = absurd (omega arith)
+tally-two p (suc n) x y lx ly ne e f =
+    elim (cases_eq x n) [
+      | inl is ↦
+          let here = worth-one (p n) (subst (λ k. p k ≡ true) is e) in
+          let rest = tally-one p n y (omega arith) f in
+          omega arith
+      | inr not_x ↦ elim (cases_eq y n) [
+        | inl is ↦
+            let here = worth-one (p n) (subst (λ k. p k ≡ true) is f) in
+            let rest = tally-one p n x (omega arith) e in
+            omega arith
+        | inr not_y ↦ let rest = tally-two p n x y (omega arith) (omega arith) ne e f in omega arith
+      ]
     ]

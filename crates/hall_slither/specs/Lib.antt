@@ -1,2 +1,6 @@
+pub mod Chains
+pub mod Closing
+pub mod Counts
 pub mod Label
+pub mod Search
 pub mod SidesAt

@@ -54,7 +54,7 @@ fn count_lines(lines: &[u8], sides: &[usize]) -> usize
 }
 
 /// Whether a number differs from the count of lines on its cell's four sides.
-fn has_other_count(puzzle: &Puzzle, lines: &[u8]) -> bool
+pub(crate) fn has_other_count(puzzle: &Puzzle, lines: &[u8]) -> bool
     requires kind { puzzle.now.kind ≡ Kind.Slither }
     requires lines { length lines.now ≡ all_sides puzzle.now.size }
     ensures { IsTrue result ↔ HasOtherCount puzzle.now lines.now }

@@ -1,11 +1,17 @@
 //! Slitherlink: the judge.
 #![tactic(auto)]
 
+mod chain;
+mod close;
 mod dot;
 mod judge;
 mod lines;
+mod rules;
+mod spot;
+mod spread;
 
 pub use judge::broken;
+pub use rules::{SlitherRules, start};
 
 #[cfg(test)]
 mod tests;

@@ -2,6 +2,7 @@
 ghost use Rattle.std.specs.Prelude.{◌≡◌, ◌↔◌, ◌⊎◌, ◌<◌, ℕ, IsTrue, IfOk, length, Contains};
 ghost use Rattle.hall_grid.specs.Board.{IsSize};
 ghost use Rattle.hall_grid.specs.Slither.{all_sides, IsLine, ShareDot, HasLinesApart};
+ghost use Rattle.hall_grid.specs.Component.{AreComponents};
 ghost use Rattle.hall_slither.specs.Label.{LabelsDiffer};
 
 use crate::dot::sides_beside;
@@ -42,7 +43,7 @@ impl Graph for Lines<'_> {
 }
 
 /// Whether two nodes have different labels.
-fn labels_differ(labels: &[Option<usize>]) -> bool
+pub(crate) fn labels_differ(labels: &[Option<usize>]) -> bool
     ensures { IsTrue result ↔ LabelsDiffer labels.now }
 {
     let mut known = None;
@@ -57,12 +58,25 @@ fn labels_differ(labels: &[Option<usize>]) -> bool
     false
 }
 
+/// For each line a label of its chain, the same for all lines that are joined.
+pub(crate) fn line_labels(
+    alloc: Global,
+    size: Size,
+    lines: &[u8],
+) -> Result<Vec<Option<usize>>, AllocError>
+    requires size { IsSize size }
+    requires lines { length lines.now ≡ all_sides size }
+    ensures { IfOk result (λ labels. AreComponents (all_sides size) (ShareDot size) (IsLine size lines.now) labels.items) }
+{
+    components(alloc, &Lines { size, lines })
+}
+
 /// Whether there are two lines with no chain of lines from the one to the other.
 pub(crate) fn has_lines_apart(alloc: Global, size: Size, lines: &[u8]) -> Result<bool, AllocError>
     requires size { IsSize size }
     requires lines { length lines.now ≡ all_sides size }
     ensures { IfOk result (λ apart. IsTrue apart ↔ HasLinesApart size lines.now) }
 {
-    let labels = components(alloc, &Lines { size, lines })?;
+    let labels = line_labels(alloc, size, lines)?;
     Ok(labels_differ(&labels))
 }

@@ -1,5 +1,6 @@
-use crate::broken;
-use hall_grid::{Broken, Kind, parse_answer, parse_puzzle};
+use crate::{SlitherRules, broken, start};
+use hall_grid::{Broken, Kind, parse_answer, parse_puzzle, write_answer};
+use hall_solve::{Outcome, Rules, search};
 use std::alloc::Global;
 use std::test::Fail;
 
@@ -75,6 +76,52 @@ fn judges_every_size(rt: HostRuntime) -> Result<(), Fail> {
         let answer = rim(rt.alloc(), cols, rows)?;
         let verdict = verdict(rt.alloc(), puzzle, answer.as_str())?.ok_or("no answer")?;
         assert!(rt; verdict.is_empty(), "at {puzzle}");
+    }
+    Ok(())
+}
+
+/// What a search of the puzzle finds, as it is written, and how many visits it makes.
+fn solve(alloc: Global, puzzle: &str, budget: u64) -> Result<(String, u64), Fail> {
+    let puzzle = parse_puzzle(alloc, puzzle.as_bytes())?;
+    match puzzle.kind() {
+        Kind::Slither => {
+            let mut rules = SlitherRules::new(&puzzle);
+            let start = start(alloc, &puzzle)?;
+            let outcome = search(alloc, &mut rules, &start, budget)?;
+            let text = match outcome {
+                Outcome::None => String::from_str(alloc, "none")?,
+                Outcome::More(_, _) => String::from_str(alloc, "more")?,
+                Outcome::GaveUp => String::from_str(alloc, "gave up")?,
+                Outcome::One(filling) => {
+                    let answer = match parse_answer(alloc, &puzzle, b"")? {
+                        _ => filling,
+                    };
+                    format!(in alloc; "one {:?}", answer.as_slice())?
+                }
+            };
+            Ok((text, rules.visits()))
+        }
+        _ => Ok((String::new(alloc), 0)),
+    }
+}
+
+#[test]
+fn solves(rt: HostRuntime) -> Result<(), Fail> {
+    for (puzzle, budget, want) in [
+        ("slither/2/2/222c", 200000, "one 110011/101101"),
+        ("slither/1/1/g", 200000, "one 11/11"),
+        ("slither/1/1/a", 200000, "none"),
+        (
+            "slither/3/3/21210121c",
+            200000,
+            "one 111000000111/100110011001",
+        ),
+        ("slither/1/1/g", 0, "gave up"),
+        ("slither/3/3/", 200000, "more"),
+        ("slither/50/1/", 200000, "more"),
+    ] {
+        let (text, visits) = solve(rt.alloc(), puzzle, budget)?;
+        println!(rt; "{puzzle} {text} {visits}")?;
     }
     Ok(())
 }

@@ -8,7 +8,9 @@ use Rattle.hall_grid.specs.declared.rule.Rule.{Rule}
 use Rattle.hall_grid.specs.Board.{Board}
 use Rattle.hall_grid.specs.Slither.{all_sides}
 use Rattle.hall_grid.specs.Answer.{IsBroken, places_of, values_of}
+use Rattle.hall_solve.specs.declared.outcome.Outcome.{Outcome}
 use Rattle.hall_solve.specs.Question.{Question}
+use Rattle.hall_solve.specs.Answer.{OutcomeOf}
 
 -- no rule is broken
 abbrev pub IsRight : Board → List ℕ → Type 0
@@ -34,3 +36,7 @@ abbrev pub start_of : Kind → Board → List (Option ℕ)
 start_of Sudoku board = map (given_of Sudoku) board.clues
 start_of Slither board = replicate (all_sides board.size) None
 start_of Nurikabe board = map (given_of Nurikabe) board.clues
+
+-- what a search of the puzzle may answer within the budget
+abbrev pub OutcomeOfPuzzle : Board → ℕ → Outcome → Type 0
+OutcomeOfPuzzle board budget o = OutcomeOf (question_of board) (start_of board.kind board) budget o

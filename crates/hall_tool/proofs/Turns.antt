@@ -1,8 +1,7 @@
 -- What the loop of a replay keeps, and how each of its ends follows.
 use Rattle.std.proofs.Common.{◌≡◌, ◌≢◌, ◌∙◌, sym, ap, subst, refl, arith, ℕ, zero, suc, ◌+◌, ◌<◌, ◌≤◌, ◌⊎◌, inl, inr, List, [], ◌∷◌, ◌++◌, length, take, drop, Option, Some, None, append_assoc, length-append, flat_map}
 use Rattle.std.specs.Prelude.{Result, Ok, Err, Bool, true, false, MatchResult}
-use Rattle.std.proofs.lemmas.List.{append-nil, take-append-drop, take_at}
-use Rattle.std.proofs.Math.Seq.{take-append-add}
+use Rattle.std.proofs.lemmas.List.{append-nil, take-append-drop}
 use Rattle.std.proofs.lemmas.List.Concat.{flat_map-append}
 use Rattle.std.proofs.KnownBytes.{Appends-nil, Appends-trans, Consumes-nil, Consumes-trans}
 use Rattle.std.specs.Io.KnownBytes.{Appends, Consumes, IsAtEnd}
@@ -13,6 +12,7 @@ use Rattle.hall_desk.specs.Run.{Run}
 use Rattle.hall_policy.specs.World.{World}
 use Rattle.hall_tool.specs.declared.session.ReplayFault.{ReplayFault}
 use Rattle.hall_tool.specs.declared.session.ReplayFault.TheVariants as fault
+use Rattle.hall_tool.specs.Input.{WritesPart}
 use Rattle.hall_tool.specs.Records.{Record, IsRecord, record_bytes, header_of, HasNoRecord, NeverHasRecord, IsCut, bytes_between}
 use Rattle.hall_tool.specs.Replay.{Exchange, Exchanged, Answers, Session, records_of, lines_of, IsRunOver, LacksRecord, Ended, IsReplayed, ReadsMore}
 
@@ -101,14 +101,14 @@ module _ (stream after wrote written : Option (List ℕ)) (old new : World) (inb
     }
 
     -- the line couldn't be written whole
-    pub unsent : {U : Type 0} (then : Option (List ℕ)) (failed : Type 0) (k : ℕ) → Appends written then (take k line) → failed
-        → IsReplayed {U = U} stream after wrote then old next failed (Err fault.Device)
-    unsent then failed k sent rose =
-        let front : lines_of kept.done ++ take k line ≡ take (length (lines_of kept.done) + k) (lines_of (kept.done ++ x ∷ [])) =
-          sym (ap (take (length (lines_of kept.done) + k)) (lines_more kept.done x) ∙ take-append-add (lines_of kept.done) line k) in
+    pub unsent : {U : Type 0} (then : Option (List ℕ)) (failed : Type 0) → WritesPart written then line → failed → IsReplayed {U = U} stream after wrote then old next failed (Err fault.Device)
+    unsent then failed (front, rest, split, sent) rose =
+        let whole : lines_of (kept.done ++ x ∷ []) ≡ (lines_of kept.done ++ front) ++ rest =
+          lines_more kept.done x ∙ ap (λ s. lines_of kept.done ++ s) split ∙ sym (append_assoc (lines_of kept.done) front rest) in
         record {
-          answered = kept.done ++ x ∷ []; unread = drop end inbox; whole = all_records old (kept.done ++ x ∷ []) next longer; run = run_over old (kept.done ++ x ∷ []) next longer; consumed = rw same_bytes kept.consumed;
-          ended = (length (lines_of kept.done) + k, subst (λ s. Appends wrote then s) front (Appends-trans wrote written then (lines_of kept.done) (take k line) kept.replied sent), rose);
+          answered = kept.done ++ x ∷ []; unread = drop end inbox; whole = all_records old (kept.done ++ x ∷ []) next longer; run = run_over old (kept.done ++ x ∷ []) next longer;
+          consumed = rw same_bytes kept.consumed;
+          ended = ((lines_of kept.done ++ front, rest, whole, Appends-trans wrote written then (lines_of kept.done) front kept.replied sent), rose);
         }
 
   still : (then : Option (List ℕ)) → Consumes after then [] → Consumes stream then (records_of kept.done ++ inbox)
@@ -119,7 +119,7 @@ module _ (stream after wrote written : Option (List ℕ)) (old new : World) (inb
     unread_device then none rose = record {
       answered = kept.done; unread = inbox; whole = all_records old kept.done new kept.session; run = run_over old kept.done new kept.session;
       consumed = still then none;
-      ended = (length (lines_of kept.done), subst (λ s. Appends wrote written s) (sym (let whole = append-nil (lines_of kept.done) in ap (take (length (lines_of kept.done))) (sym whole) ∙ take_at (lines_of kept.done) [] _ refl)) kept.replied, rose);
+      ended = ((lines_of kept.done, [], sym (append-nil (lines_of kept.done)), kept.replied), rose);
     }
 
     pub no_memory : (then : Option (List ℕ)) (piece : List ℕ) → Consumes after then piece → IsReplayed {U = U} stream then wrote written old new failed (Err fault.Memory)

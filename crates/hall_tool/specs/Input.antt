@@ -1,5 +1,6 @@
 -- The input of the commands judge and solve: lines of at most 8,192 bytes together.
-use Rattle.std.specs.Prelude.{◌≡◌, ℕ, ◌≤◌, ◌==◌, Bool, Option, List, [], ◌∷◌, length, take, IfSome}
+use Rattle.std.specs.Prelude.{◌≡◌, ◌++◌, ℕ, ◌≤◌, ◌==◌, Bool, Option, List, [], ◌∷◌, length, take, IfSome}
+use Rattle.std.specs.Io.KnownBytes.{Appends}
 use Rattle.std.specs.Str.Lines.{lines}
 
 -- known input is this up to the limit
@@ -10,5 +11,14 @@ IsFront limit known bytes = IfSome known (λ all. bytes ≡ take limit all)
 abbrev pub HasTwoLines : List ℕ → List ℕ → List ℕ → Type 0
 HasTwoLines input first second = (length input ≤ 8192) × (lines input ≡ first ∷ second ∷ [])
 
+-- the input is at most 8,192 bytes in one line
+abbrev pub HasOneLine : List ℕ → List ℕ → Type 0
+HasOneLine input line = (length input ≤ 8192) × (lines input ≡ line ∷ [])
+
+-- whether the byte is a line feed
 abbrev pub is_line_feed : ℕ → Bool
 is_line_feed byte = byte == 10
+
+-- a first part of the bytes was written, perhaps none of them
+abbrev pub WritesPart : Option (List ℕ) → Option (List ℕ) → List ℕ → Type 0
+WritesPart old new bytes = (front rest : List ℕ) × (bytes ≡ front ++ rest) × Appends old new front

@@ -13,6 +13,7 @@ use Rattle.hall_tool.specs.declared.answer.Line.{Line}
 use Rattle.hall_tool.specs.declared.answer.Line.TheVariants.{Text, Unavailable}
 use Rattle.hall_tool.specs.declared.session.ReplayFault.{ReplayFault}
 use Rattle.hall_tool.specs.declared.session.ReplayFault.TheVariants as fault
+use Rattle.hall_tool.specs.Input.{WritesPart}
 use Rattle.hall_tool.specs.Request.{RequestOf}
 use Rattle.hall_tool.specs.Reply.{BytesOf, FaultBytesOf}
 use Rattle.hall_tool.specs.Records.{Record, IsRecord, record_bytes, HasNoRecord, NeverHasRecord}
@@ -95,7 +96,7 @@ abbrev pub Ended : {U : Type 0} → Result U ReplayFault → Option (List ℕ) �
 Ended (Ok done) after wrote written xs unread failed = Appends wrote written (lines_of xs) × (unread ≡ []) × IsAtEnd after
 Ended (Err fault.Record) after wrote written xs unread failed =
     Appends wrote written (lines_of xs) × (LacksRecord after unread ⊎ (1000000000 ≤ length (records_of xs ++ unread)))
-Ended (Err fault.Device) after wrote written xs unread failed = (k : ℕ) × Appends wrote written (take k (lines_of xs)) × failed
+Ended (Err fault.Device) after wrote written xs unread failed = WritesPart wrote written (lines_of xs) × failed
 Ended (Err fault.Memory) after wrote written xs unread failed = Appends wrote written (lines_of xs)
 
 -- the stream was read as these records and then this rest, the records were answered, and the replay ended so

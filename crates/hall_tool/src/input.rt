@@ -2,7 +2,7 @@
 ghost use Rattle.std.specs.Prelude.{◌≡◌, ◌==◌, ◌∷◌, [], ◌↔◌, List, ℕ, IsTrue, MatchOption, length};
 ghost use Rattle.std.specs.List.{position, before_first, after_first};
 ghost use Rattle.std.specs.Str.Lines.{lines, strip_carriage_return};
-ghost use Rattle.hall_tool.specs.Input.{HasTwoLines, is_line_feed};
+ghost use Rattle.hall_tool.specs.Input.{HasOneLine, HasTwoLines, is_line_feed};
 
 /// The most bytes that an input has.
 pub const LIMIT: usize = 8192;
@@ -51,5 +51,19 @@ pub fn two_lines(input: &[u8]) -> Option<(&[u8], &[u8])>
     match next_line(rest) {
         Some(_) => None,
         None => Some((first, second)),
+    }
+}
+
+/// The line of an input; none where it has another number of lines or more than 8,192 bytes.
+pub fn one_line(input: &[u8]) -> Option<&[u8]>
+    ensures { MatchOption result ((line : List ℕ) → HasOneLine input.now line → ⊥) (λ line. HasOneLine input.now line.now) }
+{
+    if input.len() > LIMIT {
+        return None;
+    }
+    let (line, rest) = next_line(input)?;
+    match next_line(rest) {
+        Some(_more) => None,
+        None => Some(line),
     }
 }

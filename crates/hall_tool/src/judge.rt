@@ -1,78 +1,31 @@
 //! The command `judge`.
 ghost use Rattle.std.specs.Prelude.{◌≡◌, ◌⊎◌, ℕ, List, IfOk, IfErr, IfSome, OnErr, IsErrOf, string_bytes};
 ghost use Rattle.std.specs.Io.KnownBytes.{Appends};
-ghost use Rattle.hall_grid.specs.Answer.{Verdict, IsNoForm, IsFilling, AreBroken};
-ghost use Rattle.hall_grid.specs.Fault.{fault_text};
 ghost use Rattle.hall_grid.specs.Device.{HasFailed};
-ghost use Rattle.hall_tool.specs.JudgeText.{JudgeText, AnswersTexts, IsVerdictLine, refusal_of};
+ghost use Rattle.hall_tool.specs.JudgeText.{JudgeText, AnswersTexts, IsVerdictLine};
+ghost use Rattle.hall_tool.specs.Input.{WritesPart};
 
 use crate::device::{read_input, write_line};
+use crate::ending::{Ending, refused, refused_input};
 use crate::fault::ToolFault;
 use crate::input::{LIMIT, two_lines};
-use hall_grid::{
-    Broken, Counted, Filling, Kind, Puzzle, Rule, TextFault, parse_answer, parse_puzzle,
-};
+use hall_desk::judge;
+use hall_grid::{Counted, Puzzle, TextFault, parse_puzzle};
 use std::alloc::{AllocError, Global};
 use std::io::{Read, Write};
 
-/// A line to be written, and the exit status that goes with it.
-#[derive(Drop)]
-pub struct Answer {
-    pub line: String,
-    pub status: u8,
-}
-
-/// The names for an answer text: the rules that it breaks, or A0 where it says no filling.
-fn verdict(alloc: Global, puzzle: &Puzzle, text: &[u8]) -> Result<Broken, AllocError>
-    ensures { IfOk result (Verdict puzzle.now text.now) }
-{
-    match parse_answer(alloc, puzzle, text)? {
-        Some(filling) => broken(alloc, puzzle, &filling),
-        None => Ok(no_form()),
-    }
-}
-
-/// The names of the rules that the filling breaks, by the judge of the puzzle's kind.
-fn broken(alloc: Global, puzzle: &Puzzle, filling: &Filling) -> Result<Broken, AllocError>
-    requires { IsFilling puzzle.now filling.now }
-    ensures { IfOk result (AreBroken puzzle.now filling.now) }
-{
-    match puzzle.kind() {
-        Kind::Sudoku => Ok(hall_sudoku::broken(puzzle, filling)),
-        Kind::Slither => hall_slither::broken(alloc, puzzle, filling),
-        Kind::Nurikabe => hall_nurikabe::broken(alloc, puzzle, filling),
-    }
-}
-
-/// A0 alone.
-fn no_form() -> Broken
-    ensures { IsNoForm result }
-{
-    let mut names = Broken::new();
-    names.insert(Rule::A0);
-    names
-}
-
-/// A refusal.
-fn refused(alloc: Global, fault: TextFault) -> Result<Answer, AllocError>
-    ensures { IfOk result (λ a. (string_bytes a.line ≡ refusal_of (fault_text fault)) × (a.status ≡ 2)) }
-{
-    let line = format!(in alloc; "refused {fault}\n")?;
-    Ok(Answer { line, status: 2 })
-}
-
 /// The verdict on an answer text, as a line.
-fn judged(alloc: Global, puzzle: &Puzzle, answer: &[u8]) -> Result<Answer, AllocError>
+fn judged(alloc: Global, puzzle: &Puzzle, answer: &[u8]) -> Result<Ending, AllocError>
     ensures { IfOk result (λ a. IsVerdictLine puzzle.now answer.now (string_bytes a.line) a.status) }
 {
-    let names = verdict(alloc, puzzle, answer)?;
+    let names = judge(alloc, puzzle, answer)?;
     let line = format!(in alloc; "{names}\n")?;
     let status = if names.bits() == 0 { 0 } else { 1 };
-    Ok(Answer { line, status })
+    Ok(Ending { line, status })
 }
 
 /// The line for a puzzle text and an answer text.
-fn answer_texts(alloc: Global, text: &[u8], answer: &[u8]) -> Result<Answer, AllocError>
+fn answer_texts(alloc: Global, text: &[u8], answer: &[u8]) -> Result<Ending, AllocError>
     ensures { IfOk result (λ a. AnswersTexts text.now answer.now (string_bytes a.line) a.status) }
 {
     match parse_puzzle(alloc, text) {
@@ -83,15 +36,12 @@ fn answer_texts(alloc: Global, text: &[u8], answer: &[u8]) -> Result<Answer, All
 }
 
 /// The line for an input.
-fn answer_input(alloc: Global, input: &[u8]) -> Result<Answer, AllocError>
+fn answer_input(alloc: Global, input: &[u8]) -> Result<Ending, AllocError>
     ensures { IfOk result (λ a. JudgeText input.now (string_bytes a.line) a.status) }
 {
     match two_lines(input) {
         Some((text, answer)) => answer_texts(alloc, text, answer),
-        None => {
-            let line = String::from_str(alloc, "refused input\n")?;
-            Ok(Answer { line, status: 2 })
-        }
+        None => refused_input(alloc),
     }
 }
 
@@ -106,12 +56,15 @@ pub fn judge_run<R: Read, W: Write>(
         × JudgeText input line status × Appends (W.contents writer.old.device) (W.contents writer.new.device) line)) }
     ensures device { IsErrOf result ToolFault.Device
         → HasFailed reader.old.failures reader.new.failures ⊎ HasFailed writer.old.failures writer.new.failures }
+    // At a device's fault a first part of the line was written, perhaps none of it.
+    ensures part { IsErrOf result ToolFault.Device → (writer.new ≡ writer.old) ⊎ IfSome (R.remaining reader.old.device)
+        (λ input. (line : List ℕ) × (status : ℕ) × JudgeText input line status × WritesPart (W.contents writer.old.device) (W.contents writer.new.device) line) }
     // A refusal for memory leaves the writer as it was.
     ensures memory { IsErrOf result ToolFault.Memory → writer.new ≡ writer.old }
     ensures no_store { IsErrOf result ToolFault.Store → ⊥ }
 {
     let input = read_input(alloc, reader, LIMIT + 1)?;
-    let answer = answer_input(alloc, &input)?;
-    write_line(writer, answer.line.as_bytes())?;
-    Ok(answer.status)
+    let ending = answer_input(alloc, &input)?;
+    write_line(writer, ending.line.as_bytes())?;
+    Ok(ending.status)
 }

@@ -3,6 +3,7 @@ ghost use Rattle.std.specs.Prelude.{◌≡◌, ◌≤◌, ◌<◌, ◌⊎◌, �
 ghost use Rattle.std.specs.Io.KnownBytes.{Appends, Consumes, IsAtEnd};
 ghost use Rattle.hall_grid.specs.Device.{HasFailed};
 ghost use Rattle.hall_desk.specs.Desk.{world_of};
+ghost use Rattle.hall_tool.specs.Input.{WritesPart};
 ghost use Rattle.hall_tool.specs.Replay.{IsReplayed, ReadsMore, line_text};
 
 use crate::answer::{Line, answer_bytes};
@@ -74,7 +75,7 @@ fn read_more<R: Read>(reader: &mut Counted<R>, inbox: &mut Vec<u8>) -> Result<bo
 fn send<W: Write>(writer: &mut Counted<W>, line: Line) -> Result<(), ToolFault>
     ensures written { OnOk result (Appends (W.contents writer.old.device) (W.contents writer.new.device) (line_text line)) }
     ensures same { OnOk result (writer.new.failures ≡ writer.old.failures) }
-    ensures front { OnErr result ((n : ℕ) × Appends (W.contents writer.old.device) (W.contents writer.new.device) (take n (line_text line))) }
+    ensures part { OnErr result (WritesPart (W.contents writer.old.device) (W.contents writer.new.device) (line_text line)) }
     ensures device { IfErr result (λ e. (e ≡ ToolFault.Device) × HasFailed writer.old.failures writer.new.failures) }
 {
     write_line(writer, line.as_bytes())

@@ -1,4 +1,4 @@
-use crate::{ToolFault, judge_run};
+use crate::{ToolFault, judge_run, solve_run};
 use hall_grid::Counted;
 use std::io;
 use std::io::{Read, Write};
@@ -195,6 +195,38 @@ fn a_failing_writer_is_a_device_fault(rt: HostRuntime) -> Result<(), Fail> {
             assert!(rt; judge_run(rt.alloc(), &mut reader, &mut writer) == Err(ToolFault::Device));
             assert!(rt; writer.failures() == 1);
         }
+    }
+    Ok(())
+}
+
+#[test]
+fn solves_with_the_line_and_the_status(rt: HostRuntime) -> Result<(), Fail> {
+    let rows: [(&[u8], u64, &[u8], u8); 12] = [
+        (b"sudoku/4/4/g2g4g4g221434321\n", 200_000, b"more\n", 1),
+        (b"nurikabe/2/2/1i\n", 200_000, b"one .###\n", 0),
+        (b"nurikabe/2/2/j", 31, b"none\n", 1),
+        (b"sudoku/4/4/v\r\n", 1, b"gave up\n", 1),
+        (b"sudoku/4/4/v\n", 0, b"gave up\n", 1),
+        (b"slither/2/2/222c\n", 200_000, b"one 110011/101101\n", 0),
+        (b"slither/1/1/a\n", 200_000, b"none\n", 1),
+        (b"sudoku/9/8/g\n", 200_000, b"refused E4\n", 2),
+        (b"slither/2/2/f\n", 200_000, b"refused E5 0\n", 2),
+        (b"", 200_000, b"refused input\n", 2),
+        (b"sudoku/4/4/v\n\n", 200_000, b"refused input\n", 2),
+        (
+            b"sudoku/9/9/53h7j6h195j98j6g8i6i34h8g3h17i2i6g6j28j419h5j8h79\n",
+            200_000,
+            b"one 534678912672195348198342567859761423426853791713924856961537284287419635345286179\n",
+            0,
+        ),
+    ];
+    for (input, budget, line, status) in &rows {
+        let mut reader = Counted::new(*input);
+        let mut writer = Counted::new(Vec::new(rt.alloc()));
+        let ended = solve_run(rt.alloc(), &mut reader, &mut writer, *budget);
+        assert!(rt; ended == Ok(*status));
+        let written = writer.into_inner();
+        assert!(rt; written.as_slice() == *line);
     }
     Ok(())
 }

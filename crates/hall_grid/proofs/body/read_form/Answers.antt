@@ -1,5 +1,4 @@
-use Rattle.std.proofs.Common.{◌≡◌, inr, refl, sym, ap, rules, arith, IsTrue, Err}
-use Rattle.hall_grid.specs.declared.form.FormFault.TheVariants.{Strange, Cut}
+use Rattle.std.proofs.Common.{inr, refl, IsTrue}
 use Rattle.hall_grid.proofs.Forms.{takes_form, has_wrong, is_cut, is_strange}
 use Rattle.hall_grid.proofs.body.read_form.Goals as goal
 

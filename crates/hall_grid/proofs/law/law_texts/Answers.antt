@@ -1,8 +1,13 @@
+use Rattle.hall_grid.proofs.EveryText.{spells_or_fault}
+use Rattle.hall_grid.proofs.EveryPuzzle.{has_canonical_text}
 use Rattle.hall_grid.proofs.Bodies.{IsBoard-from_Spells}
 use Rattle.hall_grid.proofs.OneReading.{one_puzzle, no_text_fault, one_text_fault}
 use Rattle.hall_grid.proofs.OneWriting.{one_canonical_text}
 use Rattle.hall_grid.proofs.Spelled.{SpellsText-from_CanonicalText}
 use Rattle.hall_grid.proofs.law.law_texts.Goals as goal
+
+pub returns-clause-spells_or_fault : goal.returns-clause-spells_or_fault
+returns-clause-spells_or_fault c = spells_or_fault
 
 pub returns-clause-one_puzzle : goal.returns-clause-one_puzzle
 returns-clause-one_puzzle c = one_puzzle
@@ -15,6 +20,9 @@ returns-clause-no_fault c = no_text_fault
 
 pub returns-clause-one_fault : goal.returns-clause-one_fault
 returns-clause-one_fault c = one_text_fault
+
+pub returns-clause-has_canonical_text : goal.returns-clause-has_canonical_text
+returns-clause-has_canonical_text c = has_canonical_text
 
 pub returns-clause-canonical_spells : goal.returns-clause-canonical_spells
 returns-clause-canonical_spells c = λ text board is_board canonical. SpellsText-from_CanonicalText text board is_board.size canonical

@@ -1,6 +1,4 @@
-use Rattle.std.proofs.Common.{◌≡◌, ◌+◌, ◌<◌, length, string_bytes, arith, subst, sym, ap}
-use Rattle.hall_grid.specs.Board.{cells}
-use Rattle.hall_grid.specs.FormReading.{given_clues}
+use Rattle.std.proofs.Common.{◌+◌, string_bytes, arith, subst, sym, ap}
 use Rattle.hall_grid.proofs.Writings.{IsWritten, IsWritten-more, AppendsBody-from_IsWritten}
 use Rattle.hall_grid.proofs.write.push_body.Goals as goal
 

@@ -15,7 +15,7 @@ overflow_add-index_mut c =
     let whole = c.loop-cell.invariant.exact in
     let few = Tallies-bound _ _ _ _ c.loop-cell.invariant c.in-Some.label low in
     let same : get_or c.loop-cell.counts.items c.in-Some.label c.index_mut.result.now ≡ get_or c.loop-cell.counts.items c.in-Some.label 0 =
-      get_or_default c.loop-cell.counts.items c.in-Some.label c.index_mut.result.now 0 (omega arith) in
+    get_or_default c.loop-cell.counts.items c.in-Some.label c.index_mut.result.now 0 (omega arith) in
     let value = c.index_mut.ensures.value in
     omega arith
 
@@ -25,7 +25,7 @@ loop-cell-preserved c = elim c.if-marks-cell.branch [
       let low = c.requires.labels c.loop-cell.cell w.in-Some.label w.in-Some.is in
       let whole = c.loop-cell.invariant.exact in
       let same : get_or c.loop-cell.counts.items w.in-Some.label w.index_mut.result.now ≡ get_or c.loop-cell.counts.items w.in-Some.label 0 =
-        get_or_default c.loop-cell.counts.items w.in-Some.label w.index_mut.result.now 0 (omega arith) in
+      get_or_default c.loop-cell.counts.items w.in-Some.label w.index_mut.result.now 0 (omega arith) in
       let value = w.index_mut.ensures.value in
       rw w.counts-is
       (Tallies-count _ _ _ _ c.loop-cell.invariant w.in-Some.label (w.index_mut.result.now + 1) low w.in-Some.is w.if-marks-cell.true (omega arith))

@@ -26,22 +26,22 @@ returns c =
     let walls = (rw same at c.in_ok-walls.ensures) in
     let whites = (rw same at c.in_ok-whites.ensures) in
     let a : AreComponents (cells c.args.puzzle.now.size) (Touch c.args.puzzle.now.size) (IsWall c.args.puzzle.now.size c.args.filling.now) c.in_ok-wall_labels.wall_labels.items
-      = regions_are _ _ _ _ _ exact walls (rw (size, c.deref.ensures.value) at c.in_ok-wall_labels.ensures) in
+    = regions_are _ _ _ _ _ exact walls (rw (size, c.deref.ensures.value) at c.in_ok-wall_labels.ensures) in
     let i : AreComponents (cells c.args.puzzle.now.size) (Touch c.args.puzzle.now.size) (IsWhite c.args.puzzle.now.size c.args.filling.now) c.in_ok-islands.islands.items
-      = regions_are _ _ _ _ _ exact whites (rw (size, c.deref-2.ensures.value) at c.in_ok-islands.ensures) in
+    = regions_are _ _ _ _ _ exact whites (rw (size, c.deref-2.ensures.value) at c.in_ok-islands.ensures) in
     let numbered = c.in_ok-numbered.ensures in
     let numbers = (rw (c.deref-3.ensures.value, c.deref-4.ensures.value) at c.in_ok-numbers.ensures) in
     let sizes = (rw (c.deref-5.ensures.value, c.deref-6.ensures.value) at c.in_ok-sizes.ensures) in
     let n1 = through (rw (c.deref-7.ensures.value, c.deref-8.ensures.value) at c.have_common_cell.ensures)
-      (number_in_wall_are c.args.puzzle.now c.args.filling.now _ _ exact numbered walls) in
+    (number_in_wall_are c.args.puzzle.now c.args.filling.now _ _ exact numbered walls) in
     let n2 = (rw (size, same) at c.has_pool.ensures) in
     let n3 = through (rw c.deref-9.ensures.value at c.have_two_labels.ensures) (apart_are _ _ _ a) in
     let n4 = through (rw (c.deref-10.ensures.value, c.deref-11.ensures.value) at c.has_label_without_number.ensures)
-      (without_number_are c.args.puzzle.now c.args.filling.now _ i _ _ numbered numbers) in
+    (without_number_are c.args.puzzle.now c.args.filling.now _ i _ _ numbered numbers) in
     let n5 = through (rw c.deref-12.ensures.value at c.has_label_with_two.ensures)
-      (with_two_are c.args.puzzle.now c.args.filling.now _ i _ _ numbered numbers) in
+    (with_two_are c.args.puzzle.now c.args.filling.now _ i _ _ numbered numbers) in
     let n6 = through (rw (c.deref-13.ensures.value, c.deref-14.ensures.value) at c.has_other_size.ensures)
-      (other_size_are c.args.puzzle.now c.args.filling.now _ i _ _ (λ cell w. (whites.marked cell).1 (let low = w.0 in omega arith, w.1)) sizes) in
+    (other_size_are c.args.puzzle.now c.args.filling.now _ i _ _ (λ cell w. (whites.marked cell).1 (let low = w.0 in omega arith, w.1)) sizes) in
     rw c.requires.kind
     (nurikabe_names c.args.puzzle.now c.args.filling.now _ _ _ _ _ _ _ _ _ _ _ _ _ c.new-broken.ensures
     c.insert_if.ensures c.insert_if-2.ensures c.insert_if-3.ensures c.insert_if-4.ensures c.insert_if-5.ensures c.insert_if-6.ensures n1 n2 n3 n4 n5 n6)

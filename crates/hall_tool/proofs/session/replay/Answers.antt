@@ -14,8 +14,7 @@ pub returns-in-Err : goal.returns-in-Err
 returns-in-Err g c =
     let (r, late, whole) = rw c.as_slice.ensures.value at c.in-Whole.ensures in
     let says = rw (c.as_slice-in-Whole.ensures.value, ← late) at c.answer_bytes-line.ensures in
-    let (k, sent) = c.in-Err.ensures.front in
-    unsent _ _ _ _ _ _ _ _ c.records.invariant.kept r c.in-Whole.start c.in-Whole.end _ _ whole says _ _ k sent (inr (rw c.records.invariant.writer at c.in-Err.ensures.device.1))
+    unsent _ _ _ _ _ _ _ _ c.records.invariant.kept r c.in-Whole.start c.in-Whole.end _ _ whole says _ _ c.in-Err.ensures.part (inr (rw c.records.invariant.writer at c.in-Err.ensures.device.1))
 
 pub records-preserved-in-Ok : goal.records-preserved-in-Ok
 records-preserved-in-Ok g c =

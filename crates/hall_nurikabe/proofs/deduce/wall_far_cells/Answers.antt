@@ -1,0 +1,17 @@
+use Rattle.std.proofs.Common.{arith}
+use Rattle.hall_nurikabe.proofs.Forcing.{AreForced-set}
+use Rattle.hall_nurikabe.proofs.Distance.{far_forced}
+use Rattle.hall_nurikabe.proofs.deduce.wall_far_cells.Goals as goal
+use Rattle.hall_nurikabe.proofs.deduce.wall_far_cells.Goals.{then-left-cell-eq0, else-left-cell-eq0}
+
+pub loop-cell-preserved : goal.loop-cell-preserved
+loop-cell-preserved c = elim c.if-left-cell-eq0.branch [
+  | then-left-cell-eq0 w ↦
+      let all = c.cells-cell-end.ensures.cells in
+      rw w.forced-is
+      (AreForced-set c.args.puzzle.now c.args._partial.now c.loop-cell.forced c.loop-cell.cell 1 (omega arith) (omega arith)
+      (far_forced c.args.puzzle.now c.args._partial.now c.requires.partial c.cells-cell-end.ensures.board.clues c.args.left.now c.requires.left c.loop-cell.cell (omega arith)
+      w.if-left-cell-eq0.true)
+      c.loop-cell.invariant)
+  | else-left-cell-eq0 w ↦ rw w.forced-is c.loop-cell.invariant
+]

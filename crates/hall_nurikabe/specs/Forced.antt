@@ -1,0 +1,56 @@
+-- What marks, regions and numbers of a partial filling say.
+use Rattle.std.specs.Prelude.{◌≡◌, ◌≢◌, ◌↔◌, ◌⊎◌, ℕ, ◌+◌, ◌<◌, Bool, List, length, slice_index, slice_index_or, Option, Some, None}
+use Rattle.hall_grid.specs.declared.board.Size.{Size}
+use Rattle.hall_grid.specs.Board.{Board, cells, Touch}
+use Rattle.hall_grid.specs.Nurikabe.{IsNumbered}
+use Rattle.hall_grid.specs.Component.{IsLabelled, AreComponents}
+use Rattle.hall_grid.specs.Reached.{IsMarked}
+use Rattle.hall_solve.specs.Deduction.{HasAlways}
+use Rattle.hall_nurikabe.specs.Tally.{HasCount}
+use Rattle.hall_nurikabe.specs.Solving.{question_of}
+
+-- each value of the list is one that every solution has at its place
+pub record AreForced (board : Board) (p forced : List (Option ℕ)) : Type 0 where
+  pub exact : length forced ≡ cells board.size
+  pub always : (cell v : ℕ) → slice_index_or forced cell None ≡ Some v → (v < 2) × HasAlways (question_of board) p cell v
+
+-- the cells that are set to the value
+abbrev pub IsSetTo : List (Option ℕ) → ℕ → ℕ → Type 0
+IsSetTo p value cell = slice_index_or p cell None ≡ Some value
+
+-- the cells of the board that aren't set to the value
+abbrev pub IsOpenTo : List (Option ℕ) → ℕ → ℕ → Type 0
+IsOpenTo p value cell = (cell < length p) × (slice_index_or p cell None ≡ Some value → ⊥)
+
+-- exactly the members of the set are marked
+pub record MarksSet (IsMember : ℕ → Type 0) (n : ℕ) (marks : List Bool) : Type 0 where
+  pub exact : length marks ≡ n
+  pub marked : (cell : ℕ) → IsMarked marks cell ↔ IsMember cell
+
+-- the regions of a set of cells, and for each label how many cells have it
+pub record AreRegions (size : Size) (IsMember : ℕ → Type 0) (labels : List (Option ℕ)) (sizes : List ℕ) : Type 0 where
+  pub components : AreComponents (cells size) (Touch size) IsMember labels
+  pub exact : length sizes ≡ cells size
+  pub counted : (label : ℕ) → label < cells size → HasCount (λ cell. IsLabelled labels cell label) (slice_index sizes label)
+
+-- a cell beside the cell has the label
+abbrev pub IsBeside : Size → List (Option ℕ) → ℕ → ℕ → Type 0
+IsBeside size labels cell label = (other : ℕ) × Touch size cell other × IsLabelled labels other label
+
+-- each label's number is a cell of it
+pub record AreOwners (board : Board) (labels owners : List (Option ℕ)) : Type 0 where
+  pub exact : length owners ≡ cells board.size
+  pub owner : (label cell : ℕ) → slice_index_or owners label None ≡ Some cell → IsNumbered board cell × IsLabelled labels cell label
+
+-- two cells with numbers have one label
+abbrev pub HaveTwoOwners : Board → List (Option ℕ) → Type 0
+HaveTwoOwners board labels = (a b label : ℕ) × (a ≢ b) × IsNumbered board a × IsNumbered board b × IsLabelled labels a label × IsLabelled labels b label
+
+-- cells beside the cell have different labels with numbers
+abbrev pub IsBetween : Size → List (Option ℕ) → List (Option ℕ) → ℕ → Type 0
+IsBetween size labels owners cell = (x y a b : ℕ) × (x ≢ y) × IsBeside size labels cell x × IsBeside size labels cell y
+    × (slice_index_or owners x None ≡ Some a) × (slice_index_or owners y None ≡ Some b)
+
+-- two cells that are set to the value have different labels
+abbrev pub AreApart : List (Option ℕ) → ℕ → List (Option ℕ) → Type 0
+AreApart p value labels = (a b x y : ℕ) × IsSetTo p value a × IsSetTo p value b × IsLabelled labels a x × IsLabelled labels b y × (x ≢ y)

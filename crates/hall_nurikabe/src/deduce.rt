@@ -1,0 +1,237 @@
+//! Deductions about a partly filled board.
+ghost use Rattle.std.specs.Prelude.{◌≡◌, ℕ, ◌<◌, IsTrue, IfOk, OnOk, OnErr, MatchOption, length};
+ghost use Rattle.hall_grid.specs.Board.{cells, IsSize, Touch};
+ghost use Rattle.hall_grid.specs.Component.{AreComponents};
+ghost use Rattle.hall_solve.specs.Question.{Question, IsPartial, IsHopeless, Narrows};
+ghost use Rattle.hall_solve.specs.Deduction.{IsDeduced};
+ghost use Rattle.hall_grid.specs.declared.board.Kind.TheVariants.{Nurikabe};
+ghost use Rattle.hall_nurikabe.specs.Solving.{question_of};
+ghost use Rattle.hall_nurikabe.specs.Forced.{AreForced, AreOwners, AreRegions, IsOpenTo, IsSetTo};
+ghost use Rattle.hall_nurikabe.specs.Spreading.{IsSpread};
+
+use crate::blocks::Blocks;
+use crate::forced::{Forced, force_label, force_walls_beside};
+use crate::judge::{WALL, WHITE};
+use crate::region::{Regions, are_apart, is_between, owners, places_open_to, places_set_to};
+use crate::spread::spread;
+use hall_grid::{Clue, Puzzle, regions};
+use hall_solve::{Deduce, Partial, Pass, sweep};
+use std::alloc::{AllocError, Global};
+
+/// All deductions, the cheap ones first.
+#[derive(Drop)]
+pub(crate) struct Deductions<'a> {
+    pub(crate) puzzle: &'a Puzzle,
+    pub(crate) ghost kind: { puzzle.now.kind ≡ Nurikabe },
+}
+
+impl Deduce for Deductions<'_> {
+    ghost question = { λ deductions. question_of deductions.puzzle.now };
+
+    fn pass(&self, alloc: Global, partial: &mut Partial) -> Result<Pass, AllocError> {
+        match sweep(
+            alloc,
+            &Blocks {
+                puzzle: self.puzzle,
+            },
+            partial,
+        )? {
+            Pass::Settled => {}
+            pass => return Ok(pass),
+        }
+        match forced_by_regions(alloc, self.puzzle, partial)? {
+            Some(values) => sweep_forced(alloc, self.puzzle, partial, &values),
+            None => Ok(Pass::Dead),
+        }
+    }
+}
+
+/// Sets the values of the list at their places, where these are open.
+fn sweep_forced(
+    alloc: Global,
+    puzzle: &Puzzle,
+    partial: &mut Partial,
+    values: &[Option<u8>],
+) -> Result<Pass, AllocError>
+    requires partial { IsPartial (question_of puzzle.now) partial.old }
+    requires forced { AreForced puzzle.now partial.old values.now }
+    ensures deduced { IfOk result (IsDeduced (question_of puzzle.now) partial.old partial.new) }
+    ensures err { OnErr result (Narrows (question_of puzzle.now) partial.old partial.new) }
+{
+    sweep(alloc, &Forced { puzzle, values }, partial)
+}
+
+/// The values that follow from regions of cells, none at all where there is no solution.
+fn forced_by_regions(
+    alloc: Global,
+    puzzle: &Puzzle,
+    partial: &Partial,
+) -> Result<Option<Vec<Option<u8>>>, AllocError>
+    requires kind { puzzle.now.kind ≡ Nurikabe }
+    requires partial { IsPartial (question_of puzzle.now) partial.now }
+    ensures { IfOk result (λ found. MatchOption found (IsHopeless (question_of puzzle.now) partial.now) (λ forced. AreForced puzzle.now partial.now forced.items)) }
+{
+    let cells = puzzle.cells();
+    if are_walls_apart(alloc, puzzle, partial)? {
+        return Ok(None);
+    }
+    let mut forced = vec![in alloc; None; cells]?;
+    if look_at_groups(alloc, puzzle, partial, &mut forced)? {
+        return Ok(None);
+    }
+    if look_at_reaches(alloc, puzzle, partial, &mut forced)? {
+        return Ok(None);
+    }
+    Ok(Some(forced))
+}
+
+/// Forces what groups of white cells say; tells whether they leave no solution.
+fn look_at_groups(
+    alloc: Global,
+    puzzle: &Puzzle,
+    partial: &Partial,
+    forced: &mut [Option<u8>],
+) -> Result<bool, AllocError>
+    requires size { IsSize puzzle.now.size }
+    requires partial { IsPartial (question_of puzzle.now) partial.now }
+    requires forced { AreForced puzzle.now partial.now forced.old }
+    ensures dead { IfOk result (λ dead. IsTrue dead → IsHopeless (question_of puzzle.now) partial.now) }
+    ensures forced { OnOk result (AreForced puzzle.now partial.now forced.new) }
+{
+    let white = places_set_to(alloc, partial, WHITE)?;
+    let groups = Regions::new(alloc, puzzle.size(), &white)?;
+    let Some(owners) = owners(alloc, puzzle, &groups.labels)? else {
+        return Ok(true);
+    };
+    part_groups(puzzle, partial, &groups.labels, &owners, forced);
+    Ok(close_groups(puzzle, partial, &groups.labels, &groups.sizes, forced))
+}
+
+/// Forces walls where no number comes.
+fn wall_far_cells(puzzle: &Puzzle, _partial: &Partial, left: &[usize], forced: &mut [Option<u8>])
+    requires partial { IsPartial (question_of puzzle.now) _partial.now }
+    requires left { IsSpread puzzle.now (IsOpenTo _partial.now 1) left.now }
+    requires forced { AreForced puzzle.now _partial.now forced.old }
+    ensures { AreForced puzzle.now _partial.now forced.new }
+{
+    for cell in 0..puzzle.cells() {
+        if left[cell] == 0 {
+            forced[cell] = Some(WALL);
+        }
+    }
+}
+
+/// Forces what the reaches of numbers say; tells whether they leave no solution.
+fn look_at_reaches(
+    alloc: Global,
+    puzzle: &Puzzle,
+    partial: &Partial,
+    forced: &mut [Option<u8>],
+) -> Result<bool, AllocError>
+    requires size { IsSize puzzle.now.size }
+    requires partial { IsPartial (question_of puzzle.now) partial.now }
+    requires forced { AreForced puzzle.now partial.now forced.old }
+    ensures dead { IfOk result (λ dead. IsTrue dead → IsHopeless (question_of puzzle.now) partial.now) }
+    ensures forced { OnOk result (AreForced puzzle.now partial.now forced.new) }
+{
+    let open = places_open_to(alloc, partial, WALL)?;
+    let left = spread(alloc, puzzle, &open)?;
+    wall_far_cells(puzzle, partial, &left, forced);
+    let reaches = Regions::new(alloc, puzzle.size(), &open)?;
+    Ok(fill_reaches(puzzle, partial, &reaches.labels, &reaches.sizes, forced))
+}
+
+/// Whether two walls can't be joined any more.
+fn are_walls_apart(alloc: Global, puzzle: &Puzzle, partial: &Partial) -> Result<bool, AllocError>
+    requires size { IsSize puzzle.now.size }
+    requires partial { IsPartial (question_of puzzle.now) partial.now }
+    ensures { IfOk result (λ apart. IsTrue apart → IsHopeless (question_of puzzle.now) partial.now) }
+{
+    let open = places_open_to(alloc, partial, WHITE)?;
+    let labels = regions(alloc, puzzle.size(), &open)?;
+    Ok(are_apart(partial, WALL, &labels))
+}
+
+/// Forces walls between groups of white cells with different numbers.
+fn part_groups(
+    puzzle: &Puzzle,
+    _partial: &Partial,
+    labels: &[Option<usize>],
+    owners: &[Option<usize>],
+    forced: &mut [Option<u8>],
+)
+    requires size { IsSize puzzle.now.size }
+    requires partial { IsPartial (question_of puzzle.now) _partial.now }
+    requires labels { AreComponents (cells puzzle.now.size) (Touch puzzle.now.size) (IsSetTo _partial.now 0) labels.now }
+    requires owners { AreOwners puzzle.now labels.now owners.now }
+    requires forced { AreForced puzzle.now _partial.now forced.old }
+    ensures { AreForced puzzle.now _partial.now forced.new }
+{
+    for cell in 0..puzzle.cells() {
+        if is_between(puzzle.size(), labels, owners, cell) {
+            forced[cell] = Some(WALL);
+        }
+    }
+}
+
+/// Forces walls round full groups; tells whether a group is too large.
+fn close_groups(
+    puzzle: &Puzzle,
+    partial: &Partial,
+    labels: &[Option<usize>],
+    sizes: &[usize],
+    forced: &mut [Option<u8>],
+) -> bool
+    requires size { IsSize puzzle.now.size }
+    requires partial { IsPartial (question_of puzzle.now) partial.now }
+    requires groups { AreRegions puzzle.now.size (IsSetTo partial.now 0) labels.now sizes.now }
+    requires forced { AreForced puzzle.now partial.now forced.old }
+    ensures dead { IsTrue result → IsHopeless (question_of puzzle.now) partial.now }
+    ensures forced { AreForced puzzle.now partial.now forced.new }
+{
+    for cell in 0..puzzle.cells() {
+        if let Clue::Number(given) = puzzle.clue(cell) {
+            if let Some(label) = labels[cell] {
+                let size = sizes[label];
+                if size > usize::from(given) {
+                    return true;
+                }
+                if size == usize::from(given) {
+                    force_walls_beside(puzzle, partial, labels, label, forced);
+                }
+            }
+        }
+    }
+    false
+}
+
+/// Forces white cells where a number has no more room than it needs; tells whether one has too little.
+fn fill_reaches(
+    puzzle: &Puzzle,
+    partial: &Partial,
+    labels: &[Option<usize>],
+    sizes: &[usize],
+    forced: &mut [Option<u8>],
+) -> bool
+    requires size { IsSize puzzle.now.size }
+    requires partial { IsPartial (question_of puzzle.now) partial.now }
+    requires reaches { AreRegions puzzle.now.size (IsOpenTo partial.now 1) labels.now sizes.now }
+    requires forced { AreForced puzzle.now partial.now forced.old }
+    ensures dead { IsTrue result → IsHopeless (question_of puzzle.now) partial.now }
+    ensures forced { AreForced puzzle.now partial.now forced.new }
+{
+    for cell in 0..puzzle.cells() {
+        if let Clue::Number(given) = puzzle.clue(cell) {
+            if let Some(label) = labels[cell] {
+                let size = sizes[label];
+                if size < usize::from(given) {
+                    return true;
+                }
+                if size == usize::from(given) {
+                    force_label(puzzle, partial, labels, label, WHITE, forced);
+                }
+            }
+        }
+    }
+    false
+}

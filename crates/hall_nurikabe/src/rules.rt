@@ -1,0 +1,86 @@
+//! The rules of a Nurikabe puzzle, as a search asks them.
+ghost use Rattle.std.specs.Prelude.{◌≡◌, IfOk};
+
+use crate::deduce::Deductions;
+use crate::judge::broken;
+use hall_grid::{Filling, Kind, Puzzle};
+use hall_solve::{Partial, Rules, Step, settle};
+use std::alloc::{AllocError, Global};
+use std::marker::Model;
+
+/// The rules of one puzzle, and counts of what a search asked.
+#[derive(Debug, Drop)]
+pub struct NurikabeRules<'a> {
+    puzzle: &'a Puzzle,
+    visits: u64,
+    asked: u64,
+}
+
+impl<'a> Model for NurikabeRules<'a> {
+    ghost use Rattle.hall_nurikabe.specs.Solving.{Progress};
+
+    ghost Value = { Progress };
+
+    ghost use Rattle.std.specs.Prelude.{◌≡◌};
+    ghost use Rattle.hall_grid.specs.declared.board.Kind.TheVariants.{Nurikabe};
+
+    ghost view = { λ r. record { board = r.puzzle.now; visits = r.visits; asked = r.asked } };
+
+    ghost invariant = { λ r. r.puzzle.now.kind ≡ Nurikabe };
+}
+
+impl<'a> NurikabeRules<'a> {
+    ghost use Rattle.hall_nurikabe.specs.Solving.{begun};
+
+    /// The rules of the puzzle, with both counts 0.
+    pub fn new(puzzle: &'a Puzzle) -> NurikabeRules<'a>
+        requires { puzzle.now.kind ≡ Kind.Nurikabe }
+        ensures { result ≡ begun puzzle.now }
+    {
+        NurikabeRules {
+            puzzle,
+            visits: 0,
+            asked: 0,
+        }
+    }
+}
+
+impl<'a> Rules for NurikabeRules<'a> {
+    ghost use Rattle.hall_nurikabe.specs.Solving.{question_of};
+
+    ghost question = { λ r. question_of r.board };
+
+    ghost visits = { λ r. r.visits };
+
+    ghost asked = { λ r. r.asked };
+
+    fn cells(&self) -> usize {
+        self.puzzle.cells()
+    }
+
+    fn values(&self) -> u8 {
+        2
+    }
+
+    fn visits(&self) -> u64 {
+        self.visits
+    }
+
+    fn asked(&self) -> u64 {
+        self.asked
+    }
+
+    fn propagate(&mut self, alloc: Global, partial: &mut Partial) -> Result<Step, AllocError> {
+        self.visits += 1;
+        let deductions = Deductions {
+            puzzle: self.puzzle,
+        };
+        settle(alloc, &deductions, partial)
+    }
+
+    fn accepts(&mut self, alloc: Global, filling: &Filling) -> Result<bool, AllocError> {
+        self.asked += 1;
+        let broken = broken(alloc, self.puzzle, filling)?;
+        Ok(broken.is_empty())
+    }
+}

@@ -1,0 +1,66 @@
+use Rattle.std.proofs.Common.{◌≡◌, ◌<◌, ◌∙◌, length, get_or, Some, None, List, ℕ, Option, sym, ap, subst, inl, inr, arith}
+use Rattle.std.specs.Prelude.{IfSome, Contains}
+use Rattle.std.proofs.lemmas.List.{get_or_default}
+use Rattle.std.proofs.lemmas.List.Elements.{All-contains}
+use Rattle.hall_grid.specs.declared.board.Size.{Size}
+use Rattle.hall_grid.specs.Slither.{all_sides, dots, ends, IsLine, ShareDot}
+use Rattle.hall_grid.specs.Component.{IsLabelled, AreComponents}
+use Rattle.hall_grid.proofs.Joined.{label_member}
+use Rattle.hall_slither.specs.Counts.{AreBelow}
+use Rattle.hall_slither.specs.Chains.{HaveEnds}
+use Rattle.hall_slither.specs.Closing.{Layout, Closes}
+use Rattle.hall_slither.specs.declared.chain.Ends.{Ends}
+use Rattle.hall_slither.specs.declared.chain.Ends.TheVariants.{Closed, Two}
+use Rattle.hall_slither.proofs.close.Chains.closes.Goals as goal
+use Rattle.hall_slither.proofs.close.Chains.closes.Goals.{then-a-first+else-b-second, else-a-first}
+
+-- a label that was read has its place among the ends
+label_room : (size read : Size) (lines : List ℕ) (labels : List (Option ℕ)) (ends : List Ends) (sides : List (Option ℕ)) (line label : ℕ) (was : Option ℕ)
+    → read ≡ size → AreComponents (all_sides size) (ShareDot size) (IsLine size lines) labels → HaveEnds size lines labels (dots size) ends
+    → AreBelow (all_sides read) sides → Contains sides (Some line) → was ≡ get_or labels line was → was ≡ Some label → label < length ends
+label_room size read lines labels ends sides line label was e are have below among got is =
+    let low : line < all_sides read = All-contains (λ (o : Option ℕ). IfSome o (λ s. s < all_sides read)) sides (Some line) below among in
+    let here : line < all_sides size = subst (λ s. line < all_sides s) e low in
+    let exact = are.exact in
+    let full = have.exact in
+    let labelled : IsLabelled labels line label = get_or_default labels line None was (omega arith) ∙ sym got ∙ is in
+    let member = label_member (all_sides size) (ShareDot size) (IsLine size lines) labels are line label labelled in
+    let room = member.0 in
+    omega arith
+
+-- what the ends were read as
+two_are : (ends : List Ends) (label a b x y : ℕ) (was : Ends) → label < length ends → was ≡ get_or ends label was → was ≡ Two a b → a ≡ x → b ≡ y
+    → get_or ends label Closed ≡ Two x y
+two_are ends label a b x y was room got is e f = get_or_default ends label Closed was room ∙ sym got ∙ is ∙ ap (λ a. Two a b) e ∙ ap (λ b. Two x b) f
+
+pub index-requires-2 : goal.index-requires-2
+index-requires-2 c =
+    let room = label_room c.self.inside.puzzle.now.size c.size-size.result c.self.inside.lines.items c.self.inside.labels.items c.self.inside.ends.items
+    c.spot_sides.result c.in-Some.line c.in-Some-index.label c.index.result.now c.size-size.ensures.size c.self.invariant.components c.self.invariant.ends
+    c.spot_sides.ensures.below c.in-Some.ensures.found.0 c.index.ensures c.in-Some-index.is in
+    let ok = c.self.inside.ends.ok.0 in
+    omega arith
+
+pub returns-in-Two : goal.returns-in-Two
+returns-in-Two c = λ _.
+    let room = label_room c.self.inside.puzzle.now.size c.size-size.result c.self.inside.lines.items c.self.inside.labels.items c.self.inside.ends.items
+    c.spot_sides.result c.in-Some.line c.in-Some-index.label c.index.result.now c.size-size.ensures.size c.self.invariant.components c.self.invariant.ends
+    c.spot_sides.ensures.below c.in-Some.ensures.found.0 c.index.ensures c.in-Some-index.is in
+    let dots_are = c.dot_ends-first.ensures.ends ∙ ap (λ size. ends size c.args.side) c.size-size.ensures.size in
+    subst (λ (l : Layout). Closes l c.args.side) c.self.view_is (
+      c.in-Some-index.label,
+      inl (two_are c.self.inside.ends.items c.in-Some-index.label c.in-Two.a c.in-Two.b _ _ c.index-2.result.now room c.index-2.ensures c.in-Two.is
+          (c.if-a-first.true ∙ ap (λ p. p.0) dots_are) (c.if-b-second.true ∙ ap (λ p. p.1) dots_are)),
+    )
+
+pub returns-in-Two-2 : goal.returns-in-Two-2
+returns-in-Two-2 c = λ _.
+    let room = label_room c.self.inside.puzzle.now.size c.size-size.result c.self.inside.lines.items c.self.inside.labels.items c.self.inside.ends.items
+    c.spot_sides.result c.in-Some.line c.in-Some-index.label c.index.result.now c.size-size.ensures.size c.self.invariant.components c.self.invariant.ends
+    c.spot_sides.ensures.below c.in-Some.ensures.found.0 c.index.ensures c.in-Some-index.is in
+    let dots_are = c.dot_ends-first.ensures.ends ∙ ap (λ size. ends size c.args.side) c.size-size.ensures.size in
+    subst (λ (l : Layout). Closes l c.args.side) c.self.view_is (
+      c.in-Some-index.label,
+      inr (two_are c.self.inside.ends.items c.in-Some-index.label c.in-Two-2.a c.in-Two-2.b _ _ c.index-2.result.now room c.index-2.ensures c.in-Two-2.is
+          (c.if-a-second.true ∙ ap (λ p. p.1) dots_are) (c.if-b-first.true ∙ ap (λ p. p.0) dots_are)),
+    )

@@ -1,0 +1,165 @@
+//! Loops: a side that would close one too early has no line, and beside a loop there is no other line.
+ghost use Rattle.std.specs.Prelude.{◌≡◌, ◌<◌, ◌↔◌, IsTrue, IfOk, IfSome, OnErr, length, slice_set, slice_index_or};
+ghost use Rattle.hall_grid.specs.Slither.{all_sides, HasOtherCount};
+ghost use Rattle.hall_grid.specs.Component.{IsLabelled};
+ghost use Rattle.hall_solve.specs.Question.{IsPartial, Narrows};
+ghost use Rattle.hall_solve.specs.Deduction.{IsDeduced};
+ghost use Rattle.hall_slither.specs.Search.{question_of};
+
+use crate::chain::{Ends, chain_ends, first_line, lines_so_far};
+use crate::judge::has_other_count;
+use crate::lines::{labels_differ, line_labels};
+use crate::spot::{Spot, spot_sides};
+use hall_grid::{Kind, Puzzle, Size, dot_ends};
+use hall_solve::{Finding, Look, Partial, Pass, sweep};
+use std::alloc::{AllocError, Global};
+use std::marker::Model;
+
+/// The chains of a puzzle's lines so far.
+#[derive(Debug, Drop)]
+struct Chains<'a> {
+    puzzle: &'a Puzzle,
+    lines: Vec<u8>,
+    labels: Vec<Option<usize>>,
+    ends: Vec<Ends>,
+    /// Whether there are several chains.
+    apart: bool,
+    /// The label of a chain that is a loop.
+    closed: Option<usize>,
+}
+
+impl<'a> Model for Chains<'a> {
+    ghost use Rattle.hall_slither.specs.Closing.{Layout};
+
+    ghost Value = { Layout };
+
+    ghost use Rattle.hall_slither.specs.Closing.{IsLayout};
+
+    ghost view = { λ c. record { board = c.puzzle.now; lines = c.lines.items; labels = c.labels.items; ends = c.ends.items; apart = c.apart; closed = c.closed } };
+
+    ghost invariant = { λ c. IsLayout (record { board = c.puzzle.now; lines = c.lines.items; labels = c.labels.items; ends = c.ends.items; apart = c.apart; closed = c.closed }) };
+}
+
+/// The label of a chain that is a loop.
+fn closed_label(labels: &[Option<usize>], ends: &[Ends]) -> Option<usize>
+    requires { length ends.now ≡ length labels.now }
+    ensures { IfSome result (λ label. IsLabelled labels.now label label × (slice_index_or ends.now label Ends.Closed ≡ Ends.Closed)) }
+{
+    for label in 0..labels.len() {
+        if labels[label] == Some(label) && ends[label] == Ends::Closed {
+            return Some(label);
+        }
+    }
+    None
+}
+
+/// Whether with one more line a number differs from the count of lines on its cell's sides.
+fn misses_number(
+    alloc: Global,
+    puzzle: &Puzzle,
+    lines: &[u8],
+    side: usize,
+) -> Result<bool, AllocError>
+    requires kind { puzzle.now.kind ≡ Kind.Slither }
+    requires lines { length lines.now ≡ all_sides puzzle.now.size }
+    requires side { side < all_sides puzzle.now.size }
+    ensures { IfOk result (λ misses. IsTrue misses ↔ HasOtherCount puzzle.now (slice_set lines.now side 1)) }
+{
+    let mut closed = Vec::from_slice(alloc, lines)?;
+    closed[side] = 1;
+    Ok(has_other_count(puzzle, &closed))
+}
+
+impl<'a> Chains<'a> {
+    ghost use Rattle.hall_slither.specs.Closing.{Closes};
+    ghost use Rattle.hall_slither.specs.Chains.{AreLines};
+
+    fn new(alloc: Global, puzzle: &'a Puzzle, partial: &Partial) -> Result<Chains<'a>, AllocError>
+        requires kind { puzzle.now.kind ≡ Kind.Slither }
+        requires partial { IsPartial (question_of puzzle.now) partial.now }
+        ensures board { IfOk result (λ c. c.board ≡ puzzle.now) }
+        ensures lines { IfOk result (λ c. AreLines partial.now c.lines) }
+    {
+        let size = puzzle.size();
+        let lines = lines_so_far(alloc, partial)?;
+        let labels = line_labels(alloc, size, &lines)?;
+        let ends = chain_ends(alloc, size, &lines, &labels)?;
+        let apart = labels_differ(&labels);
+        let closed = closed_label(&labels, &ends);
+        Ok(Chains {
+            puzzle,
+            lines,
+            labels,
+            ends,
+            apart,
+            closed,
+        })
+    }
+
+    /// Whether the side joins the two ends of one chain.
+    fn closes(&self, side: usize) -> bool
+        requires { side < all_sides self.now.board.size }
+        ensures { IsTrue result → Closes self.now side }
+    {
+        let size = self.puzzle.size();
+        let (first, second) = dot_ends(size, side);
+        let Some(line) = first_line(&self.lines, &spot_sides(size, Spot::Dot(first))) else {
+            return false;
+        };
+        let Some(label) = self.labels[line] else {
+            return false;
+        };
+        match self.ends[label] {
+            Ends::Two(a, b) if a == first && b == second => true,
+            Ends::Two(a, b) if a == second && b == first => true,
+            _ => false,
+        }
+    }
+}
+
+impl<'a> Look for Chains<'a> {
+    ghost use Rattle.hall_slither.specs.Closing.{layout_question};
+
+    ghost question = { layout_question };
+
+    ghost spots = { λ c. all_sides c.board.size };
+
+    fn spots(&self) -> usize {
+        self.lines.len()
+    }
+
+    fn look(&self, alloc: Global, partial: &Partial, spot: usize) -> Result<Finding, AllocError> {
+        if partial.get(spot).is_some() || self.lines[spot] == 1 {
+            return Ok(Finding::Nothing);
+        }
+        if self.closed.is_some() {
+            return Ok(if self.apart {
+                Finding::Impossible
+            } else {
+                Finding::Must(spot, 0)
+            });
+        }
+        if !self.closes(spot) {
+            return Ok(Finding::Nothing);
+        }
+        if self.apart || misses_number(alloc, self.puzzle, &self.lines, spot)? {
+            return Ok(Finding::Must(spot, 0));
+        }
+        Ok(Finding::Nothing)
+    }
+}
+
+/// Clears sides that would close a loop too early, and all sides beside a loop.
+pub(crate) fn close_chains(
+    alloc: Global,
+    puzzle: &Puzzle,
+    partial: &mut Partial,
+) -> Result<Pass, AllocError>
+    requires kind { puzzle.now.kind ≡ Kind.Slither }
+    requires partial { IsPartial (question_of puzzle.now) partial.old }
+    ensures deduced { IfOk result (IsDeduced (question_of puzzle.now) partial.old partial.new) }
+    ensures err { OnErr result (Narrows (question_of puzzle.now) partial.old partial.new) }
+{
+    let chains = Chains::new(alloc, puzzle, partial)?;
+    sweep(alloc, &chains, partial)
+}

@@ -1,0 +1,141 @@
+//! Counts followed from what changed: a stack of the spots that are still to look at.
+ghost use Rattle.std.specs.Prelude.{◌≡◌, ℕ, ◌+◌, ◌<◌, ◌≤◌, All, IfOk, OnOk, OnErr, length};
+ghost use Rattle.hall_grid.specs.Board.{IsSize, cells};
+ghost use Rattle.hall_grid.specs.Slither.{all_sides};
+ghost use Rattle.hall_solve.specs.Question.{IsPartial, Narrows};
+ghost use Rattle.hall_solve.specs.Deduction.{IsDeduced};
+ghost use Rattle.hall_slither.specs.Counts.{IsSpot, AreBelow, SetsAmong, AreSet, work};
+ghost use Rattle.hall_slither.specs.Search.{question_of};
+
+use crate::dot::dot_count;
+use crate::spot::{Outcome, Spot, look, spot_sides};
+use hall_grid::{Kind, Puzzle, Size, dot_ends};
+use hall_solve::{Partial, Pass};
+use std::alloc::{AllocError, Global};
+
+/// The cells at a side, where they are on the board: above and below, or left and right.
+fn cells_beside(size: Size, side: usize) -> [Option<usize>; 2]
+    requires size { IsSize size }
+    requires side { side < all_sides size }
+    ensures { AreBelow (cells size) result }
+{
+    let flat_sides = size.flat_sides();
+    if side < flat_sides {
+        let above = if side >= size.cols {
+            Some(side - size.cols)
+        } else {
+            None
+        };
+        let below = if side < size.rows * size.cols {
+            Some(side)
+        } else {
+            None
+        };
+        [above, below]
+    } else {
+        let row = (side - flat_sides) / (size.cols + 1);
+        let col = (side - flat_sides) % (size.cols + 1);
+        let left = if col > 0 {
+            Some(row * size.cols + (col - 1))
+        } else {
+            None
+        };
+        let right = if col < size.cols {
+            Some(row * size.cols + col)
+        } else {
+            None
+        };
+        [left, right]
+    }
+}
+
+/// Puts the dots and the cells at a side onto the stack.
+fn push_beside(size: Size, side: usize, stack: &mut Vec<Spot>) -> Result<(), AllocError>
+    requires size { IsSize size }
+    requires side { side < all_sides size }
+    requires spots { All (IsSpot size) stack.old.items }
+    ensures spots { OnOk result (All (IsSpot size) stack.new.items) }
+    ensures few { OnOk result (length stack.new.items ≤ length stack.old.items + 4) }
+{
+    let (first, second) = dot_ends(size, side);
+    stack.push(Spot::Dot(first))?;
+    stack.push(Spot::Dot(second))?;
+    let [before, after] = cells_beside(size, side);
+    if let Some(cell) = before {
+        stack.push(Spot::Cell(cell))?;
+    }
+    if let Some(cell) = after {
+        stack.push(Spot::Cell(cell))?;
+    }
+    Ok(())
+}
+
+/// Sets the open ones of the sides, and puts the spots at them onto the stack.
+pub(crate) fn set_open(
+    size: Size,
+    partial: &mut Partial,
+    sides: &[Option<usize>],
+    value: u8,
+    stack: &mut Vec<Spot>,
+) -> Result<(), AllocError>
+    requires size { IsSize size }
+    requires partial { length partial.old ≡ all_sides size }
+    requires below { AreBelow (all_sides size) sides.now }
+    requires spots { All (IsSpot size) stack.old.items }
+    ensures among { SetsAmong sides.now value partial.old partial.new }
+    ensures set { OnOk result (AreSet sides.now partial.new) }
+    ensures spots { OnOk result (All (IsSpot size) stack.new.items) }
+    ensures work { OnOk result (work partial.new stack.new.items ≤ work partial.old stack.old.items) }
+{
+    for side in sides {
+        if let Some(side) = *side {
+            if partial.get(side).is_none() {
+                partial.set(side, value);
+                push_beside(size, side, stack)?;
+            }
+        }
+    }
+    Ok(())
+}
+
+/// All dots and cells of a board.
+fn all_spots(alloc: Global, size: Size) -> Result<Vec<Spot>, AllocError>
+    requires { IsSize size }
+    ensures { IfOk result (λ spots. All (IsSpot size) spots.items) }
+{
+    let mut spots = Vec::new(alloc);
+    for dot in 0..dot_count(size) {
+        spots.push(Spot::Dot(dot))?;
+    }
+    for cell in 0..size.rows * size.cols {
+        spots.push(Spot::Cell(cell))?;
+    }
+    Ok(spots)
+}
+
+/// Sets what the counts at dots and round cells say, until they say no more.
+pub(crate) fn follow_counts(
+    alloc: Global,
+    puzzle: &Puzzle,
+    partial: &mut Partial,
+) -> Result<Pass, AllocError>
+    requires kind { puzzle.now.kind ≡ Kind.Slither }
+    requires partial { IsPartial (question_of puzzle.now) partial.old }
+    ensures deduced { IfOk result (IsDeduced (question_of puzzle.now) partial.old partial.new) }
+    ensures err { OnErr result (Narrows (question_of puzzle.now) partial.old partial.new) }
+{
+    let size = puzzle.size();
+    let mut stack = all_spots(alloc, size)?;
+    let mut pass = Pass::Settled;
+    while let Some(spot) = stack.pop() {
+        match look(puzzle, partial, spot) {
+            Outcome::Nothing => {}
+            Outcome::AllBe(value) => {
+                pass = Pass::Advanced;
+                set_open(size, partial, &spot_sides(size, spot), value, &mut stack)?;
+            }
+            Outcome::Impossible => return Ok(Pass::Dead),
+        }
+    }
+    Ok(pass)
+}

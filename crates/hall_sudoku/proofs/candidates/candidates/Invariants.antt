@@ -1,0 +1,9 @@
+use Rattle.std.proofs.Common.{◌≡◌, ℕ, ◌<◌, length, get_or}
+use Rattle.hall_sudoku.specs.Candidates.{IsLeft}
+use Rattle.hall_sudoku.proofs.candidates.candidates.Given as goal
+
+abbrev pub invariant-loop-cell : goal.invariant-loop-cell
+invariant-loop-cell l = record {
+  size : length l.candidates ≡ 256;
+  left : (c : ℕ) → c < l.cell → IsLeft l.units l.partial c (get_or l.candidates c 0);
+}

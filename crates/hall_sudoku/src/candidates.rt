@@ -1,0 +1,103 @@
+//! Which values each cell may still have.
+ghost use Rattle.std.specs.Prelude.{◌≡◌, ◌<◌, ◌≤◌, ℕ, Some, None, IfSome, IfNone, length, slice_index, slice_index_or};
+ghost use Rattle.hall_grid.specs.Board.{cells};
+ghost use Rattle.hall_solve.specs.Question.{IsPartial, IsHopeless, IsOpen, IsWhole};
+ghost use Rattle.hall_sudoku.specs.Units.{units_question};
+ghost use Rattle.hall_sudoku.specs.Candidates.{AreTaken, AreAllTaken, Clashes, IsLeft, AreCandidates};
+
+use crate::units::{MOST_CELLS, MOST_UNITS, Units};
+use crate::values::Values;
+use hall_solve::Partial;
+
+/// The values that stand in each row, column and box.
+#[derive(Drop)]
+struct Taken {
+    rows: [Values; MOST_UNITS],
+    columns: [Values; MOST_UNITS],
+    boxes: [Values; MOST_UNITS],
+}
+
+/// The values that stand in each unit, `None` where one stands there twice.
+fn taken_in(units: &[u8], partial: &Partial) -> Option<[Values; MOST_UNITS]>
+    requires exact { length units.now ≡ length partial.now }
+    requires units { (cell : ℕ) → cell < length units.now → slice_index units.now cell < MOST_UNITS }
+    requires values { (cell v : ℕ) → slice_index_or partial.now cell None ≡ Some v → v < 32 }
+    ensures size { IfSome result (λ t. length t ≡ MOST_UNITS) }
+    ensures some { IfSome result (AreTaken (slice_index units.now) partial.now) }
+    ensures none { IfNone result (Clashes (slice_index units.now) partial.now) }
+{
+    let mut taken = [Values::none(); MOST_UNITS];
+    for (cell, unit) in units.iter().enumerate() {
+        if let Some(value) = partial.get(cell) {
+            let unit = *unit as usize;
+            if taken[unit].contains(value) {
+                return None;
+            }
+            taken[unit] = taken[unit].or(Values::of(value));
+        }
+    }
+    Some(taken)
+}
+
+/// The values that the cell may still have.
+fn left_at(units: &Units, taken: &Taken, partial: &Partial, cell: usize) -> Values
+    requires partial { IsPartial (units_question units.now) partial.now }
+    requires cell { cell < cells units.now }
+    requires taken { AreAllTaken units.now partial.now taken.now }
+    requires rows { length taken.now.rows ≡ MOST_UNITS }
+    requires columns { length taken.now.columns ≡ MOST_UNITS }
+    requires boxes { length taken.now.boxes ≡ MOST_UNITS }
+    ensures { IsLeft units.now partial.now cell result }
+{
+    let side = units.side();
+    match partial.get(cell) {
+        Some(value) => Values::of(value),
+        None => Values::below(side)
+            .without(taken.rows[units.row(cell)])
+            .without(taken.columns[units.column(cell)])
+            .without(taken.boxes[units.box_number(cell)]),
+    }
+}
+
+/// The values that each cell may still have, `None` where there is no solution.
+pub(crate) fn candidates(units: &Units, partial: &Partial) -> Option<[Values; MOST_CELLS]>
+    requires { IsPartial (units_question units.now) partial.now }
+    ensures room { IfSome result (λ c. cells units.now ≤ length c) }
+    ensures some { IfSome result (AreCandidates units.now partial.now) }
+    ensures none { IfNone result (IsHopeless (units_question units.now) partial.now) }
+{
+    let taken = Taken {
+        rows: taken_in(units.rows(), partial)?,
+        columns: taken_in(units.columns(), partial)?,
+        boxes: taken_in(units.boxes(), partial)?,
+    };
+    let mut candidates = [Values::none(); MOST_CELLS];
+    for cell in 0..partial.len() {
+        let left = left_at(units, &taken, partial, cell);
+        if left.is_empty() {
+            return None;
+        }
+        candidates[cell] = left;
+    }
+    Some(candidates)
+}
+
+/// The open cell with the fewest candidates.
+pub(crate) fn fewest(candidates: &[Values], partial: &Partial) -> Option<usize>
+    requires { length partial.now ≤ length candidates.now }
+    ensures unset { IfSome result (IsOpen partial.now) }
+    ensures whole { IfNone result (IsWhole partial.now) }
+{
+    let mut best: Option<usize> = None;
+    let mut fewest = u32::MAX;
+    for cell in 0..partial.len() {
+        if partial.get(cell).is_none() {
+            let count = candidates[cell].count();
+            if best.is_none() || count < fewest {
+                best = Some(cell);
+                fewest = count;
+            }
+        }
+    }
+    best
+}

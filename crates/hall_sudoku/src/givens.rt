@@ -1,0 +1,24 @@
+//! Where a search of a Sudoku starts.
+ghost use Rattle.std.specs.Prelude.{◌≡◌, IfOk};
+ghost use Rattle.hall_solve.specs.Question.{IsPartial};
+ghost use Rattle.hall_sudoku.specs.Units.{question_of, SetsGivens, AllExtend};
+
+use hall_grid::{Clue, Kind, Puzzle};
+use hall_solve::Partial;
+use std::alloc::{AllocError, Global};
+
+/// The partial filling that has exactly the givens, each a number less 1.
+pub fn start(alloc: Global, puzzle: &Puzzle) -> Result<Partial, AllocError>
+    requires { puzzle.now.kind ≡ Kind.Sudoku }
+    ensures givens { IfOk result (SetsGivens puzzle.now) }
+    ensures partial { IfOk result (IsPartial (question_of puzzle.now)) }
+    ensures solutions { IfOk result (AllExtend puzzle.now) }
+{
+    let mut partial = Partial::new(alloc, puzzle.cells())?;
+    for cell in 0..puzzle.cells() {
+        if let Clue::Number(given) = puzzle.clue(cell) {
+            partial.set(cell, (given - 1) as u8);
+        }
+    }
+    Ok(partial)
+}

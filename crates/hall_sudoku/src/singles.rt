@@ -1,0 +1,148 @@
+//! Deductions: a cell with one value left, and a value with one cell left in a unit.
+ghost use Rattle.std.specs.Prelude.{◌≡◌, ◌≤◌, ◌<◌, ℕ, IsTrue, IfSome, IfNone, length, slice_index};
+ghost use Rattle.hall_grid.specs.Board.{cells};
+ghost use Rattle.hall_solve.specs.Question.{IsPartial, IsHopeless};
+ghost use Rattle.hall_solve.specs.Deduction.{HasAlways, IsDeduced};
+ghost use Rattle.hall_sudoku.specs.Units.{units_question};
+ghost use Rattle.hall_sudoku.specs.Candidates.{AreCandidates, AreSeen, AreShared, AreAllShared, IsMissing, Lacks, IsSole};
+
+use crate::candidates::candidates;
+use crate::units::{MOST_UNITS, Units};
+use crate::values::Values;
+use hall_solve::{Deduce, Partial, Pass};
+use std::alloc::{AllocError, Global};
+
+/// The values that several cells of each row, column and box may have.
+#[derive(Drop)]
+struct Shared {
+    rows: [Values; MOST_UNITS],
+    columns: [Values; MOST_UNITS],
+    boxes: [Values; MOST_UNITS],
+}
+
+/// The values that some cell of each unit may have, and those that several may have.
+fn spread(units: &[u8], candidates: &[Values]) -> ([Values; MOST_UNITS], [Values; MOST_UNITS])
+    requires cells { length units.now ≤ length candidates.now }
+    requires units { (cell : ℕ) → cell < length units.now → slice_index units.now cell < MOST_UNITS }
+    ensures seen_size { length result.0 ≡ MOST_UNITS }
+    ensures shared_size { length result.1 ≡ MOST_UNITS }
+    ensures seen { AreSeen (slice_index units.now) (length units.now) candidates.now result.0 }
+    ensures shared { AreShared (slice_index units.now) (length units.now) candidates.now result.1 }
+{
+    let mut seen = [Values::none(); MOST_UNITS];
+    let mut shared = [Values::none(); MOST_UNITS];
+    for (cell, unit) in units.iter().enumerate() {
+        let unit = *unit as usize;
+        let left = candidates[cell];
+        shared[unit] = shared[unit].or(seen[unit].and(left));
+        seen[unit] = seen[unit].or(left);
+    }
+    (seen, shared)
+}
+
+/// Whether the set of some unit lacks a value below the side.
+fn lacks_one(seen: &[Values], side: u8) -> bool
+    requires side { side ≤ MOST_UNITS }
+    requires units { length seen.now ≡ MOST_UNITS }
+    ensures { IsTrue result → Lacks side seen.now }
+{
+    let all = Values::below(side);
+    for unit in 0..side as usize {
+        if all.without(seen[unit]).least().is_some() {
+            return true;
+        }
+    }
+    false
+}
+
+/// The values that several cells of each unit may have, `None` where no cell of a unit may have a value.
+fn shared_in(units: &[u8], candidates: &[Values], side: u8) -> Option<[Values; MOST_UNITS]>
+    requires cells { length units.now ≤ length candidates.now }
+    requires units { (cell : ℕ) → cell < length units.now → slice_index units.now cell < MOST_UNITS }
+    requires side { side ≤ MOST_UNITS }
+    ensures size { IfSome result (λ s. length s ≡ MOST_UNITS) }
+    ensures some { IfSome result (AreShared (slice_index units.now) (length units.now) candidates.now) }
+    ensures none { IfNone result (IsMissing (slice_index units.now) (length units.now) candidates.now side) }
+{
+    let (seen, shared) = spread(units, candidates);
+    if lacks_one(&seen, side) {
+        None
+    } else {
+        Some(shared)
+    }
+}
+
+/// The values that several cells of each row, column and box may have, `None` where there is no solution.
+fn all_shared(units: &Units, candidates: &[Values], partial: &Partial) -> Option<Shared>
+    requires room { cells units.now ≤ length candidates.now }
+    requires partial { IsPartial (units_question units.now) partial.now }
+    requires candidates { AreCandidates units.now partial.now candidates.now }
+    ensures rows { IfSome result (λ s. length s.rows ≡ MOST_UNITS) }
+    ensures columns { IfSome result (λ s. length s.columns ≡ MOST_UNITS) }
+    ensures boxes { IfSome result (λ s. length s.boxes ≡ MOST_UNITS) }
+    ensures some { IfSome result (AreAllShared units.now candidates.now) }
+    ensures none { IfNone result (IsHopeless (units_question units.now) partial.now) }
+{
+    let side = units.side();
+    Some(Shared {
+        rows: shared_in(units.rows(), candidates, side)?,
+        columns: shared_in(units.columns(), candidates, side)?,
+        boxes: shared_in(units.boxes(), candidates, side)?,
+    })
+}
+
+/// The value that follows at the cell.
+fn sole_at(units: &Units, candidates: &[Values], shared: &Shared, cell: usize) -> Option<u8>
+    requires room { cells units.now ≤ length candidates.now }
+    requires cell { cell < cells units.now }
+    requires rows { length shared.now.rows ≡ MOST_UNITS }
+    requires columns { length shared.now.columns ≡ MOST_UNITS }
+    requires boxes { length shared.now.boxes ≡ MOST_UNITS }
+    ensures { IfSome result (IsSole units.now candidates.now shared.now cell) }
+{
+    let left = candidates[cell];
+    if let Some(value) = left.only() {
+        return Some(value);
+    }
+    let in_row = shared.rows[units.row(cell)];
+    let in_column = shared.columns[units.column(cell)];
+    let in_box = shared.boxes[units.box_number(cell)];
+    left.without(in_row.and(in_column).and(in_box)).least()
+}
+
+/// Sets each open cell whose value follows.
+fn set_soles(units: &Units, candidates: &[Values], shared: &Shared, partial: &mut Partial) -> Pass
+    requires room { cells units.now ≤ length candidates.now }
+    requires partial { IsPartial (units_question units.now) partial.old }
+    requires candidates { AreCandidates units.now partial.old candidates.now }
+    requires shared { AreAllShared units.now candidates.now shared.now }
+    requires rows { length shared.now.rows ≡ MOST_UNITS }
+    requires columns { length shared.now.columns ≡ MOST_UNITS }
+    requires boxes { length shared.now.boxes ≡ MOST_UNITS }
+    ensures { IsDeduced (units_question units.now) partial.old partial.new result }
+{
+    let mut pass = Pass::Settled;
+    for cell in 0..units.cells() {
+        if partial.get(cell).is_none() {
+            if let Some(value) = sole_at(units, candidates, shared, cell) {
+                partial.set(cell, value);
+                pass = Pass::Advanced;
+            }
+        }
+    }
+    pass
+}
+
+impl Deduce for Units {
+    ghost question = { units_question };
+
+    fn pass(&self, _alloc: Global, partial: &mut Partial) -> Result<Pass, AllocError> {
+        let Some(candidates) = candidates(self, partial) else {
+            return Ok(Pass::Dead);
+        };
+        let Some(shared) = all_shared(self, &candidates, partial) else {
+            return Ok(Pass::Dead);
+        };
+        Ok(set_soles(self, &candidates, &shared, partial))
+    }
+}

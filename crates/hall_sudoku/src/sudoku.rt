@@ -1,0 +1,94 @@
+//! The rules of a Sudoku puzzle, as a search asks them.
+ghost use Rattle.std.specs.Prelude.{◌≡◌, IfOk};
+ghost use Rattle.hall_grid.specs.Answer.{IsFilling};
+ghost use Rattle.hall_solve.specs.Question.{IsPartial};
+
+use crate::candidates::{candidates, fewest};
+use crate::judge::broken;
+use crate::units::Units;
+use hall_grid::{Clue, Filling, Kind, Puzzle};
+use hall_solve::{Partial, Rules, Step, settle};
+use std::alloc::{AllocError, Global};
+use std::marker::Model;
+
+/// The rules of one puzzle, and counts of what a search asked.
+#[derive(Debug, Drop)]
+pub struct SudokuRules<'a> {
+    puzzle: &'a Puzzle,
+    units: Units,
+    visits: u64,
+    asked: u64,
+}
+
+impl<'a> Model for SudokuRules<'a> {
+    ghost use Rattle.hall_sudoku.specs.Units.{Progress};
+
+    ghost Value = { Progress };
+
+    ghost use Rattle.std.specs.Prelude.{◌≡◌};
+    ghost use Rattle.hall_grid.specs.declared.board.Kind.TheVariants.{Sudoku};
+
+    ghost view = { λ r. record { board = r.puzzle.now; visits = r.visits; asked = r.asked } };
+
+    ghost invariant = { λ r. (r.puzzle.now.kind ≡ Sudoku) × (r.units ≡ r.puzzle.now.size) };
+}
+
+impl<'a> SudokuRules<'a> {
+    ghost use Rattle.hall_sudoku.specs.Units.{begun};
+
+    /// The rules of the puzzle, with both counts 0.
+    pub fn new(alloc: Global, puzzle: &'a Puzzle) -> Result<SudokuRules<'a>, AllocError>
+        requires { puzzle.now.kind ≡ Kind.Sudoku }
+        ensures { IfOk result (λ r. r ≡ begun puzzle.now) }
+    {
+        Ok(SudokuRules {
+            puzzle,
+            units: Units::new(alloc, puzzle.size())?,
+            visits: 0,
+            asked: 0,
+        })
+    }
+}
+
+impl<'a> Rules for SudokuRules<'a> {
+    ghost use Rattle.hall_sudoku.specs.Units.{question_of};
+
+    ghost question = { λ r. question_of r.board };
+
+    ghost visits = { λ r. r.visits };
+
+    ghost asked = { λ r. r.asked };
+
+    fn cells(&self) -> usize {
+        self.puzzle.cells()
+    }
+
+    fn values(&self) -> u8 {
+        self.units.side()
+    }
+
+    fn visits(&self) -> u64 {
+        self.visits
+    }
+
+    fn asked(&self) -> u64 {
+        self.asked
+    }
+
+    fn propagate(&mut self, alloc: Global, partial: &mut Partial) -> Result<Step, AllocError> {
+        self.visits += 1;
+        settle(alloc, &self.units, partial)
+    }
+
+    fn accepts(&mut self, _alloc: Global, filling: &Filling) -> Result<bool, AllocError> {
+        self.asked += 1;
+        Ok(broken(self.puzzle, filling).is_empty())
+    }
+
+    fn branch_place(&self, partial: &Partial) -> Option<usize> {
+        match candidates(&self.units, partial) {
+            Some(candidates) => fewest(&candidates, partial),
+            None => partial.first_unset(),
+        }
+    }
+}

@@ -1,0 +1,141 @@
+//! The units of all cells of a board, as tables.
+ghost use Rattle.std.specs.Prelude.{◌≡◌, ◌<◌, ◌≤◌, ℕ, IfOk, length, slice_index};
+ghost use Rattle.hall_grid.specs.Board.{cells, row, col, HasSize};
+ghost use Rattle.hall_grid.specs.Sudoku.{box};
+ghost use Rattle.hall_sudoku.specs.Unit.{unit_of};
+ghost use Rattle.hall_sudoku.specs.Units.{IsDivision};
+
+use crate::unit::{Unit, unit_of};
+use hall_grid::{Kind, Size};
+use std::alloc::{AllocError, Global};
+use std::marker::Model;
+
+/// The largest side of a board, and so its most units of one sort.
+pub(crate) const MOST_UNITS: usize = 16;
+
+/// How many cells the largest board has.
+pub(crate) const MOST_CELLS: usize = 256;
+
+/// The row, the column and the box of each cell of a board.
+#[derive(Debug, Drop)]
+pub(crate) struct Units {
+    size: Size,
+    rows: Vec<u8>,
+    columns: Vec<u8>,
+    boxes: Vec<u8>,
+}
+
+impl Model for Units {
+    ghost use Rattle.hall_grid.specs.declared.board.Size.{Size};
+
+    ghost Value = { Size };
+
+    ghost use Rattle.hall_grid.specs.declared.board.Kind.TheVariants.{Sudoku};
+    ghost use Rattle.hall_grid.specs.Board.{row, col, HasSize};
+    ghost use Rattle.hall_grid.specs.Sudoku.{box};
+    ghost use Rattle.hall_sudoku.specs.Units.{IsDivision};
+
+    ghost view = { λ u. u.size };
+
+    ghost invariant = { λ u. HasSize Sudoku u.size × IsDivision u.size (row u.size) u.rows.items
+        × IsDivision u.size (col u.size) u.columns.items × IsDivision u.size (box u.size) u.boxes.items };
+}
+
+impl Units {
+    /// The units of a board of this size.
+    pub(crate) fn new(alloc: Global, size: Size) -> Result<Units, AllocError>
+        requires { HasSize Kind.Sudoku size }
+        ensures { IfOk result (λ u. u ≡ size) }
+    {
+        Ok(Units {
+            size,
+            rows: table(alloc, Unit::Row, size)?,
+            columns: table(alloc, Unit::Column, size)?,
+            boxes: table(alloc, Unit::Box, size)?,
+        })
+    }
+
+    /// The side of the board.
+    pub(crate) fn side(&self) -> u8
+        ensures side { result ≡ self.now.cols }
+        ensures small { result ≤ MOST_UNITS }
+        ensures sudoku { HasSize Kind.Sudoku self.now }
+    {
+        self.size.cols as u8
+    }
+
+    /// How many cells the board has.
+    pub(crate) fn cells(&self) -> usize
+        ensures cells { result ≡ cells self.now }
+        ensures sudoku { HasSize Kind.Sudoku self.now }
+    {
+        self.rows.len()
+    }
+
+    /// The row of each cell.
+    pub(crate) fn rows(&self) -> &[u8]
+        ensures division { IsDivision self.now (row self.now) result.now }
+        ensures sudoku { HasSize Kind.Sudoku self.now }
+        ensures small { (cell : ℕ) → cell < length result.now → slice_index result.now cell < MOST_UNITS }
+    {
+        &self.rows
+    }
+
+    /// The column of each cell.
+    pub(crate) fn columns(&self) -> &[u8]
+        ensures division { IsDivision self.now (col self.now) result.now }
+        ensures sudoku { HasSize Kind.Sudoku self.now }
+        ensures small { (cell : ℕ) → cell < length result.now → slice_index result.now cell < MOST_UNITS }
+    {
+        &self.columns
+    }
+
+    /// The box of each cell.
+    pub(crate) fn boxes(&self) -> &[u8]
+        ensures division { IsDivision self.now (box self.now) result.now }
+        ensures sudoku { HasSize Kind.Sudoku self.now }
+        ensures small { (cell : ℕ) → cell < length result.now → slice_index result.now cell < MOST_UNITS }
+    {
+        &self.boxes
+    }
+
+    /// The cell's row.
+    pub(crate) fn row(&self, cell: usize) -> usize
+        requires { cell < cells self.now }
+        ensures row { result ≡ row self.now cell }
+        ensures small { result < MOST_UNITS }
+    {
+        self.rows[cell] as usize
+    }
+
+    /// The cell's column.
+    pub(crate) fn column(&self, cell: usize) -> usize
+        requires { cell < cells self.now }
+        ensures column { result ≡ col self.now cell }
+        ensures small { result < MOST_UNITS }
+    {
+        self.columns[cell] as usize
+    }
+
+    /// The number of the cell's box.
+    pub(crate) fn box_number(&self, cell: usize) -> usize
+        requires { cell < cells self.now }
+        ensures number { result ≡ box self.now cell }
+        ensures small { result < MOST_UNITS }
+    {
+        self.boxes[cell] as usize
+    }
+}
+
+/// Each cell's unit.
+fn table(alloc: Global, unit: Unit, size: Size) -> Result<Vec<u8>, AllocError>
+    requires { HasSize Kind.Sudoku size }
+    ensures { IfOk result (λ v. IsDivision size (unit_of unit size) v.items) }
+{
+    let cells = size.rows * size.cols;
+    let mut units = Vec::with_capacity(alloc, cells)?;
+    for cell in 0..cells {
+        units.push(unit_of(unit, size, cell) as u8)?;
+    }
+    Ok(units)
+}

@@ -1,0 +1,86 @@
+//! The command `solve`.
+ghost use Rattle.std.specs.Prelude.{◌≡◌, ◌⊎◌, ℕ, List, IfOk, IfSome, IsErrOf, string_bytes};
+ghost use Rattle.std.specs.Io.KnownBytes.{Appends};
+ghost use Rattle.hall_grid.specs.Device.{HasFailed};
+ghost use Rattle.hall_tool.specs.SolveText.{SolveText, IsSolved, IsOutcomeLine};
+ghost use Rattle.hall_tool.specs.JudgeText.{IsRefused};
+ghost use Rattle.hall_tool.specs.Input.{WritesPart};
+
+use crate::device::{read_input, write_line};
+use crate::ending::{Ending, refused, refused_input};
+use crate::fault::ToolFault;
+use crate::input::{LIMIT, one_line};
+use hall_desk::certify;
+use hall_grid::{Counted, Puzzle, TextFault, parse_puzzle, write_answer};
+use hall_solve::Outcome;
+use std::alloc::{AllocError, Global};
+use std::io::{Read, Write};
+
+/// An outcome as a line.
+fn outcome_line(alloc: Global, puzzle: &Puzzle, budget: u64) -> Result<Ending, AllocError>
+    ensures { IfOk result (λ a. IsOutcomeLine puzzle.now budget (string_bytes a.line) a.status) }
+{
+    match certify(alloc, puzzle, budget)? {
+        Outcome::One(filling) => {
+            let text = write_answer(alloc, puzzle, &filling)?;
+            let line = format!(in alloc; "one {text}\n")?;
+            Ok(Ending { line, status: 0 })
+        }
+        Outcome::None => plain_line(alloc, "none\n"),
+        Outcome::More(_first, _second) => plain_line(alloc, "more\n"),
+        Outcome::GaveUp => plain_line(alloc, "gave up\n"),
+    }
+}
+
+fn plain_line(alloc: Global, text: &str) -> Result<Ending, AllocError>
+    ensures { IfOk result (λ a. (string_bytes a.line ≡ text.now) × (a.status ≡ 1)) }
+{
+    let line = String::from_str(alloc, text)?;
+    Ok(Ending { line, status: 1 })
+}
+
+/// The line for a puzzle text.
+fn answer_text(alloc: Global, text: &[u8], budget: u64) -> Result<Ending, AllocError>
+    ensures { IfOk result (λ a. IsSolved text.now budget (string_bytes a.line) a.status ⊎ IsRefused text.now (string_bytes a.line) a.status) }
+{
+    match parse_puzzle(alloc, text) {
+        Ok(puzzle) => outcome_line(alloc, &puzzle, budget),
+        Err(TextFault::Memory) => Err(AllocError),
+        Err(fault) => refused(alloc, fault),
+    }
+}
+
+/// The line for an input.
+fn answer_input(alloc: Global, input: &[u8], budget: u64) -> Result<Ending, AllocError>
+    ensures { IfOk result (λ a. SolveText input.now budget (string_bytes a.line) a.status) }
+{
+    match one_line(input) {
+        Some(text) => answer_text(alloc, text, budget),
+        None => refused_input(alloc),
+    }
+}
+
+/// Reads a puzzle text on a line, searches for its solutions in at most `budget` visits, and writes what was found on a line, or why the text is
+/// refused. The result is the exit status: 0 for one solution, 1 for none, more or gave up, 2 for refused.
+pub fn solve_run<R: Read, W: Write>(
+    alloc: Global,
+    reader: &mut Counted<R>,
+    writer: &mut Counted<W>,
+    budget: u64,
+) -> Result<u8, ToolFault>
+    ensures line { IfOk result (λ status. IfSome (R.remaining reader.old.device) (λ input. (line : List ℕ)
+        × SolveText input budget line status × Appends (W.contents writer.old.device) (W.contents writer.new.device) line)) }
+    ensures device { IsErrOf result ToolFault.Device
+        → HasFailed reader.old.failures reader.new.failures ⊎ HasFailed writer.old.failures writer.new.failures }
+    // A refusal for memory leaves the writer as it was.
+    ensures memory { IsErrOf result ToolFault.Memory → writer.new ≡ writer.old }
+    // A device's fault leaves a first part of a line that may be written.
+    ensures part { IsErrOf result ToolFault.Device → (writer.new ≡ writer.old) ⊎ IfSome (R.remaining reader.old.device) (λ input. (line : List ℕ) × (status : ℕ)
+        × SolveText input budget line status × WritesPart (W.contents writer.old.device) (W.contents writer.new.device) line) }
+    ensures no_store { IsErrOf result ToolFault.Store → ⊥ }
+{
+    let input = read_input(alloc, reader, LIMIT + 1)?;
+    let ending = answer_input(alloc, &input, budget)?;
+    write_line(writer, ending.line.as_bytes())?;
+    Ok(ending.status)
+}
