@@ -9,9 +9,9 @@ abbrev pub with_key : World → List ℕ → Option Person
 with_key world key = find (λ person. same_text person.key key) (values world.people)
 
 -- the person found is the one with the key, and stands under the own name
-pub record IsKeyHolder (world : World) (key : List ℕ) (holder : Option Person) : Type 0 where
-  pub found : holder ≡ with_key world key
-  pub there : IfSome holder (λ person. get world.people person.name ≡ Some person)
+pub record IsKeyHolder (world : World) (key : List ℕ) (person : Option Person) : Type 0 where
+  pub found : person ≡ with_key world key
+  pub there : IfSome person (λ p. get world.people p.name ≡ Some p)
 
 -- the person with the request's key; none where it has none, or where the key is unknown
 abbrev pub caller_of : World → Option (List ℕ) → Option Person

@@ -1,5 +1,5 @@
 -- What is shown of puzzles, rounds and answers, and which answers a caller sees.
-use Rattle.std.specs.Prelude.{◌≡◌, ◌+◌, ◌&&◌, ◌||◌, not, ℕ, Bool, true, false, List, Option, Some, None, length, slice_get, nat_le, if◌then◌else◌}
+use Rattle.std.specs.Prelude.{◌≡◌, ◌+◌, ◌&&◌, ◌||◌, not, ℕ, Bool, true, false, List, [], ◌∷◌, Option, Some, None, nat_le, if◌then◌else◌}
 use Rattle.std.specs.FinMap.{FinMap, get, values}
 use Rattle.hall_grid.specs.Canonical.{CanonicalText}
 use Rattle.hall_policy.specs.World.{World, end_of, same_text}
@@ -28,17 +28,19 @@ state_name state.More = name.More
 state_name state.GaveUp = name.GaveUp
 
 -- a puzzle of a round as it is shown: its number, its points and its canonical text
-pub record ShowsPuzzle (world : World) (n : ℕ) (entry : Entry) (shown : ShownPuzzle) : Type 0 where
+pub record ShowsPuzzle (world : World) (place : ℕ) (entry : Entry) (shown : ShownPuzzle) : Type 0 where
   pub row : PuzzleRow
   pub kept : get world.puzzles entry.puzzle ≡ Some row
-  pub number : shown.number ≡ n
+  pub number : shown.number ≡ place
   pub points : shown.points ≡ entry.points
   pub text : CanonicalText shown.text row.puzzle
 
--- all puzzles of the list are shown, in its order, numbered from 1
-pub record ShowsPuzzles (world : World) (entries : List Entry) (shown : List ShownPuzzle) : Type 0 where
-  pub count : length shown ≡ length entries
-  pub each : (i : ℕ) (entry : Entry) (line : ShownPuzzle) → slice_get entries i ≡ Some entry → slice_get shown i ≡ Some line → ShowsPuzzle world (i + 1) entry line
+-- all puzzles of the list are shown, in its order, numbered from the given number on
+abbrev pub ShowsPuzzles : World → ℕ → List Entry → List ShownPuzzle → Type 0
+ShowsPuzzles world number [] [] = Unit {0}
+ShowsPuzzles world number (entry ∷ entries) (line ∷ shown) = ShowsPuzzle world number entry line × ShowsPuzzles world (number + 1) entries shown
+ShowsPuzzles world number [] (line ∷ shown) = ⊥
+ShowsPuzzles world number (entry ∷ entries) [] = ⊥
 
 -- the round as it is read
 pub record ShowsRound (world : World) (row : RoundRow) (shown : ShownRound) : Type 0 where
@@ -48,7 +50,7 @@ pub record ShowsRound (world : World) (row : RoundRow) (shown : ShownRound) : Ty
   pub mode : shown.mode ≡ row.round.mode
   pub penalty : shown.penalty ≡ row.round.penalty
   pub protest_minutes : shown.protest_minutes ≡ row.round.protest_minutes
-  pub puzzles : ShowsPuzzles world row.puzzles shown.puzzles
+  pub puzzles : ShowsPuzzles world 1 row.puzzles shown.puzzles
   pub start : shown.start ≡ row.round.start
   pub title : shown.title ≡ row.round.title
 

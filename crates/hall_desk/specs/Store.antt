@@ -15,6 +15,11 @@ use Rattle.hall_policy.specs.declared.record.AnswerKey.{AnswerKey}
 use Rattle.hall_policy.specs.declared.record.AnswerRow.{AnswerRow}
 
 -- A call leaves the world: where the device was honest to the end, it was so before; where the store then still serves, it served before, and its world is the one before.
+pub record Kept {X : Type 0} (is_honest is_serving : X → Type 0) (world_in : X → World) (old new : X) : Type 0 where
+  pub honest : is_honest new → is_honest old
+  pub serves : is_honest new → is_serving new → is_serving old
+  pub world : is_honest new → is_serving new → world_in new ≡ world_in old
+
 -- What a call answers has its meaning, and the store still serves, where the device was honest. Nothing is said of a refusal.
 abbrev pub Served : {X R E : Type 0} → (X → Type 0) → (X → Type 0) → X → Result R E → (R → Type 0) → Type 0
 Served honest serves new (Ok answer) Means = honest new → serves new × Means answer

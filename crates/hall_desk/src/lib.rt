@@ -1,11 +1,17 @@
-//! One request to the hall: what is asked, decided, changed and answered (plan and commit are stand-ins).
+//! One request to the hall: what is asked, decided, changed and answered.
 #![tactic(auto)]
 
 mod certificate;
 mod desk;
+mod found;
+mod map_calls;
+mod map_reads;
+mod map_store;
+mod opening;
 mod plan;
 mod reply;
 mod rows;
+mod step;
 mod store;
 mod verdict;
 
@@ -16,3 +22,6 @@ pub use reply::{AnswerLine, Reply, ShownPuzzle, ShownRound, StateName};
 pub use rows::Rows;
 pub use store::{Change, StoreFault};
 pub use verdict::judge;
+
+#[cfg(test)]
+mod tests;

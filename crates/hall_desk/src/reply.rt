@@ -60,7 +60,10 @@ pub enum Reply {
     /// No memory was left, or the store refused; nothing is changed.
     Unavailable,
     /// The puzzle's state and text, after it was put.
-    PuzzlePut { state: StateName, text: PuzzleText },
+    PuzzlePut {
+        state: StateName,
+        text: PuzzleText,
+    },
     /// The round that was read.
     RoundRead(ShownRound),
     /// An accepted answer's number and, in an instant round, its verdict.

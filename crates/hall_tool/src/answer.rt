@@ -2,7 +2,7 @@
 ghost use Rattle.std.specs.Prelude.{◌≡◌, IfOk, OnErr, Ok, string_bytes};
 ghost use Rattle.hall_policy.specs.World.{World};
 ghost use Rattle.hall_desk.specs.declared.reply.Reply.{Reply as declared_Reply};
-ghost use Rattle.hall_desk.specs.Desk.{world_of};
+ghost use Rattle.hall_desk.specs.Desk.{world_in};
 ghost use Rattle.hall_desk.specs.Step.{Step};
 ghost use Rattle.hall_tool.specs.Reply.{BytesOf};
 ghost use Rattle.hall_tool.specs.Replay.{line_text, Answers};
@@ -36,7 +36,7 @@ impl Line {
 
 /// The line for the bytes of a request, whose change is made. The line is there before the change: where either is refused, nothing is changed, and the line is 503.
 pub fn answer_bytes(alloc: Global, desk: &mut Desk, moment: Moment, bytes: &[u8]) -> Line
-    ensures { Answers (world_of desk.old) moment bytes.now (line_text result) (world_of desk.new) }
+    ensures { Answers (world_in desk.old) moment bytes.now (line_text result) (world_in desk.new) }
 {
     match request_of(alloc, bytes) {
         Ok(request) => match answer_request(alloc, desk, moment, &request) {
@@ -58,11 +58,11 @@ fn answer_request(
     moment: Moment,
     request: &Request,
 ) -> Result<String, StoreFault>
-    ensures ok { IfOk result (λ line. (reply : declared_Reply) × Step (world_of desk.old) moment request.now reply (world_of desk.new) × BytesOf reply (string_bytes line)) }
-    ensures err { OnErr result (world_of desk.new ≡ world_of desk.old) }
+    ensures ok { IfOk result (λ line. (reply : declared_Reply) × Step (world_in desk.old) moment request.now reply (world_in desk.new) × BytesOf reply (string_bytes line)) }
+    ensures err { OnErr result (world_in desk.new ≡ world_in desk.old) }
 {
     let plan = desk.plan(alloc, moment, request)?;
-    let line = reply_line(alloc, plan.reply())?;
+    let line = reply_line(alloc, &plan.reply)?;
     let _reply = desk.commit(alloc, plan)?;
     Ok(line)
 }

@@ -2,7 +2,7 @@
 ghost use Rattle.std.specs.Prelude.{◌≡◌, ◌≤◌, ◌<◌, ◌⊎◌, ◌++◌, ℕ, List, [], true, false, IfOk, IfErr, OnOk, OnErr, IsErrOf, MatchResult, MatchBool, drop, length, vec_len, take};
 ghost use Rattle.std.specs.Io.KnownBytes.{Appends, Consumes, IsAtEnd};
 ghost use Rattle.hall_grid.specs.Device.{HasFailed};
-ghost use Rattle.hall_desk.specs.Desk.{world_of};
+ghost use Rattle.hall_desk.specs.Desk.{world_in};
 ghost use Rattle.hall_tool.specs.Input.{WritesPart};
 ghost use Rattle.hall_tool.specs.Replay.{IsReplayed, ReadsMore, line_text};
 
@@ -92,7 +92,7 @@ pub fn replay<R: Read, W: Write>(
     writer: &mut Counted<W>,
 ) -> Result<(), ReplayFault>
     ensures { IsReplayed (R.remaining reader.old.device) (R.remaining reader.new.device) (W.contents writer.old.device) (W.contents writer.new.device)
-        (world_of desk.old) (world_of desk.new)
+        (world_in desk.old) (world_in desk.new)
         (HasFailed reader.old.failures reader.new.failures ⊎ HasFailed writer.old.failures writer.new.failures) result }
 {
     let mut inbox = Vec::with_capacity(alloc, INBOX_SIZE)?;

@@ -1,5 +1,5 @@
 use Rattle.std.proofs.Common.{◌≡◌, ◌≤◌, ◌+◌, ◌-◌, ◌*◌, vec_len}
-use Rattle.hall_desk.specs.Desk.{world_of}
+use Rattle.hall_desk.specs.Desk.{world_in}
 use Rattle.hall_tool.proofs.Turns.{Kept}
 use Rattle.hall_tool.proofs.session.replay.Given as goal
 
@@ -9,7 +9,7 @@ invariant-records g l = record {
   reader : l.reader.failures ≡ l.fn.reader.failures;
   writer : l.writer.failures ≡ l.fn.writer.failures;
   kept : Kept (g.R.Read.remaining l.fn.reader.device) (g.R.Read.remaining l.reader.device) (g.W.Write.contents l.fn.writer.device) (g.W.Write.contents l.writer.device)
-    (world_of l.fn.desk) (world_of l.desk) l.inbox.items l.reads;
+    (world_in l.fn.desk) (world_in l.desk) l.inbox.items l.reads;
 }
 
 abbrev pub decreases-records : goal.decreases-records
