@@ -19,6 +19,8 @@ pub enum Command {
     Judge,
     /// Search for the solutions of the puzzle on standard input, in at most so many visits.
     Solve { budget: u64 },
+    /// Answer the records on standard input.
+    Replay,
 }
 
 /// Why the words name no command.
@@ -66,8 +68,12 @@ pub fn read_words(rt: &(impl Env + AllocGlobal)) -> Result<Command, WordsFault> 
 fn command_of(alloc: Global, words: &[String]) -> Result<Command, WordsFault> {
     match words.first() {
         Some(name) if name.as_str() == "judge" => {
-            plain_words(alloc, words)?;
+            plain_words(alloc, "judge", words)?;
             Ok(Command::Judge)
+        }
+        Some(name) if name.as_str() == "replay" => {
+            plain_words(alloc, "replay", words)?;
+            Ok(Command::Replay)
         }
         Some(name) if name.as_str() == "solve" => {
             let budget = budget_of(alloc, words)?;
@@ -78,8 +84,12 @@ fn command_of(alloc: Global, words: &[String]) -> Result<Command, WordsFault> {
 }
 
 /// Takes the words of a command that has neither options nor arguments.
-fn plain_words<'a>(alloc: Global, words: &'a [String]) -> Result<(), WordsFault> {
-    let command: clap::Command<'a> = clap::Command::new(alloc, "judge");
+fn plain_words<'a>(
+    alloc: Global,
+    name: &'a str,
+    words: &'a [String],
+) -> Result<(), WordsFault> {
+    let command: clap::Command<'a> = clap::Command::new(alloc, name);
     let _matches = command.try_get_matches_from(words)?;
     Ok(())
 }

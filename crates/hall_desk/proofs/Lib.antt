@@ -1,1 +1,10 @@
-pub mod Starts
+pub mod MapWorlds
+pub mod Knowing
+pub mod Answering
+pub mod Releases
+pub mod Telling
+pub mod Runs
+pub mod Showing
+pub mod Planning
+pub mod Sorting
+pub mod UsingRounds

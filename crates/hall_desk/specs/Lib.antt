@@ -1,0 +1,12 @@
+pub mod Store
+pub mod Caller
+pub mod Change
+pub mod Found
+pub mod Keyed
+pub mod Maps
+pub mod Shown
+pub mod Step
+pub mod Run
+pub mod Sane
+pub mod Plans
+pub mod Desk

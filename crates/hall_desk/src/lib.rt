@@ -2,7 +2,26 @@
 #![tactic(auto)]
 
 mod certificate;
+mod desk;
+mod found;
+mod map_calls;
+mod map_reads;
+mod map_store;
+mod opening;
+mod plan;
+mod reply;
+mod rows;
+mod step;
+mod store;
 mod verdict;
 
 pub use certificate::certify;
+pub use desk::Desk;
+pub use plan::Plan;
+pub use reply::{AnswerLine, Reply, ShownPuzzle, ShownRound, StateName};
+pub use rows::Rows;
+pub use store::{Change, StoreFault};
 pub use verdict::judge;
+
+#[cfg(test)]
+mod tests;

@@ -6,10 +6,10 @@ use std::test::Fail;
 
 /// Gives its bytes one at a time, and fails at call `fails_at`, counted from 0.
 #[derive(Drop)]
-struct Dripping<'a> {
-    bytes: &'a [u8],
-    call: usize,
-    fails_at: usize,
+pub struct Dripping<'a> {
+    pub bytes: &'a [u8],
+    pub call: usize,
+    pub fails_at: usize,
 }
 
 impl Read for Dripping<'_> {
@@ -32,10 +32,10 @@ impl Read for Dripping<'_> {
 
 /// Takes one byte at a call, and fails at call `fails_at`: by an error, or by taking none.
 #[derive(Drop)]
-struct Sipping {
-    taken: usize,
-    fails_at: usize,
-    by_taking_none: bool,
+pub struct Sipping {
+    pub taken: usize,
+    pub fails_at: usize,
+    pub by_taking_none: bool,
 }
 
 impl Write for Sipping {

@@ -1,0 +1,163 @@
+-- What the answers of an entrant in a round tell of one token and one number.
+use Rattle.std.proofs.Common.{◌≡◌, ◌≢◌, ◌==◌, ◌&&◌, ℕ, ◌+◌, zero, suc, ◌<◌, Bool, true, false, cond, List, [], ◌∷◌, Option, Some, None, Contains, IsTrue, refl, sym, ap, ◌∙◌, subst, arith, zero-add, slice_index_or, slice_get, length}
+use Rattle.std.specs.List.{filter, find, count_by, sum_by}
+use Rattle.std.specs.Bool.{Decides}
+use Rattle.std.specs.Cmp.{unsigned_Decides}
+use Rattle.std.specs.Cmp.Lexicographic.{pointwise_decides}
+use Rattle.std.specs.FinMap.{FinMap, get, values}
+use Rattle.std.proofs.lemmas.List.Sorted.{sum_by-IsPermutation, Contains-permutation, IsPermutation-sym}
+use Rattle.std.proofs.lemmas.List.Sums.{sum_by-cons}
+use Rattle.std.proofs.lemmas.Option.{slice_get_within, slice_get-get_or, get_or_from_slice_get}
+use Rattle.hall_policy.specs.World.{World, same_text}
+use Rattle.hall_policy.specs.Rules.{answers_given}
+use Rattle.hall_policy.specs.declared.record.AnswerKey.{AnswerKey}
+use Rattle.hall_policy.specs.declared.record.AnswerRow.{AnswerRow}
+use Rattle.hall_policy.proofs.Maps.{value_of_get, get_of_value}
+use Rattle.hall_policy.proofs.Orders.{answer_total}
+use Rattle.hall_desk.specs.Store.{IsListing, is_of, HasKeyedAnswers}
+
+-- texts are one exactly where the test passes
+pub text_decides : (a b : List ℕ) → Decides (same_text a b) (a ≡ b)
+text_decides a b = pointwise_decides unsigned_Decides a b
+
+and_first : (a b : Bool) → (a && b) ≡ true → a ≡ true
+and_first true b h = refl
+and_first false b h = h
+
+and_second : (a b : Bool) → (a && b) ≡ true → b ≡ true
+and_second true b h = h
+and_second false b h = let no : false ≡ true = h in cc
+
+and_both : (a b : Bool) → a ≡ true → b ≡ true → (a && b) ≡ true
+and_both a b p q = cc (ap (λ (x : Bool). x && b) p)
+
+-- ---- lists
+
+-- a count over what a test leaves is a count of both tests
+pub count_by-filter : {X : Type 0} (p q r : X → Bool) → ((x : X) → (q x && p x) ≡ r x) → (xs : List X) → count_by p (filter q xs) ≡ count_by r xs
+count_by-filter p q r same [] = refl
+count_by-filter {X} p q r same (x ∷ xs) =
+    let rest : count_by p (filter q xs) ≡ count_by r xs = count_by-filter p q r same xs in
+    let weight : X → ℕ = λ y. cond (p y) 1 0 in
+    let both : X → ℕ = λ y. cond (r y) 1 0 in
+    elim (q x) as (λ b. (b && p x) ≡ r x → count_by p (cond b (x ∷ filter q xs) (filter q xs)) ≡ count_by r (x ∷ xs)) [
+      | true ↦ λ e. sum_by-cons weight x (filter q xs) ∙ ap (λ n. weight x + n) rest ∙ ap (λ (b : Bool). let n : ℕ = cond b 1 0 in n + count_by r xs) e ∙ sym (sum_by-cons both x xs)
+      | false ↦ λ e.
+          let none : both x ≡ 0 = ap (λ (b : Bool). let n : ℕ = cond b 1 0 in n) (sym e) in
+          rest ∙ sym (sum_by-cons both x xs ∙ ap (λ n. n + count_by r xs) none ∙ zero-add (count_by r xs))
+    ] (same x)
+
+-- what passes a test and is in a list is in what the test leaves
+pub Contains-filter : {X : Type 0} (q : X → Bool) (xs : List X) (x : X) → Contains xs x → q x ≡ true → (i : ℕ) × (slice_get (filter q xs) i ≡ Some x)
+Contains-filter q [] x (i, l, e) h = absurd (omega arith)
+Contains-filter q (y ∷ ys) x (zero, l, e) h =
+    let same : y ≡ x = e in
+    (0, subst (λ z. slice_get (cond (q z) (z ∷ filter q ys) (filter q ys)) 0 ≡ Some x) (sym same) (ap (λ (b : Bool). slice_get (cond b (x ∷ filter q ys) (filter q ys)) 0) h))
+Contains-filter q (y ∷ ys) x (suc i, l, e) h =
+    let rest = Contains-filter q ys x (i, omega arith, e) h in
+    elim (q y) as (λ b. (j : ℕ) × (slice_get (cond b (y ∷ filter q ys) (filter q ys)) j ≡ Some x)) [ true ↦ (suc rest.0, rest.1) | false ↦ rest ]
+
+-- what a test leaves passes it, and is in the list
+pub filter-Contains : {X : Type 0} (q : X → Bool) (xs : List X) (x : X) (i : ℕ) → slice_get (filter q xs) i ≡ Some x → (j : ℕ) × (slice_get xs j ≡ Some x) × (q x ≡ true)
+filter-Contains q [] x i h = let no : None ≡ Some x = h in absurd (cc)
+filter-Contains q (y ∷ ys) x i h =
+    elim (q y) as (λ b. q y ≡ b → slice_get (cond b (y ∷ filter q ys) (filter q ys)) i ≡ Some x → (j : ℕ) × (slice_get (y ∷ ys) j ≡ Some x) × (q x ≡ true)) [
+      | true ↦ λ e. elim i as (λ n. slice_get (y ∷ filter q ys) n ≡ Some x → (j : ℕ) × (slice_get (y ∷ ys) j ≡ Some x) × (q x ≡ true)) [
+        | zero ↦ λ f. let same : y ≡ x = cc in (0, f, subst (λ z. q z ≡ true) same e)
+        | suc n ↦ λ f. let r = filter-Contains q ys x n f in (suc r.0, r.1, r.2)
+      ]
+      | false ↦ λ e f. let r = filter-Contains q ys x i f in (suc r.0, r.1, r.2)
+    ] refl h
+
+-- what is found passes the test and is in the list
+pub find-Contains : {X : Type 0} (p : X → Bool) (xs : List X) (x : X) → find p xs ≡ Some x → (j : ℕ) × (slice_get xs j ≡ Some x) × (p x ≡ true)
+find-Contains p [] x h = let no : None ≡ Some x = h in absurd (cc)
+find-Contains p (y ∷ ys) x h =
+    elim (p y) as (λ b. p y ≡ b → cond b (Some y) (find p ys) ≡ Some x → (j : ℕ) × (slice_get (y ∷ ys) j ≡ Some x) × (p x ≡ true)) [
+      | true ↦ λ e f. let same : y ≡ x = cc in (0, f, subst (λ z. p z ≡ true) same e)
+      | false ↦ λ e f. let r = find-Contains p ys x f in (suc r.0, r.1, r.2)
+    ] refl h
+
+-- where nothing is found, nothing in the list passes
+pub find-None : {X : Type 0} (p : X → Bool) (xs : List X) → find p xs ≡ None → (x : X) (j : ℕ) → slice_get xs j ≡ Some x → p x ≡ false
+find-None p [] h x j e = let no : None ≡ Some x = e in absurd (cc)
+find-None p (y ∷ ys) h x j e =
+    elim (p y) as (λ b. p y ≡ b → cond b (Some y) (find p ys) ≡ None → p x ≡ false) [
+      | true ↦ λ t f. let no : Some y ≡ None = f in absurd (cc)
+      | false ↦ λ t f. elim j as (λ n. slice_get (y ∷ ys) n ≡ Some x → p x ≡ false) [
+        | zero ↦ λ g. let same : y ≡ x = cc in subst (λ z. p z ≡ false) same t
+        | suc n ↦ λ g. find-None p ys f x n g
+      ] e
+    ] refl h
+
+contained : {X : Type 0} (xs : List X) (x : X) (j : ℕ) → slice_get xs j ≡ Some x → Contains xs x
+contained xs x j e = (j, slice_get_within xs j x e, get_or_from_slice_get xs j x x e)
+
+placed : {X : Type 0} (xs : List X) (x : X) → Contains xs x → (j : ℕ) × (slice_get xs j ≡ Some x)
+placed xs x h = (h.0, slice_get-get_or xs h.0 x h.1 ∙ ap Some h.2)
+
+-- ---- the answers of an entrant in a round
+-- the key of an answer
+abbrev key_of : List ℕ → List ℕ → ℕ → List ℕ → AnswerKey
+key_of entrant round number token = record { entrant = entrant; round = round; number = number; token = token }
+
+-- the answer stands under the token, to the puzzle of this number
+abbrev pub is_under : ℕ → List ℕ → AnswerRow → Bool
+is_under number token row = (row.key.number == number) && same_text row.key.token token
+
+swapped : (a b c : Bool) → ((a && b) && c) ≡ (b && (a && c))
+swapped true true c = refl
+swapped true false c = refl
+swapped false true c = refl
+swapped false false c = refl
+
+-- those to one puzzle are as many as the rules count
+pub counts_given : (world : World) (entrant round : List ℕ) (number : ℕ) (rows : List AnswerRow) → IsListing world (is_of entrant round) rows →
+    count_by (λ row. row.key.number == number) rows ≡ answers_given world entrant round number
+counts_given world entrant round number rows listing =
+    sum_by-IsPermutation (λ row. cond (row.key.number == number) 1 0) (filter (is_of entrant round) (values world.answers)) rows listing.whole
+    ∙ count_by-filter (λ row. row.key.number == number) (is_of entrant round) (λ row. same_text row.key.entrant entrant && (same_text row.key.round round && (row.key.number == number)))
+    (λ row. swapped (same_text row.key.round round) (same_text row.key.entrant entrant) (row.key.number == number)) (values world.answers)
+
+-- an answer of the listing is what the world has under its key
+pub listed_get : (world : World) (test : AnswerRow → Bool) (rows : List AnswerRow) → HasKeyedAnswers world → IsListing world test rows →
+    (row : AnswerRow) → Contains rows row → (test row ≡ true) × (get world.answers row.key ≡ Some row)
+listed_get world test rows keyed listing row among =
+    let left = placed (filter test (values world.answers)) row (Contains-permutation rows (filter test (values world.answers)) row (IsPermutation-sym (filter test (values world.answers)) rows listing.whole) among) in
+    let kept = filter-Contains test (values world.answers) row left.0 left.1 in
+    let at = get_of_value answer_total world.answers row (contained (values world.answers) row kept.0 kept.1) in
+    let own : row.key ≡ at.0 = keyed at.0 row at.1 in
+    (kept.2, subst (λ (k : AnswerKey). get world.answers k ≡ Some row) (sym own) at.1)
+
+-- what the world has under a key that passes is in the listing
+pub get_listed : (world : World) (test : AnswerRow → Bool) (rows : List AnswerRow) → IsListing world test rows →
+    (key : AnswerKey) (row : AnswerRow) → get world.answers key ≡ Some row → test row ≡ true → Contains rows row
+get_listed world test rows listing key row found passes =
+    let left = Contains-filter test (values world.answers) row (value_of_get world.answers key row found) passes in
+    Contains-permutation (filter test (values world.answers)) rows row listing.whole (contained (filter test (values world.answers)) row left.0 left.1)
+
+-- the first under the token is what the world has under it
+pub found_under : (world : World) (entrant round : List ℕ) (number : ℕ) (token : List ℕ) (rows : List AnswerRow) → HasKeyedAnswers world → IsListing world (is_of entrant round) rows →
+    find (is_under number token) rows ≡ get world.answers (key_of entrant round number token)
+found_under world entrant round number token rows keyed listing =
+    elim (find (is_under number token) rows) as (λ (o : Option AnswerRow). find (is_under number token) rows ≡ o → o ≡ get world.answers (key_of entrant round number token)) [
+      | None ↦ λ none. elim (get world.answers (key_of entrant round number token)) as (λ (o : Option AnswerRow). get world.answers (key_of entrant round number token) ≡ o → None ≡ o) [
+        | None ↦ λ _. refl
+        | Some row ↦ λ found.
+            let own : row.key ≡ key_of entrant round number token = keyed (key_of entrant round number token) row found in
+            let right : is_of entrant round row ≡ true = and_both (same_text row.key.round round) (same_text row.key.entrant entrant) ((text_decides row.key.round round).1 (ap (λ k. k.round) own)) ((text_decides row.key.entrant entrant).1 (ap (λ k. k.entrant) own)) in
+            let under : is_under number token row ≡ true = and_both (row.key.number == number) (same_text row.key.token token) ((unsigned_Decides row.key.number number).1 (ap (λ k. k.number) own)) ((text_decides row.key.token token).1 (ap (λ k. k.token) own)) in
+            let at = placed rows row (get_listed world (is_of entrant round) rows listing (key_of entrant round number token) row found right) in
+            let not_under : is_under number token row ≡ false = find-None (is_under number token) rows none row at.0 at.1 in
+            absurd (let no : true ≡ false = sym under ∙ not_under in cc)
+      ] refl
+      | Some row ↦ λ found.
+          let at = find-Contains (is_under number token) rows row found in
+          let told = listed_get world (is_of entrant round) rows keyed listing row (contained rows row at.0 at.1) in
+          let entrant_same : row.key.entrant ≡ entrant = (text_decides row.key.entrant entrant).0 (and_second (same_text row.key.round round) (same_text row.key.entrant entrant) told.0) in
+          let round_same : row.key.round ≡ round = (text_decides row.key.round round).0 (and_first (same_text row.key.round round) (same_text row.key.entrant entrant) told.0) in
+          let number_same : row.key.number ≡ number = (unsigned_Decides row.key.number number).0 (and_first (row.key.number == number) (same_text row.key.token token) at.2) in
+          let token_same : row.key.token ≡ token = (text_decides row.key.token token).0 (and_second (row.key.number == number) (same_text row.key.token token) at.2) in
+          let own : row.key ≡ key_of entrant round number token = λ i. record { entrant = entrant_same i; round = round_same i; number = number_same i; token = token_same i } in
+          sym (subst (λ (k : AnswerKey). get world.answers k ≡ Some row) own told.1)
+    ] refl

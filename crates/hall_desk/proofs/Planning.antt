@@ -1,0 +1,86 @@
+-- From facts and a decision to a plan.
+use Rattle.std.proofs.Common.{◌≡◌, ◌≢◌, ◌&&◌, ◌||◌, ℕ, zero, suc, ◌<◌, ◌≤◌, Bool, true, false, List, [], ◌∷◌, length, slice_get, Option, Some, None, Contains, IsTrue, refl, sym, ◌∙◌, ap, subst, inl, inr, cond}
+use Rattle.std.specs.List.{AllByRecursion, filter}
+use Rattle.std.specs.FinMap.{get, values}
+use Rattle.std.proofs.lemmas.Option.{slice_get-get_or}
+use Rattle.hall_grid.specs.Board.{Board}
+use Rattle.hall_grid.specs.Canonical.{CanonicalText}
+use Rattle.hall_policy.specs.World.{World, same_text}
+use Rattle.hall_policy.specs.Actions.{rules_asked}
+use Rattle.hall_policy.specs.First.{First}
+use Rattle.hall_policy.specs.Facts.{Tells, TrueUpTo, AllTrue, deciding}
+use Rattle.hall_policy.specs.declared.rule.Rule.{Rule}
+use Rattle.hall_policy.specs.declared.rule.Decision.{Decision}
+use Rattle.hall_policy.specs.declared.facts.Facts.{Facts}
+use Rattle.hall_policy.specs.declared.record.Person.{Person}
+use Rattle.hall_policy.specs.declared.record.PuzzleKey.{PuzzleKey}
+use Rattle.hall_policy.specs.declared.record.PuzzleRow.{PuzzleRow}
+use Rattle.hall_policy.specs.declared.record.PuzzleState.{PuzzleState}
+use Rattle.hall_policy.specs.declared.record.PuzzleState.TheVariants as state
+use Rattle.hall_policy.specs.declared.request.Request.{Request}
+use Rattle.hall_policy.specs.declared.request.Action.{Action}
+use Rattle.hall_policy.specs.declared.request.Action.TheVariants as action
+use Rattle.hall_desk.specs.Caller.{caller_of}
+use Rattle.hall_desk.specs.Found.{AreFactsOf}
+use Rattle.hall_desk.specs.Change.{changed, CanMake}
+use Rattle.hall_desk.specs.Step.{Decided}
+use Rattle.hall_desk.specs.Plans.{IsPlanFor, IsAllowedPlan, StandsAs}
+use Rattle.hall_desk.specs.declared.plan.Plan.{Plan}
+use Rattle.hall_desk.specs.declared.reply.Reply.{Reply}
+use Rattle.hall_desk.specs.declared.reply.Reply.TheVariants.{PuzzlePut}
+use Rattle.hall_desk.specs.declared.reply.StateName.TheVariants as name
+use Rattle.hall_desk.specs.declared.store.Change.{Change}
+use Rattle.hall_desk.specs.declared.store.Change.TheVariants as change
+
+by_index : (P : Rule → Type 0) (rules : List Rule) (k : ℕ) (rule : Rule) → AllByRecursion P rules → slice_get rules k ≡ Some rule → P rule
+by_index P [] k rule h e = absurd (let no : None ≡ Some rule = e in cc)
+by_index P (r ∷ rules) zero rule h e = let same : r ≡ rule = cc in subst P same h.0
+by_index P (r ∷ rules) (suc k) rule h e = by_index P rules k rule h.1 e
+
+-- facts that are all true are so up to any rule
+pub told_up_to : (facts : Facts) (world : World) (action : Action) (n : ℕ) → AllTrue facts world action → TrueUpTo n facts world action
+told_up_to facts world action n told rule c small =
+    by_index (λ r. Tells r facts world action) (rules_asked action) c.0 rule told (slice_get-get_or (rules_asked action) c.0 rule c.1 ∙ ap Some c.2)
+
+-- a decision, and what it answers and changes, make a plan
+pub planned : (facts : Facts) (world : World) (t : ℕ) (request : Request) (decision : Decision) (given : Reply) (change : Change) →
+    AreFactsOf world request facts →
+    ((w : World) → TrueUpTo (deciding request.action decision) facts w request.action → First w facts.caller request.action t decision) →
+    ((found : PuzzleState) → Decided decision world facts.caller request.action t found given (changed change world)) → CanMake change world →
+    IsPlanFor world t request (record { reply = given; change = change })
+planned facts world t request decision given change found first decided can =
+    let same : facts.caller ≡ caller_of world request.key = found.caller.found in
+    record {
+      step = inr (
+        state.GaveUp,
+        (
+          decision,
+          subst (λ (caller : Option Person). First world caller request.action t decision) same (first world (told_up_to facts world request.action (deciding request.action decision) found.told)),
+          subst (λ (caller : Option Person). Decided decision world caller request.action t state.GaveUp given (changed change world)) same (decided state.GaveUp),
+        ),
+      );
+      can = can;
+    }
+
+-- the plan of a puzzle that is new, or differs from the one that stands
+pub put_new : (world : World) (facts : Facts) (asked : Action) (t : ℕ) (key copied_key : PuzzleKey) (puzzle copied : Board) (text : List ℕ) →
+    asked ≡ action.PutPuzzle key puzzle → copied_key ≡ key → copied ≡ puzzle → CanonicalText text puzzle → AllTrue facts world asked → IsTrue facts.author_is_there →
+    ((row : PuzzleRow) → facts.puzzle ≡ Some row → row.puzzle ≢ puzzle) →
+    IsAllowedPlan world facts.caller asked t (record { reply = PuzzlePut name.New text; change = change.PutPuzzle (record { key = copied_key; puzzle = copied; state = state.New }) })
+put_new world facts asked t key copied_key puzzle copied text is same_key same_puzzle canonical told there differ =
+    subst (λ (a : Action). AllTrue facts world a → IsAllowedPlan world facts.caller a t (record { reply = PuzzlePut name.New text; change = change.PutPuzzle (record { key = copied_key; puzzle = copied; state = state.New }) })) (sym is)
+    (subst (λ (k : PuzzleKey). AllTrue facts world (action.PutPuzzle key puzzle) → IsAllowedPlan world facts.caller (action.PutPuzzle key puzzle) t (record { reply = PuzzlePut name.New text; change = change.PutPuzzle (record { key = k; puzzle = copied; state = state.New }) })) (sym same_key)
+    (subst (λ (p : Board). AllTrue facts world (action.PutPuzzle key puzzle) → IsAllowedPlan world facts.caller (action.PutPuzzle key puzzle) t (record { reply = PuzzlePut name.New text; change = change.PutPuzzle (record { key = key; puzzle = p; state = state.New }) })) (sym same_puzzle)
+    (λ all. record {
+      allowed = λ found. (text, canonical, inr ((λ row kept. differ row (all.1.1.1.1.1.0.0 ∙ kept)), refl, refl));
+      can = let author = all.1.1.1.0.0 there in (author.0, author.1);
+    }))) told
+
+-- ---- the answers that a caller sees
+and_true : (b : Bool) → (b && true) ≡ b
+and_true true = refl
+and_true false = refl
+
+pub filter_alike : {X : Type 0} (p q : X → Bool) → ((x : X) → p x ≡ q x) → (xs : List X) → filter p xs ≡ filter q xs
+filter_alike p q same [] = refl
+filter_alike {X} p q same (x ∷ xs) = λ i. cond (same x i) (x ∷ filter_alike p q same xs i) (filter_alike p q same xs i)

@@ -1,0 +1,34 @@
+-- Runs over a store, one step more.
+use Rattle.std.proofs.Common.{◌≡◌, ◌⊎◌, inl, inr, ℕ, zero, suc, ◌≤◌, length, take, arith, List, [], ◌∷◌, ◌++◌, refl, sym, ◌∙◌, subst}
+use Rattle.hall_policy.specs.World.{World}
+use Rattle.hall_policy.specs.declared.request.Request.{Request}
+use Rattle.hall_desk.specs.Step.{Step}
+use Rattle.hall_desk.specs.Run.{Run}
+use Rattle.hall_desk.specs.Plans.{Steps, Runs}
+use Rattle.hall_desk.specs.declared.reply.Reply.{Reply}
+use Rattle.hall_desk.specs.declared.reply.Reply.TheVariants.{Unavailable}
+
+-- a run and one step more
+pub run_more : (world : World) (requests : List (ℕ × Request)) (replies : List Reply) (mid : World) (asked : ℕ × Request) (given : Reply) (last : World) →
+    Run world requests replies mid → Step mid asked.0 asked.1 given last → Run world (requests ++ asked ∷ []) (replies ++ given ∷ []) last
+run_more world [] [] mid asked given last run step = (last, subst (λ (w : World). Step w asked.0 asked.1 given last) run step, refl)
+run_more world [] (r ∷ replies) mid asked given last run step = absurd run
+run_more world (q ∷ requests) [] mid asked given last run step = absurd run
+run_more world (q ∷ requests) (r ∷ replies) mid asked given last run step =
+    (run.0, run.1, run_more run.0 requests replies mid asked given last run.2 step)
+
+-- a run over a store and one step more over it
+pub runs_more : {X : Type 0} (serves : X → Type 0) (world : X → World) (first old new : X) (requests : List (ℕ × Request)) (replies : List Reply) (asked : ℕ × Request) (given : Reply) →
+    (serves new → serves old) → Runs serves world first requests replies old → Steps serves world old asked.0 asked.1 given new →
+    Runs serves world first (requests ++ asked ∷ []) (replies ++ given ∷ []) new
+runs_more serves world first old new requests replies asked given opened (last, run, own) (inl (none, left)) =
+    (last, run_more (world first) requests replies last asked given last run (inl (none, refl)), λ s. left s ∙ own (opened s))
+runs_more serves world first old new requests replies asked given opened (last, run, own) (inr (before, after, step)) =
+    (world new, run_more (world first) requests replies last asked given (world new) run (subst (λ (w : World). Step w asked.0 asked.1 given (world new)) (own before) step), λ s. refl)
+
+-- a prefix that is as long as the list is the list
+pub take_all : {A : Type 0} (xs : List A) (n : ℕ) → length xs ≤ n → take n xs ≡ xs
+take_all [] zero h = refl
+take_all [] (suc n) h = refl
+take_all (x ∷ xs) zero h = absurd (omega arith)
+take_all (x ∷ xs) (suc n) h = let rest = take_all xs n (omega arith) in λ i. x ∷ rest i

@@ -1,0 +1,15 @@
+-- One more puzzle of a round that is shown.
+use Rattle.std.proofs.Common.{◌≡◌, ℕ, ◌+◌, zero, suc, List, [], ◌∷◌, ◌++◌, length, arith, subst}
+use Rattle.hall_policy.specs.World.{World}
+use Rattle.hall_policy.specs.declared.record.Entry.{Entry}
+use Rattle.hall_desk.specs.Shown.{ShowsPuzzle, ShowsPuzzles}
+use Rattle.hall_desk.specs.declared.reply.ShownPuzzle.{ShownPuzzle}
+
+pub shows_more : (world : World) (number : ℕ) (entries : List Entry) (shown : List ShownPuzzle) (entry : Entry) (line : ShownPuzzle) →
+    ShowsPuzzles world number entries shown → ShowsPuzzle world (number + length entries) entry line → ShowsPuzzles world number (entries ++ entry ∷ []) (shown ++ line ∷ [])
+shows_more world number [] [] entry line before here = (let at : number + 0 ≡ number = omega arith in subst (λ (n : ℕ). ShowsPuzzle world n entry line) at here, tt)
+shows_more world number [] (l ∷ shown) entry line before here = absurd before
+shows_more world number (e ∷ entries) [] entry line before here = absurd before
+shows_more world number (e ∷ entries) (l ∷ shown) entry line before here =
+    let at : number + suc (length entries) ≡ (number + 1) + length entries = omega arith in
+    (before.0, shows_more world (number + 1) entries shown entry line before.1 (subst (λ (n : ℕ). ShowsPuzzle world n entry line) at here))

@@ -1,0 +1,14 @@
+use Rattle.std.proofs.Common.{◌≡◌, subst}
+use Rattle.std.specs.Bool.{⊤}
+use Rattle.hall_policy.specs.World.{World}
+use Rattle.hall_desk.specs.Maps.{world_of}
+use Rattle.hall_desk.specs.Plans.{IsPlanFor}
+use Rattle.hall_desk.specs.declared.map_store.MapStore.{MapStore}
+use Rattle.hall_desk.proofs.Knowing.{plainly}
+use Rattle.hall_desk.proofs.desk.Desk.plan.Goals as goal
+
+pub returns-clause-plan : goal.returns-clause-plan
+returns-clause-plan c =
+    let new = c.make_plan.new.store in
+    plainly {X = MapStore} (λ _. ⊤) (λ _. ⊤) c.make_plan.result (IsPlanFor (world_of new) c.args.t c.args.request.now) (IsPlanFor (world_of c.args.self.now.store) c.args.t c.args.request.now) new tt
+    (λ plan made. subst (λ (w : World). IsPlanFor w c.args.t c.args.request.now plan) (c.make_plan.ensures.kept.world tt tt) made) c.make_plan.ensures.served

@@ -1,0 +1,54 @@
+-- What is found for a request, and of which worlds it is true.
+use Rattle.std.specs.Prelude.{◌≡◌, ◌↔◌, ◌==◌, ◌&&◌, ℕ, List, Option, Some, None, IsTrue, IfSome, find, count_by}
+use Rattle.std.specs.FinMap.{FinMap, get}
+use Rattle.hall_policy.specs.World.{World, same_text}
+use Rattle.hall_policy.specs.Facts.{IsRoundFound, AllTrue}
+use Rattle.hall_policy.specs.Rules.{answers_given, puzzles_put, StandsReleased}
+use Rattle.hall_policy.specs.declared.record.Person.{Person}
+use Rattle.hall_policy.specs.declared.record.PuzzleKey.{PuzzleKey}
+use Rattle.hall_policy.specs.declared.record.Round.{Round}
+use Rattle.hall_policy.specs.declared.record.AnswerRow.{AnswerRow}
+use Rattle.hall_policy.specs.declared.request.Request.{Request}
+use Rattle.hall_policy.specs.declared.facts.Facts.{Facts}
+use Rattle.hall_desk.specs.Caller.{caller_of}
+
+-- the caller found is the person with the key, who is there
+pub record IsCaller (world : World) (key : Option (List ℕ)) (person : Option Person) : Type 0 where
+  pub found : person ≡ caller_of world key
+  pub there : IfSome person (λ p. get world.people p.name ≡ Some p)
+
+-- the facts tell who calls, and all that the rules asked of the action read
+pub record AreFactsOf (world : World) (request : Request) (facts : Facts) : Type 0 where
+  pub caller : IsCaller world request.key facts.caller
+  pub told : AllTrue facts world request.action
+
+-- the facts on a request that names a round
+pub record AreRoundFacts (world : World) (key : Option (List ℕ)) (id : List ℕ) (facts : Facts) : Type 0 where
+  pub caller : IsCaller world key facts.caller
+  pub round : IsRoundFound world (Some id) facts.round
+
+-- the answer under the caller's token, and how many answers to the puzzle the caller gave
+pub record AreAnswerFacts (world : World) (caller : Option Person) (id : List ℕ) (number : ℕ) (token : List ℕ) (row : Option AnswerRow) (given : ℕ) : Type 0 where
+  pub answer : (person : Person) → caller ≡ Some person → row ≡ get world.answers (record { entrant = person.name; round = id; number = number; token = token })
+  pub count : (person : Person) → caller ≡ Some person → given ≡ answers_given world person.name id number
+
+-- the facts on an answer that is handed in
+pub record AreSubmitFacts (world : World) (key : Option (List ℕ)) (id : List ℕ) (number : ℕ) (token : List ℕ) (facts : Facts) : Type 0 where
+  pub round : AreRoundFacts world key id facts
+  pub standing : AreAnswerFacts world facts.caller id number token facts.answer facts.count
+
+-- a person of the name with the role author is there
+abbrev pub HasAuthor : World → List ℕ → Type 0
+HasAuthor world name = (person : Person) × (get world.people name ≡ Some person) × IsTrue person.roles.author
+
+-- the facts on a puzzle that is put
+pub record ArePutFacts (world : World) (caller_key : Option (List ℕ)) (key : PuzzleKey) (facts : Facts) : Type 0 where
+  pub caller : IsCaller world caller_key facts.caller
+  pub author : IsTrue facts.author_is_there ↔ HasAuthor world key.author
+  pub puzzle : facts.puzzle ≡ get world.puzzles key
+  pub released : IsTrue facts.in_released ↔ ((id : List ℕ) × StandsReleased world key id)
+  pub count : facts.puzzle ≡ None → facts.count ≡ puzzles_put world key.author
+
+-- the round is there and released
+abbrev pub IsReleasedRound : World → List ℕ → Type 0
+IsReleasedRound world id = (round : Round) × (get world.rounds id ≡ Some round) × IsTrue round.released

@@ -1,0 +1,34 @@
+-- The world that ordered maps keep.
+use Rattle.std.specs.Prelude.{ℕ, ◌+◌, List, [], ◌∷◌, map}
+use Rattle.std.specs.List.{flat_map}
+use Rattle.std.specs.FinMap.{from_entries}
+use Rattle.hall_policy.specs.World.{World}
+use Rattle.hall_policy.specs.declared.record.Round.{Round}
+use Rattle.hall_policy.specs.declared.record.Entry.{Entry}
+use Rattle.hall_policy.specs.declared.record.PlaceKey.{PlaceKey}
+use Rattle.hall_policy.specs.declared.record.RoundRow.{RoundRow}
+use Rattle.hall_desk.specs.declared.map_store.MapStore.{MapStore}
+
+-- a round without its puzzles, under its id
+abbrev pub head_of : List ℕ × RoundRow → List ℕ × Round
+head_of entry = (entry.0, entry.1.round)
+
+-- the puzzles of a round at their places, numbered from the given number on
+abbrev pub places_from : List ℕ → ℕ → List Entry → List (PlaceKey × Entry)
+places_from id number [] = []
+places_from id number (entry ∷ entries) = (record { round = id; number = number }, entry) ∷ places_from id (number + 1) entries
+
+-- the places of a round's puzzles
+abbrev pub places_in : List ℕ × RoundRow → List (PlaceKey × Entry)
+places_in entry = places_from entry.0 1 entry.1.puzzles
+
+-- each map holds the entries of its ordered map; the lists of puzzles stand in their rounds
+abbrev pub world_of : MapStore → World
+world_of store = record {
+  people = from_entries store.people.entries;
+  puzzles = from_entries store.puzzles.entries;
+  rounds = from_entries (map head_of store.rounds.entries);
+  places = from_entries (flat_map places_in store.rounds.entries);
+  answers = from_entries store.answers.entries;
+  protests = from_entries store.protests.entries;
+}

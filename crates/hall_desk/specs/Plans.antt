@@ -1,0 +1,67 @@
+-- What a plan promises, and what a step over a store leaves.
+use Rattle.std.specs.Prelude.{◌≡◌, ◌⊎◌, ℕ, List, Option, Some, None, ◌≢◌}
+use Rattle.std.specs.FinMap.{get}
+use Rattle.hall_grid.specs.Answer.{Verdict}
+use Rattle.hall_policy.specs.World.{World, entry_at}
+use Rattle.hall_policy.specs.declared.record.Entry.{Entry}
+use Rattle.hall_policy.specs.declared.record.Person.{Person}
+use Rattle.hall_policy.specs.declared.record.PuzzleRow.{PuzzleRow}
+use Rattle.hall_policy.specs.declared.record.RoundRow.{RoundRow}
+use Rattle.hall_policy.specs.declared.record.PuzzleState.{PuzzleState}
+use Rattle.hall_policy.specs.declared.request.Action.{Action}
+use Rattle.hall_policy.specs.declared.request.Action.TheVariants.{Submit, Answers}
+use Rattle.hall_policy.specs.declared.facts.Facts.{Facts}
+use Rattle.hall_policy.specs.declared.record.AnswerRow.{AnswerRow}
+use Rattle.hall_desk.specs.Store.{IsListing}
+use Rattle.hall_grid.specs.Board.{Board}
+use Rattle.hall_desk.specs.Shown.{sees_answer, state_name}
+use Rattle.hall_desk.specs.declared.reply.StateName.{StateName}
+use Rattle.hall_policy.specs.declared.request.Request.{Request}
+use Rattle.hall_desk.specs.Change.{changed, CanMake}
+use Rattle.hall_desk.specs.Step.{Step, Allowed}
+use Rattle.hall_desk.specs.Run.{Run}
+use Rattle.hall_desk.specs.declared.reply.Reply.{Reply}
+use Rattle.hall_desk.specs.declared.reply.Reply.TheVariants.{Unavailable}
+use Rattle.hall_desk.specs.declared.plan.Plan.{Plan}
+
+-- the plan's reply and change are a step of the hall from the world, and the change may be made
+pub record IsPlanFor (world : World) (t : ℕ) (request : Request) (plan : Plan) : Type 0 where
+  pub step : Step world t request plan.reply (changed plan.change world)
+  pub can : CanMake plan.change world
+
+-- the plan's reply and change are those of the allowed action, whatever the search would find, and the change may be made
+pub record IsAllowedPlan (world : World) (caller : Option Person) (action : Action) (t : ℕ) (plan : Plan) : Type 0 where
+  pub allowed : (found : PuzzleState) → Allowed world caller action t found plan.reply (changed plan.change world)
+  pub can : CanMake plan.change world
+
+-- the request was refused and the world left, or the store served before and after, and made a step of the hall
+abbrev pub Steps : {X : Type 0} → (X → Type 0) → (X → World) → X → ℕ → Request → Reply → X → Type 0
+Steps serves world old t request given new =
+    ((given ≡ Unavailable) × (serves new → world new ≡ world old))
+    ⊎ (serves old × serves new × Step (world old) t request given (world new))
+
+-- the replies are a run of the hall to some world, and where the store still serves, that world is its own
+abbrev pub Runs : {X : Type 0} → (X → Type 0) → (X → World) → X → List (ℕ × Request) → List Reply → X → Type 0
+Runs serves world old requests replies new =
+    (last : World) × Run (world old) requests replies last × (serves new → world new ≡ last)
+
+-- the puzzle that was found is this one, and in this state; or it is none or another one
+abbrev pub StandsAs : Option PuzzleRow → Board → Option StateName → Type 0
+StandsAs found puzzle (Some state) = (row : PuzzleRow) × (found ≡ Some row) × (row.puzzle ≡ puzzle) × (state ≡ state_name row.state)
+StandsAs found puzzle None = (row : PuzzleRow) → found ≡ Some row → row.puzzle ≢ puzzle
+
+-- the verdict is that of the answer to the round's puzzle of that number
+abbrev pub IsJudgedAt : World → RoundRow → ℕ → List ℕ → ℕ → Type 0
+IsJudgedAt world row number answer verdict =
+    (entry : Entry) × (puzzle : PuzzleRow) × (entry_at row.puzzles number ≡ Some entry) × (get world.puzzles entry.puzzle ≡ Some puzzle) × Verdict puzzle.puzzle answer verdict
+
+-- the verdict is that of the answer that is handed in
+abbrev pub IsJudgedFor : World → Facts → Action → ℕ → Type 0
+IsJudgedFor world facts (Submit id number token answer) verdict = (row : RoundRow) × (facts.round ≡ Some row) × IsJudgedAt world row number answer verdict
+IsJudgedFor world facts _ verdict = ⊥
+
+-- the rows are the answers that the caller sees
+abbrev pub AreRowsFor : World → Facts → Action → ℕ → List AnswerRow → Type 0
+AreRowsFor world facts (Answers id) t rows =
+    (person : Person) × (row : RoundRow) × (facts.caller ≡ Some person) × (facts.round ≡ Some row) × IsListing world (sees_answer person row.round id t) rows
+AreRowsFor world facts _ t rows = ⊥

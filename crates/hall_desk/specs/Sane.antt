@@ -1,0 +1,95 @@
+-- What holds of every world that the hall reaches.
+use Rattle.std.specs.Prelude.{◌≡◌, ◌≢◌, ◌≤◌, ℕ, List, Option, Some, None, IsTrue}
+use Rattle.std.specs.FinMap.{FinMap, get, values}
+use Rattle.hall_grid.specs.declared.rule.Rule.{Rule as Broken}
+use Rattle.hall_grid.specs.Board.{Board}
+use Rattle.hall_grid.specs.Answer.{AnswerText, IsFilling, IsBroken, Verdict}
+use Rattle.hall_policy.specs.World.{World, IsRoundAt}
+use Rattle.hall_policy.specs.Lists.{AreEntries}
+use Rattle.hall_policy.specs.Rules.{Lists, StandsReleased, IsCertified, answers_given, protests_made, puzzles_put}
+use Rattle.hall_desk.specs.Found.{IsReleasedRound}
+use Rattle.hall_policy.specs.declared.record.Person.{Person}
+use Rattle.hall_policy.specs.declared.record.PuzzleKey.{PuzzleKey}
+use Rattle.hall_policy.specs.declared.record.PuzzleRow.{PuzzleRow}
+use Rattle.hall_policy.specs.declared.record.PuzzleState.{PuzzleState}
+use Rattle.hall_policy.specs.declared.record.PuzzleState.TheVariants as state
+use Rattle.hall_policy.specs.declared.record.Round.{Round}
+use Rattle.hall_policy.specs.declared.record.RoundRow.{RoundRow}
+use Rattle.hall_policy.specs.declared.record.Entry.{Entry}
+use Rattle.hall_policy.specs.declared.record.PlaceKey.{PlaceKey}
+use Rattle.hall_policy.specs.declared.record.AnswerKey.{AnswerKey}
+use Rattle.hall_policy.specs.declared.record.AnswerRow.{AnswerRow}
+use Rattle.hall_policy.specs.declared.record.ProtestKey.{ProtestKey}
+use Rattle.hall_policy.specs.declared.record.ProtestRow.{ProtestRow}
+
+-- the filling breaks no rule of the puzzle
+pub record Solves (puzzle : Board) (f : List ℕ) : Type 0 where
+  pub filling : IsFilling puzzle f
+  pub right : (rule : Broken) → ¬ (IsBroken puzzle f rule)
+
+-- what a state says of the puzzle's solutions
+abbrev pub IsTrueState : Board → PuzzleState → Type 0
+IsTrueState puzzle (state.One text) = (solution : List ℕ) × AnswerText puzzle text solution × Solves puzzle solution × ((other : List ℕ) → Solves puzzle other → other ≡ solution)
+IsTrueState puzzle state.NoSolution = (filling : List ℕ) → ¬ (Solves puzzle filling)
+IsTrueState puzzle state.More = (a b : List ℕ) × Solves puzzle a × Solves puzzle b × (a ≢ b)
+IsTrueState puzzle state.GaveUp = Unit {0}
+IsTrueState puzzle state.New = Unit {0}
+
+-- the round's puzzle of that number is there
+abbrev pub HasPlace : World → List ℕ → ℕ → Type 0
+HasPlace world round number = (entry : Entry) × (get world.places (record { round = round; number = number }) ≡ Some entry)
+
+-- each row stands under its own key, and what it refers to is there
+pub record IsKeyed (world : World) : Type 0 where
+  pub people : (name : List ℕ) (row : Person) → get world.people name ≡ Some row → row.name ≡ name
+  pub puzzles : (key : PuzzleKey) (row : PuzzleRow) → get world.puzzles key ≡ Some row → row.key ≡ key
+  pub rounds : (id : List ℕ) (round : Round) → get world.rounds id ≡ Some round → round.id ≡ id
+  pub answers : (key : AnswerKey) (row : AnswerRow) → get world.answers key ≡ Some row → row.key ≡ key
+  pub protests : (key : ProtestKey) (row : ProtestRow) → get world.protests key ≡ Some row → row.key ≡ key
+  -- a puzzle's author is there
+  pub authors : (key : PuzzleKey) (row : PuzzleRow) → get world.puzzles key ≡ Some row → get world.people key.author ≢ None
+  -- a round has 1 to 40 puzzles, numbered from 1, and a place belongs to a round
+  pub lists : (id : List ℕ) (round : Round) → get world.rounds id ≡ Some round → (row : RoundRow) × IsRoundAt world id row × AreEntries row.puzzles
+  pub homes : (key : PlaceKey) (entry : Entry) → get world.places key ≡ Some entry → get world.rounds key.round ≢ None
+  -- a round's puzzles are there, a draft's too
+  pub entries : (key : PlaceKey) (entry : Entry) → get world.places key ≡ Some entry → get world.puzzles entry.puzzle ≢ None
+  -- an entrant is there, and the place of an answer or protest
+  pub entrants : (key : AnswerKey) (row : AnswerRow) → get world.answers key ≡ Some row → get world.people key.entrant ≢ None
+  pub answered : (key : AnswerKey) (row : AnswerRow) → get world.answers key ≡ Some row → HasPlace world key.round key.number
+  pub protesters : (key : ProtestKey) (row : ProtestRow) → get world.protests key ≡ Some row → get world.people key.entrant ≢ None
+  pub protested : (key : ProtestKey) (row : ProtestRow) → get world.protests key ≡ Some row → HasPlace world key.round row.number
+
+-- the verdict is that of the answer to the puzzle at the place
+abbrev pub IsVerdictAt : World → List ℕ → ℕ → AnswerRow → Type 0
+IsVerdictAt world round number row =
+    (entry : Entry) × (puzzle : PuzzleRow) × (get world.places (record { round = round; number = number }) ≡ Some entry)
+    × (get world.puzzles entry.puzzle ≡ Some puzzle) × Verdict puzzle.puzzle row.answer row.verdict
+
+-- a sane world: what every step of the hall keeps
+pub record Sane (world : World) : Type 0 where
+  pub keyed : IsKeyed world
+  -- a puzzle's state is true of it
+  pub states : (key : PuzzleKey) (row : PuzzleRow) → get world.puzzles key ≡ Some row → IsTrueState row.puzzle row.state
+  -- answers and protests belong to released rounds
+  pub answers_released : (key : AnswerKey) (row : AnswerRow) → get world.answers key ≡ Some row → IsReleasedRound world key.round
+  pub protests_released : (key : ProtestKey) (row : ProtestRow) → get world.protests key ≡ Some row → IsReleasedRound world key.round
+  -- a stored verdict is that of its answer and its puzzle's text
+  pub verdicts : (key : AnswerKey) (row : AnswerRow) → get world.answers key ≡ Some row → IsVerdictAt world key.round key.number row
+  -- a puzzle of a released round is in state one and in no other released round
+  pub certified : (id : List ℕ) (key : PuzzleKey) → StandsReleased world key id → IsCertified world key
+  pub in_one_round : (a b : List ℕ) (key : PuzzleKey) → StandsReleased world key a → StandsReleased world key b → a ≡ b
+  -- a published round is released and has no open protest
+  pub published : (id : List ℕ) (round : Round) → get world.rounds id ≡ Some round → IsTrue round.published → IsTrue round.released
+  pub ruled : (id : List ℕ) (round : Round) → get world.rounds id ≡ Some round → IsTrue round.published →
+      (key : ProtestKey) (row : ProtestRow) → key.round ≡ id → get world.protests key ≡ Some row → row.ruling ≢ None
+  -- one entrant's answers to one puzzle of a round are numbered 1 to their count, each number once
+  pub numbered : (key : AnswerKey) (row : AnswerRow) → get world.answers key ≡ Some row → (1 ≤ row.n) × (row.n ≤ answers_given world key.entrant key.round key.number)
+  pub numbered_once : (a b : AnswerKey) (row other : AnswerRow) → get world.answers a ≡ Some row → get world.answers b ≡ Some other →
+      a.entrant ≡ b.entrant → a.round ≡ b.round → a.number ≡ b.number → row.n ≡ other.n → a ≡ b
+  -- keys differ, and nobody is director and entrant
+  pub keys_differ : (a b : List ℕ) (p q : Person) → get world.people a ≡ Some p → get world.people b ≡ Some q → p.key ≡ q.key → a ≡ b
+  pub apart : (name : List ℕ) (person : Person) → get world.people name ≡ Some person → IsTrue person.roles.director → IsTrue person.roles.entrant → ⊥
+  -- the limits
+  pub few_answers : (entrant round : List ℕ) (number : ℕ) → answers_given world entrant round number ≤ 50
+  pub few_protests : (entrant round : List ℕ) → protests_made world entrant round ≤ 5
+  pub few_puzzles : (author : List ℕ) → puzzles_put world author ≤ 500

@@ -1,0 +1,112 @@
+-- A step of the hall: one request, answered.
+use Rattle.std.specs.Prelude.{◌≡◌, ◌≢◌, ◌+◌, ◌⊎◌, ℕ, List, Option, Some, None, map}
+use Rattle.std.specs.FinMap.{FinMap, get, insert, values}
+use Rattle.hall_grid.specs.Board.{Board}
+use Rattle.hall_grid.specs.Answer.{Verdict}
+use Rattle.hall_grid.specs.Canonical.{CanonicalText}
+use Rattle.hall_policy.specs.World.{World, IsRoundAt}
+use Rattle.hall_policy.specs.Rules.{TheCaller, answers_given}
+use Rattle.hall_policy.specs.First.{First}
+use Rattle.hall_policy.specs.declared.record.Person.{Person}
+use Rattle.hall_policy.specs.declared.record.PuzzleKey.{PuzzleKey}
+use Rattle.hall_policy.specs.declared.record.PuzzleRow.{PuzzleRow}
+use Rattle.hall_policy.specs.declared.record.PuzzleState.{PuzzleState}
+use Rattle.hall_policy.specs.declared.record.PuzzleState.TheVariants as state
+use Rattle.hall_policy.specs.declared.record.Round.{Round}
+use Rattle.hall_policy.specs.declared.record.Entry.{Entry}
+use Rattle.hall_policy.specs.declared.record.RoundRow.{RoundRow}
+use Rattle.hall_policy.specs.declared.record.AnswerRow.{AnswerRow}
+use Rattle.hall_policy.specs.declared.request.Action.{Action}
+use Rattle.hall_policy.specs.declared.request.Action.TheVariants.{PutPuzzle, ReadRound, Submit, Answers}
+use Rattle.hall_policy.specs.declared.request.Request.{Request}
+use Rattle.hall_policy.specs.declared.rule.Decision.{Decision}
+use Rattle.hall_policy.specs.declared.rule.Decision.TheVariants.{Allow, Repeat, Deny}
+use Rattle.hall_desk.specs.Caller.{caller_of}
+use Rattle.hall_desk.specs.Store.{IsListing}
+use Rattle.hall_desk.specs.Shown.{state_name, ShowsRound, sees_answer, shows_verdict, answer_line, told_verdict}
+use Rattle.hall_desk.specs.declared.reply.ShownRound.{ShownRound}
+use Rattle.hall_desk.specs.declared.reply.Reply.{Reply}
+use Rattle.hall_desk.specs.declared.reply.Reply.TheVariants as reply
+
+-- a puzzle as it is first stored: new, without a solution
+abbrev pub new_row : PuzzleKey → Board → PuzzleRow
+new_row key puzzle = record { key = key; puzzle = puzzle; state = state.New }
+
+-- the same puzzle stands under the key already: nothing changes
+abbrev pub StandsAlready : World → PuzzleKey → Board → List ℕ → Reply → World → Type 0
+StandsAlready world key puzzle text given new =
+    (row : PuzzleRow) × (get world.puzzles key ≡ Some row) × (row.puzzle ≡ puzzle) × (given ≡ reply.PuzzlePut (state_name row.state) text) × (new ≡ world)
+
+-- no puzzle stands under the key, or another one: this one is stored
+abbrev pub IsPut : World → PuzzleKey → Board → List ℕ → Reply → World → Type 0
+IsPut world key puzzle text given new =
+    ((row : PuzzleRow) → get world.puzzles key ≡ Some row → row.puzzle ≢ puzzle)
+    × (given ≡ reply.PuzzlePut (state_name state.New) text) × (new ≡ record world { puzzles = insert world.puzzles key (new_row key puzzle) })
+
+-- the answer's row: numbered after those of its entrant to the puzzle in the round
+abbrev pub answer_row : World → Person → List ℕ → ℕ → List ℕ → List ℕ → ℕ → ℕ → AnswerRow
+answer_row world person round number token answer t verdict = record {
+  key = record { entrant = person.name; round = round; number = number; token = token };
+  n = answers_given world person.name round number + 1;
+  moment = t;
+  answer = answer;
+  verdict = verdict;
+}
+
+-- the answer is judged by the round's puzzle of that number and stored; the reply tells its number and, in an instant round, its verdict
+abbrev pub IsSubmitted : World → Person → List ℕ → ℕ → List ℕ → List ℕ → ℕ → Reply → World → Type 0
+IsSubmitted world person id number token answer t given new =
+    (round : Round) × (entry : Entry) × (puzzle : PuzzleRow) × (verdict : ℕ)
+    × (get world.rounds id ≡ Some round) × (get world.places (record { round = id; number = number }) ≡ Some entry) × (get world.puzzles entry.puzzle ≡ Some puzzle)
+    × Verdict puzzle.puzzle answer verdict
+    × (let row : AnswerRow = answer_row world person id number token answer t verdict in
+    (given ≡ reply.Received row.n (told_verdict round verdict)) × (new ≡ record world { answers = insert world.answers row.key row }))
+
+-- the reply lists all answers that the caller sees, in order, and no other
+abbrev pub IsListed : World → Person → List ℕ → ℕ → Reply → Type 0
+IsListed world person id t given =
+    (round : Round) × (rows : List AnswerRow) × (get world.rounds id ≡ Some round) × IsListing world (sees_answer person round id t) rows
+    × (given ≡ reply.AnswerList (map (answer_line (shows_verdict person round t)) rows))
+
+-- what an allowed action answers and changes; `found` is what the search would find if the action ran it. The other actions aren't served yet
+abbrev pub Allowed : World → Option Person → Action → ℕ → PuzzleState → Reply → World → Type 0
+Allowed world caller (PutPuzzle key puzzle) t found given new =
+    (text : List ℕ) × CanonicalText text puzzle × (StandsAlready world key puzzle text given new ⊎ IsPut world key puzzle text given new)
+Allowed world caller (ReadRound id) t found given new =
+    (row : RoundRow) × (shown : ShownRound) × IsRoundAt world id row × ShowsRound world row shown × (given ≡ reply.RoundRead shown) × (new ≡ world)
+Allowed world caller (Submit id number token answer) t found given new =
+    TheCaller caller (λ person. IsSubmitted world person id number token answer t given new)
+Allowed world caller (Answers id) t found given new =
+    TheCaller caller (λ person. IsListed world person id t given × (new ≡ world))
+Allowed world caller _ t found given new = ⊥
+
+-- the first reply, from the row that stands
+abbrev pub FirstReply : World → Option Person → Action → Reply → Type 0
+FirstReply world caller (Submit id number token answer) given =
+    TheCaller caller (λ person. (round : Round) × (row : AnswerRow) × (get world.rounds id ≡ Some round)
+    × (get world.answers (record { entrant = person.name; round = id; number = number; token = token }) ≡ Some row) × (given ≡ reply.Received row.n (told_verdict round row.verdict)))
+FirstReply world caller _ given = ⊥
+
+-- what each decision answers and changes: a denial and a repetition leave the world
+abbrev pub Decided : Decision → World → Option Person → Action → ℕ → PuzzleState → Reply → World → Type 0
+Decided (Deny k) world caller action t found given new = (given ≡ reply.Denied k) × (new ≡ world)
+Decided Repeat world caller action t found given new = FirstReply world caller action given × (new ≡ world)
+Decided Allow world caller action t found given new = Allowed world caller action t found given new
+
+-- a request at its moment, and what the search would find if the request ran it
+pub record Asked : Type 0 where
+  pub moment : ℕ
+  pub request : Request
+  pub found : PuzzleState
+
+-- the request is answered as it is decided
+abbrev pub IsAnswered : World → Asked → Reply → World → Type 0
+IsAnswered world asked given new =
+    (decision : Decision) × First world (caller_of world asked.request.key) asked.request.action asked.moment decision
+    × Decided decision world (caller_of world asked.request.key) asked.request.action asked.moment asked.found given new
+
+-- a step of the hall: the request is answered as it is decided, or it is Unavailable, leaves the world and counts as not made
+abbrev pub Step : World → ℕ → Request → Reply → World → Type 0
+Step world t request given new =
+    ((given ≡ reply.Unavailable) × (new ≡ world))
+    ⊎ ((found : PuzzleState) × IsAnswered world (record { moment = t; request = request; found = found }) given new)

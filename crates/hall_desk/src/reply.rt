@@ -1,0 +1,76 @@
+//! What the hall answers.
+use crate::rows::Rows;
+use hall_grid::Broken;
+use hall_policy::{
+    AnswerNumber, AnswerText, Bonus, Minutes, Mode, Moment, Name, Penalty, Points, ProtestMinutes,
+    PuzzleNumber, PuzzleText, RoundId, Title, Token,
+};
+
+/// What is told of a puzzle's state.
+#[derive(Clone, Copy, Debug, PartialEq, Eq)]
+pub enum StateName {
+    New,
+    One,
+    NoSolution,
+    More,
+    GaveUp,
+}
+
+/// A puzzle of a round, as it is read.
+#[derive(Drop)]
+pub struct ShownPuzzle {
+    pub number: PuzzleNumber,
+    pub points: Points,
+    pub text: PuzzleText,
+}
+
+/// A round with its puzzles, as it is read.
+#[derive(Drop)]
+pub struct ShownRound {
+    pub bonus: Bonus,
+    pub id: RoundId,
+    pub minutes: Minutes,
+    pub mode: Mode,
+    pub penalty: Penalty,
+    pub protest_minutes: ProtestMinutes,
+    /// By number.
+    pub puzzles: Rows<ShownPuzzle>,
+    pub start: Moment,
+    pub title: Title,
+}
+
+/// An answer, as it is listed.
+#[derive(Drop)]
+pub struct AnswerLine {
+    pub answer: AnswerText,
+    pub entrant: Name,
+    pub moment: Moment,
+    pub n: AnswerNumber,
+    pub number: PuzzleNumber,
+    pub token: Token,
+    /// None where the caller may not know it yet.
+    pub verdict: Option<Broken>,
+}
+
+/// The reply to a request.
+#[derive(Drop)]
+pub enum Reply {
+    /// The number of the first rule that forbids the request.
+    Denied(u8),
+    /// No memory was left, or the store refused; nothing is changed.
+    Unavailable,
+    /// The puzzle's state and text, after it was put.
+    PuzzlePut {
+        state: StateName,
+        text: PuzzleText,
+    },
+    /// The round that was read.
+    RoundRead(ShownRound),
+    /// An accepted answer's number and, in an instant round, its verdict.
+    Received {
+        n: AnswerNumber,
+        verdict: Option<Broken>,
+    },
+    /// The answers that the caller sees, by entrant, number, then n.
+    AnswerList(Rows<AnswerLine>),
+}

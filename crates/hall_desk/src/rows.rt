@@ -1,0 +1,37 @@
+//! Lists in replies.
+ghost use Rattle.std.specs.Prelude.{◌≡◌, List};
+
+use std::marker::Model;
+
+/// Rows in their order; a contract sees the list.
+#[derive(Drop)]
+pub struct Rows<T> {
+    list: Vec<T>,
+}
+
+impl<T> Model for Rows<T> {
+    ghost use Rattle.std.specs.Prelude.{List};
+    ghost use Rattle.std.specs.Coded.{coded_list};
+
+    ghost Value = { List T };
+
+    ghost coded = { coded_list T.code };
+
+    ghost view = { λ r. r.list.items };
+}
+
+impl<T> Rows<T> {
+    /// These rows.
+    pub fn new(list: Vec<T>) -> Rows<T>
+        ensures { result ≡ list.items }
+    {
+        Rows { list }
+    }
+
+    /// The rows in their order.
+    pub fn as_slice(&self) -> &[T]
+        ensures { result.now ≡ self.now }
+    {
+        self.list.as_slice()
+    }
+}

@@ -1,0 +1,76 @@
+//! Plans made and committed, one request after another.
+ghost use Rattle.std.specs.Prelude.{◌≡◌, ◌+◌, ◌≤◌, ◌<◌, ◌++◌, ◌∷◌, [], IfOk, OnOk, OnErr, vec_len, vec_capacity};
+ghost use Rattle.hall_desk.specs.Change.{changed, CanMake};
+ghost use Rattle.hall_desk.specs.Plans.{Steps, Runs};
+
+use crate::plan::{Plan, make_plan};
+use crate::reply::Reply;
+use crate::store::{Change, Store, StoreFault};
+use hall_policy::{Moment, Request};
+use std::alloc::{AllocError, Global};
+
+/// Makes the plan's change, and answers its reply.
+pub(crate) fn commit<S: Store>(
+    alloc: Global,
+    store: &mut S,
+    plan: Plan,
+) -> Result<Reply, StoreFault>
+    requires { S.is_honest store.old → S.serves store.old → CanMake plan.change (S.world store.old) }
+    ensures honest { S.is_honest store.new → S.is_honest store.old }
+    ensures opened { S.is_honest store.new → S.serves store.new → S.serves store.old }
+    ensures reply { IfOk result (λ reply. reply ≡ plan.reply) }
+    ensures made { OnOk result (S.is_honest store.new → S.serves store.old → S.serves store.new × (S.world store.new ≡ changed plan.change (S.world store.old))) }
+    ensures refused { OnErr result (S.is_honest store.new → S.serves store.new → S.world store.new ≡ S.world store.old) }
+{
+    let Plan { reply, change } = plan;
+    match change {
+        Change::Nothing => {}
+        Change::PutPuzzle(row) => store.put_puzzle(alloc, row)?,
+        Change::AddAnswer(row) => store.add_answer(alloc, row)?,
+    }
+    Ok(reply)
+}
+
+/// Answers one request.
+pub(crate) fn step<S: Store>(alloc: Global, store: &mut S, t: Moment, request: &Request) -> Reply
+    ensures honest { S.is_honest store.new → S.is_honest store.old }
+    ensures opened { S.is_honest store.new → S.serves store.new → S.serves store.old }
+    ensures steps { S.is_honest store.new → Steps S.serves S.world store.old t request.now result store.new }
+{
+    match make_plan(alloc, store, t, request) {
+        Ok(plan) => match commit(alloc, store, plan) {
+            Ok(reply) => reply,
+            Err(_) => Reply::Unavailable,
+        },
+        Err(_) => Reply::Unavailable,
+    }
+}
+
+/// Answers the requests one after another. Room for all replies is made before the first.
+pub(crate) fn run<S: Store>(
+    alloc: Global,
+    store: &mut S,
+    requests: &[(Moment, Request)],
+) -> Result<Vec<Reply>, AllocError>
+    ensures honest { S.is_honest store.new → S.is_honest store.old }
+    ensures opened { S.is_honest store.new → S.serves store.new → S.serves store.old }
+    ensures runs { IfOk result (λ replies. S.is_honest store.new → Runs S.serves S.world store.old requests.now replies.items store.new) }
+    ensures refused { OnErr result (store.new ≡ store.old) }
+{
+    let mut replies = Vec::with_capacity(alloc, requests.len())?;
+    for asked in requests {
+        let reply = step(alloc, store, asked.0, &asked.1);
+        keep(&mut replies, reply);
+    }
+    Ok(replies)
+}
+
+/// Puts the reply at the end, where there is room.
+fn keep(replies: &mut Vec<Reply>, reply: Reply)
+    requires { vec_len replies.old < vec_capacity replies.old }
+    ensures items { replies.new.items ≡ replies.old.items ++ reply ∷ [] }
+    ensures len { vec_len replies.new ≡ vec_len replies.old + 1 }
+    ensures capacity { vec_capacity replies.old ≤ vec_capacity replies.new }
+{
+    let _ = replies.push(reply);
+}

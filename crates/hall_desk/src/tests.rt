@@ -1,0 +1,268 @@
+use crate::{Desk, Reply};
+use hall_grid::parse_puzzle;
+use hall_policy::{Action, Checked, Key, Moment, PuzzleKey, PuzzleNumber, Request, TextKind};
+use std::alloc::Global;
+use std::test::Fail;
+
+const START: u64 = 1_777_712_400;
+
+const END: u64 = 1_777_716_000;
+
+const RIGHT: &str = "1234341221434321";
+
+const WRONG: &str = "1234341221434312";
+
+fn text<K: TextKind>(alloc: Global, text: &str) -> Result<Checked<K>, Fail> {
+    Ok(Checked::new(String::from_str(alloc, text)?).ok_or("text")?)
+}
+
+/// The reply in short.
+fn shown(alloc: Global, reply: &Reply) -> Result<String, Fail> {
+    Ok(match reply {
+        Reply::Denied(rule) => format!(in alloc; "denied {rule}")?,
+        Reply::Unavailable => String::from_str(alloc, "unavailable")?,
+        Reply::PuzzlePut { text, .. } => format!(in alloc; "put {}", text.as_str())?,
+        Reply::RoundRead(round) => {
+            let count = round.puzzles.as_slice().len();
+            format!(in alloc; "{} {count}", round.title.as_str())?
+        }
+        Reply::Received { n, verdict } => {
+            let n = n.get();
+            let right = match verdict {
+                Some(names) => names.is_empty(),
+                None => false,
+            };
+            format!(in alloc; "received {n} {right}")?
+        }
+        Reply::AnswerList(rows) => {
+            let count = rows.as_slice().len();
+            format!(in alloc; "{count} answers")?
+        }
+    })
+}
+
+fn request(alloc: Global, key: &str, action: Action) -> Result<Request, Fail> {
+    let key: Key = text(alloc, key)?;
+    Ok(Request {
+        key: Some(key),
+        action,
+    })
+}
+
+fn ask(
+    alloc: Global,
+    desk: &mut Desk,
+    key: &str,
+    second: u64,
+    action: Result<Action, Fail>,
+) -> Result<String, Fail> {
+    let request = request(alloc, key, action?)?;
+    let t = Moment::new(second).ok_or("moment")?;
+    let reply = desk.step(alloc, t, &request);
+    shown(alloc, &reply)
+}
+
+fn read(alloc: Global) -> Result<Action, Fail> {
+    let round = text(alloc, "r1")?;
+    Ok(Action::ReadRound { round })
+}
+
+fn answers(alloc: Global) -> Result<Action, Fail> {
+    let round = text(alloc, "r1")?;
+    Ok(Action::Answers { round })
+}
+
+fn submit(alloc: Global, token: &str, answer: &str) -> Result<Action, Fail> {
+    Ok(Action::Submit {
+        number: PuzzleNumber::new(1).ok_or("number")?,
+        round: text(alloc, "r1")?,
+        token: text(alloc, token)?,
+        answer: text(alloc, answer)?,
+    })
+}
+
+fn put(alloc: Global, author: &str, label: &str, puzzle: &[u8]) -> Result<Action, Fail> {
+    let puzzle = match parse_puzzle(alloc, puzzle) {
+        Ok(puzzle) => puzzle,
+        Err(_) => Err("puzzle")?,
+    };
+    let key = PuzzleKey {
+        author: text(alloc, author)?,
+        label: text(alloc, label)?,
+    };
+    Ok(Action::PutPuzzle { key, puzzle })
+}
+
+fn open(alloc: Global) -> Result<Desk, Fail> {
+    match Desk::new(alloc) {
+        Ok(desk) => Ok(desk),
+        Err(_) => Err("desk")?,
+    }
+}
+
+#[test]
+fn eve_reads_and_answers(rt: HostRuntime) -> Result<(), Fail> {
+    let alloc = rt.alloc();
+    let mut desk = open(alloc)?;
+    let desk = &mut desk;
+    let eve = "eve-key-1";
+    assert_eq!(rt;
+        ask(alloc, desk, eve, START - 1, read(alloc))?.as_str(),
+        "denied 7"
+    );
+    assert_eq!(rt;
+        ask(alloc, desk, eve, START, read(alloc))?.as_str(),
+        "Morning 1"
+    );
+    assert_eq!(rt;
+        ask(alloc, desk, eve, START - 1, read(alloc))?.as_str(),
+        "denied 7"
+    );
+    assert_eq!(rt;
+        ask(alloc, desk, eve, END - 1, submit(alloc, "k1", RIGHT))?.as_str(),
+        "received 1 true"
+    );
+    assert_eq!(rt;
+        ask(alloc, desk, eve, END + 10, submit(alloc, "k1", RIGHT))?.as_str(),
+        "received 1 true"
+    );
+    assert_eq!(rt;
+        ask(alloc, desk, eve, END - 1, submit(alloc, "k1", WRONG))?.as_str(),
+        "denied 6"
+    );
+    assert_eq!(rt;
+        ask(alloc, desk, eve, END, submit(alloc, "k2", WRONG))?.as_str(),
+        "denied 8"
+    );
+    assert_eq!(rt;
+        ask(alloc, desk, eve, END - 1, submit(alloc, "k2", WRONG))?.as_str(),
+        "received 2 false"
+    );
+    assert_eq!(rt;
+        ask(alloc, desk, "fay-key-1", START, submit(alloc, "k1", "x"))?.as_str(),
+        "received 1 false"
+    );
+    Ok(())
+}
+
+#[test]
+fn answers_are_listed(rt: HostRuntime) -> Result<(), Fail> {
+    let alloc = rt.alloc();
+    let mut desk = open(alloc)?;
+    let desk = &mut desk;
+    assert_eq!(rt;
+        ask(alloc, desk, "eve-key-1", START, submit(alloc, "k1", RIGHT))?.as_str(),
+        "received 1 true"
+    );
+    assert_eq!(rt;
+        ask(alloc, desk, "fay-key-1", START, submit(alloc, "k1", WRONG))?.as_str(),
+        "received 1 false"
+    );
+    assert_eq!(rt;
+        ask(alloc, desk, "eve-key-1", START, answers(alloc))?.as_str(),
+        "1 answers"
+    );
+    assert_eq!(rt;
+        ask(alloc, desk, "rex-key-1", END - 1, answers(alloc))?.as_str(),
+        "0 answers"
+    );
+    assert_eq!(rt;
+        ask(alloc, desk, "rex-key-1", END, answers(alloc))?.as_str(),
+        "2 answers"
+    );
+    assert_eq!(rt;
+        ask(alloc, desk, "dora-key", START, answers(alloc))?.as_str(),
+        "2 answers"
+    );
+    assert_eq!(rt;
+        ask(alloc, desk, "bob-key-1", START, answers(alloc))?.as_str(),
+        "denied 2"
+    );
+    assert_eq!(rt;
+        ask(alloc, desk, "no-such-key", START, answers(alloc))?.as_str(),
+        "denied 1"
+    );
+    Ok(())
+}
+
+#[test]
+fn puzzles_are_put(rt: HostRuntime) -> Result<(), Fail> {
+    let alloc = rt.alloc();
+    let mut desk = open(alloc)?;
+    let desk = &mut desk;
+    let grid = b"sudoku/4/4/123434122143432g";
+    assert_eq!(rt;
+        ask(
+            alloc,
+            desk,
+            "ada-key-1",
+            START,
+            put(alloc, "bob", "zz", grid)
+        )?
+        .as_str(),
+        "denied 3"
+    );
+    assert_eq!(rt;
+        ask(
+            alloc,
+            desk,
+            "bob-key-1",
+            START,
+            put(alloc, "bob", "p1", grid)
+        )?
+        .as_str(),
+        "denied 11"
+    );
+    assert_eq!(rt;
+        ask(
+            alloc,
+            desk,
+            "dora-key",
+            START,
+            put(alloc, "rex", "p1", grid)
+        )?
+        .as_str(),
+        "denied 4"
+    );
+    assert_eq!(rt;
+        ask(
+            alloc,
+            desk,
+            "bob-key-1",
+            START,
+            put(alloc, "bob", "p2", b"sudoku/9/9/")
+        )?
+        .as_str(),
+        "put sudoku/9/9/zzzzg"
+    );
+    assert_eq!(rt;
+        ask(
+            alloc,
+            desk,
+            "bob-key-1",
+            START,
+            put(alloc, "bob", "p2", b"sudoku/9/9/zz")
+        )?
+        .as_str(),
+        "put sudoku/9/9/zzzzg"
+    );
+    Ok(())
+}
+
+#[test]
+fn a_list_is_run(rt: HostRuntime) -> Result<(), Fail> {
+    let alloc = rt.alloc();
+    let mut desk = open(alloc)?;
+    let mut requests = Vec::new(alloc);
+    let t = Moment::new(END - 1).ok_or("moment")?;
+    for token in ["k1", "k2"] {
+        requests.push((
+            t,
+            request(alloc, "eve-key-1", submit(alloc, token, WRONG)?)?,
+        ))?;
+    }
+    let replies = desk.run(alloc, requests.as_slice())?;
+    assert_eq!(rt; replies.len(), 2);
+    assert_eq!(rt; shown(alloc, &replies[1])?.as_str(), "received 2 false");
+    Ok(())
+}
