@@ -8,3 +8,4 @@ pub mod Showing
 pub mod Planning
 pub mod Sorting
 pub mod UsingRounds
+pub mod Starts
