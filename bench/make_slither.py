@@ -1,5 +1,5 @@
 #!/usr/bin/env python3
-"""Makes bench/slither.txt: Slitherlink texts of 7 by 7 to 15 by 15 with one solution each, and their answers.
+"""Makes bench/slither.txt: Slitherlink texts of 7 by 7 to 20 by 20 with one solution each, and their answers.
 
 A loop is the rim of a region of cells that is grown at random so that the region and the cells outside it stay joined by sides and no dot gets four lines. All
 numbers are written down, and taken away one by one while `hall solve` still answers `one` in a few visits; what is left has the loop as its only solution. The
@@ -116,7 +116,7 @@ def make(chance, cols, rows):
 def main():
     boards = int(sys.argv[1]) if len(sys.argv) > 1 else 42
     chance = random.Random(2026)
-    sizes = [(7, 7), (8, 8), (9, 9), (10, 10), (12, 12), (15, 15)]
+    sizes = [(7, 7), (8, 8), (9, 9), (10, 10), (12, 12), (15, 15), (20, 20)]
     lines = []
     while len(lines) < boards:
         cols, rows = sizes[len(lines) * len(sizes) // boards]
