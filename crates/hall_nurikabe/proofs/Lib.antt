@@ -10,3 +10,5 @@ pub mod Regioning
 pub mod Sound
 pub mod Rising
 pub mod Distance
+pub mod Leaving
+pub mod Exiting
