@@ -1,11 +1,11 @@
 -- Exits, as cells are added to them.
-use Rattle.std.proofs.Common.{◌≡◌, ℕ, ◌+◌, ◌<◌, List, Option, Some, None, length, get_or, set, refl, sym, ◌∙◌, subst, inl, inr, arith}
+use Rattle.std.proofs.Common.{◌≡◌, ℕ, ◌+◌, ◌<◌, List, Option, None, length, get_or, set, sym, ◌∙◌, subst, inl, inr, arith}
 use Rattle.std.proofs.lemmas.Bool.{cases_eq}
 use Rattle.std.proofs.lemmas.List.{get_or-set_same, get_or-set_other, length-set}
 use Rattle.hall_grid.specs.declared.board.Size.{Size}
 use Rattle.hall_grid.specs.Board.{cells}
 use Rattle.hall_nurikabe.specs.declared.exits.Exits.{Exits}
-use Rattle.hall_nurikabe.specs.declared.exits.Exits.TheVariants.{Nowhere, One, Many}
+use Rattle.hall_nurikabe.specs.declared.exits.Exits.TheVariants.{Nowhere, One}
 use Rattle.hall_nurikabe.specs.Forced.{IsBeside}
 use Rattle.hall_nurikabe.specs.Exit.{AddsExit, Covers, KnowsExits}
 

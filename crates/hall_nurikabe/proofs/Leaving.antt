@@ -1,5 +1,5 @@
 -- A region that must grow grows through an exit.
-use Rattle.std.proofs.Common.{◌≡◌, ℕ, ◌+◌, ◌<◌, ◌≤◌, ◌⊎◌, ◌↔◌, List, Option, Some, None, length, get_or, set, refl, sym, ◌∙◌, subst, inl, inr, arith}
+use Rattle.std.proofs.Common.{◌≡◌, ℕ, ◌<◌, ◌⊎◌, List, Option, Some, None, get_or, refl, subst, inl, inr, arith}
 use Rattle.std.proofs.lemmas.Bool.{cases_eq}
 use Rattle.hall_grid.specs.Board.{Board, cells, Touch}
 use Rattle.hall_grid.specs.Walk.{Walk, at, on}
@@ -9,7 +9,7 @@ use Rattle.hall_grid.proofs.Joined.{labelled_member}
 use Rattle.hall_solve.specs.Question.{IsPartial, IsHopeless, Solves}
 use Rattle.hall_solve.specs.Deduction.{HasAlways}
 use Rattle.hall_nurikabe.specs.declared.exits.Exits.{Exits}
-use Rattle.hall_nurikabe.specs.declared.exits.Exits.TheVariants.{Nowhere, One, Many}
+use Rattle.hall_nurikabe.specs.declared.exits.Exits.TheVariants.{Nowhere, One}
 use Rattle.hall_nurikabe.specs.Solving.{question_of}
 use Rattle.hall_nurikabe.specs.Forced.{IsSetTo, IsBeside}
 use Rattle.hall_nurikabe.specs.Exit.{Covers, KnowsExits, MustGrow}

@@ -12,3 +12,4 @@ pub mod Rising
 pub mod Distance
 pub mod Leaving
 pub mod Exiting
+pub mod Growing

@@ -1,5 +1,6 @@
 -- Open cells beside regions.
-use Rattle.std.specs.Prelude.{◌≡◌, ℕ, ◌<◌, List, length, slice_index, slice_index_or, Option, Some, None, Bool}
+use Rattle.std.specs.Prelude.{◌≡◌, ◌⊎◌, ℕ, ◌<◌, List, length, slice_get, slice_index, slice_index_or, Option, Some, None, Bool}
+use Rattle.hall_grid.specs.declared.board.Clue.TheVariants.{Number}
 use Rattle.hall_grid.specs.declared.board.Size.{Size}
 use Rattle.hall_grid.specs.Board.{Board, cells, Touch}
 use Rattle.hall_grid.specs.Walk.{Walk}
@@ -35,4 +36,20 @@ abbrev pub MustGrow : Board → List (Option ℕ) → ℕ → List (Option ℕ) 
 MustGrow board p value labels label =
     (f : List ℕ) → Solves (question_of board) p f
     → ((c d : ℕ) → IsLabelled labels c label → (IsLabelled labels d label → ⊥)
-      → Walk (Touch board.size) (λ cell. (cell < cells board.size) × (slice_index f cell ≡ value)) c d → ⊥) → ⊥
+    → Walk (Touch board.size) (λ cell. (cell < cells board.size) × (slice_index f cell ≡ value)) c d → ⊥) → ⊥
+
+-- a group of white cells with this owner and this size is no whole island
+abbrev pub NeedsMore : Board → Option ℕ → ℕ → Type 0
+NeedsMore board owner size =
+    (owner ≡ None) ⊎ ((cell given : ℕ) × (owner ≡ Some cell) × (slice_get board.clues cell ≡ Some (Number given)) × (size < given))
+
+-- marked labels are those of groups that are no whole islands
+pub record MarksGrowing (board : Board) (labels : List (Option ℕ)) (sizes : List ℕ) (owners : List (Option ℕ)) (marks : List Bool) : Type 0 where
+  pub exact : length marks ≡ length labels
+  pub marked : (label : ℕ) → IsMarked marks label
+      → IsLabelled labels label label × NeedsMore board (slice_index_or owners label None) (slice_index sizes label)
+
+-- marked labels are their own label
+pub record MarksRoots (labels : List (Option ℕ)) (marks : List Bool) : Type 0 where
+  pub exact : length marks ≡ length labels
+  pub marked : (label : ℕ) → IsMarked marks label → IsLabelled labels label label

@@ -1,15 +1,15 @@
 //! Ways out of regions.
-ghost use Rattle.std.specs.Prelude.{◌≡◌, ℕ, ◌<◌, ◌⊎◌, IsTrue, IfOk, length, slice_index_or};
+ghost use Rattle.std.specs.Prelude.{◌≡◌, ℕ, ◌<◌, ◌⊎◌, IsTrue, IfOk, length, slice_index, slice_index_or, None, Some};
 ghost use Rattle.hall_grid.specs.Board.{cells, IsSize, Touch};
-ghost use Rattle.hall_grid.specs.Component.{AreComponents};
+ghost use Rattle.hall_grid.specs.Component.{AreComponents, IsLabelled};
 ghost use Rattle.hall_grid.specs.Reached.{IsMarked};
 ghost use Rattle.hall_solve.specs.Question.{Question, IsPartial, IsHopeless};
 ghost use Rattle.hall_nurikabe.specs.Tally.{AreCells};
 ghost use Rattle.hall_nurikabe.specs.Solving.{question_of};
-ghost use Rattle.hall_nurikabe.specs.Forced.{AreForced, IsBeside, IsSetTo};
-ghost use Rattle.hall_nurikabe.specs.Exit.{AddsExit, Covers, KnowsExits, MustGrow};
+ghost use Rattle.hall_nurikabe.specs.Forced.{AreForced, AreOwners, IsBeside, IsSetTo};
+ghost use Rattle.hall_nurikabe.specs.Exit.{AddsExit, Covers, KnowsExits, MarksGrowing, MarksRoots, MustGrow, NeedsMore};
 
-use hall_grid::{Puzzle, Size, neighbours};
+use hall_grid::{Clue, Puzzle, Size, neighbours};
 use hall_solve::Partial;
 use std::alloc::{AllocError, Global};
 
@@ -75,6 +75,69 @@ pub(crate) fn exits_of(
         }
     }
     Ok(exits)
+}
+
+/// Whether a group of white cells of this size is no whole island: it has no number, or a greater one.
+fn must_grow(puzzle: &Puzzle, owner: Option<usize>, size: usize) -> bool
+    requires { (cell : ℕ) → owner ≡ Some cell → cell < cells puzzle.now.size }
+    ensures { IsTrue result → NeedsMore puzzle.now owner size }
+{
+    match owner {
+        None => true,
+        Some(cell) => match puzzle.clue(cell) {
+            Clue::Number(given) => size < usize::from(given),
+            Clue::Unknown | Clue::Blank => false,
+        },
+    }
+}
+
+/// Whether the label is that of a group of white cells that is no whole island.
+fn is_growing(
+    puzzle: &Puzzle,
+    labels: &[Option<usize>],
+    sizes: &[usize],
+    owners: &[Option<usize>],
+    label: usize,
+) -> bool
+    requires label { label < cells puzzle.now.size }
+    requires exact { length labels.now ≡ cells puzzle.now.size }
+    requires sizes { length sizes.now ≡ cells puzzle.now.size }
+    requires owners { AreOwners puzzle.now labels.now owners.now }
+    ensures label { IsTrue result → IsLabelled labels.now label label }
+    ensures more { IsTrue result → NeedsMore puzzle.now (slice_index_or owners.now label None) (slice_index sizes.now label) }
+{
+    labels[label] == Some(label) && must_grow(puzzle, owners[label], sizes[label])
+}
+
+/// The labels of groups of white cells that are no whole islands.
+pub(crate) fn growing_groups(
+    alloc: Global,
+    puzzle: &Puzzle,
+    labels: &[Option<usize>],
+    sizes: &[usize],
+    owners: &[Option<usize>],
+) -> Result<Vec<bool>, AllocError>
+    requires exact { length labels.now ≡ cells puzzle.now.size }
+    requires sizes { length sizes.now ≡ cells puzzle.now.size }
+    requires owners { AreOwners puzzle.now labels.now owners.now }
+    ensures { IfOk result (λ marks. MarksGrowing puzzle.now labels.now sizes.now owners.now marks.items) }
+{
+    let mut growing = Vec::new(alloc);
+    for label in 0..labels.len() {
+        growing.push(is_growing(puzzle, labels, sizes, owners, label))?;
+    }
+    Ok(growing)
+}
+
+/// The labels that some cell has.
+pub(crate) fn roots(alloc: Global, labels: &[Option<usize>]) -> Result<Vec<bool>, AllocError>
+    ensures { IfOk result (λ marks. MarksRoots labels.now marks.items) }
+{
+    let mut marks = Vec::new(alloc);
+    for label in 0..labels.len() {
+        marks.push(labels[label] == Some(label))?;
+    }
+    Ok(marks)
 }
 
 /// Forces the value at the only exit of each marked label; tells whether one has no exit.

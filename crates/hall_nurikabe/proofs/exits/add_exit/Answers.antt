@@ -1,7 +1,6 @@
-use Rattle.std.proofs.Common.{◌≡◌, ◌<◌, ℕ, Some, None, length, get_or, set, take, refl, sym, ◌∙◌, subst, inl, inr, arith}
+use Rattle.std.proofs.Common.{◌≡◌, ◌<◌, Some, None, length, get_or, set, take, sym, ◌∙◌, subst, inl, inr, arith}
 use Rattle.std.specs.Prelude.{Contains}
-use Rattle.std.proofs.lemmas.Bool.{cases_eq}
-use Rattle.std.proofs.lemmas.List.{take_all, get_or_default}
+use Rattle.std.proofs.lemmas.List.{take_all}
 use Rattle.hall_grid.specs.Board.{cells}
 use Rattle.hall_grid.specs.Component.{IsLabelled}
 use Rattle.hall_grid.proofs.Labelling.{place_in, more_place, one_label, labelled_below}
@@ -14,15 +13,15 @@ use Rattle.hall_nurikabe.proofs.exits.add_exit.Goals.{in-Some+in-Some-labels, in
 pub offset_bounds-labels-other : goal.offset_bounds-labels-other
 offset_bounds-labels-other c =
     let low : c.in-Some.other < cells c.args.size =
-      ((c.neighbours-place-items.ensures.touching c.in-Some.other).0
-      (place_in c.neighbours-place-items.result c.loop-place.place-index _ _ (omega arith) c.in-Some.is)).0 in
+    ((c.neighbours-place-items.ensures.touching c.in-Some.other).0
+    (place_in c.neighbours-place-items.result c.loop-place.place-index _ _ (omega arith) c.in-Some.is)).0 in
     omega arith
 
 pub bounds : goal.bounds
 bounds c =
     let low : c.in-Some.other < cells c.args.size =
-      ((c.neighbours-place-items.ensures.touching c.in-Some.other).0
-      (place_in c.neighbours-place-items.result c.loop-place.place-index _ _ (omega arith) c.in-Some.is)).0 in
+    ((c.neighbours-place-items.ensures.touching c.in-Some.other).0
+    (place_in c.neighbours-place-items.result c.loop-place.place-index _ _ (omega arith) c.in-Some.is)).0 in
     omega arith
 
 pub loop-place-preserved : goal.loop-place-preserved
@@ -41,7 +40,7 @@ loop-place-preserved c = elim c.match-place.branch [
               let k : Some w.in-Some.other ≡ Some other = sym w.in-Some.is ∙ e in
               let same : w.in-Some.other ≡ other = cc in
               let one = one_label c.args.labels.now w.in-Some.other w.in-Some-labels.label label w.in-Some-labels.is
-                (subst (λ x. IsLabelled c.args.labels.now x label) (sym same) l) in
+              (subst (λ x. IsLabelled c.args.labels.now x label) (sym same) l) in
               subst (λ x. Covers (get_or (set c.loop-place.exits w.in-Some-labels.label w.with.result) x Nowhere) c.args.cell) one
               (covers_here c.loop-place.exits w.in-Some-labels.label w.with.result c.args.cell here w.with.ensures.cell)
         ];

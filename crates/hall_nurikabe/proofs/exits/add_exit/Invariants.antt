@@ -1,5 +1,4 @@
-use Rattle.std.proofs.Common.{ℕ, Some, None, get_or, ◌≡◌, ◌<◌}
-use Rattle.std.specs.Prelude.{slice_index_or}
+use Rattle.std.proofs.Common.{ℕ, get_or}
 use Rattle.hall_grid.specs.Component.{IsLabelled}
 use Rattle.hall_grid.proofs.Labelling.{AmongFirst}
 use Rattle.hall_nurikabe.specs.declared.exits.Exits.TheVariants.{Nowhere}
@@ -9,5 +8,5 @@ use Rattle.hall_nurikabe.proofs.exits.add_exit.Given as goal
 abbrev pub invariant-loop-place : goal.invariant-loop-place
 invariant-loop-place l = record {
   adds : AddsExit l.cell l.fn.exits l.exits;
-  beside : (other label : ℕ) → AmongFirst l.place-items l.place-index other → IsLabelled l.labels other label → Covers (get_or l.exits label Nowhere) l.cell
+  beside : (other label : ℕ) → AmongFirst l.place-items l.place-index other → IsLabelled l.labels other label → Covers (get_or l.exits label Nowhere) l.cell;
 }

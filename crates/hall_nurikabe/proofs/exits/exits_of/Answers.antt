@@ -1,4 +1,4 @@
-use Rattle.std.proofs.Common.{◌≡◌, ℕ, Option, Some, None, true, length, arith, sym, ◌∙◌}
+use Rattle.std.proofs.Common.{◌≡◌, ℕ, Option, Some, None, true, length, arith, ◌∙◌}
 use Rattle.std.specs.Option.{is_some}
 use Rattle.hall_grid.proofs.Floods.{written}
 use Rattle.hall_nurikabe.proofs.Exiting.{KnowsExits-skip, KnowsExits-add}

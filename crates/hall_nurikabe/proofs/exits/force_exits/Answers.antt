@@ -1,6 +1,4 @@
-use Rattle.std.proofs.Common.{◌≡◌, get_or, length, arith, sym, ◌∙◌}
-use Rattle.std.proofs.lemmas.List.{get_or_default}
-use Rattle.hall_nurikabe.specs.declared.exits.Exits.TheVariants.{Many, One, Nowhere}
+use Rattle.std.proofs.Common.{arith}
 use Rattle.hall_nurikabe.proofs.Forcing.{AreForced-set}
 use Rattle.hall_nurikabe.proofs.Leaving.{nowhere_hopeless, one_forced}
 use Rattle.hall_nurikabe.proofs.exits.force_exits.Goals as goal
