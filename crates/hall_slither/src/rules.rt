@@ -65,7 +65,13 @@ impl<'a> Model for Trials<'a> {
 
 impl<'a> Trials<'a> {
     /// Whether nothing solves the partial filling with this value at an open side, as far as the deductions tell.
-    fn fails(&self, alloc: Global, partial: &Partial, side: usize, value: u8) -> Result<bool, AllocError>
+    fn fails(
+        &self,
+        alloc: Global,
+        partial: &Partial,
+        side: usize,
+        value: u8,
+    ) -> Result<bool, AllocError>
         requires partial { IsPartial (question_of self.now) partial.now }
         requires side { IsOpen partial.now side }
         requires value { value < 2 }
