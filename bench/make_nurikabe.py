@@ -1,6 +1,6 @@
 """Makes Nurikabe texts whose solution is known by construction.
 
-Usage: make_nurikabe.py COLS ROWS COUNT SEED MOST, the last being the size of the largest island. Each line is a puzzle text, a space and the answer; a solver has to tell which have one solution.
+Usage: make_nurikabe.py COLS ROWS COUNT SEED MOST SHARE: the size of the largest island, and how many walls are tried to be taken away, in hundredths. Each line is a puzzle text, a space and the answer; a solver has to tell which have one solution.
 """
 import random
 import sys
@@ -74,9 +74,9 @@ def is_joined(wall, cols, rows):
     return len(reached) == len(cells)
 
 
-def merge(wall, cols, rows, most, rng):
-    """Takes walls away while they stay joined and no island grows past the most."""
-    for cell in rng.sample(range(cols * rows), cols * rows):
+def merge(wall, cols, rows, most, share, rng):
+    """Takes walls away while they stay joined and no island grows past the most; tries this share of the cells, in hundredths."""
+    for cell in rng.sample(range(cols * rows), cols * rows * share // 100):
         if not wall[cell]:
             continue
         wall[cell] = False
@@ -103,12 +103,12 @@ def body(clues):
 
 
 def main():
-    cols, rows, count, seed, most = (int(x) for x in sys.argv[1:6])
+    cols, rows, count, seed, most, share = (int(x) for x in sys.argv[1:7])
     rng = random.Random(seed)
     made = 0
     while made < count:
         wall = grow(cols, rows, rng)
-        merge(wall, cols, rows, most, rng)
+        merge(wall, cols, rows, most, share, rng)
         parts = islands(wall, cols, rows)
         if max(len(x) for x in parts) > most:
             continue

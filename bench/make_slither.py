@@ -1,131 +1,112 @@
 #!/usr/bin/env python3
-"""Makes bench/slither.txt: Slitherlink texts of 7 by 7 to 15 by 15 with one solution each, and their answers.
+"""Makes bench/slither.txt: Slitherlink texts with one solution each, and their answers.
 
-A loop is the rim of a region of cells that is grown at random so that the region and the cells outside it stay joined by sides and no dot gets four lines. All
-numbers are written down, and taken away one by one while `hall solve` still answers `one` in a few visits; what is left has the loop as its only solution. The
-program must be built: python3 bench/make_slither.py [BOARDS]
+A loop is the rim of a region that grows from a random cell; it is the answer. Its numbers are then
+taken away one after another, in random order, as long as the program still finds one solution and
+until the wanted share is left. So the answers come from the loops, while "no other solution" is the
+word of the program that is measured: it is proved to say `one` only where that is so.
+
+    python3 bench/make_slither.py [PROGRAM] > bench/slither.txt
+
+PROGRAM is the built `hall`, by default the one in crates/hall/out. A trial that takes over half a
+second keeps its number, so another machine may keep others.
 """
 import os
 import random
 import subprocess
 import sys
 
-HERE = os.path.dirname(os.path.abspath(__file__))
-PROGRAM = os.path.join(HERE, "..", "crates", "hall", "out", "hall")
-VISITS = 300
+PROGRAM = os.path.join(os.path.dirname(os.path.abspath(__file__)), "..", "crates", "hall", "out", "hall")
+# the side, how many boards, and the least share of cells with a number
+BOARDS = [(7, 12, 0.0), (8, 6, 0.5), (10, 12, 0.0), (10, 6, 0.5), (12, 6, 0.0), (13, 4, 0.5), (15, 4, 0.0), (15, 4, 0.5), (20, 2, 0.2)]
+STEPS = ((0, 1), (1, 0), (0, -1), (-1, 0))
+RING = ((-1, -1), (-1, 0), (-1, 1), (0, 1), (1, 1), (1, 0), (1, -1), (0, -1))
 
 
-def joined(cells):
-    """Whether the cells are joined by sides."""
-    if not cells:
+def keeps_a_loop(region, cell):
+    """Whether the rim of the region with one more cell is one loop that touches itself nowhere."""
+    row, col = cell
+    ring = [(row + down, col + right) in region for down, right in RING]
+    if sum(ring[i] != ring[(i + 1) % 8] for i in range(8)) != 2:
         return False
-    seen, todo = set(), [next(iter(cells))]
-    while todo:
-        r, c = todo.pop()
-        if (r, c) in seen:
-            continue
-        seen.add((r, c))
-        todo += [n for n in ((r - 1, c), (r + 1, c), (r, c - 1), (r, c + 1)) if n in cells]
-    return len(seen) == len(cells)
+    corners = ((0, 7, 1), (2, 1, 3), (4, 3, 5), (6, 5, 7))
+    return not any(ring[at] and not ring[left] and not ring[right] for at, left, right in corners)
 
 
-def is_region(inside, cols, rows):
-    """Whether the rim of the region is one loop."""
-    around = {(r, c) for r in range(-1, rows + 1) for c in range(-1, cols + 1)} - inside
-    if not joined(inside) or not joined(around):
-        return False
-    for r in range(-1, rows):
-        for c in range(-1, cols):
-            a, b = (r, c) in inside, (r, c + 1) in inside
-            d, e = (r + 1, c) in inside, (r + 1, c + 1) in inside
-            if a == e and b == d and a != b:
-                return False
-    return True
-
-
-def region(chance, cols, rows):
-    inside = {(rows // 2, cols // 2)}
-    wanted = cols * rows * chance.uniform(0.45, 0.6)
-    for _ in range(cols * rows * 30):
-        if len(inside) >= wanted:
+def region_of(side, rng):
+    region = {(rng.randrange(side), rng.randrange(side))}
+    share = rng.uniform(0.45, 0.6)
+    for _ in range(4000):
+        if len(region) >= share * side * side:
             break
-        cell = (chance.randrange(rows), chance.randrange(cols))
-        touching = sum((cell[0] + a, cell[1] + b) in inside for a, b in ((0, 1), (1, 0), (0, -1), (-1, 0)))
-        if cell in inside or touching == 0 or (touching > 1 and chance.random() < 0.5):
+        (row, col), (down, right) = rng.choice(sorted(region)), rng.choice(STEPS)
+        cell = (row + down, col + right)
+        if cell in region or not (0 <= cell[0] < side and 0 <= cell[1] < side):
             continue
-        if is_region(inside | {cell}, cols, rows):
-            inside.add(cell)
-    return inside
+        touching = sum((cell[0] + a, cell[1] + b) in region for a, b in STEPS)
+        if (touching == 1 or rng.random() < 0.4) and keeps_a_loop(region, cell):
+            region.add(cell)
+    return region
 
 
-def sides_of(inside, cols, rows):
-    flat = [((r - 1, c) in inside) != ((r, c) in inside) for r in range(rows + 1) for c in range(cols)]
-    upright = [((r, c - 1) in inside) != ((r, c) in inside) for r in range(rows) for c in range(cols + 1)]
-    return flat, upright
+def answer_of(side, region):
+    def differ(a, b):
+        return "1" if (a in region) != (b in region) else "0"
+
+    flat = "".join(differ((r - 1, c), (r, c)) for r in range(side + 1) for c in range(side))
+    upright = "".join(differ((r, c - 1), (r, c)) for r in range(side) for c in range(side + 1))
+    return flat + "/" + upright
 
 
-def counts(inside, cols, rows):
-    flat, upright = sides_of(inside, cols, rows)
-    return [
-        flat[r * cols + c] + flat[(r + 1) * cols + c] + upright[r * (cols + 1) + c] + upright[r * (cols + 1) + c + 1]
-        for r in range(rows)
-        for c in range(cols)
-    ]
+def numbers_of(side, region):
+    cells = [(r, c) for r in range(side) for c in range(side)]
+    return [sum((cell in region) != ((cell[0] + a, cell[1] + b) in region) for a, b in STEPS) for cell in cells]
 
 
-def text_of(cols, rows, clues):
-    """The canonical text."""
-    body, i, n = "", 0, len(clues)
-    while i < n:
-        if clues[i] is not None:
-            blanks = 0
-            while blanks < 2 and (i + blanks + 1 >= n or clues[i + blanks + 1] is None):
-                blanks += 1
-            body += "0123456789abcde"[clues[i] + 5 * blanks]
-            i += 1 + blanks
-        else:
+def text_of(side, numbers):
+    body, place = "", 0
+    while place < len(numbers):
+        if numbers[place] is None:
             run = 1
-            while run < 20 and i + run < n and clues[i + run] is None:
+            while run < 20 and place + run < len(numbers) and numbers[place + run] is None:
                 run += 1
-            body += chr(ord("f") + run)
-            i += run
-    return "slither/%d/%d/%s" % (cols, rows, body)
+            body += chr(102 + run)
+            place += run
+            continue
+        empty = 0
+        while empty < 2 and (place + empty + 1 >= len(numbers) or numbers[place + empty + 1] is None):
+            empty += 1
+        body += "0123456789abcde"[5 * empty + numbers[place]]
+        place += empty + 1
+    return f"slither/{side}/{side}/{body}"
 
 
-def solve(text, budget):
-    done = subprocess.run([PROGRAM, "solve", "--budget", str(budget)], input=text + "\n", capture_output=True, text=True)
-    return done.stdout.rstrip("\n")
-
-
-def make(chance, cols, rows):
-    inside = region(chance, cols, rows)
-    flat, upright = sides_of(inside, cols, rows)
-    answer = "".join("01"[x] for x in flat) + "/" + "".join("01"[x] for x in upright)
-    clues = counts(inside, cols, rows)
-    if solve(text_of(cols, rows, clues), VISITS) != "one " + answer:
-        return None
-    places = list(range(cols * rows))
-    chance.shuffle(places)
-    for place in places[: cols * rows * 3 // 5]:
-        kept, clues[place] = clues[place], None
-        if solve(text_of(cols, rows, clues), VISITS) != "one " + answer:
-            clues[place] = kept
-    return text_of(cols, rows, clues) + " " + answer
+def has_one(program, text):
+    try:
+        done = subprocess.run([program, "solve"], input=text + "\n", capture_output=True, text=True, timeout=0.5)
+    except subprocess.TimeoutExpired:
+        return False
+    return done.stdout.startswith("one ")
 
 
 def main():
-    boards = int(sys.argv[1]) if len(sys.argv) > 1 else 42
-    chance = random.Random(2026)
-    sizes = [(7, 7), (8, 8), (9, 9), (10, 10), (12, 12), (15, 15)]
-    lines = []
-    while len(lines) < boards:
-        cols, rows = sizes[len(lines) * len(sizes) // boards]
-        line = make(chance, cols, rows)
-        if line:
-            lines.append(line)
-            print(len(lines), line.split()[0], flush=True)
-    with open(os.path.join(HERE, "slither.txt"), "w") as f:
-        f.write("\n".join(lines) + "\n")
+    program = sys.argv[1] if len(sys.argv) == 2 else PROGRAM
+    rng = random.Random(7)
+    for side, count, share in BOARDS:
+        made = 0
+        while made < count:
+            region = region_of(side, rng)
+            numbers = numbers_of(side, region)
+            if not has_one(program, text_of(side, numbers)):
+                continue
+            for place in rng.sample(range(side * side), side * side):
+                if sum(number is not None for number in numbers) <= share * side * side:
+                    break
+                kept, numbers[place] = numbers[place], None
+                if not has_one(program, text_of(side, numbers)):
+                    numbers[place] = kept
+            print(text_of(side, numbers), answer_of(side, region), flush=True)
+            made += 1
 
 
 if __name__ == "__main__":

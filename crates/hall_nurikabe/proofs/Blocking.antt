@@ -1,9 +1,9 @@
 -- What walls in two by two cells say.
-use Rattle.std.proofs.Common.{◌≡◌, ℕ, ◌+◌, ◌*◌, ◌<◌, List, Option, Some, None, length, get_or, refl, sym, ◌∙◌, arith}
+use Rattle.std.proofs.Common.{◌≡◌, ℕ, ◌+◌, ◌<◌, List, Option, Some, None, length, get_or, arith}
 use Rattle.hall_grid.specs.declared.board.Size.{Size}
 use Rattle.hall_grid.specs.declared.rule.Rule.TheVariants.{N2}
 use Rattle.hall_grid.specs.Board.{Board, cells, col}
-use Rattle.hall_solve.specs.Question.{IsPartial, IsHopeless, Solves}
+use Rattle.hall_solve.specs.Question.{IsHopeless, Solves}
 use Rattle.hall_solve.specs.Deduction.{IsForced}
 use Rattle.hall_nurikabe.specs.Solving.{question_of}
 use Rattle.hall_nurikabe.specs.Block.{MakePool}

@@ -1,21 +1,19 @@
 -- A cell that no number reaches is wall in each solution.
-use Rattle.std.proofs.Common.{◌≡◌, ℕ, zero, suc, ◌+◌, ◌<◌, ◌≤◌, ◌⊎◌, ◌↔◌, List, Option, Some, None, length, get_or, refl, sym, ◌∙◌, subst, inl, inr, arith}
-use Rattle.std.specs.Prelude.{slice_get}
-use Rattle.std.proofs.lemmas.Bool.{cases_eq, cases_lt}
+use Rattle.std.proofs.Common.{◌≡◌, ℕ, zero, suc, ◌<◌, ◌≤◌, ◌↔◌, List, Option, length, get_or, subst, inl, inr, arith}
+use Rattle.std.proofs.lemmas.Bool.{cases_lt}
 use Rattle.hall_grid.specs.declared.board.Size.{Size}
-use Rattle.hall_grid.specs.declared.board.Clue.TheVariants.{Unknown, Number}
 use Rattle.hall_grid.specs.declared.rule.Rule.TheVariants.{N4}
 use Rattle.hall_grid.specs.Board.{Board, cells, Touch}
 use Rattle.hall_grid.specs.Walk.{Walk, at, on}
 use Rattle.hall_grid.specs.Nurikabe.{IsWhite, IsNumbered, InIsland}
 use Rattle.hall_grid.specs.RegionLaws.{Touch-turn}
-use Rattle.hall_grid.proofs.Walks.{Walk-reverse, Walk-start, Walk-end}
+use Rattle.hall_grid.proofs.Walks.{Walk-reverse, Walk-end}
 use Rattle.hall_solve.specs.Question.{IsPartial, Solves}
 use Rattle.hall_solve.specs.Deduction.{HasAlways}
 use Rattle.hall_nurikabe.specs.Tally.{HasCount}
 use Rattle.hall_nurikabe.specs.Solving.{question_of}
 use Rattle.hall_nurikabe.specs.Forced.{IsOpenTo}
-use Rattle.hall_nurikabe.specs.Spreading.{FallsByOne, IsSpread, CoversNumbers}
+use Rattle.hall_nurikabe.specs.Spreading.{FallsByOne, IsSpread}
 use Rattle.hall_nurikabe.proofs.Counting.{HasCount-within, HasCount-lacks, HasCount-bound, HasCount-empty, not_uncounted}
 use Rattle.hall_nurikabe.proofs.Solutions.{wall_or_white}
 use Rattle.hall_nurikabe.proofs.Sound.{open_white, counted}

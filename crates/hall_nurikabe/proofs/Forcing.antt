@@ -1,9 +1,9 @@
 -- Values that every solution has.
-use Rattle.std.proofs.Common.{◌≡◌, ℕ, zero, suc, ◌+◌, ◌<◌, ◌⊎◌, List, Option, Some, None, length, get_or, set, replicate, refl, sym, ◌∙◌, subst, inl, inr, arith}
+use Rattle.std.proofs.Common.{◌≡◌, ℕ, zero, suc, ◌<◌, List, Option, Some, None, get_or, set, replicate, sym, ◌∙◌, subst, inl, inr, arith}
 use Rattle.std.proofs.lemmas.Bool.{cases_eq}
 use Rattle.std.proofs.lemmas.List.{get_or-set_same, get_or-set_other, length-set, length-replicate}
 use Rattle.hall_grid.specs.Board.{Board, cells}
-use Rattle.hall_solve.specs.Question.{IsPartial, Solves, Narrows, IsHopeless, open_places}
+use Rattle.hall_solve.specs.Question.{Solves, Narrows}
 use Rattle.hall_solve.specs.Deduction.{HasAlways, IsDeduced}
 use Rattle.hall_solve.specs.declared.deduce.Pass.{Pass}
 use Rattle.hall_solve.specs.declared.deduce.Pass.TheVariants.{Settled, Advanced, Dead}

@@ -1,5 +1,5 @@
 -- What marks, labels and counts say of the rules.
-use Rattle.std.proofs.Common.{◌≡◌, ◌≢◌, ℕ, ◌+◌, ◌<◌, ◌≤◌, ◌⊎◌, ◌↔◌, Bool, List, [], ◌∷◌, length, Option, Some, refl, sym, ◌∙◌, subst, inl, inr, arith}
+use Rattle.std.proofs.Common.{◌≡◌, ◌≢◌, ℕ, ◌<◌, ◌⊎◌, ◌↔◌, Bool, List, [], ◌∷◌, length, Option, Some, refl, sym, ◌∙◌, subst, inl, inr, arith}
 use Rattle.std.specs.Prelude.{slice_index, slice_get, IsTrue}
 use Rattle.std.proofs.lemmas.Bool.{cases_eq}
 use Rattle.hall_grid.specs.declared.board.Size.{Size}
@@ -8,18 +8,16 @@ use Rattle.hall_grid.specs.declared.rule.Rule.{Rule}
 use Rattle.hall_grid.specs.declared.rule.Rule.TheVariants.{A0, U1, U2, U3, U4, S1, S2, S3, S4, S5, N1, N2, N3, N4, N5, N6}
 use Rattle.hall_grid.specs.Rule.{Names}
 use Rattle.hall_grid.specs.Board.{Board, cells, Touch}
-use Rattle.hall_grid.specs.Walk.{Walk}
 use Rattle.hall_grid.specs.Component.{IsLabelled, AreComponents}
 use Rattle.hall_grid.specs.Reached.{IsMarked}
-use Rattle.hall_grid.specs.RegionLaws.{Touch-turn, marked_below}
-use Rattle.hall_grid.specs.Nurikabe.{IsWhite, IsWall, IsNumbered, InIsland, Lists, HasNumberInWall, HasPool, HasWallsApart, HasIslandWithoutNumber, HasIslandWithTwo, HasIslandOfOtherSize}
+use Rattle.hall_grid.specs.RegionLaws.{Touch-turn}
+use Rattle.hall_grid.specs.Nurikabe.{IsWhite, IsWall, InIsland, HasNumberInWall, HasPool, HasWallsApart, HasIslandWithoutNumber, HasIslandWithTwo, HasIslandOfOtherSize}
 use Rattle.hall_grid.specs.Answer.{BreaksNurikabe}
 use Rattle.hall_grid.proofs.Labelling.{one_label, labelled_below}
-use Rattle.hall_grid.proofs.Walks.{Walk-start, Walk-end}
 use Rattle.hall_grid.proofs.Joined.{AreComponents-members, own_label, labelled_member, walk_from_label, label_from_walk}
 use Rattle.hall_grid.proofs.Naming.{Test, IsTested, nothing_put_in, one_more, names_are}
 use Rattle.hall_nurikabe.specs.Tally.{HasCount, IsCounted, Tallies, AreCells, MarksColour, MarksNumbers}
-use Rattle.hall_nurikabe.proofs.Counting.{same_length, Lists-same, HasCount-same, HasCount-empty, HasCount-some, HasCount-two, two_HasCount}
+use Rattle.hall_nurikabe.proofs.Counting.{same_length, HasCount-same, HasCount-empty, HasCount-some, HasCount-two, two_HasCount}
 
 pub through : {A B C : Type 0} → (A ↔ B) → (B ↔ C) → A ↔ C
 through p q = ((λ a. q.0 (p.0 a)), (λ c. p.1 (q.1 c)))

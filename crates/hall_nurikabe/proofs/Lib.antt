@@ -10,3 +10,6 @@ pub mod Regioning
 pub mod Sound
 pub mod Rising
 pub mod Distance
+pub mod Leaving
+pub mod Exiting
+pub mod Growing

@@ -1,8 +1,7 @@
 -- Marks of the cells with numbers.
-use Rattle.std.proofs.Common.{◌≡◌, ℕ, ◌<◌, ◌⊎◌, ◌↔◌, List, length, refl, ◌∙◌, sym, inl, inr, arith}
-use Rattle.std.specs.Prelude.{Bool, slice_get, Some}
+use Rattle.std.proofs.Common.{◌≡◌, ℕ, ◌<◌, ◌↔◌, List, length, refl, ◌∙◌, inl, inr, arith}
+use Rattle.std.specs.Prelude.{Bool}
 use Rattle.std.proofs.lemmas.Option.{slice_get_within}
-use Rattle.hall_grid.specs.declared.board.Clue.{Clue}
 use Rattle.hall_grid.specs.Board.{Board, cells}
 use Rattle.hall_grid.specs.Nurikabe.{IsNumbered}
 use Rattle.hall_grid.specs.Reached.{IsMarked}

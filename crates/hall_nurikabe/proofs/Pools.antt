@@ -1,6 +1,6 @@
 -- Two by two cells of wall.
-use Rattle.std.proofs.Common.{◌≡◌, ℕ, ◌+◌, ◌*◌, ◌/◌, ◌%◌, ◌<◌, List, sym, ◌∙◌, subst, arith}
-use Rattle.std.proofs.lemmas.Nat.{div-add-mod', mod-mul-add, div-mul-add}
+use Rattle.std.proofs.Common.{◌≡◌, ℕ, ◌+◌, ◌*◌, ◌%◌, ◌<◌, List, sym, subst, arith}
+use Rattle.std.proofs.lemmas.Nat.{div-add-mod', mod-mul-add}
 use Rattle.hall_grid.specs.declared.board.Size.{Size}
 use Rattle.hall_grid.specs.Board.{cells, row, col}
 use Rattle.hall_grid.specs.Nurikabe.{IsWall, HasPool}

@@ -1,9 +1,8 @@
 -- Solutions of a Nurikabe: what a partial filling says of them.
-use Rattle.std.proofs.Common.{◌≡◌, ℕ, ◌+◌, ◌*◌, ◌<◌, ◌≤◌, ◌⊎◌, ◌↔◌, List, Option, Some, None, length, get_or, set, refl, sym, ◌∙◌, subst, inl, inr, arith}
+use Rattle.std.proofs.Common.{◌≡◌, ℕ, ◌+◌, ◌<◌, ◌≤◌, ◌↔◌, List, Option, Some, None, length, get_or, set, sym, ◌∙◌, subst, inl, inr, arith}
 use Rattle.std.specs.Prelude.{slice_get, Bool, IsTrue}
 use Rattle.std.proofs.lemmas.Bool.{cases_eq, cases_lt}
 use Rattle.std.proofs.lemmas.List.{get_or-set_same, get_or-set_other, get_or_past, length-set}
-use Rattle.std.proofs.lemmas.Option.{slice_get_within}
 use Rattle.hall_grid.specs.declared.board.Clue.{Clue}
 use Rattle.hall_grid.specs.declared.board.Kind.TheVariants.{Nurikabe}
 use Rattle.hall_grid.specs.declared.rule.Rule.{Rule}
@@ -12,7 +11,7 @@ use Rattle.hall_grid.specs.Rule.{Names}
 use Rattle.hall_grid.specs.Answer.{Breaks, AreBroken}
 use Rattle.hall_grid.specs.Board.{Board, cells}
 use Rattle.hall_grid.specs.Nurikabe.{IsNumbered, IsWall, IsWhite}
-use Rattle.hall_solve.specs.Question.{IsFilling, IsPartial, Extends, Solves}
+use Rattle.hall_solve.specs.Question.{IsFilling, IsPartial, Solves}
 use Rattle.hall_nurikabe.specs.Tally.{IsNumber}
 use Rattle.hall_nurikabe.specs.Solving.{IsRight, question_of, SetsGivens, AllExtend}
 use Rattle.hall_nurikabe.proofs.Numbers.{numbered_below}

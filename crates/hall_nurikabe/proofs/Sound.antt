@@ -1,24 +1,24 @@
 -- What regions of a partial filling say of its solutions.
-use Rattle.std.proofs.Common.{◌≡◌, ◌≢◌, ℕ, ◌+◌, ◌<◌, ◌≤◌, ◌⊎◌, ◌↔◌, List, Option, Some, None, length, get_or, refl, sym, ◌∙◌, subst, inl, inr, arith}
+use Rattle.std.proofs.Common.{◌≡◌, ℕ, ◌<◌, List, Option, Some, None, length, get_or, sym, ◌∙◌, subst, inl, inr, arith}
 use Rattle.std.specs.Prelude.{slice_get}
 use Rattle.std.proofs.lemmas.Bool.{cases_eq}
 use Rattle.hall_grid.specs.declared.board.Clue.TheVariants.{Number}
 use Rattle.hall_grid.specs.declared.rule.Rule.TheVariants.{N3, N5, N6}
 use Rattle.hall_grid.specs.Board.{Board, cells, Touch}
-use Rattle.hall_grid.specs.Walk.{Walk, at, on}
-use Rattle.hall_grid.specs.Nurikabe.{IsWhite, IsWall, IsNumbered, InIsland}
+use Rattle.hall_grid.specs.Walk.{Walk, on}
+use Rattle.hall_grid.specs.Nurikabe.{IsWhite, IsWall, InIsland}
 use Rattle.hall_grid.specs.Component.{IsLabelled, AreComponents}
 use Rattle.hall_grid.specs.RegionLaws.{Touch-turn}
 use Rattle.hall_grid.proofs.Labelling.{one_label, labelled_below}
 use Rattle.hall_grid.proofs.Walks.{Walk-map, Walk-join, Walk-start, Walk-end}
-use Rattle.hall_grid.proofs.Joined.{walk_from_label, labelled_member}
+use Rattle.hall_grid.proofs.Joined.{walk_from_label}
 use Rattle.hall_solve.specs.Question.{IsPartial, IsHopeless, Solves}
 use Rattle.hall_solve.specs.Deduction.{HasAlways}
 use Rattle.hall_nurikabe.specs.Tally.{HasCount}
 use Rattle.hall_nurikabe.specs.Solving.{question_of}
 use Rattle.hall_nurikabe.specs.Forced.{IsSetTo, IsOpenTo, AreRegions, AreOwners, HaveTwoOwners, IsBeside, IsBetween, AreApart}
 use Rattle.hall_nurikabe.proofs.Numbers.{numbered_below}
-use Rattle.hall_nurikabe.proofs.Counting.{HasCount-within, HasCount-lacks, HasCount-more, not_uncounted}
+use Rattle.hall_nurikabe.proofs.Counting.{HasCount-within, HasCount-lacks, not_uncounted}
 use Rattle.hall_nurikabe.proofs.Solutions.{set_wall, set_white, white_or_wall, wall_or_white, number_is_white}
 
 module _ (board : Board) (p : List (Option ℕ)) (part : IsPartial (question_of board) p) where
@@ -99,7 +99,7 @@ module _ (board : Board) (p : List (Option ℕ)) (part : IsPartial (question_of 
       in_group : (f : List ℕ) → Solves (question_of board) p f → (x : ℕ) → IsLabelled labels x label → InIsland board.size f cell x
       in_group f s x h = island labels r.components f s cell x label here h
 
-      group_count : HasCount (λ x. IsLabelled labels x label) (get_or sizes label 0)
+      pub group_count : HasCount (λ x. IsLabelled labels x label) (get_or sizes label 0)
       group_count =
           let a = r.components in
           let m = Walk-start (Touch board.size) (IsSetTo p 0) label cell (a.joined cell label here) in

@@ -1,10 +1,10 @@
 -- The counts of a tally, cell by cell.
-use Rattle.std.proofs.Common.{◌≡◌, ℕ, zero, suc, ◌+◌, ◌<◌, ◌≤◌, ◌⊎◌, ◌↔◌, Bool, List, [], ◌∷◌, length, get_or, set, replicate, Option, Some, None, refl, sym, ap, ◌∙◌, subst, inl, inr, arith}
+use Rattle.std.proofs.Common.{◌≡◌, ℕ, zero, suc, ◌+◌, ◌<◌, ◌≤◌, ◌↔◌, Bool, List, length, get_or, set, replicate, Option, refl, sym, ◌∙◌, subst, inl, inr, arith}
 use Rattle.std.proofs.lemmas.List.{get_or-set_same, get_or-set_other, length-set, length-replicate}
-use Rattle.std.proofs.lemmas.Bool.{cases_eq, cases_lt}
+use Rattle.std.proofs.lemmas.Bool.{cases_eq}
 use Rattle.hall_grid.specs.Component.{IsLabelled}
 use Rattle.hall_grid.specs.Reached.{IsMarked}
-use Rattle.hall_grid.proofs.Labelling.{one_label, labelled_below}
+use Rattle.hall_grid.proofs.Labelling.{one_label}
 use Rattle.hall_nurikabe.specs.Tally.{HasCount, IsCounted, Tallies}
 use Rattle.hall_nurikabe.proofs.Counting.{HasCount-none, HasCount-same, HasCount-more, HasCount-bound}
 

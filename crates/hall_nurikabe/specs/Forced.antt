@@ -1,5 +1,5 @@
 -- What marks, regions and numbers of a partial filling say.
-use Rattle.std.specs.Prelude.{◌≡◌, ◌≢◌, ◌↔◌, ◌⊎◌, ℕ, ◌+◌, ◌<◌, Bool, List, length, slice_index, slice_index_or, Option, Some, None}
+use Rattle.std.specs.Prelude.{◌≡◌, ◌≢◌, ◌↔◌, ℕ, ◌<◌, Bool, List, length, slice_index, slice_index_or, Option, Some, None}
 use Rattle.hall_grid.specs.declared.board.Size.{Size}
 use Rattle.hall_grid.specs.Board.{Board, cells, Touch}
 use Rattle.hall_grid.specs.Nurikabe.{IsNumbered}
@@ -37,10 +37,11 @@ pub record AreRegions (size : Size) (IsMember : ℕ → Type 0) (labels : List (
 abbrev pub IsBeside : Size → List (Option ℕ) → ℕ → ℕ → Type 0
 IsBeside size labels cell label = (other : ℕ) × Touch size cell other × IsLabelled labels other label
 
--- each label's number is a cell of it
+-- each label's number is a cell of it, and there is one where such a cell has a number
 pub record AreOwners (board : Board) (labels owners : List (Option ℕ)) : Type 0 where
   pub exact : length owners ≡ cells board.size
   pub owner : (label cell : ℕ) → slice_index_or owners label None ≡ Some cell → IsNumbered board cell × IsLabelled labels cell label
+  pub found : (label cell : ℕ) → IsNumbered board cell → IsLabelled labels cell label → (owner : ℕ) × (slice_index_or owners label None ≡ Some owner)
 
 -- two cells with numbers have one label
 abbrev pub HaveTwoOwners : Board → List (Option ℕ) → Type 0

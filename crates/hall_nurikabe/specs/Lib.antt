@@ -3,3 +3,4 @@ pub mod Solving
 pub mod Block
 pub mod Forced
 pub mod Spreading
+pub mod Exit

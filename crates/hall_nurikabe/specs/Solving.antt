@@ -1,5 +1,5 @@
 -- What a search asks of a Nurikabe puzzle.
-use Rattle.std.specs.Prelude.{◌≡◌, ◌↔◌, ℕ, ◌+◌, ◌<◌, List, Option, Some, None, length, slice_index_or}
+use Rattle.std.specs.Prelude.{◌≡◌, ◌↔◌, ℕ, List, Option, Some, None, length, slice_index_or}
 use Rattle.hall_grid.specs.declared.rule.Rule.{Rule}
 use Rattle.hall_grid.specs.Board.{Board, cells}
 use Rattle.hall_grid.specs.Nurikabe.{IsNumbered}

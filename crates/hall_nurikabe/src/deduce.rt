@@ -10,8 +10,9 @@ ghost use Rattle.hall_nurikabe.specs.Forced.{AreForced, AreOwners, AreRegions, I
 ghost use Rattle.hall_nurikabe.specs.Spreading.{IsSpread};
 
 use crate::blocks::Blocks;
+use crate::exits::{exits_of, force_exits, growing_groups, roots};
 use crate::forced::{Forced, force_label, force_walls_beside};
-use crate::judge::{WALL, WHITE};
+use crate::judge::{WALL, WHITE, have_two_labels};
 use crate::region::{Regions, are_apart, is_between, owners, places_open_to, places_set_to};
 use crate::spread::spread;
 use hall_grid::{Clue, Puzzle, regions};
@@ -79,6 +80,9 @@ fn forced_by_regions(
     if look_at_groups(alloc, puzzle, partial, &mut forced)? {
         return Ok(None);
     }
+    if look_at_walls(alloc, puzzle, partial, &mut forced)? {
+        return Ok(None);
+    }
     if look_at_reaches(alloc, puzzle, partial, &mut forced)? {
         return Ok(None);
     }
@@ -104,7 +108,43 @@ fn look_at_groups(
         return Ok(true);
     };
     part_groups(puzzle, partial, &groups.labels, &owners, forced);
-    Ok(close_groups(puzzle, partial, &groups.labels, &groups.sizes, forced))
+    if close_groups(puzzle, partial, &groups.labels, &groups.sizes, forced) {
+        return Ok(true);
+    }
+    let exits = exits_of(alloc, puzzle.size(), partial, &groups.labels)?;
+    let growing = growing_groups(alloc, puzzle, &groups.labels, &groups.sizes, &owners)?;
+    Ok(force_exits(
+        puzzle,
+        partial,
+        &groups.labels,
+        &exits,
+        WHITE,
+        &growing,
+        forced,
+    ))
+}
+
+/// Forces what walls need to be joined; tells whether they leave no solution.
+fn look_at_walls(
+    alloc: Global,
+    puzzle: &Puzzle,
+    partial: &Partial,
+    forced: &mut [Option<u8>],
+) -> Result<bool, AllocError>
+    requires size { IsSize puzzle.now.size }
+    requires partial { IsPartial (question_of puzzle.now) partial.now }
+    requires forced { AreForced puzzle.now partial.now forced.old }
+    ensures dead { IfOk result (λ dead. IsTrue dead → IsHopeless (question_of puzzle.now) partial.now) }
+    ensures forced { OnOk result (AreForced puzzle.now partial.now forced.new) }
+{
+    let walls = places_set_to(alloc, partial, WALL)?;
+    let labels = regions(alloc, puzzle.size(), &walls)?;
+    if !have_two_labels(&labels) {
+        return Ok(false);
+    }
+    let exits = exits_of(alloc, puzzle.size(), partial, &labels)?;
+    let growing = roots(alloc, &labels)?;
+    Ok(force_exits(puzzle, partial, &labels, &exits, WALL, &growing, forced))
 }
 
 /// Forces walls where no number comes.

@@ -58,7 +58,7 @@ fn has_pool(size: Size, filling: &[u8]) -> bool
 }
 
 /// Whether two cells have different labels.
-fn have_two_labels(labels: &[Option<usize>]) -> bool
+pub(crate) fn have_two_labels(labels: &[Option<usize>]) -> bool
     ensures { IsTrue result ↔ ((a b x y : ℕ) × IsLabelled labels.now a x × IsLabelled labels.now b y × (x ≢ y)) }
 {
     let mut first = None;

@@ -3,6 +3,7 @@
 
 mod blocks;
 mod deduce;
+mod exits;
 mod forced;
 mod givens;
 mod island;

@@ -1,15 +1,18 @@
 //! The rules of a Slitherlink puzzle, as a search asks them.
-ghost use Rattle.std.specs.Prelude.{◌≡◌, IfOk};
-ghost use Rattle.hall_solve.specs.Question.{IsPartial};
+ghost use Rattle.std.specs.Prelude.{◌≡◌, ◌<◌, IsTrue, IfOk, Some, slice_set};
+ghost use Rattle.hall_solve.specs.Question.{IsPartial, IsOpen, IsHopeless};
 ghost use Rattle.hall_slither.specs.Search.{question_of, IsUnset, AllExtend};
 
 use crate::close::close_chains;
 use crate::judge::broken;
 use crate::spread::follow_counts;
 use hall_grid::{Filling, Kind, Puzzle};
-use hall_solve::{Deduce, Partial, Pass, Rules, Step, settle};
+use hall_solve::{Deduce, Finding, Look, Partial, Pass, Rules, Step, settle, sweep};
 use std::alloc::{AllocError, Global};
 use std::marker::Model;
+
+/// The visits, from the first on, that try both values at each side. Later ones are too many for that.
+const VISITS_WITH_TRIALS: u64 = 8;
 
 /// What follows for the sides of a puzzle.
 #[derive(Debug, Drop)]
@@ -41,10 +44,85 @@ impl<'a> Deduce for Deductions<'a> {
     }
 }
 
+/// The same, and what a trial of both values at each side shows; that takes far longer.
+#[derive(Debug, Drop)]
+struct Trials<'a> {
+    deductions: Deductions<'a>,
+}
+
+impl<'a> Model for Trials<'a> {
+    ghost use Rattle.hall_grid.specs.Board.{Board};
+
+    ghost Value = { Board };
+
+    ghost use Rattle.std.specs.Prelude.{◌≡◌};
+    ghost use Rattle.hall_grid.specs.declared.board.Kind.TheVariants.{Slither};
+
+    ghost view = { λ t. t.deductions };
+
+    ghost invariant = { λ t. t.deductions.kind ≡ Slither };
+}
+
+impl<'a> Trials<'a> {
+    /// Whether nothing solves the partial filling with this value at an open side, as far as the deductions tell.
+    fn fails(
+        &self,
+        alloc: Global,
+        partial: &Partial,
+        side: usize,
+        value: u8,
+    ) -> Result<bool, AllocError>
+        requires partial { IsPartial (question_of self.now) partial.now }
+        requires side { IsOpen partial.now side }
+        requires value { value < 2 }
+        ensures { IfOk result (λ fails. IsTrue fails → IsHopeless (question_of self.now) (slice_set partial.now side (Some value))) }
+    {
+        let mut trial = partial.copy()?;
+        trial.set(side, value);
+        Ok(settle(alloc, &self.deductions, &mut trial)? == Step::Dead)
+    }
+}
+
+impl<'a> Look for Trials<'a> {
+    ghost use Rattle.hall_grid.specs.Slither.{all_sides};
+
+    ghost question = { question_of };
+
+    ghost spots = { λ board. all_sides board.size };
+
+    fn spots(&self) -> usize {
+        self.deductions.puzzle.size().all_sides()
+    }
+
+    fn look(&self, alloc: Global, partial: &Partial, spot: usize) -> Result<Finding, AllocError> {
+        if partial.get(spot).is_some() {
+            return Ok(Finding::Nothing);
+        }
+        if self.fails(alloc, partial, spot, 1)? {
+            return Ok(Finding::Must(spot, 0));
+        }
+        if self.fails(alloc, partial, spot, 0)? {
+            return Ok(Finding::Must(spot, 1));
+        }
+        Ok(Finding::Nothing)
+    }
+}
+
+impl<'a> Deduce for Trials<'a> {
+    ghost question = { question_of };
+
+    fn pass(&self, alloc: Global, partial: &mut Partial) -> Result<Pass, AllocError> {
+        match self.deductions.pass(alloc, partial)? {
+            Pass::Settled => sweep(alloc, self, partial),
+            pass => Ok(pass),
+        }
+    }
+}
+
 /// The rules of one puzzle, and counts of what a search asked.
 #[derive(Debug, Drop)]
 pub struct SlitherRules<'a> {
-    deductions: Deductions<'a>,
+    trials: Trials<'a>,
     visits: u64,
     asked: u64,
 }
@@ -57,9 +135,9 @@ impl<'a> Model for SlitherRules<'a> {
     ghost use Rattle.std.specs.Prelude.{◌≡◌};
     ghost use Rattle.hall_grid.specs.declared.board.Kind.TheVariants.{Slither};
 
-    ghost view = { λ r. record { board = r.deductions; visits = r.visits; asked = r.asked } };
+    ghost view = { λ r. record { board = r.trials; visits = r.visits; asked = r.asked } };
 
-    ghost invariant = { λ r. r.deductions.kind ≡ Slither };
+    ghost invariant = { λ r. r.trials.kind ≡ Slither };
 }
 
 impl<'a> SlitherRules<'a> {
@@ -71,7 +149,9 @@ impl<'a> SlitherRules<'a> {
         ensures { result ≡ begun puzzle.now }
     {
         SlitherRules {
-            deductions: Deductions { puzzle },
+            trials: Trials {
+                deductions: Deductions { puzzle },
+            },
             visits: 0,
             asked: 0,
         }
@@ -86,7 +166,7 @@ impl<'a> Rules for SlitherRules<'a> {
     ghost asked = { λ r. r.asked };
 
     fn cells(&self) -> usize {
-        self.deductions.puzzle.size().all_sides()
+        self.trials.deductions.puzzle.size().all_sides()
     }
 
     fn values(&self) -> u8 {
@@ -103,12 +183,16 @@ impl<'a> Rules for SlitherRules<'a> {
 
     fn propagate(&mut self, alloc: Global, partial: &mut Partial) -> Result<Step, AllocError> {
         self.visits += 1;
-        settle(alloc, &self.deductions, partial)
+        if self.visits <= VISITS_WITH_TRIALS {
+            settle(alloc, &self.trials, partial)
+        } else {
+            settle(alloc, &self.trials.deductions, partial)
+        }
     }
 
     fn accepts(&mut self, alloc: Global, filling: &Filling) -> Result<bool, AllocError> {
         self.asked += 1;
-        Ok(broken(alloc, self.deductions.puzzle, filling)?.is_empty())
+        Ok(broken(alloc, self.trials.deductions.puzzle, filling)?.is_empty())
     }
 }
 

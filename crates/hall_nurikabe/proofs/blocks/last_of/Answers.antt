@@ -1,4 +1,4 @@
-use Rattle.std.proofs.Common.{◌≡◌, true, get_or, Some, None, sym, ◌∙◌, rules}
+use Rattle.std.proofs.Common.{◌≡◌, true, sym, ◌∙◌, rules}
 use Rattle.hall_nurikabe.proofs.Blocking.{fourth_forced, four_hopeless}
 use Rattle.hall_nurikabe.proofs.blocks.last_of.Goals as goal
 

@@ -1,4 +1,4 @@
-use Rattle.std.proofs.Common.{◌≡◌, get_or, arith, ◌∙◌}
+use Rattle.std.proofs.Common.{arith, ◌∙◌}
 use Rattle.hall_nurikabe.proofs.Judging.{AreCells-from_regions}
 use Rattle.hall_nurikabe.proofs.Sound.{large_hopeless, full_forced}
 use Rattle.hall_nurikabe.proofs.deduce.close_groups.Goals as goal

@@ -1,4 +1,4 @@
-use Rattle.std.proofs.Common.{◌<◌, length, arith}
+use Rattle.std.proofs.Common.{◌<◌, arith}
 use Rattle.hall_grid.specs.Board.{cells}
 use Rattle.hall_grid.proofs.Labelling.{place_in}
 use Rattle.hall_nurikabe.proofs.forced.is_beside.Goals as goal

@@ -1,5 +1,4 @@
-use Rattle.std.proofs.Common.{◌≡◌, ◌≤◌, length, sym, ◌∙◌, true, false, arith}
-use Rattle.hall_grid.specs.Board.{cells}
+use Rattle.std.proofs.Common.{◌≡◌, true, false, arith}
 use Rattle.hall_nurikabe.specs.Solving.{SetsGivens}
 use Rattle.hall_nurikabe.proofs.Solutions.{Begun-skip, Begun-set, SetsGivens-from_Begun, IsPartial-from_SetsGivens, AllExtend-from_SetsGivens, numbered_clue}
 use Rattle.hall_nurikabe.proofs.givens.start.Goals as goal

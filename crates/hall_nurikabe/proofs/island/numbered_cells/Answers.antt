@@ -1,4 +1,4 @@
-use Rattle.std.proofs.Common.{◌≡◌, length, ◌∙◌, sym, arith}
+use Rattle.std.proofs.Common.{arith}
 use Rattle.hall_nurikabe.proofs.Numbers.{MarksNumbers-from_below}
 use Rattle.hall_nurikabe.proofs.island.numbered_cells.Goals as goal
 

@@ -1,6 +1,5 @@
-use Rattle.std.proofs.Common.{◌≡◌, ◌+◌, ◌<◌, ◌≤◌, length, get_or, refl, subst, arith}
+use Rattle.std.proofs.Common.{◌≡◌, ◌+◌, length, get_or, refl, subst, arith}
 use Rattle.std.proofs.lemmas.List.{get_or_default}
-use Rattle.hall_grid.specs.Component.{IsLabelled}
 use Rattle.hall_nurikabe.specs.Tally.{Tallies}
 use Rattle.hall_nurikabe.proofs.Tallies.{Tallies-none, Tallies-skip, Tallies-count, Tallies-bound}
 use Rattle.hall_nurikabe.proofs.island.tally.Goals as goal

@@ -2,7 +2,6 @@ use Rattle.std.proofs.Common.{◌≡◌, length, arith}
 use Rattle.hall_grid.specs.Board.{cells, Touch}
 use Rattle.hall_grid.specs.Nurikabe.{IsWhite, IsWall}
 use Rattle.hall_grid.specs.Component.{AreComponents}
-use Rattle.hall_grid.specs.Answer.{BreaksNurikabe}
 use Rattle.hall_nurikabe.proofs.Judging.{AreCells-from_regions, regions_are, apart_are, without_number_are, with_two_are, other_size_are, number_in_wall_are, through, nurikabe_names}
 use Rattle.hall_nurikabe.proofs.judge.broken.Goals as goal
 

@@ -1,4 +1,4 @@
-use Rattle.std.proofs.Common.{◌≡◌, ◌<◌, ℕ, Some, None, length, refl, sym, ◌∙◌, subst, arith}
+use Rattle.std.proofs.Common.{◌≡◌, ◌<◌, Some, None, refl, sym, ◌∙◌, subst, arith}
 use Rattle.hall_grid.specs.Board.{cells}
 use Rattle.hall_grid.proofs.Labelling.{place_in}
 use Rattle.hall_nurikabe.proofs.Regioning.{IsOwnedBeside, owned_beside}

@@ -1,4 +1,4 @@
-use Rattle.std.proofs.Common.{◌≡◌, ◌<◌, length, get_or, None, sym, ◌∙◌, arith}
+use Rattle.std.proofs.Common.{◌≡◌, get_or, None, true, false, sym, ◌∙◌, arith}
 use Rattle.std.proofs.lemmas.List.{get_or_default}
 use Rattle.hall_nurikabe.proofs.Solutions.{numbered_clue}
 use Rattle.hall_nurikabe.proofs.Regioning.{OwnersBelow-skip, OwnersBelow-set, two_owners, AreOwners-from_below}
@@ -24,9 +24,14 @@ loop-cell-preserved c = elim c.if-is_number.branch [
       rw w.owners-is
       (OwnersBelow-set c.args.puzzle.now c.args.labels.now c.loop-cell.owners.items c.loop-cell.cell w.in-Some.label (let e = c.requires.exact in omega arith)
       ((numbered_clue c.args.puzzle.now c.loop-cell.cell c.clue.result c.clue.ensures).0 (c.is_number.ensures.0 w.if-is_number.true)) w.in-Some.is c.loop-cell.invariant)
-  | then-is_number+in_default w ↦ rw w.owners-is (OwnersBelow-skip _ _ _ _ c.loop-cell.invariant)
-  | else-is_number w ↦ rw w.owners-is (OwnersBelow-skip _ _ _ _ c.loop-cell.invariant)
+  | then-is_number+in_default w ↦ rw w.owners-is (OwnersBelow-skip _ _ _ _ (λ label numbered h. w.in_default.not-Some label h) c.loop-cell.invariant)
+  | else-is_number w ↦
+      rw w.owners-is
+      (OwnersBelow-skip c.args.puzzle.now c.args.labels.now c.loop-cell.owners.items c.loop-cell.cell (λ label numbered h.
+      let yes : c.is_number.result ≡ true = c.is_number.ensures.1 ((numbered_clue c.args.puzzle.now c.loop-cell.cell c.clue.result c.clue.ensures).1 numbered) in
+      let no : c.is_number.result ≡ false = w.if-is_number.false in
+      absurd (cc)) c.loop-cell.invariant)
 ]
 
 pub returns : goal.returns
-returns c = AreOwners-from_below _ _ _ _ c.loop-cell.invariant
+returns c = AreOwners-from_below _ _ _ c.loop-cell.cell (omega arith) c.loop-cell.invariant

@@ -1,4 +1,3 @@
-use Rattle.std.proofs.Common.{ℕ, ◌<◌, ◌≡◌, length}
 use Rattle.hall_nurikabe.proofs.Regioning.{OwnersBelow}
 use Rattle.hall_nurikabe.proofs.region.owners.Given as goal
 

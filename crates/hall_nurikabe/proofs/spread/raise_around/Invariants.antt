@@ -1,4 +1,4 @@
-use Rattle.std.proofs.Common.{ℕ, ◌<◌, ◌≤◌, get_or}
+use Rattle.std.proofs.Common.{ℕ, ◌≤◌, get_or}
 use Rattle.hall_grid.specs.Reached.{IsMarked}
 use Rattle.hall_grid.proofs.Labelling.{AmongFirst}
 use Rattle.hall_nurikabe.specs.Spreading.{Raises}

@@ -1,4 +1,3 @@
-use Rattle.std.proofs.Common.{ℕ}
 use Rattle.hall_grid.specs.Reached.{IsMarked}
 use Rattle.hall_nurikabe.specs.Spreading.{CoversNumbers, FallsByOne}
 use Rattle.hall_nurikabe.proofs.spread.spread.Given as goal

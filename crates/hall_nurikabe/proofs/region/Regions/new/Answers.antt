@@ -1,4 +1,3 @@
-use Rattle.std.proofs.Common.{arith}
 use Rattle.hall_nurikabe.proofs.Judging.{AreCells-from_regions}
 use Rattle.hall_nurikabe.proofs.Regioning.{AreRegions-from_Tallies}
 use Rattle.hall_nurikabe.proofs.region.Regions.new.Goals as goal

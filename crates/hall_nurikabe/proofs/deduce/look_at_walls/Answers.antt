@@ -1,0 +1,24 @@
+use Rattle.std.proofs.Common.{◌≡◌, true, rules}
+use Rattle.hall_grid.proofs.Joined.{AreComponents-members}
+use Rattle.hall_nurikabe.specs.Forced.{IsSetTo}
+use Rattle.hall_nurikabe.proofs.Judging.{AreCells-from_regions}
+use Rattle.hall_nurikabe.proofs.Growing.{wall_grows}
+use Rattle.hall_nurikabe.proofs.deduce.look_at_walls.Goals as goal
+
+pub exits_of-requires-clause-labels : goal.exits_of-requires-clause-labels
+exits_of-requires-clause-labels c = rw c.deref-3.ensures.value (AreCells-from_regions _ c.size.result _ _ c.in_ok-labels.ensures)
+
+pub force_exits-requires-clause-labels : goal.force_exits-requires-clause-labels
+force_exits-requires-clause-labels c =
+    rw c.deref-5.ensures.value
+    (AreComponents-members _ _ _ (IsSetTo c.args.partial.now 1) _ c.in_ok-walls.ensures.marked (rw (c.size.ensures.size, c.deref.ensures.value) at c.in_ok-labels.ensures))
+
+pub force_exits-requires-clause-growing : goal.force_exits-requires-clause-growing
+force_exits-requires-clause-growing c =
+    let a = AreComponents-members _ _ _ (IsSetTo c.args.partial.now 1) _ c.in_ok-walls.ensures.marked
+    (rw (c.size.ensures.size, c.deref.ensures.value) at c.in_ok-labels.ensures) in
+    let two : c.have_two_labels.result ≡ true = search rules in
+    let apart = (rw c.deref-2.ensures.value at (c.have_two_labels.ensures.0 two)) in
+    let g = (rw c.deref-4.ensures.value at c.in_ok-growing.ensures) in
+    rw (c.deref-5.ensures.value, c.deref-7.ensures.value)
+    (λ label h. wall_grows c.args.puzzle.now c.args.partial.now c.requires.partial c.in_ok-labels.labels.items a apart label (g.marked label h))

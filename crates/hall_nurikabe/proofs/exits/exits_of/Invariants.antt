@@ -1,0 +1,5 @@
+use Rattle.hall_nurikabe.specs.Exit.{KnowsExits}
+use Rattle.hall_nurikabe.proofs.exits.exits_of.Given as goal
+
+abbrev pub invariant-loop-cell : goal.invariant-loop-cell
+invariant-loop-cell l = KnowsExits l.size l.partial l.labels l.cell l.exits.items
