@@ -71,12 +71,12 @@ pub kept_start : (stream wrote : Option (List ℕ)) (world : World) → Kept str
 kept_start stream wrote world = record { done = []; session = refl; consumed = Consumes-nil stream; pieces = omega arith; replied = Appends-nil wrote }
 
 module _ (stream after wrote written : Option (List ℕ)) (old new : World) (inbox : List ℕ) (reads : ℕ) (kept : Kept stream after wrote written old new inbox reads) where
-
   pub kept_read : (then : Option (List ℕ)) (piece : List ℕ) → 0 < length piece → Consumes after then piece → Kept stream then wrote written old new (inbox ++ piece) (reads + 1)
   kept_read then piece some more =
       let all : records_of kept.done ++ (inbox ++ piece) ≡ (records_of kept.done ++ inbox) ++ piece = sym (append_assoc (records_of kept.done) inbox piece) in
       record {
-        done = kept.done; session = kept.session;
+        done = kept.done;
+        session = kept.session;
         consumed = rw all (Consumes-trans stream after then (records_of kept.done ++ inbox) piece kept.consumed more);
         pieces = rw all (omega (arith, kept.pieces, length-append (records_of kept.done ++ inbox) piece));
         replied = kept.replied;
@@ -95,8 +95,10 @@ module _ (stream after wrote written : Option (List ℕ)) (old new : World) (inb
 
     pub kept_answered : (then : Option (List ℕ)) → Appends written then line → Kept stream after wrote then old next (drop end inbox) reads
     kept_answered then sent = record {
-      done = kept.done ++ x ∷ []; session = longer;
-      consumed = rw same_bytes kept.consumed; pieces = rw same_bytes kept.pieces;
+      done = kept.done ++ x ∷ [];
+      session = longer;
+      consumed = rw same_bytes kept.consumed;
+      pieces = rw same_bytes kept.pieces;
       replied = rw (lines_more kept.done x) (Appends-trans wrote written then (lines_of kept.done) line kept.replied sent);
     }
 
@@ -104,9 +106,12 @@ module _ (stream after wrote written : Option (List ℕ)) (old new : World) (inb
     pub unsent : {U : Type 0} (then : Option (List ℕ)) (failed : Type 0) → WritesPart written then line → failed → IsReplayed {U = U} stream after wrote then old next failed (Err fault.Device)
     unsent then failed (front, rest, split, sent) rose =
         let whole : lines_of (kept.done ++ x ∷ []) ≡ (lines_of kept.done ++ front) ++ rest =
-          lines_more kept.done x ∙ ap (λ s. lines_of kept.done ++ s) split ∙ sym (append_assoc (lines_of kept.done) front rest) in
+        lines_more kept.done x ∙ ap (λ s. lines_of kept.done ++ s) split ∙ sym (append_assoc (lines_of kept.done) front rest) in
         record {
-          answered = kept.done ++ x ∷ []; unread = drop end inbox; whole = all_records old (kept.done ++ x ∷ []) next longer; run = run_over old (kept.done ++ x ∷ []) next longer;
+          answered = kept.done ++ x ∷ [];
+          unread = drop end inbox;
+          whole = all_records old (kept.done ++ x ∷ []) next longer;
+          run = run_over old (kept.done ++ x ∷ []) next longer;
           consumed = rw same_bytes kept.consumed;
           ended = ((lines_of kept.done ++ front, rest, whole, Appends-trans wrote written then (lines_of kept.done) front kept.replied sent), rose);
         }
@@ -117,14 +122,20 @@ module _ (stream after wrote written : Option (List ℕ)) (old new : World) (inb
   module _ {U : Type 0} (failed : Type 0) where
     pub unread_device : (then : Option (List ℕ)) → Consumes after then [] → failed → IsReplayed {U = U} stream then wrote written old new failed (Err fault.Device)
     unread_device then none rose = record {
-      answered = kept.done; unread = inbox; whole = all_records old kept.done new kept.session; run = run_over old kept.done new kept.session;
+      answered = kept.done;
+      unread = inbox;
+      whole = all_records old kept.done new kept.session;
+      run = run_over old kept.done new kept.session;
       consumed = still then none;
       ended = ((lines_of kept.done, [], sym (append-nil (lines_of kept.done)), kept.replied), rose);
     }
 
     pub no_memory : (then : Option (List ℕ)) (piece : List ℕ) → Consumes after then piece → IsReplayed {U = U} stream then wrote written old new failed (Err fault.Memory)
     no_memory then piece more = record {
-      answered = kept.done; unread = inbox ++ piece; whole = all_records old kept.done new kept.session; run = run_over old kept.done new kept.session;
+      answered = kept.done;
+      unread = inbox ++ piece;
+      whole = all_records old kept.done new kept.session;
+      run = run_over old kept.done new kept.session;
       consumed = subst (λ s. Consumes stream then s) (append_assoc (records_of kept.done) inbox piece) (Consumes-trans stream after then (records_of kept.done ++ inbox) piece kept.consumed more);
       ended = kept.replied;
     }

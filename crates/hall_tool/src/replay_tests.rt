@@ -252,12 +252,13 @@ fn number<T>(number: Option<T>) -> Result<T, Fail> {
 
 fn morning(alloc: Global) -> Result<Reply, Fail> {
     let mut puzzles = Vec::new(alloc);
-    puzzles.push(ShownPuzzle {
-        number: number(PuzzleNumber::new(1))?,
-        points: number(Points::new(40))?,
-        text: text(alloc, "sudoku/4/4/123434122143432g")?,
-    })
-    .map_err(AllocError::from)?;
+    puzzles
+        .push(ShownPuzzle {
+            number: number(PuzzleNumber::new(1))?,
+            points: number(Points::new(40))?,
+            text: text(alloc, "sudoku/4/4/123434122143432g")?,
+        })
+        .map_err(AllocError::from)?;
     Ok(Reply::RoundRead(ShownRound {
         bonus: number(Bonus::new(2))?,
         id: text(alloc, "r1")?,
@@ -273,16 +274,17 @@ fn morning(alloc: Global) -> Result<Reply, Fail> {
 
 fn answers(alloc: Global, verdict: Option<Broken>) -> Result<Reply, Fail> {
     let mut lines = Vec::new(alloc);
-    lines.push(AnswerLine {
-        answer: text(alloc, ".##.")?,
-        entrant: text(alloc, "fay")?,
-        moment: number(Moment::new(1_777_714_260))?,
-        n: number(AnswerNumber::new(1))?,
-        number: number(PuzzleNumber::new(1))?,
-        token: text(alloc, "t1")?,
-        verdict,
-    })
-    .map_err(AllocError::from)?;
+    lines
+        .push(AnswerLine {
+            answer: text(alloc, ".##.")?,
+            entrant: text(alloc, "fay")?,
+            moment: number(Moment::new(1_777_714_260))?,
+            n: number(AnswerNumber::new(1))?,
+            number: number(PuzzleNumber::new(1))?,
+            token: text(alloc, "t1")?,
+            verdict,
+        })
+        .map_err(AllocError::from)?;
     Ok(Reply::AnswerList(Rows::new(lines)))
 }
 
@@ -298,8 +300,14 @@ fn writes_replies(rt: HostRuntime) -> Result<(), Fail> {
         (Reply::Denied(7), "403 {\"denied\":7}\n"),
         (Reply::Denied(4), "404 {\"denied\":4}\n"),
         (Reply::Unavailable, UNAVAILABLE),
-        (put, "200 {\"state\":\"gave up\",\"text\":\"sudoku/4/4/v\"}\n"),
-        (Reply::Received { n, verdict: None }, "200 {\"received\":1}\n"),
+        (
+            put,
+            "200 {\"state\":\"gave up\",\"text\":\"sudoku/4/4/v\"}\n",
+        ),
+        (
+            Reply::Received { n, verdict: None },
+            "200 {\"received\":1}\n",
+        ),
         (
             Reply::Received {
                 n,
@@ -310,7 +318,10 @@ fn writes_replies(rt: HostRuntime) -> Result<(), Fail> {
         (morning(alloc)?, MORNING),
         (answers(alloc, None)?, ANSWERS),
         (answers(alloc, Some(Broken::from_bits(12288)))?, JUDGED),
-        (Reply::AnswerList(Rows::new(Vec::new(alloc))), "200 {\"answers\":[]}\n"),
+        (
+            Reply::AnswerList(Rows::new(Vec::new(alloc))),
+            "200 {\"answers\":[]}\n",
+        ),
     ];
     for (reply, line) in &rows {
         let written = reply_line(alloc, reply)?;
@@ -319,15 +330,20 @@ fn writes_replies(rt: HostRuntime) -> Result<(), Fail> {
     Ok(())
 }
 
-const MORNING: &str = "200 {\"bonus\":2,\"id\":\"r1\",\"minutes\":60,\"mode\":\"instant\",\"penalty\":5,\"protest_minutes\":30,\"puzzles\":[{\"number\":1,\"points\":40,\"text\":\"sudoku/4/4/123434122143432g\"}],\"start\":1777712400,\"title\":\"Morning\"}\n";
+const MORNING: &str =
+    "200 {\"bonus\":2,\"id\":\"r1\",\"minutes\":60,\"mode\":\"instant\",\"penalty\":5,\"protest_minutes\":30,\"puzzles\":[{\"number\":1,\"points\":40,\"text\":\"sudoku/4/4/123434122143432g\"}],\"start\":1777712400,\"title\":\"Morning\"}\n";
 
-const ANSWERS: &str = "200 {\"answers\":[{\"answer\":\".##.\",\"entrant\":\"fay\",\"moment\":1777714260,\"n\":1,\"number\":1,\"token\":\"t1\"}]}\n";
+const ANSWERS: &str =
+    "200 {\"answers\":[{\"answer\":\".##.\",\"entrant\":\"fay\",\"moment\":1777714260,\"n\":1,\"number\":1,\"token\":\"t1\"}]}\n";
 
-const JUDGED: &str = "200 {\"answers\":[{\"answer\":\".##.\",\"entrant\":\"fay\",\"moment\":1777714260,\"n\":1,\"number\":1,\"token\":\"t1\",\"verdict\":\"wrong N3 N4\"}]}\n";
+const JUDGED: &str =
+    "200 {\"answers\":[{\"answer\":\".##.\",\"entrant\":\"fay\",\"moment\":1777714260,\"n\":1,\"number\":1,\"token\":\"t1\",\"verdict\":\"wrong N3 N4\"}]}\n";
 
-const WORKED: &[u8] = b"@1777712399 25\neve-key-1 GET /rounds/r1\n@1777715999 67\neve-key-1 PUT /rounds/r1/answers/1/k1\n{\"answer\":\"1234341221434321\"}@1777716010 67\neve-key-1 PUT /rounds/r1/answers/1/k1\n{\"answer\":\"1234341221434321\"}";
+const WORKED: &[u8] =
+    b"@1777712399 25\neve-key-1 GET /rounds/r1\n@1777715999 67\neve-key-1 PUT /rounds/r1/answers/1/k1\n{\"answer\":\"1234341221434321\"}@1777716010 67\neve-key-1 PUT /rounds/r1/answers/1/k1\n{\"answer\":\"1234341221434321\"}";
 
-const WORKED_LINES: &[u8] = b"403 {\"denied\":7}\n200 {\"received\":1,\"verdict\":\"right\"}\n200 {\"received\":1,\"verdict\":\"right\"}\n";
+const WORKED_LINES: &[u8] =
+    b"403 {\"denied\":7}\n200 {\"received\":1,\"verdict\":\"right\"}\n200 {\"received\":1,\"verdict\":\"right\"}\n";
 
 #[test]
 fn replays_the_worked_run(rt: HostRuntime) -> Result<(), Fail> {
@@ -348,7 +364,11 @@ fn ends_where_the_records_end(rt: HostRuntime) -> Result<(), Fail> {
         (b"", b"", Ok(())),
         (b"@1 8\n- A /b\n\n", fault, Ok(())),
         (b"@1 8\n- A /b\n\n@", fault, Err(ReplayFault::Record)),
-        (b"@1 8\n- A /b\n\njunk\n@1 0\n", fault, Err(ReplayFault::Record)),
+        (
+            b"@1 8\n- A /b\n\njunk\n@1 0\n",
+            fault,
+            Err(ReplayFault::Record),
+        ),
         (b"@1 9\n- A /b\n\n", b"", Err(ReplayFault::Record)),
     ];
     for (input, lines, end) in &rows {

@@ -9,7 +9,7 @@ invariant-records g l = record {
   reader : l.reader.failures ≡ l.fn.reader.failures;
   writer : l.writer.failures ≡ l.fn.writer.failures;
   kept : Kept (g.R.Read.remaining l.fn.reader.device) (g.R.Read.remaining l.reader.device) (g.W.Write.contents l.fn.writer.device) (g.W.Write.contents l.writer.device)
-    (world_in l.fn.desk) (world_in l.desk) l.inbox.items l.reads;
+      (world_in l.fn.desk) (world_in l.desk) l.inbox.items l.reads;
 }
 
 abbrev pub decreases-records : goal.decreases-records
