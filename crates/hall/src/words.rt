@@ -84,11 +84,7 @@ fn command_of(alloc: Global, words: &[String]) -> Result<Command, WordsFault> {
 }
 
 /// Takes the words of a command that has neither options nor arguments.
-fn plain_words<'a>(
-    alloc: Global,
-    name: &'a str,
-    words: &'a [String],
-) -> Result<(), WordsFault> {
+fn plain_words<'a>(alloc: Global, name: &'a str, words: &'a [String]) -> Result<(), WordsFault> {
     let command: clap::Command<'a> = clap::Command::new(alloc, name);
     let _matches = command.try_get_matches_from(words)?;
     Ok(())

@@ -8,4 +8,6 @@ pub mod Showing
 pub mod Planning
 pub mod Sorting
 pub mod UsingRounds
+pub mod Saneness
+pub mod StepsSane
 pub mod Starts

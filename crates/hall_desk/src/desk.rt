@@ -4,6 +4,7 @@ ghost use Rattle.hall_desk.specs.Desk.{world_in};
 ghost use Rattle.hall_desk.specs.Change.{changed, CanMake};
 ghost use Rattle.hall_desk.specs.Step.{Step};
 ghost use Rattle.hall_desk.specs.Run.{Run};
+ghost use Rattle.hall_desk.specs.Sane.{Sane};
 ghost use Rattle.hall_desk.specs.Plans.{IsPlanFor};
 
 use crate::map_store::MapStore;
@@ -49,7 +50,8 @@ impl Desk {
 
     /// Answers one request: a step of the hall. A fault is `Reply::Unavailable`.
     pub fn step(&mut self, alloc: Global, t: Moment, request: &Request) -> Reply
-        ensures { Step (world_in self.old) t request.now result (world_in self.new) }
+        ensures step { Step (world_in self.old) t request.now result (world_in self.new) }
+        ensures sane { Sane (world_in self.old) → Sane (world_in self.new) }
     {
         step(alloc, &mut self.store, t, request)
     }
@@ -61,6 +63,7 @@ impl Desk {
         requests: &[(Moment, Request)],
     ) -> Result<Vec<Reply>, AllocError>
         ensures run { IfOk result (λ replies. Run (world_in self.old) requests.now replies.items (world_in self.new)) }
+        ensures sane { Sane (world_in self.old) → Sane (world_in self.new) }
         ensures refused { OnErr result (world_in self.new ≡ world_in self.old) }
     {
         run(alloc, &mut self.store, requests)

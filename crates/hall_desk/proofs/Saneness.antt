@@ -1,0 +1,294 @@
+-- Every step of the hall keeps a sane world.
+use Rattle.std.proofs.Common.{◌≡◌, ◌≢◌, ◌==◌, ◌+◌, ◌&&◌, ◌<◌, ◌≤◌, ◌⊎◌, inl, inr, ℕ, Bool, true, false, cond, List, [], ◌∷◌, Option, Some, None, Contains, IsTrue, refl, sym, ap, ◌∙◌, subst, arith, nat_lt}
+use Rattle.std.specs.List.{count_by}
+use Rattle.std.specs.FinMap.{FinMap, get, insert, values}
+use Rattle.hall_grid.specs.Board.{Board}
+use Rattle.hall_policy.specs.World.{World, same_text, puzzle_cmp, answer_cmp}
+use Rattle.hall_policy.specs.Rules.{Lists, StandsReleased, IsCertified, TheCaller, answers_given, puzzles_put, IsInReleasedRound, IsAtLimit, IsMissing, TokenStands, SameContent}
+use Rattle.hall_policy.specs.Actions.{rules_asked, number_of}
+use Rattle.hall_policy.specs.First.{First, Sentence, Forbids, Repeated, NoneBelow}
+use Rattle.hall_policy.specs.declared.rule.Rule.TheVariants as rule
+use Rattle.hall_policy.specs.declared.record.Person.{Person}
+use Rattle.hall_policy.specs.declared.record.PuzzleKey.{PuzzleKey}
+use Rattle.hall_policy.specs.declared.record.PuzzleRow.{PuzzleRow}
+use Rattle.hall_policy.specs.declared.record.PuzzleState.TheVariants as state
+use Rattle.hall_policy.specs.declared.record.Round.{Round}
+use Rattle.hall_policy.specs.declared.record.Entry.{Entry}
+use Rattle.hall_policy.specs.declared.record.AnswerKey.{AnswerKey}
+use Rattle.hall_policy.specs.declared.record.AnswerRow.{AnswerRow}
+use Rattle.hall_policy.specs.declared.request.Action.TheVariants as action
+use Rattle.hall_policy.proofs.Maps.{get-insert_same, get-insert_other, count_by-insert_new, count_by-insert_alike}
+use Rattle.hall_policy.proofs.Orders.{puzzle_total, same_puzzle_keys, answer_total, same_answer_keys}
+use Rattle.hall_desk.proofs.Answering.{text_decides}
+use Rattle.hall_desk.specs.Step.{new_row, IsPut}
+use Rattle.std.specs.Cmp.{unsigned_Decides}
+use Rattle.hall_desk.specs.Found.{IsReleasedRound}
+use Rattle.hall_desk.specs.Sane.{Sane, IsKeyed, IsTrueState, IsVerdictAt, HasPlace}
+
+split : (a b : List ℕ) (t : Bool) → same_text a b ≡ t → (a ≡ b) ⊎ (a ≢ b)
+split a b true h = inl ((text_decides a b).0 h)
+split a b false h = inr (λ e. let no : false ≡ true = sym h ∙ (text_decides a b).1 e in cc)
+
+and_all : (a b c : Bool) → a ≡ true → b ≡ true → c ≡ true → (a && (b && c)) ≡ true
+and_all true true true p q r = refl
+and_all true true false p q r = r
+and_all true false c p q r = q
+and_all false b c p q r = p
+
+all_parts : (a b c : Bool) → (a && (b && c)) ≡ true → (a ≡ true) × (b ≡ true) × (c ≡ true)
+all_parts true true true h = (refl, refl, refl)
+all_parts true true false h = let no : false ≡ true = h in absurd (cc)
+all_parts true false c h = let no : false ≡ true = h in absurd (cc)
+all_parts false b c h = let no : false ≡ true = h in absurd (cc)
+
+-- two texts are one, or they are not
+pub text_split : (a b : List ℕ) → (a ≡ b) ⊎ (a ≢ b)
+text_split a b = split a b (same_text a b) refl
+
+-- two keys of puzzles are one, or they are not
+pub puzzle_keys_apart : (a b : PuzzleKey) → (a ≡ b) ⊎ (a ≢ b)
+puzzle_keys_apart a b = elim (text_split a.author b.author) [
+  | inl author ↦ elim (text_split a.label b.label) [
+    | inl label ↦ inl (λ i. record { author = author i; label = label i })
+    | inr other ↦ inr (λ e. other (ap (λ k. k.label) e))
+  ]
+  | inr other ↦ inr (λ e. other (ap (λ k. k.author) e))
+]
+
+-- what a map that got one more row has at a key: the row at its own key, or what it had
+module _ (world : World) (key : PuzzleKey) (puzzle : Board) where
+  abbrev new_puzzles : FinMap puzzle_cmp PuzzleRow
+  new_puzzles = insert world.puzzles key (new_row key puzzle)
+
+  after_put : (q : PuzzleKey) (row : PuzzleRow) → get new_puzzles q ≡ Some row → ((q ≡ key) × (row ≡ new_row key puzzle)) ⊎ ((q ≢ key) × (get world.puzzles q ≡ Some row))
+  after_put q row found = elim (puzzle_keys_apart q key) [
+    | inl same ↦ inl (same, let at : Some (new_row key puzzle) ≡ Some row = sym (get-insert_same puzzle_total world.puzzles key (new_row key puzzle)) ∙ ap (get new_puzzles) (sym same) ∙ found in let e : new_row key puzzle ≡ row = cc in sym e)
+    | inr other ↦ inr (other, sym (get-insert_other puzzle_total same_puzzle_keys world.puzzles key (new_row key puzzle) q other) ∙ found)
+  ]
+
+  -- what stands under another key stays
+  others : (q : PuzzleKey) (row : PuzzleRow) → q ≢ key → get world.puzzles q ≡ Some row → get new_puzzles q ≡ Some row
+  others q row other found = get-insert_other puzzle_total same_puzzle_keys world.puzzles key (new_row key puzzle) q other ∙ found
+
+  module _ (sane : Sane world) (there : get world.people key.author ≢ None) (free : (id : List ℕ) → ¬ (StandsReleased world key id))
+      (room : get world.puzzles key ≡ None → puzzles_put world key.author < 500) where
+    unused : (id : List ℕ) (round : Round) (number : ℕ) (entry : Entry) → get world.rounds id ≡ Some round → IsTrue round.released →
+        get world.places (record { round = id; number = number }) ≡ Some entry → entry.puzzle ≢ key
+    unused id round number entry kept released place same = free id (round, entry, kept, released, (number, place), same)
+
+    few : (author : List ℕ) → count_by (λ row. same_text row.key.author author) (values new_puzzles) ≤ 500
+    few author = elim (get world.puzzles key) as (λ (o : Option PuzzleRow). get world.puzzles key ≡ o → count_by (λ row. same_text row.key.author author) (values new_puzzles) ≤ 500) [
+      | None ↦ λ none.
+          let more = count_by-insert_new puzzle_total (λ row. same_text row.key.author author) world.puzzles key (new_row key puzzle) none in
+          elim (same_text key.author author) as (λ b. same_text key.author author ≡ b → count_by (λ row. same_text row.key.author author) (values new_puzzles) ≡ puzzles_put world author + cond b 1 0 → count_by (λ row. same_text row.key.author author) (values new_puzzles) ≤ 500) [
+            | true ↦ λ t e. let own : key.author ≡ author = (text_decides key.author author).0 t in let bound : puzzles_put world author < 500 = subst (λ (a : List ℕ). puzzles_put world a < 500) own (room none) in omega (arith, e, bound)
+            | false ↦ λ t e. omega (arith, e, sane.few_puzzles author)
+          ] refl more
+      | Some row ↦ λ kept.
+          let own : row.key ≡ key = sane.keyed.puzzles key row kept in
+          let alike = count_by-insert_alike puzzle_total (λ r. same_text r.key.author author) world.puzzles key (new_row key puzzle) row kept (ap (λ (k : PuzzleKey). same_text k.author author) (sym own)) in
+          subst (λ n. n ≤ 500) (sym alike) (sane.few_puzzles author)
+    ] refl
+
+    put_keyed : IsKeyed (record world { puzzles = new_puzzles })
+    put_keyed = record {
+      people = sane.keyed.people;
+      puzzles = λ q row found. elim (after_put q row found) [
+        | inl h ↦ ap (λ (r : PuzzleRow). r.key) h.1 ∙ sym h.0
+        | inr h ↦ sane.keyed.puzzles q row h.1
+      ];
+      rounds = sane.keyed.rounds;
+      answers = sane.keyed.answers;
+      protests = sane.keyed.protests;
+      authors = λ q row found. elim (after_put q row found) [
+        | inl h ↦ λ none. there (ap (λ (k : PuzzleKey). get world.people k.author) (sym h.0) ∙ none)
+        | inr h ↦ sane.keyed.authors q row h.1
+      ];
+      lists = λ id round found. let l = sane.keyed.lists id round found in (l.0, record { head = l.1.head; list = l.1.list }, l.2);
+      homes = sane.keyed.homes;
+      entries = λ place entry found none. elim (puzzle_keys_apart entry.puzzle key) [
+        | inl same ↦ let no : Some (new_row key puzzle) ≡ None = sym (get-insert_same puzzle_total world.puzzles key (new_row key puzzle)) ∙ ap (get new_puzzles) (sym same) ∙ none in cc
+        | inr other ↦ sane.keyed.entries place entry found (sym (get-insert_other puzzle_total same_puzzle_keys world.puzzles key (new_row key puzzle) entry.puzzle other) ∙ none)
+      ];
+      entrants = sane.keyed.entrants;
+      answered = sane.keyed.answered;
+      protesters = sane.keyed.protesters;
+      protested = sane.keyed.protested;
+    }
+
+    -- a puzzle that is put keeps the world sane
+    pub put_sane : Sane (record world { puzzles = new_puzzles })
+    put_sane = record {
+      keyed = put_keyed;
+      states = λ q row found. elim (after_put q row found) [
+        | inl h ↦ subst (λ (r : PuzzleRow). IsTrueState r.puzzle r.state) (sym h.1) tt
+        | inr h ↦ sane.states q row h.1
+      ];
+      answers_released = sane.answers_released;
+      protests_released = sane.protests_released;
+      verdicts = λ k row found.
+          let v = sane.verdicts k row found in
+          let r = sane.answers_released k row found in
+          (v.0, v.1, v.2, others v.0.puzzle v.1 (unused k.round r.0 k.number v.0 r.1 r.2 v.2) v.3, v.4);
+      certified = λ id q stands.
+          let c = sane.certified id q stands in
+          (c.0, c.1, others q c.0 (λ same. free id (subst (λ (k : PuzzleKey). StandsReleased world k id) same stands)) c.2, c.3);
+      in_one_round = sane.in_one_round;
+      published = sane.published;
+      ruled = sane.ruled;
+      numbered = sane.numbered;
+      numbered_once = sane.numbered_once;
+      keys_differ = sane.keys_differ;
+      apart = sane.apart;
+      few_answers = sane.few_answers;
+      few_protests = sane.few_protests;
+      few_puzzles = few;
+    }
+
+-- ---- a Submit
+number_of_test : (m n : ℕ) (t : Bool) → (m == n) ≡ t → (m ≡ n) ⊎ (m ≢ n)
+number_of_test m n true h = inl ((unsigned_Decides m n).0 h)
+number_of_test m n false h = inr (λ e. let no : false ≡ true = sym h ∙ (unsigned_Decides m n).1 e in cc)
+
+nat_split : (m n : ℕ) → (m ≡ n) ⊎ (m ≢ n)
+nat_split m n = number_of_test m n (m == n) refl
+
+-- two keys of answers are one, or they are not
+answer_keys_apart : (a b : AnswerKey) → (a ≡ b) ⊎ (a ≢ b)
+answer_keys_apart a b = elim (text_split a.entrant b.entrant) [
+  | inr other ↦ inr (λ e. other (ap (λ k. k.entrant) e))
+  | inl entrant ↦ elim (text_split a.round b.round) [
+    | inr other ↦ inr (λ e. other (ap (λ k. k.round) e))
+    | inl round ↦ elim (nat_split a.number b.number) [
+      | inr other ↦ inr (λ e. other (ap (λ k. k.number) e))
+      | inl number ↦ elim (text_split a.token b.token) [
+        | inr other ↦ inr (λ e. other (ap (λ k. k.token) e))
+        | inl token ↦ inl (λ i. record { entrant = entrant i; round = round i; number = number i; token = token i })
+      ]
+    ]
+  ]
+]
+
+module _ (world : World) (row : AnswerRow) where
+  abbrev new_answers : FinMap answer_cmp AnswerRow
+  new_answers = insert world.answers row.key row
+
+  after_submit : (q : AnswerKey) (r : AnswerRow) → get new_answers q ≡ Some r → ((q ≡ row.key) × (r ≡ row)) ⊎ ((q ≢ row.key) × (get world.answers q ≡ Some r))
+  after_submit q r found = elim (answer_keys_apart q row.key) [
+    | inl same ↦ inl (same, let at : Some row ≡ Some r = sym (get-insert_same answer_total world.answers row.key row) ∙ ap (get new_answers) (sym same) ∙ found in let e : row ≡ r = cc in sym e)
+    | inr other ↦ inr (other, sym (get-insert_other answer_total same_answer_keys world.answers row.key row q other) ∙ found)
+  ]
+
+  -- how many answers of an entrant to a puzzle there are then
+  abbrev of_place : List ℕ → List ℕ → ℕ → AnswerRow → Bool
+  of_place entrant round number r = same_text r.key.entrant entrant && (same_text r.key.round round && (r.key.number == number))
+
+  module _ (sane : Sane world) (fresh : get world.answers row.key ≡ None) (entrant : get world.people row.key.entrant ≢ None) (released : IsReleasedRound world row.key.round)
+      (verdict : IsVerdictAt world row.key.round row.key.number row) (next : row.n ≡ answers_given world row.key.entrant row.key.round row.key.number + 1)
+      (room : answers_given world row.key.entrant row.key.round row.key.number < 50) where
+    counted_more : (e r : List ℕ) (n : ℕ) → count_by (of_place e r n) (values new_answers) ≡ answers_given world e r n + cond (of_place e r n row) 1 0
+    counted_more e r n = count_by-insert_new answer_total (of_place e r n) world.answers row.key row fresh
+
+    own_place : of_place row.key.entrant row.key.round row.key.number row ≡ true
+    own_place = and_all (same_text row.key.entrant row.key.entrant) (same_text row.key.round row.key.round) (row.key.number == row.key.number)
+        ((text_decides row.key.entrant row.key.entrant).1 refl) ((text_decides row.key.round row.key.round).1 refl) ((unsigned_Decides row.key.number row.key.number).1 refl)
+
+    same_place : (e r : List ℕ) (n : ℕ) → of_place e r n row ≡ true → (row.key.entrant ≡ e) × (row.key.round ≡ r) × (row.key.number ≡ n)
+    same_place e r n h =
+        let parts = all_parts (same_text row.key.entrant e) (same_text row.key.round r) (row.key.number == n) h in
+        ((text_decides row.key.entrant e).0 parts.0, (text_decides row.key.round r).0 parts.1, (unsigned_Decides row.key.number n).0 parts.2)
+
+    few_then : (e r : List ℕ) (n : ℕ) → count_by (of_place e r n) (values new_answers) ≤ 50
+    few_then e r n = elim (of_place e r n row) as (λ b. of_place e r n row ≡ b → count_by (of_place e r n) (values new_answers) ≡ answers_given world e r n + cond b 1 0 → count_by (of_place e r n) (values new_answers) ≤ 50) [
+      | true ↦ λ t more.
+          let at = same_place e r n t in
+          let bound : answers_given world e r n < 50 = subst (λ (m : ℕ). answers_given world e r m < 50) at.2 (subst (λ (x : List ℕ). answers_given world e x row.key.number < 50) at.1 (subst (λ (x : List ℕ). answers_given world x row.key.round row.key.number < 50) at.0 room)) in
+          omega (arith, more, bound)
+      | false ↦ λ t more. omega (arith, more, sane.few_answers e r n)
+    ] refl (counted_more e r n)
+
+    grown : (e r : List ℕ) (n : ℕ) → answers_given world e r n ≤ count_by (of_place e r n) (values new_answers)
+    grown e r n = omega (arith, counted_more e r n)
+
+    -- the new answer's number is no older one's
+    newest : (q : AnswerKey) (other : AnswerRow) → get world.answers q ≡ Some other → q.entrant ≡ row.key.entrant → q.round ≡ row.key.round → q.number ≡ row.key.number → other.n ≢ row.n
+    newest q other kept e r n same =
+        let old = (sane.numbered q other kept).1 in
+        let bound : other.n ≤ answers_given world row.key.entrant row.key.round row.key.number =
+        subst (λ (m : ℕ). other.n ≤ answers_given world row.key.entrant row.key.round m) n (subst (λ (x : List ℕ). other.n ≤ answers_given world row.key.entrant x q.number) r (subst (λ (x : List ℕ). other.n ≤ answers_given world x q.round q.number) e old)) in
+        omega (arith, bound, next, same)
+
+    submit_keyed : IsKeyed (record world { answers = new_answers })
+    submit_keyed = record {
+      people = sane.keyed.people;
+      puzzles = sane.keyed.puzzles;
+      rounds = sane.keyed.rounds;
+      answers = λ q r found. elim (after_submit q r found) [
+        | inl h ↦ ap (λ (x : AnswerRow). x.key) h.1 ∙ sym h.0
+        | inr h ↦ sane.keyed.answers q r h.1
+      ];
+      protests = sane.keyed.protests;
+      authors = sane.keyed.authors;
+      lists = λ id round found. let l = sane.keyed.lists id round found in (l.0, record { head = l.1.head; list = l.1.list }, l.2);
+      homes = sane.keyed.homes;
+      entries = sane.keyed.entries;
+      entrants = λ q r found. elim (after_submit q r found) [
+        | inl h ↦ λ none. entrant (ap (λ (k : AnswerKey). get world.people k.entrant) (sym h.0) ∙ none)
+        | inr h ↦ sane.keyed.entrants q r h.1
+      ];
+      answered = λ q r found. elim (after_submit q r found) [
+        | inl h ↦ subst (λ (k : AnswerKey). HasPlace world k.round k.number) (sym h.0) (verdict.0, verdict.2)
+        | inr h ↦ sane.keyed.answered q r h.1
+      ];
+      protesters = sane.keyed.protesters;
+      protested = sane.keyed.protested;
+    }
+
+    numbered_then : (q : AnswerKey) (r : AnswerRow) → get new_answers q ≡ Some r → (1 ≤ r.n) × (r.n ≤ count_by (of_place q.entrant q.round q.number) (values new_answers))
+    numbered_then q r found = elim (after_submit q r found) [
+      | inl h ↦ subst (λ (k : AnswerKey). (1 ≤ r.n) × (r.n ≤ count_by (of_place k.entrant k.round k.number) (values new_answers))) (sym h.0)
+          (subst (λ (x : AnswerRow). (1 ≤ x.n) × (x.n ≤ count_by (of_place row.key.entrant row.key.round row.key.number) (values new_answers))) (sym h.1)
+          (let total : count_by (of_place row.key.entrant row.key.round row.key.number) (values new_answers) ≡ answers_given world row.key.entrant row.key.round row.key.number + 1 =
+          counted_more row.key.entrant row.key.round row.key.number ∙ ap (λ (b : Bool). let w : ℕ = cond b 1 0 in answers_given world row.key.entrant row.key.round row.key.number + w) own_place in
+          (omega (arith, next), omega (arith, next, total))))
+      | inr h ↦ let old = sane.numbered q r h.1 in (old.0, omega (arith, old.1, grown q.entrant q.round q.number))
+    ]
+
+    once_then : (a b : AnswerKey) (x y : AnswerRow) → get new_answers a ≡ Some x → get new_answers b ≡ Some y → a.entrant ≡ b.entrant → a.round ≡ b.round → a.number ≡ b.number → x.n ≡ y.n → a ≡ b
+    once_then a b x y fa fb e r n same = elim (after_submit a x fa) [
+      | inl h ↦ elim (after_submit b y fb) [
+        | inl k ↦ h.0 ∙ sym k.0
+        | inr k ↦ absurd (newest b y k.1 (sym e ∙ ap (λ (q : AnswerKey). q.entrant) h.0) (sym r ∙ ap (λ (q : AnswerKey). q.round) h.0) (sym n ∙ ap (λ (q : AnswerKey). q.number) h.0) (sym same ∙ ap (λ (z : AnswerRow). z.n) h.1))
+      ]
+      | inr h ↦ elim (after_submit b y fb) [
+        | inl k ↦ absurd (newest a x h.1 (e ∙ ap (λ (q : AnswerKey). q.entrant) k.0) (r ∙ ap (λ (q : AnswerKey). q.round) k.0) (n ∙ ap (λ (q : AnswerKey). q.number) k.0) (same ∙ ap (λ (z : AnswerRow). z.n) k.1))
+        | inr k ↦ sane.numbered_once a b x y h.1 k.1 e r n same
+      ]
+    ]
+
+    -- an answer that is stored keeps the world sane
+    pub submit_sane : Sane (record world { answers = new_answers })
+    submit_sane = record {
+      keyed = submit_keyed;
+      states = sane.states;
+      answers_released = λ q r found. elim (after_submit q r found) [
+        | inl h ↦ subst (λ (k : AnswerKey). IsReleasedRound world k.round) (sym h.0) released
+        | inr h ↦ sane.answers_released q r h.1
+      ];
+      protests_released = sane.protests_released;
+      verdicts = λ q r found. elim (after_submit q r found) [
+        | inl h ↦ subst (λ (k : AnswerKey). IsVerdictAt world k.round k.number r) (sym h.0) (subst (λ (x : AnswerRow). IsVerdictAt world row.key.round row.key.number x) (sym h.1) verdict)
+        | inr h ↦ sane.verdicts q r h.1
+      ];
+      certified = sane.certified;
+      in_one_round = sane.in_one_round;
+      published = sane.published;
+      ruled = sane.ruled;
+      numbered = numbered_then;
+      numbered_once = once_then;
+      keys_differ = sane.keys_differ;
+      apart = sane.apart;
+      few_answers = few_then;
+      few_protests = sane.few_protests;
+      few_puzzles = sane.few_puzzles;
+    }

@@ -1,0 +1,133 @@
+-- Each step, and so each run, keeps a sane world.
+use Rattle.std.proofs.Common.{◌≡◌, ◌≢◌, ◌&&◌, ◌<◌, ◌≤◌, ◌⊎◌, inl, inr, ℕ, Bool, true, false, List, [], ◌∷◌, Option, Some, None, Contains, IsTrue, refl, sym, ap, ◌∙◌, subst, arith, lit<, Result, Ok, Err, IfOk, OnErr, Vec, Global}
+use Rattle.std.specs.Bool.{⊤}
+use Rattle.std.specs.List.{find}
+use Rattle.std.proofs.lemmas.Bool.{cases_order}
+use Rattle.std.proofs.lemmas.Option.{slice_get_within, get_or_from_slice_get}
+use Rattle.std.specs.FinMap.{get, values}
+use Rattle.hall_policy.specs.World.{World, same_text}
+use Rattle.hall_policy.specs.Rules.{TheCaller, StandsReleased, answers_given, puzzles_put, SameContent, TokenStands}
+use Rattle.hall_policy.specs.Actions.{rules_asked}
+use Rattle.hall_policy.specs.First.{NoneBelow}
+use Rattle.hall_policy.specs.declared.rule.Rule.TheVariants as rule
+use Rattle.hall_policy.specs.declared.rule.Decision.{Decision}
+use Rattle.hall_policy.specs.declared.rule.Decision.TheVariants.{Allow, Repeat, Deny}
+use Rattle.hall_policy.specs.declared.record.Person.{Person}
+use Rattle.hall_policy.specs.declared.record.PuzzleKey.{PuzzleKey}
+use Rattle.hall_policy.specs.declared.record.PuzzleRow.{PuzzleRow}
+use Rattle.hall_policy.specs.declared.record.PuzzleState.{PuzzleState}
+use Rattle.hall_policy.specs.declared.record.Round.{Round}
+use Rattle.hall_policy.specs.declared.record.AnswerRow.{AnswerRow}
+use Rattle.hall_policy.specs.declared.request.Action.{Action}
+use Rattle.hall_policy.specs.declared.request.Action.TheVariants as action
+use Rattle.hall_policy.specs.declared.request.Request.{Request}
+use Rattle.hall_grid.specs.Board.{Board}
+use Rattle.hall_policy.proofs.Maps.{get_of_value}
+use Rattle.hall_policy.proofs.Orders.{text_total}
+use Rattle.hall_desk.specs.Caller.{caller_of, with_key}
+use Rattle.hall_desk.specs.Found.{IsReleasedRound}
+use Rattle.hall_desk.specs.Step.{Step, Allowed, Decided, answer_row}
+use Rattle.hall_desk.specs.Run.{Run}
+use Rattle.hall_desk.specs.Plans.{Steps, Runs}
+use Rattle.hall_desk.specs.Sane.{Sane}
+use Rattle.hall_desk.specs.declared.reply.Reply.{Reply}
+use Rattle.hall_desk.proofs.Answering.{find-Contains}
+use Rattle.hall_desk.proofs.Saneness.{put_sane, submit_sane}
+
+-- the caller is there, under the own name
+caller_there : (world : World) → Sane world → (key : Option (List ℕ)) (person : Person) → caller_of world key ≡ Some person → get world.people person.name ≡ Some person
+caller_there world sane None person e = let no : None ≡ Some person = e in absurd (cc)
+caller_there world sane (Some key) person e =
+    let at = find-Contains (λ p. same_text p.key key) (values world.people) person e in
+    let under = get_of_value text_total world.people person (at.0, slice_get_within (values world.people) at.0 person at.1, get_or_from_slice_get (values world.people) at.0 person person at.1) in
+    let own : person.name ≡ under.0 = sane.keyed.people under.0 person under.1 in
+    subst (λ (name : List ℕ). get world.people name ≡ Some person) (sym own) under.1
+
+below : (m n : ℕ) → ¬ (n ≤ m) → m < n
+below m n never = elim (cases_order m n) [
+  | inl same ↦ absurd (never (omega arith))
+  | inr (inl lt) ↦ lt
+  | inr (inr gt) ↦ absurd (never (omega arith))
+]
+
+and_false : (b : Bool) → (b && false) ≡ false
+and_false true = refl
+and_false false = refl
+
+put_step : (world : World) (caller : Option Person) (key : PuzzleKey) (puzzle : Board) (t : ℕ) (found : PuzzleState) (given : Reply) (new : World) → Sane world →
+    NoneBelow 21 world caller (action.PutPuzzle key puzzle) t → Allowed world caller (action.PutPuzzle key puzzle) t found given new → Sane new
+put_step world caller key puzzle t found given new sane none (text, canonical, inl h) = subst Sane (sym h.4) sane
+put_step world caller key puzzle t found given new sane none (text, canonical, inr h) =
+    subst Sane (sym h.2)
+    (put_sane world key puzzle sane
+    (λ gone. (none rule.Missing (lit< tt)).0 ((3, lit< tt, refl), λ person there. absurd (let no : None ≡ Some person = sym gone ∙ there in cc)))
+    (λ id stands. (none rule.InReleasedRound (lit< tt)).0 ((4, lit< tt, refl), (id, stands)))
+    (λ fresh. below (puzzles_put world key.author) 500 (λ many. (none rule.LimitReached (lit< tt)).0 ((5, lit< tt, refl), (fresh, many)))))
+
+submit_step : (world : World) (caller : Option Person) (id : List ℕ) (number : ℕ) (token answer : List ℕ) (t : ℕ) (found : PuzzleState) (given : Reply) (new : World) → Sane world →
+    ((person : Person) → caller ≡ Some person → get world.people person.name ≡ Some person) →
+    NoneBelow 21 world caller (action.Submit id number token answer) t → Allowed world caller (action.Submit id number token answer) t found given new → Sane new
+submit_step world caller id number token answer t found given new sane there none (person, is, (round, entry, puzzle, verdict, kept, place, grid, judged, (reply, made))) =
+    let row : AnswerRow = answer_row world person id number token answer t verdict in
+    let fresh : get world.answers row.key ≡ None = elim (get world.answers row.key) as (λ (o : Option AnswerRow). get world.answers row.key ≡ o → o ≡ None) [
+      | None ↦ λ e. refl
+      | Some r ↦ λ e. absurd ((none rule.TokenTaken (lit< tt)).0 ((4, lit< tt, refl), ((person, is, (r, e)), (λ same. (none rule.TokenTaken (lit< tt)).1 ((4, lit< tt, refl), same)))))
+    ] refl in
+    let released : IsReleasedRound world id = elim round.released as (λ b. round.released ≡ b → IsReleasedRound world id) [
+      | true ↦ λ e. (round, kept, e)
+      | false ↦ λ e. absurd ((none rule.Missing (lit< tt)).0 ((2, lit< tt, refl), inl (λ r other. let same : round ≡ r = let at : Some round ≡ Some r = sym kept ∙ other in cc in (subst (λ (x : Round). x.released ≡ false) same e, and_false _))))
+    ] refl in
+    subst Sane (sym made)
+    (submit_sane world row sane fresh
+    (λ gone. let no_one : Some person ≡ None = sym (there person is) ∙ gone in cc)
+    released (entry, puzzle, place, grid, judged) refl
+    (below (answers_given world person.name id number) 50 (λ many. (none rule.LimitReached (lit< tt)).0 ((8, lit< tt, refl), (person, is, many)))))
+
+allowed_sane : (world : World) (caller : Option Person) (asked : Action) (t : ℕ) (found : PuzzleState) (given : Reply) (new : World) → Sane world →
+    ((person : Person) → caller ≡ Some person → get world.people person.name ≡ Some person) →
+    NoneBelow 21 world caller asked t → Allowed world caller asked t found given new → Sane new
+allowed_sane world caller (action.PutPuzzle key puzzle) t found given new sane there none h = put_step world caller key puzzle t found given new sane none h
+allowed_sane world caller (action.Submit id number token answer) t found given new sane there none h = submit_step world caller id number token answer t found given new sane there none h
+allowed_sane world caller (action.ReadRound id) t found given new sane there none h = subst Sane (sym h.5) sane
+allowed_sane world caller (action.Answers id) t found given new sane there none h = subst Sane (sym h.2.1) sane
+allowed_sane world caller (action.Import people) t found given new sane there none h = absurd h
+allowed_sane world caller (action.ReadPuzzle key) t found given new sane there none h = absurd h
+allowed_sane world caller action.ListPuzzles t found given new sane there none h = absurd h
+allowed_sane world caller (action.Certify key budget) t found given new sane there none h = absurd h
+allowed_sane world caller (action.PutRound id sheet) t found given new sane there none h = absurd h
+allowed_sane world caller (action.Release id) t found given new sane there none h = absurd h
+allowed_sane world caller action.ListRounds t found given new sane there none h = absurd h
+allowed_sane world caller (action.Solutions id) t found given new sane there none h = absurd h
+allowed_sane world caller (action.Protest id token number text) t found given new sane there none h = absurd h
+allowed_sane world caller (action.Protests id) t found given new sane there none h = absurd h
+allowed_sane world caller (action.Rule id entrant token ruling) t found given new sane there none h = absurd h
+allowed_sane world caller (action.Publish id) t found given new sane there none h = absurd h
+allowed_sane world caller (action.Table id) t found given new sane there none h = absurd h
+
+-- a step keeps a sane world
+pub step_sane : (world : World) (t : ℕ) (request : Request) (given : Reply) (new : World) → Step world t request given new → Sane world → Sane new
+step_sane world t request given new (inl h) sane = subst Sane (sym h.1) sane
+step_sane world t request given new (inr (found, (Deny k, first, decided))) sane = subst Sane (sym decided.1) sane
+step_sane world t request given new (inr (found, (Repeat, first, decided))) sane = subst Sane (sym decided.1) sane
+step_sane world t request given new (inr (found, (Allow, first, decided))) sane =
+    allowed_sane world (caller_of world request.key) request.action t found given new sane (caller_there world sane request.key) first decided
+
+-- a run keeps a sane world
+pub run_sane : (world : World) (requests : List (ℕ × Request)) (replies : List Reply) (last : World) → Run world requests replies last → Sane world → Sane last
+run_sane world [] [] last run sane = subst Sane (sym run) sane
+run_sane world [] (r ∷ replies) last run sane = absurd run
+run_sane world (q ∷ requests) [] last run sane = absurd run
+run_sane world (q ∷ requests) (r ∷ replies) last run sane = run_sane run.0 requests replies last run.2 (step_sane world q.0 q.1 r run.0 run.1 sane)
+
+-- a step over a store that is honest and serves
+pub steps_sane : {X : Type 0} (world : X → World) (old new : X) (t : ℕ) (request : Request) (given : Reply) → Steps (λ (x : X). ⊤) world old t request given new → Sane (world old) → Sane (world new)
+steps_sane world old new t request given (inl (none, left)) sane = subst Sane (sym (left tt)) sane
+steps_sane world old new t request given (inr (before, after, step)) sane = step_sane (world old) t request given (world new) step sane
+
+-- a run over a store that is honest and serves
+pub runs_sane : {X E : Type 0} (world : X → World) (old new : X) (requests : List (ℕ × Request)) (r : Result (Vec Reply Global) E) →
+    IfOk r (λ replies. ⊤ → Runs (λ (x : X). ⊤) world old requests replies.items new) → OnErr r (new ≡ old) → Sane (world old) → Sane (world new)
+runs_sane world old new requests (Ok replies) ok err sane =
+    let run = ok tt in
+    subst Sane (sym (run.2 tt)) (run_sane (world old) requests replies.items run.0 run.1 sane)
+runs_sane world old new requests (Err e) ok err sane = subst (λ x. Sane (world x)) (sym err) sane

@@ -1,0 +1,6 @@
+use Rattle.hall_desk.specs.Maps.{world_of}
+use Rattle.hall_desk.proofs.StepsSane.{runs_sane}
+use Rattle.hall_desk.proofs.desk.Desk.run.Goals as goal
+
+pub returns-clause-sane : goal.returns-clause-sane
+returns-clause-sane c = runs_sane world_of c.args.self.now.store c.run.new.store c.args.requests.now c.run.result c.run.ensures.runs c.run.ensures.refused
