@@ -78,7 +78,11 @@ fn small_boards(rt: HostRuntime) -> Result<(), Fail> {
 fn larger_board(rt: HostRuntime) -> Result<(), Fail> {
     let alloc = rt.alloc();
     let puzzle = b"nurikabe/10/10/k1j1g1j2g2i5n2j1t2j1g4j4l2k4t2g1j1";
-    let solution = b"one #####.####.#.#.#..#.###..####.#..#..#.###########.#..#..#.#.####.####.#..#.#..#.######..###..#.####.";
-    assert_eq!(rt; answer(alloc, puzzle, 200000)?.as_slice(), solution.as_slice());
+    let solution =
+        b"one #####.####.#.#.#..#.###..####.#..#..#.###########.#..#..#.#.####.####.#..#.#..#.######..###..#.####.";
+    assert_eq!(rt;
+        answer(alloc, puzzle, 200000)?.as_slice(),
+        solution.as_slice()
+    );
     Ok(())
 }
