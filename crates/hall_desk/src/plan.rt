@@ -16,7 +16,7 @@ use crate::reply::{AnswerLine, Reply, ShownPuzzle, ShownRound, StateName};
 use crate::rows::Rows;
 use crate::store::{Change, Store, StoreFault};
 use crate::verdict::judge;
-use hall_grid::{Broken, Kind, Puzzle, write_puzzle};
+use hall_grid::{Broken, Puzzle, write_puzzle};
 use hall_policy::{
     Action, AnswerKey, AnswerNumber, AnswerRow, AnswerText, Decision, Entry, Facts, Mode, Moment,
     Name, Person, PuzzleNumber, PuzzleRow, PuzzleState, PuzzleText, Request, Round, RoundId,
@@ -386,9 +386,6 @@ fn judge_at<S: Store>(
 fn judge_row(alloc: Global, row: &PuzzleRow, answer: &AnswerText) -> Result<Broken, StoreFault>
     ensures { IfOk result (Verdict row.now.puzzle answer.now) }
 {
-    if row.puzzle.kind() != Kind::Sudoku {
-        return Err(StoreFault::Failed);
-    }
     Ok(judge(alloc, &row.puzzle, answer.as_str().as_bytes())?)
 }
 

@@ -189,63 +189,19 @@ fn answers_are_listed(rt: HostRuntime) -> Result<(), Fail> {
 fn puzzles_are_put(rt: HostRuntime) -> Result<(), Fail> {
     let alloc = rt.alloc();
     let mut desk = open(alloc)?;
-    let desk = &mut desk;
-    let grid = b"sudoku/4/4/123434122143432g";
-    assert_eq!(rt;
-        ask(
-            alloc,
-            desk,
-            "ada-key-1",
-            START,
-            put(alloc, "bob", "zz", grid)
-        )?
-        .as_str(),
-        "denied 3"
-    );
-    assert_eq!(rt;
-        ask(
-            alloc,
-            desk,
-            "bob-key-1",
-            START,
-            put(alloc, "bob", "p1", grid)
-        )?
-        .as_str(),
-        "denied 11"
-    );
-    assert_eq!(rt;
-        ask(
-            alloc,
-            desk,
-            "dora-key",
-            START,
-            put(alloc, "rex", "p1", grid)
-        )?
-        .as_str(),
-        "denied 4"
-    );
-    assert_eq!(rt;
-        ask(
-            alloc,
-            desk,
-            "bob-key-1",
-            START,
-            put(alloc, "bob", "p2", b"sudoku/9/9/")
-        )?
-        .as_str(),
-        "put sudoku/9/9/zzzzg"
-    );
-    assert_eq!(rt;
-        ask(
-            alloc,
-            desk,
-            "bob-key-1",
-            START,
-            put(alloc, "bob", "p2", b"sudoku/9/9/zz")
-        )?
-        .as_str(),
-        "put sudoku/9/9/zzzzg"
-    );
+    let grid = b"sudoku/4/4/123434122143432g".as_slice();
+    let short = b"sudoku/9/9/".as_slice();
+    let long = b"sudoku/9/9/zz".as_slice();
+    for (key, author, label, puzzle, reply) in [
+        ("ada-key-1", "bob", "zz", grid, "denied 3"),
+        ("bob-key-1", "bob", "p1", grid, "denied 11"),
+        ("dora-key", "rex", "p1", grid, "denied 4"),
+        ("bob-key-1", "bob", "p2", short, "put sudoku/9/9/zzzzg"),
+        ("bob-key-1", "bob", "p2", long, "put sudoku/9/9/zzzzg"),
+    ] {
+        let action = put(alloc, author, label, puzzle);
+        assert_eq!(rt; ask(alloc, &mut desk, key, START, action)?.as_str(), reply);
+    }
     Ok(())
 }
 

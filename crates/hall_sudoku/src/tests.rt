@@ -59,65 +59,42 @@ fn solved(alloc: Global, text: &[u8], budget: u64) -> Result<(Vec<u8>, u64), Fai
     Ok((line, rules.visits()))
 }
 
+const NINE: &[u8] = b"sudoku/9/9/53h7j6h195j98j6g8i6i34h8g3h17i2i6g6j28j419h5j8h79";
+
+const NINE_SOLVED: &[u8] =
+    b"one 534678912672195348198342567859761423426853791713924856961537284287419635345286179";
+
+const SIX: &[u8] = b"sudoku/6/6/12i64g6h3g3g5h56h34g4561g61g3h";
+
+const SIX_SOLVED: &[u8] = b"one 123456456123234561561234345612612345";
+
+const SIXTEEN: &[u8] =
+    b"sudoku/16/16/h3456g89agcdgf-10j9agcdef-10h3g9gbcdeg-1012g45g78dh-10123g5678gagc23456789abcdl89abifg123ibcdeg-10123g5g789efg12345678gabgd34h789abcdef-101g789hcdgf-10g23456bcdef-10g23456789gf-101g3456789abcdeg56789abcdef-101h89aieg-1012g4567cdgf-1012g4g6g89abh2345g789abif";
+
+const SIXTEEN_SOLVED: &[u8] =
+    b"one 123456789abcdefg56789abcdefg12349abcdefg12345678defg123456789abc23456789abcdefg16789abcdefg12345abcdefg123456789efg123456789abcd3456789abcdefg12789abcdefg123456bcdefg123456789afg123456789abcde456789abcdefg12389abcdefg1234567cdefg123456789abg123456789abcdef";
+
+const TWO: &[u8] = b"sudoku/4/4/g2g4g4g221434321";
+
+const TWO_SOLVED: &[u8] = b"more 1234341221434321 3214143221434321";
+
 #[test]
 fn puzzles_are_solved(rt: HostRuntime) -> Result<(), Fail> {
-    let nine = b"sudoku/9/9/53h7j6h195j98j6g8i6i34h8g3h17i2i6g6j28j419h5j8h79".as_slice();
-    let six = b"sudoku/6/6/12i64g6h3g3g5h56h34g4561g61g3h".as_slice();
-    let sixteen =
-        b"sudoku/16/16/h3456g89agcdgf-10j9agcdef-10h3g9gbcdeg-1012g45g78dh-10123g5678gagc23456789abcdl89abifg123ibcdeg-10123g5g789efg12345678gabgd34h789abcdef-101g789hcdgf-10g23456bcdef-10g23456789gf-101g3456789abcdeg56789abcdef-101h89aieg-1012g4567cdgf-1012g4g6g89abh2345g789abif".as_slice();
-    let rows = [
-        (
-            nine,
-            200_000,
-            b"one 534678912672195348198342567859761423426853791713924856961537284287419635345286179".as_slice(),
-            1,
-        ),
-        (nine, 0, b"gave up".as_slice(), 0),
-        (
-            b"sudoku/4/4/g2g4g4g221434321".as_slice(),
-            200_000,
-            b"more 1234341221434321 3214143221434321".as_slice(),
-            4,
-        ),
-        (
-            b"sudoku/4/4/g2g4g4g221434321".as_slice(),
-            2,
-            b"gave up".as_slice(),
-            2,
-        ),
-        (
-            b"sudoku/4/4/123434122143432g".as_slice(),
-            1,
-            b"one 1234341221434321".as_slice(),
-            1,
-        ),
-        (
-            b"sudoku/4/4/123434122143433g".as_slice(),
-            1,
-            b"none".as_slice(),
-            1,
-        ),
-        (
-            b"sudoku/4/4/123j4".as_slice(),
-            200_000,
-            b"none".as_slice(),
-            1,
-        ),
-        (b"sudoku/4/4/v".as_slice(), 1, b"gave up".as_slice(), 1),
-        (
-            six,
-            200_000,
-            b"one 123456456123234561561234345612612345".as_slice(),
-            1,
-        ),
-        (
-            sixteen,
-            200_000,
-            b"one 123456789abcdefg56789abcdefg12349abcdefg12345678defg123456789abc23456789abcdefg16789abcdefg12345abcdefg123456789efg123456789abcd3456789abcdefg12789abcdefg123456bcdefg123456789afg123456789abcde456789abcdefg12389abcdefg1234567cdefg123456789abg123456789abcdef".as_slice(),
-            1,
-        ),
-    ];
-    for (text, budget, line, visits) in rows {
+    let one = b"one 1234341221434321".as_slice();
+    let none = b"none".as_slice();
+    let gave_up = b"gave up".as_slice();
+    for (text, budget, line, visits) in [
+        (NINE, 200_000, NINE_SOLVED, 1),
+        (NINE, 0, gave_up, 0),
+        (TWO, 200_000, TWO_SOLVED, 4),
+        (TWO, 2, gave_up, 2),
+        (b"sudoku/4/4/123434122143432g".as_slice(), 1, one, 1),
+        (b"sudoku/4/4/123434122143433g".as_slice(), 1, none, 1),
+        (b"sudoku/4/4/123j4".as_slice(), 200_000, none, 1),
+        (b"sudoku/4/4/v".as_slice(), 1, gave_up, 1),
+        (SIX, 200_000, SIX_SOLVED, 1),
+        (SIXTEEN, 200_000, SIXTEEN_SOLVED, 1),
+    ] {
         let (got, made) = solved(rt.alloc(), text, budget)?;
         assert_eq!(rt; got.as_slice(), line);
         assert_eq!(rt; made, visits);
