@@ -64,6 +64,10 @@ pub enum Reply {
         state: StateName,
         text: PuzzleText,
     },
+    /// The puzzle's state, after it was certified.
+    Certified(StateName),
+    /// The id of the round that was released.
+    Released(RoundId),
     /// The round that was read.
     RoundRead(ShownRound),
     /// An accepted answer's number and, in an instant round, its verdict.

@@ -1,4 +1,4 @@
-use crate::{Desk, Reply};
+use crate::{Desk, Reply, StateName};
 use hall_grid::parse_puzzle;
 use hall_policy::{Action, Checked, Key, Moment, PuzzleKey, PuzzleNumber, Request, TextKind};
 use std::alloc::Global;
@@ -16,12 +16,25 @@ fn text<K: TextKind>(alloc: Global, text: &str) -> Result<Checked<K>, Fail> {
     Ok(Checked::new(String::from_str(alloc, text)?).ok_or("text")?)
 }
 
+/// The state in a word.
+fn state_word(state: StateName) -> &'static str {
+    match state {
+        StateName::New => "new",
+        StateName::One => "one",
+        StateName::NoSolution => "none",
+        StateName::More => "more",
+        StateName::GaveUp => "gave up",
+    }
+}
+
 /// The reply in short.
 fn shown(alloc: Global, reply: &Reply) -> Result<String, Fail> {
     Ok(match reply {
         Reply::Denied(rule) => format!(in alloc; "denied {rule}")?,
         Reply::Unavailable => String::from_str(alloc, "unavailable")?,
         Reply::PuzzlePut { text, .. } => format!(in alloc; "put {}", text.as_str())?,
+        Reply::Certified(state) => format!(in alloc; "certified {}", state_word(*state))?,
+        Reply::Released(round) => format!(in alloc; "released {}", round.as_str())?,
         Reply::RoundRead(round) => {
             let count = round.puzzles.as_slice().len();
             format!(in alloc; "{} {count}", round.title.as_str())?
