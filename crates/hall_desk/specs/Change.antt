@@ -1,24 +1,54 @@
 -- What one call of the store makes of the world, and what it asks of its caller.
-use Rattle.std.specs.Prelude.{◌≡◌, ◌+◌, ℕ, Option, Some, None}
+use Rattle.std.specs.Prelude.{◌≡◌, ◌+◌, ℕ, true, List, Option, Some, None}
 use Rattle.std.specs.FinMap.{FinMap, get, insert}
 use Rattle.hall_policy.specs.World.{World}
 use Rattle.hall_policy.specs.Rules.{answers_given}
 use Rattle.hall_policy.specs.declared.record.Person.{Person}
 use Rattle.hall_policy.specs.declared.record.Entry.{Entry}
 use Rattle.hall_policy.specs.declared.record.AnswerRow.{AnswerRow}
+use Rattle.hall_policy.specs.declared.record.PuzzleKey.{PuzzleKey}
 use Rattle.hall_policy.specs.declared.record.PuzzleRow.{PuzzleRow}
+use Rattle.hall_policy.specs.declared.record.PuzzleState.{PuzzleState}
+use Rattle.hall_policy.specs.declared.record.Round.{Round}
 use Rattle.hall_desk.specs.declared.store.Change.{Change}
-use Rattle.hall_desk.specs.declared.store.Change.TheVariants.{Nothing, PutPuzzle, AddAnswer}
+use Rattle.hall_desk.specs.declared.store.Change.TheVariants.{Nothing, PutPuzzle, SetState, SetRoundFlag, AddAnswer}
+use Rattle.hall_desk.specs.declared.store.RoundFlag.{RoundFlag}
+use Rattle.hall_desk.specs.declared.store.RoundFlag.TheVariants.{Released, Published}
+
+-- the puzzles, that of the key in this state
+abbrev pub with_state : World → PuzzleKey → PuzzleState → Option PuzzleRow → World
+with_state world key state None = world
+with_state world key state (Some row) = record world { puzzles = insert world.puzzles key (record row { state = state }) }
+
+-- the round with the flag set
+abbrev pub flagged : RoundFlag → Round → Round
+flagged Released round = record round { released = true }
+flagged Published round = record round { published = true }
+
+-- the rounds, that of the id with the flag set
+abbrev pub with_flag : World → List ℕ → RoundFlag → Option Round → World
+with_flag world id flag None = world
+with_flag world id flag (Some round) = record world { rounds = insert world.rounds id (flagged flag round) }
 
 -- the world after a change
 abbrev pub changed : Change → World → World
 changed Nothing world = world
 changed (PutPuzzle row) world = record world { puzzles = insert world.puzzles row.key row }
+changed (SetState key state) world = with_state world key state (get world.puzzles key)
+changed (SetRoundFlag id flag) world = with_flag world id flag (get world.rounds id)
 changed (AddAnswer row) world = record world { answers = insert world.answers row.key row }
 
 -- the author is there
 abbrev pub CanPutPuzzle : World → PuzzleRow → Type 0
 CanPutPuzzle world row = (person : Person) × (get world.people row.key.author ≡ Some person)
+
+-- the puzzle is there
+abbrev pub CanSetState : World → PuzzleKey → Type 0
+CanSetState world key = (row : PuzzleRow) × (get world.puzzles key ≡ Some row)
+
+-- the round is there
+abbrev pub CanSetFlag : World → List ℕ → Type 0
+CanSetFlag world id = (round : Round) × (get world.rounds id ≡ Some round)
 
 -- the key is new, what the row refers to is there, and its number is the next
 pub record CanAddAnswer (world : World) (row : AnswerRow) : Type 0 where
@@ -31,4 +61,6 @@ pub record CanAddAnswer (world : World) (row : AnswerRow) : Type 0 where
 abbrev pub CanMake : Change → World → Type 0
 CanMake Nothing world = Unit {0}
 CanMake (PutPuzzle row) world = CanPutPuzzle world row
+CanMake (SetState key state) world = CanSetState world key
+CanMake (SetRoundFlag id flag) world = CanSetFlag world id
 CanMake (AddAnswer row) world = CanAddAnswer world row

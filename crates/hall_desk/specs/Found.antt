@@ -1,15 +1,18 @@
 -- What is found for a request, and of which worlds it is true.
-use Rattle.std.specs.Prelude.{◌≡◌, ◌↔◌, ◌==◌, ◌&&◌, ℕ, List, Option, Some, None, IsTrue, IfSome, find, count_by}
+use Rattle.std.specs.Prelude.{◌≡◌, ◌≢◌, ◌↔◌, ◌==◌, ◌&&◌, ℕ, List, Option, Some, None, IsTrue, IfSome, find, count_by}
 use Rattle.std.specs.FinMap.{FinMap, get}
 use Rattle.hall_policy.specs.World.{World, same_text}
 use Rattle.hall_policy.specs.Facts.{IsRoundFound, AllTrue}
-use Rattle.hall_policy.specs.Rules.{answers_given, puzzles_put, StandsReleased}
+use Rattle.hall_policy.specs.Rules.{answers_given, puzzles_put, Lists, StandsReleased, IsCertified}
 use Rattle.hall_policy.specs.declared.record.Person.{Person}
 use Rattle.hall_policy.specs.declared.record.PuzzleKey.{PuzzleKey}
+use Rattle.hall_policy.specs.declared.record.Entry.{Entry}
 use Rattle.hall_policy.specs.declared.record.Round.{Round}
 use Rattle.hall_policy.specs.declared.record.AnswerRow.{AnswerRow}
 use Rattle.hall_policy.specs.declared.request.Request.{Request}
 use Rattle.hall_policy.specs.declared.facts.Facts.{Facts}
+use Rattle.hall_desk.specs.declared.entry_fault.EntryFault.{EntryFault}
+use Rattle.hall_desk.specs.declared.entry_fault.EntryFault.TheVariants.{Shared, Uncertified}
 use Rattle.hall_desk.specs.Caller.{caller_of}
 
 -- the caller found is the person with the key, who is there
@@ -52,3 +55,23 @@ pub record ArePutFacts (world : World) (caller_key : Option (List ℕ)) (key : P
 -- the round is there and released
 abbrev pub IsReleasedRound : World → List ℕ → Type 0
 IsReleasedRound world id = (round : Round) × (get world.rounds id ≡ Some round) × IsTrue round.released
+
+-- the facts on a puzzle that is certified
+pub record AreCertifyFacts (world : World) (caller_key : Option (List ℕ)) (key : PuzzleKey) (facts : Facts) : Type 0 where
+  pub caller : IsCaller world caller_key facts.caller
+  pub puzzle : facts.puzzle ≡ get world.puzzles key
+
+-- what keeps the round of the id from its release at one entry: its puzzle stands in another released round, or isn't in state one
+abbrev pub HasFault : EntryFault → World → List ℕ → Entry → Type 0
+HasFault Shared world id entry = (other : List ℕ) × (other ≢ id) × StandsReleased world entry.puzzle other
+HasFault Uncertified world id entry = ¬ (IsCertified world entry.puzzle)
+
+-- an entry of the round has the fault
+abbrev pub HasFaultyEntry : EntryFault → World → List ℕ → Type 0
+HasFaultyEntry fault world id = (entry : Entry) × Lists world id entry × HasFault fault world id entry
+
+-- the facts on a round that is released
+pub record AreReleaseFacts (world : World) (caller_key : Option (List ℕ)) (id : List ℕ) (facts : Facts) : Type 0 where
+  pub round : AreRoundFacts world caller_key id facts
+  pub shared : IsTrue facts.in_released ↔ HasFaultyEntry Shared world id
+  pub uncertified : IsTrue facts.uncertified ↔ HasFaultyEntry Uncertified world id

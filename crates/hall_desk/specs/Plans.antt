@@ -34,6 +34,12 @@ pub record IsAllowedPlan (world : World) (caller : Option Person) (action : Acti
   pub allowed : (found : PuzzleState) → Allowed world caller action t found plan.reply (changed plan.change world)
   pub can : CanMake plan.change world
 
+-- the plan's reply and change are those of the allowed action, with what its search found, and the change may be made
+pub record IsMadePlan (world : World) (caller : Option Person) (action : Action) (t : ℕ) (plan : Plan) : Type 0 where
+  pub found : PuzzleState
+  pub allowed : Allowed world caller action t found plan.reply (changed plan.change world)
+  pub can : CanMake plan.change world
+
 -- the request was refused and the world left, or the store served before and after, and made a step of the hall
 abbrev pub Steps : {X : Type 0} → (X → Type 0) → (X → World) → X → ℕ → Request → Reply → X → Type 0
 Steps serves world old t request given new =

@@ -1,9 +1,11 @@
 -- A step of the hall: one request, answered.
-use Rattle.std.specs.Prelude.{◌≡◌, ◌≢◌, ◌+◌, ◌⊎◌, ℕ, List, Option, Some, None, map}
+use Rattle.std.specs.Prelude.{◌≡◌, ◌≢◌, ◌+◌, ◌⊎◌, ℕ, Bool, true, false, List, Option, Some, None, map}
 use Rattle.std.specs.FinMap.{FinMap, get, insert, values}
 use Rattle.hall_grid.specs.Board.{Board}
-use Rattle.hall_grid.specs.Answer.{Verdict}
+use Rattle.hall_grid.specs.Answer.{AnswerText, Verdict}
 use Rattle.hall_grid.specs.Canonical.{CanonicalText}
+use Rattle.hall_solve.specs.Puzzle.{OutcomeOfPuzzle}
+use Rattle.hall_solve.specs.declared.outcome.Outcome.TheVariants as outcome
 use Rattle.hall_policy.specs.World.{World, IsRoundAt}
 use Rattle.hall_policy.specs.Rules.{TheCaller, answers_given}
 use Rattle.hall_policy.specs.First.{First}
@@ -17,7 +19,7 @@ use Rattle.hall_policy.specs.declared.record.Entry.{Entry}
 use Rattle.hall_policy.specs.declared.record.RoundRow.{RoundRow}
 use Rattle.hall_policy.specs.declared.record.AnswerRow.{AnswerRow}
 use Rattle.hall_policy.specs.declared.request.Action.{Action}
-use Rattle.hall_policy.specs.declared.request.Action.TheVariants.{PutPuzzle, ReadRound, Submit, Answers}
+use Rattle.hall_policy.specs.declared.request.Action.TheVariants.{PutPuzzle, Certify, Release, ReadRound, Submit, Answers}
 use Rattle.hall_policy.specs.declared.request.Request.{Request}
 use Rattle.hall_policy.specs.declared.rule.Decision.{Decision}
 use Rattle.hall_policy.specs.declared.rule.Decision.TheVariants.{Allow, Repeat, Deny}
@@ -42,6 +44,46 @@ abbrev pub IsPut : World → PuzzleKey → Board → List ℕ → Reply → Worl
 IsPut world key puzzle text given new =
     ((row : PuzzleRow) → get world.puzzles key ≡ Some row → row.puzzle ≢ puzzle)
     × (given ≡ reply.PuzzlePut (state_name state.New) text) × (new ≡ record world { puzzles = insert world.puzzles key (new_row key puzzle) })
+
+-- whether the puzzle was never searched, or the search came to no end
+abbrev pub is_open : PuzzleState → Bool
+is_open state.New = true
+is_open (state.One solution) = false
+is_open state.NoSolution = false
+is_open state.More = false
+is_open state.GaveUp = true
+
+-- what a search of the puzzle within the budget may find, as a state
+abbrev pub IsFound : Board → ℕ → PuzzleState → Type 0
+IsFound puzzle budget state.New = ⊥
+IsFound puzzle budget (state.One text) = (solution : List ℕ) × OutcomeOfPuzzle puzzle budget (outcome.One solution) × AnswerText puzzle text solution
+IsFound puzzle budget state.NoSolution = OutcomeOfPuzzle puzzle budget outcome.None
+IsFound puzzle budget state.More = (a b : List ℕ) × OutcomeOfPuzzle puzzle budget (outcome.More a b)
+IsFound puzzle budget state.GaveUp = OutcomeOfPuzzle puzzle budget outcome.GaveUp
+
+-- the puzzle is searched, and what is found becomes its state
+pub record IsSearched (world : World) (key : PuzzleKey) (row : PuzzleRow) (budget : ℕ) (found : PuzzleState) (given : Reply) (new : World) : Type 0 where
+  pub open : is_open row.state ≡ true
+  pub is_found : IsFound row.puzzle budget found
+  pub told : given ≡ reply.Certified (state_name found)
+  pub stored : new ≡ record world { puzzles = insert world.puzzles key (record row { state = found }) }
+
+-- a search of the puzzle came to an end before: nothing changes
+pub record IsSettled (world : World) (row : PuzzleRow) (given : Reply) (new : World) : Type 0 where
+  pub closed : is_open row.state ≡ false
+  pub told : given ≡ reply.Certified (state_name row.state)
+  pub same : new ≡ world
+
+-- the puzzle's state is told; the puzzle is searched before where no search came to an end yet
+abbrev pub IsCertifiedBy : World → PuzzleKey → ℕ → PuzzleState → Reply → World → Type 0
+IsCertifiedBy world key budget found given new =
+    (row : PuzzleRow) × (get world.puzzles key ≡ Some row) × (IsSearched world key row budget found given new ⊎ IsSettled world row given new)
+
+-- the draft is released
+abbrev pub IsReleasedBy : World → List ℕ → Reply → World → Type 0
+IsReleasedBy world id given new =
+    (round : Round) × (get world.rounds id ≡ Some round) × (given ≡ reply.Released id)
+    × (new ≡ record world { rounds = insert world.rounds id (record round { released = true }) })
 
 -- the answer's row: numbered after those of its entrant to the puzzle in the round
 abbrev pub answer_row : World → Person → List ℕ → ℕ → List ℕ → List ℕ → ℕ → ℕ → AnswerRow
@@ -72,6 +114,8 @@ IsListed world person id t given =
 abbrev pub Allowed : World → Option Person → Action → ℕ → PuzzleState → Reply → World → Type 0
 Allowed world caller (PutPuzzle key puzzle) t found given new =
     (text : List ℕ) × CanonicalText text puzzle × (StandsAlready world key puzzle text given new ⊎ IsPut world key puzzle text given new)
+Allowed world caller (Certify key budget) t found given new = IsCertifiedBy world key budget found given new
+Allowed world caller (Release id) t found given new = IsReleasedBy world id given new
 Allowed world caller (ReadRound id) t found given new =
     (row : RoundRow) × (shown : ShownRound) × IsRoundAt world id row × ShowsRound world row shown × (given ≡ reply.RoundRead shown) × (new ≡ world)
 Allowed world caller (Submit id number token answer) t found given new =

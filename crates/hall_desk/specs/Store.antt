@@ -1,5 +1,5 @@
 -- What the calls of a store say, where its device was honest and the store still serves.
-use Rattle.std.specs.Prelude.{◌≡◌, ◌↔◌, ◌&&◌, ℕ, Bool, List, Result, Ok, Err, Option, Some, Contains}
+use Rattle.std.specs.Prelude.{◌≡◌, ◌↔◌, ◌&&◌, ℕ, Bool, List, Result, Ok, Err, Option, Some, None, Contains}
 use Rattle.std.specs.List.{filter}
 use Rattle.std.specs.List.Sorted.{IsSorted, IsPermutation}
 use Rattle.std.specs.Ordering.{nat_cmp, ordering_then}
@@ -8,11 +8,13 @@ use Rattle.std.specs.FinMap.{FinMap, get, values}
 use Rattle.hall_policy.specs.Text.{text_cmp}
 use Rattle.hall_policy.specs.World.{World, same_text}
 use Rattle.hall_policy.specs.Rules.{Lists}
+use Rattle.hall_policy.specs.Facts.{IsRoundFound}
 use Rattle.hall_policy.specs.declared.record.PuzzleKey.{PuzzleKey}
 use Rattle.hall_policy.specs.declared.record.PuzzleRow.{PuzzleRow}
 use Rattle.hall_policy.specs.declared.record.Entry.{Entry}
 use Rattle.hall_policy.specs.declared.record.AnswerKey.{AnswerKey}
 use Rattle.hall_policy.specs.declared.record.AnswerRow.{AnswerRow}
+use Rattle.hall_policy.specs.declared.record.RoundRow.{RoundRow}
 
 -- A call leaves the world: where the device was honest to the end, it was so before; where the store then still serves, it served before, and its world is the one before.
 pub record Kept {X : Type 0} (is_honest is_serving : X → Type 0) (world_in : X → World) (old new : X) : Type 0 where
@@ -29,6 +31,11 @@ Served honest serves new (Err fault) Means = Unit {0}
 abbrev pub Told : {X R E : Type 0} → (X → Type 0) → (X → Type 0) → X → X → Result R E → (R → Type 0) → Type 0
 Told honest serves old new (Ok answer) Means = (honest new → serves old → serves new) × (honest new → serves new → Means answer)
 Told honest serves old new (Err fault) Means = Unit {0}
+
+-- what is kept of the round: its head and its whole list, or neither
+pub record IsRoundKept (world : World) (id : List ℕ) (found : Option RoundRow) : Type 0 where
+  pub row : IsRoundFound world (Some id) found
+  pub empty : found ≡ None → (entry : Entry) → ¬ (Lists world id entry)
 
 -- the order of listings of answers: by entrant, number, n, then token
 abbrev pub listing_cmp : AnswerRow → AnswerRow → Ordering

@@ -5,8 +5,9 @@ ghost use Rattle.hall_policy.specs.World.{same_text};
 ghost use Rattle.hall_policy.specs.Rules.{puzzles_put, StandsReleased};
 ghost use Rattle.hall_policy.specs.Facts.{IsRoundFound};
 ghost use Rattle.hall_desk.specs.Store.{Kept, Served, Told};
-ghost use Rattle.hall_desk.specs.Found.{IsCaller, AreFactsOf, AreRoundFacts, AreAnswerFacts, AreSubmitFacts, HasAuthor, ArePutFacts, IsReleasedRound};
+ghost use Rattle.hall_desk.specs.Found.{IsCaller, AreFactsOf, AreRoundFacts, AreAnswerFacts, AreSubmitFacts, HasAuthor, ArePutFacts, AreCertifyFacts, AreReleaseFacts, IsReleasedRound};
 
+use crate::entry_fault::{EntryFault, find_fault};
 use crate::store::{Store, StoreFault};
 use hall_policy::{
     Action, AnswerRow, Facts, Key, Name, Person, PuzzleKey, PuzzleNumber, Request, RoundId, Token,
@@ -24,6 +25,8 @@ pub(crate) fn find_facts<S: Store>(
 {
     match &request.action {
         Action::PutPuzzle { key, .. } => put_facts(alloc, store, &request.key, key),
+        Action::Certify { key, .. } => certify_facts(alloc, store, &request.key, key),
+        Action::Release { round } => release_facts(alloc, store, &request.key, round),
         Action::ReadRound { round } | Action::Answers { round } => {
             round_facts(alloc, store, &request.key, round)
         }
@@ -208,6 +211,66 @@ fn put_facts<S: Store>(
     })
 }
 
+/// The facts on a puzzle that is certified.
+fn certify_facts<S: Store>(
+    alloc: Global,
+    store: &mut S,
+    caller_key: &Option<Key>,
+    key: &PuzzleKey,
+) -> Result<Facts, StoreFault>
+    ensures kept { Kept S.is_honest S.serves S.world store.old store.new }
+    ensures served { Served S.is_honest S.serves store.new result (AreCertifyFacts (S.world store.new) caller_key.now key.now) }
+{
+    let caller = find_caller(alloc, store, caller_key)?;
+    let puzzle = store.puzzle(alloc, key)?;
+    Ok(Facts {
+        caller,
+        author_is_there: false,
+        puzzle,
+        sheet_lacks: false,
+        round: None,
+        answer: None,
+        protest: None,
+        in_released: false,
+        uncertified: false,
+        open_protest: false,
+        involved: false,
+        count: 0,
+        conflict: false,
+    })
+}
+
+/// The facts on a round that is released.
+fn release_facts<S: Store>(
+    alloc: Global,
+    store: &mut S,
+    key: &Option<Key>,
+    id: &RoundId,
+) -> Result<Facts, StoreFault>
+    ensures kept { Kept S.is_honest S.serves S.world store.old store.new }
+    ensures served { Served S.is_honest S.serves store.new result (AreReleaseFacts (S.world store.new) key.now id.now) }
+{
+    let caller = find_caller(alloc, store, key)?;
+    let round = store.round(alloc, id)?;
+    let in_released = find_fault(alloc, store, id, &round, EntryFault::Shared)?;
+    let uncertified = find_fault(alloc, store, id, &round, EntryFault::Uncertified)?;
+    Ok(Facts {
+        caller,
+        author_is_there: false,
+        puzzle: None,
+        sheet_lacks: false,
+        round,
+        answer: None,
+        protest: None,
+        in_released,
+        uncertified,
+        open_protest: false,
+        involved: false,
+        count: 0,
+        conflict: false,
+    })
+}
+
 /// Whether a person of the name with the role author is there.
 fn find_author<S: Store>(alloc: Global, store: &mut S, name: &Name) -> Result<bool, StoreFault>
     ensures kept { Kept S.is_honest S.serves S.world store.old store.new }
@@ -238,7 +301,7 @@ fn find_release<S: Store>(alloc: Global, store: &mut S, key: &PuzzleKey) -> Resu
 }
 
 /// Whether one of the rounds is there and released.
-fn any_released<S: Store>(alloc: Global, store: &mut S, ids: &[RoundId]) -> Result<bool, StoreFault>
+pub(crate) fn any_released<S: Store>(alloc: Global, store: &mut S, ids: &[RoundId]) -> Result<bool, StoreFault>
     ensures kept { Kept S.is_honest S.serves S.world store.old store.new }
     ensures told { Told S.is_honest S.serves store.old store.new result (λ found. IsTrue found ↔ ((id : List ℕ) × Contains ids.now id × IsReleasedRound (S.world store.new) id)) }
 {

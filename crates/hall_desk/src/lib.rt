@@ -2,7 +2,9 @@
 #![tactic(auto)]
 
 mod certificate;
+mod certification;
 mod desk;
+mod entry_fault;
 mod found;
 mod map_calls;
 mod map_reads;
@@ -20,7 +22,7 @@ pub use desk::Desk;
 pub use plan::Plan;
 pub use reply::{AnswerLine, Reply, ShownPuzzle, ShownRound, StateName};
 pub use rows::Rows;
-pub use store::{Change, StoreFault};
+pub use store::{Change, RoundFlag, StoreFault};
 pub use verdict::judge;
 
 #[cfg(test)]

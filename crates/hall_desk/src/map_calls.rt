@@ -1,11 +1,13 @@
 //! The calls of a store over ordered maps.
 use crate::map_reads::{
     answers_at, answers_by, holder, ids_using, person_at, puzzle_at, puzzles_by, round_at,
-    sort_answers,
+    sort_answers, with_flag, with_state,
 };
 use crate::map_store::MapStore;
-use crate::store::{Store, StoreFault};
-use hall_policy::{AnswerRow, Key, Name, Person, PuzzleKey, PuzzleRow, RoundId, RoundRow};
+use crate::store::{RoundFlag, Store, StoreFault};
+use hall_policy::{
+    AnswerRow, Key, Name, Person, PuzzleKey, PuzzleRow, PuzzleState, RoundId, RoundRow,
+};
 use std::alloc::Global;
 
 impl Store for MapStore {
@@ -42,8 +44,40 @@ impl Store for MapStore {
         }
     }
 
+    fn set_state(
+        &mut self,
+        _alloc: Global,
+        key: &PuzzleKey,
+        state: PuzzleState,
+    ) -> Result<(), StoreFault> {
+        let Some(row) = puzzle_at(&self.puzzles, key)? else {
+            return Err(StoreFault::Failed);
+        };
+        let key = key.clone()?;
+        match self.puzzles.insert(key, with_state(row, state)) {
+            Ok(_) => Ok(()),
+            Err(_) => Err(StoreFault::Memory),
+        }
+    }
+
     fn round(&mut self, _alloc: Global, id: &RoundId) -> Result<Option<RoundRow>, StoreFault> {
         Ok(round_at(&self.rounds, id)?)
+    }
+
+    fn set_round_flag(
+        &mut self,
+        _alloc: Global,
+        id: &RoundId,
+        flag: RoundFlag,
+    ) -> Result<(), StoreFault> {
+        let Some(row) = round_at(&self.rounds, id)? else {
+            return Err(StoreFault::Failed);
+        };
+        let id = id.clone()?;
+        match self.rounds.insert(id, with_flag(row, flag)) {
+            Ok(_) => Ok(()),
+            Err(_) => Err(StoreFault::Memory),
+        }
     }
 
     fn rounds_using(&mut self, alloc: Global, key: &PuzzleKey) -> Result<Vec<RoundId>, StoreFault> {

@@ -7,9 +7,12 @@ ghost use Rattle.hall_policy.specs.Text.{text_cmp};
 ghost use Rattle.hall_policy.specs.World.{same_text, puzzle_cmp, answer_cmp};
 ghost use Rattle.hall_desk.specs.Store.{listing_cmp, is_in, is_of};
 ghost use Rattle.hall_desk.specs.Keyed.{uses};
+ghost use Rattle.hall_desk.specs.Change.{flagged};
 
+use crate::store::RoundFlag;
 use hall_policy::{
-    AnswerKey, AnswerRow, Entry, Key, Name, Person, PuzzleKey, PuzzleRow, RoundId, RoundRow,
+    AnswerKey, AnswerRow, Entry, Key, Name, Person, PuzzleKey, PuzzleRow, PuzzleState, RoundId,
+    RoundRow,
 };
 use std::alloc::{AllocError, Global};
 use std::cmp::Ordering;
@@ -76,6 +79,25 @@ pub(crate) fn round_at(
         Some(row) => Ok(Some(row.clone()?)),
         None => Ok(None),
     }
+}
+
+/// The puzzle in another state.
+pub(crate) fn with_state(mut row: PuzzleRow, state: PuzzleState) -> PuzzleRow
+    ensures { result ≡ record row { state = state } }
+{
+    row.state = state;
+    row
+}
+
+/// The round with a flag set.
+pub(crate) fn with_flag(mut row: RoundRow, flag: RoundFlag) -> RoundRow
+    ensures { result ≡ record row { round = flagged flag row.round } }
+{
+    match flag {
+        RoundFlag::Released => row.round.released = true,
+        RoundFlag::Published => row.round.published = true,
+    }
+    row
 }
 
 /// Copies of the author's puzzles, in the order of their labels.

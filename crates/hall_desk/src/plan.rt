@@ -8,9 +8,10 @@ ghost use Rattle.hall_desk.specs.Store.{Kept, Served, Told, IsListing};
 ghost use Rattle.hall_desk.specs.Found.{AreFactsOf};
 ghost use Rattle.hall_desk.specs.Shown.{ShowsRound, ShowsPuzzles, ShowsPuzzle, told_verdict, is_sealed, sees_all, shows_verdict, answer_line, state_name};
 ghost use Rattle.hall_desk.specs.Step.{FirstReply};
-ghost use Rattle.hall_desk.specs.Plans.{IsPlanFor, IsAllowedPlan, IsJudgedAt, IsJudgedFor, AreRowsFor, StandsAs};
+ghost use Rattle.hall_desk.specs.Plans.{IsPlanFor, IsAllowedPlan, IsMadePlan, IsJudgedAt, IsJudgedFor, AreRowsFor, StandsAs};
 ghost use Rattle.hall_grid.specs.Answer.{Verdict};
 
+use crate::certification::{certify_puzzle, release_round};
 use crate::found::find_facts;
 use crate::reply::{AnswerLine, Reply, ShownPuzzle, ShownRound, StateName};
 use crate::rows::Rows;
@@ -116,10 +117,12 @@ fn allow<S: Store>(
     requires told { S.is_honest store.old → S.serves store.old → AllTrue facts.now (S.world store.old) action.now }
     requires there { S.is_honest store.old → S.serves store.old → IfSome facts.now.caller (λ person. get (S.world store.old).people person.name ≡ Some person) }
     ensures kept { Kept S.is_honest S.serves S.world store.old store.new }
-    ensures told { Told S.is_honest S.serves store.old store.new result (IsAllowedPlan (S.world store.new) facts.now.caller action.now t) }
+    ensures told { Told S.is_honest S.serves store.old store.new result (IsMadePlan (S.world store.new) facts.now.caller action.now t) }
 {
     match action {
         Action::PutPuzzle { .. } => put_puzzle(alloc, facts, action),
+        Action::Certify { .. } => certify_puzzle(alloc, facts, action),
+        Action::Release { .. } => release_round(facts, action),
         Action::ReadRound { .. } => read_round(alloc, store, facts, action),
         Action::Submit { .. } => submit(alloc, store, t, facts, action),
         Action::Answers { .. } => list_answers(alloc, store, t, facts, action),
@@ -182,7 +185,7 @@ fn text_of(alloc: Global, puzzle: &Puzzle) -> Result<PuzzleText, StoreFault>
 }
 
 /// What is told of a puzzle's state.
-fn state_name(state: &PuzzleState) -> StateName
+pub(crate) fn state_name(state: &PuzzleState) -> StateName
     ensures { result ≡ state_name state.now }
 {
     match state {

@@ -26,6 +26,8 @@ pub(crate) fn commit<S: Store>(
     match change {
         Change::Nothing => {}
         Change::PutPuzzle(row) => store.put_puzzle(alloc, row)?,
+        Change::SetState { key, state } => store.set_state(alloc, &key, state)?,
+        Change::SetRoundFlag { round, flag } => store.set_round_flag(alloc, &round, flag)?,
         Change::AddAnswer(row) => store.add_answer(alloc, row)?,
     }
     Ok(reply)

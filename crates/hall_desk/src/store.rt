@@ -1,5 +1,7 @@
 //! What keeps the world.
-use hall_policy::{AnswerRow, Key, Name, Person, PuzzleKey, PuzzleRow, RoundId, RoundRow};
+use hall_policy::{
+    AnswerRow, Key, Name, Person, PuzzleKey, PuzzleRow, PuzzleState, RoundId, RoundRow,
+};
 use std::alloc::{AllocError, Global};
 
 /// The store refused, or memory did; the world is as it was.
@@ -22,12 +24,29 @@ impl From<AllocError> for StoreFault {
     }
 }
 
+/// What a director sets on a round, and nobody takes back.
+#[derive(Clone, Copy, Debug, PartialEq, Eq)]
+pub enum RoundFlag {
+    Released,
+    Published,
+}
+
 /// A change of the world, which one call of the store makes.
 #[derive(Drop)]
 pub enum Change {
     Nothing,
     /// Stores the puzzle, in the place of the one under its key.
     PutPuzzle(PuzzleRow),
+    /// Sets the state of the puzzle under the key.
+    SetState {
+        key: PuzzleKey,
+        state: PuzzleState,
+    },
+    /// Sets a flag of the round.
+    SetRoundFlag {
+        round: RoundId,
+        flag: RoundFlag,
+    },
     /// Stores one more answer.
     AddAnswer(AnswerRow),
 }
@@ -40,11 +59,10 @@ pub trait Store: Drop {
     ghost use Rattle.std.specs.Prelude.{◌≡◌, OnErr, Some, None, IfSome};
     ghost use Rattle.std.specs.FinMap.{get, values};
     ghost use Rattle.hall_policy.specs.World.{World};
-    ghost use Rattle.hall_policy.specs.Facts.{IsRoundFound};
-    ghost use Rattle.hall_desk.specs.Store.{Kept, Served, IsListing, is_in, is_of, HasKeyedAnswers, AreUsing, puzzles_of};
+    ghost use Rattle.hall_desk.specs.Store.{Kept, Served, IsRoundKept, IsListing, is_in, is_of, HasKeyedAnswers, AreUsing, puzzles_of};
     ghost use Rattle.hall_desk.specs.Caller.{IsKeyHolder};
-    ghost use Rattle.hall_desk.specs.Change.{CanPutPuzzle, CanAddAnswer, changed};
-    ghost use Rattle.hall_desk.specs.declared.store.Change.TheVariants.{PutPuzzle, AddAnswer};
+    ghost use Rattle.hall_desk.specs.Change.{CanPutPuzzle, CanSetState, CanSetFlag, CanAddAnswer, changed};
+    ghost use Rattle.hall_desk.specs.declared.store.Change.TheVariants.{PutPuzzle, SetState, SetRoundFlag, AddAnswer};
 
     ghost world: { Self → World };
 
@@ -82,10 +100,36 @@ pub trait Store: Drop {
         ensures served { Served is_honest serves self.new result (λ _. world self.new ≡ changed (PutPuzzle row) (world self.old)) }
         ensures refused { OnErr result (is_honest self.new → serves self.new → world self.new ≡ world self.old) };
 
-    /// The round with its list of puzzles.
+    /// Sets the state of the puzzle under the key.
+    fn set_state(
+        &mut self,
+        alloc: Global,
+        key: &PuzzleKey,
+        state: PuzzleState,
+    ) -> Result<(), StoreFault>
+        requires { is_honest self.old → serves self.old → CanSetState (world self.old) key.now }
+        ensures honest { is_honest self.new → is_honest self.old }
+        ensures opened { is_honest self.new → serves self.new → serves self.old }
+        ensures served { Served is_honest serves self.new result (λ _. world self.new ≡ changed (SetState key.now state) (world self.old)) }
+        ensures refused { OnErr result (is_honest self.new → serves self.new → world self.new ≡ world self.old) };
+
+    /// The round with its list of puzzles; none where neither is kept.
     fn round(&mut self, alloc: Global, id: &RoundId) -> Result<Option<RoundRow>, StoreFault>
         ensures kept { Kept is_honest serves world self.old self.new }
-        ensures served { Served is_honest serves self.new result (IsRoundFound (world self.new) (Some id.now)) };
+        ensures served { Served is_honest serves self.new result (IsRoundKept (world self.new) id.now) };
+
+    /// Sets a flag of the round.
+    fn set_round_flag(
+        &mut self,
+        alloc: Global,
+        id: &RoundId,
+        flag: RoundFlag,
+    ) -> Result<(), StoreFault>
+        requires { is_honest self.old → serves self.old → CanSetFlag (world self.old) id.now }
+        ensures honest { is_honest self.new → is_honest self.old }
+        ensures opened { is_honest self.new → serves self.new → serves self.old }
+        ensures served { Served is_honest serves self.new result (λ _. world self.new ≡ changed (SetRoundFlag id.now flag) (world self.old)) }
+        ensures refused { OnErr result (is_honest self.new → serves self.new → world self.new ≡ world self.old) };
 
     /// The ids of the rounds that have the puzzle.
     fn rounds_using(&mut self, alloc: Global, key: &PuzzleKey) -> Result<Vec<RoundId>, StoreFault>

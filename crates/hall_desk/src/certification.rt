@@ -1,0 +1,104 @@
+//! Allowed actions that certify a puzzle or release a round.
+ghost use Rattle.std.specs.Prelude.{◌≡◌, ℕ, IfOk};
+ghost use Rattle.hall_policy.specs.World.{World};
+ghost use Rattle.hall_policy.specs.Facts.{AllTrue};
+ghost use Rattle.hall_grid.specs.Answer.{AnswerText as Says, IsFilling};
+ghost use Rattle.hall_desk.specs.Step.{is_open, IsFound};
+ghost use Rattle.hall_desk.specs.Plans.{IsAllowedPlan, IsMadePlan};
+
+use crate::certificate::certify;
+use crate::plan::{Plan, state_name};
+use crate::reply::Reply;
+use crate::store::{Change, RoundFlag, StoreFault};
+use hall_grid::{Filling, Puzzle, write_answer};
+use hall_policy::{Action, AnswerText, Facts, PuzzleState};
+use hall_solve::Outcome;
+use std::alloc::Global;
+
+/// An allowed Certify: the puzzle is searched where no search of it came to an end yet.
+pub(crate) fn certify_puzzle(
+    alloc: Global,
+    facts: &Facts,
+    action: &Action,
+) -> Result<Plan, StoreFault>
+    ensures { IfOk result (λ plan. (world : World) → AllTrue facts.now world action.now → (t : ℕ) → IsMadePlan world facts.now.caller action.now t plan) }
+{
+    let Action::Certify { key, budget } = action else {
+        return Err(StoreFault::Failed);
+    };
+    let Some(row) = &facts.puzzle else {
+        return Err(StoreFault::Failed);
+    };
+    if !is_open(&row.state) {
+        return Ok(Plan {
+            reply: Reply::Certified(state_name(&row.state)),
+            change: Change::Nothing,
+        });
+    }
+    let state = find_state(alloc, &row.puzzle, budget.get())?;
+    Ok(Plan {
+        reply: Reply::Certified(state_name(&state)),
+        change: Change::SetState {
+            key: key.clone()?,
+            state,
+        },
+    })
+}
+
+/// Whether the puzzle was never searched, or the search came to no end.
+fn is_open(state: &PuzzleState) -> bool
+    ensures { result ≡ is_open state.now }
+{
+    match state {
+        PuzzleState::New => true,
+        PuzzleState::One(_) => false,
+        PuzzleState::NoSolution => false,
+        PuzzleState::More => false,
+        PuzzleState::GaveUp => true,
+    }
+}
+
+/// What the search of the puzzle finds in at most `budget` visits, as a state.
+fn find_state(alloc: Global, puzzle: &Puzzle, budget: u64) -> Result<PuzzleState, StoreFault>
+    ensures { IfOk result (IsFound puzzle.now budget) }
+{
+    match certify(alloc, puzzle, budget)? {
+        Outcome::None => Ok(PuzzleState::NoSolution),
+        Outcome::One(solution) => Ok(PuzzleState::One(solution_text(alloc, puzzle, &solution)?)),
+        Outcome::More(_first, _second) => Ok(PuzzleState::More),
+        Outcome::GaveUp => Ok(PuzzleState::GaveUp),
+    }
+}
+
+/// The solution as an answer text.
+fn solution_text(
+    alloc: Global,
+    puzzle: &Puzzle,
+    solution: &Filling,
+) -> Result<AnswerText, StoreFault>
+    requires { IsFilling puzzle.now solution.now }
+    ensures { IfOk result (λ text. Says puzzle.now text solution.now) }
+{
+    let text = write_answer(alloc, puzzle, solution)?;
+    AnswerText::new(text).ok_or(StoreFault::Failed)
+}
+
+/// An allowed Release: the draft is released.
+pub(crate) fn release_round(facts: &Facts, action: &Action) -> Result<Plan, StoreFault>
+    ensures { IfOk result (λ plan. (world : World) → AllTrue facts.now world action.now → (t : ℕ) → IsAllowedPlan world facts.now.caller action.now t plan) }
+{
+    let Action::Release { round } = action else {
+        return Err(StoreFault::Failed);
+    };
+    if facts.round.is_none() {
+        return Err(StoreFault::Failed);
+    }
+    let id = round.clone()?;
+    Ok(Plan {
+        reply: Reply::Released(round.clone()?),
+        change: Change::SetRoundFlag {
+            round: id,
+            flag: RoundFlag::Released,
+        },
+    })
+}

@@ -1,0 +1,116 @@
+//! What keeps a round from its release.
+ghost use Rattle.std.specs.Prelude.{◌≡◌, ◌≢◌, ◌↔◌, ℕ, List, IsTrue, Contains};
+ghost use Rattle.hall_policy.specs.Rules.{StandsReleased, IsCertified};
+ghost use Rattle.hall_desk.specs.Store.{Kept, Told, IsRoundKept};
+ghost use Rattle.hall_desk.specs.Found.{HasFault, HasFaultyEntry};
+
+use crate::found::any_released;
+use crate::store::{Store, StoreFault};
+use hall_policy::{Entry, PuzzleKey, PuzzleState, RoundId, RoundRow};
+use std::alloc::Global;
+
+/// What may be wrong with an entry of a round that is to be released.
+#[derive(Clone, Copy, Debug, PartialEq, Eq)]
+pub(crate) enum EntryFault {
+    /// Its puzzle stands in another released round.
+    Shared,
+    /// Its puzzle isn't in state one.
+    Uncertified,
+}
+
+/// Whether an entry of the round has the fault. `round` is what the store keeps of it.
+pub(crate) fn find_fault<S: Store>(
+    alloc: Global,
+    store: &mut S,
+    id: &RoundId,
+    round: &Option<RoundRow>,
+    fault: EntryFault,
+) -> Result<bool, StoreFault>
+    requires { S.is_honest store.old → S.serves store.old → IsRoundKept (S.world store.old) id.now round.now }
+    ensures kept { Kept S.is_honest S.serves S.world store.old store.new }
+    ensures told { Told S.is_honest S.serves store.old store.new result (λ found. IsTrue found ↔ HasFaultyEntry fault (S.world store.new) id.now) }
+{
+    match round {
+        Some(row) => any_faulty(alloc, store, id, row.puzzles.as_slice(), fault),
+        None => Ok(false),
+    }
+}
+
+/// Whether one of the entries has the fault.
+fn any_faulty<S: Store>(
+    alloc: Global,
+    store: &mut S,
+    id: &RoundId,
+    entries: &[Entry],
+    fault: EntryFault,
+) -> Result<bool, StoreFault>
+    ensures kept { Kept S.is_honest S.serves S.world store.old store.new }
+    ensures told { Told S.is_honest S.serves store.old store.new result (λ found. IsTrue found ↔ ((entry : Entry) × Contains entries.now entry × HasFault fault (S.world store.new) id.now entry)) }
+{
+    for entry in entries {
+        if has_fault(alloc, store, id, entry, fault)? {
+            return Ok(true);
+        }
+    }
+    Ok(false)
+}
+
+/// Whether the entry has the fault.
+fn has_fault<S: Store>(
+    alloc: Global,
+    store: &mut S,
+    id: &RoundId,
+    entry: &Entry,
+    fault: EntryFault,
+) -> Result<bool, StoreFault>
+    ensures kept { Kept S.is_honest S.serves S.world store.old store.new }
+    ensures told { Told S.is_honest S.serves store.old store.new result (λ found. IsTrue found ↔ HasFault fault (S.world store.new) id.now entry.now) }
+{
+    match fault {
+        EntryFault::Shared => is_shared(alloc, store, id, &entry.puzzle),
+        EntryFault::Uncertified => is_uncertified(alloc, store, &entry.puzzle),
+    }
+}
+
+/// Whether the puzzle stands in a released round other than this one.
+fn is_shared<S: Store>(
+    alloc: Global,
+    store: &mut S,
+    id: &RoundId,
+    key: &PuzzleKey,
+) -> Result<bool, StoreFault>
+    ensures kept { Kept S.is_honest S.serves S.world store.old store.new }
+    ensures told { Told S.is_honest S.serves store.old store.new result (λ found. IsTrue found ↔ ((other : List ℕ) × (other ≢ id.now) × StandsReleased (S.world store.new) key.now other)) }
+{
+    let mut others = store.rounds_using(alloc, key)?;
+    others.retain(|other| *other != *id);
+    any_released(alloc, store, others.as_slice())
+}
+
+/// Whether the puzzle isn't kept in state one.
+fn is_uncertified<S: Store>(
+    alloc: Global,
+    store: &mut S,
+    key: &PuzzleKey,
+) -> Result<bool, StoreFault>
+    ensures kept { Kept S.is_honest S.serves S.world store.old store.new }
+    ensures told { Told S.is_honest S.serves store.old store.new result (λ found. IsTrue found ↔ ¬ (IsCertified (S.world store.new) key.now)) }
+{
+    match store.puzzle(alloc, key)? {
+        Some(row) => Ok(!is_one(&row.state)),
+        None => Ok(true),
+    }
+}
+
+/// Whether the state is that of a puzzle with exactly one solution.
+fn is_one(state: &PuzzleState) -> bool
+    ensures { IsTrue result ↔ ((text : List ℕ) × (state.now ≡ PuzzleState.One text)) }
+{
+    match state {
+        PuzzleState::One(_) => true,
+        PuzzleState::New
+        | PuzzleState::NoSolution
+        | PuzzleState::More
+        | PuzzleState::GaveUp => false,
+    }
+}
