@@ -29,6 +29,7 @@ use Rattle.hall_policy.proofs.Orders.{text_total, same_texts, answer_total, same
 use Rattle.hall_desk.specs.Caller.{IsKeyHolder}
 use Rattle.hall_desk.specs.Maps.{world_of, head_of, places_from, places_in}
 use Rattle.hall_desk.specs.Keyed.{are_keyed, are_named}
+use Rattle.hall_desk.specs.Store.{IsRoundKept}
 use Rattle.hall_desk.specs.declared.map_store.MapStore.{MapStore}
 use Rattle.hall_desk.proofs.Answering.{find-Contains, text_decides}
 
@@ -227,6 +228,14 @@ round_found store id None found sorted = get_found text_total (map head_of store
 round_found store id (Some row) found sorted = record {
   head = get_found text_total (map head_of store.rounds.entries) id ∙ head_found (is_at (text_cmp id)) store.rounds.entries ∙ ap (option_map (λ r. r.round)) (sym found);
   list = λ number. get_place store sorted id number ∙ ap (λ (o : Option RoundRow). place_of o number) (sym found);
+}
+
+-- the round that was found is kept with its whole list, and where none was found there is no list
+pub round_kept : (store : MapStore) (id : List ℕ) (found : Option RoundRow) → found ≡ lookup (is_at (text_cmp id)) store.rounds.entries → IsStrictlySortedBy text_cmp (keys_of store.rounds.entries) →
+    IsRoundKept (world_of store) id found
+round_kept store id found seen sorted = record {
+  row = round_found store id found seen sorted;
+  empty = λ none entry lists. let no : None ≡ Some entry = ap (λ (o : Option RoundRow). place_of o lists.0) (sym none ∙ seen) ∙ sym (get_place store sorted id lists.0) ∙ lists.1 in cc;
 }
 
 -- a person who is inserted under the own name

@@ -5,10 +5,10 @@ use Rattle.std.specs.FinMap.{get, values}
 use Rattle.std.proofs.lemmas.Option.{slice_get-get_or}
 use Rattle.hall_grid.specs.Board.{Board}
 use Rattle.hall_grid.specs.Canonical.{CanonicalText}
-use Rattle.hall_policy.specs.World.{World, same_text}
+use Rattle.hall_policy.specs.World.{World, IsRoundAt, same_text}
 use Rattle.hall_policy.specs.Actions.{rules_asked}
 use Rattle.hall_policy.specs.First.{First}
-use Rattle.hall_policy.specs.Facts.{Tells, TrueUpTo, AllTrue, deciding}
+use Rattle.hall_policy.specs.Facts.{Tells, TrueUpTo, AllTrue, IsRoundFound, deciding}
 use Rattle.hall_policy.specs.declared.rule.Rule.{Rule}
 use Rattle.hall_policy.specs.declared.rule.Decision.{Decision}
 use Rattle.hall_policy.specs.declared.facts.Facts.{Facts}
@@ -16,21 +16,24 @@ use Rattle.hall_policy.specs.declared.record.Person.{Person}
 use Rattle.hall_policy.specs.declared.record.PuzzleKey.{PuzzleKey}
 use Rattle.hall_policy.specs.declared.record.PuzzleRow.{PuzzleRow}
 use Rattle.hall_policy.specs.declared.record.PuzzleState.{PuzzleState}
+use Rattle.hall_policy.specs.declared.record.RoundRow.{RoundRow}
 use Rattle.hall_policy.specs.declared.record.PuzzleState.TheVariants as state
 use Rattle.hall_policy.specs.declared.request.Request.{Request}
 use Rattle.hall_policy.specs.declared.request.Action.{Action}
 use Rattle.hall_policy.specs.declared.request.Action.TheVariants as action
 use Rattle.hall_desk.specs.Caller.{caller_of}
 use Rattle.hall_desk.specs.Found.{AreFactsOf}
-use Rattle.hall_desk.specs.Change.{changed, CanMake}
-use Rattle.hall_desk.specs.Step.{Decided}
-use Rattle.hall_desk.specs.Plans.{IsPlanFor, IsAllowedPlan, StandsAs}
+use Rattle.hall_desk.specs.Change.{changed, CanMake, with_state, with_flag}
+use Rattle.hall_desk.specs.Shown.{state_name}
+use Rattle.hall_desk.specs.Step.{Decided, is_open, IsFound}
+use Rattle.hall_desk.specs.Plans.{IsPlanFor, IsAllowedPlan, IsMadePlan, StandsAs}
 use Rattle.hall_desk.specs.declared.plan.Plan.{Plan}
 use Rattle.hall_desk.specs.declared.reply.Reply.{Reply}
-use Rattle.hall_desk.specs.declared.reply.Reply.TheVariants.{PuzzlePut}
+use Rattle.hall_desk.specs.declared.reply.Reply.TheVariants.{PuzzlePut, Certified, Released}
 use Rattle.hall_desk.specs.declared.reply.StateName.TheVariants as name
 use Rattle.hall_desk.specs.declared.store.Change.{Change}
 use Rattle.hall_desk.specs.declared.store.Change.TheVariants as change
+use Rattle.hall_desk.specs.declared.store.RoundFlag.TheVariants as flag
 
 by_index : (P : Rule → Type 0) (rules : List Rule) (k : ℕ) (rule : Rule) → AllByRecursion P rules → slice_get rules k ≡ Some rule → P rule
 by_index P [] k rule h e = absurd (let no : None ≡ Some rule = e in cc)
@@ -46,17 +49,17 @@ told_up_to facts world action n told rule c small =
 pub planned : (facts : Facts) (world : World) (t : ℕ) (request : Request) (decision : Decision) (given : Reply) (change : Change) →
     AreFactsOf world request facts →
     ((w : World) → TrueUpTo (deciding request.action decision) facts w request.action → First w facts.caller request.action t decision) →
-    ((found : PuzzleState) → Decided decision world facts.caller request.action t found given (changed change world)) → CanMake change world →
+    (outcome : PuzzleState) → Decided decision world facts.caller request.action t outcome given (changed change world) → CanMake change world →
     IsPlanFor world t request (record { reply = given; change = change })
-planned facts world t request decision given change found first decided can =
+planned facts world t request decision given change found first outcome decided can =
     let same : facts.caller ≡ caller_of world request.key = found.caller.found in
     record {
       step = inr (
-        state.GaveUp,
+        outcome,
         (
           decision,
           subst (λ (caller : Option Person). First world caller request.action t decision) same (first world (told_up_to facts world request.action (deciding request.action decision) found.told)),
-          subst (λ (caller : Option Person). Decided decision world caller request.action t state.GaveUp given (changed change world)) same (decided state.GaveUp),
+          subst (λ (caller : Option Person). Decided decision world caller request.action t outcome given (changed change world)) same decided,
         ),
       );
       can = can;
@@ -74,6 +77,51 @@ put_new world facts asked t key copied_key puzzle copied text is same_key same_p
     (λ all. record {
       allowed = λ found. (text, canonical, inr ((λ row kept. differ row (all.1.1.1.1.1.0.0 ∙ kept)), refl, refl));
       can = let author = all.1.1.1.0.0 there in (author.0, author.1);
+    }))) told
+
+-- a plan that is right whatever a search would find
+pub made_anyhow : (world : World) (caller : Option Person) (asked : Action) (t : ℕ) (plan : Plan) → IsAllowedPlan world caller asked t plan → IsMadePlan world caller asked t plan
+made_anyhow world caller asked t plan made = record { found = state.New; allowed = made.allowed state.New; can = made.can }
+
+-- the plan of a puzzle that was searched
+pub searched : (world : World) (facts : Facts) (asked : Action) (t : ℕ) (key copied : PuzzleKey) (budget : ℕ) (row : PuzzleRow) (outcome : PuzzleState) →
+    asked ≡ action.Certify key budget → copied ≡ key → AllTrue facts world asked → facts.puzzle ≡ Some row → is_open row.state ≡ true → IsFound row.puzzle budget outcome →
+    IsMadePlan world facts.caller asked t (record { reply = Certified (state_name outcome); change = change.SetState copied outcome })
+searched world facts asked t key copied budget row outcome is same told seen unsettled is_found =
+    subst (λ (a : Action). AllTrue facts world a → IsMadePlan world facts.caller a t (record { reply = Certified (state_name outcome); change = change.SetState copied outcome })) (sym is)
+    (subst (λ (k : PuzzleKey). AllTrue facts world (action.Certify key budget) → IsMadePlan world facts.caller (action.Certify key budget) t (record { reply = Certified (state_name outcome); change = change.SetState k outcome })) (sym same)
+    (λ all.
+    let at : get world.puzzles key ≡ Some row = sym all.1.1.1.0 ∙ seen in
+    record {
+      found = outcome;
+      allowed = (row, at, inl (record { unsettled = unsettled; is_found = is_found; told = refl; stored = ap (with_state world key outcome) at }));
+      can = (row, at);
+    })) told
+
+-- the plan of a puzzle whose search came to an end before
+pub settled : (world : World) (facts : Facts) (asked : Action) (t : ℕ) (key : PuzzleKey) (budget : ℕ) (row : PuzzleRow) →
+    asked ≡ action.Certify key budget → AllTrue facts world asked → facts.puzzle ≡ Some row → is_open row.state ≡ false →
+    IsMadePlan world facts.caller asked t (record { reply = Certified (state_name row.state); change = change.Nothing })
+settled world facts asked t key budget row is told seen closed =
+    subst (λ (a : Action). AllTrue facts world a → IsMadePlan world facts.caller a t (record { reply = Certified (state_name row.state); change = change.Nothing })) (sym is)
+    (λ all.
+    let at : get world.puzzles key ≡ Some row = sym all.1.1.1.0 ∙ seen in
+    record { found = state.New; allowed = (row, at, inr (record { settled = closed; told = refl; same = refl })); can = tt })
+    told
+
+-- the plan of a round that is released
+pub released : (world : World) (facts : Facts) (asked : Action) (t : ℕ) (id shown kept : List ℕ) (row : RoundRow) →
+    asked ≡ action.Release id → shown ≡ id → kept ≡ id → AllTrue facts world asked → facts.round ≡ Some row →
+    IsAllowedPlan world facts.caller asked t (record { reply = Released shown; change = change.SetRoundFlag kept flag.Released })
+released world facts asked t id shown kept row is same_shown same_kept told seen =
+    subst (λ (a : Action). AllTrue facts world a → IsAllowedPlan world facts.caller a t (record { reply = Released shown; change = change.SetRoundFlag kept flag.Released })) (sym is)
+    (subst (λ (x : List ℕ). AllTrue facts world (action.Release id) → IsAllowedPlan world facts.caller (action.Release id) t (record { reply = Released x; change = change.SetRoundFlag kept flag.Released })) (sym same_shown)
+    (subst (λ (x : List ℕ). AllTrue facts world (action.Release id) → IsAllowedPlan world facts.caller (action.Release id) t (record { reply = Released id; change = change.SetRoundFlag x flag.Released })) (sym same_kept)
+    (λ all.
+    let at : IsRoundAt world id row = subst (λ (o : Option RoundRow). IsRoundFound world (Some id) o) seen all.1.1.0 in
+    record {
+      allowed = λ found. (row.round, at.head, refl, ap (with_flag world id flag.Released) at.head);
+      can = (row.round, at.head);
     }))) told
 
 -- ---- the answers that a caller sees

@@ -36,12 +36,11 @@ pub(crate) fn certify_puzzle(
         });
     }
     let state = find_state(alloc, &row.puzzle, budget.get())?;
+    let name = state_name(&state);
+    let key = key.clone()?;
     Ok(Plan {
-        reply: Reply::Certified(state_name(&state)),
-        change: Change::SetState {
-            key: key.clone()?,
-            state,
-        },
+        reply: Reply::Certified(name),
+        change: Change::SetState { key, state },
     })
 }
 
@@ -90,14 +89,15 @@ pub(crate) fn release_round(facts: &Facts, action: &Action) -> Result<Plan, Stor
     let Action::Release { round } = action else {
         return Err(StoreFault::Failed);
     };
-    if facts.round.is_none() {
+    let Some(_row) = &facts.round else {
         return Err(StoreFault::Failed);
-    }
-    let id = round.clone()?;
+    };
+    let shown = round.clone()?;
+    let kept = round.clone()?;
     Ok(Plan {
-        reply: Reply::Released(round.clone()?),
+        reply: Reply::Released(shown),
         change: Change::SetRoundFlag {
-            round: id,
+            round: kept,
             flag: RoundFlag::Released,
         },
     })

@@ -108,9 +108,7 @@ fn is_one(state: &PuzzleState) -> bool
 {
     match state {
         PuzzleState::One(_) => true,
-        PuzzleState::New
-        | PuzzleState::NoSolution
-        | PuzzleState::More
-        | PuzzleState::GaveUp => false,
+        PuzzleState::New | PuzzleState::NoSolution | PuzzleState::More | PuzzleState::GaveUp =>
+            false,
     }
 }

@@ -301,7 +301,11 @@ fn find_release<S: Store>(alloc: Global, store: &mut S, key: &PuzzleKey) -> Resu
 }
 
 /// Whether one of the rounds is there and released.
-pub(crate) fn any_released<S: Store>(alloc: Global, store: &mut S, ids: &[RoundId]) -> Result<bool, StoreFault>
+pub(crate) fn any_released<S: Store>(
+    alloc: Global,
+    store: &mut S,
+    ids: &[RoundId],
+) -> Result<bool, StoreFault>
     ensures kept { Kept S.is_honest S.serves S.world store.old store.new }
     ensures told { Told S.is_honest S.serves store.old store.new result (λ found. IsTrue found ↔ ((id : List ℕ) × Contains ids.now id × IsReleasedRound (S.world store.new) id)) }
 {

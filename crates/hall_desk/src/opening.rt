@@ -1,37 +1,47 @@
 //! The world that a hall opens with.
-ghost use Rattle.std.specs.Prelude.{IsTrue, IfOk};
-ghost use Rattle.hall_desk.specs.Keyed.{are_named};
+ghost use Rattle.std.specs.Prelude.{◌≡◌, ◌≢◌, IsTrue, IfOk, OnOk, List, ℕ, None, Some, All};
+ghost use Rattle.std.specs.BTreeMap as tree;
+ghost use Rattle.hall_policy.specs.World.{puzzle_cmp};
+ghost use Rattle.std.specs.FinMap.{get};
+ghost use Rattle.hall_policy.specs.declared.record.Person.{Person as Known};
+ghost use Rattle.hall_desk.specs.Maps.{world_of};
+ghost use Rattle.hall_desk.specs.Sane.{Sane};
 
+use crate::map_reads::{holder, person_at};
 use crate::map_store::MapStore;
+use crate::reply::Reply;
+use crate::step::step;
 use crate::store::StoreFault;
-use hall_grid::{Puzzle, parse_puzzle};
+use hall_grid::parse_puzzle;
 use hall_policy::{
-    Bonus, Checked, Entries, Entry, Minutes, Mode, Moment, Name, Penalty, Person, Points,
-    ProtestMinutes, PuzzleKey, PuzzleRow, PuzzleState, Roles, Round, RoundRow, TextKind,
+    Action, Bonus, Checked, Entries, Entry, Minutes, Mode, Moment, Penalty, Person, Points,
+    ProtestMinutes, PuzzleKey, PuzzleRow, Request, Roles, Round, RoundRow, TextKind,
 };
 use std::alloc::{AllocError, Global};
 use std::collections::BTreeMap;
 
-/// The people of the setting, one puzzle with its only solution, and a released round of it.
-pub(crate) fn opening(alloc: Global) -> Result<MapStore, StoreFault> {
-    let people = opening_people(alloc)?;
-    let mut puzzles = BTreeMap::new(alloc);
-    let row = opening_puzzle(alloc)?;
-    puzzles
-        .insert(row.key.clone()?, row)
-        .map_err(AllocError::from)?;
-    let mut rounds = BTreeMap::new(alloc);
-    let row = opening_round(alloc)?;
-    rounds
-        .insert(row.round.id.clone()?, row)
-        .map_err(AllocError::from)?;
-    Ok(MapStore {
-        people,
-        puzzles,
-        rounds,
+/// Six people, three puzzles that nobody certified yet, and three drafts.
+pub(crate) fn opening(alloc: Global) -> Result<MapStore, StoreFault>
+    ensures { IfOk result (λ store. Sane (world_of store)) }
+{
+    let mut store = empty(alloc);
+    add_people(alloc, &mut store)?;
+    add_puzzles(alloc, &mut store)?;
+    add_drafts(alloc, &mut store)?;
+    Ok(store)
+}
+
+/// Nobody and nothing.
+fn empty(alloc: Global) -> MapStore
+    ensures { Sane (world_of result) }
+{
+    MapStore {
+        people: BTreeMap::new(alloc),
+        puzzles: BTreeMap::new(alloc),
+        rounds: BTreeMap::new(alloc),
         answers: BTreeMap::new(alloc),
         protests: BTreeMap::new(alloc),
-    })
+    }
 }
 
 /// The text, where it is of the kind.
@@ -42,38 +52,6 @@ fn text<K: TextKind>(alloc: Global, text: &str) -> Result<Checked<K>, StoreFault
     }
 }
 
-/// Puts a person under the own name.
-fn add_person(
-    alloc: Global,
-    people: &mut BTreeMap<Name, Person>,
-    name: &str,
-    key: &str,
-    roles: Roles,
-) -> Result<(), StoreFault>
-    requires { IsTrue (are_named people.old.entries) }
-    ensures { IsTrue (are_named people.new.entries) }
-{
-    let person = Person {
-        name: text(alloc, name)?,
-        key: text(alloc, key)?,
-        roles,
-    };
-    insert_person(people, person)?;
-    Ok(())
-}
-
-/// Puts the person under the own name.
-fn insert_person(people: &mut BTreeMap<Name, Person>, person: Person) -> Result<(), AllocError>
-    requires { IsTrue (are_named people.old.entries) }
-    ensures { IsTrue (are_named people.new.entries) }
-{
-    let name = person.name.clone()?;
-    match people.insert(name, person) {
-        Ok(_) => Ok(()),
-        Err(_) => Err(AllocError),
-    }
-}
-
 const NO_ROLE: Roles = Roles {
     director: false,
     author: false,
@@ -81,8 +59,9 @@ const NO_ROLE: Roles = Roles {
     entrant: false,
 };
 
-fn opening_people(alloc: Global) -> Result<BTreeMap<Name, Person>, StoreFault>
-    ensures { IfOk result (λ people. IsTrue (are_named people.entries)) }
+fn add_people(alloc: Global, store: &mut MapStore) -> Result<(), StoreFault>
+    requires { Sane (world_of store.old) }
+    ensures { OnOk result (Sane (world_of store.new)) }
 {
     let director = Roles {
         director: true,
@@ -104,46 +83,219 @@ fn opening_people(alloc: Global) -> Result<BTreeMap<Name, Person>, StoreFault>
         entrant: true,
         ..author
     };
-    let mut people = BTreeMap::new(alloc);
-    add_person(alloc, &mut people, "dora", "dora-key", director)?;
-    add_person(alloc, &mut people, "ada", "ada-key-1", both)?;
-    add_person(alloc, &mut people, "bob", "bob-key-1", author)?;
-    add_person(alloc, &mut people, "eve", "eve-key-1", entrant)?;
-    add_person(alloc, &mut people, "fay", "fay-key-1", entrant)?;
-    add_person(alloc, &mut people, "rex", "rex-key-1", referee)?;
-    Ok(people)
+    add_person(alloc, store, "dora", "dora-key", director)?;
+    add_person(alloc, store, "ada", "ada-key-1", both)?;
+    add_person(alloc, store, "bob", "bob-key-1", author)?;
+    add_person(alloc, store, "eve", "eve-key-1", entrant)?;
+    add_person(alloc, store, "fay", "fay-key-1", entrant)?;
+    add_person(alloc, store, "rex", "rex-key-1", referee)
 }
 
-fn opening_key(alloc: Global) -> Result<PuzzleKey, StoreFault> {
-    Ok(PuzzleKey {
-        author: text(alloc, "bob")?,
-        label: text(alloc, "p1")?,
-    })
+fn add_person(
+    alloc: Global,
+    store: &mut MapStore,
+    name: &str,
+    key: &str,
+    roles: Roles,
+) -> Result<(), StoreFault>
+    requires { Sane (world_of store.old) }
+    ensures { OnOk result (Sane (world_of store.new)) }
+{
+    let person = Person {
+        name: text(alloc, name)?,
+        key: text(alloc, key)?,
+        roles,
+    };
+    insert_person(store, person)
 }
 
-fn opening_grid(alloc: Global) -> Result<Puzzle, StoreFault> {
-    match parse_puzzle(alloc, b"sudoku/4/4/123434122143432g") {
-        Ok(puzzle) => Ok(puzzle),
-        Err(_) => Err(StoreFault::Failed),
+/// Puts a person whose name and key are free.
+fn insert_person(store: &mut MapStore, person: Person) -> Result<(), StoreFault>
+    requires { Sane (world_of store.old) }
+    ensures { OnOk result (Sane (world_of store.new)) }
+{
+    if !is_free(store, &person)? {
+        return Err(StoreFault::Failed);
+    }
+    let name = person.name.clone()?;
+    match store.people.insert(name, person) {
+        Ok(_) => Ok(()),
+        Err(_) => Err(StoreFault::Memory),
     }
 }
 
-fn opening_puzzle(alloc: Global) -> Result<PuzzleRow, StoreFault> {
-    let solution = text(alloc, "1234341221434321")?;
-    let key = opening_key(alloc)?;
-    let puzzle = opening_grid(alloc)?;
-    Ok(PuzzleRow {
-        key,
-        puzzle,
-        state: PuzzleState::One(solution),
+/// Whether nobody has the name or the key, and the roles may go together.
+fn is_free(store: &MapStore, person: &Person) -> Result<bool, AllocError>
+    ensures name { IfOk result (λ free. IsTrue free → get (world_of store.now).people person.now.name ≡ None) }
+    ensures key { IfOk result (λ free. IsTrue free → (name : List ℕ) (other : Known) → get (world_of store.now).people name ≡ Some other → other.key ≢ person.now.key) }
+    ensures roles { IfOk result (λ free. IsTrue free → IsTrue person.now.roles.director → IsTrue person.now.roles.entrant → ⊥) }
+{
+    if person.roles.director && person.roles.entrant {
+        return Ok(false);
+    }
+    Ok(
+        person_at(&store.people, &person.name)?.is_none()
+            && holder(&store.people, &person.key)?.is_none(),
+    )
+}
+
+fn add_puzzles(alloc: Global, store: &mut MapStore) -> Result<(), StoreFault>
+    requires { Sane (world_of store.old) }
+    ensures { OnOk result (Sane (world_of store.new)) }
+{
+    add_puzzle(
+        alloc,
+        store,
+        "bob-key-1",
+        "bob",
+        "p1",
+        b"sudoku/4/4/123434122143432g",
+    )?;
+    add_puzzle(alloc, store, "ada-key-1", "ada", "q1", b"nurikabe/2/2/1i")?;
+    add_puzzle(alloc, store, "bob-key-1", "bob", "v", b"sudoku/4/4/v")
+}
+
+/// Puts a puzzle as its author does.
+fn add_puzzle(
+    alloc: Global,
+    store: &mut MapStore,
+    key: &str,
+    author: &str,
+    label: &str,
+    puzzle: &[u8],
+) -> Result<(), StoreFault>
+    requires { Sane (world_of store.old) }
+    ensures { OnOk result (Sane (world_of store.new)) }
+{
+    let request = put_request(alloc, key, author, label, puzzle)?;
+    let Some(t) = Moment::new(0) else {
+        return Err(StoreFault::Failed);
+    };
+    match step(alloc, store, t, &request) {
+        Reply::PuzzlePut { .. } => Ok(()),
+        _ => Err(StoreFault::Failed),
+    }
+}
+
+fn put_request(
+    alloc: Global,
+    key: &str,
+    author: &str,
+    label: &str,
+    puzzle: &[u8],
+) -> Result<Request, StoreFault> {
+    let Ok(puzzle) = parse_puzzle(alloc, puzzle) else {
+        return Err(StoreFault::Failed);
+    };
+    let name = PuzzleKey {
+        author: text(alloc, author)?,
+        label: text(alloc, label)?,
+    };
+    Ok(Request {
+        key: Some(text(alloc, key)?),
+        action: Action::PutPuzzle { key: name, puzzle },
     })
 }
 
-fn opening_entries(alloc: Global) -> Result<Entries, StoreFault> {
-    let Some(points) = Points::new(40) else {
+/// A round of one puzzle, not released yet.
+#[derive(Clone, Copy)]
+struct Draft<'a> {
+    id: &'a str,
+    title: &'a str,
+    start: u64,
+    mode: Mode,
+    penalty: u64,
+    bonus: u64,
+    author: &'a str,
+    label: &'a str,
+    points: u64,
+}
+
+/// From nine o'clock on 2 May 2026.
+const MORNING: Draft<'static> = Draft {
+    id: "r1",
+    title: "Morning",
+    start: 1_777_712_400,
+    mode: Mode::Instant,
+    penalty: 5,
+    bonus: 2,
+    author: "bob",
+    label: "p1",
+    points: 40,
+};
+
+/// From half past nine.
+const LATE: Draft<'static> = Draft {
+    id: "r2",
+    title: "Late",
+    start: 1_777_714_200,
+    mode: Mode::Sealed,
+    penalty: 0,
+    bonus: 0,
+    author: "ada",
+    label: "q1",
+    points: 30,
+};
+
+const UNCERTAIN: Draft<'static> = Draft {
+    id: "r3",
+    label: "v",
+    ..MORNING
+};
+
+fn add_drafts(alloc: Global, store: &mut MapStore) -> Result<(), StoreFault>
+    requires { Sane (world_of store.old) }
+    ensures { OnOk result (Sane (world_of store.new)) }
+{
+    add_draft(alloc, store, &MORNING)?;
+    add_draft(alloc, store, &LATE)?;
+    add_draft(alloc, store, &UNCERTAIN)
+}
+
+fn add_draft(alloc: Global, store: &mut MapStore, draft: &Draft) -> Result<(), StoreFault>
+    requires { Sane (world_of store.old) }
+    ensures { OnOk result (Sane (world_of store.new)) }
+{
+    let row = draft_row(alloc, draft)?;
+    insert_draft(store, row)
+}
+
+/// The draft of an hour, with half an hour for protests.
+fn draft_row(alloc: Global, draft: &Draft) -> Result<RoundRow, StoreFault> {
+    let puzzles = draft_entries(alloc, draft)?;
+    let (Some(start), Some(minutes), Some(protest_minutes)) = (
+        Moment::new(draft.start),
+        Minutes::new(60),
+        ProtestMinutes::new(30),
+    ) else {
         return Err(StoreFault::Failed);
     };
-    let puzzle = opening_key(alloc)?;
+    let (Some(penalty), Some(bonus)) = (Penalty::new(draft.penalty), Bonus::new(draft.bonus)) else {
+        return Err(StoreFault::Failed);
+    };
+    let round = Round {
+        id: text(alloc, draft.id)?,
+        title: text(alloc, draft.title)?,
+        start,
+        minutes,
+        protest_minutes,
+        mode: draft.mode,
+        penalty,
+        bonus,
+        released: false,
+        published: false,
+    };
+    Ok(RoundRow { round, puzzles })
+}
+
+fn draft_entries(alloc: Global, draft: &Draft) -> Result<Entries, StoreFault> {
+    let Some(points) = Points::new(draft.points) else {
+        return Err(StoreFault::Failed);
+    };
+    let puzzle = PuzzleKey {
+        author: text(alloc, draft.author)?,
+        label: text(alloc, draft.label)?,
+    };
     let mut list = Vec::new(alloc);
     list.push(Entry { puzzle, points })
         .map_err(AllocError::from)?;
@@ -153,30 +305,29 @@ fn opening_entries(alloc: Global) -> Result<Entries, StoreFault> {
     }
 }
 
-/// One hour from nine o'clock on 2 May 2026, then half an hour for protests.
-fn opening_round(alloc: Global) -> Result<RoundRow, StoreFault> {
-    let puzzles = opening_entries(alloc)?;
-    let (Some(start), Some(minutes), Some(protest_minutes)) = (
-        Moment::new(1_777_712_400),
-        Minutes::new(60),
-        ProtestMinutes::new(30),
-    ) else {
+/// Puts a draft whose id is free and whose puzzles are there.
+pub(crate) fn insert_draft(store: &mut MapStore, row: RoundRow) -> Result<(), StoreFault>
+    requires { Sane (world_of store.old) }
+    ensures { OnOk result (Sane (world_of store.new)) }
+{
+    if row.round.released || row.round.published || store.rounds.contains_key(&row.round.id) {
         return Err(StoreFault::Failed);
-    };
-    let (Some(penalty), Some(bonus)) = (Penalty::new(5), Bonus::new(2)) else {
+    }
+    if !are_kept(&store.puzzles, row.puzzles.as_slice()) {
         return Err(StoreFault::Failed);
-    };
-    let round = Round {
-        id: text(alloc, "r1")?,
-        title: text(alloc, "Morning")?,
-        start,
-        minutes,
-        protest_minutes,
-        mode: Mode::Instant,
-        penalty,
-        bonus,
-        released: true,
-        published: false,
-    };
-    Ok(RoundRow { round, puzzles })
+    }
+    let id = row.round.id.clone()?;
+    match store.rounds.insert(id, row) {
+        Ok(_) => Ok(()),
+        Err(_) => Err(StoreFault::Memory),
+    }
+}
+
+/// Whether each entry's puzzle is kept.
+fn are_kept(puzzles: &BTreeMap<PuzzleKey, PuzzleRow>, entries: &[Entry]) -> bool
+    ensures { IsTrue result → All (λ entry. tree.get puzzle_cmp puzzles.now entry.puzzle ≢ None) entries.now }
+{
+    entries
+        .iter()
+        .all(|entry| puzzles.contains_key(&entry.puzzle))
 }

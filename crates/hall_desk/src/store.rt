@@ -38,15 +38,9 @@ pub enum Change {
     /// Stores the puzzle, in the place of the one under its key.
     PutPuzzle(PuzzleRow),
     /// Sets the state of the puzzle under the key.
-    SetState {
-        key: PuzzleKey,
-        state: PuzzleState,
-    },
+    SetState { key: PuzzleKey, state: PuzzleState },
     /// Sets a flag of the round.
-    SetRoundFlag {
-        round: RoundId,
-        flag: RoundFlag,
-    },
+    SetRoundFlag { round: RoundId, flag: RoundFlag },
     /// Stores one more answer.
     AddAnswer(AnswerRow),
 }

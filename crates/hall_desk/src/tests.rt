@@ -1,8 +1,14 @@
+use crate::map_reads::round_at;
+use crate::opening::insert_draft;
 use crate::{Desk, Reply, StateName};
 use hall_grid::parse_puzzle;
-use hall_policy::{Action, Checked, Key, Moment, PuzzleKey, PuzzleNumber, Request, TextKind};
+use hall_policy::{
+    Action, Budget, Checked, Key, Moment, PuzzleKey, PuzzleNumber, Request, TextKind,
+};
 use std::alloc::Global;
 use std::test::Fail;
+
+const BEFORE: u64 = 1_777_700_000;
 
 const START: u64 = 1_777_712_400;
 
@@ -32,7 +38,9 @@ fn shown(alloc: Global, reply: &Reply) -> Result<String, Fail> {
     Ok(match reply {
         Reply::Denied(rule) => format!(in alloc; "denied {rule}")?,
         Reply::Unavailable => String::from_str(alloc, "unavailable")?,
-        Reply::PuzzlePut { text, .. } => format!(in alloc; "put {}", text.as_str())?,
+        Reply::PuzzlePut { state, text } => {
+            format!(in alloc; "put {} {}", state_word(*state), text.as_str())?
+        }
         Reply::Certified(state) => format!(in alloc; "certified {}", state_word(*state))?,
         Reply::Released(round) => format!(in alloc; "released {}", round.as_str())?,
         Reply::RoundRead(round) => {
@@ -85,6 +93,25 @@ fn answers(alloc: Global) -> Result<Action, Fail> {
     Ok(Action::Answers { round })
 }
 
+fn release(alloc: Global, round: &str) -> Result<Action, Fail> {
+    let round = text(alloc, round)?;
+    Ok(Action::Release { round })
+}
+
+fn certify(alloc: Global, author: &str, label: &str, budget: u64) -> Result<Action, Fail> {
+    Ok(Action::Certify {
+        key: puzzle_key(alloc, author, label)?,
+        budget: Budget::new(budget).ok_or("budget")?,
+    })
+}
+
+fn puzzle_key(alloc: Global, author: &str, label: &str) -> Result<PuzzleKey, Fail> {
+    Ok(PuzzleKey {
+        author: text(alloc, author)?,
+        label: text(alloc, label)?,
+    })
+}
+
 fn submit(alloc: Global, token: &str, answer: &str) -> Result<Action, Fail> {
     Ok(Action::Submit {
         number: PuzzleNumber::new(1).ok_or("number")?,
@@ -99,10 +126,7 @@ fn put(alloc: Global, author: &str, label: &str, puzzle: &[u8]) -> Result<Action
         Ok(puzzle) => puzzle,
         Err(_) => Err("puzzle")?,
     };
-    let key = PuzzleKey {
-        author: text(alloc, author)?,
-        label: text(alloc, label)?,
-    };
+    let key = puzzle_key(alloc, author, label)?;
     Ok(Action::PutPuzzle { key, puzzle })
 }
 
@@ -113,10 +137,19 @@ fn open(alloc: Global) -> Result<Desk, Fail> {
     }
 }
 
+/// A desk whose round r1 is released.
+fn open_round(alloc: Global) -> Result<Desk, Fail> {
+    let mut desk = open(alloc)?;
+    let bob = certify(alloc, "bob", "p1", 200_000);
+    ask(alloc, &mut desk, "bob-key-1", BEFORE, bob)?;
+    ask(alloc, &mut desk, "dora-key", BEFORE, release(alloc, "r1"))?;
+    Ok(desk)
+}
+
 #[test]
 fn eve_reads_and_answers(rt: HostRuntime) -> Result<(), Fail> {
     let alloc = rt.alloc();
-    let mut desk = open(alloc)?;
+    let mut desk = open_round(alloc)?;
     let desk = &mut desk;
     let eve = "eve-key-1";
     assert_eq!(rt;
@@ -161,7 +194,7 @@ fn eve_reads_and_answers(rt: HostRuntime) -> Result<(), Fail> {
 #[test]
 fn answers_are_listed(rt: HostRuntime) -> Result<(), Fail> {
     let alloc = rt.alloc();
-    let mut desk = open(alloc)?;
+    let mut desk = open_round(alloc)?;
     let desk = &mut desk;
     assert_eq!(rt;
         ask(alloc, desk, "eve-key-1", START, submit(alloc, "k1", RIGHT))?.as_str(),
@@ -201,7 +234,7 @@ fn answers_are_listed(rt: HostRuntime) -> Result<(), Fail> {
 #[test]
 fn puzzles_are_put(rt: HostRuntime) -> Result<(), Fail> {
     let alloc = rt.alloc();
-    let mut desk = open(alloc)?;
+    let mut desk = open_round(alloc)?;
     let grid = b"sudoku/4/4/123434122143432g".as_slice();
     let short = b"sudoku/9/9/".as_slice();
     let long = b"sudoku/9/9/zz".as_slice();
@@ -209,8 +242,8 @@ fn puzzles_are_put(rt: HostRuntime) -> Result<(), Fail> {
         ("ada-key-1", "bob", "zz", grid, "denied 3"),
         ("bob-key-1", "bob", "p1", grid, "denied 11"),
         ("dora-key", "rex", "p1", grid, "denied 4"),
-        ("bob-key-1", "bob", "p2", short, "put sudoku/9/9/zzzzg"),
-        ("bob-key-1", "bob", "p2", long, "put sudoku/9/9/zzzzg"),
+        ("bob-key-1", "bob", "p2", short, "put new sudoku/9/9/zzzzg"),
+        ("bob-key-1", "bob", "p2", long, "put new sudoku/9/9/zzzzg"),
     ] {
         let action = put(alloc, author, label, puzzle);
         assert_eq!(rt; ask(alloc, &mut desk, key, START, action)?.as_str(), reply);
@@ -221,7 +254,7 @@ fn puzzles_are_put(rt: HostRuntime) -> Result<(), Fail> {
 #[test]
 fn a_list_is_run(rt: HostRuntime) -> Result<(), Fail> {
     let alloc = rt.alloc();
-    let mut desk = open(alloc)?;
+    let mut desk = open_round(alloc)?;
     let mut requests = Vec::new(alloc);
     let t = Moment::new(END - 1).ok_or("moment")?;
     for token in ["k1", "k2"] {
@@ -233,5 +266,126 @@ fn a_list_is_run(rt: HostRuntime) -> Result<(), Fail> {
     let replies = desk.run(alloc, requests.as_slice())?;
     assert_eq!(rt; replies.len(), 2);
     assert_eq!(rt; shown(alloc, &replies[1])?.as_str(), "received 2 false");
+    Ok(())
+}
+
+#[test]
+fn puzzles_are_certified(rt: HostRuntime) -> Result<(), Fail> {
+    let alloc = rt.alloc();
+    let mut desk = open(alloc)?;
+    for (key, author, label, budget, reply) in [
+        ("no-such-key", "bob", "p1", 200_000, "denied 1"),
+        ("eve-key-1", "bob", "p1", 200_000, "denied 2"),
+        ("ada-key-1", "bob", "p1", 200_000, "denied 3"),
+        ("ada-key-1", "bob", "none", 200_000, "denied 3"),
+        ("bob-key-1", "bob", "none", 200_000, "denied 4"),
+        ("bob-key-1", "bob", "p1", 0, "certified gave up"),
+        ("bob-key-1", "bob", "p1", 200_000, "certified one"),
+        ("bob-key-1", "bob", "p1", 0, "certified one"),
+        ("dora-key", "ada", "q1", 200_000, "certified one"),
+        ("bob-key-1", "bob", "v", 1, "certified gave up"),
+        ("bob-key-1", "bob", "v", 200_000, "certified more"),
+        ("bob-key-1", "bob", "v", 1, "certified more"),
+    ] {
+        let action = certify(alloc, author, label, budget);
+        assert_eq!(rt; ask(alloc, &mut desk, key, START, action)?.as_str(), reply);
+    }
+    Ok(())
+}
+
+#[test]
+fn new_texts_are_new_puzzles(rt: HostRuntime) -> Result<(), Fail> {
+    let alloc = rt.alloc();
+    let mut desk = open(alloc)?;
+    let bob = "bob-key-1";
+    let grid = b"sudoku/4/4/123434122143432g".as_slice();
+    let other = b"sudoku/4/4/v".as_slice();
+    let desk = &mut desk;
+    let first = certify(alloc, "bob", "p1", 200_000);
+    assert_eq!(rt;
+        ask(alloc, desk, bob, START, first)?.as_str(),
+        "certified one"
+    );
+    for (puzzle, reply) in [
+        (grid, "put one sudoku/4/4/123434122143432g"),
+        (other, "put new sudoku/4/4/v"),
+        (grid, "put new sudoku/4/4/123434122143432g"),
+    ] {
+        let action = put(alloc, "bob", "p1", puzzle);
+        assert_eq!(rt; ask(alloc, desk, bob, START, action)?.as_str(), reply);
+    }
+    assert_eq!(rt;
+        ask(alloc, desk, "dora-key", BEFORE, release(alloc, "r1"))?.as_str(),
+        "denied 12"
+    );
+    Ok(())
+}
+
+#[test]
+fn rounds_are_released(rt: HostRuntime) -> Result<(), Fail> {
+    let alloc = rt.alloc();
+    let mut desk = open(alloc)?;
+    let desk = &mut desk;
+    for (author, label, budget) in [
+        ("bob", "p1", 200_000),
+        ("ada", "q1", 200_000),
+        ("bob", "v", 1),
+    ] {
+        let action = certify(alloc, author, label, budget);
+        ask(alloc, desk, "dora-key", BEFORE, action)?;
+    }
+    for (key, second, round, reply) in [
+        ("bob-key-1", BEFORE, "r1", "denied 2"),
+        ("dora-key", BEFORE, "r9", "denied 4"),
+        ("dora-key", BEFORE, "r3", "denied 12"),
+        ("dora-key", START, "r1", "denied 14"),
+        ("dora-key", START - 1, "r1", "released r1"),
+        ("dora-key", BEFORE, "r1", "denied 13"),
+        ("dora-key", BEFORE, "r2", "released r2"),
+        ("dora-key", BEFORE, "r2", "denied 13"),
+    ] {
+        let action = release(alloc, round);
+        assert_eq!(rt; ask(alloc, desk, key, second, action)?.as_str(), reply);
+    }
+    Ok(())
+}
+
+#[test]
+fn released_puzzles_are_in_one_round(rt: HostRuntime) -> Result<(), Fail> {
+    let alloc = rt.alloc();
+    let mut desk = open_round(alloc)?;
+    let id = text(alloc, "r1")?;
+    let mut twin = round_at(&desk.store.rounds, &id)?.ok_or("round")?;
+    twin.round.id = text(alloc, "r4")?;
+    twin.round.released = false;
+    let Ok(()) = insert_draft(&mut desk.store, twin) else {
+        return Err("draft")?;
+    };
+    assert_eq!(rt;
+        ask(alloc, &mut desk, "dora-key", BEFORE, release(alloc, "r4"))?.as_str(),
+        "denied 11"
+    );
+    Ok(())
+}
+
+#[test]
+fn fifty_answers_are_taken(rt: HostRuntime) -> Result<(), Fail> {
+    let alloc = rt.alloc();
+    let mut desk = open_round(alloc)?;
+    for n in 1..=50 {
+        let token = format!(in alloc; "k{n}")?;
+        let reply = format!(in alloc; "received {n} false")?;
+        let action = submit(alloc, token.as_str(), WRONG);
+        let given = ask(alloc, &mut desk, "eve-key-1", START, action)?;
+        assert_eq!(rt; given.as_str(), reply.as_str());
+    }
+    for (key, token, reply) in [
+        ("eve-key-1", "k51", "denied 19"),
+        ("eve-key-1", "k50", "received 50 false"),
+        ("fay-key-1", "k51", "received 1 false"),
+    ] {
+        let action = submit(alloc, token, WRONG);
+        assert_eq!(rt; ask(alloc, &mut desk, key, START, action)?.as_str(), reply);
+    }
     Ok(())
 }
