@@ -63,14 +63,14 @@ IsFound puzzle budget state.GaveUp = OutcomeOfPuzzle puzzle budget outcome.GaveU
 
 -- the puzzle is searched, and what is found becomes its state
 pub record IsSearched (world : World) (key : PuzzleKey) (row : PuzzleRow) (budget : ℕ) (found : PuzzleState) (given : Reply) (new : World) : Type 0 where
-  pub open : is_open row.state ≡ true
+  pub unsettled : is_open row.state ≡ true
   pub is_found : IsFound row.puzzle budget found
   pub told : given ≡ reply.Certified (state_name found)
   pub stored : new ≡ record world { puzzles = insert world.puzzles key (record row { state = found }) }
 
 -- a search of the puzzle came to an end before: nothing changes
 pub record IsSettled (world : World) (row : PuzzleRow) (given : Reply) (new : World) : Type 0 where
-  pub closed : is_open row.state ≡ false
+  pub settled : is_open row.state ≡ false
   pub told : given ≡ reply.Certified (state_name row.state)
   pub same : new ≡ world
 
