@@ -1,6 +1,7 @@
 -- The empty world is sane, and stays so as people and drafts are added.
 use Rattle.std.proofs.Common.{◌≡◌, ◌≢◌, ◌≤◌, ◌==◌, ◌&&◌, ◌⊎◌, inl, inr, ℕ, zero, suc, Bool, true, false, List, [], ◌∷◌, map, Option, Some, None, Contains, IsTrue, refl, sym, ap, ◌∙◌, subst, arith, slice_get}
 use Rattle.std.specs.List.{count_by}
+use Rattle.std.specs.List.Sorted.{IsStrictlySortedBy}
 use Rattle.std.specs.FinMap.{FinMap, IsAntisymmetric, get, insert, values, from_entries}
 use Rattle.std.specs.Cmp.{IsTotalOrder}
 use Rattle.std.specs.declared.cmp.Ordering.{Ordering}
@@ -32,6 +33,7 @@ module _ {K : Type 0} {R : K → K → Ordering} (o : IsTotalOrder R) (X : Type 
 
   -- and none of its values counts
   none_counts : IsAntisymmetric R → (p : X → Bool) → count_by p (values (from_entries {R = R} [])) ≡ 0
+  unfolding IsStrictlySortedBy
   none_counts same p = ap (λ (es : List (K × X)). count_by p (map (λ e. e.1) es)) (entries_made o same [] tt)
 
 -- an empty world is sane: nothing stands anywhere
