@@ -1,5 +1,5 @@
 -- The empty world is sane, and stays so as people and drafts are added.
-use Rattle.std.proofs.Common.{◌≡◌, ◌≢◌, ◌≤◌, ◌==◌, ◌&&◌, ◌⊎◌, inl, inr, ℕ, zero, suc, Bool, true, false, List, [], ◌∷◌, map, Option, Some, None, Contains, IsTrue, refl, sym, ap, ◌∙◌, subst, arith, slice_get}
+use Rattle.std.proofs.Common.{◌≡◌, ◌≢◌, ◌==◌, ◌&&◌, ◌⊎◌, inl, inr, ℕ, zero, suc, Bool, true, false, List, [], map, Some, None, Contains, IsTrue, sym, ap, ◌∙◌, subst, arith}
 use Rattle.std.specs.List.{count_by}
 use Rattle.std.specs.List.Sorted.{IsStrictlySortedBy}
 use Rattle.std.specs.FinMap.{FinMap, IsAntisymmetric, get, insert, values, from_entries}
@@ -7,9 +7,9 @@ use Rattle.std.specs.Cmp.{IsTotalOrder}
 use Rattle.std.specs.declared.cmp.Ordering.{Ordering}
 use Rattle.std.proofs.lemmas.Option.{slice_get_within, get_or_from_slice_get}
 use Rattle.hall_policy.specs.Text.{text_cmp}
-use Rattle.hall_policy.specs.World.{World, IsRoundAt, entry_at, same_text, puzzle_cmp, place_cmp, answer_cmp, protest_cmp}
+use Rattle.hall_policy.specs.World.{World, entry_at, same_text, place_cmp}
 use Rattle.hall_policy.specs.Lists.{AreEntries}
-use Rattle.hall_policy.specs.Rules.{Lists, StandsReleased, IsCertified}
+use Rattle.hall_policy.specs.Rules.{StandsReleased}
 use Rattle.hall_policy.specs.declared.record.Person.{Person}
 use Rattle.hall_policy.specs.declared.record.PuzzleKey.{PuzzleKey}
 use Rattle.hall_policy.specs.declared.record.PuzzleRow.{PuzzleRow}
@@ -21,7 +21,7 @@ use Rattle.hall_policy.specs.declared.record.Entry.{Entry}
 use Rattle.hall_policy.specs.declared.record.PlaceKey.{PlaceKey}
 use Rattle.hall_policy.proofs.Orders.{text_total, same_texts, puzzle_total, place_total, answer_total, protest_total, same_puzzle_keys, same_answer_keys, same_protest_keys}
 use Rattle.hall_desk.specs.Found.{IsReleasedRound}
-use Rattle.hall_desk.specs.Sane.{Sane, IsKeyed, HasPlace, IsVerdictAt}
+use Rattle.hall_desk.specs.Sane.{Sane, IsKeyed}
 use Rattle.hall_desk.proofs.MapWorlds.{get_found, entries_made}
 use Rattle.hall_desk.proofs.Inserts.{keys_apart, found_after, others_stay, inserted_there, still_there}
 
@@ -36,7 +36,7 @@ module _ {K : Type 0} {R : K → K → Ordering} (o : IsTotalOrder R) (X : Type 
   unfolding IsStrictlySortedBy
   none_counts same p = ap (λ (es : List (K × X)). count_by p (map (λ e. e.1) es)) (entries_made o same [] tt)
 
--- an empty world is sane: nothing stands anywhere
+-- the empty world is sane: nothing stands anywhere, and nothing counts
 pub empty_sane : Sane (record { people = from_entries []; puzzles = from_entries []; rounds = from_entries []; places = from_entries []; answers = from_entries []; protests = from_entries [] })
 empty_sane = record {
   keyed = record {
@@ -76,6 +76,7 @@ module _ (world : World) (person : Person) (sane : Sane world) where
   abbrev new_people : FinMap text_cmp Person
   new_people = insert world.people person.name person
 
+  -- who is found is the new person, or was there before under another name
   after_person : (q : List ℕ) (p : Person) → get new_people q ≡ Some p → ((q ≡ person.name) × (p ≡ person)) ⊎ ((q ≢ person.name) × (get world.people q ≡ Some p))
   after_person q p found = found_after text_total same_texts world.people person.name person q p found
 
@@ -138,6 +139,7 @@ person_sane world person sane fresh own_key one_role = record {
 }
 
 -- ---- a draft
+-- the entry at a number is in the list
 listed : (entries : List Entry) (number : ℕ) (entry : Entry) → entry_at entries number ≡ Some entry → Contains entries entry
 listed entries zero entry h = let no : None ≡ Some entry = h in absurd (cc)
 listed entries (suc before) entry h = (before, slice_get_within entries before entry h, get_or_from_slice_get entries before entry entry h)
@@ -151,6 +153,7 @@ module _ (world : World) (id : List ℕ) (row : RoundRow) (places : FinMap place
   abbrev after : World
   after = record world { rounds = new_rounds; places = places }
 
+  -- a round that is found is the draft, or was there before under another id
   after_draft : (q : List ℕ) (r : Round) → get new_rounds q ≡ Some r → ((q ≡ id) × (r ≡ row.round)) ⊎ ((q ≢ id) × (get world.rounds q ≡ Some r))
   after_draft q r found = found_after text_total same_texts world.rounds id row.round q r found
 
@@ -169,6 +172,7 @@ module _ (world : World) (id : List ℕ) (row : RoundRow) (places : FinMap place
   place_stays : (key : PlaceKey) (entry : Entry) → get world.places key ≡ Some entry → get places key ≡ Some entry
   place_stays key entry found = at_other key (another key.round (sane.keyed.homes key entry found)) ∙ found
 
+  -- a released round stays one, since it is not the draft
   released_stays : (q : List ℕ) → IsReleasedRound world q → IsReleasedRound after q
   released_stays q (r, found, is) =
       (r, others_stay text_total same_texts world.rounds id row.round q r (another q (λ none. let no : Some r ≡ None = sym found ∙ none in cc)) found, is)
@@ -186,21 +190,23 @@ module _ (world : World) (id : List ℕ) (row : RoundRow) (places : FinMap place
       protests = sane.keyed.protests;
       authors = sane.keyed.authors;
       lists = λ q r found. elim (after_draft q r found) [
-        | inl h ↦
-            (row,
-              record {
-                head = inserted_there text_total same_texts world.rounds id row.round q h.0;
-                list = λ number. ap (λ (x : List ℕ). get places (record { round = x; number = number })) h.0 ∙ at_own number;
-              },
-              entries)
+        | inl h ↦ (
+          row,
+          record {
+            head = inserted_there text_total same_texts world.rounds id row.round q h.0;
+            list = λ number. ap (λ (x : List ℕ). get places (record { round = x; number = number })) h.0 ∙ at_own number;
+          },
+          entries,
+        )
         | inr h ↦
-            let l = sane.keyed.lists q r h.1 in
-            (l.0,
+            let l = sane.keyed.lists q r h.1 in (
+              l.0,
               record {
                 head = others_stay text_total same_texts world.rounds id row.round q l.0.round h.0 l.1.head;
                 list = λ number. at_other (record { round = q; number = number }) h.0 ∙ l.1.list number;
               },
-              l.2)
+              l.2,
+            )
       ];
       homes = λ key entry found. elim (place_from key entry found) [
         | inl h ↦ λ none. let no : Some row.round ≡ None = sym (inserted_there text_total same_texts world.rounds id row.round key.round h.0) ∙ none in cc

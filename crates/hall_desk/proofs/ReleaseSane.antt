@@ -1,5 +1,5 @@
 -- A draft that is released keeps the world sane.
-use Rattle.std.proofs.Common.{◌≡◌, ◌≢◌, ◌⊎◌, inl, inr, ℕ, Bool, true, false, List, Option, Some, None, IsTrue, refl, sym, ap, ◌∙◌, subst, lit<}
+use Rattle.std.proofs.Common.{◌≡◌, ◌≢◌, ◌⊎◌, inl, inr, ℕ, true, List, Option, Some, None, IsTrue, refl, sym, ap, ◌∙◌, subst, lit<}
 use Rattle.std.specs.FinMap.{FinMap, get, insert}
 use Rattle.hall_policy.specs.Text.{text_cmp}
 use Rattle.hall_policy.specs.World.{World, IsRoundAt}
@@ -33,6 +33,7 @@ module _ (world : World) (id : List ℕ) (round : Round) (kept : get world.round
   abbrev after : World
   after = record world { rounds = new_rounds }
 
+  -- a round that is found is this one, released, or was there before under another id
   after_release : (q : List ℕ) (r : Round) → get new_rounds q ≡ Some r → ((q ≡ id) × (r ≡ released_round)) ⊎ ((q ≢ id) × (get world.rounds q ≡ Some r))
   after_release q r found = found_after text_total same_texts world.rounds id released_round q r found
 
@@ -50,17 +51,19 @@ module _ (world : World) (id : List ℕ) (round : Round) (kept : get world.round
     | inr h ↦ inr (h.0, (r, entry, h.1, is, lists, of))
   ]
 
+  -- each round keeps its list: no place changes
   lists_then : (q : List ℕ) (r : Round) → get new_rounds q ≡ Some r → (row : RoundRow) × IsRoundAt after q row × AreEntries row.puzzles
   lists_then q r found = elim (after_release q r found) [
     | inl h ↦
         let l = sane.keyed.lists id round kept in
-        let old : RoundRow = l.0 in
-        (record old { round = released_round },
+        let old : RoundRow = l.0 in (
+          record old { round = released_round },
           record {
             head = inserted_there text_total same_texts world.rounds id released_round q h.0;
             list = λ number. ap (λ (x : List ℕ). get world.places (record { round = x; number = number })) h.0 ∙ l.1.list number;
           },
-          l.2)
+          l.2,
+        )
     | inr h ↦ let l = sane.keyed.lists q r h.1 in (l.0, record { head = others_stay text_total same_texts world.rounds id released_round q l.0.round h.0 l.1.head; list = l.1.list }, l.2)
   ]
 
@@ -86,12 +89,14 @@ module _ (world : World) (id : List ℕ) (round : Round) (kept : get world.round
 
   module _ (all_certified : (entry : Entry) → Lists world id entry → IsCertified world entry.puzzle)
       (none_shared : (entry : Entry) (other : List ℕ) → Lists world id entry → other ≢ id → ¬ (StandsReleased world entry.puzzle other)) where
+    -- a puzzle of this round is certified by its rules, and one of another round was before
     certified_then : (q : List ℕ) (key : PuzzleKey) → StandsReleased after key q → IsCertified world key
     certified_then q key stands = elim (stands_then q key stands) [
       | inl h ↦ subst (λ (k : PuzzleKey). IsCertified world k) h.1.2 (all_certified h.1.0 h.1.1)
       | inr h ↦ sane.certified q key h.1
     ]
 
+    -- a puzzle of this round stands in no other, and two others were one before
     one_round_then : (a b : List ℕ) (key : PuzzleKey) → StandsReleased after key a → StandsReleased after key b → a ≡ b
     one_round_then a b key at_a at_b = elim (stands_then a key at_a) [
       | inl h ↦ elim (stands_then b key at_b) [
@@ -138,6 +143,7 @@ in_other_state world key row kept never c =
     let same : row ≡ c.0 = cc in
     never c.1 (ap (λ (r : PuzzleRow). r.state) same ∙ c.3)
 
+-- the state that is kept tells, case by case
 by_state : (world : World) (key : PuzzleKey) (row : PuzzleRow) (kind : PuzzleState) → get world.puzzles key ≡ Some row → row.state ≡ kind → ¬ (¬ (IsCertified world key)) → IsCertified world key
 by_state world key row (state.One solution) kept is h = (row, solution, kept, is)
 by_state world key row state.New kept is h = absurd (h (in_other_state world key row kept (λ s e. let no : state.New ≡ state.One s = sym is ∙ e in cc)))

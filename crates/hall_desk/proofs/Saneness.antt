@@ -1,22 +1,15 @@
 -- Every step of the hall keeps a sane world.
-use Rattle.std.proofs.Common.{◌≡◌, ◌≢◌, ◌==◌, ◌+◌, ◌&&◌, ◌<◌, ◌≤◌, ◌⊎◌, inl, inr, ℕ, Bool, true, false, cond, List, [], ◌∷◌, Option, Some, None, Contains, IsTrue, refl, sym, ap, ◌∙◌, subst, arith, nat_lt}
+use Rattle.std.proofs.Common.{◌≡◌, ◌≢◌, ◌==◌, ◌+◌, ◌&&◌, ◌<◌, ◌≤◌, ◌⊎◌, inl, inr, ℕ, Bool, true, false, cond, List, Option, Some, None, IsTrue, refl, sym, ap, ◌∙◌, subst, arith}
 use Rattle.std.specs.List.{count_by}
 use Rattle.std.specs.FinMap.{FinMap, get, insert, values}
-use Rattle.hall_grid.specs.Board.{Board}
 use Rattle.hall_policy.specs.World.{World, same_text, puzzle_cmp, answer_cmp}
-use Rattle.hall_policy.specs.Rules.{Lists, StandsReleased, IsCertified, TheCaller, answers_given, puzzles_put, IsInReleasedRound, IsAtLimit, IsMissing, TokenStands, SameContent}
-use Rattle.hall_policy.specs.Actions.{rules_asked, number_of}
-use Rattle.hall_policy.specs.First.{First, Sentence, Forbids, Repeated, NoneBelow}
-use Rattle.hall_policy.specs.declared.rule.Rule.TheVariants as rule
-use Rattle.hall_policy.specs.declared.record.Person.{Person}
+use Rattle.hall_policy.specs.Rules.{StandsReleased, answers_given, puzzles_put}
 use Rattle.hall_policy.specs.declared.record.PuzzleKey.{PuzzleKey}
 use Rattle.hall_policy.specs.declared.record.PuzzleRow.{PuzzleRow}
-use Rattle.hall_policy.specs.declared.record.PuzzleState.TheVariants as state
 use Rattle.hall_policy.specs.declared.record.Round.{Round}
 use Rattle.hall_policy.specs.declared.record.Entry.{Entry}
 use Rattle.hall_policy.specs.declared.record.AnswerKey.{AnswerKey}
 use Rattle.hall_policy.specs.declared.record.AnswerRow.{AnswerRow}
-use Rattle.hall_policy.specs.declared.request.Action.TheVariants as action
 use Rattle.hall_policy.proofs.Maps.{count_by-insert_new, count_by-insert_alike}
 use Rattle.hall_policy.proofs.Orders.{puzzle_total, same_puzzle_keys, answer_total, same_answer_keys}
 use Rattle.hall_desk.proofs.Answering.{text_decides}

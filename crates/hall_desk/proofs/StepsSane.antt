@@ -1,20 +1,16 @@
 -- Each step, and so each run, keeps a sane world.
-use Rattle.std.proofs.Common.{◌≡◌, ◌≢◌, ◌&&◌, ◌<◌, ◌≤◌, ◌⊎◌, inl, inr, ℕ, Bool, true, false, List, [], ◌∷◌, Option, Some, None, Contains, IsTrue, refl, sym, ap, ◌∙◌, subst, arith, lit<, Result, Ok, Err, IfOk, OnErr, Vec, Global}
+use Rattle.std.proofs.Common.{◌≡◌, ◌&&◌, ◌<◌, ◌≤◌, inl, inr, ℕ, Bool, true, false, List, [], ◌∷◌, Option, Some, None, refl, sym, ◌∙◌, subst, arith, lit<, Result, Ok, Err, IfOk, OnErr, Vec, Global}
 use Rattle.std.specs.Bool.{⊤}
-use Rattle.std.specs.List.{find}
 use Rattle.std.proofs.lemmas.Bool.{cases_order}
 use Rattle.std.proofs.lemmas.Option.{slice_get_within, get_or_from_slice_get}
 use Rattle.std.specs.FinMap.{get, values}
 use Rattle.hall_policy.specs.World.{World, same_text}
-use Rattle.hall_policy.specs.Rules.{TheCaller, StandsReleased, answers_given, puzzles_put, SameContent, TokenStands}
-use Rattle.hall_policy.specs.Actions.{rules_asked}
+use Rattle.hall_policy.specs.Rules.{answers_given, puzzles_put}
 use Rattle.hall_policy.specs.First.{NoneBelow}
 use Rattle.hall_policy.specs.declared.rule.Rule.TheVariants as rule
-use Rattle.hall_policy.specs.declared.rule.Decision.{Decision}
 use Rattle.hall_policy.specs.declared.rule.Decision.TheVariants.{Allow, Repeat, Deny}
 use Rattle.hall_policy.specs.declared.record.Person.{Person}
 use Rattle.hall_policy.specs.declared.record.PuzzleKey.{PuzzleKey}
-use Rattle.hall_policy.specs.declared.record.PuzzleRow.{PuzzleRow}
 use Rattle.hall_policy.specs.declared.record.PuzzleState.{PuzzleState}
 use Rattle.hall_policy.specs.declared.record.Round.{Round}
 use Rattle.hall_policy.specs.declared.record.AnswerRow.{AnswerRow}
@@ -24,9 +20,9 @@ use Rattle.hall_policy.specs.declared.request.Request.{Request}
 use Rattle.hall_grid.specs.Board.{Board}
 use Rattle.hall_policy.proofs.Maps.{get_of_value}
 use Rattle.hall_policy.proofs.Orders.{text_total}
-use Rattle.hall_desk.specs.Caller.{caller_of, with_key}
+use Rattle.hall_desk.specs.Caller.{caller_of}
 use Rattle.hall_desk.specs.Found.{IsReleasedRound}
-use Rattle.hall_desk.specs.Step.{Step, Allowed, Decided, new_row, answer_row}
+use Rattle.hall_desk.specs.Step.{Step, Allowed, new_row, answer_row}
 use Rattle.hall_desk.specs.Run.{Run}
 use Rattle.hall_desk.specs.Plans.{Steps, Runs}
 use Rattle.hall_desk.specs.Sane.{Sane}

@@ -1,5 +1,5 @@
 -- What a search finds is true of all fillings that break no rule.
-use Rattle.std.proofs.Common.{◌≡◌, ◌≢◌, ◌+◌, ◌-◌, ◌<◌, ◌≤◌, ◌⊎◌, inl, inr, ℕ, zero, suc, List, [], ◌∷◌, Option, Some, None, length, map, replicate, refl, sym, ap, ◌∙◌, subst, arith, slice_get, slice_index, slice_index_or}
+use Rattle.std.proofs.Common.{◌≡◌, ◌≢◌, ◌+◌, ◌-◌, ◌<◌, ◌⊎◌, inl, inr, ℕ, zero, suc, List, [], ◌∷◌, Option, Some, None, length, map, replicate, refl, ap, ◌∙◌, arith, slice_get, slice_index, slice_index_or, All}
 use Rattle.std.proofs.lemmas.Bool.{cases_order}
 use Rattle.std.proofs.lemmas.List.{get_or_past}
 use Rattle.std.proofs.lemmas.List.Elements.{All-from_get_or}
@@ -10,7 +10,6 @@ use Rattle.hall_grid.specs.declared.board.Clue.{Clue}
 use Rattle.hall_grid.specs.declared.board.Clue.TheVariants.{Blank, Unknown, Number}
 use Rattle.hall_grid.specs.declared.rule.Rule.TheVariants.{U4, N1}
 use Rattle.hall_grid.specs.Board.{Board, of_parts, cells}
-use Rattle.hall_grid.specs.Nurikabe.{IsNumbered}
 use Rattle.hall_grid.specs.Answer as grid
 use Rattle.hall_solve.specs.Question as question
 use Rattle.hall_solve.specs.Puzzle.{question_of, start_of, given_of}
@@ -51,8 +50,8 @@ white_kept x v Blank kept h = let no : None ≡ Some v = h in absurd (cc)
 white_kept x v Unknown kept h = let at : Some 0 ≡ Some v = h in let e : 0 ≡ v = cc in kept (inr refl) ∙ e
 white_kept x v (Number n) kept h = let at : Some 0 ≡ Some v = h in let e : 0 ≡ v = cc in kept (inl (n, refl)) ∙ e
 
--- of two values below two that is not 1 is 0, and past the end every value is 0
-value_zero : (f : List ℕ) (n i : ℕ) → length f ≡ n → ((k d : ℕ) → k < length f → slice_index_or f k d < 2) → ((i < n) → slice_index f i ≢ 1) → slice_index f i ≡ 0
+-- a value below two that is not 1 is 0, and so is what is read past the end
+value_zero : (f : List ℕ) (n i : ℕ) → length f ≡ n → All (λ v. v < 2) f → (i < n → slice_index f i ≢ 1) → slice_index f i ≡ 0
 value_zero f n i exact ranges never = elim (cases_order i n) [
   | inl e ↦ get_or_past f i 0 (omega arith)
   | inr (inl lt) ↦ let small : slice_index f i < 2 = ranges i 0 (omega arith) in elim (cases_order (slice_index f i) 1) [
@@ -75,7 +74,7 @@ extends_start Nurikabe size clues f s i v h =
     (λ clued. value_zero f (cells size) i s.filling.exact s.filling.ranges (λ lt wall. s.right N1 (i, elim clued [ inl w ↦ inl (w.0, at.1 ∙ ap Some w.1) | inr e ↦ inr (at.1 ∙ ap Some e) ], (lt, wall))))
     at.2
 
--- what solves the search's question breaks no rule
+-- what solves the search's question breaks no rule: both ask for the same values in as many places
 pub right_from_search : (board : Board) (f : List ℕ) → question.Solves (question_of board) (start_of board.kind board) f → Solves board f
 right_from_search board f s = record {
   filling = record {
@@ -85,7 +84,7 @@ right_from_search board f s = record {
   right = s.right;
 }
 
--- what breaks no rule solves the search's question
+-- what breaks no rule solves the search's question, since it extends the start
 pub search_from_right : (board : Board) (f : List ℕ) → Solves board f → question.Solves (question_of board) (start_of board.kind board) f
 search_from_right board f s = record {
   filling = record { size = s.filling.exact; in_range = λ i lt. s.filling.ranges i 0 (omega (arith, s.filling.exact)) };
@@ -93,7 +92,7 @@ search_from_right board f s = record {
   right = s.right;
 }
 
--- what a search finds is true of the puzzle
+-- what a search finds is true of the puzzle, since the fillings that it speaks of are all that break no rule
 pub found_true : (board : Board) (budget : ℕ) (found : PuzzleState) → IsFound board budget found → IsTrueState board found
 found_true board budget state.New h = absurd h
 found_true board budget (state.One text) (solution, outcome, written) =
