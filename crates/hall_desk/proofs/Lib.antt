@@ -9,6 +9,11 @@ pub mod Showing
 pub mod Planning
 pub mod Sorting
 pub mod UsingRounds
+pub mod Inserts
+pub mod Truths
 pub mod Saneness
+pub mod CertifySane
+pub mod ReleaseSane
+pub mod OpeningSane
 pub mod StepsSane
 pub mod Starts

@@ -1,20 +1,16 @@
 -- Each step, and so each run, keeps a sane world.
-use Rattle.std.proofs.Common.{◌≡◌, ◌≢◌, ◌&&◌, ◌<◌, ◌≤◌, ◌⊎◌, inl, inr, ℕ, Bool, true, false, List, [], ◌∷◌, Option, Some, None, Contains, IsTrue, refl, sym, ap, ◌∙◌, subst, arith, lit<, Result, Ok, Err, IfOk, OnErr, Vec, Global}
+use Rattle.std.proofs.Common.{◌≡◌, ◌&&◌, ◌<◌, ◌≤◌, inl, inr, ℕ, Bool, true, false, List, [], ◌∷◌, Option, Some, None, refl, sym, ◌∙◌, subst, arith, lit<, Result, Ok, Err, IfOk, OnErr, Vec, Global}
 use Rattle.std.specs.Bool.{⊤}
-use Rattle.std.specs.List.{find}
 use Rattle.std.proofs.lemmas.Bool.{cases_order}
 use Rattle.std.proofs.lemmas.Option.{slice_get_within, get_or_from_slice_get}
 use Rattle.std.specs.FinMap.{get, values}
 use Rattle.hall_policy.specs.World.{World, same_text}
-use Rattle.hall_policy.specs.Rules.{TheCaller, StandsReleased, answers_given, puzzles_put, SameContent, TokenStands}
-use Rattle.hall_policy.specs.Actions.{rules_asked}
+use Rattle.hall_policy.specs.Rules.{answers_given, puzzles_put}
 use Rattle.hall_policy.specs.First.{NoneBelow}
 use Rattle.hall_policy.specs.declared.rule.Rule.TheVariants as rule
-use Rattle.hall_policy.specs.declared.rule.Decision.{Decision}
 use Rattle.hall_policy.specs.declared.rule.Decision.TheVariants.{Allow, Repeat, Deny}
 use Rattle.hall_policy.specs.declared.record.Person.{Person}
 use Rattle.hall_policy.specs.declared.record.PuzzleKey.{PuzzleKey}
-use Rattle.hall_policy.specs.declared.record.PuzzleRow.{PuzzleRow}
 use Rattle.hall_policy.specs.declared.record.PuzzleState.{PuzzleState}
 use Rattle.hall_policy.specs.declared.record.Round.{Round}
 use Rattle.hall_policy.specs.declared.record.AnswerRow.{AnswerRow}
@@ -24,15 +20,17 @@ use Rattle.hall_policy.specs.declared.request.Request.{Request}
 use Rattle.hall_grid.specs.Board.{Board}
 use Rattle.hall_policy.proofs.Maps.{get_of_value}
 use Rattle.hall_policy.proofs.Orders.{text_total}
-use Rattle.hall_desk.specs.Caller.{caller_of, with_key}
+use Rattle.hall_desk.specs.Caller.{caller_of}
 use Rattle.hall_desk.specs.Found.{IsReleasedRound}
-use Rattle.hall_desk.specs.Step.{Step, Allowed, Decided, answer_row}
+use Rattle.hall_desk.specs.Step.{Step, Allowed, new_row, answer_row}
 use Rattle.hall_desk.specs.Run.{Run}
 use Rattle.hall_desk.specs.Plans.{Steps, Runs}
 use Rattle.hall_desk.specs.Sane.{Sane}
 use Rattle.hall_desk.specs.declared.reply.Reply.{Reply}
 use Rattle.hall_desk.proofs.Answering.{find-Contains}
 use Rattle.hall_desk.proofs.Saneness.{put_sane, submit_sane}
+use Rattle.hall_desk.proofs.CertifySane.{certify_step}
+use Rattle.hall_desk.proofs.ReleaseSane.{release_step}
 
 -- the caller is there, under the own name
 caller_there : (world : World) → Sane world → (key : Option (List ℕ)) (person : Person) → caller_of world key ≡ Some person → get world.people person.name ≡ Some person
@@ -59,7 +57,7 @@ put_step : (world : World) (caller : Option Person) (key : PuzzleKey) (puzzle : 
 put_step world caller key puzzle t found given new sane none (text, canonical, inl h) = subst Sane (sym h.4) sane
 put_step world caller key puzzle t found given new sane none (text, canonical, inr h) =
     subst Sane (sym h.2)
-    (put_sane world key puzzle sane
+    (put_sane world key (new_row key puzzle) refl tt sane
     (λ gone. (none rule.Missing (lit< tt)).0 ((3, lit< tt, refl), λ person there. absurd (let no : None ≡ Some person = sym gone ∙ there in cc)))
     (λ id stands. (none rule.InReleasedRound (lit< tt)).0 ((4, lit< tt, refl), (id, stands)))
     (λ fresh. below (puzzles_put world key.author) 500 (λ many. (none rule.LimitReached (lit< tt)).0 ((5, lit< tt, refl), (fresh, many)))))
@@ -93,9 +91,9 @@ allowed_sane world caller (action.Answers id) t found given new sane there none 
 allowed_sane world caller (action.Import people) t found given new sane there none h = absurd h
 allowed_sane world caller (action.ReadPuzzle key) t found given new sane there none h = absurd h
 allowed_sane world caller action.ListPuzzles t found given new sane there none h = absurd h
-allowed_sane world caller (action.Certify key budget) t found given new sane there none h = absurd h
+allowed_sane world caller (action.Certify key budget) t found given new sane there none h = certify_step world caller key budget t found given new sane h
 allowed_sane world caller (action.PutRound id sheet) t found given new sane there none h = absurd h
-allowed_sane world caller (action.Release id) t found given new sane there none h = absurd h
+allowed_sane world caller (action.Release id) t found given new sane there none h = release_step world caller id t found given new sane none h
 allowed_sane world caller action.ListRounds t found given new sane there none h = absurd h
 allowed_sane world caller (action.Solutions id) t found given new sane there none h = absurd h
 allowed_sane world caller (action.Protest id token number text) t found given new sane there none h = absurd h
