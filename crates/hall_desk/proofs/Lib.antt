@@ -15,5 +15,6 @@ pub mod Saneness
 pub mod CertifySane
 pub mod ReleaseSane
 pub mod OpeningSane
+pub mod Drafts
 pub mod StepsSane
 pub mod Starts

@@ -23,13 +23,12 @@ use Rattle.hall_policy.specs.declared.request.Action.{Action}
 use Rattle.hall_policy.specs.declared.request.Action.TheVariants as action
 use Rattle.hall_desk.specs.Caller.{caller_of}
 use Rattle.hall_desk.specs.Found.{AreFactsOf}
-use Rattle.hall_desk.specs.Change.{changed, CanMake, with_state, with_flag}
-use Rattle.hall_desk.specs.Shown.{state_name}
-use Rattle.hall_desk.specs.Step.{Decided, is_open, IsFound}
+use Rattle.hall_desk.specs.Change.{changed, CanMake, with_flag}
+use Rattle.hall_desk.specs.Step.{Decided}
 use Rattle.hall_desk.specs.Plans.{IsPlanFor, IsAllowedPlan, IsMadePlan, StandsAs}
 use Rattle.hall_desk.specs.declared.plan.Plan.{Plan}
 use Rattle.hall_desk.specs.declared.reply.Reply.{Reply}
-use Rattle.hall_desk.specs.declared.reply.Reply.TheVariants.{PuzzlePut, Certified, Released}
+use Rattle.hall_desk.specs.declared.reply.Reply.TheVariants.{PuzzlePut, Released}
 use Rattle.hall_desk.specs.declared.reply.StateName.TheVariants as name
 use Rattle.hall_desk.specs.declared.store.Change.{Change}
 use Rattle.hall_desk.specs.declared.store.Change.TheVariants as change
@@ -82,32 +81,6 @@ put_new world facts asked t key copied_key puzzle copied text is same_key same_p
 -- a plan that is right whatever a search would find
 pub made_anyhow : (world : World) (caller : Option Person) (asked : Action) (t : ℕ) (plan : Plan) → IsAllowedPlan world caller asked t plan → IsMadePlan world caller asked t plan
 made_anyhow world caller asked t plan made = record { found = state.New; allowed = made.allowed state.New; can = made.can }
-
--- the plan of a puzzle that was searched
-pub searched : (world : World) (facts : Facts) (asked : Action) (t : ℕ) (key copied : PuzzleKey) (budget : ℕ) (row : PuzzleRow) (outcome : PuzzleState) →
-    asked ≡ action.Certify key budget → copied ≡ key → AllTrue facts world asked → facts.puzzle ≡ Some row → is_open row.state ≡ true → IsFound row.puzzle budget outcome →
-    IsMadePlan world facts.caller asked t (record { reply = Certified (state_name outcome); change = change.SetState copied outcome })
-searched world facts asked t key copied budget row outcome is same told seen unsettled is_found =
-    subst (λ (a : Action). AllTrue facts world a → IsMadePlan world facts.caller a t (record { reply = Certified (state_name outcome); change = change.SetState copied outcome })) (sym is)
-    (subst (λ (k : PuzzleKey). AllTrue facts world (action.Certify key budget) → IsMadePlan world facts.caller (action.Certify key budget) t (record { reply = Certified (state_name outcome); change = change.SetState k outcome })) (sym same)
-    (λ all.
-    let at : get world.puzzles key ≡ Some row = sym all.1.1.1.0 ∙ seen in
-    record {
-      found = outcome;
-      allowed = (row, at, inl (record { unsettled = unsettled; is_found = is_found; told = refl; stored = ap (with_state world key outcome) at }));
-      can = (row, at);
-    })) told
-
--- the plan of a puzzle whose search came to an end before
-pub settled : (world : World) (facts : Facts) (asked : Action) (t : ℕ) (key : PuzzleKey) (budget : ℕ) (row : PuzzleRow) →
-    asked ≡ action.Certify key budget → AllTrue facts world asked → facts.puzzle ≡ Some row → is_open row.state ≡ false →
-    IsMadePlan world facts.caller asked t (record { reply = Certified (state_name row.state); change = change.Nothing })
-settled world facts asked t key budget row is told seen closed =
-    subst (λ (a : Action). AllTrue facts world a → IsMadePlan world facts.caller a t (record { reply = Certified (state_name row.state); change = change.Nothing })) (sym is)
-    (λ all.
-    let at : get world.puzzles key ≡ Some row = sym all.1.1.1.0 ∙ seen in
-    record { found = state.New; allowed = (row, at, inr (record { settled = closed; told = refl; same = refl })); can = tt })
-    told
 
 -- the plan of a round that is released
 pub released : (world : World) (facts : Facts) (asked : Action) (t : ℕ) (id shown kept : List ℕ) (row : RoundRow) →

@@ -1,11 +1,16 @@
 -- Released rounds that have a puzzle.
-use Rattle.std.proofs.Common.{◌≡◌, ◌↔◌, ℕ, List, ◌<◌, ◌≤◌, length, slice_get, Some, Contains, ap, ◌∙◌, arith}
-use Rattle.std.proofs.lemmas.Option.{slice_get-get_or}
-use Rattle.hall_policy.specs.World.{World}
-use Rattle.hall_policy.specs.Rules.{StandsReleased}
+use Rattle.std.proofs.Common.{◌≡◌, ◌≢◌, ◌↔◌, ℕ, zero, suc, Bool, true, false, not, List, ◌<◌, ◌≤◌, length, slice_get, Some, None, Contains, refl, sym, ap, ◌∙◌, arith}
+use Rattle.std.specs.List.{filter}
+use Rattle.std.proofs.lemmas.Option.{slice_get-get_or, slice_get_within, get_or_from_slice_get}
+use Rattle.hall_policy.specs.World.{World, IsRoundAt, entry_at, same_text}
+use Rattle.hall_policy.specs.Rules.{Lists, StandsReleased}
+use Rattle.hall_policy.specs.declared.record.Entry.{Entry}
+use Rattle.hall_policy.specs.declared.record.RoundRow.{RoundRow}
 use Rattle.hall_policy.specs.declared.record.PuzzleKey.{PuzzleKey}
 use Rattle.hall_desk.specs.Store.{AreUsing}
-use Rattle.hall_desk.specs.Found.{IsReleasedRound}
+use Rattle.hall_desk.specs.Found.{IsReleasedRound, HasFault, HasFaultyEntry}
+use Rattle.hall_desk.specs.declared.entry_fault.EntryFault.{EntryFault}
+use Rattle.hall_desk.proofs.Answering.{text_decides, Contains-filter, filter-Contains}
 
 -- a round that has the puzzle and is released
 pub released_using : (world : World) (key : PuzzleKey) (ids : List (List ℕ)) → AreUsing world key ids →
@@ -23,3 +28,42 @@ through first second = (λ p. second.0 (first.0 p), λ r. first.1 (second.1 r))
 pub none_contained : (ids : List (List ℕ)) (P : List ℕ → Type 0) (count : ℕ) → length ids ≤ count →
     ((i : ℕ) (id : List ℕ) → i < count → slice_get ids i ≡ Some id → ¬ (P id)) → ¬ ((id : List ℕ) × Contains ids id × P id)
 none_contained ids P count all none h = none h.1.0 h.0 (omega arith) (slice_get-get_or ids h.1.0 h.0 h.1.1 ∙ ap Some h.1.2) h.2
+
+-- ---- what keeps a round from its release
+not_true : (b : Bool) → not b ≡ true → b ≡ false
+not_true true h = let no : false ≡ true = h in cc
+not_true false h = refl
+
+-- a round other than this one has the puzzle and is released
+pub others_using : (world : World) (key : PuzzleKey) (id : List ℕ) (ids others : List (List ℕ)) → AreUsing world key ids → others ≡ filter (λ other. not (same_text other id)) ids →
+    ((other : List ℕ) × Contains others other × IsReleasedRound world other) ↔ ((other : List ℕ) × (other ≢ id) × StandsReleased world key other)
+others_using world key id ids others using left = (
+  (λ h.
+      let at = filter-Contains (λ other. not (same_text other id)) ids h.0 h.1.0 (ap (λ (l : List (List ℕ)). slice_get l h.1.0) (sym left) ∙ slice_get-get_or others h.1.0 h.0 h.1.1 ∙ ap Some h.1.2) in
+      let entry = (using h.0).0 (at.0, slice_get_within ids at.0 h.0 at.1, get_or_from_slice_get ids at.0 h.0 h.0 at.1) in
+      (h.0, (λ same. let no : false ≡ true = sym (not_true (same_text h.0 id) at.2) ∙ (text_decides h.0 id).1 same in cc), (h.2.0, entry.0, h.2.1, h.2.2, entry.1, entry.2))),
+  (λ h.
+      let among = (using h.0).1 (h.2.1, h.2.4, h.2.5) in
+      let passes : not (same_text h.0 id) ≡ true = elim (same_text h.0 id) as (λ b. same_text h.0 id ≡ b → not b ≡ true) [ true ↦ λ e. absurd (h.1 ((text_decides h.0 id).0 e)) | false ↦ λ e. refl ] refl in
+      let at = Contains-filter (λ other. not (same_text other id)) ids h.0 among passes in
+      let shown : slice_get others at.0 ≡ Some h.0 = ap (λ (l : List (List ℕ)). slice_get l at.0) left ∙ at.1 in
+      (h.0, (at.0, slice_get_within others at.0 h.0 shown, get_or_from_slice_get others at.0 h.0 h.0 shown), (h.2.0, h.2.2, h.2.3))),
+)
+
+-- the entries of a round are those of its row
+pub entries_listed : (world : World) (id : List ℕ) (row : RoundRow) → IsRoundAt world id row → (entry : Entry) → Contains row.puzzles entry ↔ Lists world id entry
+entries_listed world id row at entry = (
+  (λ h. (suc h.0, at.list (suc h.0) ∙ slice_get-get_or row.puzzles h.0 entry h.1 ∙ ap Some h.2)),
+  (λ h. listed_at h.0 (sym (at.list h.0) ∙ h.1)),
+) where
+  listed_at : (number : ℕ) → entry_at row.puzzles number ≡ Some entry → Contains row.puzzles entry
+  listed_at zero e = let no : None ≡ Some entry = e in absurd (cc)
+  listed_at (suc m) e = (m, slice_get_within row.puzzles m entry e, get_or_from_slice_get row.puzzles m entry entry e)
+
+-- an entry of the row has the fault where one of the round has
+pub faulty_listed : (fault : EntryFault) (world : World) (id : List ℕ) (row : RoundRow) → IsRoundAt world id row →
+    ((entry : Entry) × Contains row.puzzles entry × HasFault fault world id entry) ↔ HasFaultyEntry fault world id
+faulty_listed fault world id row at = (
+  (λ h. (h.0, (entries_listed world id row at h.0).0 h.1, h.2)),
+  (λ h. (h.0, (entries_listed world id row at h.0).1 h.1, h.2)),
+)

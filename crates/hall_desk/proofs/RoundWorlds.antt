@@ -74,5 +74,5 @@ module _ (es fs : List (List ℕ × RoundRow)) (k : List ℕ) (row : RoundRow)
             ∙ ap (λ (o : Option RoundRow). place_of o key.number) (sym (subst (λ (id : List ℕ). lookup (is_at (text_cmp id)) es ≡ Some old) own found))
             ∙ sym (place_at es before key)
         | false ↦ λ e. places_other key (λ same_id.
-            let no : true ≡ false = sym (ap is_eq (tied_itself text_total k) ) ∙ ap (is_at (text_cmp k)) (sym same_id) ∙ e in cc)
+            let no : true ≡ false = sym (ap is_eq (tied_itself text_total k)) ∙ ap (is_at (text_cmp k)) (sym same_id) ∙ e in cc)
       ] refl)

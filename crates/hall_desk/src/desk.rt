@@ -23,8 +23,10 @@ pub struct Desk {
 }
 
 impl Desk {
-    /// A desk over the opening world.
-    pub fn new(alloc: Global) -> Result<Desk, StoreFault> {
+    /// A desk over the opening world: six people, three puzzles that nobody certified yet, and three drafts. The world is sane.
+    pub fn new(alloc: Global) -> Result<Desk, StoreFault>
+        ensures { IfOk result (λ desk. Sane (world_in desk)) }
+    {
         Ok(Desk {
             store: opening(alloc)?,
         })

@@ -1,5 +1,7 @@
 //! What keeps a round from its release.
-ghost use Rattle.std.specs.Prelude.{◌≡◌, ◌≢◌, ◌↔◌, ℕ, List, IsTrue, Contains};
+ghost use Rattle.std.specs.Prelude.{◌≡◌, ◌≢◌, ◌↔◌, ℕ, List, IsTrue, Contains, not};
+ghost use Rattle.std.specs.List.{filter};
+ghost use Rattle.hall_policy.specs.World.{same_text};
 ghost use Rattle.hall_policy.specs.Rules.{StandsReleased, IsCertified};
 ghost use Rattle.hall_desk.specs.Store.{Kept, Told, IsRoundKept};
 ghost use Rattle.hall_desk.specs.Found.{HasFault, HasFaultyEntry};
@@ -83,8 +85,15 @@ fn is_shared<S: Store>(
     ensures told { Told S.is_honest S.serves store.old store.new result (λ found. IsTrue found ↔ ((other : List ℕ) × (other ≢ id.now) × StandsReleased (S.world store.new) key.now other)) }
 {
     let mut others = store.rounds_using(alloc, key)?;
-    others.retain(|other| *other != *id);
+    leave_out(&mut others, id);
     any_released(alloc, store, others.as_slice())
+}
+
+/// Takes the id out of the list.
+fn leave_out(ids: &mut Vec<RoundId>, id: &RoundId)
+    ensures { ids.new.items ≡ filter (λ other. not (same_text other id.now)) ids.old.items }
+{
+    ids.retain(|other| *other != *id);
 }
 
 /// Whether the puzzle isn't kept in state one.

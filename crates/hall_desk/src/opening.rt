@@ -1,5 +1,6 @@
 //! The world that a hall opens with.
-ghost use Rattle.std.specs.Prelude.{◌≡◌, ◌≢◌, IsTrue, IfOk, OnOk, List, ℕ, None, Some, All};
+ghost use Rattle.std.specs.Prelude.{◌≡◌, ◌≢◌, IsTrue, IfOk, OnOk, List, ℕ, None, Some, is_some};
+ghost use Rattle.std.specs.List.{list_all};
 ghost use Rattle.std.specs.BTreeMap as tree;
 ghost use Rattle.hall_policy.specs.World.{puzzle_cmp};
 ghost use Rattle.std.specs.FinMap.{get};
@@ -325,9 +326,14 @@ pub(crate) fn insert_draft(store: &mut MapStore, row: RoundRow) -> Result<(), St
 
 /// Whether each entry's puzzle is kept.
 fn are_kept(puzzles: &BTreeMap<PuzzleKey, PuzzleRow>, entries: &[Entry]) -> bool
-    ensures { IsTrue result → All (λ entry. tree.get puzzle_cmp puzzles.now entry.puzzle ≢ None) entries.now }
+    ensures { result ≡ list_all (λ entry. is_some (tree.get puzzle_cmp puzzles.now entry.puzzle)) entries.now }
 {
-    entries
-        .iter()
-        .all(|entry| puzzles.contains_key(&entry.puzzle))
+    entries.iter().all(|entry| is_kept(puzzles, entry))
+}
+
+/// Whether the entry's puzzle is kept.
+fn is_kept(puzzles: &BTreeMap<PuzzleKey, PuzzleRow>, entry: &Entry) -> bool
+    ensures { result ≡ is_some (tree.get puzzle_cmp puzzles.now entry.now.puzzle) }
+{
+    puzzles.contains_key(&entry.puzzle)
 }
