@@ -40,6 +40,25 @@ pub(crate) fn find_facts<S: Store>(
     }
 }
 
+/// Facts that tell of nothing.
+fn no_facts() -> Facts {
+    Facts {
+        caller: None,
+        author_is_there: false,
+        puzzle: None,
+        sheet_lacks: false,
+        round: None,
+        answer: None,
+        protest: None,
+        in_released: false,
+        uncertified: false,
+        open_protest: false,
+        involved: false,
+        count: 0,
+        conflict: false,
+    }
+}
+
 /// The person with the request's key.
 fn find_caller<S: Store>(
     alloc: Global,
@@ -69,18 +88,8 @@ fn round_facts<S: Store>(
     let round = store.round(alloc, id)?;
     Ok(Facts {
         caller,
-        author_is_there: false,
-        puzzle: None,
-        sheet_lacks: false,
         round,
-        answer: None,
-        protest: None,
-        in_released: false,
-        uncertified: false,
-        open_protest: false,
-        involved: false,
-        count: 0,
-        conflict: false,
+        ..no_facts()
     })
 }
 
@@ -101,18 +110,10 @@ fn submit_facts<S: Store>(
     let round = store.round(alloc, id)?;
     Ok(Facts {
         caller,
-        author_is_there: false,
-        puzzle: None,
-        sheet_lacks: false,
         round,
         answer,
-        protest: None,
-        in_released: false,
-        uncertified: false,
-        open_protest: false,
-        involved: false,
         count,
-        conflict: false,
+        ..no_facts()
     })
 }
 
@@ -198,16 +199,9 @@ fn put_facts<S: Store>(
         caller,
         author_is_there,
         puzzle,
-        sheet_lacks: false,
-        round: None,
-        answer: None,
-        protest: None,
         in_released,
-        uncertified: false,
-        open_protest: false,
-        involved: false,
         count,
-        conflict: false,
+        ..no_facts()
     })
 }
 
@@ -225,18 +219,8 @@ fn certify_facts<S: Store>(
     let puzzle = store.puzzle(alloc, key)?;
     Ok(Facts {
         caller,
-        author_is_there: false,
         puzzle,
-        sheet_lacks: false,
-        round: None,
-        answer: None,
-        protest: None,
-        in_released: false,
-        uncertified: false,
-        open_protest: false,
-        involved: false,
-        count: 0,
-        conflict: false,
+        ..no_facts()
     })
 }
 
@@ -256,18 +240,10 @@ fn release_facts<S: Store>(
     let uncertified = find_fault(alloc, store, id, &round, EntryFault::Uncertified)?;
     Ok(Facts {
         caller,
-        author_is_there: false,
-        puzzle: None,
-        sheet_lacks: false,
         round,
-        answer: None,
-        protest: None,
         in_released,
         uncertified,
-        open_protest: false,
-        involved: false,
-        count: 0,
-        conflict: false,
+        ..no_facts()
     })
 }
 
