@@ -121,45 +121,57 @@ fn refuses_bodies_of_puzzles(rt: HostRuntime) -> Result<(), Fail> {
     Ok(())
 }
 
+const CERTIFICATE: &str = "bob-key-1 POST /puzzles/bob/p1/certificate";
+
 #[test]
 fn refuses_bodies_of_certificates(rt: HostRuntime) -> Result<(), Fail> {
-    let line = "bob-key-1 POST /puzzles/bob/p1/certificate";
-    let rows: [(&[u8], FormFault); 20] = [
-        (b"", FormFault::Syntax),
-        (b"7", FormFault::Syntax),
-        (b"{\"budget\":7,\"more\":1}", FormFault::Syntax),
-        (b"{\"budget\":07}", FormFault::Syntax),
-        (b"{\"budget\":1e999}", FormFault::Syntax),
-        (b"{\"Budget\":7}", FormFault::Syntax),
-        (b"{}", FormFault::Missing(Field::Budget)),
-        (b"{\"budget\":null}", FormFault::Missing(Field::Budget)),
-        (b"{\"budget\":\"7\"}", FormFault::Missing(Field::Budget)),
-        (b"{\"budget\":[7]}", FormFault::Missing(Field::Budget)),
-        (b"{\"budget\":1.5}", FormFault::Missing(Field::Budget)),
-        (b"{\"budget\":7.0}", FormFault::Missing(Field::Budget)),
-        (b"{\"budget\":7e2}", FormFault::Missing(Field::Budget)),
-        (b"{\"budget\":-0}", FormFault::Missing(Field::Budget)),
-        (
-            b"{\"budget\":18446744073709551616}",
-            FormFault::Missing(Field::Budget),
-        ),
-        (
-            b"{\"budget\":18446744073709551615}",
-            FormFault::Range(Field::Budget),
-        ),
-        (b"{\"budget\":-1}", FormFault::Range(Field::Budget)),
-        (b"{\"budget\":1000001}", FormFault::Range(Field::Budget)),
-        (
-            b"{\"budget\":-9223372036854775808}",
-            FormFault::Range(Field::Budget),
-        ),
-        (
-            b"{\"budget\":7,\"budget\":-7}",
-            FormFault::Range(Field::Budget),
-        ),
+    let bodies: [&[u8]; 6] = [
+        b"",
+        b"7",
+        b"{\"budget\":7,\"more\":1}",
+        b"{\"budget\":07}",
+        b"{\"budget\":1e999}",
+        b"{\"Budget\":7}",
     ];
-    for (body, fault) in &rows {
-        assert_eq!(rt; fault_in(rt.alloc(), line, *body)?, *fault);
+    for body in &bodies {
+        let fault = fault_in(rt.alloc(), CERTIFICATE, *body)?;
+        assert_eq!(rt; fault, FormFault::Syntax);
+    }
+    Ok(())
+}
+
+#[test]
+fn a_budget_is_a_whole_number(rt: HostRuntime) -> Result<(), Fail> {
+    let bodies: [&[u8]; 9] = [
+        b"{}",
+        b"{\"budget\":null}",
+        b"{\"budget\":\"7\"}",
+        b"{\"budget\":[7]}",
+        b"{\"budget\":1.5}",
+        b"{\"budget\":7.0}",
+        b"{\"budget\":7e2}",
+        b"{\"budget\":-0}",
+        b"{\"budget\":18446744073709551616}",
+    ];
+    for body in &bodies {
+        let fault = fault_in(rt.alloc(), CERTIFICATE, *body)?;
+        assert_eq!(rt; fault, FormFault::Missing(Field::Budget));
+    }
+    Ok(())
+}
+
+#[test]
+fn a_budget_is_a_million_and_no_more(rt: HostRuntime) -> Result<(), Fail> {
+    let bodies: [&[u8]; 5] = [
+        b"{\"budget\":-1}",
+        b"{\"budget\":1000001}",
+        b"{\"budget\":18446744073709551615}",
+        b"{\"budget\":-9223372036854775808}",
+        b"{\"budget\":7,\"budget\":-7}",
+    ];
+    for body in &bodies {
+        let fault = fault_in(rt.alloc(), CERTIFICATE, *body)?;
+        assert_eq!(rt; fault, FormFault::Range(Field::Budget));
     }
     Ok(())
 }
