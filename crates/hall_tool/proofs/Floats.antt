@@ -24,6 +24,8 @@ pub replies_whole : (r : Reply) → has_float (reply_data r) ≡ false
 replies_whole (reply.Denied rule) = refl
 replies_whole reply.Unavailable = refl
 replies_whole (reply.PuzzlePut state text) = refl
+replies_whole (reply.Certified state) = refl
+replies_whole (reply.Released id) = refl
 replies_whole (reply.RoundRead round) = rw (puzzles_whole round.puzzles) refl
 replies_whole (reply.Received n verdict) = verdict_whole verdict
 replies_whole (reply.AnswerList lines) = rw (answers_whole lines) refl

@@ -1,15 +1,15 @@
 -- The header of a record: written in one way, and read as it was written.
-use Rattle.std.proofs.Common.{◌≡◌, ◌∙◌, sym, ap, refl, rules, arith, ℕ, ◌+◌, ◌<◌, ◌≤◌, ◌^◌, ◌&&◌, not, ◌==◌, Bool, true, false, List, [], ◌∷◌, ◌++◌, length, take, drop, get_or, Option, Some, None, inl, inr, decimal, option_map, length-append}
-use Rattle.std.specs.Prelude.{if◌then◌else◌, nat_eq, nat_le, codes, option_and_then}
+use Rattle.std.proofs.Common.{◌≡◌, ◌∙◌, sym, ap, refl, arith, ℕ, ◌+◌, ◌<◌, ◌≤◌, ◌^◌, not, ◌==◌, Bool, true, false, List, [], ◌∷◌, ◌++◌, length, take, drop, get_or, Option, Some, None, decimal, option_map, length-append}
+use Rattle.std.specs.Prelude.{if◌then◌else◌, nat_eq, codes, option_and_then}
 use Rattle.std.specs.Char.{is_ascii_digit}
-use Rattle.std.specs.List.{list_all, position, position_or_len, starts_with}
+use Rattle.std.specs.List.{position, position_or_len, starts_with}
 use Rattle.std.proofs.lemmas.Bool.{and_parts, and_from, leb-true, le-leb, lt-ltb, eq-eqb, eqb-true, ne_eqb, not_from_false}
-use Rattle.std.proofs.lemmas.List.{take-append-drop, take_at}
+use Rattle.std.proofs.lemmas.List.{take_at}
 use Rattle.std.proofs.lemmas.List.Sums.{list_all-from_AllPass, AllPass-from_list_all}
 use Rattle.std.proofs.lemmas.List.Folds.{list_all-append}
 use Rattle.std.proofs.lemmas.Fmt.{length-decimal-le, digits_decimal}
 use Rattle.std.proofs.Math.Seq.{drop-append-add}
-use Rattle.hall_tool.specs.Words.{cut, after_front, number_in}
+use Rattle.hall_tool.specs.Words.{cut, number_in}
 use Rattle.hall_tool.specs.Records.{header_of, header_in, numbers_in}
 use Rattle.hall_tool.proofs.Texts.{own, AreDigits, number_writes, number_reads}
 use Rattle.hall_tool.proofs.Splits.{Free, found_split}

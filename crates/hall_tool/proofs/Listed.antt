@@ -1,19 +1,19 @@
 -- The members of an object and the entries of its map have the same names.
-use Rattle.std.proofs.Common.{◌≡◌, ◌∙◌, ap, ap₂, refl, List, [], ◌∷◌, ℕ, Bool, true, false, map, Bor, ◌&&◌, ◌||◌}
+use Rattle.std.proofs.Common.{◌≡◌, ap, ap₂, refl, List, [], ◌∷◌, ℕ, Bool, true, false, map, Bor, ◌&&◌, ◌||◌}
 use Rattle.std.specs.Prelude.{String, string_bytes}
 use Rattle.std.specs.List.{list_any, list_all}
 use Rattle.std.specs.Str.{bytes_eq}
 use Rattle.std.specs.declared.alloc.Global.{Global}
-use Rattle.serde_json.specs.View.{view, members_view}
+use Rattle.serde_json.specs.View.{members_view}
 use Rattle.serde_json.specs.declared.value.Value.{Value}
-use Rattle.hall_tool.specs.Body.{only_members, object_in, text_at}
+use Rattle.hall_tool.specs.Body.{only_members, object_in, text_at, integer_at}
 use Rattle.hall_tool.specs.declared.form.FormFault.TheVariants as fault
 use Rattle.std.specs.Str.{IsUtf8, is_utf8}
 use Rattle.std.proofs.lemmas.Str.{IsUtf8-from_is_utf8, is_utf8-from_IsUtf8}
-use Rattle.std.specs.Prelude.{Some, None, Ok, Err, if◌then◌else◌}
+use Rattle.std.specs.Prelude.{Some, None, option_and_then, Ok, Err, if◌then◌else◌, ℤ}
 use Rattle.serde_json.specs.Read.{read}
 use Rattle.serde_json.specs.Data.{Data, Members, object}
-use Rattle.serde_json.specs.Find.{get_member, as_str}
+use Rattle.serde_json.specs.Find.{get_member, as_str, as_number, as_integer}
 use Rattle.hall_tool.specs.declared.form.Field.{Field}
 
 any_named : (names : List (Bor (List ℕ))) (name : List ℕ) → list_any (λ n. bytes_eq n name) (map (λ n. n.now) names) ≡ list_any (λ n. bytes_eq n.now name) names
@@ -45,3 +45,12 @@ wrong_member f name ms d e other = rw (e, other) refl
 
 pub text_member : (f : Field) (name : List ℕ) (ms : Members) (d : Data) (text : List ℕ) → get_member name ms ≡ Some d → as_str d ≡ Some text → text_at f name ms ≡ Ok text
 text_member f name ms d text e is = rw (e, is) refl
+
+pub missing_integer : (f : Field) (name : List ℕ) (ms : Members) → get_member name ms ≡ None → integer_at f name ms ≡ Err (fault.Missing f)
+missing_integer f name ms e = rw e refl
+
+pub wrong_integer : (f : Field) (name : List ℕ) (ms : Members) (d : Data) → get_member name ms ≡ Some d → option_and_then as_integer (as_number d) ≡ None → integer_at f name ms ≡ Err (fault.Missing f)
+wrong_integer f name ms d e other = rw (e, other) refl
+
+pub integer_member : (f : Field) (name : List ℕ) (ms : Members) (d : Data) (z : ℤ) → get_member name ms ≡ Some d → option_and_then as_integer (as_number d) ≡ Some z → integer_at f name ms ≡ Ok z
+integer_member f name ms d z e is = rw (e, is) refl

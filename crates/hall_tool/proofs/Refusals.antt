@@ -1,5 +1,5 @@
 -- The line for want of memory.
-use Rattle.std.proofs.Common.{◌≡◌, refl, codes}
+use Rattle.std.proofs.Common.{refl}
 use Rattle.serde_json.proofs.OnLiterals.{serde_json_on_literals}
 use Rattle.hall_desk.specs.declared.reply.Reply.TheVariants.{Unavailable as NotServed}
 use Rattle.hall_tool.specs.declared.answer.Line.TheVariants.{Unavailable}

@@ -1,9 +1,9 @@
 -- Bytes cut at a byte, in one way.
-use Rattle.std.proofs.Common.{◌≡◌, ◌∙◌, sym, ap, refl, rules, arith, ℕ, ◌+◌, ◌<◌, ◌≤◌, ◌&&◌, not, ◌==◌, Bool, true, false, List, [], ◌∷◌, ◌++◌, length, take, drop, get_or, add-one, Option, Some, None, inl, inr}
-use Rattle.std.specs.List.{list_all, position, position_or_len}
+use Rattle.std.proofs.Common.{◌≡◌, ◌∙◌, sym, ap, refl, arith, ℕ, ◌+◌, ◌<◌, ◌≤◌, not, ◌==◌, true, List, [], ◌∷◌, ◌++◌, length, take, drop, get_or, add-one, Some, None}
+use Rattle.std.specs.List.{list_all, position}
 use Rattle.std.proofs.lemmas.Bool.{and_parts, eq-eqb, eqb-true, not-true, not_from_false, true≢false}
 use Rattle.std.proofs.lemmas.List.{take-append-drop, length-take, get_or-take}
-use Rattle.std.proofs.lemmas.List.Sums.{list_all-from_AllPass, AllPass-from_list_all, fails_before_first}
+use Rattle.std.proofs.lemmas.List.Sums.{list_all-from_AllPass, fails_before_first}
 use Rattle.std.proofs.lemmas.List.Quantifiers.{position-Some}
 use Rattle.std.proofs.Math.Seq.{drop-cons}
 use Rattle.hall_grid.proofs.Fields.{position_past}

@@ -1,6 +1,6 @@
 -- What the loop of a replay keeps, and how each of its ends follows.
-use Rattle.std.proofs.Common.{◌≡◌, ◌≢◌, ◌∙◌, sym, ap, subst, refl, arith, ℕ, zero, suc, ◌+◌, ◌<◌, ◌≤◌, ◌⊎◌, inl, inr, List, [], ◌∷◌, ◌++◌, length, take, drop, Option, Some, None, append_assoc, length-append, flat_map}
-use Rattle.std.specs.Prelude.{Result, Ok, Err, Bool, true, false, MatchResult}
+use Rattle.std.proofs.Common.{◌≡◌, ◌≢◌, ◌∙◌, sym, ap, subst, refl, arith, ℕ, zero, suc, ◌+◌, ◌<◌, ◌≤◌, inl, inr, List, [], ◌∷◌, ◌++◌, length, take, drop, Option, append_assoc, length-append}
+use Rattle.std.specs.Prelude.{Result, Ok, Err, false, MatchResult}
 use Rattle.std.proofs.lemmas.List.{append-nil, take-append-drop}
 use Rattle.std.proofs.lemmas.List.Concat.{flat_map-append}
 use Rattle.std.proofs.KnownBytes.{Appends-nil, Appends-trans, Consumes-nil, Consumes-trans}
@@ -14,7 +14,7 @@ use Rattle.hall_tool.specs.declared.session.ReplayFault.{ReplayFault}
 use Rattle.hall_tool.specs.declared.session.ReplayFault.TheVariants as fault
 use Rattle.hall_tool.specs.Input.{WritesPart}
 use Rattle.hall_tool.specs.Records.{Record, IsRecord, record_bytes, header_of, HasNoRecord, NeverHasRecord, IsCut, bytes_between}
-use Rattle.hall_tool.specs.Replay.{Exchange, Exchanged, Answers, Session, records_of, lines_of, IsRunOver, LacksRecord, Ended, IsReplayed, ReadsMore}
+use Rattle.hall_tool.specs.Replay.{Exchange, Exchanged, Answers, Session, records_of, lines_of, IsRunOver, LacksRecord, IsReplayed, ReadsMore}
 
 records_more : (xs : List Exchange) (x : Exchange) → records_of (xs ++ x ∷ []) ≡ records_of xs ++ record_bytes x.asked
 records_more xs x = flat_map-append (λ x. record_bytes x.asked) xs (x ∷ []) ∙ ap (λ s. records_of xs ++ s) (append-nil (record_bytes x.asked))

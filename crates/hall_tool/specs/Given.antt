@@ -1,5 +1,5 @@
 -- What a reader of bytes answers: a value, the first fault of their form, or want of memory.
-use Rattle.std.specs.Prelude.{◌≡◌, ℕ, Bool, true, false, List, Option, Some, None, Result, Ok, Err}
+use Rattle.std.specs.Prelude.{◌≡◌, Bool, true, false, Option, Some, None, Result, Ok, Err}
 use Rattle.hall_tool.specs.declared.form.FormFault.{FormFault}
 use Rattle.hall_tool.specs.declared.form.RequestFault.{RequestFault}
 use Rattle.hall_tool.specs.declared.form.RequestFault.TheVariants as fault

@@ -1,5 +1,5 @@
 -- The records of a replay.
-use Rattle.std.specs.Prelude.{◌≡◌, ◌≢◌, ◌≤◌, ◌-◌, ◌&&◌, nat_le, if◌then◌else◌, ℕ, List, [], ◌∷◌, ◌++◌, length, take, drop, flat_map, All, Option, Some, None, option_and_then, codes, decimal}
+use Rattle.std.specs.Prelude.{◌≡◌, ◌≢◌, ◌≤◌, ◌-◌, ◌&&◌, nat_le, if◌then◌else◌, ℕ, List, ◌∷◌, ◌++◌, length, take, drop, flat_map, All, Option, Some, None, option_and_then, codes, decimal}
 use Rattle.hall_tool.specs.declared.record.Cut.{Cut}
 use Rattle.hall_tool.specs.declared.record.Cut.TheVariants.{Whole, More, Never}
 use Rattle.hall_tool.specs.Words.{cut, after_front, number_in}

@@ -1,5 +1,5 @@
 -- The replies of the hall: a status and a JSON body.
-use Rattle.std.specs.Prelude.{◌≡◌, ℕ, ◌==◌, ◌++◌, Bool, List, [], ◌∷◌, map, if◌then◌else◌, Option, Some, None, codes, decimal}
+use Rattle.std.specs.Prelude.{◌≡◌, ℕ, ◌==◌, ◌++◌, List, map, if◌then◌else◌, Option, Some, None, codes}
 use Rattle.serde_json.specs.Data.{Data, number, string, object, array, unsigned, Members, no_members, member}
 use Rattle.serde_json.specs.View.{items_of}
 use Rattle.serde_json.specs.Written.{compact_text}
@@ -53,6 +53,14 @@ mode_text Sealed = codes "sealed"
 -- {"state":S,"text":T}
 abbrev pub put_data : StateName → List ℕ → Data
 put_data s text = object (text_member (codes "state") (state_text s) (text_member (codes "text") text no_members))
+
+-- {"state":S}
+abbrev pub certified_data : StateName → Data
+certified_data s = object (text_member (codes "state") (state_text s) no_members)
+
+-- {"released":R}
+abbrev pub released_data : List ℕ → Data
+released_data id = object (text_member (codes "released") id no_members)
 
 -- {"number":N,"points":N,"text":T}
 abbrev pub puzzle_data : ShownPuzzle → Data
@@ -108,6 +116,8 @@ abbrev pub reply_data : Reply → Data
 reply_data (reply.Denied rule) = denied_data rule
 reply_data reply.Unavailable = unavailable_data
 reply_data (reply.PuzzlePut s text) = put_data s text
+reply_data (reply.Certified s) = certified_data s
+reply_data (reply.Released id) = released_data id
 reply_data (reply.RoundRead round) = round_data round
 reply_data (reply.Received n verdict) = received_data n verdict
 reply_data (reply.AnswerList lines) = answers_data lines
@@ -126,6 +136,7 @@ reply_status _ = status.Ok
 abbrev pub field_text : Field → List ℕ
 field_text field.Answer = codes "answer"
 field_text field.Text = codes "text"
+field_text field.Budget = codes "budget"
 
 -- {"form":F}
 abbrev pub form_data : List ℕ → Data

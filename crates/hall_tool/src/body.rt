@@ -5,12 +5,12 @@ ghost use Rattle.std.specs.Str.{bytes_eq};
 ghost use Rattle.serde_json.specs.Errors.{IsMemory};
 ghost use Rattle.serde_json.specs.View.{members_view};
 ghost use Rattle.hall_tool.specs.Given.{Gives};
-ghost use Rattle.hall_tool.specs.Body.{object_in, answer_in, text_in, text_at};
+ghost use Rattle.hall_tool.specs.Body.{object_in, answer_in, text_in, budget_in, text_at, integer_at, in_range};
 
 use crate::form::{Field, FormFault, RequestFault};
 use crate::words::checked;
-use hall_policy::{AnswerText, PuzzleText};
-use serde_json::{Error, Map, Value};
+use hall_policy::{AnswerText, Budget, PuzzleText, Within};
+use serde_json::{Error, Map, Number, Value};
 use std::alloc::Global;
 
 const SYNTAX: RequestFault = RequestFault::Form(FormFault::Syntax);
@@ -83,6 +83,33 @@ fn text_at<'a>(
     }
 }
 
+/// The integer that a member is.
+fn integer_at(members: &Map<String, Value>, name: &str, field: Field) -> Result<i128, RequestFault>
+    ensures { Gives (λ n. n) result (integer_at field name.now (members_view members.now.entries)) }
+{
+    let Some(value) = members.get(name) else {
+        return Err(RequestFault::Form(FormFault::Missing(field)));
+    };
+    match value.as_number().and_then(Number::as_i128) {
+        Some(integer) => Ok(integer),
+        None => Err(RequestFault::Form(FormFault::Missing(field))),
+    }
+}
+
+/// The number in its range, or the fault where it lies outside.
+fn in_range<const LEAST: u64, const MOST: u64>(
+    integer: i128,
+    fault: FormFault,
+) -> Result<Within<LEAST, MOST>, RequestFault>
+    ensures { Gives (λ n. n) result (in_range fault LEAST MOST integer) }
+{
+    let outside = RequestFault::Form(fault);
+    let Ok(value) = u64::try_from(integer) else {
+        return Err(outside);
+    };
+    Within::new(value).ok_or(outside)
+}
+
 /// The answer that a body spells.
 pub fn read_answer(alloc: Global, body: &[u8]) -> Result<AnswerText, RequestFault>
     ensures { Gives (λ t. t) result (answer_in body.now) }
@@ -99,4 +126,13 @@ pub fn read_text(alloc: Global, body: &[u8]) -> Result<PuzzleText, RequestFault>
     let members = read_object(alloc, body, &["text"])?;
     let text = text_at(&members, "text", Field::Text)?;
     checked(alloc, text.as_bytes(), FormFault::Range(Field::Text))
+}
+
+/// The budget that a body spells.
+pub fn read_budget(alloc: Global, body: &[u8]) -> Result<Budget, RequestFault>
+    ensures { Gives (λ n. n) result (budget_in body.now) }
+{
+    let members = read_object(alloc, body, &["budget"])?;
+    let budget = integer_at(&members, "budget", Field::Budget)?;
+    in_range(budget, FormFault::Range(Field::Budget))
 }

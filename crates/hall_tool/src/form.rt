@@ -10,6 +10,7 @@ use std::alloc::AllocError;
 pub enum Field {
     Answer,
     Text,
+    Budget,
 }
 
 /// The first thing that keeps bytes from being a request.

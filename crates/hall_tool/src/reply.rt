@@ -2,7 +2,7 @@
 ghost use Rattle.std.specs.Prelude.{◌≡◌, ◌++◌, ◌∷◌, [], false, IfOk, map, take, codes, string_bytes};
 ghost use Rattle.serde_json.specs.View.{view, items_of, items_view};
 ghost use Rattle.serde_json.specs.Written.{has_float, compact_text};
-ghost use Rattle.hall_tool.specs.Reply.{state_text, mode_text, put_data, puzzle_data, round_data, received_data, answer_data, answers_data, denied_data, unavailable_data, reply_data, reply_status, denied_status, field_text, form_data, field_data, place_data, text_fault_data, fault_data, fault_status, line_bytes, BytesOf, FaultBytesOf};
+ghost use Rattle.hall_tool.specs.Reply.{state_text, mode_text, put_data, certified_data, released_data, puzzle_data, round_data, received_data, answer_data, answers_data, denied_data, unavailable_data, reply_data, reply_status, denied_status, field_text, form_data, field_data, place_data, text_fault_data, fault_data, fault_status, line_bytes, BytesOf, FaultBytesOf};
 
 use crate::form::{Field, FormFault};
 use crate::status::Status;
@@ -52,6 +52,8 @@ fn reply_status(reply: &Reply) -> Status
         Reply::Denied(rule) => denied_status(*rule),
         Reply::Unavailable => Status::Unavailable,
         Reply::PuzzlePut { .. } => Status::Ok,
+        Reply::Certified(_) => Status::Ok,
+        Reply::Released(_) => Status::Ok,
         Reply::RoundRead(_) => Status::Ok,
         Reply::Received { .. } => Status::Ok,
         Reply::AnswerList(_) => Status::Ok,
@@ -91,6 +93,8 @@ fn reply_body(alloc: Global, reply: &Reply) -> Result<Value, AllocError>
         Reply::Denied(rule) => denied_body(alloc, *rule),
         Reply::Unavailable => unavailable_body(alloc),
         Reply::PuzzlePut { state, text } => put_body(alloc, *state, text.as_str()),
+        Reply::Certified(state) => certified_body(alloc, *state),
+        Reply::Released(round) => released_body(alloc, round.as_str()),
         Reply::RoundRead(round) => round_body(alloc, round),
         Reply::Received { n, verdict } => received_body(alloc, *n, *verdict),
         Reply::AnswerList(lines) => answers_body(alloc, lines.as_slice()),
@@ -136,6 +140,18 @@ fn put_body(alloc: Global, state: StateName, text: &str) -> Result<Value, AllocE
     ensures { IfOk result (λ body. view body ≡ put_data state text.now) }
 {
     json!(in alloc; {"state": (state_text(state)), "text": text})
+}
+
+fn certified_body(alloc: Global, state: StateName) -> Result<Value, AllocError>
+    ensures { IfOk result (λ body. view body ≡ certified_data state) }
+{
+    json!(in alloc; {"state": (state_text(state))})
+}
+
+fn released_body(alloc: Global, round: &str) -> Result<Value, AllocError>
+    ensures { IfOk result (λ body. view body ≡ released_data round.now) }
+{
+    json!(in alloc; {"released": round})
 }
 
 fn puzzle_body(alloc: Global, puzzle: &ShownPuzzle) -> Result<Value, AllocError>
@@ -242,6 +258,7 @@ fn field_text(field: Field) -> &'static str
     match field {
         Field::Answer => "answer",
         Field::Text => "text",
+        Field::Budget => "budget",
     }
 }
 

@@ -4,7 +4,7 @@ ghost use Rattle.std.specs.List.{list_any};
 ghost use Rattle.hall_tool.specs.Given.{Gives, Finds};
 ghost use Rattle.hall_tool.specs.Request.{parts_in, parts_seen, is_space, is_word, key_in, ActionOf, PutOf, RequestOf};
 
-use crate::body::{read_answer, read_text};
+use crate::body::{read_answer, read_budget, read_text};
 use crate::form::{FormFault, RequestFault};
 use crate::route::{Route, route_of};
 use crate::words::{checked, cut};
@@ -89,7 +89,12 @@ fn action_of(alloc: Global, route: Route, body: &[u8]) -> Result<Action, Request
             let text = read_text(alloc, body)?;
             put_of(alloc, key, text.as_str().as_bytes())
         }
+        Route::Certificate(key) => {
+            let budget = read_budget(alloc, body)?;
+            Ok(Action::Certify { key, budget })
+        }
         Route::Round(round) => Ok(Action::ReadRound { round }),
+        Route::Release(round) => Ok(Action::Release { round }),
         Route::Answer(round, number, token) => {
             let answer = read_answer(alloc, body)?;
             Ok(Action::Submit {

@@ -1,11 +1,11 @@
 //! The routes that are served.
 ghost use Rattle.std.specs.Prelude.{◌≡◌, codes};
 ghost use Rattle.hall_tool.specs.Given.{Gives};
-ghost use Rattle.hall_tool.specs.Request.{puzzle_number, puzzle_route, answers_route, round_route, route_in, is_method};
+ghost use Rattle.hall_tool.specs.Request.{puzzle_number, puzzle_route, label_route, answer_route, below_round, round_route, route_in, is_method};
 
 use crate::form::{FormFault, RequestFault};
 use crate::words::{after_front, checked, cut, read_decimal};
-use hall_policy::{PuzzleKey, PuzzleNumber, RoundId, Token};
+use hall_policy::{Name, PuzzleKey, PuzzleNumber, RoundId, Token};
 use std::alloc::Global;
 
 const NO_ROUTE: RequestFault = RequestFault::Form(FormFault::NoRoute);
@@ -15,8 +15,12 @@ const NO_ROUTE: RequestFault = RequestFault::Form(FormFault::NoRoute);
 pub enum Route {
     /// PUT /puzzles/{author}/{label}
     Puzzle(PuzzleKey),
+    /// POST /puzzles/{author}/{label}/certificate
+    Certificate(PuzzleKey),
     /// GET /rounds/{round}
     Round(RoundId),
+    /// POST /rounds/{round}/release
+    Release(RoundId),
     /// PUT /rounds/{round}/answers/{number}/{token}
     Answer(RoundId, PuzzleNumber, Token),
     /// GET /rounds/{round}/answers
@@ -50,11 +54,34 @@ fn expect_method(method: &[u8], name: &[u8]) -> Result<(), RequestFault>
 fn puzzle_route(alloc: Global, method: &[u8], rest: &[u8]) -> Result<Route, RequestFault>
     ensures { Gives (λ r. r) result (puzzle_route method.now rest.now) }
 {
-    expect_method(method, b"PUT")?;
-    let (author, label) = cut(rest, b'/').ok_or(NO_ROUTE)?;
+    let (author, rest) = cut(rest, b'/').ok_or(NO_ROUTE)?;
     let author = checked(alloc, author, FormFault::NoRoute)?;
-    let label = checked(alloc, label, FormFault::NoRoute)?;
-    Ok(Route::Puzzle(PuzzleKey { author, label }))
+    label_route(alloc, method, author, rest)
+}
+
+fn label_route(
+    alloc: Global,
+    method: &[u8],
+    author: Name,
+    rest: &[u8],
+) -> Result<Route, RequestFault>
+    ensures { Gives (λ r. r) result (label_route method.now author rest.now) }
+{
+    match cut(rest, b'/') {
+        Some((label, below)) => {
+            if below != b"certificate".as_slice() {
+                return Err(NO_ROUTE);
+            }
+            expect_method(method, b"POST")?;
+            let label = checked(alloc, label, FormFault::NoRoute)?;
+            Ok(Route::Certificate(PuzzleKey { author, label }))
+        }
+        None => {
+            expect_method(method, b"PUT")?;
+            let label = checked(alloc, rest, FormFault::NoRoute)?;
+            Ok(Route::Puzzle(PuzzleKey { author, label }))
+        }
+    }
 }
 
 fn round_route(alloc: Global, method: &[u8], rest: &[u8]) -> Result<Route, RequestFault>
@@ -63,7 +90,7 @@ fn round_route(alloc: Global, method: &[u8], rest: &[u8]) -> Result<Route, Reque
     match cut(rest, b'/') {
         Some((round, below)) => {
             let round = checked(alloc, round, FormFault::NoRoute)?;
-            answers_route(alloc, method, round, below)
+            below_round(alloc, method, round, below)
         }
         None => {
             expect_method(method, b"GET")?;
@@ -73,18 +100,33 @@ fn round_route(alloc: Global, method: &[u8], rest: &[u8]) -> Result<Route, Reque
     }
 }
 
-fn answers_route(
+fn below_round(
     alloc: Global,
     method: &[u8],
     round: RoundId,
     rest: &[u8],
 ) -> Result<Route, RequestFault>
-    ensures { Gives (λ r. r) result (answers_route method.now round rest.now) }
+    ensures { Gives (λ r. r) result (below_round method.now round rest.now) }
 {
     if rest == b"answers".as_slice() {
         expect_method(method, b"GET")?;
-        return Ok(Route::Answers(round));
+        Ok(Route::Answers(round))
+    } else if rest == b"release".as_slice() {
+        expect_method(method, b"POST")?;
+        Ok(Route::Release(round))
+    } else {
+        answer_route(alloc, method, round, rest)
     }
+}
+
+fn answer_route(
+    alloc: Global,
+    method: &[u8],
+    round: RoundId,
+    rest: &[u8],
+) -> Result<Route, RequestFault>
+    ensures { Gives (λ r. r) result (answer_route method.now round rest.now) }
+{
     expect_method(method, b"PUT")?;
     let names = after_front(rest, b"answers/").ok_or(NO_ROUTE)?;
     let (number, token) = cut(names, b'/').ok_or(NO_ROUTE)?;

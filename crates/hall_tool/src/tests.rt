@@ -1,5 +1,6 @@
 use crate::{ToolFault, judge_run, solve_run};
 use hall_grid::Counted;
+use std::alloc::Global;
 use std::io;
 use std::io::{Read, Write};
 use std::test::Fail;
@@ -58,87 +59,108 @@ impl Write for Sipping {
     }
 }
 
+const GRID: &[u8] = b"sudoku/4/4/123434122143432g";
+
 const RIGHT: &[u8] = b"sudoku/4/4/123434122143432g\n1234341221434321\n";
 
+/// What `judge` writes for an input, and how it ends.
+fn judged(alloc: Global, input: &[u8]) -> (Vec<u8>, Result<u8, ToolFault>) {
+    let mut reader = Counted::new(input);
+    let mut writer = Counted::new(Vec::new(alloc));
+    let ended = judge_run(alloc, &mut reader, &mut writer);
+    (writer.into_inner(), ended)
+}
+
+/// The input with these two lines.
+fn two_lines(alloc: Global, text: &[u8], answer: &[u8]) -> Result<Vec<u8>, Fail> {
+    let mut input = Vec::from_slice(alloc, text)?;
+    input.push(b'\n')?;
+    input.extend_from_slice(answer)?;
+    input.push(b'\n')?;
+    Ok(input)
+}
+
 #[test]
-fn answers_with_the_line_and_the_status(rt: HostRuntime) -> Result<(), Fail> {
-    let rows: [(&[u8], &[u8], u8); 29] = [
+fn judges_sudoku(rt: HostRuntime) -> Result<(), Fail> {
+    let address = b"https://puzz.link/p?sudoku/4/4/123434122143432g/".as_slice();
+    let rows: [(&[u8], &[u8], &[u8], u8); 6] = [
+        (GRID, b"1234341221434312", b"wrong U2 U4\n", 1),
+        (address, b"1234341221434321", b"right\n", 0),
+        (GRID, b"123434122143432", b"wrong A0\n", 1),
+        (GRID, b"1234341221434325", b"wrong A0\n", 1),
+        (GRID, b"2134341221434321", b"wrong U2 U4\n", 1),
+        (GRID, b"1234341221434321", b"right\n", 0),
+    ];
+    for (text, answer, line, status) in &rows {
+        let input = two_lines(rt.alloc(), *text, *answer)?;
+        let (written, ended) = judged(rt.alloc(), input.as_slice());
+        assert_eq!(rt; ended, Ok(*status));
+        assert!(rt; written.as_slice() == *line);
+    }
+    Ok(())
+}
+
+#[test]
+fn judges_slitherlink_and_nurikabe(rt: HostRuntime) -> Result<(), Fail> {
+    let address = b"https://puzz.link/p?slither/2/2/222c/".as_slice();
+    let rows: [(&[u8], &[u8], &[u8], u8); 9] = [
+        (b"slither/3/1/i", b"101101/1111", b"wrong S5\n", 1),
+        (b"slither/1/1/a", b"00/00", b"wrong S1\n", 1),
+        (b"slither/2/1/g", b"1010/110", b"right\n", 0),
+        (b"slither/2/1/g", b"1010/100", b"wrong S2\n", 1),
+        (address, b"110011/101101", b"right\n", 0),
+        (b"nurikabe/2/2/1i", b".##.", b"wrong N3 N4\n", 1),
+        (b"nurikabe/2/2/1i", b"####", b"wrong N1 N2\n", 1),
+        (b"nurikabe/2/1/.g", b"#.", b"wrong N1 N4\n", 1),
+        (b"nurikabe/2/2/1i", b".###", b"right\n", 0),
+    ];
+    for (text, answer, line, status) in &rows {
+        let input = two_lines(rt.alloc(), *text, *answer)?;
+        let (written, ended) = judged(rt.alloc(), input.as_slice());
+        assert_eq!(rt; ended, Ok(*status));
+        assert!(rt; written.as_slice() == *line);
+    }
+    Ok(())
+}
+
+#[test]
+fn refuses_texts(rt: HostRuntime) -> Result<(), Fail> {
+    let rows: [(&[u8], &[u8]); 7] = [
+        (b"https://puzz.link/p\n1\n", b"refused E2\n"),
+        (b"sudoku/4/4/5u\n1\n", b"refused E7 0\n"),
+        (b"sudoku/9/8/g\n1\n", b"refused E4\n"),
+        (b"slither/2/2/f\n1\n", b"refused E5 0\n"),
+        (b"nurikabe/2/2/-0\n1\n", b"refused E6 0\n"),
+        (b"slither/1/1/00\n1\n", b"refused E8 1\n"),
+        (b"\xff\xfe\n\x00\n", b"refused E2\n"),
+    ];
+    for (input, line) in &rows {
+        let (written, ended) = judged(rt.alloc(), *input);
+        assert_eq!(rt; ended, Ok(2));
+        assert!(rt; written.as_slice() == *line);
+    }
+    Ok(())
+}
+
+#[test]
+fn takes_two_lines(rt: HostRuntime) -> Result<(), Fail> {
+    let returns = b"sudoku/4/4/123434122143432g\r\n1234341221434321\r\n".as_slice();
+    let unended = b"sudoku/4/4/123434122143432g\n1234341221434321".as_slice();
+    let late_return = b"sudoku/4/4/123434122143432g\n1234341221434321\r".as_slice();
+    let three = b"sudoku/4/4/123434122143432g\n1234341221434321\n\n".as_slice();
+    let rows: [(&[u8], &[u8], u8); 8] = [
         (RIGHT, b"right\n", 0),
-        (
-            b"sudoku/4/4/123434122143432g\n1234341221434312\n",
-            b"wrong U2 U4\n",
-            1,
-        ),
-        (
-            b"https://puzz.link/p?sudoku/4/4/123434122143432g/\n1234341221434321\n",
-            b"right\n",
-            0,
-        ),
-        (
-            b"sudoku/4/4/123434122143432g\n123434122143432\n",
-            b"wrong A0\n",
-            1,
-        ),
-        (
-            b"sudoku/4/4/123434122143432g\n1234341221434325\n",
-            b"wrong A0\n",
-            1,
-        ),
-        (
-            b"sudoku/4/4/123434122143432g\n2134341221434321\n",
-            b"wrong U2 U4\n",
-            1,
-        ),
-        (b"https://puzz.link/p\n1\n", b"refused E2\n", 2),
-        (b"sudoku/4/4/5u\n1\n", b"refused E7 0\n", 2),
-        (b"sudoku/9/8/g\n1\n", b"refused E4\n", 2),
+        (returns, b"right\n", 0),
+        (unended, b"right\n", 0),
+        (late_return, b"wrong A0\n", 1),
+        (three, b"refused input\n", 2),
         (b"sudoku/4/4/123434122143432g\n", b"refused input\n", 2),
         (b"", b"refused input\n", 2),
         (b"\n", b"refused input\n", 2),
-        (
-            b"sudoku/4/4/123434122143432g\n1234341221434321\n\n",
-            b"refused input\n",
-            2,
-        ),
-        (
-            b"sudoku/4/4/123434122143432g\r\n1234341221434321\r\n",
-            b"right\n",
-            0,
-        ),
-        (
-            b"sudoku/4/4/123434122143432g\n1234341221434321",
-            b"right\n",
-            0,
-        ),
-        (
-            b"sudoku/4/4/123434122143432g\n1234341221434321\r",
-            b"wrong A0\n",
-            1,
-        ),
-        (b"slither/3/1/i\n101101/1111\n", b"wrong S5\n", 1),
-        (b"slither/1/1/a\n00/00\n", b"wrong S1\n", 1),
-        (b"slither/2/1/g\n1010/110\n", b"right\n", 0),
-        (b"slither/2/1/g\n1010/100\n", b"wrong S2\n", 1),
-        (
-            b"https://puzz.link/p?slither/2/2/222c/\n110011/101101\n",
-            b"right\n",
-            0,
-        ),
-        (b"nurikabe/2/2/1i\n.##.\n", b"wrong N3 N4\n", 1),
-        (b"nurikabe/2/2/1i\n####\n", b"wrong N1 N2\n", 1),
-        (b"nurikabe/2/1/.g\n#.\n", b"wrong N1 N4\n", 1),
-        (b"slither/2/2/f\n1\n", b"refused E5 0\n", 2),
-        (b"nurikabe/2/2/-0\n1\n", b"refused E6 0\n", 2),
-        (b"slither/1/1/00\n1\n", b"refused E8 1\n", 2),
-        (b"nurikabe/2/2/1i\n.###\n", b"right\n", 0),
-        (b"\xff\xfe\n\x00\n", b"refused E2\n", 2),
     ];
     for (input, line, status) in &rows {
-        let mut reader = Counted::new(*input);
-        let mut writer = Counted::new(Vec::new(rt.alloc()));
-        let ended = judge_run(rt.alloc(), &mut reader, &mut writer);
-        assert!(rt; ended == Ok(*status));
-        let written = writer.into_inner();
+        let (written, ended) = judged(rt.alloc(), *input);
+        assert_eq!(rt; ended, Ok(*status));
         assert!(rt; written.as_slice() == *line);
     }
     Ok(())
@@ -154,11 +176,8 @@ fn takes_8192_bytes_and_no_more(rt: HostRuntime) -> Result<(), Fail> {
         for _ in input.len()..spare {
             input.push(b'1')?;
         }
-        let mut reader = Counted::new(input.as_slice());
-        let mut writer = Counted::new(Vec::new(rt.alloc()));
-        let ended = judge_run(rt.alloc(), &mut reader, &mut writer);
-        assert!(rt; ended == Ok(status));
-        let written = writer.into_inner();
+        let (written, ended) = judged(rt.alloc(), input.as_slice());
+        assert_eq!(rt; ended, Ok(status));
         assert!(rt; written.as_slice() == line);
     }
     Ok(())

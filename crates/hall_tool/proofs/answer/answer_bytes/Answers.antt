@@ -1,4 +1,4 @@
-use Rattle.std.proofs.Common.{◌≡◌, refl, sym, inl, inr}
+use Rattle.std.proofs.Common.{refl, inr}
 use Rattle.hall_tool.proofs.Refusals.{unavailable_line}
 use Rattle.hall_tool.proofs.answer.answer_bytes.Goals as goal
 

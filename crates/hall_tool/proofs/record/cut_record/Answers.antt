@@ -1,4 +1,4 @@
-use Rattle.std.proofs.Common.{◌≡◌, ◌∙◌, sym, ap, refl, rules, arith}
+use Rattle.std.proofs.Common.{◌∙◌, sym, arith}
 use Rattle.hall_tool.proofs.Cutting.{never_long, none_yet, never_header, not_yet, cut_whole}
 use Rattle.hall_tool.proofs.record.cut_record.Goals as goal
 

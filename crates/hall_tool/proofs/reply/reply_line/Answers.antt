@@ -1,4 +1,3 @@
-use Rattle.std.proofs.Common.{◌≡◌, refl}
 use Rattle.hall_tool.proofs.Floats.{replies_whole}
 use Rattle.hall_tool.proofs.reply.reply_line.Goals as goal
 

@@ -1,4 +1,4 @@
-use Rattle.std.proofs.Common.{◌≡◌, ◌∙◌, sym, ap, refl, rules}
+use Rattle.std.proofs.Common.{◌≡◌, ◌∙◌, sym}
 use Rattle.hall_tool.proofs.Texts.{of_kind_fails, of_kind_holds, kind_ascii}
 use Rattle.hall_tool.proofs.words.checked.Goals as goal
 
