@@ -1,24 +1,21 @@
 -- What follows from a sane world for entrants and directors.
-use Rattle.std.proofs.Common.{◌≡◌, ◌≢◌, ◌+◌, ◌<◌, ◌≤◌, ◌==◌, ◌++◌, inl, inr, ℕ, zero, suc, Bool, true, false, List, [], ◌∷◌, Option, Some, None, length, map, take, drop, min, refl, sym, ap, ◌∙◌, subst, arith, nat_lt, if◌then◌else◌}
+use Rattle.std.proofs.Common.{◌≡◌, ◌+◌, ◌<◌, ◌++◌, inl, inr, ℕ, List, [], ◌∷◌, length, map, take, drop, min, refl, sym, ap, ◌∙◌, subst, arith}
 use Rattle.std.specs.Prelude.{All, ◌↔◌}
 use Rattle.std.proofs.lemmas.List.{take-append-drop, length-map, length-take}
 use Rattle.std.proofs.lemmas.List.Elements.{All-head, All-tail, All-take, All-drop}
-use Rattle.std.specs.FinMap.{get}
 use Rattle.hall_grid.specs.declared.board.Kind.{Kind}
 use Rattle.hall_grid.specs.declared.board.Kind.TheVariants.{Sudoku, Slither, Nurikabe}
 use Rattle.hall_grid.specs.declared.board.Size.{Size}
-use Rattle.hall_grid.specs.declared.rule.Rule.{Rule as Broken}
 use Rattle.hall_grid.specs.declared.rule.Rule.TheVariants.{A0}
 use Rattle.hall_grid.specs.Board.{Board}
 use Rattle.hall_grid.specs.Slither.{flat_sides}
-use Rattle.hall_grid.specs.Answer.{places_of, values_of, sudoku_byte, slither_byte, nurikabe_byte, text_of, IsFilling, AnswerText, Breaks, Verdict}
+use Rattle.hall_grid.specs.Answer.{places_of, values_of, sudoku_byte, slither_byte, nurikabe_byte, text_of, AnswerText, Breaks, Verdict}
 use Rattle.hall_policy.specs.World.{World}
-use Rattle.hall_policy.specs.declared.record.PuzzleKey.{PuzzleKey}
 use Rattle.hall_policy.specs.declared.record.PuzzleRow.{PuzzleRow}
 use Rattle.hall_policy.specs.declared.record.PuzzleState.{PuzzleState}
 use Rattle.hall_policy.specs.declared.record.PuzzleState.TheVariants as state
-use Rattle.hall_desk.specs.Sane.{Sane, Solves, IsTrueState}
-use Rattle.hall_desk.specs.Promises.{HasOneSolution, HasUniqueSolutions, IsRight, RightAnswersAreSolutions}
+use Rattle.hall_desk.specs.Sane.{Sane, IsTrueState}
+use Rattle.hall_desk.specs.Promises.{HasUniqueSolutions, NamesNoRule, RightAnswersAreSolutions}
 
 -- the first and the rest of one list
 same_first : (x y : ℕ) (xs ys : List ℕ) → ◌≡◌ {A = List ℕ} (x ∷ xs) (y ∷ ys) → x ≡ y
@@ -87,7 +84,7 @@ unique_solutions world sane id key stands =
     (row, certified.2, (is.0, is.2, is.3))
 
 -- the filling of an answer that breaks no rule is the one solution, whose text is stored
-right_answers_of : (puzzle : Board) (solution answer : List ℕ) (names : ℕ) → IsTrueState puzzle (state.One solution) → Verdict puzzle answer names → IsRight names ↔ (answer ≡ solution)
+right_answers_of : (puzzle : Board) (solution answer : List ℕ) (names : ℕ) → IsTrueState puzzle (state.One solution) → Verdict puzzle answer names → NamesNoRule names ↔ (answer ≡ solution)
 right_answers_of puzzle solution answer names (f, written, solves, only) (set, inl (g, says, broken)) = (
   (λ right.
       let same : g ≡ f = only g (record { filling = says.filling; right = λ rule is. right rule ((broken rule).1 is) }) in

@@ -1,6 +1,6 @@
 -- What the hall promises to entrants and directors.
-use Rattle.std.specs.Prelude.{◌≡◌, ◌↔◌, ℕ, List, Option, Some}
-use Rattle.std.specs.FinMap.{FinMap, get}
+use Rattle.std.specs.Prelude.{◌≡◌, ◌↔◌, ℕ, List, Some}
+use Rattle.std.specs.FinMap.{get}
 use Rattle.hall_grid.specs.declared.rule.Rule.{Rule as Broken}
 use Rattle.hall_grid.specs.Board.{Board}
 use Rattle.hall_grid.specs.Rule.{Names}
@@ -22,11 +22,11 @@ HasUniqueSolutions world =
     (id : List ℕ) (key : PuzzleKey) → StandsReleased world key id → (row : PuzzleRow) × (get world.puzzles key ≡ Some row) × HasOneSolution row.puzzle
 
 -- the verdict names no rule
-abbrev pub IsRight : ℕ → Type 0
-IsRight names = (rule : Broken) → ¬ (Names names rule)
+abbrev pub NamesNoRule : ℕ → Type 0
+NamesNoRule names = (rule : Broken) → ¬ (Names names rule)
 
 -- an answer to a certified puzzle is right exactly where it is the text of the stored solution
 abbrev pub RightAnswersAreSolutions : World → Type 0
 RightAnswersAreSolutions world =
     (key : PuzzleKey) (row : PuzzleRow) (solution answer : List ℕ) (names : ℕ) → get world.puzzles key ≡ Some row → row.state ≡ state.One solution →
-    Verdict row.puzzle answer names → IsRight names ↔ (answer ≡ solution)
+    Verdict row.puzzle answer names → NamesNoRule names ↔ (answer ≡ solution)
