@@ -17,4 +17,5 @@ pub mod ReleaseSane
 pub mod OpeningSane
 pub mod Drafts
 pub mod StepsSane
+pub mod Promises
 pub mod Starts

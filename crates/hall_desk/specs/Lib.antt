@@ -8,5 +8,6 @@ pub mod Shown
 pub mod Step
 pub mod Run
 pub mod Sane
+pub mod Promises
 pub mod Plans
 pub mod Desk

@@ -5,6 +5,7 @@ ghost use Rattle.hall_desk.specs.Change.{changed, CanMake};
 ghost use Rattle.hall_desk.specs.Step.{Step};
 ghost use Rattle.hall_desk.specs.Run.{Run};
 ghost use Rattle.hall_desk.specs.Sane.{Sane};
+ghost use Rattle.hall_desk.specs.Promises.{HasUniqueSolutions, RightAnswersAreSolutions};
 ghost use Rattle.hall_desk.specs.Plans.{IsPlanFor};
 
 use crate::map_store::MapStore;
@@ -25,7 +26,9 @@ pub struct Desk {
 impl Desk {
     /// A desk over the opening world: six people, three puzzles that nobody certified yet, and three drafts. The world is sane.
     pub fn new(alloc: Global) -> Result<Desk, StoreFault>
-        ensures { IfOk result (λ desk. Sane (world_in desk)) }
+        ensures sane { IfOk result (λ desk. Sane (world_in desk)) }
+        ensures unique { IfOk result (λ desk. HasUniqueSolutions (world_in desk)) }
+        ensures right { IfOk result (λ desk. RightAnswersAreSolutions (world_in desk)) }
     {
         Ok(Desk {
             store: opening(alloc)?,
@@ -54,6 +57,8 @@ impl Desk {
     pub fn step(&mut self, alloc: Global, t: Moment, request: &Request) -> Reply
         ensures step { Step (world_in self.old) t request.now result (world_in self.new) }
         ensures sane { Sane (world_in self.old) → Sane (world_in self.new) }
+        ensures unique { Sane (world_in self.old) → HasUniqueSolutions (world_in self.new) }
+        ensures right { Sane (world_in self.old) → RightAnswersAreSolutions (world_in self.new) }
     {
         step(alloc, &mut self.store, t, request)
     }
@@ -66,6 +71,8 @@ impl Desk {
     ) -> Result<Vec<Reply>, AllocError>
         ensures run { IfOk result (λ replies. Run (world_in self.old) requests.now replies.items (world_in self.new)) }
         ensures sane { Sane (world_in self.old) → Sane (world_in self.new) }
+        ensures unique { Sane (world_in self.old) → HasUniqueSolutions (world_in self.new) }
+        ensures right { Sane (world_in self.old) → RightAnswersAreSolutions (world_in self.new) }
         ensures refused { OnErr result (world_in self.new ≡ world_in self.old) }
     {
         run(alloc, &mut self.store, requests)
