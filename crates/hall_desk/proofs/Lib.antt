@@ -1,4 +1,5 @@
 pub mod MapWorlds
+pub mod AnswerRange
 pub mod RoundWorlds
 pub mod Knowing
 pub mod Answering

@@ -1,7 +1,7 @@
 //! The calls of a store over ordered maps.
 use crate::map_reads::{
-    answers_at, answers_by, holder, ids_using, person_at, puzzle_at, puzzles_by, round_at,
-    sort_answers, with_flag, with_state,
+    answers_at, answers_by, bounded_key, holder, ids_using, person_at, puzzle_at, puzzles_by,
+    round_at, sort_answers, with_flag, with_state,
 };
 use crate::map_store::MapStore;
 use crate::store::{RoundFlag, Store, StoreFault};
@@ -102,7 +102,7 @@ impl Store for MapStore {
     }
 
     fn add_answer(&mut self, _alloc: Global, row: AnswerRow) -> Result<(), StoreFault> {
-        let key = row.key.clone()?;
+        let key = bounded_key(&row.key)?;
         match self.answers.insert(key, row) {
             Ok(_) => Ok(()),
             Err(_) => Err(StoreFault::Memory),

@@ -6,13 +6,13 @@ ghost use Rattle.std.specs.BTreeMap as tree;
 ghost use Rattle.hall_policy.specs.Text.{text_cmp};
 ghost use Rattle.hall_policy.specs.World.{same_text, puzzle_cmp, answer_cmp};
 ghost use Rattle.hall_desk.specs.Store.{listing_cmp, is_in, is_of};
-ghost use Rattle.hall_desk.specs.Keyed.{uses};
+ghost use Rattle.hall_desk.specs.Keyed.{uses, least_key, is_bounded, are_keyed, are_bounded};
 ghost use Rattle.hall_desk.specs.Change.{flagged};
 
 use crate::store::RoundFlag;
 use hall_policy::{
-    AnswerKey, AnswerRow, Entry, Key, Name, Person, PuzzleKey, PuzzleRow, PuzzleState, RoundId,
-    RoundRow,
+    AnswerKey, AnswerRow, Entry, Key, Name, Person, PuzzleKey, PuzzleNumber, PuzzleRow,
+    PuzzleState, RoundId, RoundRow, Token,
 };
 use std::alloc::{AllocError, Global};
 use std::cmp::Ordering;
@@ -118,23 +118,55 @@ pub(crate) fn puzzles_by(
     Ok(rows)
 }
 
-/// Copies of the entrant's answers in the round.
+/// Copies of the entrant's answers in the round, which stand next to each other.
 pub(crate) fn answers_by(
     alloc: Global,
     answers: &BTreeMap<AnswerKey, AnswerRow>,
     entrant: &Name,
     round: &RoundId,
 ) -> Result<Vec<AnswerRow>, AllocError>
+    requires keyed { IsTrue (are_keyed answers.now.entries) }
+    requires bounded { IsTrue (are_bounded answers.now.entries) }
     ensures rows { IfOk result (λ rows. rows.items ≡ filter (is_of entrant.now round.now) (tree.values answers.now)) }
     ensures ordered { tree.IsOrdered answer_cmp answers.now }
 {
+    let _count = answers.len();
+    let least = least_key(alloc, entrant, round)?;
     let mut rows = Vec::new(alloc);
-    for row in answers.values() {
-        if is_of(row, entrant, round) {
-            rows.push(row.clone()?)?;
+    for (_, row) in answers.range(least..) {
+        if !is_of(row, entrant, round) {
+            break;
         }
+        rows.push(row.clone()?)?;
     }
     Ok(rows)
+}
+
+/// The least key that an answer of the entrant in the round can have.
+fn least_key(alloc: Global, entrant: &Name, round: &RoundId) -> Result<AnswerKey, AllocError>
+    ensures { IfOk result (λ key. key ≡ least_key entrant.now round.now) }
+{
+    let dash = String::from_str(alloc, "-")?;
+    let (Some(number), Some(token)) = (PuzzleNumber::new(1), Token::new(dash)) else {
+        unreachable!()
+    };
+    Ok(AnswerKey {
+        entrant: entrant.clone()?,
+        round: round.clone()?,
+        number,
+        token,
+    })
+}
+
+/// A copy of the key, which is not below the least one of its entrant and round.
+pub(crate) fn bounded_key(key: &AnswerKey) -> Result<AnswerKey, AllocError>
+    ensures copy { IfOk result (λ copy. copy ≡ key.now) }
+    ensures bounded { IsTrue (is_bounded key.now) }
+{
+    // Both are read for the limits that their types keep.
+    let _number = key.number.get();
+    let _token = key.token.as_str();
+    key.clone()
 }
 
 /// Whether the answer is the entrant's, in the round.

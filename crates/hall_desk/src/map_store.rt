@@ -1,6 +1,6 @@
 //! The world in ordered maps.
 ghost use Rattle.std.specs.Prelude.{IsTrue};
-ghost use Rattle.hall_desk.specs.Keyed.{are_named, are_keyed};
+ghost use Rattle.hall_desk.specs.Keyed.{are_named, are_keyed, are_bounded};
 
 use hall_policy::{
     AnswerKey, AnswerRow, Name, Person, ProtestKey, ProtestRow, PuzzleKey, PuzzleRow, RoundId,
@@ -18,4 +18,5 @@ pub struct MapStore {
     pub(crate) protests: BTreeMap<ProtestKey, ProtestRow>,
     ghost named: { IsTrue (are_named people.entries) },
     ghost keyed: { IsTrue (are_keyed answers.entries) },
+    ghost bounded: { IsTrue (are_bounded answers.entries) },
 }

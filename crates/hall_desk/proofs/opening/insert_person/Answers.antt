@@ -1,8 +1,7 @@
 use Rattle.std.proofs.Common.{◌≡◌, ℕ, List, true, ap, sym, ◌∙◌, subst}
 use Rattle.std.specs.BTreeMap.{insert_entry}
-use Rattle.std.specs.FinMap.{FinMap, from_entries, insert}
+use Rattle.std.specs.FinMap.{from_entries, insert}
 use Rattle.hall_policy.specs.Text.{text_cmp}
-use Rattle.hall_policy.specs.World.{World}
 use Rattle.hall_policy.specs.declared.record.Person.{Person}
 use Rattle.hall_policy.proofs.Orders.{text_total, same_texts}
 use Rattle.hall_desk.specs.Keyed.{are_named}
@@ -31,4 +30,5 @@ invariant_of-store c =
       named = either_way c.insert.result (new ≡ insert_entry text_cmp old c.in_ok-name.name c.args.person) (new ≡ old) (are_named new ≡ true) c.insert.ensures.entries c.insert.ensures.err
           (λ e. ap are_named e ∙ people_named old c.in_ok-name.name c.args.person c.in_ok-name.ensures.cases c.args.store.now.named) (λ e. ap are_named e ∙ c.args.store.now.named);
       keyed = c.args.store.now.keyed;
+      bounded = c.args.store.now.bounded;
     }
