@@ -38,6 +38,7 @@ impl Desk {
     /// What the request will be answered, and what it will change. Reads only.
     pub fn plan(&mut self, alloc: Global, t: Moment, request: &Request) -> Result<Plan, StoreFault>
         ensures plan { IfOk result (IsPlanFor (world_in self.old) t request.now) }
+        ensures sane { IfOk result (λ plan. Sane (world_in self.old) → Sane (changed plan.change (world_in self.old))) }
         ensures same { world_in self.new ≡ world_in self.old }
     {
         make_plan(alloc, &mut self.store, t, request)

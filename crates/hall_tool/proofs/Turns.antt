@@ -104,17 +104,14 @@ module _ (stream after wrote written : Option (List ℕ)) (old new : World) (inb
 
     -- the line couldn't be written whole
     pub unsent : {U : Type 0} (then : Option (List ℕ)) (failed : Type 0) → WritesPart written then line → failed → IsReplayed {U = U} stream after wrote then old next failed (Err fault.Device)
-    unsent then failed (front, rest, split, sent) rose =
-        let whole : lines_of (kept.done ++ x ∷ []) ≡ (lines_of kept.done ++ front) ++ rest =
-        lines_more kept.done x ∙ ap (λ s. lines_of kept.done ++ s) split ∙ sym (append_assoc (lines_of kept.done) front rest) in
-        record {
-          answered = kept.done ++ x ∷ [];
-          unread = drop end inbox;
-          whole = all_records old (kept.done ++ x ∷ []) next longer;
-          run = run_over old (kept.done ++ x ∷ []) next longer;
-          consumed = rw same_bytes kept.consumed;
-          ended = ((lines_of kept.done ++ front, rest, whole, Appends-trans wrote written then (lines_of kept.done) front kept.replied sent), rose);
-        }
+    unsent then failed part rose = record {
+      answered = kept.done ++ x ∷ [];
+      unread = drop end inbox;
+      whole = all_records old (kept.done ++ x ∷ []) next longer;
+      run = run_over old (kept.done ++ x ∷ []) next longer;
+      consumed = rw same_bytes kept.consumed;
+      ended = (inr (kept.done, x, written, refl, kept.replied, part), rose);
+    }
 
   still : (then : Option (List ℕ)) → Consumes after then [] → Consumes stream then (records_of kept.done ++ inbox)
   still then none = subst (λ s. Consumes stream then s) (append-nil (records_of kept.done ++ inbox)) (Consumes-trans stream after then (records_of kept.done ++ inbox) [] kept.consumed none)
@@ -127,7 +124,7 @@ module _ (stream after wrote written : Option (List ℕ)) (old new : World) (inb
       whole = all_records old kept.done new kept.session;
       run = run_over old kept.done new kept.session;
       consumed = still then none;
-      ended = ((lines_of kept.done, [], sym (append-nil (lines_of kept.done)), kept.replied), rose);
+      ended = (inl kept.replied, rose);
     }
 
     pub no_memory : (then : Option (List ℕ)) (piece : List ℕ) → Consumes after then piece → IsReplayed {U = U} stream then wrote written old new failed (Err fault.Memory)

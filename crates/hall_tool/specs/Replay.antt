@@ -91,12 +91,19 @@ lines_of xs = flat_map (λ x. x.line) xs
 abbrev pub LacksRecord : Option (List ℕ) → List ℕ → Type 0
 LacksRecord after unread = (unread ≢ []) × ((HasNoRecord unread × IsAtEnd after) ⊎ NeverHasRecord unread)
 
+-- the lines were written: all of them, or all before the last one and a first part of that
+abbrev pub WritesAllButLast : Option (List ℕ) → Option (List ℕ) → List Exchange → Type 0
+WritesAllButLast wrote written xs =
+    Appends wrote written (lines_of xs)
+    ⊎ ((before : List Exchange) × (last : Exchange) × (between : Option (List ℕ)) × (xs ≡ before ++ last ∷ [])
+    × Appends wrote between (lines_of before) × WritesPart between written last.line)
+
 -- how the replay ended: what it wrote, and why it ended
 abbrev pub Ended : {U : Type 0} → Result U ReplayFault → Option (List ℕ) → Option (List ℕ) → Option (List ℕ) → List Exchange → List ℕ → Type 0 → Type 0
 Ended (Ok done) after wrote written xs unread failed = Appends wrote written (lines_of xs) × (unread ≡ []) × IsAtEnd after
 Ended (Err fault.Record) after wrote written xs unread failed =
     Appends wrote written (lines_of xs) × (LacksRecord after unread ⊎ (1000000000 ≤ length (records_of xs ++ unread)))
-Ended (Err fault.Device) after wrote written xs unread failed = WritesPart wrote written (lines_of xs) × failed
+Ended (Err fault.Device) after wrote written xs unread failed = WritesAllButLast wrote written xs × failed
 Ended (Err fault.Memory) after wrote written xs unread failed = Appends wrote written (lines_of xs)
 
 -- the stream was read as these records and then this rest, the records were answered, and the replay ended so

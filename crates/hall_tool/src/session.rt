@@ -3,6 +3,8 @@ ghost use Rattle.std.specs.Prelude.{◌≡◌, ◌≤◌, ◌<◌, ◌⊎◌, �
 ghost use Rattle.std.specs.Io.KnownBytes.{Appends, Consumes, IsAtEnd};
 ghost use Rattle.hall_grid.specs.Device.{HasFailed};
 ghost use Rattle.hall_desk.specs.Desk.{world_in};
+ghost use Rattle.hall_desk.specs.Sane.{Sane};
+ghost use Rattle.hall_desk.specs.Promises.{HasUniqueSolutions, RightAnswersAreSolutions};
 ghost use Rattle.hall_tool.specs.Input.{WritesPart};
 ghost use Rattle.hall_tool.specs.Replay.{IsReplayed, ReadsMore, line_text};
 
@@ -84,8 +86,25 @@ fn send<W: Write>(writer: &mut Counted<W>, line: Line) -> Result<(), ToolFault>
 /// Answers the records of the input, and writes their lines.
 ///
 /// Ends well where the input held whole records and no more. A device's fault leaves the records handled made, the last one's line perhaps unsent; any other fault comes
-/// after the lines of the records before.
+/// after the lines of the records before. A sane world stays sane.
 pub fn replay<R: Read, W: Write>(
+    alloc: Global,
+    desk: &mut Desk,
+    reader: &mut Counted<R>,
+    writer: &mut Counted<W>,
+) -> Result<(), ReplayFault>
+    ensures replayed { IsReplayed (R.remaining reader.old.device) (R.remaining reader.new.device) (W.contents writer.old.device) (W.contents writer.new.device)
+        (world_in desk.old) (world_in desk.new)
+        (HasFailed reader.old.failures reader.new.failures ⊎ HasFailed writer.old.failures writer.new.failures) result }
+    ensures sane { Sane (world_in desk.old) → Sane (world_in desk.new) }
+    ensures unique { Sane (world_in desk.old) → HasUniqueSolutions (world_in desk.new) }
+    ensures right { Sane (world_in desk.old) → RightAnswersAreSolutions (world_in desk.new) }
+{
+    answer_records(alloc, desk, reader, writer)
+}
+
+/// Answers the records of the input, and writes their lines.
+fn answer_records<R: Read, W: Write>(
     alloc: Global,
     desk: &mut Desk,
     reader: &mut Counted<R>,

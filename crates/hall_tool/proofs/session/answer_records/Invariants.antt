@@ -1,7 +1,7 @@
 use Rattle.std.proofs.Common.{◌≡◌, ◌≤◌, ◌+◌, ◌-◌, ◌*◌, vec_len}
 use Rattle.hall_desk.specs.Desk.{world_in}
 use Rattle.hall_tool.proofs.Turns.{Kept}
-use Rattle.hall_tool.proofs.session.replay.Given as goal
+use Rattle.hall_tool.proofs.session.answer_records.Given as goal
 
 abbrev pub invariant-records : goal.invariant-records
 invariant-records g l = record {
