@@ -1,5 +1,8 @@
-use crate::{NurikabeRules, start};
-use hall_grid::{Kind, parse_puzzle};
+//! Searches of worked puzzles, and of small boards whose fillings are all judged.
+ghost use Rattle.std.specs.Prelude.{◌≡◌};
+
+use crate::{NurikabeRules, broken, start};
+use hall_grid::{Filling, Kind, Puzzle, parse_answer, parse_puzzle};
 use hall_solve::{Outcome, search};
 use std::alloc::{AllocError, Global};
 use std::test::Fail;
@@ -84,5 +87,128 @@ fn larger_board(rt: HostRuntime) -> Result<(), Fail> {
         answer(alloc, puzzle, 200000)?.as_slice(),
         solution.as_slice()
     );
+    Ok(())
+}
+
+/// The next number of a linear congruential generator.
+fn next(random: u32) -> u32 {
+    random.wrapping_mul(1664525).wrapping_add(1013904223)
+}
+
+/// A blank twice as often as a number.
+fn random_clue(random: u32) -> char {
+    match random >> 28 {
+        0 => '.',
+        1 => '1',
+        2 => '2',
+        3 => '3',
+        4 => '4',
+        _ => 'g',
+    }
+}
+
+/// The text of a board with random clues, and the generator's next state.
+fn random_board(alloc: Global, cols: usize, rows: usize, seed: u32) -> Result<(String, u32), Fail> {
+    let mut text = format!(in alloc; "nurikabe/{cols}/{rows}/")?;
+    let mut random = seed;
+    for _ in 0..cols.wrapping_mul(rows) {
+        random = next(random);
+        text.push(random_clue(random))?;
+    }
+    Ok((text, random))
+}
+
+/// The answer text with a wall where the number has a bit, its lowest for the first cell.
+fn answer_of(alloc: Global, puzzle: &Puzzle, number: u64) -> Result<String, Fail> {
+    let mut text = String::new(alloc);
+    let mut rest = number;
+    for _ in 0..puzzle.cells() {
+        text.push(if rest % 2 == 1 { '#' } else { '.' })?;
+        rest /= 2;
+    }
+    Ok(text)
+}
+
+/// How many fillings the board has.
+fn count_fillings(puzzle: &Puzzle) -> u64 {
+    let mut fillings: u64 = 1;
+    for _ in 0..puzzle.cells() {
+        fillings = fillings.wrapping_mul(2);
+    }
+    fillings
+}
+
+/// What a trial of all fillings finds, one after another, each judged.
+fn try_all(alloc: Global, puzzle: &Puzzle) -> Result<Outcome, Fail>
+    requires { puzzle.now.kind ≡ Kind.Nurikabe }
+{
+    let mut found: Option<Filling> = None;
+    for number in 0..count_fillings(puzzle) {
+        let text = answer_of(alloc, puzzle, number)?;
+        let filling = parse_answer(alloc, puzzle, text.as_bytes())?.ok_or("no filling")?;
+        if broken(alloc, puzzle, &filling)?.is_empty() {
+            match found.take() {
+                None => found = Some(filling),
+                Some(first) => return Ok(Outcome::More(first, filling)),
+            }
+        }
+    }
+    match found {
+        None => Ok(Outcome::None),
+        Some(filling) => Ok(Outcome::One(filling)),
+    }
+}
+
+/// What a search finds whose budget is every node of the plain tree.
+fn search_all(alloc: Global, puzzle: &Puzzle) -> Result<Outcome, Fail>
+    requires { puzzle.now.kind ≡ Kind.Nurikabe }
+{
+    let budget = count_fillings(puzzle).wrapping_mul(2).wrapping_sub(1);
+    let mut rules = NurikabeRules::new(puzzle);
+    let start = start(alloc, puzzle)?;
+    Ok(search(alloc, &mut rules, &start, budget)?)
+}
+
+/// Whether both found nothing, the same one filling, or more than one.
+fn agree(a: &Outcome, b: &Outcome) -> bool {
+    match (a, b) {
+        (Outcome::None, Outcome::None) => true,
+        (Outcome::One(a), Outcome::One(b)) => a.as_slice() == b.as_slice(),
+        (Outcome::More(_, _), Outcome::More(_, _)) => true,
+        _ => false,
+    }
+}
+
+/// A tree that fits the budget is never given up, and what is found is what a trial of all fillings finds.
+#[test]
+fn finds_what_trying_all_fillings_finds(rt: HostRuntime) -> Result<(), Fail> {
+    let mut random = 1;
+    let (mut none, mut one, mut more) = (false, false, false);
+    for (cols, rows, boards) in [
+        (1, 1, 4),
+        (2, 1, 4),
+        (1, 3, 4),
+        (2, 2, 10),
+        (3, 2, 10),
+        (2, 3, 10),
+        (3, 3, 20),
+    ] {
+        for _ in 0..boards {
+            let (text, state) = random_board(rt.alloc(), cols, rows, random)?;
+            random = state;
+            let puzzle = parse_puzzle(rt.alloc(), text.as_bytes())?;
+            assert!(rt; puzzle.kind() == Kind::Nurikabe);
+            let tried = try_all(rt.alloc(), &puzzle)?;
+            let found = search_all(rt.alloc(), &puzzle)?;
+            assert!(rt; agree(&found, &tried), "at {text}");
+            match tried {
+                Outcome::None => none = true,
+                Outcome::One(_) => one = true,
+                Outcome::More(_, _) => more = true,
+                Outcome::GaveUp => {}
+            }
+        }
+    }
+    assert!(rt; none && one && more);
     Ok(())
 }

@@ -49,9 +49,9 @@ Meets Any n = Unit {0}
 Meets Through n = (n ≡ 0) ⊎ (n ≡ 2)
 Meets (Exactly number) n = n ≡ number
 
--- so many are lines and so many open: what each count between says of the open ones
+-- so many are lines and so many open: what each count between says of the open ones; nothing only where some count is as demanded
 abbrev pub Follows : Demand → ℕ → ℕ → Outcome → Type 0
-Follows demand lines unset Nothing = Unit {0}
+Follows demand lines unset Nothing = (n : ℕ) × (lines ≤ n) × (n ≤ lines + unset) × Meets demand n
 Follows demand lines unset (AllBe value) =
     (0 < unset) × (value < 2) × ((n : ℕ) → lines ≤ n → n ≤ lines + unset → Meets demand n → n ≡ lines + value * unset)
 Follows demand lines unset Impossible = (n : ℕ) → lines ≤ n → n ≤ lines + unset → Meets demand n → ⊥

@@ -1,4 +1,4 @@
-//! Slitherlink: the judge.
+//! Slitherlink: the judge, and the rules as a search asks them.
 #![tactic(auto)]
 
 mod chain;
@@ -13,5 +13,7 @@ mod spread;
 pub use judge::broken;
 pub use rules::{SlitherRules, start};
 
+#[cfg(test)]
+mod search_tests;
 #[cfg(test)]
 mod tests;

@@ -115,7 +115,7 @@ pub(crate) fn outcome_of(demand: Demand, lines: usize, unset: usize) -> Outcome
 /// The same where the count is a number.
 fn exact_outcome(number: usize, lines: usize, unset: usize) -> Outcome
     requires { lines + unset ≤ 4 }
-    ensures nothing { Follows (Demand.Exactly number) lines unset result }
+    ensures { Follows (Demand.Exactly number) lines unset result }
 {
     if lines > number || lines + unset < number {
         Outcome::Impossible
