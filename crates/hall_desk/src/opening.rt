@@ -308,8 +308,7 @@ fn draft_entries(alloc: Global, draft: &Draft) -> Result<Entries, StoreFault> {
 
 /// Puts a draft whose id is free and whose puzzles are there.
 pub(crate) fn insert_draft(store: &mut MapStore, row: RoundRow) -> Result<(), StoreFault>
-    requires { Sane (world_of store.old) }
-    ensures { OnOk result (Sane (world_of store.new)) }
+    ensures { OnOk result (Sane (world_of store.old) → Sane (world_of store.new)) }
 {
     if row.round.released || row.round.published || store.rounds.contains_key(&row.round.id) {
         return Err(StoreFault::Failed);

@@ -16,7 +16,8 @@ returns-in-Ok c =
     let row = c.args.row in
     let own : c.in_ok-id.id ≡ row.round.id = c.in_ok-id.ensures.cases in
     let gone : lookup (is_at (text_cmp row.round.id)) es ≡ None = none_unless_some (lookup (is_at (text_cmp row.round.id)) es) (sym c.contains_key.ensures ∙ c.if-contains_key.false) in
-    draft_inserted old c.in_ok-id.id row c.insert.new.self.entries c.in-Ok.ensures.updates.0 c.insert.ensures.was_ordered c.insert.ensures.ordered c.requires
+    λ sane.
+    draft_inserted old c.in_ok-id.id row c.insert.new.self.entries c.in-Ok.ensures.updates.0 c.insert.ensures.was_ordered c.insert.ensures.ordered sane
     (subst (λ (k : List ℕ). lookup (is_at (text_cmp k)) es ≡ None) (sym own) gone) (sym own) c.if-row.false c.if-row-2.false
     c.as_slice.ensures.valid
     (subst (λ (entries : List Entry). list_all (λ (entry : Entry). is_some (lookup (is_at (puzzle_cmp entry.puzzle)) old.puzzles.entries)) entries ≡ true) c.as_slice.ensures.value (sym c.are_kept.ensures ∙ c.if-not-are_kept.false))
