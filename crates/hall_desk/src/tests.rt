@@ -1,7 +1,7 @@
 use crate::map_reads::round_at;
 use crate::opening::insert_draft;
-use crate::{Desk, Reply, StateName};
-use hall_grid::parse_puzzle;
+use crate::{AnswerLine, Desk, Reply, StateName};
+use hall_grid::{Broken, parse_puzzle};
 use hall_policy::{
     Action, Budget, Checked, Key, Moment, PuzzleKey, PuzzleNumber, Request, TextKind,
 };
@@ -13,6 +13,11 @@ const BEFORE: u64 = 1_777_700_000;
 const START: u64 = 1_777_712_400;
 
 const END: u64 = 1_777_716_000;
+
+/// A moment in the sealed round r2, and its end.
+const LATE: u64 = 1_777_714_260;
+
+const LATE_END: u64 = 1_777_717_800;
 
 const RIGHT: &str = "1234341221434321";
 
@@ -33,6 +38,25 @@ fn state_word(state: StateName) -> &'static str {
     }
 }
 
+/// What is told of an answer, in a word.
+fn verdict_word(verdict: &Option<Broken>) -> &'static str {
+    match verdict {
+        Some(names) if names.is_empty() => "right",
+        Some(_) => "wrong",
+        None => "sealed",
+    }
+}
+
+/// An answer in short.
+fn shown_answer(alloc: Global, line: &AnswerLine) -> Result<String, Fail> {
+    let n = line.n.get();
+    Ok(format!(in alloc;
+        "{} {n} {};",
+        line.entrant.as_str(),
+        verdict_word(&line.verdict)
+    )?)
+}
+
 /// The reply in short.
 fn shown(alloc: Global, reply: &Reply) -> Result<String, Fail> {
     Ok(match reply {
@@ -49,15 +73,15 @@ fn shown(alloc: Global, reply: &Reply) -> Result<String, Fail> {
         }
         Reply::Received { n, verdict } => {
             let n = n.get();
-            let right = match verdict {
-                Some(names) => names.is_empty(),
-                None => false,
-            };
-            format!(in alloc; "received {n} {right}")?
+            format!(in alloc; "received {n} {}", verdict_word(verdict))?
         }
         Reply::AnswerList(rows) => {
-            let count = rows.as_slice().len();
-            format!(in alloc; "{count} answers")?
+            let mut text = String::new(alloc);
+            for row in rows.as_slice() {
+                let line = shown_answer(alloc, row)?;
+                text.push_str(line.as_str())?;
+            }
+            text
         }
     })
 }
@@ -84,12 +108,20 @@ fn ask(
 }
 
 fn read(alloc: Global) -> Result<Action, Fail> {
-    let round = text(alloc, "r1")?;
+    read_of(alloc, "r1")
+}
+
+fn read_of(alloc: Global, round: &str) -> Result<Action, Fail> {
+    let round = text(alloc, round)?;
     Ok(Action::ReadRound { round })
 }
 
 fn answers(alloc: Global) -> Result<Action, Fail> {
-    let round = text(alloc, "r1")?;
+    answers_of(alloc, "r1")
+}
+
+fn answers_of(alloc: Global, round: &str) -> Result<Action, Fail> {
+    let round = text(alloc, round)?;
     Ok(Action::Answers { round })
 }
 
@@ -113,9 +145,13 @@ fn puzzle_key(alloc: Global, author: &str, label: &str) -> Result<PuzzleKey, Fai
 }
 
 fn submit(alloc: Global, token: &str, answer: &str) -> Result<Action, Fail> {
+    submit_to(alloc, "r1", token, answer)
+}
+
+fn submit_to(alloc: Global, round: &str, token: &str, answer: &str) -> Result<Action, Fail> {
     Ok(Action::Submit {
         number: PuzzleNumber::new(1).ok_or("number")?,
-        round: text(alloc, "r1")?,
+        round: text(alloc, round)?,
         token: text(alloc, token)?,
         answer: text(alloc, answer)?,
     })
@@ -166,11 +202,11 @@ fn eve_reads_and_answers(rt: HostRuntime) -> Result<(), Fail> {
     );
     assert_eq!(rt;
         ask(alloc, desk, eve, END - 1, submit(alloc, "k1", RIGHT))?.as_str(),
-        "received 1 true"
+        "received 1 right"
     );
     assert_eq!(rt;
         ask(alloc, desk, eve, END + 10, submit(alloc, "k1", RIGHT))?.as_str(),
-        "received 1 true"
+        "received 1 right"
     );
     assert_eq!(rt;
         ask(alloc, desk, eve, END - 1, submit(alloc, "k1", WRONG))?.as_str(),
@@ -182,11 +218,11 @@ fn eve_reads_and_answers(rt: HostRuntime) -> Result<(), Fail> {
     );
     assert_eq!(rt;
         ask(alloc, desk, eve, END - 1, submit(alloc, "k2", WRONG))?.as_str(),
-        "received 2 false"
+        "received 2 wrong"
     );
     assert_eq!(rt;
         ask(alloc, desk, "fay-key-1", START, submit(alloc, "k1", "x"))?.as_str(),
-        "received 1 false"
+        "received 1 wrong"
     );
     Ok(())
 }
@@ -198,27 +234,27 @@ fn answers_are_listed(rt: HostRuntime) -> Result<(), Fail> {
     let desk = &mut desk;
     assert_eq!(rt;
         ask(alloc, desk, "eve-key-1", START, submit(alloc, "k1", RIGHT))?.as_str(),
-        "received 1 true"
+        "received 1 right"
     );
     assert_eq!(rt;
         ask(alloc, desk, "fay-key-1", START, submit(alloc, "k1", WRONG))?.as_str(),
-        "received 1 false"
+        "received 1 wrong"
     );
     assert_eq!(rt;
         ask(alloc, desk, "eve-key-1", START, answers(alloc))?.as_str(),
-        "1 answers"
+        "eve 1 right;"
     );
     assert_eq!(rt;
         ask(alloc, desk, "rex-key-1", END - 1, answers(alloc))?.as_str(),
-        "0 answers"
+        ""
     );
     assert_eq!(rt;
         ask(alloc, desk, "rex-key-1", END, answers(alloc))?.as_str(),
-        "2 answers"
+        "eve 1 right;fay 1 wrong;"
     );
     assert_eq!(rt;
         ask(alloc, desk, "dora-key", START, answers(alloc))?.as_str(),
-        "2 answers"
+        "eve 1 right;fay 1 wrong;"
     );
     assert_eq!(rt;
         ask(alloc, desk, "bob-key-1", START, answers(alloc))?.as_str(),
@@ -240,7 +276,9 @@ fn puzzles_are_put(rt: HostRuntime) -> Result<(), Fail> {
     let long = b"sudoku/9/9/zz".as_slice();
     for (key, author, label, puzzle, reply) in [
         ("ada-key-1", "bob", "zz", grid, "denied 3"),
+        ("ada-key-1", "bob", "p1", grid, "denied 3"),
         ("bob-key-1", "bob", "p1", grid, "denied 11"),
+        ("bob-key-1", "bob", "p1", short, "denied 11"),
         ("dora-key", "rex", "p1", grid, "denied 4"),
         ("bob-key-1", "bob", "p2", short, "put new sudoku/9/9/zzzzg"),
         ("bob-key-1", "bob", "p2", long, "put new sudoku/9/9/zzzzg"),
@@ -265,7 +303,7 @@ fn a_list_is_run(rt: HostRuntime) -> Result<(), Fail> {
     }
     let replies = desk.run(alloc, requests.as_slice())?;
     assert_eq!(rt; replies.len(), 2);
-    assert_eq!(rt; shown(alloc, &replies[1])?.as_str(), "received 2 false");
+    assert_eq!(rt; shown(alloc, &replies[1])?.as_str(), "received 2 wrong");
     Ok(())
 }
 
@@ -374,18 +412,119 @@ fn fifty_answers_are_taken(rt: HostRuntime) -> Result<(), Fail> {
     let mut desk = open_round(alloc)?;
     for n in 1..=50 {
         let token = format!(in alloc; "k{n}")?;
-        let reply = format!(in alloc; "received {n} false")?;
+        let reply = format!(in alloc; "received {n} wrong")?;
         let action = submit(alloc, token.as_str(), WRONG);
         let given = ask(alloc, &mut desk, "eve-key-1", START, action)?;
         assert_eq!(rt; given.as_str(), reply.as_str());
     }
     for (key, token, reply) in [
         ("eve-key-1", "k51", "denied 19"),
-        ("eve-key-1", "k50", "received 50 false"),
-        ("fay-key-1", "k51", "received 1 false"),
+        ("eve-key-1", "k50", "received 50 wrong"),
+        ("fay-key-1", "k51", "received 1 wrong"),
     ] {
         let action = submit(alloc, token, WRONG);
         assert_eq!(rt; ask(alloc, &mut desk, key, START, action)?.as_str(), reply);
     }
+    Ok(())
+}
+
+#[test]
+fn puzzles_without_a_solution_are_certified(rt: HostRuntime) -> Result<(), Fail> {
+    let alloc = rt.alloc();
+    let mut desk = open(alloc)?;
+    let bob = "bob-key-1";
+    let action = put(alloc, "bob", "n", b"slither/1/1/a");
+    assert_eq!(rt;
+        ask(alloc, &mut desk, bob, START, action)?.as_str(),
+        "put new slither/1/1/a"
+    );
+    let action = certify(alloc, "bob", "n", 200_000);
+    assert_eq!(rt;
+        ask(alloc, &mut desk, bob, START, action)?.as_str(),
+        "certified none"
+    );
+    Ok(())
+}
+
+/// A desk whose sealed round r2 is released, with two answers of eve.
+fn open_sealed(alloc: Global) -> Result<Desk, Fail> {
+    let mut desk = open(alloc)?;
+    let action = certify(alloc, "ada", "q1", 200_000);
+    ask(alloc, &mut desk, "ada-key-1", BEFORE, action)?;
+    ask(alloc, &mut desk, "dora-key", BEFORE, release(alloc, "r2"))?;
+    for (token, answer) in [("t1", ".##."), ("t2", ".###")] {
+        let action = submit_to(alloc, "r2", token, answer);
+        ask(alloc, &mut desk, "eve-key-1", LATE, action)?;
+    }
+    Ok(desk)
+}
+
+#[test]
+fn sealed_answers_are_received(rt: HostRuntime) -> Result<(), Fail> {
+    let alloc = rt.alloc();
+    let mut desk = open_sealed(alloc)?;
+    for (key, second, token, reply) in [
+        ("eve-key-1", LATE, "t1", "received 1 sealed"),
+        ("eve-key-1", LATE_END, "t1", "received 1 sealed"),
+        ("eve-key-1", LATE_END, "t3", "denied 8"),
+        ("eve-key-1", LATE_END - 1, "t3", "received 3 sealed"),
+        ("fay-key-1", LATE, "t1", "received 1 sealed"),
+        ("ada-key-1", LATE, "t1", "denied 5"),
+    ] {
+        let action = submit_to(alloc, "r2", token, ".##.");
+        assert_eq!(rt; ask(alloc, &mut desk, key, second, action)?.as_str(), reply);
+    }
+    Ok(())
+}
+
+#[test]
+fn sealed_verdicts_wait(rt: HostRuntime) -> Result<(), Fail> {
+    let alloc = rt.alloc();
+    let mut desk = open_sealed(alloc)?;
+    for (key, second, reply) in [
+        ("eve-key-1", LATE, "eve 1 sealed;eve 2 sealed;"),
+        ("eve-key-1", LATE_END - 1, "eve 1 sealed;eve 2 sealed;"),
+        ("eve-key-1", LATE_END, "eve 1 wrong;eve 2 right;"),
+        ("dora-key", LATE, "eve 1 wrong;eve 2 right;"),
+        ("rex-key-1", LATE_END - 1, ""),
+        ("rex-key-1", LATE_END, "eve 1 wrong;eve 2 right;"),
+        ("fay-key-1", LATE_END, ""),
+    ] {
+        let action = answers_of(alloc, "r2");
+        assert_eq!(rt; ask(alloc, &mut desk, key, second, action)?.as_str(), reply);
+    }
+    Ok(())
+}
+
+#[test]
+fn rounds_are_read_by_role(rt: HostRuntime) -> Result<(), Fail> {
+    let alloc = rt.alloc();
+    let mut desk = open_round(alloc)?;
+    for (key, second, round, reply) in [
+        ("dora-key", BEFORE, "r1", "Morning 1"),
+        ("dora-key", BEFORE, "r2", "Late 1"),
+        ("rex-key-1", START, "r1", "Morning 1"),
+        ("rex-key-1", START, "r2", "denied 4"),
+        ("ada-key-1", START, "r1", "Morning 1"),
+        ("bob-key-1", START, "r1", "denied 2"),
+        ("eve-key-1", START, "r3", "denied 4"),
+    ] {
+        let action = read_of(alloc, round);
+        assert_eq!(rt; ask(alloc, &mut desk, key, second, action)?.as_str(), reply);
+    }
+    Ok(())
+}
+
+#[test]
+fn nobody_without_a_key_is_served(rt: HostRuntime) -> Result<(), Fail> {
+    let alloc = rt.alloc();
+    let mut desk = open_round(alloc)?;
+    let request = Request {
+        key: None,
+        action: read(alloc)?,
+    };
+    let t = Moment::new(START).ok_or("moment")?;
+    let reply = desk.step(alloc, t, &request);
+    assert_eq!(rt; shown(alloc, &reply)?.as_str(), "denied 1");
     Ok(())
 }
