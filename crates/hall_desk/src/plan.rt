@@ -334,10 +334,7 @@ fn submitted(t: Moment, facts: &Facts, action: &Action, verdict: Broken) -> Resu
     else {
         return Err(StoreFault::Failed);
     };
-    let Some(person) = &facts.caller else {
-        return Err(StoreFault::Failed);
-    };
-    let Some(row) = &facts.round else {
+    let (Some(person), Some(row)) = (&facts.caller, &facts.round) else {
         return Err(StoreFault::Failed);
     };
     if facts.answer.is_some() || facts.count >= 50 {

@@ -186,44 +186,27 @@ fn open_round(alloc: Global) -> Result<Desk, Fail> {
 fn eve_reads_and_answers(rt: HostRuntime) -> Result<(), Fail> {
     let alloc = rt.alloc();
     let mut desk = open_round(alloc)?;
-    let desk = &mut desk;
-    let eve = "eve-key-1";
-    assert_eq!(rt;
-        ask(alloc, desk, eve, START - 1, read(alloc))?.as_str(),
-        "denied 7"
-    );
-    assert_eq!(rt;
-        ask(alloc, desk, eve, START, read(alloc))?.as_str(),
-        "Morning 1"
-    );
-    assert_eq!(rt;
-        ask(alloc, desk, eve, START - 1, read(alloc))?.as_str(),
-        "denied 7"
-    );
-    assert_eq!(rt;
-        ask(alloc, desk, eve, END - 1, submit(alloc, "k1", RIGHT))?.as_str(),
-        "received 1 right"
-    );
-    assert_eq!(rt;
-        ask(alloc, desk, eve, END + 10, submit(alloc, "k1", RIGHT))?.as_str(),
-        "received 1 right"
-    );
-    assert_eq!(rt;
-        ask(alloc, desk, eve, END - 1, submit(alloc, "k1", WRONG))?.as_str(),
-        "denied 6"
-    );
-    assert_eq!(rt;
-        ask(alloc, desk, eve, END, submit(alloc, "k2", WRONG))?.as_str(),
-        "denied 8"
-    );
-    assert_eq!(rt;
-        ask(alloc, desk, eve, END - 1, submit(alloc, "k2", WRONG))?.as_str(),
-        "received 2 wrong"
-    );
-    assert_eq!(rt;
-        ask(alloc, desk, "fay-key-1", START, submit(alloc, "k1", "x"))?.as_str(),
-        "received 1 wrong"
-    );
+    for (second, token, answer, reply) in [
+        (START - 1, "", "", "denied 7"),
+        (START, "", "", "Morning 1"),
+        (START - 1, "", "", "denied 7"),
+        (START - 1, "k1", RIGHT, "denied 7"),
+        (END - 1, "k1", RIGHT, "received 1 right"),
+        (END + 10, "k1", RIGHT, "received 1 right"),
+        (START - 1, "k1", RIGHT, "received 1 right"),
+        (END - 1, "k1", WRONG, "denied 6"),
+        (END, "k2", WRONG, "denied 8"),
+        (END - 1, "k2", WRONG, "received 2 wrong"),
+        (START, "k3", "x", "received 3 wrong"),
+    ] {
+        let action = if token.is_empty() {
+            read(alloc)
+        } else {
+            submit(alloc, token, answer)
+        };
+        let given = ask(alloc, &mut desk, "eve-key-1", second, action)?;
+        assert_eq!(rt; given.as_str(), reply);
+    }
     Ok(())
 }
 
