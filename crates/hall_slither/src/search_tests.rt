@@ -76,7 +76,6 @@ fn solves(rt: HostRuntime) -> Result<(), Fail> {
 #[test]
 fn solves_small_boards(rt: HostRuntime) -> Result<(), Fail> {
     for (puzzle, want, answer) in [
-        ("slither/1/1/g", "one", "11/11"),
         ("slither/1/1/e", "one", "11/11"),
         ("slither/1/1/b", "none", ""),
         ("slither/1/1/d", "none", ""),
