@@ -19,4 +19,5 @@ pub mod OpeningSane
 pub mod Drafts
 pub mod StepsSane
 pub mod Promises
+pub mod Tokens
 pub mod Starts

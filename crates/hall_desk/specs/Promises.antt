@@ -1,5 +1,5 @@
 -- What the hall promises to entrants and directors.
-use Rattle.std.specs.Prelude.{◌≡◌, ◌↔◌, ℕ, List, Some}
+use Rattle.std.specs.Prelude.{◌≡◌, ◌≢◌, ◌↔◌, ◌⊎◌, ◌≤◌, ℕ, List, Option, Some}
 use Rattle.std.specs.FinMap.{get}
 use Rattle.hall_grid.specs.declared.rule.Rule.{Rule as Broken}
 use Rattle.hall_grid.specs.Board.{Board}
@@ -7,10 +7,19 @@ use Rattle.hall_grid.specs.Rule.{Names}
 use Rattle.hall_grid.specs.Answer.{Verdict}
 use Rattle.hall_policy.specs.World.{World}
 use Rattle.hall_policy.specs.Rules.{StandsReleased}
+use Rattle.hall_policy.specs.declared.record.AnswerRow.{AnswerRow}
+use Rattle.hall_policy.specs.declared.record.Person.{Person}
 use Rattle.hall_policy.specs.declared.record.PuzzleKey.{PuzzleKey}
 use Rattle.hall_policy.specs.declared.record.PuzzleRow.{PuzzleRow}
 use Rattle.hall_policy.specs.declared.record.PuzzleState.TheVariants as state
+use Rattle.hall_policy.specs.declared.record.Round.{Round}
+use Rattle.hall_policy.specs.declared.request.Action.TheVariants.{Submit}
+use Rattle.hall_desk.specs.Caller.{caller_of}
 use Rattle.hall_desk.specs.Sane.{Solves}
+use Rattle.hall_desk.specs.Shown.{told_verdict}
+use Rattle.hall_desk.specs.Step.{Step}
+use Rattle.hall_desk.specs.declared.reply.Reply.{Reply}
+use Rattle.hall_desk.specs.declared.reply.Reply.TheVariants as reply
 
 -- one filling breaks no rule of the puzzle, and no other does so
 abbrev pub HasOneSolution : Board → Type 0
@@ -30,3 +39,26 @@ abbrev pub RightAnswersAreSolutions : World → Type 0
 RightAnswersAreSolutions world =
     (key : PuzzleKey) (row : PuzzleRow) (solution answer : List ℕ) (names : ℕ) → get world.puzzles key ≡ Some row → row.state ≡ state.One solution →
     Verdict row.puzzle answer names → NamesNoRule names ↔ (answer ≡ solution)
+
+-- the text is that of the answer that stands, and the reply is the one that this answer got
+pub record IsToldAgain (world : World) (id : List ℕ) (row : AnswerRow) (answer : List ℕ) (given : Reply) : Type 0 where
+  pub round : Round
+  pub kept : get world.rounds id ≡ Some round
+  pub same_answer : row.answer ≡ answer
+  pub told : given ≡ reply.Received row.n (told_verdict round row.verdict)
+
+-- what an answer gets that comes under a token that stands: no service; the denial of a rule before the token's; the denial of the token's rule, which is for another text alone;
+-- or the first reply, which is for the same text alone
+abbrev pub IsRetryAnswered : World → List ℕ → AnswerRow → List ℕ → Reply → Type 0
+IsRetryAnswered world id row answer given =
+    (given ≡ reply.Unavailable)
+    ⊎ (((k : ℕ) × (given ≡ reply.Denied k) × (k ≤ 5))
+    ⊎ (((given ≡ reply.Denied 6) × (row.answer ≢ answer))
+    ⊎ IsToldAgain world id row answer given))
+
+-- a token whose answer was accepted acts once: an answer that comes under a token that stands changes nothing, at whatever moment it comes
+abbrev pub TokensActOnce : Type 0
+TokensActOnce =
+    (world : World) (t : ℕ) (key : Option (List ℕ)) (person : Person) (id : List ℕ) (number : ℕ) (token answer : List ℕ) (row : AnswerRow) (given : Reply) (new : World) →
+    caller_of world key ≡ Some person → get world.answers (record { entrant = person.name; round = id; number = number; token = token }) ≡ Some row →
+    Step world t (record { key = key; action = Submit id number token answer }) given new → (new ≡ world) × IsRetryAnswered world id row answer given

@@ -6,6 +6,7 @@ mod certification;
 mod desk;
 mod entry_fault;
 mod found;
+mod law;
 mod map_calls;
 mod map_reads;
 mod map_store;
@@ -19,6 +20,7 @@ mod verdict;
 
 pub use certificate::certify;
 pub use desk::Desk;
+pub use law::law_tokens;
 pub use plan::Plan;
 pub use reply::{AnswerLine, Reply, ShownPuzzle, ShownRound, StateName};
 pub use rows::Rows;
