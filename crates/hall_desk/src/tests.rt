@@ -214,39 +214,21 @@ fn eve_reads_and_answers(rt: HostRuntime) -> Result<(), Fail> {
 fn answers_are_listed(rt: HostRuntime) -> Result<(), Fail> {
     let alloc = rt.alloc();
     let mut desk = open_round(alloc)?;
-    let desk = &mut desk;
-    assert_eq!(rt;
-        ask(alloc, desk, "eve-key-1", START, submit(alloc, "k1", RIGHT))?.as_str(),
-        "received 1 right"
-    );
-    assert_eq!(rt;
-        ask(alloc, desk, "fay-key-1", START, submit(alloc, "k1", WRONG))?.as_str(),
-        "received 1 wrong"
-    );
-    assert_eq!(rt;
-        ask(alloc, desk, "eve-key-1", START, answers(alloc))?.as_str(),
-        "eve 1 right;"
-    );
-    assert_eq!(rt;
-        ask(alloc, desk, "rex-key-1", END - 1, answers(alloc))?.as_str(),
-        ""
-    );
-    assert_eq!(rt;
-        ask(alloc, desk, "rex-key-1", END, answers(alloc))?.as_str(),
-        "eve 1 right;fay 1 wrong;"
-    );
-    assert_eq!(rt;
-        ask(alloc, desk, "dora-key", START, answers(alloc))?.as_str(),
-        "eve 1 right;fay 1 wrong;"
-    );
-    assert_eq!(rt;
-        ask(alloc, desk, "bob-key-1", START, answers(alloc))?.as_str(),
-        "denied 2"
-    );
-    assert_eq!(rt;
-        ask(alloc, desk, "no-such-key", START, answers(alloc))?.as_str(),
-        "denied 1"
-    );
+    for (key, answer) in [("eve-key-1", RIGHT), ("fay-key-1", WRONG)] {
+        let action = submit(alloc, "k1", answer);
+        ask(alloc, &mut desk, key, START, action)?;
+    }
+    for (key, second, reply) in [
+        ("eve-key-1", START, "eve 1 right;"),
+        ("rex-key-1", END - 1, ""),
+        ("rex-key-1", END, "eve 1 right;fay 1 wrong;"),
+        ("dora-key", START, "eve 1 right;fay 1 wrong;"),
+        ("bob-key-1", START, "denied 2"),
+        ("no-such-key", START, "denied 1"),
+    ] {
+        let action = answers(alloc);
+        assert_eq!(rt; ask(alloc, &mut desk, key, second, action)?.as_str(), reply);
+    }
     Ok(())
 }
 
