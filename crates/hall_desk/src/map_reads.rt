@@ -74,6 +74,7 @@ pub(crate) fn round_at(
     ensures found { IfOk result (λ found. found ≡ tree.get text_cmp rounds.now id.now) }
     ensures ordered { tree.IsOrdered text_cmp rounds.now }
 {
+    // The map's order is told by any call, and is needed where nothing is found too.
     let _count = rounds.len();
     match rounds.get(id) {
         Some(row) => Ok(Some(row.clone()?)),
@@ -130,6 +131,7 @@ pub(crate) fn answers_by(
     ensures rows { IfOk result (λ rows. rows.items ≡ filter (is_of entrant.now round.now) (tree.values answers.now)) }
     ensures ordered { tree.IsOrdered answer_cmp answers.now }
 {
+    // The map's order is needed also where memory is refused below.
     let _count = answers.len();
     let least = least_key(alloc, entrant, round)?;
     let mut rows = Vec::new(alloc);
