@@ -20,4 +20,6 @@ pub mod Drafts
 pub mod StepsSane
 pub mod Promises
 pub mod Tokens
+pub mod Remaining
+pub mod Retries
 pub mod Starts

@@ -1,5 +1,5 @@
 -- A token whose answer was accepted acts once.
-use Rattle.std.proofs.Common.{◌≡◌, ◌⊎◌, ◌<◌, ◌≤◌, inl, inr, ℕ, List, Option, Some, refl, sym, ap, ◌∙◌, subst, lit<, lit≤}
+use Rattle.std.proofs.Common.{◌≡◌, ◌≢◌, ◌⊎◌, ◌<◌, ◌≤◌, inl, inr, ℕ, List, Option, Some, refl, sym, ap, ◌∙◌, subst, lit<, lit≤}
 use Rattle.std.specs.FinMap.{get}
 use Rattle.hall_policy.specs.World.{World}
 use Rattle.hall_policy.specs.Actions.{number_of}
@@ -31,7 +31,7 @@ up_to_token _ few = absurd (few (lit< tt))
 module _ (world : World) (caller : Option Person) (t : ℕ) (person : Person) (id : List ℕ) (number : ℕ) (token answer : List ℕ) (row : AnswerRow)
     (is : caller ≡ Some person) (stands : get world.answers (record { entrant = person.name; round = id; number = number; token = token }) ≡ Some row) where
   -- no rule after the token's decides
-  token_decides : (n : ℕ) → NoneBelow n world caller (action.Submit id number token answer) t → ¬ (6 < n)
+  pub token_decides : (n : ℕ) → NoneBelow n world caller (action.Submit id number token answer) t → ¬ (6 < n)
   token_decides n none past =
       (none rule.TokenTaken past).0 ((4, lit< tt, refl), ((person, is, (row, stands)), λ same. (none rule.TokenTaken past).1 ((4, lit< tt, refl), same)))
 
@@ -50,12 +50,12 @@ module _ (world : World) (caller : Option Person) (t : ℕ) (person : Person) (i
   same_text_stands (other, also, (found, at, same)) = subst (λ (r : AnswerRow). r.answer ≡ answer) (one_row other found also at) same
 
   -- only the token's rule finds that the answer was handed in before
-  repeated_text : (r : Rule) → Repeated r world caller (action.Submit id number token answer) → row.answer ≡ answer
+  pub repeated_text : (r : Rule) → Repeated r world caller (action.Submit id number token answer) → row.answer ≡ answer
   repeated_text rule.TokenTaken (asked, same) = same_text_stands same
   repeated_text _ (asked, same) = absurd same
 
   -- the first reply is the one that the answer that stands got
-  first_reply : (given : Reply) → row.answer ≡ answer → FirstReply world caller (action.Submit id number token answer) given → IsToldAgain world id row answer given
+  pub first_reply : (given : Reply) → row.answer ≡ answer → FirstReply world caller (action.Submit id number token answer) given → IsToldAgain world id row answer given
   first_reply given same (other, also, (round, found, kept, at, told)) = record {
     round = round;
     kept = kept;
@@ -63,15 +63,22 @@ module _ (world : World) (caller : Option Person) (t : ℕ) (person : Person) (i
     told = subst (λ (r : AnswerRow). given ≡ reply.Received r.n (told_verdict round r.verdict)) (one_row other found also at) told;
   }
 
-  -- a denial is by a rule before the token's, or for another text
+  -- a rule that denies comes before the token's, or is the token's, for another text
+  pub denied_by : (r : Rule) (k : ℕ) → number_of r ≡ k → Forbids r world caller (action.Submit id number token answer) t → NoneBelow k world caller (action.Submit id number token answer) t →
+      (number_of r ≤ 5) ⊎ ((k ≡ 6) × (row.answer ≢ answer))
+  denied_by r k own forbids none = elim (up_to_token r (λ past. token_decides k none (subst (λ (n : ℕ). 6 < n) own past))) [
+    | inl before ↦ inl before
+    | inr tokens ↦
+        let forbids_token : Forbids rule.TokenTaken world caller (action.Submit id number token answer) t = subst (λ (x : Rule). Forbids x world caller (action.Submit id number token answer) t) tokens forbids in
+        inr (sym own ∙ ap number_of tokens, λ same. forbids_token.1.1 (person, is, (row, stands, same)))
+  ]
+
+  -- so a denial is by a rule before the token's, or for another text
   denied : (r : Rule) (k : ℕ) (given : Reply) → number_of r ≡ k → Forbids r world caller (action.Submit id number token answer) t → NoneBelow k world caller (action.Submit id number token answer) t →
       given ≡ reply.Denied k → IsRetryAnswered world id row answer given
-  denied r k given own forbids none told = elim (up_to_token r (λ past. token_decides k none (subst (λ (n : ℕ). 6 < n) own past))) [
+  denied r k given own forbids none told = elim (denied_by r k own forbids none) [
     | inl before ↦ inr (inl (k, told, subst (λ (n : ℕ). n ≤ 5) own before))
-    | inr tokens ↦
-        let six : k ≡ 6 = sym own ∙ ap number_of tokens in
-        let forbids_token : Forbids rule.TokenTaken world caller (action.Submit id number token answer) t = subst (λ (x : Rule). Forbids x world caller (action.Submit id number token answer) t) tokens forbids in
-        inr (inr (inl (told ∙ ap reply.Denied six, λ same. forbids_token.1.1 (person, is, (row, stands, same)))))
+    | inr (six, other) ↦ inr (inr (inl (told ∙ ap reply.Denied six, other)))
   ]
 
 -- a token whose answer was accepted acts once

@@ -9,5 +9,6 @@ pub mod Step
 pub mod Run
 pub mod Sane
 pub mod Promises
+pub mod Plan
 pub mod Plans
 pub mod Desk

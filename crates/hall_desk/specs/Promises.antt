@@ -14,10 +14,12 @@ use Rattle.hall_policy.specs.declared.record.PuzzleRow.{PuzzleRow}
 use Rattle.hall_policy.specs.declared.record.PuzzleState.TheVariants as state
 use Rattle.hall_policy.specs.declared.record.Round.{Round}
 use Rattle.hall_policy.specs.declared.request.Action.TheVariants.{Submit}
+use Rattle.hall_policy.specs.declared.request.Request.{Request}
 use Rattle.hall_desk.specs.Caller.{caller_of}
 use Rattle.hall_desk.specs.Sane.{Solves}
 use Rattle.hall_desk.specs.Shown.{told_verdict}
 use Rattle.hall_desk.specs.Step.{Step}
+use Rattle.hall_desk.specs.Run.{Run}
 use Rattle.hall_desk.specs.declared.reply.Reply.{Reply}
 use Rattle.hall_desk.specs.declared.reply.Reply.TheVariants as reply
 
@@ -62,3 +64,19 @@ TokensActOnce =
     (world : World) (t : ℕ) (key : Option (List ℕ)) (person : Person) (id : List ℕ) (number : ℕ) (token answer : List ℕ) (row : AnswerRow) (given : Reply) (new : World) →
     caller_of world key ≡ Some person → get world.answers (record { entrant = person.name; round = id; number = number; token = token }) ≡ Some row →
     Step world t (record { key = key; action = Submit id number token answer }) given new → (new ≡ world) × IsRetryAnswered world id row answer given
+
+-- the reply to the request of an accepted answer when it comes again, or comes with another text: no service; for another text alone, the denial of the token's rule;
+-- for the same text alone, the first reply
+abbrev pub IsRetryOf : List ℕ → List ℕ → Reply → Reply → Type 0
+IsRetryOf answer again first given =
+    (given ≡ reply.Unavailable) ⊎ (((again ≢ answer) × (given ≡ reply.Denied 6)) ⊎ ((again ≡ answer) × (given ≡ first)))
+
+-- an accepted answer stays accepted: whatever requests come between, and at whatever moment its token comes again, the world stays, and the retry is answered as one
+abbrev pub AcceptedAnswersStay : Type 0
+AcceptedAnswersStay =
+    (world kept later new : World) (t u : ℕ) (key : Option (List ℕ)) (id : List ℕ) (number : ℕ) (token answer again : List ℕ) (n : ℕ) (told : Option ℕ)
+    (requests : List (ℕ × Request)) (replies : List Reply) (given : Reply) →
+    Step world t (record { key = key; action = Submit id number token answer }) (reply.Received n told) kept →
+    Run kept requests replies later →
+    Step later u (record { key = key; action = Submit id number token again }) given new →
+    (new ≡ later) × IsRetryOf answer again (reply.Received n told) given

@@ -6,6 +6,7 @@ ghost use Rattle.hall_desk.specs.Step.{Step};
 ghost use Rattle.hall_desk.specs.Run.{Run};
 ghost use Rattle.hall_desk.specs.Sane.{Sane};
 ghost use Rattle.hall_desk.specs.Promises.{HasUniqueSolutions, RightAnswersAreSolutions};
+ghost use Rattle.hall_desk.specs.Plan.{planned_reply, planned_change};
 ghost use Rattle.hall_desk.specs.Plans.{IsPlanFor};
 
 use crate::map_store::MapStore;
@@ -38,7 +39,7 @@ impl Desk {
     /// What the request will be answered, and what it will change. Reads only.
     pub fn plan(&mut self, alloc: Global, t: Moment, request: &Request) -> Result<Plan, StoreFault>
         ensures plan { IfOk result (IsPlanFor (world_in self.old) t request.now) }
-        ensures sane { IfOk result (λ plan. Sane (world_in self.old) → Sane (changed plan.change (world_in self.old))) }
+        ensures sane { IfOk result (λ plan. Sane (world_in self.old) → Sane (changed (planned_change plan) (world_in self.old))) }
         ensures same { world_in self.new ≡ world_in self.old }
     {
         make_plan(alloc, &mut self.store, t, request)
@@ -46,9 +47,9 @@ impl Desk {
 
     /// Makes the plan's change, and answers its reply. Refused, it has consumed the plan and left the world.
     pub fn commit(&mut self, alloc: Global, plan: Plan) -> Result<Reply, StoreFault>
-        requires { CanMake plan.change (world_in self.old) }
-        ensures reply { IfOk result (λ reply. reply ≡ plan.reply) }
-        ensures made { OnOk result (world_in self.new ≡ changed plan.change (world_in self.old)) }
+        requires { CanMake (planned_change plan) (world_in self.old) }
+        ensures reply { IfOk result (λ reply. reply ≡ planned_reply plan) }
+        ensures made { OnOk result (world_in self.new ≡ changed (planned_change plan) (world_in self.old)) }
         ensures refused { OnErr result (world_in self.new ≡ world_in self.old) }
     {
         commit(alloc, &mut self.store, plan)

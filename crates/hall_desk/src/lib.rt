@@ -20,11 +20,11 @@ mod verdict;
 
 pub use certificate::certify;
 pub use desk::Desk;
-pub use law::law_tokens;
+pub use law::{law_accepted_answers, law_tokens};
 pub use plan::Plan;
 pub use reply::{AnswerLine, Reply, ShownPuzzle, ShownRound, StateName};
 pub use rows::Rows;
-pub use store::{Change, RoundFlag, StoreFault};
+pub use store::StoreFault;
 pub use verdict::judge;
 
 #[cfg(test)]

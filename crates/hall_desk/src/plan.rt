@@ -28,8 +28,19 @@ use std::alloc::{AllocError, Global};
 /// What a request will be answered, and what it will change.
 #[derive(Drop)]
 pub struct Plan {
-    pub reply: Reply,
-    pub change: Change,
+    pub(crate) reply: Reply,
+    pub(crate) change: Change,
+}
+
+impl Plan {
+    ghost use Rattle.hall_desk.specs.Plan.{planned_reply};
+
+    /// The reply, lent before the change is made.
+    pub fn reply(&self) -> &Reply
+        ensures { result.now ≡ planned_reply self.now }
+    {
+        &self.reply
+    }
 }
 
 /// What the request will be answered, and what it will change. Reads only.

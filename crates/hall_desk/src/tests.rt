@@ -1,9 +1,9 @@
 use crate::map_reads::round_at;
 use crate::opening::insert_draft;
 use crate::{AnswerLine, Desk, Reply, StateName};
-use hall_grid::{Broken, parse_puzzle};
+use hall_grid::{Broken, Puzzle, parse_puzzle};
 use hall_policy::{
-    Action, Budget, Checked, Key, Moment, PuzzleKey, PuzzleNumber, Request, TextKind,
+    Action, Budget, Checked, Moment, PuzzleKey, PuzzleNumber, Request, TextKind,
 };
 use std::alloc::Global;
 use std::test::Fail;
@@ -86,56 +86,22 @@ fn shown(alloc: Global, reply: &Reply) -> Result<String, Fail> {
     })
 }
 
-fn request(alloc: Global, key: &str, action: Action) -> Result<Request, Fail> {
-    let key: Key = text(alloc, key)?;
-    Ok(Request {
-        key: Some(key),
-        action,
-    })
+/// What is asked of the desk.
+#[derive(Drop)]
+enum Ask {
+    /// An author, a label and a puzzle text.
+    Put(&'static str, &'static str, &'static str),
+    /// An author, a label and a budget.
+    Certify(&'static str, &'static str, u64),
+    Release(&'static str),
+    Read(&'static str),
+    Answers(&'static str),
+    /// A round, a token and an answer to its first puzzle.
+    Submit(&'static str, &'static str, &'static str),
 }
 
-fn ask(
-    alloc: Global,
-    desk: &mut Desk,
-    key: &str,
-    second: u64,
-    action: Result<Action, Fail>,
-) -> Result<String, Fail> {
-    let request = request(alloc, key, action?)?;
-    let t = Moment::new(second).ok_or("moment")?;
-    let reply = desk.step(alloc, t, &request);
-    shown(alloc, &reply)
-}
-
-fn read(alloc: Global) -> Result<Action, Fail> {
-    read_of(alloc, "r1")
-}
-
-fn read_of(alloc: Global, round: &str) -> Result<Action, Fail> {
-    let round = text(alloc, round)?;
-    Ok(Action::ReadRound { round })
-}
-
-fn answers(alloc: Global) -> Result<Action, Fail> {
-    answers_of(alloc, "r1")
-}
-
-fn answers_of(alloc: Global, round: &str) -> Result<Action, Fail> {
-    let round = text(alloc, round)?;
-    Ok(Action::Answers { round })
-}
-
-fn release(alloc: Global, round: &str) -> Result<Action, Fail> {
-    let round = text(alloc, round)?;
-    Ok(Action::Release { round })
-}
-
-fn certify(alloc: Global, author: &str, label: &str, budget: u64) -> Result<Action, Fail> {
-    Ok(Action::Certify {
-        key: puzzle_key(alloc, author, label)?,
-        budget: Budget::new(budget).ok_or("budget")?,
-    })
-}
+/// Whose key, when, what is asked, and the reply in short.
+type Line = (&'static str, u64, Ask, &'static str);
 
 fn puzzle_key(alloc: Global, author: &str, label: &str) -> Result<PuzzleKey, Fail> {
     Ok(PuzzleKey {
@@ -144,11 +110,14 @@ fn puzzle_key(alloc: Global, author: &str, label: &str) -> Result<PuzzleKey, Fai
     })
 }
 
-fn submit(alloc: Global, token: &str, answer: &str) -> Result<Action, Fail> {
-    submit_to(alloc, "r1", token, answer)
+fn puzzle(alloc: Global, text: &str) -> Result<Puzzle, Fail> {
+    match parse_puzzle(alloc, text.as_bytes()) {
+        Ok(puzzle) => Ok(puzzle),
+        Err(_) => Err("puzzle")?,
+    }
 }
 
-fn submit_to(alloc: Global, round: &str, token: &str, answer: &str) -> Result<Action, Fail> {
+fn submit(alloc: Global, round: &str, token: &str, answer: &str) -> Result<Action, Fail> {
     Ok(Action::Submit {
         number: PuzzleNumber::new(1).ok_or("number")?,
         round: text(alloc, round)?,
@@ -157,13 +126,63 @@ fn submit_to(alloc: Global, round: &str, token: &str, answer: &str) -> Result<Ac
     })
 }
 
-fn put(alloc: Global, author: &str, label: &str, puzzle: &[u8]) -> Result<Action, Fail> {
-    let puzzle = match parse_puzzle(alloc, puzzle) {
-        Ok(puzzle) => puzzle,
-        Err(_) => Err("puzzle")?,
+fn action(alloc: Global, ask: &Ask) -> Result<Action, Fail> {
+    Ok(match ask {
+        Ask::Put(author, label, grid) => Action::PutPuzzle {
+            key: puzzle_key(alloc, author, label)?,
+            puzzle: puzzle(alloc, grid)?,
+        },
+        Ask::Certify(author, label, budget) => Action::Certify {
+            key: puzzle_key(alloc, author, label)?,
+            budget: Budget::new(*budget).ok_or("budget")?,
+        },
+        Ask::Release(round) => Action::Release {
+            round: text(alloc, round)?,
+        },
+        Ask::Read(round) => Action::ReadRound {
+            round: text(alloc, round)?,
+        },
+        Ask::Answers(round) => Action::Answers {
+            round: text(alloc, round)?,
+        },
+        Ask::Submit(round, token, answer) => submit(alloc, round, token, answer)?,
+    })
+}
+
+/// A request under the key, or under none where it is empty.
+fn request(alloc: Global, key: &str, action: Action) -> Result<Request, Fail> {
+    let key = if key.is_empty() {
+        None
+    } else {
+        Some(text(alloc, key)?)
     };
-    let key = puzzle_key(alloc, author, label)?;
-    Ok(Action::PutPuzzle { key, puzzle })
+    Ok(Request { key, action })
+}
+
+fn answered(
+    alloc: Global,
+    desk: &mut Desk,
+    key: &str,
+    second: u64,
+    action: Action,
+) -> Result<String, Fail> {
+    let request = request(alloc, key, action)?;
+    let t = Moment::new(second).ok_or("moment")?;
+    let reply = desk.step(alloc, t, &request);
+    shown(alloc, &reply)
+}
+
+/// Asks line after line, and fails with the first reply that is another one.
+fn play(alloc: Global, desk: &mut Desk, lines: &[Line]) -> Result<(), Fail> {
+    for (key, second, ask, reply) in lines {
+        let given = answered(alloc, desk, key, *second, action(alloc, ask)?)?;
+        if given.as_str() != *reply {
+            return Err(Fail::new(
+                format!(in alloc; "{key} at {second}: {given}, for {reply}")?,
+            ));
+        }
+    }
+    Ok(())
 }
 
 fn open(alloc: Global) -> Result<Desk, Fail> {
@@ -173,85 +192,102 @@ fn open(alloc: Global) -> Result<Desk, Fail> {
     }
 }
 
+/// A desk at which these lines were played.
+fn opened(alloc: Global, lines: &[Line]) -> Result<Desk, Fail> {
+    let mut desk = open(alloc)?;
+    play(alloc, &mut desk, lines)?;
+    Ok(desk)
+}
+
+const BOB: &str = "bob-key-1";
+
+const ADA: &str = "ada-key-1";
+
+const EVE: &str = "eve-key-1";
+
+const FAY: &str = "fay-key-1";
+
+const REX: &str = "rex-key-1";
+
+const DORA: &str = "dora-key";
+
+const GRID: &str = "sudoku/4/4/123434122143432g";
+
 /// A desk whose round r1 is released.
 fn open_round(alloc: Global) -> Result<Desk, Fail> {
-    let mut desk = open(alloc)?;
-    let bob = certify(alloc, "bob", "p1", 200_000);
-    ask(alloc, &mut desk, "bob-key-1", BEFORE, bob)?;
-    ask(alloc, &mut desk, "dora-key", BEFORE, release(alloc, "r1"))?;
-    Ok(desk)
+    opened(
+        alloc,
+        &[
+            (BOB, BEFORE, Ask::Certify("bob", "p1", 200_000), "certified one"),
+            (DORA, BEFORE, Ask::Release("r1"), "released r1"),
+        ],
+    )
+}
+
+/// A desk whose sealed round r2 is released, with two answers of eve.
+fn open_sealed(alloc: Global) -> Result<Desk, Fail> {
+    opened(
+        alloc,
+        &[
+            (ADA, BEFORE, Ask::Certify("ada", "q1", 200_000), "certified one"),
+            (DORA, BEFORE, Ask::Release("r2"), "released r2"),
+            (EVE, LATE, Ask::Submit("r2", "t1", ".##."), "received 1 sealed"),
+            (EVE, LATE, Ask::Submit("r2", "t2", ".###"), "received 2 sealed"),
+        ],
+    )
 }
 
 #[test]
 fn eve_reads_and_answers(rt: HostRuntime) -> Result<(), Fail> {
     let alloc = rt.alloc();
     let mut desk = open_round(alloc)?;
-    for (second, token, answer, reply) in [
-        (START - 1, "", "", "denied 7"),
-        (START, "", "", "Morning 1"),
-        (START - 1, "", "", "denied 7"),
-        (START - 1, "k1", RIGHT, "denied 7"),
-        (END - 1, "k1", RIGHT, "received 1 right"),
-        (END + 10, "k1", RIGHT, "received 1 right"),
-        (START - 1, "k1", RIGHT, "received 1 right"),
-        (END - 1, "k1", WRONG, "denied 6"),
-        (END, "k2", WRONG, "denied 8"),
-        (END - 1, "k2", WRONG, "received 2 wrong"),
-        (START, "k3", "x", "received 3 wrong"),
-    ] {
-        let action = if token.is_empty() {
-            read(alloc)
-        } else {
-            submit(alloc, token, answer)
-        };
-        let given = ask(alloc, &mut desk, "eve-key-1", second, action)?;
-        assert_eq!(rt; given.as_str(), reply);
-    }
-    Ok(())
+    let lines: [Line; 11] = [
+        (EVE, START - 1, Ask::Read("r1"), "denied 7"),
+        (EVE, START, Ask::Read("r1"), "Morning 1"),
+        (EVE, START - 1, Ask::Read("r1"), "denied 7"),
+        (EVE, START - 1, Ask::Submit("r1", "k1", RIGHT), "denied 7"),
+        (EVE, END - 1, Ask::Submit("r1", "k1", RIGHT), "received 1 right"),
+        (EVE, END + 10, Ask::Submit("r1", "k1", RIGHT), "received 1 right"),
+        (EVE, START - 1, Ask::Submit("r1", "k1", RIGHT), "received 1 right"),
+        (EVE, END - 1, Ask::Submit("r1", "k1", WRONG), "denied 6"),
+        (EVE, END, Ask::Submit("r1", "k2", WRONG), "denied 8"),
+        (EVE, END - 1, Ask::Submit("r1", "k2", WRONG), "received 2 wrong"),
+        (EVE, START, Ask::Submit("r1", "k3", "x"), "received 3 wrong"),
+    ];
+    play(alloc, &mut desk, &lines)
 }
 
 #[test]
 fn answers_are_listed(rt: HostRuntime) -> Result<(), Fail> {
     let alloc = rt.alloc();
     let mut desk = open_round(alloc)?;
-    for (key, answer) in [("eve-key-1", RIGHT), ("fay-key-1", WRONG)] {
-        let action = submit(alloc, "k1", answer);
-        ask(alloc, &mut desk, key, START, action)?;
-    }
-    for (key, second, reply) in [
-        ("eve-key-1", START, "eve 1 right;"),
-        ("rex-key-1", END - 1, ""),
-        ("rex-key-1", END, "eve 1 right;fay 1 wrong;"),
-        ("dora-key", START, "eve 1 right;fay 1 wrong;"),
-        ("bob-key-1", START, "denied 2"),
-        ("no-such-key", START, "denied 1"),
-    ] {
-        let action = answers(alloc);
-        assert_eq!(rt; ask(alloc, &mut desk, key, second, action)?.as_str(), reply);
-    }
-    Ok(())
+    let lines: [Line; 8] = [
+        (EVE, START, Ask::Submit("r1", "k1", RIGHT), "received 1 right"),
+        (FAY, START, Ask::Submit("r1", "k1", WRONG), "received 1 wrong"),
+        (EVE, START, Ask::Answers("r1"), "eve 1 right;"),
+        (REX, END - 1, Ask::Answers("r1"), ""),
+        (REX, END, Ask::Answers("r1"), "eve 1 right;fay 1 wrong;"),
+        (DORA, START, Ask::Answers("r1"), "eve 1 right;fay 1 wrong;"),
+        (BOB, START, Ask::Answers("r1"), "denied 2"),
+        ("no-such-key", START, Ask::Answers("r1"), "denied 1"),
+    ];
+    play(alloc, &mut desk, &lines)
 }
 
 #[test]
 fn puzzles_are_put(rt: HostRuntime) -> Result<(), Fail> {
     let alloc = rt.alloc();
     let mut desk = open_round(alloc)?;
-    let grid = b"sudoku/4/4/123434122143432g".as_slice();
-    let short = b"sudoku/9/9/".as_slice();
-    let long = b"sudoku/9/9/zz".as_slice();
-    for (key, author, label, puzzle, reply) in [
-        ("ada-key-1", "bob", "zz", grid, "denied 3"),
-        ("ada-key-1", "bob", "p1", grid, "denied 3"),
-        ("bob-key-1", "bob", "p1", grid, "denied 11"),
-        ("bob-key-1", "bob", "p1", short, "denied 11"),
-        ("dora-key", "rex", "p1", grid, "denied 4"),
-        ("bob-key-1", "bob", "p2", short, "put new sudoku/9/9/zzzzg"),
-        ("bob-key-1", "bob", "p2", long, "put new sudoku/9/9/zzzzg"),
-    ] {
-        let action = put(alloc, author, label, puzzle);
-        assert_eq!(rt; ask(alloc, &mut desk, key, START, action)?.as_str(), reply);
-    }
-    Ok(())
+    let lines: [Line; 7] = [
+        (ADA, START, Ask::Put("bob", "zz", GRID), "denied 3"),
+        (ADA, START, Ask::Put("bob", "p1", GRID), "denied 3"),
+        (BOB, START, Ask::Put("bob", "p1", GRID), "denied 11"),
+        (BOB, START, Ask::Put("bob", "p1", "sudoku/9/9/"), "denied 11"),
+        (DORA, START, Ask::Put("rex", "p1", GRID), "denied 4"),
+        (BOB, START, Ask::Put("bob", "p2", "sudoku/9/9/"), "put new sudoku/9/9/zzzzg"),
+        (BOB, START, Ask::Put("bob", "p2", "sudoku/9/9/zz"), "put new sudoku/9/9/zzzzg"),
+    ];
+    play(alloc, &mut desk, &lines)
 }
 
 #[test]
@@ -261,10 +297,7 @@ fn a_list_is_run(rt: HostRuntime) -> Result<(), Fail> {
     let mut requests = Vec::new(alloc);
     let t = Moment::new(END - 1).ok_or("moment")?;
     for token in ["k1", "k2"] {
-        requests.push((
-            t,
-            request(alloc, "eve-key-1", submit(alloc, token, WRONG)?)?,
-        ))?;
+        requests.push((t, request(alloc, EVE, submit(alloc, "r1", token, WRONG)?)?))?;
     }
     let replies = desk.run(alloc, requests.as_slice())?;
     assert_eq!(rt; replies.len(), 2);
@@ -273,84 +306,77 @@ fn a_list_is_run(rt: HostRuntime) -> Result<(), Fail> {
 }
 
 #[test]
+fn a_plan_is_committed(rt: HostRuntime) -> Result<(), Fail> {
+    let alloc = rt.alloc();
+    let mut desk = open(alloc)?;
+    let t = Moment::new(BEFORE).ok_or("moment")?;
+    let action = action(alloc, &Ask::Certify("bob", "p1", 200_000))?;
+    let Ok(plan) = desk.plan(alloc, t, &request(alloc, BOB, action)?) else {
+        return Err("plan")?;
+    };
+    assert_eq!(rt; shown(alloc, plan.reply())?.as_str(), "certified one");
+    let Ok(reply) = desk.commit(alloc, plan) else {
+        return Err("commit")?;
+    };
+    assert_eq!(rt; shown(alloc, &reply)?.as_str(), "certified one");
+    play(alloc, &mut desk, &[(DORA, BEFORE, Ask::Release("r1"), "released r1")])
+}
+
+#[test]
 fn puzzles_are_certified(rt: HostRuntime) -> Result<(), Fail> {
     let alloc = rt.alloc();
     let mut desk = open(alloc)?;
-    for (key, author, label, budget, reply) in [
-        ("no-such-key", "bob", "p1", 200_000, "denied 1"),
-        ("eve-key-1", "bob", "p1", 200_000, "denied 2"),
-        ("ada-key-1", "bob", "p1", 200_000, "denied 3"),
-        ("ada-key-1", "bob", "none", 200_000, "denied 3"),
-        ("bob-key-1", "bob", "none", 200_000, "denied 4"),
-        ("bob-key-1", "bob", "p1", 0, "certified gave up"),
-        ("bob-key-1", "bob", "p1", 200_000, "certified one"),
-        ("bob-key-1", "bob", "p1", 0, "certified one"),
-        ("dora-key", "ada", "q1", 200_000, "certified one"),
-        ("bob-key-1", "bob", "v", 1, "certified gave up"),
-        ("bob-key-1", "bob", "v", 200_000, "certified more"),
-        ("bob-key-1", "bob", "v", 1, "certified more"),
-    ] {
-        let action = certify(alloc, author, label, budget);
-        assert_eq!(rt; ask(alloc, &mut desk, key, START, action)?.as_str(), reply);
-    }
-    Ok(())
+    let lines: [Line; 14] = [
+        ("no-such-key", START, Ask::Certify("bob", "p1", 200_000), "denied 1"),
+        (EVE, START, Ask::Certify("bob", "p1", 200_000), "denied 2"),
+        (ADA, START, Ask::Certify("bob", "p1", 200_000), "denied 3"),
+        (ADA, START, Ask::Certify("bob", "none", 200_000), "denied 3"),
+        (BOB, START, Ask::Certify("bob", "none", 200_000), "denied 4"),
+        (BOB, START, Ask::Certify("bob", "p1", 0), "certified gave up"),
+        (BOB, START, Ask::Certify("bob", "p1", 200_000), "certified one"),
+        (BOB, START, Ask::Certify("bob", "p1", 0), "certified one"),
+        (DORA, START, Ask::Certify("ada", "q1", 200_000), "certified one"),
+        (BOB, START, Ask::Certify("bob", "v", 1), "certified gave up"),
+        (BOB, START, Ask::Certify("bob", "v", 200_000), "certified more"),
+        (BOB, START, Ask::Certify("bob", "v", 1), "certified more"),
+        (BOB, START, Ask::Put("bob", "n", "slither/1/1/a"), "put new slither/1/1/a"),
+        (BOB, START, Ask::Certify("bob", "n", 200_000), "certified none"),
+    ];
+    play(alloc, &mut desk, &lines)
 }
 
 #[test]
 fn new_texts_are_new_puzzles(rt: HostRuntime) -> Result<(), Fail> {
     let alloc = rt.alloc();
     let mut desk = open(alloc)?;
-    let bob = "bob-key-1";
-    let grid = b"sudoku/4/4/123434122143432g".as_slice();
-    let other = b"sudoku/4/4/v".as_slice();
-    let desk = &mut desk;
-    let first = certify(alloc, "bob", "p1", 200_000);
-    assert_eq!(rt;
-        ask(alloc, desk, bob, START, first)?.as_str(),
-        "certified one"
-    );
-    for (puzzle, reply) in [
-        (grid, "put one sudoku/4/4/123434122143432g"),
-        (other, "put new sudoku/4/4/v"),
-        (grid, "put new sudoku/4/4/123434122143432g"),
-    ] {
-        let action = put(alloc, "bob", "p1", puzzle);
-        assert_eq!(rt; ask(alloc, desk, bob, START, action)?.as_str(), reply);
-    }
-    assert_eq!(rt;
-        ask(alloc, desk, "dora-key", BEFORE, release(alloc, "r1"))?.as_str(),
-        "denied 12"
-    );
-    Ok(())
+    let lines: [Line; 5] = [
+        (BOB, START, Ask::Certify("bob", "p1", 200_000), "certified one"),
+        (BOB, START, Ask::Put("bob", "p1", GRID), "put one sudoku/4/4/123434122143432g"),
+        (BOB, START, Ask::Put("bob", "p1", "sudoku/4/4/v"), "put new sudoku/4/4/v"),
+        (BOB, START, Ask::Put("bob", "p1", GRID), "put new sudoku/4/4/123434122143432g"),
+        (DORA, BEFORE, Ask::Release("r1"), "denied 12"),
+    ];
+    play(alloc, &mut desk, &lines)
 }
 
 #[test]
 fn rounds_are_released(rt: HostRuntime) -> Result<(), Fail> {
     let alloc = rt.alloc();
     let mut desk = open(alloc)?;
-    let desk = &mut desk;
-    for (author, label, budget) in [
-        ("bob", "p1", 200_000),
-        ("ada", "q1", 200_000),
-        ("bob", "v", 1),
-    ] {
-        let action = certify(alloc, author, label, budget);
-        ask(alloc, desk, "dora-key", BEFORE, action)?;
-    }
-    for (key, second, round, reply) in [
-        ("bob-key-1", BEFORE, "r1", "denied 2"),
-        ("dora-key", BEFORE, "r9", "denied 4"),
-        ("dora-key", BEFORE, "r3", "denied 12"),
-        ("dora-key", START, "r1", "denied 14"),
-        ("dora-key", START - 1, "r1", "released r1"),
-        ("dora-key", BEFORE, "r1", "denied 13"),
-        ("dora-key", BEFORE, "r2", "released r2"),
-        ("dora-key", BEFORE, "r2", "denied 13"),
-    ] {
-        let action = release(alloc, round);
-        assert_eq!(rt; ask(alloc, desk, key, second, action)?.as_str(), reply);
-    }
-    Ok(())
+    let lines: [Line; 11] = [
+        (DORA, BEFORE, Ask::Certify("bob", "p1", 200_000), "certified one"),
+        (DORA, BEFORE, Ask::Certify("ada", "q1", 200_000), "certified one"),
+        (DORA, BEFORE, Ask::Certify("bob", "v", 1), "certified gave up"),
+        (BOB, BEFORE, Ask::Release("r1"), "denied 2"),
+        (DORA, BEFORE, Ask::Release("r9"), "denied 4"),
+        (DORA, BEFORE, Ask::Release("r3"), "denied 12"),
+        (DORA, START, Ask::Release("r1"), "denied 14"),
+        (DORA, START - 1, Ask::Release("r1"), "released r1"),
+        (DORA, BEFORE, Ask::Release("r1"), "denied 13"),
+        (DORA, BEFORE, Ask::Release("r2"), "released r2"),
+        (DORA, BEFORE, Ask::Release("r2"), "denied 13"),
+    ];
+    play(alloc, &mut desk, &lines)
 }
 
 #[test]
@@ -364,11 +390,7 @@ fn released_puzzles_are_in_one_round(rt: HostRuntime) -> Result<(), Fail> {
     let Ok(()) = insert_draft(&mut desk.store, twin) else {
         return Err("draft")?;
     };
-    assert_eq!(rt;
-        ask(alloc, &mut desk, "dora-key", BEFORE, release(alloc, "r4"))?.as_str(),
-        "denied 11"
-    );
-    Ok(())
+    play(alloc, &mut desk, &[(DORA, BEFORE, Ask::Release("r4"), "denied 11")])
 }
 
 #[test]
@@ -378,118 +400,62 @@ fn fifty_answers_are_taken(rt: HostRuntime) -> Result<(), Fail> {
     for n in 1..=50 {
         let token = format!(in alloc; "k{n}")?;
         let reply = format!(in alloc; "received {n} wrong")?;
-        let action = submit(alloc, token.as_str(), WRONG);
-        let given = ask(alloc, &mut desk, "eve-key-1", START, action)?;
+        let action = submit(alloc, "r1", token.as_str(), WRONG)?;
+        let given = answered(alloc, &mut desk, EVE, START, action)?;
         assert_eq!(rt; given.as_str(), reply.as_str());
     }
-    for (key, token, reply) in [
-        ("eve-key-1", "k51", "denied 19"),
-        ("eve-key-1", "k50", "received 50 wrong"),
-        ("fay-key-1", "k51", "received 1 wrong"),
-    ] {
-        let action = submit(alloc, token, WRONG);
-        assert_eq!(rt; ask(alloc, &mut desk, key, START, action)?.as_str(), reply);
-    }
-    Ok(())
-}
-
-#[test]
-fn puzzles_without_a_solution_are_certified(rt: HostRuntime) -> Result<(), Fail> {
-    let alloc = rt.alloc();
-    let mut desk = open(alloc)?;
-    let bob = "bob-key-1";
-    let action = put(alloc, "bob", "n", b"slither/1/1/a");
-    assert_eq!(rt;
-        ask(alloc, &mut desk, bob, START, action)?.as_str(),
-        "put new slither/1/1/a"
-    );
-    let action = certify(alloc, "bob", "n", 200_000);
-    assert_eq!(rt;
-        ask(alloc, &mut desk, bob, START, action)?.as_str(),
-        "certified none"
-    );
-    Ok(())
-}
-
-/// A desk whose sealed round r2 is released, with two answers of eve.
-fn open_sealed(alloc: Global) -> Result<Desk, Fail> {
-    let mut desk = open(alloc)?;
-    let action = certify(alloc, "ada", "q1", 200_000);
-    ask(alloc, &mut desk, "ada-key-1", BEFORE, action)?;
-    ask(alloc, &mut desk, "dora-key", BEFORE, release(alloc, "r2"))?;
-    for (token, answer) in [("t1", ".##."), ("t2", ".###")] {
-        let action = submit_to(alloc, "r2", token, answer);
-        ask(alloc, &mut desk, "eve-key-1", LATE, action)?;
-    }
-    Ok(desk)
+    let lines: [Line; 3] = [
+        (EVE, START, Ask::Submit("r1", "k51", WRONG), "denied 19"),
+        (EVE, START, Ask::Submit("r1", "k50", WRONG), "received 50 wrong"),
+        (FAY, START, Ask::Submit("r1", "k51", WRONG), "received 1 wrong"),
+    ];
+    play(alloc, &mut desk, &lines)
 }
 
 #[test]
 fn sealed_answers_are_received(rt: HostRuntime) -> Result<(), Fail> {
     let alloc = rt.alloc();
     let mut desk = open_sealed(alloc)?;
-    for (key, second, token, reply) in [
-        ("eve-key-1", LATE, "t1", "received 1 sealed"),
-        ("eve-key-1", LATE_END, "t1", "received 1 sealed"),
-        ("eve-key-1", LATE_END, "t3", "denied 8"),
-        ("eve-key-1", LATE_END - 1, "t3", "received 3 sealed"),
-        ("fay-key-1", LATE, "t1", "received 1 sealed"),
-        ("ada-key-1", LATE, "t1", "denied 5"),
-    ] {
-        let action = submit_to(alloc, "r2", token, ".##.");
-        assert_eq!(rt; ask(alloc, &mut desk, key, second, action)?.as_str(), reply);
-    }
-    Ok(())
+    let lines: [Line; 6] = [
+        (EVE, LATE, Ask::Submit("r2", "t1", ".##."), "received 1 sealed"),
+        (EVE, LATE_END, Ask::Submit("r2", "t1", ".##."), "received 1 sealed"),
+        (EVE, LATE_END, Ask::Submit("r2", "t3", ".##."), "denied 8"),
+        (EVE, LATE_END - 1, Ask::Submit("r2", "t3", ".##."), "received 3 sealed"),
+        (FAY, LATE, Ask::Submit("r2", "t1", ".##."), "received 1 sealed"),
+        (ADA, LATE, Ask::Submit("r2", "t1", ".##."), "denied 5"),
+    ];
+    play(alloc, &mut desk, &lines)
 }
 
 #[test]
 fn sealed_verdicts_wait(rt: HostRuntime) -> Result<(), Fail> {
     let alloc = rt.alloc();
     let mut desk = open_sealed(alloc)?;
-    for (key, second, reply) in [
-        ("eve-key-1", LATE, "eve 1 sealed;eve 2 sealed;"),
-        ("eve-key-1", LATE_END - 1, "eve 1 sealed;eve 2 sealed;"),
-        ("eve-key-1", LATE_END, "eve 1 wrong;eve 2 right;"),
-        ("dora-key", LATE, "eve 1 wrong;eve 2 right;"),
-        ("rex-key-1", LATE_END - 1, ""),
-        ("rex-key-1", LATE_END, "eve 1 wrong;eve 2 right;"),
-        ("fay-key-1", LATE_END, ""),
-    ] {
-        let action = answers_of(alloc, "r2");
-        assert_eq!(rt; ask(alloc, &mut desk, key, second, action)?.as_str(), reply);
-    }
-    Ok(())
+    let lines: [Line; 7] = [
+        (EVE, LATE, Ask::Answers("r2"), "eve 1 sealed;eve 2 sealed;"),
+        (EVE, LATE_END - 1, Ask::Answers("r2"), "eve 1 sealed;eve 2 sealed;"),
+        (EVE, LATE_END, Ask::Answers("r2"), "eve 1 wrong;eve 2 right;"),
+        (DORA, LATE, Ask::Answers("r2"), "eve 1 wrong;eve 2 right;"),
+        (REX, LATE_END - 1, Ask::Answers("r2"), ""),
+        (REX, LATE_END, Ask::Answers("r2"), "eve 1 wrong;eve 2 right;"),
+        (FAY, LATE_END, Ask::Answers("r2"), ""),
+    ];
+    play(alloc, &mut desk, &lines)
 }
 
 #[test]
 fn rounds_are_read_by_role(rt: HostRuntime) -> Result<(), Fail> {
     let alloc = rt.alloc();
     let mut desk = open_round(alloc)?;
-    for (key, second, round, reply) in [
-        ("dora-key", BEFORE, "r1", "Morning 1"),
-        ("dora-key", BEFORE, "r2", "Late 1"),
-        ("rex-key-1", START, "r1", "Morning 1"),
-        ("rex-key-1", START, "r2", "denied 4"),
-        ("ada-key-1", START, "r1", "Morning 1"),
-        ("bob-key-1", START, "r1", "denied 2"),
-        ("eve-key-1", START, "r3", "denied 4"),
-    ] {
-        let action = read_of(alloc, round);
-        assert_eq!(rt; ask(alloc, &mut desk, key, second, action)?.as_str(), reply);
-    }
-    Ok(())
-}
-
-#[test]
-fn nobody_without_a_key_is_served(rt: HostRuntime) -> Result<(), Fail> {
-    let alloc = rt.alloc();
-    let mut desk = open_round(alloc)?;
-    let request = Request {
-        key: None,
-        action: read(alloc)?,
-    };
-    let t = Moment::new(START).ok_or("moment")?;
-    let reply = desk.step(alloc, t, &request);
-    assert_eq!(rt; shown(alloc, &reply)?.as_str(), "denied 1");
-    Ok(())
+    let lines: [Line; 8] = [
+        (DORA, BEFORE, Ask::Read("r1"), "Morning 1"),
+        (DORA, BEFORE, Ask::Read("r2"), "Late 1"),
+        (REX, START, Ask::Read("r1"), "Morning 1"),
+        (REX, START, Ask::Read("r2"), "denied 4"),
+        (ADA, START, Ask::Read("r1"), "Morning 1"),
+        (BOB, START, Ask::Read("r1"), "denied 2"),
+        (EVE, START, Ask::Read("r3"), "denied 4"),
+        ("", START, Ask::Read("r1"), "denied 1"),
+    ];
+    play(alloc, &mut desk, &lines)
 }

@@ -62,7 +62,7 @@ fn answer_request(
     ensures err { OnErr result (world_in desk.new ≡ world_in desk.old) }
 {
     let plan = desk.plan(alloc, moment, request)?;
-    let line = reply_line(alloc, &plan.reply)?;
+    let line = reply_line(alloc, plan.reply())?;
     let _reply = desk.commit(alloc, plan)?;
     Ok(line)
 }

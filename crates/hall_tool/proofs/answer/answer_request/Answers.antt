@@ -2,6 +2,7 @@ use Rattle.std.proofs.Common.{◌≡◌, sym, ap, ◌∙◌, subst}
 use Rattle.hall_policy.specs.World.{World}
 use Rattle.hall_desk.specs.Change.{changed}
 use Rattle.hall_desk.specs.Desk.{world_in}
+use Rattle.hall_desk.specs.Plan.{planned_reply, planned_change}
 use Rattle.hall_desk.specs.Step.{Step}
 use Rattle.hall_tool.proofs.answer.answer_request.Goals as goal
 
@@ -9,5 +10,5 @@ pub returns-clause-ok : goal.returns-clause-ok
 returns-clause-ok c =
     let plan = c.in_ok-plan.plan in
     let old = world_in c.args.desk.now in
-    let made : world_in c.commit.new.self ≡ changed plan.change old = c.in_ok-_reply.ensures.made ∙ ap (changed plan.change) c.in_ok-plan.ensures.same in
-    (plan.reply, subst (λ (w : World). Step old c.args.moment c.args.request.now plan.reply w) (sym made) c.in_ok-plan.ensures.plan.step, c.in_ok-line.ensures)
+    let made : world_in c.commit.new.self ≡ changed (planned_change plan) old = c.in_ok-_reply.ensures.made ∙ ap (changed (planned_change plan)) c.in_ok-plan.ensures.same in
+    (planned_reply plan, subst (λ (w : World). Step old c.args.moment c.args.request.now (planned_reply plan) w) (sym made) c.in_ok-plan.ensures.plan.step, c.in_ok-line.ensures)
