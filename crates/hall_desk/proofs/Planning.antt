@@ -1,5 +1,5 @@
 -- From facts and a decision to a plan.
-use Rattle.std.proofs.Common.{◌≡◌, ◌≢◌, ◌&&◌, ◌||◌, ℕ, zero, suc, ◌<◌, ◌≤◌, Bool, true, false, List, [], ◌∷◌, length, slice_get, Option, Some, None, Contains, IsTrue, refl, sym, ◌∙◌, ap, subst, inl, inr, cond}
+use Rattle.std.proofs.Common.{◌≡◌, ◌≢◌, ◌&&◌, ◌||◌, ℕ, zero, suc, ◌<◌, ◌≤◌, Bool, true, false, List, [], ◌∷◌, length, slice_get, Option, Some, None, Contains, IsTrue, Result, IfOk, refl, sym, ◌∙◌, ap, subst, inl, inr, cond}
 use Rattle.std.specs.List.{AllByRecursion, filter}
 use Rattle.std.specs.FinMap.{get, values}
 use Rattle.std.proofs.lemmas.Option.{slice_get-get_or}
@@ -25,6 +25,7 @@ use Rattle.hall_desk.specs.Caller.{caller_of}
 use Rattle.hall_desk.specs.Found.{AreFactsOf}
 use Rattle.hall_desk.specs.Change.{changed, CanMake, with_flag}
 use Rattle.hall_desk.specs.Step.{Decided}
+use Rattle.hall_desk.specs.Store.{Told}
 use Rattle.hall_desk.specs.Plans.{IsPlanFor, IsAllowedPlan, IsMadePlan, StandsAs}
 use Rattle.hall_desk.specs.declared.plan.Plan.{Plan}
 use Rattle.hall_desk.specs.declared.reply.Reply.{Reply}
@@ -33,6 +34,7 @@ use Rattle.hall_desk.specs.declared.reply.StateName.TheVariants as name
 use Rattle.hall_desk.specs.declared.store.Change.{Change}
 use Rattle.hall_desk.specs.declared.store.Change.TheVariants as change
 use Rattle.hall_desk.specs.declared.store.RoundFlag.TheVariants as flag
+use Rattle.hall_desk.proofs.Knowing.{pure_told, told_turn}
 
 by_index : (P : Rule → Type 0) (rules : List Rule) (k : ℕ) (rule : Rule) → AllByRecursion P rules → slice_get rules k ≡ Some rule → P rule
 by_index P [] k rule h e = absurd (let no : None ≡ Some rule = e in cc)
@@ -65,37 +67,52 @@ planned facts world t request decision given change found first outcome decided 
     }
 
 -- the plan of a puzzle that is new, or differs from the one that stands
-pub put_new : (world : World) (facts : Facts) (asked : Action) (t : ℕ) (key copied_key : PuzzleKey) (puzzle copied : Board) (text : List ℕ) →
-    asked ≡ action.PutPuzzle key puzzle → copied_key ≡ key → copied ≡ puzzle → CanonicalText text puzzle → AllTrue facts world asked → IsTrue facts.author_is_there →
+pub put_new : (world : World) (facts : Facts) (t : ℕ) (key copied_key : PuzzleKey) (puzzle copied : Board) (text : List ℕ) →
+    copied_key ≡ key → copied ≡ puzzle → CanonicalText text puzzle → AllTrue facts world (action.PutPuzzle key puzzle) → IsTrue facts.author_is_there →
     ((row : PuzzleRow) → facts.puzzle ≡ Some row → row.puzzle ≢ puzzle) →
-    IsAllowedPlan world facts.caller asked t (record { reply = PuzzlePut name.New text; change = change.PutPuzzle (record { key = copied_key; puzzle = copied; state = state.New }) })
-put_new world facts asked t key copied_key puzzle copied text is same_key same_puzzle canonical told there differ =
-    subst (λ (a : Action). AllTrue facts world a → IsAllowedPlan world facts.caller a t (record { reply = PuzzlePut name.New text; change = change.PutPuzzle (record { key = copied_key; puzzle = copied; state = state.New }) })) (sym is)
-    (subst (λ (k : PuzzleKey). AllTrue facts world (action.PutPuzzle key puzzle) → IsAllowedPlan world facts.caller (action.PutPuzzle key puzzle) t (record { reply = PuzzlePut name.New text; change = change.PutPuzzle (record { key = k; puzzle = copied; state = state.New }) })) (sym same_key)
+    IsAllowedPlan world facts.caller (action.PutPuzzle key puzzle) t (record { reply = PuzzlePut name.New text; change = change.PutPuzzle (record { key = copied_key; puzzle = copied; state = state.New }) })
+put_new world facts t key copied_key puzzle copied text same_key same_puzzle canonical told there differ =
+    subst (λ (k : PuzzleKey). AllTrue facts world (action.PutPuzzle key puzzle) → IsAllowedPlan world facts.caller (action.PutPuzzle key puzzle) t (record { reply = PuzzlePut name.New text; change = change.PutPuzzle (record { key = k; puzzle = copied; state = state.New }) })) (sym same_key)
     (subst (λ (p : Board). AllTrue facts world (action.PutPuzzle key puzzle) → IsAllowedPlan world facts.caller (action.PutPuzzle key puzzle) t (record { reply = PuzzlePut name.New text; change = change.PutPuzzle (record { key = key; puzzle = p; state = state.New }) })) (sym same_puzzle)
     (λ all. record {
       allowed = λ found. (text, canonical, inr ((λ row kept. differ row (all.1.1.1.1.1.0.0 ∙ kept)), refl, refl));
       can = let author = all.1.1.1.0.0 there in (author.0, author.1);
-    }))) told
+    })) told
 
 -- a plan that is right whatever a search would find
 pub made_anyhow : (world : World) (caller : Option Person) (asked : Action) (t : ℕ) (plan : Plan) → IsAllowedPlan world caller asked t plan → IsMadePlan world caller asked t plan
 made_anyhow world caller asked t plan made = record { found = state.New; allowed = made.allowed state.New; can = made.can }
 
+-- the plan that is made for an action, told of what was asked, which is that action
+module _ {X E : Type 0} (honest serves : X → Type 0) (world : X → World) (facts : Facts) (asked named : Action) (t : ℕ) (is : asked ≡ named) where
+  -- made from the facts alone
+  pub made_from_facts : (store : X) (r : Result Plan E) (M : Plan → Type 0) →
+      ((plan : Plan) → M plan → (w : World) → AllTrue facts w named → IsMadePlan w facts.caller named t plan) →
+      (honest store → serves store → AllTrue facts (world store) asked) → IfOk r M → Told honest serves store store r (IsMadePlan (world store) facts.caller asked t)
+  made_from_facts store r M turn told made =
+      subst (λ (a : Action). (honest store → serves store → AllTrue facts (world store) a) → Told honest serves store store r (IsMadePlan (world store) facts.caller a t)) (sym is)
+      (λ all. pure_told honest serves r M (IsMadePlan (world store) facts.caller named t) store store (λ h s. s) (λ plan h s x. turn plan x (world store) (all h s)) made) told
+
+  -- made with what the store was asked
+  pub made_from_store : (old new : X) (r : Result Plan E) (M : Plan → Type 0) → ((plan : Plan) → M plan → IsMadePlan (world new) facts.caller named t plan) →
+      Told honest serves old new r M → Told honest serves old new r (IsMadePlan (world new) facts.caller asked t)
+  made_from_store old new r M turn told =
+      subst (λ (a : Action). Told honest serves old new r (IsMadePlan (world new) facts.caller a t)) (sym is)
+      (told_turn honest serves r M (IsMadePlan (world new) facts.caller named t) old new (λ plan h s x. turn plan x) told)
+
 -- the plan of a round that is released
-pub released : (world : World) (facts : Facts) (asked : Action) (t : ℕ) (id shown kept : List ℕ) (row : RoundRow) →
-    asked ≡ action.Release id → shown ≡ id → kept ≡ id → AllTrue facts world asked → facts.round ≡ Some row →
-    IsAllowedPlan world facts.caller asked t (record { reply = Released shown; change = change.SetRoundFlag kept flag.Released })
-released world facts asked t id shown kept row is same_shown same_kept told seen =
-    subst (λ (a : Action). AllTrue facts world a → IsAllowedPlan world facts.caller a t (record { reply = Released shown; change = change.SetRoundFlag kept flag.Released })) (sym is)
-    (subst (λ (x : List ℕ). AllTrue facts world (action.Release id) → IsAllowedPlan world facts.caller (action.Release id) t (record { reply = Released x; change = change.SetRoundFlag kept flag.Released })) (sym same_shown)
+pub released : (world : World) (facts : Facts) (t : ℕ) (id shown kept : List ℕ) (row : RoundRow) →
+    shown ≡ id → kept ≡ id → AllTrue facts world (action.Release id) → facts.round ≡ Some row →
+    IsAllowedPlan world facts.caller (action.Release id) t (record { reply = Released shown; change = change.SetRoundFlag kept flag.Released })
+released world facts t id shown kept row same_shown same_kept told seen =
+    subst (λ (x : List ℕ). AllTrue facts world (action.Release id) → IsAllowedPlan world facts.caller (action.Release id) t (record { reply = Released x; change = change.SetRoundFlag kept flag.Released })) (sym same_shown)
     (subst (λ (x : List ℕ). AllTrue facts world (action.Release id) → IsAllowedPlan world facts.caller (action.Release id) t (record { reply = Released id; change = change.SetRoundFlag x flag.Released })) (sym same_kept)
     (λ all.
     let at : IsRoundAt world id row = subst (λ (o : Option RoundRow). IsRoundFound world (Some id) o) seen all.1.1.0 in
     record {
       allowed = λ found. (row.round, at.head, refl, ap (with_flag world id flag.Released) at.head);
       can = (row.round, at.head);
-    }))) told
+    })) told
 
 -- ---- the answers that a caller sees
 and_true : (b : Bool) → (b && true) ≡ b

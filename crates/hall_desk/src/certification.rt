@@ -2,6 +2,7 @@
 ghost use Rattle.std.specs.Prelude.{◌≡◌, ℕ, IfOk};
 ghost use Rattle.hall_policy.specs.World.{World};
 ghost use Rattle.hall_policy.specs.Facts.{AllTrue};
+ghost use Rattle.hall_policy.specs.declared.request.Action.TheVariants.{Certify, Release};
 ghost use Rattle.hall_grid.specs.Answer.{AnswerText as Says, IsFilling};
 ghost use Rattle.hall_desk.specs.Step.{is_open, IsFound};
 ghost use Rattle.hall_desk.specs.Plans.{IsAllowedPlan, IsMadePlan};
@@ -11,7 +12,7 @@ use crate::plan::{Plan, state_name};
 use crate::reply::Reply;
 use crate::store::{Change, RoundFlag, StoreFault};
 use hall_grid::{Filling, Puzzle, write_answer};
-use hall_policy::{Action, AnswerText, Facts, PuzzleState};
+use hall_policy::{AnswerText, Budget, Facts, PuzzleKey, PuzzleState, RoundId};
 use hall_solve::Outcome;
 use std::alloc::Global;
 
@@ -19,13 +20,11 @@ use std::alloc::Global;
 pub(crate) fn certify_puzzle(
     alloc: Global,
     facts: &Facts,
-    action: &Action,
+    key: &PuzzleKey,
+    budget: Budget,
 ) -> Result<Plan, StoreFault>
-    ensures { IfOk result (λ plan. (world : World) → AllTrue facts.now world action.now → (t : ℕ) → IsMadePlan world facts.now.caller action.now t plan) }
+    ensures { IfOk result (λ plan. (world : World) → AllTrue facts.now world (Certify key.now budget) → (t : ℕ) → IsMadePlan world facts.now.caller (Certify key.now budget) t plan) }
 {
-    let Action::Certify { key, budget } = action else {
-        return Err(StoreFault::Failed);
-    };
     let Some(row) = &facts.puzzle else {
         return Err(StoreFault::Failed);
     };
@@ -83,12 +82,9 @@ fn solution_text(
 }
 
 /// An allowed Release: the draft is released.
-pub(crate) fn release_round(facts: &Facts, action: &Action) -> Result<Plan, StoreFault>
-    ensures { IfOk result (λ plan. (world : World) → AllTrue facts.now world action.now → (t : ℕ) → IsAllowedPlan world facts.now.caller action.now t plan) }
+pub(crate) fn release_round(facts: &Facts, round: &RoundId) -> Result<Plan, StoreFault>
+    ensures { IfOk result (λ plan. (world : World) → AllTrue facts.now world (Release round.now) → (t : ℕ) → IsAllowedPlan world facts.now.caller (Release round.now) t plan) }
 {
-    let Action::Release { round } = action else {
-        return Err(StoreFault::Failed);
-    };
     let Some(_row) = &facts.round else {
         return Err(StoreFault::Failed);
     };

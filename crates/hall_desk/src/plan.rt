@@ -4,6 +4,7 @@ ghost use Rattle.std.specs.FinMap.{get};
 ghost use Rattle.hall_grid.specs.Canonical.{CanonicalText};
 ghost use Rattle.hall_policy.specs.World.{World, entry_at, same_text};
 ghost use Rattle.hall_policy.specs.Facts.{AllTrue};
+ghost use Rattle.hall_policy.specs.declared.request.Action.TheVariants.{PutPuzzle, ReadRound, Submit, Answers};
 ghost use Rattle.hall_desk.specs.Store.{Kept, Served, Told, IsListing};
 ghost use Rattle.hall_desk.specs.Found.{AreFactsOf};
 ghost use Rattle.hall_desk.specs.Shown.{ShowsRound, ShowsPuzzles, ShowsPuzzle, told_verdict, is_sealed, sees_all, shows_verdict, answer_line, state_name};
@@ -20,8 +21,8 @@ use crate::verdict::judge;
 use hall_grid::{Broken, Puzzle, write_puzzle};
 use hall_policy::{
     Action, AnswerKey, AnswerNumber, AnswerRow, AnswerText, Decision, Entry, Facts, Mode, Moment,
-    Name, Person, PuzzleNumber, PuzzleRow, PuzzleState, PuzzleText, Request, Round, RoundId,
-    RoundRow, decide,
+    Name, Person, PuzzleKey, PuzzleNumber, PuzzleRow, PuzzleState, PuzzleText, Request, Round,
+    RoundId, RoundRow, Token, decide,
 };
 use std::alloc::{AllocError, Global};
 
@@ -131,23 +132,38 @@ fn allow<S: Store>(
     ensures told { Told S.is_honest S.serves store.old store.new result (IsMadePlan (S.world store.new) facts.now.caller action.now t) }
 {
     match action {
-        Action::PutPuzzle { .. } => put_puzzle(alloc, facts, action),
-        Action::Certify { .. } => certify_puzzle(alloc, facts, action),
-        Action::Release { .. } => release_round(facts, action),
-        Action::ReadRound { .. } => read_round(alloc, store, facts, action),
-        Action::Submit { .. } => submit(alloc, store, t, facts, action),
-        Action::Answers { .. } => list_answers(alloc, store, t, facts, action),
+        Action::PutPuzzle { key, puzzle } => put_puzzle(alloc, facts, key, puzzle),
+        Action::Certify { key, budget } => certify_puzzle(alloc, facts, key, *budget),
+        Action::Release { round } => release_round(facts, round),
+        Action::ReadRound { round } => read_round(alloc, store, facts, round),
+        Action::Submit {
+            round,
+            number,
+            token,
+            answer,
+        } => {
+            let handed = Handed {
+                round,
+                number: *number,
+                token,
+                answer,
+            };
+            submit(alloc, store, t, facts, &handed)
+        }
+        Action::Answers { round } => list_answers(alloc, store, t, facts, round),
         _ => Err(StoreFault::Failed),
     }
 }
 
 /// An allowed PutPuzzle: the same puzzle again changes nothing, another one is stored as new.
-fn put_puzzle(alloc: Global, facts: &Facts, action: &Action) -> Result<Plan, StoreFault>
-    ensures { IfOk result (λ plan. (world : World) → AllTrue facts.now world action.now → (t : ℕ) → IsAllowedPlan world facts.now.caller action.now t plan) }
+fn put_puzzle(
+    alloc: Global,
+    facts: &Facts,
+    key: &PuzzleKey,
+    puzzle: &Puzzle,
+) -> Result<Plan, StoreFault>
+    ensures { IfOk result (λ plan. (world : World) → AllTrue facts.now world (PutPuzzle key.now puzzle.now) → (t : ℕ) → IsAllowedPlan world facts.now.caller (PutPuzzle key.now puzzle.now) t plan) }
 {
-    let Action::PutPuzzle { key, puzzle } = action else {
-        return Err(StoreFault::Failed);
-    };
     if !facts.author_is_there {
         return Err(StoreFault::Failed);
     }
@@ -213,15 +229,12 @@ fn read_round<S: Store>(
     alloc: Global,
     store: &mut S,
     facts: &Facts,
-    action: &Action,
+    _round: &RoundId,
 ) -> Result<Plan, StoreFault>
-    requires { S.is_honest store.old → S.serves store.old → AllTrue facts.now (S.world store.old) action.now }
+    requires { S.is_honest store.old → S.serves store.old → AllTrue facts.now (S.world store.old) (ReadRound _round.now) }
     ensures kept { Kept S.is_honest S.serves S.world store.old store.new }
-    ensures told { Told S.is_honest S.serves store.old store.new result (λ plan. (t : ℕ) → IsAllowedPlan (S.world store.new) facts.now.caller action.now t plan) }
+    ensures told { Told S.is_honest S.serves store.old store.new result (λ plan. (t : ℕ) → IsAllowedPlan (S.world store.new) facts.now.caller (ReadRound _round.now) t plan) }
 {
-    let Action::ReadRound { .. } = action else {
-        return Err(StoreFault::Failed);
-    };
     let Some(row) = &facts.round else {
         return Err(StoreFault::Failed);
     };
@@ -309,42 +322,39 @@ fn show_puzzle<S: Store>(
     })
 }
 
+/// What is handed in: an answer to the round's puzzle of that number, under a token.
+#[derive(Clone, Copy)]
+struct Handed<'a> {
+    round: &'a RoundId,
+    number: PuzzleNumber,
+    token: &'a Token,
+    answer: &'a AnswerText,
+}
+
 /// An allowed Submit: the answer is judged, and its row is to be stored.
 fn submit<S: Store>(
     alloc: Global,
     store: &mut S,
     t: Moment,
     facts: &Facts,
-    action: &Action,
+    handed: &Handed,
 ) -> Result<Plan, StoreFault>
-    requires told { S.is_honest store.old → S.serves store.old → AllTrue facts.now (S.world store.old) action.now }
+    requires told { S.is_honest store.old → S.serves store.old → AllTrue facts.now (S.world store.old) (Submit handed.now.round.now handed.now.number handed.now.token.now handed.now.answer.now) }
     requires there { S.is_honest store.old → S.serves store.old → IfSome facts.now.caller (λ person. get (S.world store.old).people person.name ≡ Some person) }
     ensures kept { Kept S.is_honest S.serves S.world store.old store.new }
-    ensures told { Told S.is_honest S.serves store.old store.new result (IsAllowedPlan (S.world store.new) facts.now.caller action.now t) }
+    ensures told { Told S.is_honest S.serves store.old store.new result (IsAllowedPlan (S.world store.new) facts.now.caller (Submit handed.now.round.now handed.now.number handed.now.token.now handed.now.answer.now) t) }
 {
-    let Action::Submit { number, answer, .. } = action else {
-        return Err(StoreFault::Failed);
-    };
     let Some(row) = &facts.round else {
         return Err(StoreFault::Failed);
     };
-    let verdict = judge_at(alloc, store, row, *number, answer)?;
-    submitted(t, facts, action, verdict)
+    let verdict = judge_at(alloc, store, row, handed.number, handed.answer)?;
+    submitted(t, facts, handed, verdict)
 }
 
 /// The plan for an answer with its verdict.
-fn submitted(t: Moment, facts: &Facts, action: &Action, verdict: Broken) -> Result<Plan, StoreFault>
-    ensures { IfOk result (λ plan. (world : World) → AllTrue facts.now world action.now → IsJudgedFor world facts.now action.now verdict → IfSome facts.now.caller (λ person. get world.people person.name ≡ Some person) → IsAllowedPlan world facts.now.caller action.now t plan) }
+fn submitted(t: Moment, facts: &Facts, handed: &Handed, verdict: Broken) -> Result<Plan, StoreFault>
+    ensures { IfOk result (λ plan. (world : World) → AllTrue facts.now world (Submit handed.now.round.now handed.now.number handed.now.token.now handed.now.answer.now) → IsJudgedFor world facts.now (Submit handed.now.round.now handed.now.number handed.now.token.now handed.now.answer.now) verdict → IfSome facts.now.caller (λ person. get world.people person.name ≡ Some person) → IsAllowedPlan world facts.now.caller (Submit handed.now.round.now handed.now.number handed.now.token.now handed.now.answer.now) t plan) }
 {
-    let Action::Submit {
-        round,
-        number,
-        token,
-        answer,
-    } = action
-    else {
-        return Err(StoreFault::Failed);
-    };
     let (Some(person), Some(row)) = (&facts.caller, &facts.round) else {
         return Err(StoreFault::Failed);
     };
@@ -356,15 +366,15 @@ fn submitted(t: Moment, facts: &Facts, action: &Action, verdict: Broken) -> Resu
     };
     let key = AnswerKey {
         entrant: person.name.clone()?,
-        round: round.clone()?,
-        number: *number,
-        token: token.clone()?,
+        round: handed.round.clone()?,
+        number: handed.number,
+        token: handed.token.clone()?,
     };
     let stored = AnswerRow {
         key,
         n,
         moment: t,
-        answer: answer.clone()?,
+        answer: handed.answer.clone()?,
         verdict,
     };
     Ok(Plan {
@@ -413,15 +423,12 @@ fn list_answers<S: Store>(
     store: &mut S,
     t: Moment,
     facts: &Facts,
-    action: &Action,
+    round: &RoundId,
 ) -> Result<Plan, StoreFault>
-    requires { S.is_honest store.old → S.serves store.old → AllTrue facts.now (S.world store.old) action.now }
+    requires { S.is_honest store.old → S.serves store.old → AllTrue facts.now (S.world store.old) (Answers round.now) }
     ensures kept { Kept S.is_honest S.serves S.world store.old store.new }
-    ensures told { Told S.is_honest S.serves store.old store.new result (IsAllowedPlan (S.world store.new) facts.now.caller action.now t) }
+    ensures told { Told S.is_honest S.serves store.old store.new result (IsAllowedPlan (S.world store.new) facts.now.caller (Answers round.now) t) }
 {
-    let Action::Answers { round } = action else {
-        return Err(StoreFault::Failed);
-    };
     let Some(person) = &facts.caller else {
         return Err(StoreFault::Failed);
     };
@@ -430,7 +437,7 @@ fn list_answers<S: Store>(
     };
     let all = sees_all(person, &row.round, t);
     let rows = find_answers(alloc, store, round, &person.name, all)?;
-    listed(alloc, t, facts, action, rows.as_slice())
+    listed(alloc, t, facts, round, rows.as_slice())
 }
 
 /// The plan that lists the rows.
@@ -438,10 +445,10 @@ fn listed(
     alloc: Global,
     t: Moment,
     facts: &Facts,
-    action: &Action,
+    _round: &RoundId,
     rows: &[AnswerRow],
 ) -> Result<Plan, StoreFault>
-    ensures { IfOk result (λ plan. (world : World) → AllTrue facts.now world action.now → AreRowsFor world facts.now action.now t rows.now → IsAllowedPlan world facts.now.caller action.now t plan) }
+    ensures { IfOk result (λ plan. (world : World) → AllTrue facts.now world (Answers _round.now) → AreRowsFor world facts.now (Answers _round.now) t rows.now → IsAllowedPlan world facts.now.caller (Answers _round.now) t plan) }
 {
     let Some(person) = &facts.caller else {
         return Err(StoreFault::Failed);

@@ -1,65 +1,58 @@
 use Rattle.std.proofs.Common.{◌≡◌, ℕ}
 use Rattle.hall_policy.specs.World.{World}
 use Rattle.hall_policy.specs.Facts.{AllTrue}
+use Rattle.hall_policy.specs.declared.request.Action.TheVariants.{PutPuzzle, Certify, Release, ReadRound, Submit, Answers}
 use Rattle.hall_desk.specs.Plans.{IsAllowedPlan, IsMadePlan}
-use Rattle.hall_desk.proofs.Knowing.{pure_told, told_turn}
-use Rattle.hall_desk.proofs.Planning.{made_anyhow}
+use Rattle.hall_desk.proofs.Planning.{made_anyhow, made_from_facts, made_from_store}
 use Rattle.hall_desk.proofs.plan.allow.Goals as goal
 
 pub returns-in-PutPuzzle-clause-told : goal.returns-in-PutPuzzle-clause-told
 returns-in-PutPuzzle-clause-told g c =
     let facts = c.args.facts.now in
-    let asked = c.args.action.now in
-    let store = c.args.store.now in
-    pure_told g.S.Store.is_honest g.S.Store.serves c.put_puzzle.result
-    (λ plan. (w : World) → AllTrue facts w asked → (t : ℕ) → IsAllowedPlan w facts.caller asked t plan)
-    (IsMadePlan (g.S.Store.world store) facts.caller asked c.args.t) store store (λ h s. s)
-    (λ plan h s made. made_anyhow (g.S.Store.world store) facts.caller asked c.args.t plan (made (g.S.Store.world store) (c.requires.told h s) c.args.t)) c.put_puzzle.ensures
-
-pub returns-in-ReadRound-clause-told : goal.returns-in-ReadRound-clause-told
-returns-in-ReadRound-clause-told g c =
-    let facts = c.args.facts.now in
-    let asked = c.args.action.now in
-    let new = c.read_round.new.store in
-    told_turn g.S.Store.is_honest g.S.Store.serves c.read_round.result
-    (λ plan. (t : ℕ) → IsAllowedPlan (g.S.Store.world new) facts.caller asked t plan)
-    (IsMadePlan (g.S.Store.world new) facts.caller asked c.args.t) c.args.store.now new
-    (λ plan h s made. made_anyhow (g.S.Store.world new) facts.caller asked c.args.t plan (made c.args.t)) c.read_round.ensures.told
+    let named = PutPuzzle c.in-PutPuzzle.key c.in-PutPuzzle.puzzle in
+    made_from_facts g.S.Store.is_honest g.S.Store.serves g.S.Store.world facts c.args.action.now named c.args.t c.in-PutPuzzle.is c.args.store.now c.put_puzzle.result
+    (λ plan. (w : World) → AllTrue facts w named → (t : ℕ) → IsAllowedPlan w facts.caller named t plan)
+    (λ plan made w told. made_anyhow w facts.caller named c.args.t plan (made w told c.args.t)) c.requires.told c.put_puzzle.ensures
 
 pub returns-in-Certify-clause-told : goal.returns-in-Certify-clause-told
 returns-in-Certify-clause-told g c =
     let facts = c.args.facts.now in
-    let asked = c.args.action.now in
-    let store = c.args.store.now in
-    pure_told g.S.Store.is_honest g.S.Store.serves c.certify_puzzle.result
-    (λ plan. (w : World) → AllTrue facts w asked → (t : ℕ) → IsMadePlan w facts.caller asked t plan)
-    (IsMadePlan (g.S.Store.world store) facts.caller asked c.args.t) store store (λ h s. s)
-    (λ plan h s made. made (g.S.Store.world store) (c.requires.told h s) c.args.t) c.certify_puzzle.ensures
+    let named = Certify c.in-Certify.key c.in-Certify.budget in
+    made_from_facts g.S.Store.is_honest g.S.Store.serves g.S.Store.world facts c.args.action.now named c.args.t c.in-Certify.is c.args.store.now c.certify_puzzle.result
+    (λ plan. (w : World) → AllTrue facts w named → (t : ℕ) → IsMadePlan w facts.caller named t plan)
+    (λ plan made w told. made w told c.args.t) c.requires.told c.certify_puzzle.ensures
 
 pub returns-in-Release-clause-told : goal.returns-in-Release-clause-told
 returns-in-Release-clause-told g c =
     let facts = c.args.facts.now in
-    let asked = c.args.action.now in
-    let store = c.args.store.now in
-    pure_told g.S.Store.is_honest g.S.Store.serves c.release_round.result
-    (λ plan. (w : World) → AllTrue facts w asked → (t : ℕ) → IsAllowedPlan w facts.caller asked t plan)
-    (IsMadePlan (g.S.Store.world store) facts.caller asked c.args.t) store store (λ h s. s)
-    (λ plan h s made. made_anyhow (g.S.Store.world store) facts.caller asked c.args.t plan (made (g.S.Store.world store) (c.requires.told h s) c.args.t)) c.release_round.ensures
+    let named = Release c.in-Release.round in
+    made_from_facts g.S.Store.is_honest g.S.Store.serves g.S.Store.world facts c.args.action.now named c.args.t c.in-Release.is c.args.store.now c.release_round.result
+    (λ plan. (w : World) → AllTrue facts w named → (t : ℕ) → IsAllowedPlan w facts.caller named t plan)
+    (λ plan made w told. made_anyhow w facts.caller named c.args.t plan (made w told c.args.t)) c.requires.told c.release_round.ensures
+
+pub returns-in-ReadRound-clause-told : goal.returns-in-ReadRound-clause-told
+returns-in-ReadRound-clause-told g c =
+    let world = g.S.Store.world c.read_round.new.store in
+    let facts = c.args.facts.now in
+    let named = ReadRound c.in-ReadRound.round in
+    made_from_store g.S.Store.is_honest g.S.Store.serves g.S.Store.world facts c.args.action.now named c.args.t c.in-ReadRound.is c.args.store.now c.read_round.new.store c.read_round.result
+    (λ plan. (t : ℕ) → IsAllowedPlan world facts.caller named t plan)
+    (λ plan made. made_anyhow world facts.caller named c.args.t plan (made c.args.t)) c.read_round.ensures.told
 
 pub returns-in-Submit-clause-told : goal.returns-in-Submit-clause-told
 returns-in-Submit-clause-told g c =
+    let world = g.S.Store.world c.submit.new.store in
     let facts = c.args.facts.now in
-    let asked = c.args.action.now in
-    let new = c.submit.new.store in
-    told_turn g.S.Store.is_honest g.S.Store.serves c.submit.result (IsAllowedPlan (g.S.Store.world new) facts.caller asked c.args.t)
-    (IsMadePlan (g.S.Store.world new) facts.caller asked c.args.t) c.args.store.now new
-    (λ plan h s made. made_anyhow (g.S.Store.world new) facts.caller asked c.args.t plan made) c.submit.ensures.told
+    let named = Submit c.in-Submit.round c.in-Submit.number c.in-Submit.token c.in-Submit.answer in
+    made_from_store g.S.Store.is_honest g.S.Store.serves g.S.Store.world facts c.args.action.now named c.args.t c.in-Submit.is c.args.store.now c.submit.new.store c.submit.result
+    (IsAllowedPlan world facts.caller named c.args.t)
+    (λ plan made. made_anyhow world facts.caller named c.args.t plan made) c.submit.ensures.told
 
 pub returns-in-Answers-clause-told : goal.returns-in-Answers-clause-told
 returns-in-Answers-clause-told g c =
+    let world = g.S.Store.world c.list_answers.new.store in
     let facts = c.args.facts.now in
-    let asked = c.args.action.now in
-    let new = c.list_answers.new.store in
-    told_turn g.S.Store.is_honest g.S.Store.serves c.list_answers.result (IsAllowedPlan (g.S.Store.world new) facts.caller asked c.args.t)
-    (IsMadePlan (g.S.Store.world new) facts.caller asked c.args.t) c.args.store.now new
-    (λ plan h s made. made_anyhow (g.S.Store.world new) facts.caller asked c.args.t plan made) c.list_answers.ensures.told
+    let named = Answers c.in-Answers.round in
+    made_from_store g.S.Store.is_honest g.S.Store.serves g.S.Store.world facts c.args.action.now named c.args.t c.in-Answers.is c.args.store.now c.list_answers.new.store c.list_answers.result
+    (IsAllowedPlan world facts.caller named c.args.t)
+    (λ plan made. made_anyhow world facts.caller named c.args.t plan made) c.list_answers.ensures.told

@@ -5,7 +5,7 @@ use Rattle.std.specs.List.Sorted.{IsPermutation, IsSorted}
 use Rattle.hall_policy.specs.World.{World, same_text}
 use Rattle.hall_policy.specs.Facts.{AllTrue}
 use Rattle.hall_policy.specs.declared.record.AnswerRow.{AnswerRow}
-use Rattle.hall_policy.specs.declared.request.Action.{Action}
+use Rattle.hall_policy.specs.declared.request.Action.TheVariants.{Answers}
 use Rattle.hall_desk.specs.Store.{IsListing}
 use Rattle.hall_desk.specs.Plans.{IsAllowedPlan, AreRowsFor}
 use Rattle.hall_desk.proofs.Knowing.{carried, pure_told}
@@ -15,7 +15,7 @@ pub returns-clause-told : goal.returns-clause-told
 returns-clause-told g c =
     let world = g.S.Store.world in
     let facts = c.args.facts.now in
-    let asked = c.args.action.now in
+    let asked = Answers c.args.round.now in
     let old = c.args.store.now in
     let new = c.find_answers.new.store in
     let read = c.in_ok-rows.ensures in
@@ -24,13 +24,12 @@ returns-clause-told g c =
     (λ plan. (w : World) → AllTrue facts w asked → AreRowsFor w facts asked c.args.t c.as_slice.result.now → IsAllowedPlan w facts.caller asked c.args.t plan)
     (IsAllowedPlan (world new) facts.caller asked c.args.t) old new (λ h s. (read.served h).0)
     (λ plan h s made.
-    made (world new) (carried (λ w. AllTrue facts w asked) old new read.kept c.requires h s)
-    (subst (λ (a : Action). AreRowsFor (world new) facts a c.args.t c.as_slice.result.now) (sym c.in-Answers.is) (
+    made (world new) (carried (λ w. AllTrue facts w asked) old new read.kept c.requires h s) (
       person,
       c.in-Some-round.row,
       c.in-Some.is,
       c.in-Some-round.is,
-      subst (λ (all : Bool). IsListing (world new) (λ row. same_text row.key.round c.in-Answers.round && (all || same_text row.key.entrant person.name)) c.as_slice.result.now) c.sees_all-all.ensures
-          (subst (λ (rows : List AnswerRow). IsListing (world new) (λ row. same_text row.key.round c.in-Answers.round && (c.sees_all-all.result || same_text row.key.entrant person.name)) rows) (sym c.as_slice.ensures.value) (read.served h).1),
-    )))
+      subst (λ (all : Bool). IsListing (world new) (λ row. same_text row.key.round c.args.round.now && (all || same_text row.key.entrant person.name)) c.as_slice.result.now) c.sees_all-all.ensures
+          (subst (λ (rows : List AnswerRow). IsListing (world new) (λ row. same_text row.key.round c.args.round.now && (c.sees_all-all.result || same_text row.key.entrant person.name)) rows) (sym c.as_slice.ensures.value) (read.served h).1),
+    ))
     c.listed.ensures

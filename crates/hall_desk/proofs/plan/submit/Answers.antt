@@ -1,8 +1,8 @@
-use Rattle.std.proofs.Common.{◌≡◌, Some, IfSome, sym, subst}
+use Rattle.std.proofs.Common.{◌≡◌, Some, IfSome}
 use Rattle.std.specs.FinMap.{get}
 use Rattle.hall_policy.specs.World.{World}
 use Rattle.hall_policy.specs.Facts.{AllTrue}
-use Rattle.hall_policy.specs.declared.request.Action.{Action}
+use Rattle.hall_policy.specs.declared.request.Action.TheVariants.{Submit}
 use Rattle.hall_desk.specs.Plans.{IsAllowedPlan, IsJudgedFor}
 use Rattle.hall_desk.proofs.Knowing.{carried, pure_told}
 use Rattle.hall_desk.proofs.plan.submit.Goals as goal
@@ -11,7 +11,8 @@ pub returns-clause-told : goal.returns-clause-told
 returns-clause-told g c =
     let world = g.S.Store.world in
     let facts = c.args.facts.now in
-    let asked = c.args.action.now in
+    let handed = c.args.handed.now in
+    let asked = Submit handed.round.now handed.number handed.token.now handed.answer.now in
     let old = c.args.store.now in
     let new = c.judge_at.new.store in
     let read = c.in_ok-verdict.ensures in
@@ -20,6 +21,6 @@ returns-clause-told g c =
     (IsAllowedPlan (world new) facts.caller asked c.args.t) old new (λ h s. (read.served h).0)
     (λ plan h s made.
     made (world new) (carried (λ w. AllTrue facts w asked) old new read.kept c.requires.told h s)
-    (subst (λ (a : Action). IsJudgedFor (world new) facts a c.in_ok-verdict.verdict) (sym c.in-Submit.is) (c.in-Some.row, c.in-Some.is, (read.served h).1))
+    (c.in-Some.row, c.in-Some.is, (read.served h).1)
     (carried (λ w. IfSome facts.caller (λ person. get w.people person.name ≡ Some person)) old new read.kept c.requires.there h s))
     c.submitted.ensures
