@@ -1,11 +1,10 @@
 -- From facts and a decision to a plan.
-use Rattle.std.proofs.Common.{◌≡◌, ◌≢◌, ◌&&◌, ◌||◌, ℕ, zero, suc, ◌<◌, ◌≤◌, Bool, true, false, List, [], ◌∷◌, length, slice_get, Option, Some, None, Contains, IsTrue, Result, IfOk, refl, sym, ◌∙◌, ap, subst, inl, inr, cond}
+use Rattle.std.proofs.Common.{◌≡◌, ◌≢◌, ◌&&◌, ℕ, zero, suc, Bool, true, false, List, [], ◌∷◌, slice_get, Option, Some, None, IsTrue, Result, IfOk, refl, sym, ◌∙◌, ap, subst, inr, cond}
 use Rattle.std.specs.List.{AllByRecursion, filter}
-use Rattle.std.specs.FinMap.{get, values}
 use Rattle.std.proofs.lemmas.Option.{slice_get-get_or}
 use Rattle.hall_grid.specs.Board.{Board}
 use Rattle.hall_grid.specs.Canonical.{CanonicalText}
-use Rattle.hall_policy.specs.World.{World, IsRoundAt, same_text}
+use Rattle.hall_policy.specs.World.{World, IsRoundAt}
 use Rattle.hall_policy.specs.Actions.{rules_asked}
 use Rattle.hall_policy.specs.First.{First}
 use Rattle.hall_policy.specs.Facts.{Tells, TrueUpTo, AllTrue, IsRoundFound, deciding}
@@ -26,7 +25,7 @@ use Rattle.hall_desk.specs.Found.{AreFactsOf}
 use Rattle.hall_desk.specs.Change.{changed, CanMake, with_flag}
 use Rattle.hall_desk.specs.Step.{Decided}
 use Rattle.hall_desk.specs.Store.{Told}
-use Rattle.hall_desk.specs.Plans.{IsPlanFor, IsAllowedPlan, IsMadePlan, StandsAs}
+use Rattle.hall_desk.specs.Plans.{IsPlanFor, IsAllowedPlan, IsMadePlan}
 use Rattle.hall_desk.specs.declared.plan.Plan.{Plan}
 use Rattle.hall_desk.specs.declared.reply.Reply.{Reply}
 use Rattle.hall_desk.specs.declared.reply.Reply.TheVariants.{PuzzlePut, Released}

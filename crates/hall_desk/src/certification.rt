@@ -8,7 +8,8 @@ ghost use Rattle.hall_desk.specs.Step.{is_open, IsFound};
 ghost use Rattle.hall_desk.specs.Plans.{IsAllowedPlan, IsMadePlan};
 
 use crate::certificate::certify;
-use crate::plan::{Plan, state_name};
+use crate::plan::Plan;
+use crate::putting::state_name;
 use crate::reply::Reply;
 use crate::store::{Change, RoundFlag, StoreFault};
 use hall_grid::{Filling, Puzzle, write_answer};

@@ -1,4 +1,3 @@
-use Rattle.std.proofs.Common.{◌≡◌}
 use Rattle.hall_desk.proofs.Planning.{released}
 use Rattle.hall_desk.proofs.certification.release_round.Goals as goal
 

@@ -1,4 +1,4 @@
-use Rattle.std.proofs.Common.{◌≡◌, ℕ}
+use Rattle.std.proofs.Common.{ℕ}
 use Rattle.hall_policy.specs.World.{World}
 use Rattle.hall_policy.specs.Facts.{AllTrue}
 use Rattle.hall_policy.specs.declared.request.Action.TheVariants.{PutPuzzle, Certify, Release, ReadRound, Submit, Answers}

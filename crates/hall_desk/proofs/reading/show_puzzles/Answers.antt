@@ -1,11 +1,11 @@
-use Rattle.std.proofs.Common.{◌≡◌, ◌+◌, ◌++◌, ◌∷◌, [], ℕ, List, take, length, sym, ◌∙◌, subst, arith, length-take, Ok}
+use Rattle.std.proofs.Common.{◌≡◌, ◌+◌, ◌++◌, ◌∷◌, [], ℕ, List, take, length, sym, ◌∙◌, subst, arith, length-take}
 use Rattle.std.proofs.lemmas.List.{take_more}
 use Rattle.hall_desk.specs.Shown.{ShowsPuzzle, ShowsPuzzles}
 use Rattle.hall_desk.specs.declared.reply.ShownPuzzle.{ShownPuzzle}
 use Rattle.hall_policy.specs.declared.record.Entry.{Entry}
 use Rattle.hall_desk.proofs.Knowing.{kept_then, carried}
 use Rattle.hall_desk.proofs.Showing.{shows_more}
-use Rattle.hall_desk.proofs.plan.show_puzzles.Goals as goal
+use Rattle.hall_desk.proofs.reading.show_puzzles.Goals as goal
 
 pub loop-place-preserved : goal.loop-place-preserved
 loop-place-preserved g c =

@@ -1,7 +1,4 @@
-use Rattle.std.proofs.Common.{◌≡◌, ◌&&◌, ◌||◌, Bool, List, sym, ap, subst, ◌∙◌}
-use Rattle.std.specs.FinMap.{values}
-use Rattle.std.specs.List.{filter}
-use Rattle.std.specs.List.Sorted.{IsPermutation, IsSorted}
+use Rattle.std.proofs.Common.{◌&&◌, ◌||◌, Bool, List, sym, subst}
 use Rattle.hall_policy.specs.World.{World, same_text}
 use Rattle.hall_policy.specs.Facts.{AllTrue}
 use Rattle.hall_policy.specs.declared.record.AnswerRow.{AnswerRow}
@@ -9,7 +6,7 @@ use Rattle.hall_policy.specs.declared.request.Action.TheVariants.{Answers}
 use Rattle.hall_desk.specs.Store.{IsListing}
 use Rattle.hall_desk.specs.Plans.{IsAllowedPlan, AreRowsFor}
 use Rattle.hall_desk.proofs.Knowing.{carried, pure_told}
-use Rattle.hall_desk.proofs.plan.list_answers.Goals as goal
+use Rattle.hall_desk.proofs.listing.list_answers.Goals as goal
 
 pub returns-clause-told : goal.returns-clause-told
 returns-clause-told g c =

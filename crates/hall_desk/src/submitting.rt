@@ -1,0 +1,129 @@
+//! An allowed action that hands in an answer.
+ghost use Rattle.std.specs.Prelude.{◌≡◌, IfOk, IfSome, Some};
+ghost use Rattle.std.specs.FinMap.{get};
+ghost use Rattle.hall_grid.specs.Answer.{Verdict};
+ghost use Rattle.hall_policy.specs.World.{World, entry_at};
+ghost use Rattle.hall_policy.specs.Facts.{AllTrue};
+ghost use Rattle.hall_policy.specs.declared.request.Action.TheVariants.{Submit};
+ghost use Rattle.hall_desk.specs.Store.{Kept, Served, Told};
+ghost use Rattle.hall_desk.specs.Shown.{told_verdict};
+ghost use Rattle.hall_desk.specs.Plans.{IsAllowedPlan, IsJudgedAt, IsJudgedFor};
+
+use crate::plan::Plan;
+use crate::reply::Reply;
+use crate::store::{Change, Store, StoreFault};
+use crate::verdict::judge;
+use hall_grid::Broken;
+use hall_policy::{
+    AnswerKey, AnswerNumber, AnswerRow, AnswerText, Entry, Facts, Mode, Moment, PuzzleNumber,
+    PuzzleRow, Round, RoundId, RoundRow, Token,
+};
+use std::alloc::Global;
+
+/// What is handed in: an answer to the round's puzzle of that number, under a token.
+#[derive(Clone, Copy)]
+pub(crate) struct Handed<'a> {
+    pub(crate) round: &'a RoundId,
+    pub(crate) number: PuzzleNumber,
+    pub(crate) token: &'a Token,
+    pub(crate) answer: &'a AnswerText,
+}
+
+/// An allowed Submit: the answer is judged, and its row is to be stored.
+pub(crate) fn submit<S: Store>(
+    alloc: Global,
+    store: &mut S,
+    t: Moment,
+    facts: &Facts,
+    handed: &Handed,
+) -> Result<Plan, StoreFault>
+    requires told { S.is_honest store.old → S.serves store.old → AllTrue facts.now (S.world store.old) (Submit handed.now.round.now handed.now.number handed.now.token.now handed.now.answer.now) }
+    requires there { S.is_honest store.old → S.serves store.old → IfSome facts.now.caller (λ person. get (S.world store.old).people person.name ≡ Some person) }
+    ensures kept { Kept S.is_honest S.serves S.world store.old store.new }
+    ensures told { Told S.is_honest S.serves store.old store.new result (IsAllowedPlan (S.world store.new) facts.now.caller (Submit handed.now.round.now handed.now.number handed.now.token.now handed.now.answer.now) t) }
+{
+    let Some(row) = &facts.round else {
+        return Err(StoreFault::Failed);
+    };
+    let verdict = judge_at(alloc, store, row, handed.number, handed.answer)?;
+    submitted(t, facts, handed, verdict)
+}
+
+/// The plan for an answer with its verdict.
+fn submitted(t: Moment, facts: &Facts, handed: &Handed, verdict: Broken) -> Result<Plan, StoreFault>
+    ensures { IfOk result (λ plan. (world : World) → AllTrue facts.now world (Submit handed.now.round.now handed.now.number handed.now.token.now handed.now.answer.now) → IsJudgedFor world facts.now (Submit handed.now.round.now handed.now.number handed.now.token.now handed.now.answer.now) verdict → IfSome facts.now.caller (λ person. get world.people person.name ≡ Some person) → IsAllowedPlan world facts.now.caller (Submit handed.now.round.now handed.now.number handed.now.token.now handed.now.answer.now) t plan) }
+{
+    let (Some(person), Some(row)) = (&facts.caller, &facts.round) else {
+        return Err(StoreFault::Failed);
+    };
+    if facts.answer.is_some() || facts.count >= 50 {
+        return Err(StoreFault::Failed);
+    }
+    let Some(n) = AnswerNumber::new(facts.count + 1) else {
+        return Err(StoreFault::Failed);
+    };
+    let key = AnswerKey {
+        entrant: person.name.clone()?,
+        round: handed.round.clone()?,
+        number: handed.number,
+        token: handed.token.clone()?,
+    };
+    let stored = AnswerRow {
+        key,
+        n,
+        moment: t,
+        answer: handed.answer.clone()?,
+        verdict,
+    };
+    Ok(Plan {
+        reply: received(&row.round, n, verdict),
+        change: Change::AddAnswer(stored),
+    })
+}
+
+/// What is told of an accepted answer.
+pub(crate) fn received(round: &Round, n: AnswerNumber, verdict: Broken) -> Reply
+    ensures { result ≡ Reply.Received n (told_verdict round.now verdict) }
+{
+    match round.mode {
+        Mode::Instant => Reply::Received {
+            n,
+            verdict: Some(verdict),
+        },
+        Mode::Sealed => Reply::Received { n, verdict: None },
+    }
+}
+
+/// The verdict on an answer to the round's puzzle of that number.
+fn judge_at<S: Store>(
+    alloc: Global,
+    store: &mut S,
+    row: &RoundRow,
+    number: PuzzleNumber,
+    answer: &AnswerText,
+) -> Result<Broken, StoreFault>
+    ensures kept { Kept S.is_honest S.serves S.world store.old store.new }
+    ensures served { Served S.is_honest S.serves store.new result (λ verdict. IsJudgedAt (S.world store.new) row.now number answer.now verdict) }
+{
+    let Some(entry) = entry_of(row.puzzles.as_slice(), number) else {
+        return Err(StoreFault::Failed);
+    };
+    let Some(found) = store.puzzle(alloc, &entry.puzzle)? else {
+        return Err(StoreFault::Failed);
+    };
+    judge_row(alloc, &found, answer)
+}
+
+/// The verdict on an answer to a puzzle.
+fn judge_row(alloc: Global, row: &PuzzleRow, answer: &AnswerText) -> Result<Broken, StoreFault>
+    ensures { IfOk result (Verdict row.now.puzzle answer.now) }
+{
+    Ok(judge(alloc, &row.puzzle, answer.as_str().as_bytes())?)
+}
+
+/// The round's puzzle of that number.
+fn entry_of(entries: &[Entry], number: PuzzleNumber) -> Option<&Entry>
+    ensures { IfSome result (λ entry. entry_at entries.now number ≡ Some entry.now) }
+{
+    entries.get(number.get() as usize - 1)
+}
