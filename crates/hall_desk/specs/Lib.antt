@@ -10,5 +10,6 @@ pub mod Run
 pub mod Sane
 pub mod Promises
 pub mod Plan
+pub mod Handed
 pub mod Plans
 pub mod Desk
