@@ -54,7 +54,7 @@ pub planned : (facts : Facts) (world : World) (t : ℕ) (request : Request) (dec
 planned facts world t request decision given change found first outcome decided can =
     let same : facts.caller ≡ caller_of world request.key = found.caller.found in
     record {
-      step = inr (
+      answered = (
         outcome,
         (
           decision,

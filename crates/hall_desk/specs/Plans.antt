@@ -18,16 +18,17 @@ use Rattle.hall_desk.specs.Shown.{sees_answer, state_name}
 use Rattle.hall_desk.specs.declared.reply.StateName.{StateName}
 use Rattle.hall_policy.specs.declared.request.Request.{Request}
 use Rattle.hall_desk.specs.Change.{changed, CanMake}
-use Rattle.hall_desk.specs.Step.{Step, Allowed}
+use Rattle.hall_desk.specs.Plan.{planned_reply, planned_change}
+use Rattle.hall_desk.specs.Step.{Step, IsAnswered, Allowed}
 use Rattle.hall_desk.specs.Run.{Run}
 use Rattle.hall_desk.specs.declared.reply.Reply.{Reply}
 use Rattle.hall_desk.specs.declared.reply.Reply.TheVariants.{Unavailable}
 use Rattle.hall_desk.specs.declared.plan.Plan.{Plan}
 
--- the plan's reply and change are a step of the hall from the world, and the change may be made
+-- the plan's reply and change are those of the request as it is decided, for what the search would find, and the change may be made
 pub record IsPlanFor (world : World) (t : ℕ) (request : Request) (plan : Plan) : Type 0 where
-  pub step : Step world t request plan.reply (changed plan.change world)
-  pub can : CanMake plan.change world
+  pub answered : (found : PuzzleState) × IsAnswered world (record { moment = t; request = request; found = found }) (planned_reply plan) (changed (planned_change plan) world)
+  pub can : CanMake (planned_change plan) world
 
 -- the plan's reply and change are those of the allowed action, whatever the search would find, and the change may be made
 pub record IsAllowedPlan (world : World) (caller : Option Person) (action : Action) (t : ℕ) (plan : Plan) : Type 0 where

@@ -1,4 +1,4 @@
-use Rattle.std.proofs.Common.{◌≡◌, subst}
+use Rattle.std.proofs.Common.{◌≡◌, inr, subst}
 use Rattle.std.specs.Bool.{⊤}
 use Rattle.hall_policy.specs.World.{World}
 use Rattle.hall_desk.specs.Change.{changed}
@@ -23,5 +23,5 @@ returns-clause-sane c =
     plainly {X = MapStore} (λ _. ⊤) (λ _. ⊤) c.make_plan.result (IsPlanFor (world_of new) c.args.t c.args.request.now) (λ plan. Sane old → Sane (changed plan.change old)) new tt
     (λ plan made.
     step_sane old c.args.t c.args.request.now plan.reply (changed plan.change old)
-    (subst (λ (w : World). IsPlanFor w c.args.t c.args.request.now plan) (c.make_plan.ensures.kept.world tt tt) made).step)
+    (inr (subst (λ (w : World). IsPlanFor w c.args.t c.args.request.now plan) (c.make_plan.ensures.kept.world tt tt) made).answered))
     c.make_plan.ensures.served
