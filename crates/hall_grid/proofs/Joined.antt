@@ -1,5 +1,5 @@
 -- What the labels of components say of two nodes.
-use Rattle.std.proofs.Common.{◌≡◌, ℕ, ◌<◌, ◌↔◌, List, Option, None, Some, get_or, sym, ◌∙◌, subst}
+use Rattle.std.proofs.Common.{◌≡◌, ℕ, ◌↔◌, List, Option, None, get_or, sym, ◌∙◌}
 use Rattle.hall_grid.specs.Walk.{Walk}
 use Rattle.hall_grid.specs.Component.{IsLabelled, AreComponents}
 use Rattle.hall_grid.proofs.Walks.{Walk-start, Walk-end, Walk-join, Walk-reverse, Walk-map}

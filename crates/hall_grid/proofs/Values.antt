@@ -1,14 +1,13 @@
 -- Answer texts and the values in them.
-use Rattle.std.proofs.Common.{◌≡◌, ◌≢◌, ℕ, ◌+◌, ◌-◌, ◌*◌, ◌<◌, ◌≤◌, ◌⊎◌, List, [], ◌∷◌, ◌++◌, length, take, drop, map, get_or, refl, sym, ap, ◌∙◌, subst, arith}
+use Rattle.std.proofs.Common.{◌≡◌, ℕ, ◌<◌, ◌≤◌, List, length, map, get_or, refl, sym, ap, ◌∙◌, arith}
 use Rattle.std.specs.Prelude.{All}
-use Rattle.std.proofs.lemmas.List.{get_or-map, length-map, length-take, length-drop, length-append, take_at, drop_at, map-append, take-append-drop}
+use Rattle.std.proofs.lemmas.List.{get_or-map, length-map}
 use Rattle.std.proofs.lemmas.List.Elements.{All-get_or, All-weaker}
 use Rattle.hall_grid.specs.declared.board.Size.{Size}
 use Rattle.hall_grid.specs.declared.board.Kind.{Kind}
 use Rattle.hall_grid.specs.declared.board.Kind.TheVariants.{Sudoku, Slither, Nurikabe}
 use Rattle.hall_grid.specs.Board.{Board, HasSize, IsBoard, cells}
-use Rattle.hall_grid.specs.Slither.{flat_sides, all_sides}
-use Rattle.hall_grid.specs.Answer.{places_of, values_of, value_byte, slither_byte, text_of, IsFilling, AnswerText, SaysNothing}
+use Rattle.hall_grid.specs.Answer.{places_of, values_of, value_byte, text_of, IsFilling, AnswerText}
 use Rattle.hall_grid.specs.Values.{SpellsValues, HasCellText}
 
 -- each byte stands for a value

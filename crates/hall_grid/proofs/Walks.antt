@@ -1,5 +1,5 @@
 -- Walks: joined, turned round, and what holds along them.
-use Rattle.std.proofs.Common.{◌≡◌, ℕ, sym, subst}
+use Rattle.std.proofs.Common.{ℕ}
 use Rattle.hall_grid.specs.Walk.{Walk, at, on}
 
 -- what holds at the start and passes from a member to the next holds at the end

@@ -1,5 +1,5 @@
 -- On lists in which no item clashes with a later one.
-use Rattle.std.proofs.Common.{◌≡◌, ℕ, ◌+◌, ◌<◌, ◌≤◌, List, length, take, slice_index_or, Any, AllPairs, arith, sym, ◌∙◌, subst, below_more, length-take}
+use Rattle.std.proofs.Common.{◌≡◌, ℕ, ◌+◌, ◌<◌, List, length, take, slice_index_or, Any, AllPairs, arith, sym, ◌∙◌, subst, below_more, length-take}
 use Rattle.std.proofs.lemmas.List.{get_or-take, get_or_default}
 
 -- an item that clashes with an earlier one

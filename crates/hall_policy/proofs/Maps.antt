@@ -1,16 +1,16 @@
 -- Finite maps: their entries, their values, and counts of these.
-use Rattle.std.proofs.Common.{◌≡◌, ◌≢◌, ℕ, ◌+◌, ◌≤◌, ◌<◌, Bool, true, false, cond, ◌&&◌, List, [], ◌∷◌, length, map, Option, Some, None, Contains, slice_get, refl, sym, ap, ◌∙◌, subst, arith, unwrap_or, IsTrue, slice_index_or}
+use Rattle.std.proofs.Common.{◌≡◌, ◌≢◌, ℕ, ◌+◌, ◌≤◌, Bool, true, false, cond, ◌&&◌, List, [], ◌∷◌, Option, Some, None, Contains, slice_get, refl, sym, ap, ◌∙◌, subst, arith, unwrap_or, slice_index_or}
 use lib.Dec.{T}
 use Rattle.std.specs.Cmp.{IsTotalOrder, eq_by_cmp_equiv, tied_itself}
-use Rattle.std.specs.Ordering.{eq_by_cmp, is_lt, is_eq, match_ordering}
+use Rattle.std.specs.Ordering.{is_lt, is_eq, match_ordering}
 use Rattle.std.specs.declared.cmp.Ordering.{Ordering}
 use Rattle.std.specs.declared.cmp.Ordering.TheVariants.{Less, Equal, Greater}
-use Rattle.std.specs.List.{AllByRecursion, IsDistinct, count_by, sum_by, list_any}
+use Rattle.std.specs.List.{AllByRecursion, count_by, sum_by}
 use Rattle.std.specs.List.Sorted.{IsStrictlySortedBy}
 use Rattle.std.specs.Option.{option_map}
 use Rattle.std.specs.Map.{lookup, keys_of, values_of}
 use Rattle.std.specs.BTreeMap.{is_at, insert_entry}
-use Rattle.std.specs.FinMap.{FinMap, IsAntisymmetric, get, insert, empty, entries, values, from_sorted, find, put, is_sorted, get-entries, get-insert, entries-insert, entries_sorted, entries-from_sorted}
+use Rattle.std.specs.FinMap.{FinMap, IsAntisymmetric, get, insert, entries, values, find, put, is_sorted, get-entries, get-insert, entries-insert, entries_sorted}
 use Rattle.std.specs.FinMap.Entries.{below_all, by_order}
 use Rattle.std.proofs.lemmas.Option.{slice_get-map, slice_get_within, slice_get-get_or, get_or_from_slice_get}
 use Rattle.std.proofs.lemmas.Map.Entries.{place_from_lookup, lookup_from_place, sum_by-insert_entry}

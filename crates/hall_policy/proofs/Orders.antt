@@ -1,5 +1,5 @@
 -- The keys' orders are total, and keys that tie are one.
-use Rattle.std.proofs.Common.{◌≡◌, ℕ, List, refl, ap, subst, sym}
+use Rattle.std.proofs.Common.{◌≡◌, refl}
 use Rattle.std.specs.Cmp.{IsTotalOrder}
 use Rattle.std.specs.Cmp.Lexicographic.{nat_list_cmp_total}
 use Rattle.std.specs.Ordering.{nat_cmp, ordering_then}
@@ -9,10 +9,6 @@ use Rattle.std.specs.FinMap.{IsAntisymmetric, nat_cmp-IsAntisymmetric, slice_cmp
 use Rattle.std.proofs.lemmas.Cmp.{then_total, on_total, nat_cmp_total}
 use Rattle.hall_policy.specs.Text.{text_cmp}
 use Rattle.hall_policy.specs.World.{puzzle_cmp, place_cmp, answer_cmp, protest_cmp}
-use Rattle.hall_policy.specs.declared.record.PuzzleKey.{PuzzleKey}
-use Rattle.hall_policy.specs.declared.record.PlaceKey.{PlaceKey}
-use Rattle.hall_policy.specs.declared.record.AnswerKey.{AnswerKey}
-use Rattle.hall_policy.specs.declared.record.ProtestKey.{ProtestKey}
 
 pub text_total : IsTotalOrder text_cmp
 text_total = nat_list_cmp_total

@@ -1,20 +1,15 @@
 -- What the desk found for one request, and of which worlds it is true.
-use Rattle.std.specs.Prelude.{◌≡◌, ◌≤◌, ◌↔◌, ◌⊎◌, ◌&&◌, ℕ, Bool, true, false, List, Option, Some, None, IsTrue, Contains}
-use Rattle.std.specs.FinMap.{FinMap, get, values}
+use Rattle.std.specs.Prelude.{◌≡◌, ◌≤◌, ◌↔◌, ◌&&◌, ℕ, false, List, Option, Some, None, IsTrue, Contains}
+use Rattle.std.specs.FinMap.{get}
 use Rattle.std.specs.List.{AllByRecursion}
 use Rattle.hall_policy.specs.World.{World, IsRoundAt, entry_at}
 use Rattle.hall_policy.specs.Actions.{number_of, rules_asked, round_named, finds_drafts}
-use Rattle.hall_policy.specs.Rules.{is_director, IsMissing, IsInReleasedRound, IsUncertified, HasOpenProtest, IsInvolved, HasConflict, answers_given, protests_made, puzzles_put}
+use Rattle.hall_policy.specs.Rules.{is_director, IsInReleasedRound, IsUncertified, HasOpenProtest, IsInvolved, HasConflict, answers_given, protests_made, puzzles_put}
 use Rattle.hall_policy.specs.declared.record.Person.{Person}
 use Rattle.hall_policy.specs.declared.record.Entry.{Entry}
-use Rattle.hall_policy.specs.declared.record.PuzzleRow.{PuzzleRow}
 use Rattle.hall_policy.specs.declared.record.RoundRow.{RoundRow}
-use Rattle.hall_policy.specs.declared.record.AnswerRow.{AnswerRow}
-use Rattle.hall_policy.specs.declared.record.AnswerKey.{AnswerKey}
-use Rattle.hall_policy.specs.declared.record.ProtestKey.{ProtestKey}
-use Rattle.hall_policy.specs.declared.record.ProtestRow.{ProtestRow}
 use Rattle.hall_policy.specs.declared.request.Action.{Action}
-use Rattle.hall_policy.specs.declared.request.Action.TheVariants.{Import, PutPuzzle, ReadPuzzle, ListPuzzles, Certify, PutRound, Release, ListRounds, ReadRound, Submit, Answers, Solutions, Protest, Protests, Rule, Publish, Table}
+use Rattle.hall_policy.specs.declared.request.Action.TheVariants.{PutPuzzle, ReadPuzzle, Certify, PutRound, Submit, Protest, Rule}
 use Rattle.hall_policy.specs.declared.rule.Rule as rule
 use Rattle.hall_policy.specs.declared.rule.Rule.TheVariants.{UnknownKey, NoRole, OtherAuthor, Missing, OwnPuzzle, TokenTaken, NotStarted, Ended, NotEnded, Closed, InReleasedRound, NotCertified, NoDraft, Started, Published, OpenProtest, Involved, RuledOtherwise, LimitReached, ListConflict}
 use Rattle.hall_policy.specs.declared.rule.Decision.{Decision}

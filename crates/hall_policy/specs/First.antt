@@ -1,5 +1,5 @@
 -- Which rule decides.
-use Rattle.std.specs.Prelude.{◌≡◌, ◌<◌, ℕ, Bool, true, false, Contains, Option, IsTrue}
+use Rattle.std.specs.Prelude.{◌≡◌, ◌<◌, ℕ, Contains, Option}
 use Rattle.hall_policy.specs.World.{World}
 use Rattle.hall_policy.specs.Actions.{number_of, rules_asked}
 use Rattle.hall_policy.specs.Rules.{KeyIsUnknown, LacksRole, NamesOtherAuthor, IsMissing, IsOwnPuzzle, TokenStands, SameContent, IsBeforeStart, IsAfterEnd, IsBeforeEnd, IsAfterClose, IsInReleasedRound, IsUncertified, IsNoDraft, IsAfterStart, IsPublished, HasOpenProtest, IsInvolved, IsRuled, SameRuling, IsAtLimit, HasConflict}

@@ -1,12 +1,11 @@
 -- The twenty rules of the policy, each a sentence over whole maps.
-use Rattle.std.specs.Prelude.{◌≡◌, ◌≢◌, ◌==◌, ◌+◌, ◌≤◌, ◌<◌, ◌&&◌, ◌⊎◌, ℕ, Bool, true, false, not, List, [], ◌∷◌, Option, Some, None, IsTrue, Contains, count_by}
-use Rattle.std.specs.FinMap.{FinMap, get, values}
+use Rattle.std.specs.Prelude.{◌≡◌, ◌≢◌, ◌==◌, ◌≤◌, ◌<◌, ◌&&◌, ◌⊎◌, ℕ, Bool, false, List, Option, Some, None, IsTrue, Contains, count_by}
+use Rattle.std.specs.FinMap.{get, values}
 use Rattle.hall_policy.specs.World.{World, end_of, close_of, same_text}
 use Rattle.hall_policy.specs.Actions.{may, puzzle_named, round_named, finds_drafts}
 use Rattle.hall_policy.specs.declared.record.Person.{Person}
 use Rattle.hall_policy.specs.declared.record.PuzzleKey.{PuzzleKey}
 use Rattle.hall_policy.specs.declared.record.PuzzleRow.{PuzzleRow}
-use Rattle.hall_policy.specs.declared.record.PuzzleState.{PuzzleState}
 use Rattle.hall_policy.specs.declared.record.PuzzleState.TheVariants.{One}
 use Rattle.hall_policy.specs.declared.record.Round.{Round}
 use Rattle.hall_policy.specs.declared.record.Entry.{Entry}

@@ -1,5 +1,5 @@
 -- Checked texts: what a contract sees of one is its list of bytes.
-use Rattle.std.specs.Prelude.{◌≡◌, ℕ, ◌≤◌, Bool, List, length, All, IsTrue, ◌||◌, ◌&&◌, nat_le, nat_eq}
+use Rattle.std.specs.Prelude.{ℕ, ◌≤◌, Bool, List, length, All, IsTrue, ◌||◌, ◌&&◌, nat_le, nat_eq}
 use Rattle.std.specs.declared.cmp.Ordering.{Ordering}
 use Rattle.std.specs.Ordering.{nat_cmp}
 use Rattle.std.specs.Cmp.Lexicographic.{slice_cmp}

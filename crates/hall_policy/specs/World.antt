@@ -3,7 +3,7 @@ use Rattle.std.specs.Prelude.{nat_eq, ◌≡◌, ◌+◌, ◌*◌, ℕ, zero, su
 use Rattle.std.specs.declared.cmp.Ordering.{Ordering}
 use Rattle.std.specs.Ordering.{nat_cmp, ordering_then}
 use Rattle.std.specs.Cmp.Lexicographic.{pointwise}
-use Rattle.std.specs.FinMap.{FinMap, get, values}
+use Rattle.std.specs.FinMap.{FinMap, get}
 use Rattle.hall_policy.specs.Text.{text_cmp}
 use Rattle.hall_policy.specs.declared.record.Person.{Person}
 use Rattle.hall_policy.specs.declared.record.PuzzleKey.{PuzzleKey}

@@ -1,5 +1,4 @@
-use Rattle.std.proofs.Common.{arith}
-use Rattle.hall_grid.proofs.Floods.{Flooding-start, Flooding-step, Floods-from_Flooding, taken_below}
+use Rattle.hall_grid.proofs.Floods.{Flooding-start, Flooding-step, taken_below}
 use Rattle.hall_grid.proofs.graph.flood.Goals as goal
 
 pub loop-node-init : goal.loop-node-init

@@ -1,4 +1,4 @@
-use Rattle.std.proofs.Common.{◌≡◌, ◌<◌, length, take, Some, arith, inl, inr, sym, subst}
+use Rattle.std.proofs.Common.{◌≡◌, take, Some, arith, inl, inr, sym, subst}
 use Rattle.std.specs.Prelude.{Contains}
 use Rattle.std.proofs.lemmas.List.{take_all}
 use Rattle.hall_grid.specs.Component.{IsLabelled}

@@ -1,4 +1,4 @@
-use Rattle.std.proofs.Common.{◌≡◌, Some, take}
+use Rattle.std.proofs.Common.{Some, take}
 use Rattle.std.specs.Prelude.{Contains}
 use Rattle.hall_grid.specs.Component.{Labels}
 use Rattle.hall_grid.proofs.graph.label_around.Given as goal

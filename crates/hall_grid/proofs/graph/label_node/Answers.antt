@@ -1,4 +1,4 @@
-use Rattle.std.proofs.Common.{◌≡◌, true, false, sym, subst, ◌∙◌, arith}
+use Rattle.std.proofs.Common.{◌≡◌, true, false, sym, subst, arith}
 use Rattle.hall_grid.specs.Component.{IsLabelled}
 use Rattle.hall_grid.proofs.Labelling.{Labels-one, Labels-none, if_none, if_some}
 use Rattle.hall_grid.proofs.graph.label_node.Goals as goal

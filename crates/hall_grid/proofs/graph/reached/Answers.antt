@@ -1,7 +1,6 @@
-use Rattle.std.proofs.Common.{◌≡◌, length, map, arith, sym, subst, rules, replicate, None}
+use Rattle.std.proofs.Common.{◌≡◌, length, map, arith, rules, replicate, None}
 use Rattle.std.specs.Option.{is_some}
 use Rattle.std.proofs.lemmas.Result.{IfOk-weaker}
-use Rattle.hall_grid.specs.Reached.{IsReach}
 use Rattle.hall_grid.proofs.Floods.{IsReach-from_Floods, written}
 use Rattle.hall_grid.proofs.graph.reached.Goals as goal
 

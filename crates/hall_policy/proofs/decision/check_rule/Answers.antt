@@ -1,7 +1,3 @@
-use Rattle.std.proofs.Common.{◌≡◌, subst, sym}
-use Rattle.hall_policy.specs.First.{Sentence, SameBefore}
-use Rattle.hall_policy.specs.Facts.{Tells}
-use Rattle.hall_policy.specs.Finding.{IsFinding}
 use Rattle.hall_policy.proofs.Findings.{found_by_test}
 use Rattle.hall_policy.proofs.decision.check_rule.Goals as goal
 

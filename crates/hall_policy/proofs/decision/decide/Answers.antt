@@ -1,4 +1,4 @@
-use Rattle.std.proofs.Common.{◌≡◌, ◌<◌, ◌+◌, ◌≤◌, Contains, slice_get, slice_index_or, below_more, subst, sym, ap, ◌∙◌, length, arith}
+use Rattle.std.proofs.Common.{below_more, subst}
 use Rattle.std.proofs.lemmas.Option.{get_or_from_slice_get}
 use Rattle.hall_policy.specs.World.{World}
 use Rattle.hall_policy.specs.Actions.{rules_asked}

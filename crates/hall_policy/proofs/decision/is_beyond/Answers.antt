@@ -1,4 +1,4 @@
-use Rattle.std.proofs.Common.{◌≡◌, ◌<◌, nat_lt, length, true, subst, arith, IsTrue}
+use Rattle.std.proofs.Common.{◌<◌, length, arith}
 use Rattle.std.proofs.lemmas.Bool.Decides.{nat_tests}
 use Rattle.hall_policy.proofs.Rounds.{entry_beyond, entry_none}
 use Rattle.hall_policy.proofs.decision.is_beyond.Goals as goal

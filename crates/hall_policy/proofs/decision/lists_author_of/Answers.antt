@@ -1,4 +1,4 @@
-use Rattle.std.proofs.Common.{◌≡◌, subst, Some}
+use Rattle.std.proofs.Common.{subst}
 use Rattle.hall_policy.specs.Facts.{IsRoundFound}
 use Rattle.hall_policy.proofs.Rounds.{lists_author_found, found_lists_author}
 use Rattle.hall_policy.proofs.decision.lists_author_of.Goals as goal

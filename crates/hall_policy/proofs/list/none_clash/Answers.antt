@@ -1,4 +1,4 @@
-use Rattle.std.proofs.Common.{refl, false, true, ◌≡◌, AllPairs}
+use Rattle.std.proofs.Common.{false, true, ◌≡◌}
 use Rattle.std.proofs.lemmas.Bool.{false≢true}
 use Rattle.hall_policy.proofs.Clashes.{clash_found, none_more}
 use Rattle.hall_policy.proofs.list.none_clash.Goals as goal
