@@ -92,10 +92,13 @@ module _ (world later : World) (remains : Remains world later) (caller : Option 
   was_released : round.released ≡ true
   was_released = elim round.released as (λ b. round.released ≡ b → b ≡ true) [
     | true ↦ λ e. refl
-    | false ↦ λ e. absurd ((none rule.Missing (lit< tt)).0 ((2, lit< tt, refl), inl (λ r other.
-        let both : Some round ≡ Some r = sym found ∙ other in
-        let same : round ≡ r = cc in
-        (subst (λ (x : Round). x.released ≡ false) same e, and-false _))))
+    | false ↦ λ e. absurd ((none rule.Missing (lit< tt)).0 (
+      (2, lit< tt, refl),
+      inl (λ r other.
+          let both : Some round ≡ Some r = sym found ∙ other in
+          let same : round ≡ r = cc in
+          (subst (λ (x : Round). x.released ≡ false) same e, and-false _)),
+    ))
   ] refl
 
   -- a rule before the token's that forbids the retry had forbidden the answer
@@ -109,9 +112,25 @@ module _ (world later : World) (remains : Remains world later) (caller : Option 
       absurd (cc)
   forbade rule.Missing few (asked, inr gone) = (asked, inr (ap (λ (w : FinMap place_cmp Entry). get w (record { round = id; number = number })) (sym remains.places) ∙ gone))
   forbade rule.OwnPuzzle few (asked, (person, is, (entrant, (q, r, entry, named, at, (place, lists), own)))) =
-      let one : id ≡ q = cc in
-      (asked, (person, is, (entrant, (q, round, entry, named, subst (λ (x : List ℕ). get world.rounds x ≡ Some round) one found,
-      (place, ap (λ (w : FinMap place_cmp Entry). get w (record { round = q; number = place })) (sym remains.places) ∙ lists), own))))
+      let one : id ≡ q = cc in (
+        asked,
+        (
+          person,
+          is,
+          (
+            entrant,
+            (
+              q,
+              round,
+              entry,
+              named,
+              subst (λ (x : List ℕ). get world.rounds x ≡ Some round) one found,
+              (place, ap (λ (w : FinMap place_cmp Entry). get w (record { round = q; number = place })) (sym remains.places) ∙ lists),
+              own,
+            ),
+          ),
+        ),
+      )
   forbade _ few h = absurd (omega arith)
 
   -- so no rule before the token's forbids the retry

@@ -83,9 +83,12 @@ fn answer<S: Store>(
 fn first_reply(facts: &Facts, action: &Action) -> Result<Reply, StoreFault>
     ensures { IfOk result (λ reply. (world : World) → AllTrue facts.now world action.now → FirstReply world facts.now.caller action.now reply) }
 {
-    let (Action::Submit { .. }, Some(_), Some(row), Some(answer)) =
-        (action, &facts.caller, &facts.round, &facts.answer)
-    else {
+    let (Action::Submit { .. }, Some(_), Some(row), Some(answer)) = (
+        action,
+        &facts.caller,
+        &facts.round,
+        &facts.answer,
+    ) else {
         return Err(StoreFault::Failed);
     };
     Ok(received(&row.round, answer.n, answer.verdict))
