@@ -2,9 +2,7 @@ use crate::map_reads::round_at;
 use crate::opening::insert_draft;
 use crate::{AnswerLine, Desk, Reply, StateName};
 use hall_grid::{Broken, Puzzle, parse_puzzle};
-use hall_policy::{
-    Action, Budget, Checked, Moment, PuzzleKey, PuzzleNumber, Request, TextKind,
-};
+use hall_policy::{Action, Budget, Checked, Moment, PuzzleKey, PuzzleNumber, Request, TextKind};
 use std::alloc::Global;
 use std::test::Fail;
 
@@ -177,9 +175,7 @@ fn play(alloc: Global, desk: &mut Desk, lines: &[Line]) -> Result<(), Fail> {
     for (key, second, ask, reply) in lines {
         let given = answered(alloc, desk, key, *second, action(alloc, ask)?)?;
         if given.as_str() != *reply {
-            return Err(Fail::new(
-                format!(in alloc; "{key} at {second}: {given}, for {reply}")?,
-            ));
+            return Err(Fail::new(format!(in alloc; "{key} at {second}: {given}, for {reply}")?));
         }
     }
     Ok(())
@@ -218,7 +214,12 @@ fn open_round(alloc: Global) -> Result<Desk, Fail> {
     opened(
         alloc,
         &[
-            (BOB, BEFORE, Ask::Certify("bob", "p1", 200_000), "certified one"),
+            (
+                BOB,
+                BEFORE,
+                Ask::Certify("bob", "p1", 200_000),
+                "certified one",
+            ),
             (DORA, BEFORE, Ask::Release("r1"), "released r1"),
         ],
     )
@@ -229,10 +230,25 @@ fn open_sealed(alloc: Global) -> Result<Desk, Fail> {
     opened(
         alloc,
         &[
-            (ADA, BEFORE, Ask::Certify("ada", "q1", 200_000), "certified one"),
+            (
+                ADA,
+                BEFORE,
+                Ask::Certify("ada", "q1", 200_000),
+                "certified one",
+            ),
             (DORA, BEFORE, Ask::Release("r2"), "released r2"),
-            (EVE, LATE, Ask::Submit("r2", "t1", ".##."), "received 1 sealed"),
-            (EVE, LATE, Ask::Submit("r2", "t2", ".###"), "received 2 sealed"),
+            (
+                EVE,
+                LATE,
+                Ask::Submit("r2", "t1", ".##."),
+                "received 1 sealed",
+            ),
+            (
+                EVE,
+                LATE,
+                Ask::Submit("r2", "t2", ".###"),
+                "received 2 sealed",
+            ),
         ],
     )
 }
@@ -246,12 +262,32 @@ fn eve_reads_and_answers(rt: HostRuntime) -> Result<(), Fail> {
         (EVE, START, Ask::Read("r1"), "Morning 1"),
         (EVE, START - 1, Ask::Read("r1"), "denied 7"),
         (EVE, START - 1, Ask::Submit("r1", "k1", RIGHT), "denied 7"),
-        (EVE, END - 1, Ask::Submit("r1", "k1", RIGHT), "received 1 right"),
-        (EVE, END + 10, Ask::Submit("r1", "k1", RIGHT), "received 1 right"),
-        (EVE, START - 1, Ask::Submit("r1", "k1", RIGHT), "received 1 right"),
+        (
+            EVE,
+            END - 1,
+            Ask::Submit("r1", "k1", RIGHT),
+            "received 1 right",
+        ),
+        (
+            EVE,
+            END + 10,
+            Ask::Submit("r1", "k1", RIGHT),
+            "received 1 right",
+        ),
+        (
+            EVE,
+            START - 1,
+            Ask::Submit("r1", "k1", RIGHT),
+            "received 1 right",
+        ),
         (EVE, END - 1, Ask::Submit("r1", "k1", WRONG), "denied 6"),
         (EVE, END, Ask::Submit("r1", "k2", WRONG), "denied 8"),
-        (EVE, END - 1, Ask::Submit("r1", "k2", WRONG), "received 2 wrong"),
+        (
+            EVE,
+            END - 1,
+            Ask::Submit("r1", "k2", WRONG),
+            "received 2 wrong",
+        ),
         (EVE, START, Ask::Submit("r1", "k3", "x"), "received 3 wrong"),
     ];
     play(alloc, &mut desk, &lines)
@@ -262,8 +298,18 @@ fn answers_are_listed(rt: HostRuntime) -> Result<(), Fail> {
     let alloc = rt.alloc();
     let mut desk = open_round(alloc)?;
     let lines: [Line; 8] = [
-        (EVE, START, Ask::Submit("r1", "k1", RIGHT), "received 1 right"),
-        (FAY, START, Ask::Submit("r1", "k1", WRONG), "received 1 wrong"),
+        (
+            EVE,
+            START,
+            Ask::Submit("r1", "k1", RIGHT),
+            "received 1 right",
+        ),
+        (
+            FAY,
+            START,
+            Ask::Submit("r1", "k1", WRONG),
+            "received 1 wrong",
+        ),
         (EVE, START, Ask::Answers("r1"), "eve 1 right;"),
         (REX, END - 1, Ask::Answers("r1"), ""),
         (REX, END, Ask::Answers("r1"), "eve 1 right;fay 1 wrong;"),
@@ -282,10 +328,25 @@ fn puzzles_are_put(rt: HostRuntime) -> Result<(), Fail> {
         (ADA, START, Ask::Put("bob", "zz", GRID), "denied 3"),
         (ADA, START, Ask::Put("bob", "p1", GRID), "denied 3"),
         (BOB, START, Ask::Put("bob", "p1", GRID), "denied 11"),
-        (BOB, START, Ask::Put("bob", "p1", "sudoku/9/9/"), "denied 11"),
+        (
+            BOB,
+            START,
+            Ask::Put("bob", "p1", "sudoku/9/9/"),
+            "denied 11",
+        ),
         (DORA, START, Ask::Put("rex", "p1", GRID), "denied 4"),
-        (BOB, START, Ask::Put("bob", "p2", "sudoku/9/9/"), "put new sudoku/9/9/zzzzg"),
-        (BOB, START, Ask::Put("bob", "p2", "sudoku/9/9/zz"), "put new sudoku/9/9/zzzzg"),
+        (
+            BOB,
+            START,
+            Ask::Put("bob", "p2", "sudoku/9/9/"),
+            "put new sudoku/9/9/zzzzg",
+        ),
+        (
+            BOB,
+            START,
+            Ask::Put("bob", "p2", "sudoku/9/9/zz"),
+            "put new sudoku/9/9/zzzzg",
+        ),
     ];
     play(alloc, &mut desk, &lines)
 }
@@ -319,7 +380,11 @@ fn a_plan_is_committed(rt: HostRuntime) -> Result<(), Fail> {
         return Err("commit")?;
     };
     assert_eq!(rt; shown(alloc, &reply)?.as_str(), "certified one");
-    play(alloc, &mut desk, &[(DORA, BEFORE, Ask::Release("r1"), "released r1")])
+    play(
+        alloc,
+        &mut desk,
+        &[(DORA, BEFORE, Ask::Release("r1"), "released r1")],
+    )
 }
 
 #[test]
@@ -327,20 +392,55 @@ fn puzzles_are_certified(rt: HostRuntime) -> Result<(), Fail> {
     let alloc = rt.alloc();
     let mut desk = open(alloc)?;
     let lines: [Line; 14] = [
-        ("no-such-key", START, Ask::Certify("bob", "p1", 200_000), "denied 1"),
+        (
+            "no-such-key",
+            START,
+            Ask::Certify("bob", "p1", 200_000),
+            "denied 1",
+        ),
         (EVE, START, Ask::Certify("bob", "p1", 200_000), "denied 2"),
         (ADA, START, Ask::Certify("bob", "p1", 200_000), "denied 3"),
         (ADA, START, Ask::Certify("bob", "none", 200_000), "denied 3"),
         (BOB, START, Ask::Certify("bob", "none", 200_000), "denied 4"),
-        (BOB, START, Ask::Certify("bob", "p1", 0), "certified gave up"),
-        (BOB, START, Ask::Certify("bob", "p1", 200_000), "certified one"),
+        (
+            BOB,
+            START,
+            Ask::Certify("bob", "p1", 0),
+            "certified gave up",
+        ),
+        (
+            BOB,
+            START,
+            Ask::Certify("bob", "p1", 200_000),
+            "certified one",
+        ),
         (BOB, START, Ask::Certify("bob", "p1", 0), "certified one"),
-        (DORA, START, Ask::Certify("ada", "q1", 200_000), "certified one"),
+        (
+            DORA,
+            START,
+            Ask::Certify("ada", "q1", 200_000),
+            "certified one",
+        ),
         (BOB, START, Ask::Certify("bob", "v", 1), "certified gave up"),
-        (BOB, START, Ask::Certify("bob", "v", 200_000), "certified more"),
+        (
+            BOB,
+            START,
+            Ask::Certify("bob", "v", 200_000),
+            "certified more",
+        ),
         (BOB, START, Ask::Certify("bob", "v", 1), "certified more"),
-        (BOB, START, Ask::Put("bob", "n", "slither/1/1/a"), "put new slither/1/1/a"),
-        (BOB, START, Ask::Certify("bob", "n", 200_000), "certified none"),
+        (
+            BOB,
+            START,
+            Ask::Put("bob", "n", "slither/1/1/a"),
+            "put new slither/1/1/a",
+        ),
+        (
+            BOB,
+            START,
+            Ask::Certify("bob", "n", 200_000),
+            "certified none",
+        ),
     ];
     play(alloc, &mut desk, &lines)
 }
@@ -350,10 +450,30 @@ fn new_texts_are_new_puzzles(rt: HostRuntime) -> Result<(), Fail> {
     let alloc = rt.alloc();
     let mut desk = open(alloc)?;
     let lines: [Line; 5] = [
-        (BOB, START, Ask::Certify("bob", "p1", 200_000), "certified one"),
-        (BOB, START, Ask::Put("bob", "p1", GRID), "put one sudoku/4/4/123434122143432g"),
-        (BOB, START, Ask::Put("bob", "p1", "sudoku/4/4/v"), "put new sudoku/4/4/v"),
-        (BOB, START, Ask::Put("bob", "p1", GRID), "put new sudoku/4/4/123434122143432g"),
+        (
+            BOB,
+            START,
+            Ask::Certify("bob", "p1", 200_000),
+            "certified one",
+        ),
+        (
+            BOB,
+            START,
+            Ask::Put("bob", "p1", GRID),
+            "put one sudoku/4/4/123434122143432g",
+        ),
+        (
+            BOB,
+            START,
+            Ask::Put("bob", "p1", "sudoku/4/4/v"),
+            "put new sudoku/4/4/v",
+        ),
+        (
+            BOB,
+            START,
+            Ask::Put("bob", "p1", GRID),
+            "put new sudoku/4/4/123434122143432g",
+        ),
         (DORA, BEFORE, Ask::Release("r1"), "denied 12"),
     ];
     play(alloc, &mut desk, &lines)
@@ -364,9 +484,24 @@ fn rounds_are_released(rt: HostRuntime) -> Result<(), Fail> {
     let alloc = rt.alloc();
     let mut desk = open(alloc)?;
     let lines: [Line; 11] = [
-        (DORA, BEFORE, Ask::Certify("bob", "p1", 200_000), "certified one"),
-        (DORA, BEFORE, Ask::Certify("ada", "q1", 200_000), "certified one"),
-        (DORA, BEFORE, Ask::Certify("bob", "v", 1), "certified gave up"),
+        (
+            DORA,
+            BEFORE,
+            Ask::Certify("bob", "p1", 200_000),
+            "certified one",
+        ),
+        (
+            DORA,
+            BEFORE,
+            Ask::Certify("ada", "q1", 200_000),
+            "certified one",
+        ),
+        (
+            DORA,
+            BEFORE,
+            Ask::Certify("bob", "v", 1),
+            "certified gave up",
+        ),
         (BOB, BEFORE, Ask::Release("r1"), "denied 2"),
         (DORA, BEFORE, Ask::Release("r9"), "denied 4"),
         (DORA, BEFORE, Ask::Release("r3"), "denied 12"),
@@ -390,7 +525,11 @@ fn released_puzzles_are_in_one_round(rt: HostRuntime) -> Result<(), Fail> {
     let Ok(()) = insert_draft(&mut desk.store, twin) else {
         return Err("draft")?;
     };
-    play(alloc, &mut desk, &[(DORA, BEFORE, Ask::Release("r4"), "denied 11")])
+    play(
+        alloc,
+        &mut desk,
+        &[(DORA, BEFORE, Ask::Release("r4"), "denied 11")],
+    )
 }
 
 #[test]
@@ -406,8 +545,18 @@ fn fifty_answers_are_taken(rt: HostRuntime) -> Result<(), Fail> {
     }
     let lines: [Line; 3] = [
         (EVE, START, Ask::Submit("r1", "k51", WRONG), "denied 19"),
-        (EVE, START, Ask::Submit("r1", "k50", WRONG), "received 50 wrong"),
-        (FAY, START, Ask::Submit("r1", "k51", WRONG), "received 1 wrong"),
+        (
+            EVE,
+            START,
+            Ask::Submit("r1", "k50", WRONG),
+            "received 50 wrong",
+        ),
+        (
+            FAY,
+            START,
+            Ask::Submit("r1", "k51", WRONG),
+            "received 1 wrong",
+        ),
     ];
     play(alloc, &mut desk, &lines)
 }
@@ -417,11 +566,31 @@ fn sealed_answers_are_received(rt: HostRuntime) -> Result<(), Fail> {
     let alloc = rt.alloc();
     let mut desk = open_sealed(alloc)?;
     let lines: [Line; 6] = [
-        (EVE, LATE, Ask::Submit("r2", "t1", ".##."), "received 1 sealed"),
-        (EVE, LATE_END, Ask::Submit("r2", "t1", ".##."), "received 1 sealed"),
+        (
+            EVE,
+            LATE,
+            Ask::Submit("r2", "t1", ".##."),
+            "received 1 sealed",
+        ),
+        (
+            EVE,
+            LATE_END,
+            Ask::Submit("r2", "t1", ".##."),
+            "received 1 sealed",
+        ),
         (EVE, LATE_END, Ask::Submit("r2", "t3", ".##."), "denied 8"),
-        (EVE, LATE_END - 1, Ask::Submit("r2", "t3", ".##."), "received 3 sealed"),
-        (FAY, LATE, Ask::Submit("r2", "t1", ".##."), "received 1 sealed"),
+        (
+            EVE,
+            LATE_END - 1,
+            Ask::Submit("r2", "t3", ".##."),
+            "received 3 sealed",
+        ),
+        (
+            FAY,
+            LATE,
+            Ask::Submit("r2", "t1", ".##."),
+            "received 1 sealed",
+        ),
         (ADA, LATE, Ask::Submit("r2", "t1", ".##."), "denied 5"),
     ];
     play(alloc, &mut desk, &lines)
@@ -433,11 +602,26 @@ fn sealed_verdicts_wait(rt: HostRuntime) -> Result<(), Fail> {
     let mut desk = open_sealed(alloc)?;
     let lines: [Line; 7] = [
         (EVE, LATE, Ask::Answers("r2"), "eve 1 sealed;eve 2 sealed;"),
-        (EVE, LATE_END - 1, Ask::Answers("r2"), "eve 1 sealed;eve 2 sealed;"),
-        (EVE, LATE_END, Ask::Answers("r2"), "eve 1 wrong;eve 2 right;"),
+        (
+            EVE,
+            LATE_END - 1,
+            Ask::Answers("r2"),
+            "eve 1 sealed;eve 2 sealed;",
+        ),
+        (
+            EVE,
+            LATE_END,
+            Ask::Answers("r2"),
+            "eve 1 wrong;eve 2 right;",
+        ),
         (DORA, LATE, Ask::Answers("r2"), "eve 1 wrong;eve 2 right;"),
         (REX, LATE_END - 1, Ask::Answers("r2"), ""),
-        (REX, LATE_END, Ask::Answers("r2"), "eve 1 wrong;eve 2 right;"),
+        (
+            REX,
+            LATE_END,
+            Ask::Answers("r2"),
+            "eve 1 wrong;eve 2 right;",
+        ),
         (FAY, LATE_END, Ask::Answers("r2"), ""),
     ];
     play(alloc, &mut desk, &lines)
