@@ -22,4 +22,5 @@ pub mod Promises
 pub mod Tokens
 pub mod Remaining
 pub mod Retries
+pub mod Answered
 pub mod Starts

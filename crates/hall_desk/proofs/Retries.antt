@@ -42,12 +42,13 @@ pub record IsAccepted (world kept : World) (t : ℕ) (caller : Option Person) (i
   pub none : NoneBelow 6 world caller (action.Submit id number token answer) t
 
 -- the one rule that repeats a Submit is the token's
-repeats_at_six : (world : World) (caller : Option Person) (id : List ℕ) (number : ℕ) (token answer : List ℕ) (r : Rule) → Repeated r world caller (action.Submit id number token answer) → number_of r ≡ 6
+pub repeats_at_six : (world : World) (caller : Option Person) (id : List ℕ) (number : ℕ) (token answer : List ℕ) (r : Rule) →
+    Repeated r world caller (action.Submit id number token answer) → number_of r ≡ 6
 repeats_at_six world caller id number token answer rule.TokenTaken h = refl
 repeats_at_six world caller id number token answer _ h = absurd h.1
 
 -- an answer is accepted by a step that stores it, or finds it stored
-accepted : (world kept : World) (t : ℕ) (key : Option (List ℕ)) (id : List ℕ) (number : ℕ) (token answer : List ℕ) (n : ℕ) (told : Option ℕ) →
+pub accepted : (world kept : World) (t : ℕ) (key : Option (List ℕ)) (id : List ℕ) (number : ℕ) (token answer : List ℕ) (n : ℕ) (told : Option ℕ) →
     Step world t (record { key = key; action = action.Submit id number token answer }) (reply.Received n told) kept →
     IsAccepted world kept t (caller_of world key) id number token answer (reply.Received n told)
 accepted world kept t key id number token answer n told (inl (other, left)) = absurd (cc)
@@ -78,12 +79,12 @@ accepted world kept t key id number token answer n told (inr (found, (Allow, non
     }
 
 -- the caller is told by the people alone
-same_caller : (world later : World) (key : Option (List ℕ)) → later.people ≡ world.people → caller_of later key ≡ caller_of world key
+pub same_caller : (world later : World) (key : Option (List ℕ)) → later.people ≡ world.people → caller_of later key ≡ caller_of world key
 same_caller world later None same = refl
 same_caller world later (Some k) same = ap (λ (people : FinMap text_cmp Person). find (λ (person : Person). same_text person.key k) (values people)) same
 
 -- the verdict that is told depends on the round's mode alone
-same_told : (a b : Round) (verdict : ℕ) → a.mode ≡ b.mode → told_verdict a verdict ≡ told_verdict b verdict
+pub same_told : (a b : Round) (verdict : ℕ) → a.mode ≡ b.mode → told_verdict a verdict ≡ told_verdict b verdict
 same_told a b verdict same = ap (λ (m : Mode). if is_sealed m then None else Some verdict) same
 
 module _ (world later : World) (remains : Remains world later) (caller : Option Person) (t u : ℕ) (id : List ℕ) (number : ℕ) (token answer again : List ℕ)
@@ -134,7 +135,7 @@ module _ (world later : World) (remains : Remains world later) (caller : Option 
   forbade _ few h = absurd (omega arith)
 
   -- so no rule before the token's forbids the retry
-  none_forbids : (r : Rule) → number_of r ≤ 5 → ¬ (Forbids r later caller (action.Submit id number token again) u)
+  pub none_forbids : (r : Rule) → number_of r ≤ 5 → ¬ (Forbids r later caller (action.Submit id number token again) u)
   none_forbids r few h = (none r (omega arith)).0 (forbade r few h)
 
   module _ (person : Person) (is : caller ≡ Some person) (row : AnswerRow)

@@ -46,7 +46,7 @@ module _ (world : World) (caller : Option Person) (t : ℕ) (person : Person) (i
       cc
 
   -- the content is the same only where the text is
-  same_text_stands : SameContent world caller (action.Submit id number token answer) → row.answer ≡ answer
+  pub same_text_stands : SameContent world caller (action.Submit id number token answer) → row.answer ≡ answer
   same_text_stands (other, also, (found, at, same)) = subst (λ (r : AnswerRow). r.answer ≡ answer) (one_row other found also at) same
 
   -- only the token's rule finds that the answer was handed in before

@@ -16,7 +16,7 @@ use Rattle.hall_policy.specs.declared.record.Round.{Round}
 use Rattle.hall_policy.specs.declared.request.Action.TheVariants.{Submit}
 use Rattle.hall_policy.specs.declared.request.Request.{Request}
 use Rattle.hall_desk.specs.Caller.{caller_of}
-use Rattle.hall_desk.specs.Sane.{Solves}
+use Rattle.hall_desk.specs.Sane.{Sane, Solves}
 use Rattle.hall_desk.specs.Shown.{told_verdict}
 use Rattle.hall_desk.specs.Step.{Step}
 use Rattle.hall_desk.specs.Run.{Run}
@@ -41,6 +41,13 @@ abbrev pub RightAnswersAreSolutions : World → Type 0
 RightAnswersAreSolutions world =
     (key : PuzzleKey) (row : PuzzleRow) (solution answer : List ℕ) (names : ℕ) → get world.puzzles key ≡ Some row → row.state ≡ state.One solution →
     Verdict row.puzzle answer names → NamesNoRule names ↔ (answer ≡ solution)
+
+-- a sane world keeps the promises to directors and entrants, and each step and run of the hall leads from sane worlds to sane ones
+pub record SanityKeepsPromises : Type 0 where
+  pub unique : (world : World) → Sane world → HasUniqueSolutions world
+  pub right : (world : World) → Sane world → RightAnswersAreSolutions world
+  pub steps : (world new : World) (t : ℕ) (request : Request) (given : Reply) → Sane world → Step world t request given new → Sane new
+  pub runs : (world last : World) (requests : List (ℕ × Request)) (replies : List Reply) → Sane world → Run world requests replies last → Sane last
 
 -- the text is that of the answer that stands, and the reply is the one that this answer got
 pub record IsToldAgain (world : World) (id : List ℕ) (row : AnswerRow) (answer : List ℕ) (given : Reply) : Type 0 where
@@ -80,3 +87,13 @@ AcceptedAnswersStay =
     Run kept requests replies later →
     Step later u (record { key = key; action = Submit id number token again }) given new →
     (new ≡ later) × IsRetryOf answer again (reply.Received n told) given
+
+-- an accepted answer's retry has its answer in every later world: the first reply for the same text, the denial of the token's rule for another one, with the world as it is
+abbrev pub RetriesAreAnswered : Type 0
+RetriesAreAnswered =
+    (world kept later : World) (t u : ℕ) (key : Option (List ℕ)) (id : List ℕ) (number : ℕ) (token answer again : List ℕ) (n : ℕ) (told : Option ℕ)
+    (requests : List (ℕ × Request)) (replies : List Reply) →
+    Step world t (record { key = key; action = Submit id number token answer }) (reply.Received n told) kept →
+    Run kept requests replies later →
+    (answer ≡ again → Step later u (record { key = key; action = Submit id number token again }) (reply.Received n told) later)
+    × (answer ≢ again → Step later u (record { key = key; action = Submit id number token again }) (reply.Denied 6) later)

@@ -1,12 +1,18 @@
 //! Laws of the definitions, each the contract of a function that does nothing.
-ghost use Rattle.hall_desk.specs.Promises.{TokensActOnce, AcceptedAnswersStay};
+ghost use Rattle.hall_desk.specs.Promises.{SanityKeepsPromises, TokensActOnce, AcceptedAnswersStay, RetriesAreAnswered};
+
+/// A sane world keeps the promises, and steps and runs keep worlds sane.
+pub fn law_sanity()
+    ensures { SanityKeepsPromises }
+{}
 
 /// A token whose answer was accepted acts once.
 pub fn law_tokens()
     ensures { TokensActOnce }
 {}
 
-/// An accepted answer stays accepted, whatever comes between.
+/// An accepted answer stays accepted, whatever comes between, and a retry of it can be answered.
 pub fn law_accepted_answers()
-    ensures { AcceptedAnswersStay }
+    ensures stay { AcceptedAnswersStay }
+    ensures answered { RetriesAreAnswered }
 {}

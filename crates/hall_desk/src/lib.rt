@@ -24,7 +24,7 @@ mod verdict;
 
 pub use certificate::certify;
 pub use desk::Desk;
-pub use law::{law_accepted_answers, law_tokens};
+pub use law::{law_accepted_answers, law_sanity, law_tokens};
 pub use plan::Plan;
 pub use reply::{AnswerLine, Reply, ShownPuzzle, ShownRound, StateName};
 pub use rows::Rows;
