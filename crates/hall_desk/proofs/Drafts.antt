@@ -1,17 +1,16 @@
 -- What opens a hall keeps its world sane.
-use Rattle.std.proofs.Common.{◌≡◌, ◌≢◌, ℕ, zero, suc, Bool, true, false, ◌&&◌, cond, List, [], ◌∷◌, map, slice_get, Option, Some, None, Contains, refl, sym, ap, ◌∙◌, subst, is_some, is_none}
-use Rattle.std.specs.List.{find, list_all, flat_map}
+use Rattle.std.proofs.Common.{◌≡◌, ◌≢◌, ℕ, zero, suc, Bool, true, false, ◌&&◌, cond, List, [], ◌∷◌, map, slice_get, Option, Some, None, refl, sym, ap, ◌∙◌, subst, is_some}
+use Rattle.std.specs.List.{list_all, flat_map}
 use Rattle.std.specs.List.Sorted.{IsStrictlySortedBy}
 use Rattle.std.specs.Option.{option_map}
 use Rattle.std.specs.Map.{lookup, keys_of}
 use Rattle.std.specs.BTreeMap.{is_at}
-use Rattle.std.specs.FinMap.{FinMap, get, insert, from_entries, values}
+use Rattle.std.specs.FinMap.{FinMap, get, from_entries, values}
 use Rattle.std.proofs.lemmas.Option.{slice_get-get_or}
 use Rattle.hall_policy.specs.Text.{text_cmp}
-use Rattle.hall_policy.specs.World.{World, same_text, place_cmp, puzzle_cmp, entry_at}
+use Rattle.hall_policy.specs.World.{World, same_text, place_cmp, puzzle_cmp}
 use Rattle.hall_policy.specs.Lists.{AreEntries}
 use Rattle.hall_policy.specs.declared.record.Person.{Person}
-use Rattle.hall_policy.specs.declared.record.PuzzleRow.{PuzzleRow}
 use Rattle.hall_policy.specs.declared.record.Entry.{Entry}
 use Rattle.hall_policy.specs.declared.record.Round.{Round}
 use Rattle.hall_policy.specs.declared.record.RoundRow.{RoundRow}

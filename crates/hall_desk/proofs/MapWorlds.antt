@@ -1,5 +1,5 @@
 -- The world of ordered maps.
-use Rattle.std.proofs.Common.{◌≡◌, ℕ, ◌+◌, ◌∷◌, [], ◌++◌, List, Bool, true, false, ◌&&◌, Option, Some, None, IsTrue, IfSome, cond, ap, sym, ◌∙◌, refl, subst, map, slice_get, zero, suc, ◌<◌, ◌≢◌, arith, Result, Ok, Err, OnOk, OnErr}
+use Rattle.std.proofs.Common.{◌≡◌, ℕ, ◌+◌, ◌∷◌, [], ◌++◌, List, Bool, true, false, ◌&&◌, Option, Some, None, IfSome, cond, ap, sym, ◌∙◌, refl, subst, map, slice_get, zero, suc, ◌<◌, ◌≢◌, arith, Result, Ok, Err, OnOk, OnErr}
 use Rattle.std.specs.Cmp.{IsTotalOrder, eq_by_cmp_equiv, tied_itself}
 use Rattle.std.specs.Option.{option_map, option_or}
 use Rattle.std.proofs.lemmas.Cmp.{nat_cmp_total}
@@ -13,7 +13,7 @@ use Rattle.std.proofs.lemmas.Option.{slice_get_within, get_or_from_slice_get}
 use Rattle.std.specs.List.Sorted.{IsStrictlySortedBy}
 use Rattle.std.specs.Map.{lookup, keys_of, values_of}
 use Rattle.std.specs.BTreeMap.{is_at, insert_entry}
-use Rattle.std.specs.FinMap.{FinMap, get, insert, entries, values, from_entries, get-from_entries, get-entries, entries_sorted, IsAntisymmetric, same_map, get-insert}
+use Rattle.std.specs.FinMap.{get, insert, entries, values, from_entries, get-from_entries, get-entries, entries_sorted, IsAntisymmetric, same_map, get-insert}
 use Rattle.std.specs.FinMap.Entries.{same_entries}
 use Rattle.hall_policy.specs.Text.{text_cmp}
 use Rattle.hall_policy.specs.World.{same_text, answer_cmp, place_cmp, entry_at}

@@ -1,5 +1,5 @@
 -- What follows from a sane world for entrants and directors.
-use Rattle.std.proofs.Common.{◌≡◌, ◌+◌, ◌<◌, ◌++◌, inl, inr, ℕ, List, [], ◌∷◌, length, map, take, drop, min, refl, sym, ap, ◌∙◌, subst, arith}
+use Rattle.std.proofs.Common.{◌≡◌, ◌<◌, ◌++◌, inl, inr, ℕ, List, [], ◌∷◌, length, map, take, drop, min, refl, sym, ap, ◌∙◌, subst, arith}
 use Rattle.std.specs.Prelude.{All, ◌↔◌}
 use Rattle.std.proofs.lemmas.List.{take-append-drop, length-map, length-take}
 use Rattle.std.proofs.lemmas.List.Elements.{All-head, All-tail, All-take, All-drop}

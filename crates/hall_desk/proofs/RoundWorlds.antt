@@ -1,5 +1,5 @@
 -- What an insertion of a round's row makes of the world's rounds and places.
-use Rattle.std.proofs.Common.{◌≡◌, ◌≢◌, ℕ, List, Bool, true, false, Option, Some, None, cond, ap, sym, ◌∙◌, refl, subst, map}
+use Rattle.std.proofs.Common.{◌≡◌, ◌≢◌, ℕ, List, Bool, true, false, Option, Some, cond, ap, sym, ◌∙◌, refl, subst, map}
 use Rattle.std.specs.Cmp.{tied_itself}
 use Rattle.std.specs.Option.{option_map}
 use Rattle.std.specs.Ordering.{is_eq}

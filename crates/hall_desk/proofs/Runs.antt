@@ -1,12 +1,11 @@
 -- Runs over a store, one step more.
-use Rattle.std.proofs.Common.{◌≡◌, ◌⊎◌, inl, inr, ℕ, zero, suc, ◌≤◌, length, take, arith, List, [], ◌∷◌, ◌++◌, refl, sym, ◌∙◌, subst}
+use Rattle.std.proofs.Common.{◌≡◌, inl, inr, ℕ, zero, suc, ◌≤◌, length, take, arith, List, [], ◌∷◌, ◌++◌, refl, ◌∙◌, subst}
 use Rattle.hall_policy.specs.World.{World}
 use Rattle.hall_policy.specs.declared.request.Request.{Request}
 use Rattle.hall_desk.specs.Step.{Step}
 use Rattle.hall_desk.specs.Run.{Run}
 use Rattle.hall_desk.specs.Plans.{Steps, Runs}
 use Rattle.hall_desk.specs.declared.reply.Reply.{Reply}
-use Rattle.hall_desk.specs.declared.reply.Reply.TheVariants.{Unavailable}
 
 -- a run and one step more
 pub run_more : (world : World) (requests : List (ℕ × Request)) (replies : List Reply) (mid : World) (asked : ℕ × Request) (given : Reply) (last : World) →

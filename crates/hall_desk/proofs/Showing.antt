@@ -1,5 +1,5 @@
 -- One more puzzle of a round that is shown.
-use Rattle.std.proofs.Common.{◌≡◌, ℕ, ◌+◌, zero, suc, List, [], ◌∷◌, ◌++◌, length, arith, subst}
+use Rattle.std.proofs.Common.{◌≡◌, ℕ, ◌+◌, suc, List, [], ◌∷◌, ◌++◌, length, arith, subst}
 use Rattle.hall_policy.specs.World.{World}
 use Rattle.hall_policy.specs.declared.record.Entry.{Entry}
 use Rattle.hall_desk.specs.Shown.{ShowsPuzzle, ShowsPuzzles}

@@ -10,11 +10,10 @@ use Rattle.hall_grid.specs.declared.board.Clue.{Clue}
 use Rattle.hall_grid.specs.declared.board.Clue.TheVariants.{Blank, Unknown, Number}
 use Rattle.hall_grid.specs.Board.{Board, IsBoard, IsClue, cells}
 use Rattle.hall_grid.specs.declared.rule.Rule.{Rule}
-use Rattle.hall_grid.specs.Answer.{places_of, values_of, Breaks, BreaksNurikabe}
+use Rattle.hall_grid.specs.Answer.{places_of, values_of, Breaks}
 use Rattle.hall_solve.specs.declared.outcome.Outcome.{Outcome}
-use Rattle.hall_solve.specs.Question.{Question}
 use Rattle.hall_solve.specs.Answer.{OutcomeOf}
-use Rattle.hall_solve.specs.Puzzle.{IsRight, question_of, given_of, start_of, OutcomeOfPuzzle}
+use Rattle.hall_solve.specs.Puzzle.{IsRight, given_of, start_of, OutcomeOfPuzzle}
 use Rattle.hall_sudoku.specs.Units.{SetsGivens, question_of as sudoku_question}
 use Rattle.hall_nurikabe.specs.Solving.{SetsGivens as SetsNumbered, question_of as nurikabe_question}
 use Rattle.hall_slither.specs.Search.{IsUnset, question_of as slither_question}

@@ -1,6 +1,6 @@
 -- Who makes a request.
 use Rattle.std.specs.Prelude.{◌≡◌, List, ℕ, Option, Some, None, IfSome, find}
-use Rattle.std.specs.FinMap.{FinMap, get, values}
+use Rattle.std.specs.FinMap.{get, values}
 use Rattle.hall_policy.specs.World.{World, same_text}
 use Rattle.hall_policy.specs.declared.record.Person.{Person}
 

@@ -1,6 +1,6 @@
 -- What one call of the store makes of the world, and what it asks of its caller.
 use Rattle.std.specs.Prelude.{◌≡◌, ◌+◌, ℕ, true, List, Option, Some, None}
-use Rattle.std.specs.FinMap.{FinMap, get, insert}
+use Rattle.std.specs.FinMap.{get, insert}
 use Rattle.hall_policy.specs.World.{World}
 use Rattle.hall_policy.specs.Rules.{answers_given}
 use Rattle.hall_policy.specs.declared.record.Person.{Person}

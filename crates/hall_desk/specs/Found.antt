@@ -1,7 +1,7 @@
 -- What is found for a request, and of which worlds it is true.
-use Rattle.std.specs.Prelude.{◌≡◌, ◌≢◌, ◌↔◌, ◌==◌, ◌&&◌, ℕ, List, Option, Some, None, IsTrue, IfSome, find, count_by}
-use Rattle.std.specs.FinMap.{FinMap, get}
-use Rattle.hall_policy.specs.World.{World, same_text}
+use Rattle.std.specs.Prelude.{◌≡◌, ◌≢◌, ◌↔◌, ℕ, List, Option, Some, None, IsTrue, IfSome}
+use Rattle.std.specs.FinMap.{get}
+use Rattle.hall_policy.specs.World.{World}
 use Rattle.hall_policy.specs.Facts.{IsRoundFound, AllTrue}
 use Rattle.hall_policy.specs.Rules.{answers_given, puzzles_put, Lists, StandsReleased, IsCertified}
 use Rattle.hall_policy.specs.declared.record.Person.{Person}

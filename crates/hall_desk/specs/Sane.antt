@@ -1,12 +1,12 @@
 -- What holds of every world that the hall reaches.
-use Rattle.std.specs.Prelude.{◌≡◌, ◌≢◌, ◌≤◌, ℕ, List, Option, Some, None, IsTrue}
-use Rattle.std.specs.FinMap.{FinMap, get, values}
+use Rattle.std.specs.Prelude.{◌≡◌, ◌≢◌, ◌≤◌, ℕ, List, Some, None, IsTrue}
+use Rattle.std.specs.FinMap.{get}
 use Rattle.hall_grid.specs.declared.rule.Rule.{Rule as Broken}
 use Rattle.hall_grid.specs.Board.{Board}
 use Rattle.hall_grid.specs.Answer.{AnswerText, IsFilling, IsBroken, Verdict}
 use Rattle.hall_policy.specs.World.{World, IsRoundAt}
 use Rattle.hall_policy.specs.Lists.{AreEntries}
-use Rattle.hall_policy.specs.Rules.{Lists, StandsReleased, IsCertified, answers_given, protests_made, puzzles_put}
+use Rattle.hall_policy.specs.Rules.{StandsReleased, IsCertified, answers_given, protests_made, puzzles_put}
 use Rattle.hall_desk.specs.Found.{IsReleasedRound}
 use Rattle.hall_policy.specs.declared.record.Person.{Person}
 use Rattle.hall_policy.specs.declared.record.PuzzleKey.{PuzzleKey}

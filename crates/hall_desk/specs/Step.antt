@@ -1,6 +1,6 @@
 -- A step of the hall: one request, answered.
-use Rattle.std.specs.Prelude.{◌≡◌, ◌≢◌, ◌+◌, ◌⊎◌, ℕ, Bool, true, false, List, Option, Some, None, map}
-use Rattle.std.specs.FinMap.{FinMap, get, insert, values}
+use Rattle.std.specs.Prelude.{◌≡◌, ◌≢◌, ◌+◌, ◌⊎◌, ℕ, Bool, true, false, List, Option, Some, map}
+use Rattle.std.specs.FinMap.{get, insert}
 use Rattle.hall_grid.specs.Board.{Board}
 use Rattle.hall_grid.specs.Answer.{AnswerText, Verdict}
 use Rattle.hall_grid.specs.Canonical.{CanonicalText}

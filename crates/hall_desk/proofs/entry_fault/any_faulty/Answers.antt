@@ -1,4 +1,4 @@
-use Rattle.std.proofs.Common.{◌≡◌, ℕ, List, slice_get, Some, refl, sym, ◌∙◌, subst, false, true, below_more}
+use Rattle.std.proofs.Common.{◌≡◌, ℕ, slice_get, Some, refl, sym, ◌∙◌, subst, below_more}
 use Rattle.std.proofs.lemmas.Option.{get_or_from_slice_get}
 use Rattle.std.proofs.lemmas.Bool.{false≢true}
 use Rattle.hall_policy.specs.declared.record.Entry.{Entry}

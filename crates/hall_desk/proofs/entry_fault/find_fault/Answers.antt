@@ -1,4 +1,4 @@
-use Rattle.std.proofs.Common.{◌≡◌, ◌↔◌, IsTrue, Contains, Option, Some, List, false, true, sym, subst, ◌∙◌}
+use Rattle.std.proofs.Common.{◌↔◌, IsTrue, Contains, Option, Some, List, subst}
 use Rattle.std.proofs.lemmas.Bool.{false≢true}
 use Rattle.hall_policy.specs.World.{IsRoundAt}
 use Rattle.hall_policy.specs.Facts.{IsRoundFound}

@@ -1,4 +1,4 @@
-use Rattle.std.proofs.Common.{◌≡◌, ◌↔◌, IsTrue, subst, sym}
+use Rattle.std.proofs.Common.{◌↔◌, IsTrue, subst, sym}
 use Rattle.hall_desk.specs.Store.{Told}
 use Rattle.hall_desk.specs.Found.{HasFault}
 use Rattle.hall_desk.specs.declared.entry_fault.EntryFault.{EntryFault}

@@ -1,4 +1,4 @@
-use Rattle.std.proofs.Common.{◌≡◌, ◌∙◌, ap, length, List}
+use Rattle.std.proofs.Common.{◌∙◌, ap, length, List}
 use Rattle.std.specs.FinMap.{values}
 use Rattle.std.proofs.lemmas.List.Sums.{length-filter}
 use Rattle.hall_policy.specs.World.{same_text}

@@ -1,4 +1,4 @@
-use Rattle.std.proofs.Common.{◌≡◌, ◌==◌, ◌∙◌, ap, Some, subst, List}
+use Rattle.std.proofs.Common.{◌≡◌, ◌==◌, ◌∙◌, ap, subst, List}
 use Rattle.std.specs.List.{find, count_by}
 use Rattle.std.specs.FinMap.{get}
 use Rattle.hall_policy.specs.Rules.{answers_given}

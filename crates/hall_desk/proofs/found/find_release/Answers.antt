@@ -1,4 +1,4 @@
-use Rattle.std.proofs.Common.{◌≡◌, ◌↔◌, ℕ, List, Contains, IsTrue, Bool, subst, sym}
+use Rattle.std.proofs.Common.{◌↔◌, ℕ, List, Contains, IsTrue, subst, sym}
 use Rattle.hall_policy.specs.Rules.{StandsReleased}
 use Rattle.hall_desk.specs.Store.{AreUsing}
 use Rattle.hall_desk.specs.Found.{IsReleasedRound}

@@ -1,4 +1,4 @@
-use Rattle.std.proofs.Common.{◌≡◌, ◌↔◌, IsTrue, Some}
+use Rattle.std.proofs.Common.{◌↔◌, IsTrue, Some}
 use Rattle.hall_policy.specs.Facts.{IsRoundFound}
 use Rattle.hall_desk.specs.Store.{Kept}
 use Rattle.hall_desk.specs.Found.{IsCaller, HasFaultyEntry}

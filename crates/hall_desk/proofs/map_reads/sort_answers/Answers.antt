@@ -1,4 +1,4 @@
-use Rattle.std.proofs.Common.{is_lt, rules, tests, ap}
+use Rattle.std.proofs.Common.{is_lt, rules, tests}
 use Rattle.std.proofs.lemmas.List.Sorted.{answers_always}
 use Rattle.std.proofs.lemmas.List.MinMax.{ranks_by}
 use Rattle.hall_desk.specs.Store.{listing_cmp}

@@ -1,8 +1,8 @@
-use Rattle.std.proofs.Common.{◌≡◌, map, sym, subst}
+use Rattle.std.proofs.Common.{map, sym, subst}
 use Rattle.std.specs.List.{flat_map}
 use Rattle.std.specs.FinMap.{from_entries}
 use Rattle.hall_policy.specs.Text.{text_cmp}
-use Rattle.hall_policy.specs.World.{World, puzzle_cmp, place_cmp, answer_cmp, protest_cmp}
+use Rattle.hall_policy.specs.World.{puzzle_cmp, place_cmp, answer_cmp, protest_cmp}
 use Rattle.hall_desk.specs.Maps.{head_of, places_in}
 use Rattle.hall_desk.specs.Sane.{Sane}
 use Rattle.hall_desk.proofs.OpeningSane.{empty_sane}

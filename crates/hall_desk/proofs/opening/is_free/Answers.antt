@@ -1,4 +1,4 @@
-use Rattle.std.proofs.Common.{◌≡◌, None, not, ap, sym, ◌∙◌}
+use Rattle.std.proofs.Common.{not, ap, sym, ◌∙◌}
 use Rattle.hall_policy.proofs.Orders.{text_total}
 use Rattle.hall_desk.specs.Maps.{world_of}
 use Rattle.hall_desk.proofs.MapWorlds.{get_found, holder_found}

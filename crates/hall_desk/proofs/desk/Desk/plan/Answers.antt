@@ -1,4 +1,4 @@
-use Rattle.std.proofs.Common.{◌≡◌, inr, subst}
+use Rattle.std.proofs.Common.{inr, subst}
 use Rattle.std.specs.Bool.{⊤}
 use Rattle.hall_policy.specs.World.{World}
 use Rattle.hall_desk.specs.Change.{changed}

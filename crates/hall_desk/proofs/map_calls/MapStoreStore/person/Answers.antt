@@ -1,4 +1,4 @@
-use Rattle.std.proofs.Common.{◌≡◌, sym, ◌∙◌}
+use Rattle.std.proofs.Common.{sym, ◌∙◌}
 use Rattle.hall_policy.proofs.Orders.{text_total}
 use Rattle.hall_desk.proofs.MapWorlds.{get_found}
 use Rattle.hall_desk.proofs.map_calls.MapStoreStore.person.Goals as goal

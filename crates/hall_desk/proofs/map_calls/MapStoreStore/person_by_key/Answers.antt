@@ -1,7 +1,3 @@
-use Rattle.std.proofs.Common.{◌≡◌, ℕ, List, map, Option, Some, None, sym, ap, ◌∙◌}
-use Rattle.std.specs.List.{find}
-use Rattle.hall_policy.specs.World.{same_text}
-use Rattle.hall_policy.specs.declared.record.Person.{Person}
 use Rattle.hall_desk.proofs.MapWorlds.{holder_found}
 use Rattle.hall_desk.proofs.map_calls.MapStoreStore.person_by_key.Goals as goal
 

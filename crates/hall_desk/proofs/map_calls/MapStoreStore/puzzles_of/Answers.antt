@@ -1,4 +1,4 @@
-use Rattle.std.proofs.Common.{◌≡◌, sym, ◌∙◌, ap, map, List}
+use Rattle.std.proofs.Common.{sym, ◌∙◌, ap, map, List}
 use Rattle.std.specs.List.{filter}
 use Rattle.hall_policy.specs.World.{same_text}
 use Rattle.hall_policy.specs.declared.record.PuzzleKey.{PuzzleKey}

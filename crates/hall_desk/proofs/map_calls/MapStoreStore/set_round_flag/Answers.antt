@@ -1,12 +1,11 @@
-use Rattle.std.proofs.Common.{◌≡◌, ℕ, List, Option, Some, sym, ap, ◌∙◌, map, subst, refl}
+use Rattle.std.proofs.Common.{◌≡◌, ℕ, List, Some, sym, ap, ◌∙◌, map, subst}
 use Rattle.std.specs.List.{flat_map}
 use Rattle.std.specs.Option.{option_map}
 use Rattle.std.specs.Map.{lookup}
 use Rattle.std.specs.BTreeMap.{is_at}
-use Rattle.std.specs.FinMap.{FinMap, get, from_entries, insert}
+use Rattle.std.specs.FinMap.{get, from_entries, insert}
 use Rattle.hall_policy.specs.Text.{text_cmp}
-use Rattle.hall_policy.specs.World.{World, place_cmp}
-use Rattle.hall_policy.specs.declared.record.Round.{Round}
+use Rattle.hall_policy.specs.World.{place_cmp}
 use Rattle.hall_policy.specs.declared.record.RoundRow.{RoundRow}
 use Rattle.hall_policy.proofs.Orders.{text_total}
 use Rattle.hall_desk.specs.Change.{with_flag, flagged}

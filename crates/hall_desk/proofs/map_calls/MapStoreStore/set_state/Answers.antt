@@ -1,6 +1,6 @@
 use Rattle.std.proofs.Common.{◌≡◌, Some, sym, ap, ◌∙◌}
-use Rattle.std.specs.FinMap.{FinMap, get, from_entries, insert}
-use Rattle.hall_policy.specs.World.{World, puzzle_cmp}
+use Rattle.std.specs.FinMap.{get, from_entries, insert}
+use Rattle.hall_policy.specs.World.{puzzle_cmp}
 use Rattle.hall_policy.specs.declared.record.PuzzleKey.{PuzzleKey}
 use Rattle.hall_policy.specs.declared.record.PuzzleRow.{PuzzleRow}
 use Rattle.hall_policy.proofs.Orders.{puzzle_total, same_puzzle_keys}
