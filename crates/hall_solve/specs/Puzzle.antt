@@ -9,17 +9,17 @@ use Rattle.hall_grid.specs.Board.{Board}
 use Rattle.hall_grid.specs.Slither.{all_sides}
 use Rattle.hall_grid.specs.Answer.{IsBroken, places_of, values_of}
 use Rattle.hall_solve.specs.declared.outcome.Outcome.{Outcome}
-use Rattle.hall_solve.specs.Question.{Question}
+use Rattle.hall_solve.specs.Question.{Question, IsFilling, Extends}
 use Rattle.hall_solve.specs.Answer.{OutcomeOf}
 
 -- no rule is broken
 abbrev pub IsRight : Board → List ℕ → Type 0
 IsRight board f = (rule : Rule) → IsBroken board f rule → ⊥
 
--- a value for each place of the board, and no rule broken
-abbrev pub question_of : Board → Question
-question_of board =
-    record { cells = places_of board.kind board.size; values = values_of board.kind board.size; right = IsRight board }
+-- a value for each place of a board of the kind, and no rule broken
+abbrev pub question_of : Kind → Board → Question
+question_of kind board =
+    record { cells = places_of kind board.size; values = values_of kind board.size; right = IsRight board }
 
 -- the value that a clue fixes in its cell: a given of Sudoku, and white under a clue of Nurikabe
 abbrev pub given_of : Kind → Clue → Option ℕ
@@ -39,4 +39,17 @@ start_of Nurikabe board = map (given_of Nurikabe) board.clues
 
 -- what a search of the puzzle may answer within the budget
 abbrev pub OutcomeOfPuzzle : Board → ℕ → Outcome → Type 0
-OutcomeOfPuzzle board budget o = OutcomeOf (question_of board) (start_of board.kind board) budget o
+OutcomeOfPuzzle board budget o = OutcomeOf (question_of board.kind board) (start_of board.kind board) budget o
+
+-- every filling that breaks no rule has what is set
+abbrev pub AllExtend : Kind → Board → List (Option ℕ) → Type 0
+AllExtend kind board p = (f : List ℕ) → IsFilling (question_of kind board) f → IsRight board f → Extends f p
+
+-- what a search sees of a puzzle: its board, and how often it was visited and asked
+pub record Progress : Type 0 where
+  pub board : Board
+  pub visits : ℕ
+  pub asked : ℕ
+
+abbrev pub begun : Board → Progress
+begun board = record { board = board; visits = 0; asked = 0 }

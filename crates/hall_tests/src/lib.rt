@@ -1,0 +1,2 @@
+//! Tests of the hall, by calls that any crate may make. A module bears the name of the crate that it tests.
+#![tactic(auto)]
