@@ -1,2 +1,9 @@
 //! Tests of the hall, by calls that any crate may make. A module bears the name of the crate that it tests.
 #![tactic(auto)]
+
+#[cfg(test)]
+mod desk;
+#[cfg(test)]
+mod policy;
+#[cfg(test)]
+mod tool;

@@ -1,5 +1,5 @@
 -- The input of the commands judge and solve: lines of at most 8,192 bytes together.
-use Rattle.std.specs.Prelude.{◌≡◌, ◌++◌, ℕ, ◌≤◌, ◌==◌, Bool, Option, List, [], ◌∷◌, length, take, IfSome}
+use Rattle.std.specs.Prelude.{◌≡◌, ◌++◌, ℕ, ◌≤◌, Option, List, [], ◌∷◌, length, take, IfSome}
 use Rattle.std.specs.Io.KnownBytes.{Appends}
 use Rattle.std.specs.Str.Lines.{lines}
 
@@ -14,10 +14,6 @@ HasTwoLines input first second = (length input ≤ 8192) × (lines input ≡ fir
 -- the input is at most 8,192 bytes in one line
 abbrev pub HasOneLine : List ℕ → List ℕ → Type 0
 HasOneLine input line = (length input ≤ 8192) × (lines input ≡ line ∷ [])
-
--- whether the byte is a line feed
-abbrev pub is_line_feed : ℕ → Bool
-is_line_feed byte = byte == 10
 
 -- a first part of the bytes was written, perhaps none of them
 abbrev pub WritesPart : Option (List ℕ) → Option (List ℕ) → List ℕ → Type 0

@@ -1,6 +1,5 @@
 //! Bytes to a line: a request is read, a step of the hall made, and its reply written.
 ghost use Rattle.std.specs.Prelude.{◌≡◌, IfOk, OnErr, Ok, string_bytes};
-ghost use Rattle.hall_policy.specs.World.{World};
 ghost use Rattle.hall_desk.specs.declared.reply.Reply.{Reply as declared_Reply};
 ghost use Rattle.hall_desk.specs.Desk.{world_in};
 ghost use Rattle.hall_desk.specs.Step.{Step};

@@ -1,5 +1,5 @@
 //! The JSON bodies of requests.
-ghost use Rattle.std.specs.Prelude.{◌≡◌, ℕ, map, codes, string_bytes};
+ghost use Rattle.std.specs.Prelude.{◌≡◌, map, string_bytes};
 ghost use Rattle.std.specs.List.{list_any, list_all};
 ghost use Rattle.std.specs.Str.{bytes_eq};
 ghost use Rattle.serde_json.specs.Errors.{IsMemory};

@@ -1,8 +1,9 @@
 //! Lines of an input.
-ghost use Rattle.std.specs.Prelude.{◌≡◌, ◌==◌, ◌∷◌, [], ◌↔◌, List, ℕ, IsTrue, MatchOption, length};
-ghost use Rattle.std.specs.List.{position, before_first, after_first};
+ghost use Rattle.std.specs.Prelude.{◌≡◌, ◌∷◌, [], List, ℕ, MatchOption};
 ghost use Rattle.std.specs.Str.Lines.{lines, strip_carriage_return};
-ghost use Rattle.hall_tool.specs.Input.{HasOneLine, HasTwoLines, is_line_feed};
+ghost use Rattle.hall_tool.specs.Input.{HasOneLine, HasTwoLines};
+
+use crate::words::place_of;
 
 /// The most bytes that an input has.
 pub const LIMIT: usize = 8192;
@@ -17,13 +18,6 @@ fn without_return(line: &[u8]) -> &[u8]
     }
 }
 
-/// Where the first line feed stands.
-fn place_of_feed(bytes: &[u8]) -> Option<usize>
-    ensures { result ≡ position is_line_feed bytes.now }
-{
-    bytes.iter().position(|byte| *byte == b'\n')
-}
-
 /// The first line, and what follows it; none where there is no line.
 fn next_line(bytes: &[u8]) -> Option<(&[u8], &[u8])>
     ensures { MatchOption result (lines bytes.now ≡ []) (λ r. lines bytes.now ≡ r.0.now ∷ lines r.1.now) }
@@ -31,7 +25,7 @@ fn next_line(bytes: &[u8]) -> Option<(&[u8], &[u8])>
     if bytes.is_empty() {
         return None;
     }
-    match place_of_feed(bytes) {
+    match place_of(bytes, b'\n') {
         Some(at) => Some((without_return(&bytes[..at]), &bytes[at + 1..])),
         None => Some((bytes, &[])),
     }

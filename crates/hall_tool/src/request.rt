@@ -1,5 +1,5 @@
 //! The bytes of a record, read as a request.
-ghost use Rattle.std.specs.Prelude.{◌≡◌, ◌==◌, ℕ, Ok, Err, MatchResult, IfOk};
+ghost use Rattle.std.specs.Prelude.{◌≡◌, ◌==◌, Ok, Err, IfOk};
 ghost use Rattle.std.specs.List.{list_any};
 ghost use Rattle.hall_tool.specs.Given.{Gives, Finds};
 ghost use Rattle.hall_tool.specs.Request.{parts_in, parts_seen, is_space, is_word, key_in, ActionOf, PutOf, RequestOf};

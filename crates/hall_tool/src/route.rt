@@ -1,5 +1,4 @@
 //! The routes that are served.
-ghost use Rattle.std.specs.Prelude.{◌≡◌, codes};
 ghost use Rattle.hall_tool.specs.Given.{Gives};
 ghost use Rattle.hall_tool.specs.Request.{puzzle_number, puzzle_route, label_route, answer_route, below_round, round_route, route_in, is_method};
 

@@ -1,0 +1,169 @@
+//! Calls of the desk: a plan and its commit, a list of requests, certificates with their budgets, verdicts.
+use hall_desk::{Desk, Reply, StateName, certify, judge};
+use hall_grid::{Puzzle, parse_puzzle};
+use hall_policy::{Action, Checked, Moment, PuzzleKey, Request, TextKind, Within};
+use hall_solve::Outcome;
+use std::alloc::AllocGlobal;
+use std::process::Abort;
+
+fn text<K: TextKind>(rt: &(impl AllocGlobal + Abort), text: &str) -> Checked<K> {
+    let text = String::from_str(rt.alloc(), text).expect(rt, "memory");
+    Checked::new(text).expect(rt, "text")
+}
+
+fn number<const LEAST: u64, const MOST: u64>(rt: &impl Abort, n: u64) -> Within<LEAST, MOST> {
+    Within::new(n).expect(rt, "number")
+}
+
+/// Dora's certificate of bob's puzzle.
+fn certificate(rt: &(impl AllocGlobal + Abort)) -> Request {
+    let key = PuzzleKey {
+        author: text(rt, "bob"),
+        label: text(rt, "p1"),
+    };
+    Request {
+        key: Some(text(rt, "dora-key")),
+        action: Action::Certify {
+            key,
+            budget: number(rt, 200_000),
+        },
+    }
+}
+
+/// Dora's release of the round r1.
+fn release(rt: &(impl AllocGlobal + Abort)) -> Request {
+    Request {
+        key: Some(text(rt, "dora-key")),
+        action: Action::Release {
+            round: text(rt, "r1"),
+        },
+    }
+}
+
+/// Eve's answer to the puzzle of the round r1.
+fn answer(rt: &(impl AllocGlobal + Abort), token: &str) -> Request {
+    Request {
+        key: Some(text(rt, "eve-key-1")),
+        action: Action::Submit {
+            round: text(rt, "r1"),
+            number: number(rt, 1),
+            token: text(rt, token),
+            answer: text(rt, "1234341221434321"),
+        },
+    }
+}
+
+/// What an answer is answered: its number, where it is right.
+fn right_number(reply: &Reply) -> Option<u64> {
+    match reply {
+        Reply::Received {
+            n,
+            verdict: Some(names),
+        } if names.is_empty() => Some(n.get()),
+        _ => None,
+    }
+}
+
+#[test]
+fn plans_are_committed_and_lists_run(rt: HostRuntime) {
+    let t: Moment = number(&rt, 1_777_712_399);
+    let mut desk = Desk::new(rt.alloc()).expect(&rt, "desk");
+    let plan = desk
+        .plan(rt.alloc(), t, &certificate(&rt))
+        .expect(&rt, "plan");
+    assert!(rt; matches!(plan.reply(), Reply::Certified(StateName::One)));
+    let reply = desk.commit(rt.alloc(), plan).expect(&rt, "commit");
+    assert!(rt; matches!(&reply, Reply::Certified(StateName::One)));
+    let reply = desk.step(rt.alloc(), t, &release(&rt));
+    assert!(rt; matches!(&reply, Reply::Released(_)));
+    let later: Moment = number(&rt, 1_777_712_400);
+    let requests = [
+        (t, answer(&rt, "k1")),
+        (later, answer(&rt, "k1")),
+        (later, answer(&rt, "k2")),
+        (t, answer(&rt, "k1")),
+    ];
+    let replies = desk.run(rt.alloc(), &requests).expect(&rt, "run");
+    assert_eq!(rt; replies.len(), 4);
+    assert!(rt; matches!(&replies[0], Reply::Denied(7)));
+    assert_eq!(rt; right_number(&replies[1]), Some(1));
+    assert_eq!(rt; right_number(&replies[2]), Some(2));
+    assert_eq!(rt; right_number(&replies[3]), Some(1));
+}
+
+fn puzzle(rt: &(impl AllocGlobal + Abort), text: &str) -> Puzzle {
+    parse_puzzle(rt.alloc(), text.as_bytes()).expect(rt, "puzzle")
+}
+
+#[test]
+fn certifies_small_puzzles(rt: HostRuntime) {
+    for (text, budget, want) in [
+        ("sudoku/4/4/123434122143432g", 200_000, "one"),
+        ("sudoku/4/4/g2g4g4g221434321", 200_000, "more"),
+        ("sudoku/4/4/v", 1, "gave up"),
+        ("sudoku/4/4/v", 200_000, "more"),
+        ("nurikabe/2/2/1i", 200_000, "one"),
+        ("nurikabe/2/2/2i", 31, "more"),
+        ("nurikabe/2/2/2i", 2, "gave up"),
+        ("nurikabe/2/2/j", 31, "none"),
+        ("nurikabe/2/1/.g", 200_000, "more"),
+        ("slither/2/2/222c", 200_000, "one"),
+        ("slither/1/1/g", 200_000, "one"),
+        ("slither/1/1/a", 200_000, "none"),
+        ("slither/3/3/21210121c", 200_000, "one"),
+        ("slither/2/2/j", 2, "gave up"),
+        ("slither/2/2/j", 200_000, "more"),
+        ("slither/50/1/zzp", 200_000, "more"),
+        ("slither/2/2/222c", 0, "gave up"),
+    ] {
+        let puzzle = puzzle(&rt, text);
+        let given = match certify(rt.alloc(), &puzzle, budget).expect(&rt, "memory") {
+            Outcome::None => "none",
+            Outcome::One(_) => "one",
+            Outcome::More(_, _) => "more",
+            Outcome::GaveUp => "gave up",
+        };
+        assert_eq!(rt; given, want, "{text}");
+    }
+}
+
+#[test]
+fn judges_by_kind(rt: HostRuntime) {
+    for (text, answer, want) in [
+        ("sudoku/4/4/123434122143432g", "1234341221434321", "right"),
+        (
+            "sudoku/4/4/123434122143432g",
+            "1234341221434312",
+            "wrong U2 U4",
+        ),
+        (
+            "sudoku/4/4/123434122143432g",
+            "2134341221434321",
+            "wrong U2 U4",
+        ),
+        ("sudoku/4/4/123434122143432g", "123434122143432", "wrong A0"),
+        (
+            "sudoku/4/4/123434122143432g",
+            "1234341221434325",
+            "wrong A0",
+        ),
+        ("slither/3/1/i", "101101/1111", "wrong S5"),
+        ("slither/1/1/a", "00/00", "wrong S1"),
+        ("slither/2/1/g", "1010/110", "right"),
+        ("slither/2/1/g", "1010/100", "wrong S2"),
+        ("slither/2/2/222c", "110011/101101", "right"),
+        ("nurikabe/2/2/1i", ".##.", "wrong N3 N4"),
+        ("nurikabe/2/2/1i", ".###", "right"),
+        ("nurikabe/2/2/1i", ".##", "wrong A0"),
+        ("nurikabe/2/2/1i", "####", "wrong N1 N2"),
+        ("nurikabe/2/1/.g", "#.", "wrong N1 N4"),
+    ] {
+        let names = judge(rt.alloc(), &puzzle(&rt, text), answer.as_bytes());
+        let verdict = names.expect(&rt, "memory").to_string(rt.alloc());
+        assert_eq!(rt;
+            verdict.expect(&rt, "memory").as_str(),
+            want,
+            "{text} {answer}"
+        );
+    }
+}
