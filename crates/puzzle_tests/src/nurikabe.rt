@@ -1,0 +1,56 @@
+use crate::kinds::{assert_searches, assert_verdicts};
+use std::test::Fail;
+
+#[test]
+fn judges(rt: HostRuntime) -> Result<(), Fail> {
+    assert_verdicts(
+        &rt,
+        rt.alloc(),
+        &[
+            ("nurikabe/2/2/1i", ".###", "right"),
+            ("nurikabe/2/2/1i", ".##.", "wrong N3 N4"),
+            ("nurikabe/2/2/1i", "####", "wrong N1 N2"),
+            ("nurikabe/2/2/1i", "..##", "wrong N6"),
+            ("nurikabe/2/1/.g", "#.", "wrong N1 N4"),
+            ("nurikabe/2/1/.g", "..", "right"),
+            ("nurikabe/2/1/.g", ".#", "right"),
+            ("nurikabe/1/1/1", "#", "wrong N1"),
+            ("nurikabe/1/1/g", ".", "wrong N4"),
+            ("nurikabe/1/1/g", "#", "right"),
+            // The walls touch by corners alone.
+            ("nurikabe/2/2/1h1", ".##.", "wrong N3"),
+            ("nurikabe/3/3/1g1i1g1", ".#.###.#.", "right"),
+            // An island of two numbers, known and unknown.
+            ("nurikabe/3/1/1g1", "...", "wrong N5 N6"),
+            ("nurikabe/3/1/3g3", "...", "wrong N5"),
+            ("nurikabe/3/1/.g.", "...", "wrong N5"),
+            ("nurikabe/3/1/.g.", ".#.", "right"),
+            ("nurikabe/3/1/.g2", "...", "wrong N5 N6"),
+        ],
+    )
+}
+
+#[test]
+fn solves(rt: HostRuntime) -> Result<(), Fail> {
+    assert_searches(
+        &rt,
+        rt.alloc(),
+        &[
+            ("nurikabe/2/2/1i", 200000, "one", ".###", 1),
+            ("nurikabe/2/2/2i", 31, "more", "", 31),
+            ("nurikabe/2/2/j", 31, "none", "", 31),
+            ("nurikabe/2/1/.g", 200000, "more", "", 3),
+            ("nurikabe/5/5/-19zj", 200000, "one", ".........................", 1),
+            ("nurikabe/6/6/1zu", 200000, "none", "", 1),
+            ("nurikabe/2/2/1i", 0, "gave up", "", 0),
+            ("nurikabe/1/1/g", 200000, "one", "#", 1),
+            (
+                "nurikabe/10/10/k1j1g1j2g2i5n2j1t2j1g4j4l2k4t2g1j1",
+                200000,
+                "one",
+                "#####.####.#.#.#..#.###..####.#..#..#.###########.#..#..#.#.####.####.#..#.#..#.######..###..#.####.",
+                200000,
+            ),
+        ],
+    )
+}

@@ -1,0 +1,138 @@
+//! A search of a small board finds what a trial of all its fillings finds.
+use crate::kinds::{broken, search_puzzle};
+use hall_grid::{Filling, Kind, Puzzle, parse_answer, parse_puzzle};
+use hall_solve::Outcome;
+use std::alloc::Global;
+use std::test::Fail;
+
+/// The next number of a linear congruential generator.
+fn next(random: u32) -> u32 {
+    random.wrapping_mul(1664525).wrapping_add(1013904223)
+}
+
+/// The text of a board with random clues, and the generator's next state.
+fn random_board(
+    alloc: Global,
+    head: &str,
+    clues: &[char],
+    cells: usize,
+    seed: u32,
+) -> Result<(String, u32), Fail> {
+    let mut text = String::from_str(alloc, head)?;
+    let mut random = seed;
+    for _ in 0..cells {
+        random = next(random);
+        text.push(*clues.get((random >> 28) as usize).unwrap_or(&'g'))?;
+    }
+    Ok((text, random))
+}
+
+/// How many places a filling has, before which one a slash stands, and how the two values are written.
+fn form(puzzle: &Puzzle) -> (usize, usize, char, char) {
+    let size = puzzle.size();
+    match puzzle.kind() {
+        Kind::Slither => (size.all_sides(), size.flat_sides(), '0', '1'),
+        Kind::Sudoku | Kind::Nurikabe => (puzzle.cells(), puzzle.cells(), '.', '#'),
+    }
+}
+
+/// The answer text with the second value where the number has a bit, its lowest for the first place.
+fn answer_of(alloc: Global, puzzle: &Puzzle, number: u64) -> Result<String, Fail> {
+    let (places, slash, zero, one) = form(puzzle);
+    let mut text = String::new(alloc);
+    let mut rest = number;
+    for place in 0..places {
+        if place == slash {
+            text.push('/')?;
+        }
+        text.push(if rest % 2 == 1 { one } else { zero })?;
+        rest /= 2;
+    }
+    Ok(text)
+}
+
+/// How many fillings the board has.
+fn count_fillings(puzzle: &Puzzle) -> u64 {
+    let (places, _, _, _) = form(puzzle);
+    let mut fillings: u64 = 1;
+    for _ in 0..places {
+        fillings = fillings.wrapping_mul(2);
+    }
+    fillings
+}
+
+/// What a trial of all fillings finds, one after another, each judged.
+fn try_all(alloc: Global, puzzle: &Puzzle) -> Result<Outcome, Fail> {
+    let mut found: Option<Filling> = None;
+    for number in 0..count_fillings(puzzle) {
+        let text = answer_of(alloc, puzzle, number)?;
+        let filling = parse_answer(alloc, puzzle, text.as_bytes())?.ok_or("no filling")?;
+        if broken(alloc, puzzle, &filling)?.is_empty() {
+            match found.take() {
+                None => found = Some(filling),
+                Some(first) => return Ok(Outcome::More(first, filling)),
+            }
+        }
+    }
+    match found {
+        None => Ok(Outcome::None),
+        Some(filling) => Ok(Outcome::One(filling)),
+    }
+}
+
+/// What both found, nothing, the same one filling, or more than one; it is an error where they differ.
+fn agreed(a: &Outcome, b: &Outcome) -> Option<&'static str> {
+    match (a, b) {
+        (Outcome::None, Outcome::None) => Some("none"),
+        (Outcome::One(a), Outcome::One(b)) if a.as_slice() == b.as_slice() => Some("one"),
+        (Outcome::More(_, _), Outcome::More(_, _)) => Some("more"),
+        _ => None,
+    }
+}
+
+/// What a search, whose budget is every node of the plain tree, and a trial of all fillings find alike.
+fn searched_and_tried(alloc: Global, text: &str) -> Result<Option<&'static str>, Fail> {
+    let puzzle = parse_puzzle(alloc, text.as_bytes())?;
+    let budget = count_fillings(&puzzle).wrapping_mul(2).wrapping_sub(1);
+    let (found, _) = search_puzzle(alloc, &puzzle, budget)?;
+    Ok(agreed(&found, &try_all(alloc, &puzzle)?))
+}
+
+const SLITHER: [char; 8] = ['0', '0', '1', '1', '2', '2', '3', '3'];
+
+const NURIKABE: [char; 5] = ['.', '1', '2', '3', '4'];
+
+#[test]
+fn finds_what_trying_all_fillings_finds(rt: HostRuntime) -> Result<(), Fail> {
+    let mut random = 1;
+    let mut seen = [0; 3];
+    let rows: [(&str, &[char], usize, usize); 13] = [
+        ("slither/1/1/", &SLITHER, 1, 8),
+        ("slither/1/2/", &SLITHER, 2, 8),
+        ("slither/2/1/", &SLITHER, 2, 8),
+        ("slither/2/2/", &SLITHER, 4, 8),
+        ("slither/1/3/", &SLITHER, 3, 4),
+        ("slither/3/1/", &SLITHER, 3, 4),
+        ("nurikabe/1/1/", &NURIKABE, 1, 4),
+        ("nurikabe/2/1/", &NURIKABE, 2, 4),
+        ("nurikabe/1/3/", &NURIKABE, 3, 4),
+        ("nurikabe/2/2/", &NURIKABE, 4, 10),
+        ("nurikabe/3/2/", &NURIKABE, 6, 10),
+        ("nurikabe/2/3/", &NURIKABE, 6, 10),
+        ("nurikabe/3/3/", &NURIKABE, 9, 20),
+    ];
+    for (head, clues, cells, boards) in rows {
+        for _ in 0..boards {
+            let (text, state) = random_board(rt.alloc(), head, clues, cells, random)?;
+            random = state;
+            match searched_and_tried(rt.alloc(), text.as_str())? {
+                Some("none") => seen[0] += 1,
+                Some("one") => seen[1] += 1,
+                Some("more") => seen[2] += 1,
+                _ => panic!(rt; "at {text}"),
+            }
+        }
+    }
+    assert!(rt; seen[0] > 0 && seen[1] > 0 && seen[2] > 0);
+    Ok(())
+}

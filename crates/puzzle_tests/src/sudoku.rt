@@ -1,0 +1,56 @@
+use crate::kinds::{assert_searches, assert_verdicts};
+use std::test::Fail;
+
+#[test]
+fn judges(rt: HostRuntime) -> Result<(), Fail> {
+    assert_verdicts(
+        &rt,
+        rt.alloc(),
+        &[
+            ("sudoku/4/4/123434122143432g", "1234341221434321", "right"),
+            ("sudoku/4/4/123434122143432g", "1234341221434312", "wrong U2 U4"),
+            ("sudoku/4/4/", "1234123434123412", "wrong U2 U3"),
+            ("sudoku/4/4/", "1212343421214343", "wrong U1"),
+            ("sudoku/4/4/", "1234234134124123", "wrong U3"),
+            ("sudoku/6/6/", "123456456123234561561234345612612345", "right"),
+        ],
+    )
+}
+
+const NINE: &str = "sudoku/9/9/53h7j6h195j98j6g8i6i34h8g3h17i2i6g6j28j419h5j8h79";
+
+const NINE_SOLVED: &str = "534678912672195348198342567859761423426853791713924856961537284287419635345286179";
+
+const SIX: &str = "sudoku/6/6/12i64g6h3g3g5h56h34g4561g61g3h";
+
+const SIX_SOLVED: &str = "123456456123234561561234345612612345";
+
+const SIXTEEN: &str =
+    "sudoku/16/16/h3456g89agcdgf-10j9agcdef-10h3g9gbcdeg-1012g45g78dh-10123g5678gagc23456789abcdl89abifg123ibcdeg-10123g5g789efg12345678gabgd34h789abcdef-101g789hcdgf-10g23456bcdef-10g23456789gf-101g3456789abcdeg56789abcdef-101h89aieg-1012g4567cdgf-1012g4g6g89abh2345g789abif";
+
+const SIXTEEN_SOLVED: &str =
+    "123456789abcdefg56789abcdefg12349abcdefg12345678defg123456789abc23456789abcdefg16789abcdefg12345abcdefg123456789efg123456789abcd3456789abcdefg12789abcdefg123456bcdefg123456789afg123456789abcde456789abcdefg12389abcdefg1234567cdefg123456789abg123456789abcdef";
+
+#[test]
+fn solves(rt: HostRuntime) -> Result<(), Fail> {
+    assert_searches(
+        &rt,
+        rt.alloc(),
+        &[
+            (NINE, 200_000, "one", NINE_SOLVED, 1),
+            (NINE, 0, "gave up", "", 0),
+            (SIX, 200_000, "one", SIX_SOLVED, 1),
+            (SIXTEEN, 200_000, "one", SIXTEEN_SOLVED, 1),
+            ("sudoku/4/4/g2g4g4g221434321", 200_000, "more", "", 4),
+            ("sudoku/4/4/g2g4g4g221434321", 2, "gave up", "", 2),
+            ("sudoku/4/4/123434122143432g", 1, "one", "1234341221434321", 1),
+            ("sudoku/4/4/123434122143433g", 1, "none", "", 1),
+            ("sudoku/4/4/123j4", 200_000, "none", "", 1),
+            ("sudoku/4/4/v", 1, "gave up", "", 1),
+            ("sudoku/4/4/v", 200_000, "more", "", 400),
+            ("sudoku/6/6/zv", 200_000, "more", "", 400),
+            ("sudoku/9/9/zzzz", 200_000, "more", "", 400),
+            ("sudoku/16/16/", 200_000, "more", "", 2000),
+        ],
+    )
+}
