@@ -13,7 +13,7 @@ use Rattle.hall_grid.specs.Slither.{dots, all_sides, sides_of, is_line, degree}
 use Rattle.hall_grid.specs.Answer.{Breaks, BreaksSlither}
 use Rattle.hall_slither.specs.SidesAt.{sides_at, count_at, dot_row, dot_col, side_up, side_left, side_right, side_down}
 use Rattle.hall_slither.specs.Counts.{AreBelow, count_sides}
-use Rattle.hall_slither.specs.Search.{IsRight}
+use Rattle.hall_solve.specs.Puzzle.{IsRight}
 use Rattle.hall_slither.proofs.Degrees.{all_held, degree_is, sides_below}
 
 All_four : (P : Option ℕ → Type 0) (a b c d : Option ℕ) → P a → P b → P c → P d → All P (a ∷ b ∷ c ∷ d ∷ [])

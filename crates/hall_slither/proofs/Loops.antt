@@ -8,7 +8,7 @@ use Rattle.hall_grid.specs.declared.rule.Rule.TheVariants.{S5}
 use Rattle.hall_grid.specs.Board.{Board}
 use Rattle.hall_grid.specs.Slither.{dots, all_sides, is_line, is_end, IsLine, ShareDot, degree}
 use Rattle.hall_grid.proofs.Walks.{Walk-along}
-use Rattle.hall_slither.specs.Search.{IsRight}
+use Rattle.hall_solve.specs.Puzzle.{IsRight}
 use Rattle.hall_slither.proofs.Tallies.{count_by-numbers, tally-full}
 use Rattle.hall_slither.proofs.Neighbours.{ends_below, is_end_cases}
 use Rattle.hall_slither.proofs.Demands.{keeps_rules, passes}

@@ -9,7 +9,7 @@ use Rattle.hall_slither.specs.declared.chain.Ends.{Ends}
 use Rattle.hall_slither.specs.declared.chain.Ends.TheVariants.{Closed, Two}
 use Rattle.hall_slither.specs.Label.{LabelsDiffer}
 use Rattle.hall_slither.specs.Chains.{HaveEnds}
-use Rattle.hall_slither.specs.Search.{IsRight}
+use Rattle.hall_solve.specs.Puzzle.{IsRight}
 
 -- a puzzle, its lines so far, a label for each line's chain, the ends of each chain, whether there are several, and a chain that is a loop
 pub record Layout : Type 0 where

@@ -2,5 +2,4 @@ pub mod Chains
 pub mod Closing
 pub mod Counts
 pub mod Label
-pub mod Search
 pub mod SidesAt

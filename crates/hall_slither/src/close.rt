@@ -4,7 +4,7 @@ ghost use Rattle.hall_grid.specs.Slither.{all_sides, HasOtherCount};
 ghost use Rattle.hall_grid.specs.Component.{IsLabelled};
 ghost use Rattle.hall_solve.specs.Question.{IsPartial, Narrows};
 ghost use Rattle.hall_solve.specs.Deduction.{IsDeduced};
-ghost use Rattle.hall_slither.specs.Search.{question_of};
+ghost use Rattle.hall_solve.specs.Puzzle.{question_of};
 
 use crate::chain::{Ends, chain_ends, first_line, lines_so_far};
 use crate::judge::has_other_count;
@@ -76,7 +76,7 @@ impl<'a> Chains<'a> {
 
     fn new(alloc: Global, puzzle: &'a Puzzle, partial: &Partial) -> Result<Chains<'a>, AllocError>
         requires kind { puzzle.now.kind ≡ Kind.Slither }
-        requires partial { IsPartial (question_of puzzle.now) partial.now }
+        requires partial { IsPartial (question_of Kind.Slither puzzle.now) partial.now }
         ensures board { IfOk result (λ c. c.board ≡ puzzle.now) }
         ensures lines { IfOk result (λ c. AreLines partial.now c.lines) }
     {
@@ -156,9 +156,9 @@ pub(crate) fn close_chains(
     partial: &mut Partial,
 ) -> Result<Pass, AllocError>
     requires kind { puzzle.now.kind ≡ Kind.Slither }
-    requires partial { IsPartial (question_of puzzle.now) partial.old }
-    ensures deduced { IfOk result (IsDeduced (question_of puzzle.now) partial.old partial.new) }
-    ensures err { OnErr result (Narrows (question_of puzzle.now) partial.old partial.new) }
+    requires partial { IsPartial (question_of Kind.Slither puzzle.now) partial.old }
+    ensures deduced { IfOk result (IsDeduced (question_of Kind.Slither puzzle.now) partial.old partial.new) }
+    ensures err { OnErr result (Narrows (question_of Kind.Slither puzzle.now) partial.old partial.new) }
 {
     let chains = Chains::new(alloc, puzzle, partial)?;
     sweep(alloc, &chains, partial)

@@ -12,8 +12,3 @@ mod spread;
 
 pub use judge::broken;
 pub use rules::{SlitherRules, start};
-
-#[cfg(test)]
-mod search_tests;
-#[cfg(test)]
-mod tests;

@@ -1,7 +1,7 @@
 //! The rules of a Slitherlink puzzle, as a search asks them.
 ghost use Rattle.std.specs.Prelude.{◌≡◌, ◌<◌, IsTrue, IfOk, Some, slice_set};
 ghost use Rattle.hall_solve.specs.Question.{IsPartial, IsOpen, IsHopeless};
-ghost use Rattle.hall_slither.specs.Search.{question_of, IsUnset, AllExtend};
+ghost use Rattle.hall_solve.specs.Puzzle.{question_of, start_of, AllExtend};
 
 use crate::close::close_chains;
 use crate::judge::broken;
@@ -34,7 +34,7 @@ impl<'a> Model for Deductions<'a> {
 }
 
 impl<'a> Deduce for Deductions<'a> {
-    ghost question = { question_of };
+    ghost question = { question_of Kind.Slither };
 
     fn pass(&self, alloc: Global, partial: &mut Partial) -> Result<Pass, AllocError> {
         match follow_counts(alloc, self.puzzle, partial)? {
@@ -72,10 +72,10 @@ impl<'a> Trials<'a> {
         side: usize,
         value: u8,
     ) -> Result<bool, AllocError>
-        requires partial { IsPartial (question_of self.now) partial.now }
+        requires partial { IsPartial (question_of Kind.Slither self.now) partial.now }
         requires side { IsOpen partial.now side }
         requires value { value < 2 }
-        ensures { IfOk result (λ fails. IsTrue fails → IsHopeless (question_of self.now) (slice_set partial.now side (Some value))) }
+        ensures { IfOk result (λ fails. IsTrue fails → IsHopeless (question_of Kind.Slither self.now) (slice_set partial.now side (Some value))) }
     {
         let mut trial = partial.copy()?;
         trial.set(side, value);
@@ -86,7 +86,7 @@ impl<'a> Trials<'a> {
 impl<'a> Look for Trials<'a> {
     ghost use Rattle.hall_grid.specs.Slither.{all_sides};
 
-    ghost question = { question_of };
+    ghost question = { question_of Kind.Slither };
 
     ghost spots = { λ board. all_sides board.size };
 
@@ -109,7 +109,7 @@ impl<'a> Look for Trials<'a> {
 }
 
 impl<'a> Deduce for Trials<'a> {
-    ghost question = { question_of };
+    ghost question = { question_of Kind.Slither };
 
     fn pass(&self, alloc: Global, partial: &mut Partial) -> Result<Pass, AllocError> {
         match self.deductions.pass(alloc, partial)? {
@@ -128,7 +128,7 @@ pub struct SlitherRules<'a> {
 }
 
 impl<'a> Model for SlitherRules<'a> {
-    ghost use Rattle.hall_slither.specs.Search.{Progress};
+    ghost use Rattle.hall_solve.specs.Puzzle.{Progress};
 
     ghost Value = { Progress };
 
@@ -141,7 +141,7 @@ impl<'a> Model for SlitherRules<'a> {
 }
 
 impl<'a> SlitherRules<'a> {
-    ghost use Rattle.hall_slither.specs.Search.{begun};
+    ghost use Rattle.hall_solve.specs.Puzzle.{begun};
 
     /// The rules of the puzzle, with both counts 0.
     pub fn new(puzzle: &'a Puzzle) -> SlitherRules<'a>
@@ -159,7 +159,7 @@ impl<'a> SlitherRules<'a> {
 }
 
 impl<'a> Rules for SlitherRules<'a> {
-    ghost question = { λ r. question_of r.board };
+    ghost question = { λ r. question_of Kind.Slither r.board };
 
     ghost visits = { λ r. r.visits };
 
@@ -199,9 +199,9 @@ impl<'a> Rules for SlitherRules<'a> {
 /// The partial filling where a search begins: no side is given.
 pub fn start(alloc: Global, puzzle: &Puzzle) -> Result<Partial, AllocError>
     requires { puzzle.now.kind ≡ Kind.Slither }
-    ensures givens { IfOk result (IsUnset puzzle.now) }
-    ensures partial { IfOk result (IsPartial (question_of puzzle.now)) }
-    ensures solutions { IfOk result (AllExtend puzzle.now) }
+    ensures start { IfOk result (λ p. p ≡ start_of Kind.Slither puzzle.now) }
+    ensures partial { IfOk result (IsPartial (question_of Kind.Slither puzzle.now)) }
+    ensures solutions { IfOk result (AllExtend Kind.Slither puzzle.now) }
 {
     Partial::new(alloc, puzzle.size().all_sides())
 }

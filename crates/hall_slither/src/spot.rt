@@ -4,7 +4,7 @@ ghost use Rattle.hall_grid.specs.Board.{IsSize, cells};
 ghost use Rattle.hall_grid.specs.Slither.{all_sides, dots, is_line};
 ghost use Rattle.hall_solve.specs.Question.{IsPartial};
 ghost use Rattle.hall_slither.specs.Counts.{IsSpot, spot_sides, AreBelow, count_sides, has_line, is_open, Meets, Follows, IsTold};
-ghost use Rattle.hall_slither.specs.Search.{IsRight, question_of};
+ghost use Rattle.hall_solve.specs.Puzzle.{IsRight, question_of};
 
 use crate::dot::{dot_count, sides_at};
 use hall_grid::{Clue, Kind, Puzzle, Size, dot_ends, sides};
@@ -133,9 +133,9 @@ fn exact_outcome(number: usize, lines: usize, unset: usize) -> Outcome
 /// What follows for the open sides at the spot.
 pub(crate) fn look(puzzle: &Puzzle, partial: &Partial, spot: Spot) -> Outcome
     requires kind { puzzle.now.kind ≡ Kind.Slither }
-    requires partial { IsPartial (question_of puzzle.now) partial.now }
+    requires partial { IsPartial (question_of Kind.Slither puzzle.now) partial.now }
     requires spot { IsSpot puzzle.now.size spot }
-    ensures { IsTold (question_of puzzle.now) partial.now (spot_sides puzzle.now.size spot) result }
+    ensures { IsTold (question_of Kind.Slither puzzle.now) partial.now (spot_sides puzzle.now.size spot) result }
 {
     let (lines, unset) = tally(partial, &spot_sides(puzzle.size(), spot));
     outcome_of(demand_at(puzzle, spot), lines, unset)

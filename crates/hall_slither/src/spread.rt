@@ -5,7 +5,7 @@ ghost use Rattle.hall_grid.specs.Slither.{all_sides};
 ghost use Rattle.hall_solve.specs.Question.{IsPartial, Narrows};
 ghost use Rattle.hall_solve.specs.Deduction.{IsDeduced};
 ghost use Rattle.hall_slither.specs.Counts.{IsSpot, AreBelow, SetsAmong, AreSet, work};
-ghost use Rattle.hall_slither.specs.Search.{question_of};
+ghost use Rattle.hall_solve.specs.Puzzle.{question_of};
 
 use crate::dot::dot_count;
 use crate::spot::{Outcome, Spot, look, spot_sides};
@@ -120,9 +120,9 @@ pub(crate) fn follow_counts(
     partial: &mut Partial,
 ) -> Result<Pass, AllocError>
     requires kind { puzzle.now.kind ≡ Kind.Slither }
-    requires partial { IsPartial (question_of puzzle.now) partial.old }
-    ensures deduced { IfOk result (IsDeduced (question_of puzzle.now) partial.old partial.new) }
-    ensures err { OnErr result (Narrows (question_of puzzle.now) partial.old partial.new) }
+    requires partial { IsPartial (question_of Kind.Slither puzzle.now) partial.old }
+    ensures deduced { IfOk result (IsDeduced (question_of Kind.Slither puzzle.now) partial.old partial.new) }
+    ensures err { OnErr result (Narrows (question_of Kind.Slither puzzle.now) partial.old partial.new) }
 {
     let size = puzzle.size();
     let mut stack = all_spots(alloc, size)?;

@@ -3,14 +3,15 @@ use Rattle.hall_solve.specs.Question.{Narrows}
 use Rattle.hall_solve.proofs.Boards.{open-keeps}
 use Rattle.hall_solve.specs.declared.deduce.Pass.TheVariants.{Advanced, Dead}
 use Rattle.hall_slither.specs.Counts.{spot_sides, IsTold}
-use Rattle.hall_slither.specs.Search.{question_of}
+use Rattle.hall_grid.specs.declared.board.Kind.TheVariants.{Slither}
+use Rattle.hall_solve.specs.Puzzle.{question_of}
 use Rattle.hall_slither.specs.declared.spot.Outcome.TheVariants.{AllBe}
 use Rattle.hall_slither.proofs.Setting.{Narrows-among, fewer_open, OnErr-from}
 use Rattle.hall_slither.proofs.spread.follow_counts.Goals as goal
 
 pub loop-spot-preserved : goal.loop-spot-preserved
 loop-spot-preserved c =
-    let q = question_of c.args.puzzle.now in
+    let q = question_of Slither c.args.puzzle.now in
     let sides_are : c.spot_sides.result ≡ spot_sides c.args.puzzle.now.size c.in-Some.spot =
     c.spot_sides.ensures.sides ∙ ap (λ size. spot_sides size c.in-Some.spot) c.size-size.ensures.size in
     let told : IsTold q c.loop-spot.partial c.spot_sides.result (AllBe c.in-AllBe.value) =
@@ -30,7 +31,7 @@ loop-spot-preserved c =
 
 pub returns-in_err-set_open-in-AllBe-clause-err : goal.returns-in_err-set_open-in-AllBe-clause-err
 returns-in_err-set_open-in-AllBe-clause-err c =
-    let q = question_of c.args.puzzle.now in
+    let q = question_of Slither c.args.puzzle.now in
     let sides_are : c.spot_sides.result ≡ spot_sides c.args.puzzle.now.size c.in-Some.spot =
     c.spot_sides.ensures.sides ∙ ap (λ size. spot_sides size c.in-Some.spot) c.size-size.ensures.size in
     let told : IsTold q c.loop-spot.partial c.spot_sides.result (AllBe c.in-AllBe.value) =
