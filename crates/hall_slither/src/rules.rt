@@ -1,11 +1,12 @@
 //! The rules of a Slitherlink puzzle, as a search asks them.
 ghost use Rattle.std.specs.Prelude.{◌≡◌, ◌<◌, IsTrue, IfOk, Some, slice_set};
+ghost use Rattle.hall_grid.specs.declared.board.Kind.TheVariants.{Slither};
 ghost use Rattle.hall_solve.specs.Question.{IsPartial, IsOpen, IsHopeless};
 ghost use Rattle.hall_solve.specs.Puzzle.{question_of, start_of, AllExtend};
 
 use crate::close::close_chains;
+use crate::follow::follow_counts;
 use crate::judge::broken;
-use crate::spread::follow_counts;
 use hall_grid::{Filling, Kind, Puzzle};
 use hall_solve::{Deduce, Finding, Look, Partial, Pass, Rules, Step, settle, sweep};
 use std::alloc::{AllocError, Global};
@@ -15,7 +16,7 @@ use std::marker::Model;
 const VISITS_WITH_TRIALS: u64 = 8;
 
 /// What follows for the sides of a puzzle.
-#[derive(Debug, Drop)]
+#[derive(Drop)]
 struct Deductions<'a> {
     puzzle: &'a Puzzle,
 }
@@ -34,7 +35,7 @@ impl<'a> Model for Deductions<'a> {
 }
 
 impl<'a> Deduce for Deductions<'a> {
-    ghost question = { question_of Kind.Slither };
+    ghost question = { question_of Slither };
 
     fn pass(&self, alloc: Global, partial: &mut Partial) -> Result<Pass, AllocError> {
         match follow_counts(alloc, self.puzzle, partial)? {
@@ -45,7 +46,7 @@ impl<'a> Deduce for Deductions<'a> {
 }
 
 /// The same, and what a trial of both values at each side shows; that takes far longer.
-#[derive(Debug, Drop)]
+#[derive(Drop)]
 struct Trials<'a> {
     deductions: Deductions<'a>,
 }
@@ -86,7 +87,7 @@ impl<'a> Trials<'a> {
 impl<'a> Look for Trials<'a> {
     ghost use Rattle.hall_grid.specs.Slither.{all_sides};
 
-    ghost question = { question_of Kind.Slither };
+    ghost question = { question_of Slither };
 
     ghost spots = { λ board. all_sides board.size };
 
@@ -109,7 +110,7 @@ impl<'a> Look for Trials<'a> {
 }
 
 impl<'a> Deduce for Trials<'a> {
-    ghost question = { question_of Kind.Slither };
+    ghost question = { question_of Slither };
 
     fn pass(&self, alloc: Global, partial: &mut Partial) -> Result<Pass, AllocError> {
         match self.deductions.pass(alloc, partial)? {
@@ -120,7 +121,7 @@ impl<'a> Deduce for Trials<'a> {
 }
 
 /// The rules of one puzzle, and counts of what a search asked.
-#[derive(Debug, Drop)]
+#[derive(Drop)]
 pub struct SlitherRules<'a> {
     trials: Trials<'a>,
     visits: u64,
@@ -159,7 +160,7 @@ impl<'a> SlitherRules<'a> {
 }
 
 impl<'a> Rules for SlitherRules<'a> {
-    ghost question = { λ r. question_of Kind.Slither r.board };
+    ghost question = { λ r. question_of Slither r.board };
 
     ghost visits = { λ r. r.visits };
 

@@ -4,11 +4,12 @@ use Rattle.hall_grid.specs.Board.{Board}
 use Rattle.hall_solve.specs.Question.{Narrows}
 use Rattle.hall_solve.specs.Deduction.{IsDeduced}
 use Rattle.hall_solve.specs.declared.deduce.Pass.{Pass}
-use Rattle.hall_slither.specs.Chains.{AreLines}
-use Rattle.hall_slither.specs.Closing.{Layout, layout_question}
+use Rattle.hall_solve.specs.declared.deduce.Pass.TheVariants.{Dead}
+use Rattle.hall_slither.specs.Chain.{AreLines}
+use Rattle.hall_slither.specs.Close.{Layout, layout_question}
 use Rattle.hall_grid.specs.declared.board.Kind.TheVariants.{Slither}
 use Rattle.hall_solve.specs.Puzzle.{question_of}
-use Rattle.hall_slither.proofs.Questions.{Narrows-puzzle, IsDeduced-puzzle}
+use Rattle.hall_slither.proofs.LayoutQuestion.{Narrows-puzzle, IsDeduced-puzzle}
 use Rattle.hall_slither.proofs.close.close_chains.Goals as goal
 
 IfOk-puzzle : {E : Type 0} (layout : Layout) (board : Board) (old new : List (Option ℕ)) (r : Result Pass E) → layout.board ≡ board → AreLines old layout.lines
@@ -30,3 +31,9 @@ pub returns-clause-err : goal.returns-clause-err
 returns-clause-err c =
     OnErr-puzzle c.in_ok-chains.chains c.args.puzzle.now c.args.partial.now c.sweep.new.partial c.sweep.result c.in_ok-chains.ensures.board c.in_ok-chains.ensures.lines
     c.sweep.ensures.err
+
+pub returns-then-has_wrong_loop-clause-deduced : goal.returns-then-has_wrong_loop-clause-deduced
+returns-then-has_wrong_loop-clause-deduced c =
+    subst (λ b. IsDeduced (question_of Slither b) c.args.partial.now c.args.partial.now Dead) c.in_ok-chains.ensures.board
+    (IsDeduced-puzzle c.in_ok-chains.chains c.args.partial.now c.in_ok-chains.ensures.lines c.args.partial.now Dead
+    (c.has_wrong_loop.ensures.hopeless c.if-has_wrong_loop.true c.args.partial.now))
