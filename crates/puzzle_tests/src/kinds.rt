@@ -123,3 +123,120 @@ pub(crate) fn assert_searches(
     }
     Ok(())
 }
+
+/// The value that a letter of a partial board says; `?` and all else says none.
+fn value_of(kind: Kind, letter: u8) -> Option<u8> {
+    match (kind, letter) {
+        (Kind::Sudoku, b'1'..=b'9') => Some(letter.wrapping_sub(b'1')),
+        (Kind::Slither, b'0') | (Kind::Nurikabe, b'.') => Some(0),
+        (Kind::Slither, b'1') | (Kind::Nurikabe, b'#') => Some(1),
+        _ => None,
+    }
+}
+
+/// Sets the open places whose letters say a value.
+fn set_places<R: Rules>(rules: &R, partial: &mut Partial, kind: Kind, text: &[u8])
+    requires { IsPartial (R.question rules.now) partial.old }
+    ensures { IsPartial (R.question rules.now) partial.new }
+{
+    let mut place = 0;
+    for letter in text {
+        if let Some(value) = value_of(kind, *letter) {
+            if place < rules.cells() && value < rules.values() && partial.get(place).is_none() {
+                partial.set(place, value);
+            }
+        }
+        if *letter != b'/' && place < rules.cells() {
+            place += 1;
+        }
+    }
+}
+
+/// What the last of several visits with fresh rules to a partial board leaves, or nothing where that finds no solution.
+fn visit_fresh<R: Rules + Drop>(
+    alloc: Global,
+    mut rules: R,
+    mut partial: Partial,
+    kind: Kind,
+    text: &[u8],
+    visits: u8,
+) -> Result<Option<Partial>, AllocError>
+    requires fresh { R.visits rules ≡ 0 }
+    requires start { IsPartial (R.question rules) partial }
+{
+    set_places(&rules, &mut partial, kind, text);
+    for _ in 1..visits {
+        let mut copy = partial.copy()?;
+        rules.propagate(alloc, &mut copy)?;
+    }
+    match rules.propagate(alloc, &mut partial)? {
+        Step::Dead => Ok(None),
+        Step::Live => Ok(Some(partial)),
+    }
+}
+
+/// The same for a puzzle, whose search begins with the places that its clues set.
+fn visited(
+    alloc: Global,
+    puzzle: &Puzzle,
+    text: &[u8],
+    visits: u8,
+) -> Result<Option<Partial>, AllocError> {
+    let kind = puzzle.kind();
+    match kind {
+        Kind::Sudoku => {
+            let rules = SudokuRules::new(alloc, puzzle)?;
+            visit_fresh(alloc, rules, hall_sudoku::start(alloc, puzzle)?, kind, text, visits)
+        }
+        Kind::Slither => {
+            let rules = SlitherRules::new(puzzle);
+            visit_fresh(alloc, rules, hall_slither::start(alloc, puzzle)?, kind, text, visits)
+        }
+        Kind::Nurikabe => {
+            let rules = NurikabeRules::new(puzzle);
+            visit_fresh(alloc, rules, hall_nurikabe::start(alloc, puzzle)?, kind, text, visits)
+        }
+    }
+}
+
+/// Whether the board has exactly the values that the letters say.
+fn shows(kind: Kind, partial: &Partial, text: &[u8]) -> bool {
+    let mut place = 0;
+    for letter in text {
+        if *letter != b'/' {
+            if place >= partial.len() || partial.get(place) != value_of(kind, *letter) {
+                return false;
+            }
+            place += 1;
+        }
+    }
+    place == partial.len()
+}
+
+/// Whether the visits leave what the text says, or find no solution where it says `dead`.
+fn leaves(
+    alloc: Global,
+    puzzle: &str,
+    before: &str,
+    visits: u8,
+    after: &str,
+) -> Result<bool, Fail> {
+    let puzzle = parse_puzzle(alloc, puzzle.as_bytes())?;
+    match visited(alloc, &puzzle, before.as_bytes(), visits)? {
+        Some(partial) => Ok(shows(puzzle.kind(), &partial, after.as_bytes())),
+        None => Ok(after == "dead"),
+    }
+}
+
+/// Rows of a deduction, a puzzle, a partial board, and the same after the last of several visits. Clues are set in any case.
+pub(crate) fn assert_deductions(
+    rt: &impl Abort,
+    alloc: Global,
+    visits: u8,
+    rows: &[(&str, &str, &str, &str)],
+) -> Result<(), Fail> {
+    for (name, puzzle, before, after) in rows {
+        assert!(rt; leaves(alloc, *puzzle, *before, visits, *after)?, "{name}");
+    }
+    Ok(())
+}

@@ -1,4 +1,4 @@
-use crate::kinds::{assert_searches, assert_verdicts};
+use crate::kinds::{assert_deductions, assert_searches, assert_verdicts};
 use std::test::Fail;
 
 #[test]
@@ -51,6 +51,31 @@ fn solves(rt: HostRuntime) -> Result<(), Fail> {
                 "#####.####.#.#.#..#.###..####.#..#..#.###########.#..#..#.#.####.####.#..#.#..#.######..###..#.####.",
                 200000,
             ),
+        ],
+    )
+}
+
+/// Each row needs the deduction that it names: without that, the cells that it adds stay open, or the board isn't found dead.
+#[test]
+fn deduces(rt: HostRuntime) -> Result<(), Fail> {
+    assert_deductions(
+        &rt,
+        rt.alloc(),
+        1,
+        &[
+            ("no pool", "nurikabe/3/2/.k", ".?#?##", "..#?##"),
+            ("a pool", "nurikabe/2/2/j", "####", "dead"),
+            ("walls apart", "nurikabe/5/2/m.h", "#?.????.?#", "dead"),
+            ("two numbers in a group", "nurikabe/3/1/..g", "..?", "dead"),
+            ("a wall between two groups", "nurikabe/3/1/.g.", ".?.", ".#."),
+            ("walls round a full group", "nurikabe/3/1/g2g", "..?", "..#"),
+            ("too large a group", "nurikabe/4/1/g2h", "...#", "dead"),
+            ("one way out of a group", "nurikabe/3/1/h.", ".?.", "..."),
+            ("one way out of walls", "nurikabe/3/2/h.i", "??.#?#", "??.###"),
+            ("a wall where no number comes", "nurikabe/3/1/i", "?##", "###"),
+            ("no more room than a number needs", "nurikabe/3/1/g3g", "?.?", "..."),
+            ("too little room for a number", "nurikabe/3/1/g4g", "?.?", "dead"),
+            ("a cell that is forced to both", "nurikabe/2/2/i2", ".??.", "dead"),
         ],
     )
 }

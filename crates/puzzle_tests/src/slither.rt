@@ -1,4 +1,4 @@
-use crate::kinds::{assert_searches, assert_verdicts};
+use crate::kinds::{assert_deductions, assert_searches, assert_verdicts};
 use std::test::Fail;
 
 #[test]
@@ -83,6 +83,44 @@ fn solves(rt: HostRuntime) -> Result<(), Fail> {
             ("slither/3/2/3272d", 200000, "more", "", 9),
             ("slither/3/2/h06c", 200000, "none", "", 9),
             ("slither/3/2/28b", 200000, "none", "", 9),
+        ],
+    )
+}
+
+/// The visits from the first on that try both values at each side.
+const TRIALS: u8 = 8;
+
+/// Each row needs the deduction that it names: without that, the sides that it adds stay open, or the board isn't found dead.
+#[test]
+fn deduces(rt: HostRuntime) -> Result<(), Fail> {
+    assert_deductions(
+        &rt,
+        rt.alloc(),
+        TRIALS + 1,
+        &[
+            ("a dot with one side left has no line", "slither/2/1/h", "?0??/??0", "?0?0/??0"),
+            ("a dot with one line and one side left has two", "slither/1/1/g", "?1/11", "11/11"),
+            ("a dot with two lines has no third", "slither/2/2/j", "??11??/??????", "??11??/?0??0?"),
+            ("a dot with one line", "slither/1/1/g", "00/01", "dead"),
+            ("a dot with more than two lines", "slither/2/1/h", "1111/111", "dead"),
+            ("a cell with all its lines has no more", "slither/1/1/0", "??/??", "00/00"),
+            ("a cell needs all sides that are left", "slither/1/1/4", "??/??", "11/11"),
+            ("a cell with too many lines", "slither/1/1/1", "11/11", "dead"),
+            ("a cell with too few sides left", "slither/1/1/1", "00/00", "dead"),
+            ("no loop closes beside another chain", "slither/4/1/j", "1???1??1/1????", "11111111/10001"),
+            ("no loop closes that misses a number", "slither/2/1/g3", "1?1?/1??", "1111/101"),
+            ("no line beside a loop", "slither/3/1/i", "1??1??/11??", "100100/1100"),
+            ("a loop beside another line", "slither/4/1/j", "1??11???/11???", "dead"),
+            ("a loop beside another line, no side left", "slither/3/3/p", "100100001001/110000000011", "dead"),
+        ],
+    )?;
+    assert_deductions(
+        &rt,
+        rt.alloc(),
+        1,
+        &[
+            ("a line that fails is none", "slither/3/1/g1g", "?0????/????", "?0??0?/????"),
+            ("a line whose lack fails is one", "slither/3/1/g3g", "??????/????", "?1??1?/????"),
         ],
     )
 }

@@ -1,4 +1,4 @@
-use crate::kinds::{assert_searches, assert_verdicts};
+use crate::kinds::{assert_deductions, assert_searches, assert_verdicts};
 use std::test::Fail;
 
 #[test]
@@ -51,6 +51,29 @@ fn solves(rt: HostRuntime) -> Result<(), Fail> {
             ("sudoku/6/6/zv", 200_000, "more", "", 400),
             ("sudoku/9/9/zzzz", 200_000, "more", "", 400),
             ("sudoku/16/16/", 200_000, "more", "", 2000),
+        ],
+    )
+}
+
+/// Each row needs the deduction that it names: without that, the places that it adds stay open, or the board isn't found dead.
+#[test]
+fn deduces(rt: HostRuntime) -> Result<(), Fail> {
+    assert_deductions(
+        &rt,
+        rt.alloc(),
+        1,
+        &[
+            ("naked single", "sudoku/6/6/g6k4p531u", "", "?6?????4?????2????531???????????????"),
+            ("hidden single in a row", "sudoku/6/6/k1j5p1n324i", "", "?????1????5??????????1????????324?1?"),
+            ("hidden single in a column", "sudoku/6/6/j1n4k6r1i", "", "????1??1?????4?????6????????????1???"),
+            ("hidden single in a box", "sudoku/6/6/u1r56k4", "", "???????????????1????????????56????14"),
+            ("a cell with no value left", "sudoku/9/9/l123g78m9m4n5n6zu", "", "dead"),
+            ("a value with no cell left in a row", "sudoku/9/9/i2345671zzzq", "", "dead"),
+            ("a value with no cell left in a column", "sudoku/9/9/g1zk2n3n4n5n6n7n", "", "dead"),
+            ("a value with no cell left in a box", "sudoku/9/9/i1k234l567zzz", "", "dead"),
+            ("two equal in a row", "sudoku/9/9/1h1zzzw", "", "dead"),
+            ("two equal in a column", "sudoku/6/6/1q1zi", "", "dead"),
+            ("two equal in a box", "sudoku/9/9/zs8o8zw", "", "dead"),
         ],
     )
 }
