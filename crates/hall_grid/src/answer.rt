@@ -140,17 +140,34 @@ pub fn parse_answer(
     }
 }
 
+/// How a number less 1 is written.
+fn number_byte(value: u8) -> u8
+    requires { value < 35 }
+    ensures { result ≡ sudoku_byte value }
+{
+    if value < 9 {
+        b'1' + value
+    } else {
+        b'a' + (value - 9)
+    }
+}
+
+/// How wall or white is written.
+fn wall_byte(value: u8) -> u8
+    ensures { result ≡ nurikabe_byte value }
+{
+    if value == 1 { b'#' } else { b'.' }
+}
+
 /// How a value is written.
 fn byte_of(kind: Kind, value: u8) -> u8
     requires { value < 35 }
     ensures { result ≡ value_byte kind value }
 {
     match kind {
-        Kind::Sudoku if value < 9 => b'1' + value,
-        Kind::Sudoku => b'a' + (value - 9),
+        Kind::Sudoku => number_byte(value),
         Kind::Slither => b'0' + value,
-        Kind::Nurikabe if value == 1 => b'#',
-        Kind::Nurikabe => b'.',
+        Kind::Nurikabe => wall_byte(value),
     }
 }
 

@@ -1,8 +1,8 @@
 //! The body of a puzzle text.
 ghost use Rattle.std.specs.Prelude.{◌≡◌, ◌<◌, ◌-◌, ◌*◌, ◌⊎◌, ◌↔◌, ◌++◌, IsTrue, IfOk, IfErr, OnOk, length, replicate, All};
 ghost use Rattle.hall_grid.specs.Board.{cells, HasSize, IsClue};
-ghost use Rattle.hall_grid.specs.Body.{Spells, FaultAt, IsWrong, HasPlace, TakesForm, fitted};
-ghost use Rattle.hall_grid.specs.FormReading.{given_clues};
+ghost use Rattle.hall_grid.specs.Body.{Spells, FaultAt, IsWrong, HasPlace, fitted};
+ghost use Rattle.hall_grid.specs.FormReading.{TakesForm, given_clues};
 
 use crate::board::{Clue, Kind, MOST_NUMBER, Size};
 use crate::fault::TextFault;
@@ -86,9 +86,7 @@ fn read_form<'a>(
 fn fit(clues: &mut Vec<Clue>, n: usize) -> Result<(), AllocError>
     ensures { OnOk result (clues.new.items ≡ fitted n clues.old.items) }
 {
-    let missing = n.saturating_sub(clues.len());
-    clues.truncate(n);
-    push_blanks(clues, missing)
+    clues.resize(n, Clue::Blank)
 }
 
 /// The clues that the body spells, or its leftmost fault.

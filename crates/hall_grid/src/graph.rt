@@ -1,7 +1,8 @@
 //! Graphs on numbers: floods and components.
 ghost use Rattle.std.specs.Prelude.{◌≡◌, ℕ, ◌<◌, ◌↔◌, ◌⊎◌, IsTrue, IfOk, OnOk, length, map, Contains, []};
 ghost use Rattle.std.specs.Option.{is_some};
-ghost use Rattle.hall_grid.specs.Component.{AreComponents, Floods, HasComponents, IsLabelled, Labels, LabelsDiffer};
+ghost use Rattle.hall_grid.specs.Component.{AreComponents, IsLabelled, LabelsDiffer};
+ghost use Rattle.hall_grid.specs.Flood.{Floods, HasComponents, Labels};
 ghost use Rattle.hall_grid.specs.Reached.{IsReach};
 
 use std::alloc::{AllocError, Global};

@@ -1,5 +1,5 @@
 use Rattle.std.proofs.Common.{◌+◌, string_bytes, arith, subst, sym, ap}
-use Rattle.hall_grid.proofs.Writings.{IsWritten, IsWritten-more, AppendsBody-from_IsWritten}
+use Rattle.hall_grid.proofs.AppendsBody.{IsWritten, IsWritten-more, AppendsBody-from_IsWritten}
 use Rattle.hall_grid.proofs.write.push_body.Goals as goal
 
 pub loop-cell-preserved : goal.loop-cell-preserved

@@ -2,9 +2,9 @@ use Rattle.std.proofs.Common.{◌≡◌, ◌++◌, ℕ, List, ◌∙◌, ap, str
 use Rattle.hall_grid.specs.Board.{Board}
 use Rattle.hall_grid.specs.Canonical.{CanonicalText, head_of}
 use Rattle.hall_grid.specs.Writing.{AppendsBody}
-use Rattle.hall_grid.proofs.Spelled.{SpellsText-from_CanonicalText}
-use Rattle.hall_grid.proofs.OneWriting.{one_canonical_text}
-use Rattle.hall_grid.proofs.Plain.{IsPlain-from_CanonicalText}
+use Rattle.hall_grid.proofs.CanonicalSpells.{SpellsText-from_CanonicalText}
+use Rattle.hall_grid.proofs.HasOneCanonicalText.{one_canonical_text}
+use Rattle.hall_grid.proofs.IsPlain.{IsPlain-from_CanonicalText}
 use Rattle.hall_grid.proofs.write.write_puzzle.Goals as goal
 
 -- the head and a canonical body

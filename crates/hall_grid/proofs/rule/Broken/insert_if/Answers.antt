@@ -1,4 +1,4 @@
-use Rattle.hall_grid.proofs.Rules.{Adds-bit, Adds-nothing}
+use Rattle.hall_grid.proofs.NameSets.{Adds-bit, Adds-nothing}
 use Rattle.hall_grid.proofs.rule.Broken.insert_if.Goals as goal
 use Rattle.hall_grid.proofs.rule.Broken.insert_if.Goals.{then-holds, else-holds}
 
