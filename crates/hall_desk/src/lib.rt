@@ -30,6 +30,3 @@ pub use reply::{AnswerLine, Reply, ShownPuzzle, ShownRound, StateName};
 pub use rows::Rows;
 pub use store::StoreFault;
 pub use verdict::judge;
-
-#[cfg(test)]
-mod tests;
