@@ -21,6 +21,7 @@ mod step;
 mod store;
 mod submitting;
 mod verdict;
+mod writes;
 
 pub use certificate::certify;
 pub use desk::Desk;

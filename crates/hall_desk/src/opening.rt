@@ -10,6 +10,7 @@ ghost use Rattle.hall_desk.specs.Sane.{Sane};
 
 use crate::map_reads::{holder, person_at};
 use crate::map_store::MapStore;
+use crate::writes::{push, put};
 use crate::reply::Reply;
 use crate::step::step;
 use crate::store::StoreFault;
@@ -116,10 +117,8 @@ fn insert_person(store: &mut MapStore, person: Person) -> Result<(), StoreFault>
         return Err(StoreFault::Failed);
     }
     let name = person.name.clone()?;
-    match store.people.insert(name, person) {
-        Ok(_) => Ok(()),
-        Err(_) => Err(StoreFault::Memory),
-    }
+    put(&mut store.people, name, person)?;
+    Ok(())
 }
 
 /// Whether nobody has the name or the key, and the roles may go together.
@@ -166,13 +165,23 @@ fn add_puzzle(
     ensures { OnOk result (Sane (world_of store.new)) }
 {
     let request = put_request(alloc, key, author, label, puzzle)?;
+    let put = put_puzzle(alloc, store, &request);
+    drop(request);
+    put
+}
+
+/// Answers the request at the first moment, where the reply is that of a puzzle that was put.
+fn put_puzzle(alloc: Global, store: &mut MapStore, request: &Request) -> Result<(), StoreFault>
+    requires { Sane (world_of store.old) }
+    ensures { OnOk result (Sane (world_of store.new)) }
+{
     let Some(t) = Moment::new(0) else {
         return Err(StoreFault::Failed);
     };
-    match step(alloc, store, t, &request) {
-        Reply::PuzzlePut { .. } => Ok(()),
-        _ => Err(StoreFault::Failed),
-    }
+    let reply = step(alloc, store, t, request);
+    let put = matches!(&reply, Reply::PuzzlePut { .. });
+    drop(reply);
+    if put { Ok(()) } else { Err(StoreFault::Failed) }
 }
 
 /// What the author asks to put the puzzle.
@@ -319,7 +328,7 @@ fn draft_entries(alloc: Global, draft: &Draft) -> Result<Entries, StoreFault> {
 /// The list of one puzzle.
 fn entries_of(alloc: Global, entry: Entry) -> Result<Entries, StoreFault> {
     let mut list = Vec::new(alloc);
-    list.push(entry).map_err(AllocError::from)?;
+    push(&mut list, entry)?;
     Entries::new(list).ok_or(StoreFault::Failed)
 }
 
@@ -334,10 +343,8 @@ pub(crate) fn insert_draft(store: &mut MapStore, row: RoundRow) -> Result<(), St
         return Err(StoreFault::Failed);
     }
     let id = row.round.id.clone()?;
-    match store.rounds.insert(id, row) {
-        Ok(_) => Ok(()),
-        Err(_) => Err(StoreFault::Memory),
-    }
+    put(&mut store.rounds, id, row)?;
+    Ok(())
 }
 
 /// Whether each entry's puzzle is kept.
