@@ -1,10 +1,14 @@
 -- Labels of nodes, and the labels that tell a graph's components apart.
-use Rattle.std.specs.Prelude.{◌≡◌, ◌⊎◌, ℕ, ◌+◌, ◌*◌, ◌≤◌, List, [], ◌∷◌, length, slice_index_or, Contains, Option, Some, None}
+use Rattle.std.specs.Prelude.{◌≡◌, ◌≢◌, ◌⊎◌, ℕ, ◌+◌, ◌*◌, ◌≤◌, List, [], ◌∷◌, length, slice_index_or, Contains, Option, Some, None}
 use Rattle.hall_grid.specs.Walk.{Walk}
 
 -- the node has this label
 abbrev pub IsLabelled : List (Option ℕ) → ℕ → ℕ → Type 0
 IsLabelled labels node label = slice_index_or labels node None ≡ Some label
+
+-- two nodes have different labels
+abbrev pub LabelsDiffer : List (Option ℕ) → Type 0
+LabelsDiffer labels = (a b x y : ℕ) × IsLabelled labels a x × IsLabelled labels b y × (x ≢ y)
 
 -- labels of components: a member has one, it is the number of a member that a walk joins to it, and members that a walk joins have the same
 pub record AreComponents (nodes : ℕ) (IsNext : ℕ → ℕ → Type 0) (IsMember : ℕ → Type 0) (labels : List (Option ℕ)) : Type 0 where

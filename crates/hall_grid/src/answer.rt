@@ -185,6 +185,3 @@ pub fn write_answer(alloc: Global, puzzle: &Puzzle, filling: &Filling) -> Result
     }
     Ok(text)
 }
-
-#[cfg(test)]
-mod tests;

@@ -102,7 +102,7 @@ pub fn parse_body(
     ensures ok { IfOk result (λ clues. Spells kind size body.now clues.items) }
     ensures err { IfErr result (λ e. (e ≡ TextFault.Memory) ⊎ FaultAt kind size body.now e) }
 {
-    let cells = size.rows * size.cols;
+    let cells = size.cells();
     let mut clues = Vec::new(alloc);
     let mut rest = body;
     while !rest.is_empty() {

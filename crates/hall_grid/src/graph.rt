@@ -1,7 +1,7 @@
 //! Graphs on numbers: floods and components.
 ghost use Rattle.std.specs.Prelude.{◌≡◌, ℕ, ◌<◌, ◌↔◌, ◌⊎◌, IsTrue, IfOk, OnOk, length, map, Contains, []};
 ghost use Rattle.std.specs.Option.{is_some};
-ghost use Rattle.hall_grid.specs.Component.{AreComponents, Floods, HasComponents, IsLabelled, Labels};
+ghost use Rattle.hall_grid.specs.Component.{AreComponents, Floods, HasComponents, IsLabelled, Labels, LabelsDiffer};
 ghost use Rattle.hall_grid.specs.Reached.{IsReach};
 
 use std::alloc::{AllocError, Global};
@@ -122,4 +122,20 @@ pub fn components<G: Graph>(alloc: Global, graph: &G) -> Result<Vec<Option<usize
         flood(graph, &mut labels, &mut stack, node)?;
     }
     Ok(labels)
+}
+
+/// Whether two nodes have different labels.
+pub fn labels_differ(labels: &[Option<usize>]) -> bool
+    ensures { IsTrue result ↔ LabelsDiffer labels.now }
+{
+    let mut known = None;
+    for place in labels {
+        if let Some(label) = place {
+            match known {
+                Some(other) if other != *label => return true,
+                _ => known = Some(*label),
+            }
+        }
+    }
+    false
 }

@@ -80,7 +80,7 @@ pub fn sides(size: Size, cell: usize) -> [usize; 4]
     ensures board { All (λ side. side < all_sides size) result }
 {
     let row = cell / size.cols;
-    let flat_sides = (size.rows + 1) * size.cols;
+    let flat_sides = size.flat_sides();
     let left = flat_sides + cell + row;
     [cell, left, left + 1, cell + size.cols]
 }
@@ -92,7 +92,7 @@ pub fn dot_ends(size: Size, edge: usize) -> (usize, usize)
     ensures ends { result ≡ ends size edge }
     ensures dots { (result.0 < dots size) × (result.1 < dots size) }
 {
-    let flat_sides = (size.rows + 1) * size.cols;
+    let flat_sides = size.flat_sides();
     if edge < flat_sides {
         let dot = edge + edge / size.cols;
         (dot, dot + 1)
