@@ -21,7 +21,10 @@ struct Shared {
 }
 
 /// The values that some cell of each unit may have, and those that several may have.
-fn spread(units: &[u8], candidates: &[Values]) -> ([Values; MOST_UNITS], [Values; MOST_UNITS])
+fn seen_and_shared(
+    units: &[u8],
+    candidates: &[Values],
+) -> ([Values; MOST_UNITS], [Values; MOST_UNITS])
     requires cells { length units.now ≤ length candidates.now }
     requires units { (cell : ℕ) → cell < length units.now → slice_index units.now cell < MOST_UNITS }
     ensures seen_size { length result.0 ≡ MOST_UNITS }
@@ -64,7 +67,7 @@ fn shared_in(units: &[u8], candidates: &[Values], side: u8) -> Option<[Values; M
     ensures some { IfSome result (AreShared (slice_index units.now) (length units.now) candidates.now) }
     ensures none { IfNone result (IsMissing (slice_index units.now) (length units.now) candidates.now side) }
 {
-    let (seen, shared) = spread(units, candidates);
+    let (seen, shared) = seen_and_shared(units, candidates);
     if lacks_one(&seen, side) {
         None
     } else {

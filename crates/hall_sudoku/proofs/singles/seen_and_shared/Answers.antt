@@ -1,7 +1,7 @@
 use Rattle.std.proofs.Common.{ℕ, ◌<◌, length, get_or, ◌∙◌, inl, inr, arith}
 use Rattle.std.proofs.lemmas.List.{length-set}
 use Rattle.hall_sudoku.proofs.Tables.{read_has, read_is, seen_more, shared_more}
-use Rattle.hall_sudoku.proofs.singles.spread.Goals as goal
+use Rattle.hall_sudoku.proofs.singles.seen_and_shared.Goals as goal
 
 pub loop-cell-preserved : goal.loop-cell-preserved
 loop-cell-preserved c =

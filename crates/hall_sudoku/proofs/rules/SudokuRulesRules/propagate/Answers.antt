@@ -3,8 +3,8 @@ use Rattle.std.proofs.lemmas.Result.{IfOk-weaker, on_err_weaker}
 use Rattle.hall_solve.specs.Question.{Narrows, IsHopeless}
 use Rattle.hall_grid.specs.declared.board.Size.{Size}
 use Rattle.hall_sudoku.specs.Units.{units_question}
-use Rattle.hall_sudoku.proofs.Puzzles.{narrows_of, hopeless_of}
-use Rattle.hall_sudoku.proofs.sudoku.SudokuRulesRules.propagate.Goals as goal
+use Rattle.hall_sudoku.proofs.UnitsQuestion.{narrows_of, hopeless_of}
+use Rattle.hall_sudoku.proofs.rules.SudokuRulesRules.propagate.Goals as goal
 
 pub returns-clause-live : goal.returns-clause-live
 returns-clause-live c =
