@@ -11,7 +11,7 @@ use Rattle.std.proofs.lemmas.Map.Keys.{IsDistinct-push, apart_from_distinct}
 use Rattle.std.proofs.lemmas.Map.Steps.{length-le_from_distinct_below}
 use Rattle.std.proofs.lemmas.Map.Views.{list_any-from_Contains, Contains-from_any}
 use Rattle.hall_grid.specs.Nurikabe.{Lists}
-use Rattle.hall_nurikabe.specs.Tally.{HasCount}
+use Rattle.hall_nurikabe.specs.Counts.{HasCount}
 
 member_of : (xs : List ℕ) (q : ℕ) → list_any (nat_eq q) xs ≡ true → Contains xs q
 member_of xs q h = Contains-from_any eqb-true q xs h

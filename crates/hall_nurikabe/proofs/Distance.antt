@@ -10,12 +10,13 @@ use Rattle.hall_grid.specs.RegionLaws.{Touch-turn}
 use Rattle.hall_grid.proofs.Walks.{Walk-reverse, Walk-end}
 use Rattle.hall_solve.specs.Question.{IsPartial, Solves}
 use Rattle.hall_solve.specs.Deduction.{HasAlways}
-use Rattle.hall_nurikabe.specs.Tally.{HasCount}
-use Rattle.hall_nurikabe.specs.Solving.{question_of}
+use Rattle.hall_nurikabe.specs.Counts.{HasCount}
+use Rattle.hall_grid.specs.declared.board.Kind.TheVariants.{Nurikabe}
+use Rattle.hall_solve.specs.Puzzle.{question_of}
 use Rattle.hall_nurikabe.specs.Forced.{IsOpenTo}
-use Rattle.hall_nurikabe.specs.Spreading.{FallsByOne, IsSpread}
+use Rattle.hall_nurikabe.specs.Steps.{FallsByOne, AreStepsLeft}
 use Rattle.hall_nurikabe.proofs.Counting.{HasCount-within, HasCount-lacks, HasCount-bound, HasCount-empty, not_uncounted}
-use Rattle.hall_nurikabe.proofs.Solutions.{wall_or_white}
+use Rattle.hall_nurikabe.proofs.Solutions.{no_rule_broken, wall_or_white}
 use Rattle.hall_nurikabe.proofs.Sound.{open_white, counted}
 
 -- on a walk each value between those of its ends is taken, where it falls by one at most
@@ -63,33 +64,33 @@ module _ (size : Size) (IsMember : ℕ → Type 0) (left : List ℕ) (falls : Fa
         omega arith))
   ]
 
-module _ (board : Board) (p : List (Option ℕ)) (part : IsPartial (question_of board) p) (whole : length board.clues ≡ cells board.size) (left : List ℕ)
-    (spread : IsSpread board (IsOpenTo p 1) left) where
-  white_falls : (f : List ℕ) → Solves (question_of board) p f → FallsByOne board.size (IsWhite board.size f) left 0
-  white_falls f s a b t ma mb more = spread.falls a b t (open_white board p part f s a ma) (open_white board p part f s b mb) more
+module _ (board : Board) (kind : board.kind ≡ Nurikabe) (p : List (Option ℕ)) (part : IsPartial (question_of Nurikabe board) p) (whole : length board.clues ≡ cells board.size) (left : List ℕ)
+    (steps : AreStepsLeft board (IsOpenTo p 1) left) where
+  white_falls : (f : List ℕ) → Solves (question_of Nurikabe board) p f → FallsByOne board.size (IsWhite board.size f) left 0
+  white_falls f s a b t ma mb more = steps.falls a b t (open_white board kind p part f s a ma) (open_white board kind p part f s b mb) more
 
   -- the island of a white cell with nothing left has no number
-  numberless : (f : List ℕ) (s : Solves (question_of board) p f) (x : ℕ) → get_or left x 0 ≡ 0 → (other : ℕ) → InIsland board.size f x other
+  numberless : (f : List ℕ) (s : Solves (question_of Nurikabe board) p f) (x : ℕ) → get_or left x 0 ≡ 0 → (other : ℕ) → InIsland board.size f x other
       → IsNumbered board other → ⊥
   numberless f s x none other w (inl (n, clue)) =
       let back = Walk-reverse (Touch board.size) (IsWhite board.size f) (Touch-turn board.size) x other w in
-      counted board p part whole other n clue f s (λ c.
+      counted board kind p part whole other n clue f s (λ c.
       let k = more_than_left board.size (IsWhite board.size f) left (white_falls f s) (cells board.size) other x back none (λ y h. h.0) n c in
-      let l = spread.numbers.known other n clue in
+      let l = steps.numbers.known other n clue in
       omega arith)
   numberless f s x none other w (inr clue) =
       let back = Walk-reverse (Touch board.size) (IsWhite board.size f) (Touch-turn board.size) x other w in
       not_uncounted (InIsland board.size f other) (cells board.size) (λ y h. (Walk-end (Touch board.size) (IsWhite board.size f) other y h).0) (λ m c.
       let k = more_than_left board.size (IsWhite board.size f) left (white_falls f s) (cells board.size) other x back none (λ y h. h.0) m c in
-      let l = spread.numbers.unknown other clue in
+      let l = steps.numbers.unknown other clue in
       let b = HasCount-bound (InIsland board.size f other) m (cells board.size) (λ y h. (Walk-end (Touch board.size) (IsWhite board.size f) other y h).0) c in
       omega arith)
 
-  pub far_forced : (x : ℕ) → x < cells board.size → get_or left x 0 ≡ 0 → HasAlways (question_of board) p x 1
-  far_forced x low none = λ f s. wall_or_white board f x s.filling low (λ white. s.right N4 (x, white, λ other w numbered. numberless f s x none other w numbered))
+  pub far_forced : (x : ℕ) → x < cells board.size → get_or left x 0 ≡ 0 → HasAlways (question_of Nurikabe board) p x 1
+  far_forced x low none = λ f s. wall_or_white board f x s.filling low (λ white. no_rule_broken board f kind s.right N4 (x, white, λ other w numbered. numberless f s x none other w numbered))
 
-pub IsSpread-members : (board : Board) (S T : ℕ → Type 0) (left : List ℕ) → ((x : ℕ) → S x ↔ T x) → IsSpread board S left → IsSpread board T left
-IsSpread-members board S T left same s = record {
+pub AreStepsLeft-members : (board : Board) (S T : ℕ → Type 0) (left : List ℕ) → ((x : ℕ) → S x ↔ T x) → AreStepsLeft board S left → AreStepsLeft board T left
+AreStepsLeft-members board S T left same s = record {
   numbers = s.numbers;
   falls = λ a b t ma mb more. s.falls a b t ((same a).1 ma) ((same b).1 mb) more;
 }

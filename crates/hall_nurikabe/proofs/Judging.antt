@@ -11,20 +11,18 @@ use Rattle.hall_grid.specs.Board.{Board, cells, Touch}
 use Rattle.hall_grid.specs.Component.{IsLabelled, AreComponents}
 use Rattle.hall_grid.specs.Reached.{IsMarked}
 use Rattle.hall_grid.specs.RegionLaws.{Touch-turn}
-use Rattle.hall_grid.specs.Nurikabe.{IsWhite, IsWall, InIsland, HasNumberInWall, HasPool, HasWallsApart, HasIslandWithoutNumber, HasIslandWithTwo, HasIslandOfOtherSize}
+use Rattle.hall_grid.specs.Nurikabe.{IsNumbered, IsWhite, IsWall, InIsland, HasNumberInWall, HasPool, HasWallsApart, HasIslandWithoutNumber, HasIslandWithTwo, HasIslandOfOtherSize}
 use Rattle.hall_grid.specs.Answer.{BreaksNurikabe}
 use Rattle.hall_grid.proofs.Labelling.{one_label, labelled_below}
 use Rattle.hall_grid.proofs.Joined.{AreComponents-members, own_label, labelled_member, walk_from_label, label_from_walk}
 use Rattle.hall_grid.proofs.Naming.{Test, IsTested, nothing_put_in, one_more, names_are}
-use Rattle.hall_nurikabe.specs.Tally.{HasCount, IsCounted, Tallies, AreCells, MarksColour, MarksNumbers}
+use Rattle.hall_nurikabe.specs.Counts.{HasCount, IsCounted, AreCounts, AreCells}
+use Rattle.hall_nurikabe.specs.Marks.{IsColoured, MarksWhere}
 use Rattle.hall_nurikabe.proofs.Counting.{same_length, HasCount-same, HasCount-empty, HasCount-some, HasCount-two, two_HasCount}
-
-pub through : {A B C : Type 0} → (A ↔ B) → (B ↔ C) → A ↔ C
-through p q = ((λ a. q.0 (p.0 a)), (λ c. p.1 (q.1 c)))
 
 -- labels of the regions of one colour
 module _ (size : Size) (f : List ℕ) (colour : ℕ) (marks : List Bool) (labels : List (Option ℕ)) (exact : length f ≡ cells size)
-    (m : MarksColour f colour marks) (a : AreComponents (cells size) (Touch size) (IsMarked marks) labels) where
+    (m : MarksWhere (IsColoured f colour) (length f) marks) (a : AreComponents (cells size) (Touch size) (IsMarked marks) labels) where
   colour_is : (cell : ℕ) → IsMarked marks cell ↔ ((cell < cells size) × (slice_index f cell ≡ colour))
   colour_is cell = (
     (λ h. let k = (m.marked cell).0 h in (let low = k.0 in omega arith, k.1)),
@@ -82,7 +80,7 @@ module _ (board : Board) (f : List ℕ) (labels : List (Option ℕ)) (a : AreCom
   walk : (c d label : ℕ) → IsLabelled labels c label → IsLabelled labels d label → InIsland board.size f c d
   walk c d label p q = walk_from_label (cells board.size) (Touch board.size) (IsWhite board.size f) labels a (Touch-turn board.size) c d label p q
 
-  module _ (marks : List Bool) (numbers : List ℕ) (n : MarksNumbers board marks) (t : Tallies labels marks (length labels) numbers) where
+  module _ (marks : List Bool) (numbers : List ℕ) (n : MarksWhere (IsNumbered board) (cells board.size) marks) (t : AreCounts labels marks (length labels) numbers) where
     without_number : ((cell label : ℕ) × IsLabelled labels cell label × (slice_index numbers label ≡ 0)) → HasIslandWithoutNumber board f
     without_number (cell, label, h, e) = (
       cell,
@@ -132,7 +130,7 @@ module _ (board : Board) (f : List ℕ) (labels : List (Option ℕ)) (a : AreCom
     with_two_are = (with_two, two_counted)
 
   module _ (marks : List Bool) (sizes : List ℕ) (m : (cell : ℕ) → IsWhite board.size f cell → IsMarked marks cell)
-      (t : Tallies labels marks (length labels) sizes) where
+      (t : AreCounts labels marks (length labels) sizes) where
     island_is : (cell label : ℕ) → IsLabelled labels cell label → (x : ℕ) → IsCounted labels marks (length labels) label x ↔ InIsland board.size f cell x
     island_is cell label h x = (
       (λ k. walk cell x label h k.1),
@@ -167,7 +165,7 @@ module _ (board : Board) (f : List ℕ) (labels : List (Option ℕ)) (a : AreCom
     other_size_are = (other_size, other_count)
 
 -- a number in a wall
-pub number_in_wall_are : (board : Board) (f : List ℕ) (numbered walls : List Bool) → length f ≡ cells board.size → MarksNumbers board numbered → MarksColour f 1 walls
+pub number_in_wall_are : (board : Board) (f : List ℕ) (numbered walls : List Bool) → length f ≡ cells board.size → MarksWhere (IsNumbered board) (cells board.size) numbered → MarksWhere (IsColoured f 1) (length f) walls
     → ((cell : ℕ) × IsMarked numbered cell × IsMarked walls cell) ↔ HasNumberInWall board f
 number_in_wall_are board f numbered walls e n w = (
   (λ (c, p, q). (c, (n.marked c).0 p, (let k = (w.marked c).0 q in (let low = k.0 in omega arith, k.1)))),

@@ -1,9 +1,10 @@
 pub mod Counting
-pub mod Tallies
+pub mod Marks
+pub mod Counts
 pub mod Pools
-pub mod Numbers
 pub mod Judging
 pub mod Solutions
+pub mod Begun
 pub mod Blocking
 pub mod Forcing
 pub mod Regioning

@@ -4,7 +4,7 @@ use Rattle.std.proofs.lemmas.Nat.{div-add-mod', mod-mul-add}
 use Rattle.hall_grid.specs.declared.board.Size.{Size}
 use Rattle.hall_grid.specs.Board.{cells, row, col}
 use Rattle.hall_grid.specs.Nurikabe.{IsWall, HasPool}
-use Rattle.hall_nurikabe.specs.Tally.{IsPoolAt}
+use Rattle.hall_nurikabe.specs.Block.{IsPoolAt}
 
 wall_at : (size : Size) (f : List ℕ) (a b : ℕ) → a ≡ b → IsWall size f a → IsWall size f b
 wall_at size f a b e w = subst (IsWall size f) e w

@@ -10,7 +10,7 @@ use Rattle.hall_grid.specs.Component.{IsLabelled, AreComponents}
 use Rattle.hall_grid.specs.Reached.{IsMarked}
 use Rattle.hall_grid.proofs.Labelling.{labelled_below, one_label, place_in}
 use Rattle.hall_grid.proofs.Joined.{labelled_member, AreComponents-members}
-use Rattle.hall_nurikabe.specs.Tally.{IsCounted, Tallies}
+use Rattle.hall_nurikabe.specs.Counts.{IsCounted, AreCounts}
 use Rattle.hall_nurikabe.specs.Forced.{AreOwners, AreRegions, HaveTwoOwners, IsBeside}
 use Rattle.hall_nurikabe.proofs.Counting.{HasCount-same}
 
@@ -82,10 +82,10 @@ AreOwners-from_below board labels owners end all o = record {
 }
 
 -- the regions of marked cells, with their sizes
-pub AreRegions-from_Tallies : (size : Size) (marks : List Bool) (labels : List (Option ℕ)) (sizes : List ℕ)
-    → AreComponents (cells size) (Touch size) (IsMarked marks) labels → Tallies labels marks (length labels) sizes
+pub AreRegions-from_AreCounts : (size : Size) (marks : List Bool) (labels : List (Option ℕ)) (sizes : List ℕ)
+    → AreComponents (cells size) (Touch size) (IsMarked marks) labels → AreCounts labels marks (length labels) sizes
     → AreRegions size (IsMarked marks) labels sizes
-AreRegions-from_Tallies size marks labels sizes a t = record {
+AreRegions-from_AreCounts size marks labels sizes a t = record {
   components = a;
   exact = t.exact ∙ a.exact;
   counted = λ label h.

@@ -4,7 +4,7 @@ use Rattle.std.proofs.lemmas.Bool.{cases_eq}
 use Rattle.std.proofs.lemmas.List.{get_or-set_same, get_or-set_other, length-set}
 use Rattle.hall_grid.specs.declared.board.Size.{Size}
 use Rattle.hall_grid.specs.Board.{Board, Touch}
-use Rattle.hall_nurikabe.specs.Spreading.{CoversNumbers, FallsByOne, Raises}
+use Rattle.hall_nurikabe.specs.Steps.{CoversNumbers, FallsByOne, Raises}
 
 pub Raises-none : (reach : ℕ) (left : List ℕ) → Raises reach left left
 Raises-none reach left = record { exact = refl; only = λ c. inl refl }

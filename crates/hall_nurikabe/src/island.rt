@@ -1,7 +1,9 @@
 //! Marks and counts of cells.
-ghost use Rattle.std.specs.Prelude.{◌≡◌, ℕ, ◌<◌, ◌↔◌, IsTrue, IfOk, length};
+ghost use Rattle.std.specs.Prelude.{◌≡◌, ◌==◌, ◌↔◌, IsTrue, IfOk, length, map};
 ghost use Rattle.hall_grid.specs.Board.{cells};
-ghost use Rattle.hall_nurikabe.specs.Tally.{AreCells, IsNumber, MarksColour, MarksNumbers, Tallies};
+ghost use Rattle.hall_grid.specs.Nurikabe.{IsNumbered};
+ghost use Rattle.hall_nurikabe.specs.Marks.{IsNumber, MarksWhere};
+ghost use Rattle.hall_nurikabe.specs.Counts.{AreCells, AreCounts};
 
 use hall_grid::{Clue, Puzzle};
 use std::alloc::{AllocError, Global};
@@ -18,7 +20,7 @@ pub(crate) fn is_number(clue: Clue) -> bool
 
 /// Whether each cell has a number, known or not.
 pub(crate) fn numbered_cells(alloc: Global, puzzle: &Puzzle) -> Result<Vec<bool>, AllocError>
-    ensures { IfOk result (λ marks. MarksNumbers puzzle.now marks.items) }
+    ensures { IfOk result (λ marks. MarksWhere (IsNumbered puzzle.now) (cells puzzle.now.size) marks.items) }
 {
     let mut marks = Vec::new(alloc);
     for cell in 0..puzzle.cells() {
@@ -29,24 +31,20 @@ pub(crate) fn numbered_cells(alloc: Global, puzzle: &Puzzle) -> Result<Vec<bool>
 
 /// Whether each cell has the colour.
 pub(crate) fn cells_of(alloc: Global, filling: &[u8], colour: u8) -> Result<Vec<bool>, AllocError>
-    ensures { IfOk result (λ marks. MarksColour filling.now colour marks.items) }
+    ensures { IfOk result (λ marks. marks.items ≡ map (λ v. v == colour) filling.now) }
 {
-    let mut marks = Vec::new(alloc);
-    for value in filling {
-        marks.push(*value == colour)?;
-    }
-    Ok(marks)
+    filling.iter().map(|value| *value == colour).collect(alloc)
 }
 
 /// For each label how many marked cells have it.
-pub(crate) fn tally(
+pub(crate) fn count_by_label(
     alloc: Global,
     labels: &[Option<usize>],
     marks: &[bool],
 ) -> Result<Vec<usize>, AllocError>
     requires exact { length marks.now ≡ length labels.now }
     requires labels { AreCells labels.now }
-    ensures { IfOk result (λ counts. Tallies labels.now marks.now (length labels.now) counts.items) }
+    ensures { IfOk result (λ counts. AreCounts labels.now marks.now (length labels.now) counts.items) }
 {
     let mut counts = vec![in alloc; 0; labels.len()]?;
     for cell in 0..labels.len() {

@@ -5,9 +5,10 @@ ghost use Rattle.hall_grid.specs.Answer.{IsFilling, AreBroken};
 ghost use Rattle.hall_grid.specs.Component.{IsLabelled};
 ghost use Rattle.hall_grid.specs.Reached.{IsMarked};
 ghost use Rattle.hall_grid.specs.declared.board.Clue.TheVariants.{Number};
-ghost use Rattle.hall_nurikabe.specs.Tally.{AreCells, IsPoolAt};
+ghost use Rattle.hall_nurikabe.specs.Counts.{AreCells};
+ghost use Rattle.hall_nurikabe.specs.Block.{IsPoolAt};
 
-use crate::island::{cells_of, numbered_cells, tally};
+use crate::island::{cells_of, count_by_label, numbered_cells};
 use hall_grid::{Broken, Clue, Filling, Kind, Puzzle, Rule, Size, regions};
 use std::alloc::{AllocError, Global};
 
@@ -134,8 +135,8 @@ pub fn broken(alloc: Global, puzzle: &Puzzle, filling: &Filling) -> Result<Broke
     let numbered = numbered_cells(alloc, puzzle)?;
     let wall_labels = regions(alloc, size, &walls)?;
     let islands = regions(alloc, size, &whites)?;
-    let numbers = tally(alloc, &islands, &numbered)?;
-    let sizes = tally(alloc, &islands, &whites)?;
+    let numbers = count_by_label(alloc, &islands, &numbered)?;
+    let sizes = count_by_label(alloc, &islands, &whites)?;
     let mut broken = Broken::new();
     broken.insert_if(Rule::N1, have_common_cell(&numbered, &walls));
     broken.insert_if(Rule::N2, has_pool(size, filling));

@@ -2,14 +2,15 @@ use Rattle.std.proofs.Common.{◌≡◌, length, arith}
 use Rattle.hall_grid.specs.Board.{cells, Touch}
 use Rattle.hall_grid.specs.Nurikabe.{IsWhite, IsWall}
 use Rattle.hall_grid.specs.Component.{AreComponents}
-use Rattle.hall_nurikabe.proofs.Judging.{AreCells-from_regions, regions_are, apart_are, without_number_are, with_two_are, other_size_are, number_in_wall_are, through, nurikabe_names}
+use Rattle.hall_nurikabe.proofs.Judging.{AreCells-from_regions, regions_are, apart_are, without_number_are, with_two_are, other_size_are, number_in_wall_are, nurikabe_names}
+use Rattle.hall_nurikabe.proofs.Marks.{Marks-colour, through}
 use Rattle.hall_nurikabe.proofs.judge.broken.Goals as goal
 
-pub tally-requires-clause-labels : goal.tally-requires-clause-labels
-tally-requires-clause-labels c = rw c.deref-3.ensures.value (AreCells-from_regions _ c.size-size.result _ _ c.in_ok-islands.ensures)
+pub count_by_label-requires-clause-labels : goal.count_by_label-requires-clause-labels
+count_by_label-requires-clause-labels c = rw c.deref-3.ensures.value (AreCells-from_regions _ c.size-size.result _ _ c.in_ok-islands.ensures)
 
-pub tally-requires-2-clause-labels : goal.tally-requires-2-clause-labels
-tally-requires-2-clause-labels c = rw c.deref-5.ensures.value (AreCells-from_regions _ c.size-size.result _ _ c.in_ok-islands.ensures)
+pub count_by_label-requires-2-clause-labels : goal.count_by_label-requires-2-clause-labels
+count_by_label-requires-2-clause-labels c = rw c.deref-5.ensures.value (AreCells-from_regions _ c.size-size.result _ _ c.in_ok-islands.ensures)
 
 pub has_label_without_number-requires-clause-labels : goal.has_label_without_number-requires-clause-labels
 has_label_without_number-requires-clause-labels c = rw c.deref-10.ensures.value (AreCells-from_regions _ c.size-size.result _ _ c.in_ok-islands.ensures)
@@ -22,8 +23,8 @@ returns c =
     let size = c.size-size.ensures.size in
     let same = c.as_slice-filling.ensures in
     let exact : length c.args.filling.now ≡ cells c.args.puzzle.now.size = rw c.requires.kind at c.requires.filling.exact in
-    let walls = (rw same at c.in_ok-walls.ensures) in
-    let whites = (rw same at c.in_ok-whites.ensures) in
+    let walls = Marks-colour c.args.filling.now 1 c.in_ok-walls.walls.items (rw same at c.in_ok-walls.ensures) in
+    let whites = Marks-colour c.args.filling.now 0 c.in_ok-whites.whites.items (rw same at c.in_ok-whites.ensures) in
     let a : AreComponents (cells c.args.puzzle.now.size) (Touch c.args.puzzle.now.size) (IsWall c.args.puzzle.now.size c.args.filling.now) c.in_ok-wall_labels.wall_labels.items
     = regions_are _ _ _ _ _ exact walls (rw (size, c.deref.ensures.value) at c.in_ok-wall_labels.ensures) in
     let i : AreComponents (cells c.args.puzzle.now.size) (Touch c.args.puzzle.now.size) (IsWhite c.args.puzzle.now.size c.args.filling.now) c.in_ok-islands.islands.items
