@@ -75,7 +75,7 @@ extends_start Nurikabe size clues f s i v h =
     at.2
 
 -- what solves the search's question breaks no rule: both ask for the same values in as many places
-pub right_from_search : (board : Board) (f : List ℕ) → question.Solves (question_of board) (start_of board.kind board) f → Solves board f
+pub right_from_search : (board : Board) (f : List ℕ) → question.Solves (question_of board.kind board) (start_of board.kind board) f → Solves board f
 right_from_search board f s = record {
   filling = record {
     exact = s.filling.size;
@@ -85,7 +85,7 @@ right_from_search board f s = record {
 }
 
 -- what breaks no rule solves the search's question, since it extends the start
-pub search_from_right : (board : Board) (f : List ℕ) → Solves board f → question.Solves (question_of board) (start_of board.kind board) f
+pub search_from_right : (board : Board) (f : List ℕ) → Solves board f → question.Solves (question_of board.kind board) (start_of board.kind board) f
 search_from_right board f s = record {
   filling = record { size = s.filling.exact; in_range = λ i lt. s.filling.ranges i 0 (omega (arith, s.filling.exact)) };
   extends = extends_start board.kind board.size board.clues f s;

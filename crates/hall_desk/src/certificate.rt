@@ -46,6 +46,3 @@ fn certify_nurikabe(alloc: Global, puzzle: &Puzzle, budget: u64) -> Result<Outco
     let start = hall_nurikabe::start(alloc, puzzle)?;
     search(alloc, &mut rules, &start, budget)
 }
-
-#[cfg(test)]
-mod tests;

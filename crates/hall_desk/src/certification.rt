@@ -6,6 +6,7 @@ ghost use Rattle.hall_policy.specs.declared.request.Action.TheVariants.{Certify,
 ghost use Rattle.hall_grid.specs.Answer.{AnswerText as Says, IsFilling};
 ghost use Rattle.hall_desk.specs.Step.{is_open, IsFound};
 ghost use Rattle.hall_desk.specs.Plans.{IsAllowedPlan, IsMadePlan};
+ghost use Rattle.hall_desk.specs.Shown.{state_name};
 
 use crate::certificate::certify;
 use crate::plan::Plan;
@@ -35,13 +36,20 @@ pub(crate) fn certify_puzzle(
             change: Change::Nothing,
         });
     }
-    let state = find_state(alloc, &row.puzzle, budget.get())?;
-    let name = state_name(&state);
     let key = key.clone()?;
-    Ok(Plan {
-        reply: Reply::Certified(name),
+    let state = find_state(alloc, &row.puzzle, budget.get())?;
+    Ok(searched(key, state))
+}
+
+/// The plan that stores what a search found.
+fn searched(key: PuzzleKey, state: PuzzleState) -> Plan
+    ensures reply { result.reply ≡ Reply.Certified (state_name state) }
+    ensures change { result.change ≡ Change.SetState key state }
+{
+    Plan {
+        reply: Reply::Certified(state_name(&state)),
         change: Change::SetState { key, state },
-    })
+    }
 }
 
 /// Whether the puzzle was never searched, or the search came to no end.

@@ -21,6 +21,7 @@ mod step;
 mod store;
 mod submitting;
 mod verdict;
+mod writes;
 
 pub use certificate::certify;
 pub use desk::Desk;
@@ -30,6 +31,3 @@ pub use reply::{AnswerLine, Reply, ShownPuzzle, ShownRound, StateName};
 pub use rows::Rows;
 pub use store::StoreFault;
 pub use verdict::judge;
-
-#[cfg(test)]
-mod tests;

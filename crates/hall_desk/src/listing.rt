@@ -7,6 +7,7 @@ ghost use Rattle.hall_desk.specs.Store.{Kept, Served, Told, IsListing};
 ghost use Rattle.hall_desk.specs.Shown.{is_sealed, sees_all, shows_verdict, answer_line};
 ghost use Rattle.hall_desk.specs.Plans.{IsAllowedPlan, AreRowsFor};
 
+use crate::writes::push;
 use crate::plan::Plan;
 use crate::reply::{AnswerLine, Reply};
 use crate::rows::Rows;
@@ -112,7 +113,7 @@ fn show_answers(
 {
     let mut lines = Vec::new(alloc);
     for row in rows {
-        lines.push(show_answer(row, shows)?)?;
+        push(&mut lines, show_answer(row, shows)?)?;
     }
     Ok(Rows::new(lines))
 }

@@ -1,12 +1,16 @@
 //! The calls of a store over ordered maps.
+ghost use Rattle.std.specs.Prelude.{◌≡◌};
+ghost use Rattle.hall_desk.specs.Change.{flagged};
+
 use crate::map_reads::{
     answers_at, answers_by, bounded_key, holder, ids_using, person_at, puzzle_at, puzzles_by,
-    round_at, sort_answers, with_flag, with_state,
+    round_at, sort_answers,
 };
 use crate::map_store::MapStore;
+use crate::writes::put;
 use crate::store::{RoundFlag, Store, StoreFault};
 use hall_policy::{
-    AnswerRow, Key, Name, Person, PuzzleKey, PuzzleRow, PuzzleState, RoundId, RoundRow,
+    AnswerRow, Key, Name, Person, PuzzleKey, PuzzleRow, PuzzleState, Round, RoundId, RoundRow,
 };
 use std::alloc::Global;
 
@@ -38,10 +42,8 @@ impl Store for MapStore {
 
     fn put_puzzle(&mut self, _alloc: Global, row: PuzzleRow) -> Result<(), StoreFault> {
         let key = row.key.clone()?;
-        match self.puzzles.insert(key, row) {
-            Ok(_) => Ok(()),
-            Err(_) => Err(StoreFault::Memory),
-        }
+        put(&mut self.puzzles, key, row)?;
+        Ok(())
     }
 
     fn set_state(
@@ -50,13 +52,12 @@ impl Store for MapStore {
         key: &PuzzleKey,
         state: PuzzleState,
     ) -> Result<(), StoreFault> {
-        let Some(row) = puzzle_at(&self.puzzles, key)? else {
-            return Err(StoreFault::Failed);
-        };
-        let key = key.clone()?;
-        match self.puzzles.insert(key, with_state(row, state)) {
-            Ok(_) => Ok(()),
-            Err(_) => Err(StoreFault::Memory),
+        match self.puzzles.get_mut(key) {
+            Some(row) => {
+                row.state = state;
+                Ok(())
+            }
+            None => Err(StoreFault::Failed),
         }
     }
 
@@ -70,13 +71,12 @@ impl Store for MapStore {
         id: &RoundId,
         flag: RoundFlag,
     ) -> Result<(), StoreFault> {
-        let Some(row) = round_at(&self.rounds, id)? else {
-            return Err(StoreFault::Failed);
-        };
-        let id = id.clone()?;
-        match self.rounds.insert(id, with_flag(row, flag)) {
-            Ok(_) => Ok(()),
-            Err(_) => Err(StoreFault::Memory),
+        match self.rounds.get_mut(id) {
+            Some(row) => {
+                set_flag(&mut row.round, flag);
+                Ok(())
+            }
+            None => Err(StoreFault::Failed),
         }
     }
 
@@ -103,9 +103,17 @@ impl Store for MapStore {
 
     fn add_answer(&mut self, _alloc: Global, row: AnswerRow) -> Result<(), StoreFault> {
         let key = bounded_key(&row.key)?;
-        match self.answers.insert(key, row) {
-            Ok(_) => Ok(()),
-            Err(_) => Err(StoreFault::Memory),
-        }
+        put(&mut self.answers, key, row)?;
+        Ok(())
+    }
+}
+
+/// Sets the flag of the round.
+fn set_flag(round: &mut Round, flag: RoundFlag)
+    ensures { round.new ≡ flagged flag round.old }
+{
+    match flag {
+        RoundFlag::Released => round.released = true,
+        RoundFlag::Published => round.published = true,
     }
 }

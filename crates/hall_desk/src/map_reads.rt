@@ -7,12 +7,11 @@ ghost use Rattle.hall_policy.specs.Text.{text_cmp};
 ghost use Rattle.hall_policy.specs.World.{same_text, puzzle_cmp, answer_cmp};
 ghost use Rattle.hall_desk.specs.Store.{listing_cmp, is_in, is_of};
 ghost use Rattle.hall_desk.specs.Keyed.{uses, least_key, is_bounded, are_keyed, are_bounded};
-ghost use Rattle.hall_desk.specs.Change.{flagged};
 
-use crate::store::RoundFlag;
+use crate::writes::push;
 use hall_policy::{
     AnswerKey, AnswerRow, Entry, Key, Name, Person, PuzzleKey, PuzzleNumber, PuzzleRow,
-    PuzzleState, RoundId, RoundRow, Token,
+    RoundId, RoundRow, Token,
 };
 use std::alloc::{AllocError, Global};
 use std::cmp::Ordering;
@@ -82,25 +81,6 @@ pub(crate) fn round_at(
     }
 }
 
-/// The puzzle in another state.
-pub(crate) fn with_state(mut row: PuzzleRow, state: PuzzleState) -> PuzzleRow
-    ensures { result ≡ record row { state = state } }
-{
-    row.state = state;
-    row
-}
-
-/// The round with a flag set.
-pub(crate) fn with_flag(mut row: RoundRow, flag: RoundFlag) -> RoundRow
-    ensures { result ≡ record row { round = flagged flag row.round } }
-{
-    match flag {
-        RoundFlag::Released => row.round.released = true,
-        RoundFlag::Published => row.round.published = true,
-    }
-    row
-}
-
 /// Copies of the author's puzzles, in the order of their labels.
 pub(crate) fn puzzles_by(
     alloc: Global,
@@ -113,7 +93,7 @@ pub(crate) fn puzzles_by(
     let mut rows = Vec::new(alloc);
     for row in puzzles.values() {
         if row.key.author == *author {
-            rows.push(row.clone()?)?;
+            push(&mut rows, row.clone()?)?;
         }
     }
     Ok(rows)
@@ -139,7 +119,7 @@ pub(crate) fn answers_by(
         if !is_of(row, entrant, round) {
             break;
         }
-        rows.push(row.clone()?)?;
+        push(&mut rows, row.clone()?)?;
     }
     Ok(rows)
 }
@@ -190,7 +170,7 @@ pub(crate) fn answers_at(
     let mut rows = Vec::new(alloc);
     for row in answers.values() {
         if row.key.round == *round {
-            rows.push(row.clone()?)?;
+            push(&mut rows, row.clone()?)?;
         }
     }
     Ok(rows)
@@ -228,7 +208,7 @@ pub(crate) fn ids_using(
     let mut ids = Vec::new(alloc);
     for (id, row) in rounds.iter() {
         if uses(row.puzzles.as_slice(), key) {
-            ids.push(id.clone()?)?;
+            push(&mut ids, id.clone()?)?;
         }
     }
     Ok(ids)

@@ -10,10 +10,11 @@ ghost use Rattle.hall_desk.specs.Sane.{Sane};
 
 use crate::map_reads::{holder, person_at};
 use crate::map_store::MapStore;
+use crate::writes::{push, put};
 use crate::reply::Reply;
 use crate::step::step;
 use crate::store::StoreFault;
-use hall_grid::parse_puzzle;
+use hall_grid::{Puzzle, parse_puzzle};
 use hall_policy::{
     Action, Bonus, Checked, Entries, Entry, Minutes, Mode, Moment, Penalty, Person, Points,
     ProtestMinutes, PuzzleKey, PuzzleRow, Request, Roles, Round, RoundRow, TextKind,
@@ -47,10 +48,7 @@ fn empty(alloc: Global) -> MapStore
 
 /// The text, where it is of the kind.
 fn text<K: TextKind>(alloc: Global, text: &str) -> Result<Checked<K>, StoreFault> {
-    match Checked::new(String::from_str(alloc, text)?) {
-        Some(checked) => Ok(checked),
-        None => Err(StoreFault::Failed),
-    }
+    Checked::new(String::from_str(alloc, text)?).ok_or(StoreFault::Failed)
 }
 
 const NO_ROLE: Roles = Roles {
@@ -119,10 +117,8 @@ fn insert_person(store: &mut MapStore, person: Person) -> Result<(), StoreFault>
         return Err(StoreFault::Failed);
     }
     let name = person.name.clone()?;
-    match store.people.insert(name, person) {
-        Ok(_) => Ok(()),
-        Err(_) => Err(StoreFault::Memory),
-    }
+    put(&mut store.people, name, person)?;
+    Ok(())
 }
 
 /// Whether nobody has the name or the key, and the roles may go together.
@@ -169,15 +165,26 @@ fn add_puzzle(
     ensures { OnOk result (Sane (world_of store.new)) }
 {
     let request = put_request(alloc, key, author, label, puzzle)?;
+    let put = put_puzzle(alloc, store, &request);
+    drop(request);
+    put
+}
+
+/// Answers the request at the first moment, where the reply is that of a puzzle that was put.
+fn put_puzzle(alloc: Global, store: &mut MapStore, request: &Request) -> Result<(), StoreFault>
+    requires { Sane (world_of store.old) }
+    ensures { OnOk result (Sane (world_of store.new)) }
+{
     let Some(t) = Moment::new(0) else {
         return Err(StoreFault::Failed);
     };
-    match step(alloc, store, t, &request) {
-        Reply::PuzzlePut { .. } => Ok(()),
-        _ => Err(StoreFault::Failed),
-    }
+    let reply = step(alloc, store, t, request);
+    let put = matches!(&reply, Reply::PuzzlePut { .. });
+    drop(reply);
+    if put { Ok(()) } else { Err(StoreFault::Failed) }
 }
 
+/// What the author asks to put the puzzle.
 fn put_request(
     alloc: Global,
     key: &str,
@@ -185,17 +192,33 @@ fn put_request(
     label: &str,
     puzzle: &[u8],
 ) -> Result<Request, StoreFault> {
-    let Ok(puzzle) = parse_puzzle(alloc, puzzle) else {
-        return Err(StoreFault::Failed);
-    };
-    let name = PuzzleKey {
-        author: text(alloc, author)?,
-        label: text(alloc, label)?,
-    };
     Ok(Request {
         key: Some(text(alloc, key)?),
-        action: Action::PutPuzzle { key: name, puzzle },
+        action: put_action(alloc, author, label, puzzle)?,
     })
+}
+
+fn put_action(
+    alloc: Global,
+    author: &str,
+    label: &str,
+    puzzle: &[u8],
+) -> Result<Action, StoreFault> {
+    Ok(Action::PutPuzzle {
+        key: puzzle_key(alloc, author, label)?,
+        puzzle: read_puzzle(alloc, puzzle)?,
+    })
+}
+
+fn puzzle_key(alloc: Global, author: &str, label: &str) -> Result<PuzzleKey, StoreFault> {
+    Ok(PuzzleKey {
+        author: text(alloc, author)?,
+        label: text(alloc, label)?,
+    })
+}
+
+fn read_puzzle(alloc: Global, puzzle: &[u8]) -> Result<Puzzle, StoreFault> {
+    parse_puzzle(alloc, puzzle).map_err(|_| StoreFault::Failed)
 }
 
 /// A round of one puzzle, not released yet.
@@ -261,9 +284,15 @@ fn add_draft(alloc: Global, store: &mut MapStore, draft: &Draft) -> Result<(), S
     insert_draft(store, row)
 }
 
-/// The draft of an hour, with half an hour for protests.
 fn draft_row(alloc: Global, draft: &Draft) -> Result<RoundRow, StoreFault> {
-    let puzzles = draft_entries(alloc, draft)?;
+    Ok(RoundRow {
+        round: draft_round(alloc, draft)?,
+        puzzles: draft_entries(alloc, draft)?,
+    })
+}
+
+/// A round of an hour, with half an hour for protests.
+fn draft_round(alloc: Global, draft: &Draft) -> Result<Round, StoreFault> {
     let (Some(start), Some(minutes), Some(protest_minutes)) = (
         Moment::new(draft.start),
         Minutes::new(60),
@@ -274,7 +303,7 @@ fn draft_row(alloc: Global, draft: &Draft) -> Result<RoundRow, StoreFault> {
     let (Some(penalty), Some(bonus)) = (Penalty::new(draft.penalty), Bonus::new(draft.bonus)) else {
         return Err(StoreFault::Failed);
     };
-    let round = Round {
+    Ok(Round {
         id: text(alloc, draft.id)?,
         title: text(alloc, draft.title)?,
         start,
@@ -285,25 +314,22 @@ fn draft_row(alloc: Global, draft: &Draft) -> Result<RoundRow, StoreFault> {
         bonus,
         released: false,
         published: false,
-    };
-    Ok(RoundRow { round, puzzles })
+    })
 }
 
 fn draft_entries(alloc: Global, draft: &Draft) -> Result<Entries, StoreFault> {
     let Some(points) = Points::new(draft.points) else {
         return Err(StoreFault::Failed);
     };
-    let puzzle = PuzzleKey {
-        author: text(alloc, draft.author)?,
-        label: text(alloc, draft.label)?,
-    };
+    let puzzle = puzzle_key(alloc, draft.author, draft.label)?;
+    entries_of(alloc, Entry { puzzle, points })
+}
+
+/// The list of one puzzle.
+fn entries_of(alloc: Global, entry: Entry) -> Result<Entries, StoreFault> {
     let mut list = Vec::new(alloc);
-    list.push(Entry { puzzle, points })
-        .map_err(AllocError::from)?;
-    match Entries::new(list) {
-        Some(entries) => Ok(entries),
-        None => Err(StoreFault::Failed),
-    }
+    push(&mut list, entry)?;
+    Entries::new(list).ok_or(StoreFault::Failed)
 }
 
 /// Puts a draft whose id is free and whose puzzles are there.
@@ -317,10 +343,8 @@ pub(crate) fn insert_draft(store: &mut MapStore, row: RoundRow) -> Result<(), St
         return Err(StoreFault::Failed);
     }
     let id = row.round.id.clone()?;
-    match store.rounds.insert(id, row) {
-        Ok(_) => Ok(()),
-        Err(_) => Err(StoreFault::Memory),
-    }
+    put(&mut store.rounds, id, row)?;
+    Ok(())
 }
 
 /// Whether each entry's puzzle is kept.

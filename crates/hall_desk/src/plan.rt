@@ -48,7 +48,9 @@ pub(crate) fn make_plan<S: Store>(
     ensures served { Served S.is_honest S.serves store.new result (IsPlanFor (S.world store.new) t request.now) }
 {
     let facts = find_facts(alloc, store, request)?;
-    answer(alloc, store, t, &facts, request)
+    let plan = answer(alloc, store, t, &facts, request);
+    drop(facts);
+    plan
 }
 
 /// The plan, from the facts.

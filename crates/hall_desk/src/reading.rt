@@ -1,18 +1,19 @@
 //! An allowed action that reads a round.
-ghost use Rattle.std.specs.Prelude.{◌≡◌, ◌+◌, ◌++◌, ◌∷◌, [], ℕ, OnOk};
+ghost use Rattle.std.specs.Prelude.{◌≡◌, ◌+◌, ℕ};
 ghost use Rattle.hall_policy.specs.Facts.{AllTrue};
 ghost use Rattle.hall_policy.specs.declared.request.Action.TheVariants.{ReadRound};
 ghost use Rattle.hall_desk.specs.Store.{Kept, Told};
 ghost use Rattle.hall_desk.specs.Shown.{ShowsRound, ShowsPuzzles, ShowsPuzzle};
 ghost use Rattle.hall_desk.specs.Plans.{IsAllowedPlan};
 
+use crate::writes::push;
 use crate::plan::Plan;
 use crate::putting::text_of;
 use crate::reply::{Reply, ShownPuzzle, ShownRound};
 use crate::rows::Rows;
 use crate::store::{Change, Store, StoreFault};
 use hall_policy::{Entry, Facts, PuzzleNumber, RoundId, RoundRow};
-use std::alloc::{AllocError, Global};
+use std::alloc::Global;
 
 /// An allowed ReadRound: the round with its puzzles' texts.
 pub(crate) fn read_round<S: Store>(
@@ -72,17 +73,9 @@ fn show_puzzles<S: Store>(
     let mut shown = Vec::new(alloc);
     for (place, entry) in entries.iter().enumerate() {
         let line = show_puzzle(alloc, store, place, entry)?;
-        push_line(&mut shown, line)?;
+        push(&mut shown, line)?;
     }
     Ok(Rows::new(shown))
-}
-
-/// Puts the line at the end.
-fn push_line(shown: &mut Vec<ShownPuzzle>, line: ShownPuzzle) -> Result<(), AllocError>
-    ensures { OnOk result (shown.new.items ≡ shown.old.items ++ line ∷ []) }
-{
-    shown.push(line)?;
-    Ok(())
 }
 
 /// The puzzle at a place, counted from 0, as it is read.

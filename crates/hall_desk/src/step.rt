@@ -23,14 +23,25 @@ pub(crate) fn commit<S: Store>(
     ensures refused { OnErr result (S.is_honest store.new → S.serves store.new → S.world store.new ≡ S.world store.old) }
 {
     let Plan { reply, change } = plan;
-    match change {
-        Change::Nothing => {}
-        Change::PutPuzzle(row) => store.put_puzzle(alloc, row)?,
-        Change::SetState { key, state } => store.set_state(alloc, &key, state)?,
-        Change::SetRoundFlag { round, flag } => store.set_round_flag(alloc, &round, flag)?,
-        Change::AddAnswer(row) => store.add_answer(alloc, row)?,
-    }
+    make(alloc, store, change)?;
     Ok(reply)
+}
+
+/// Makes the change by its call of the store.
+fn make<S: Store>(alloc: Global, store: &mut S, change: Change) -> Result<(), StoreFault>
+    requires { S.is_honest store.old → S.serves store.old → CanMake change (S.world store.old) }
+    ensures honest { S.is_honest store.new → S.is_honest store.old }
+    ensures opened { S.is_honest store.new → S.serves store.new → S.serves store.old }
+    ensures made { OnOk result (S.is_honest store.new → S.serves store.old → S.serves store.new × (S.world store.new ≡ changed change (S.world store.old))) }
+    ensures refused { OnErr result (S.is_honest store.new → S.serves store.new → S.world store.new ≡ S.world store.old) }
+{
+    match change {
+        Change::Nothing => Ok(()),
+        Change::PutPuzzle(row) => store.put_puzzle(alloc, row),
+        Change::SetState { key, state } => store.set_state(alloc, &key, state),
+        Change::SetRoundFlag { round, flag } => store.set_round_flag(alloc, &round, flag),
+        Change::AddAnswer(row) => store.add_answer(alloc, row),
+    }
 }
 
 /// Answers one request.

@@ -6,7 +6,7 @@ ghost use Rattle.hall_policy.specs.World.{World, entry_at};
 ghost use Rattle.hall_policy.specs.Facts.{AllTrue};
 ghost use Rattle.hall_desk.specs.Store.{Kept, Served, Told};
 ghost use Rattle.hall_desk.specs.Shown.{told_verdict};
-ghost use Rattle.hall_desk.specs.Handed.{handed_action};
+ghost use Rattle.hall_desk.specs.Handed.{handed_action, handed_key};
 ghost use Rattle.hall_desk.specs.Plans.{IsAllowedPlan, IsJudgedAt, IsJudgedFor};
 
 use crate::plan::Plan;
@@ -15,10 +15,10 @@ use crate::store::{Change, Store, StoreFault};
 use crate::verdict::judge;
 use hall_grid::Broken;
 use hall_policy::{
-    AnswerKey, AnswerNumber, AnswerRow, AnswerText, Entry, Facts, Mode, Moment, PuzzleNumber,
-    PuzzleRow, Round, RoundId, RoundRow, Token,
+    AnswerKey, AnswerNumber, AnswerRow, AnswerText, Entry, Facts, Mode, Moment, Person,
+    PuzzleNumber, PuzzleRow, Round, RoundId, RoundRow, Token,
 };
-use std::alloc::Global;
+use std::alloc::{AllocError, Global};
 
 /// What is handed in: an answer to the round's puzzle of that number, under a token.
 #[derive(Clone, Copy)]
@@ -62,22 +62,28 @@ fn submitted(t: Moment, facts: &Facts, handed: &Handed, verdict: Broken) -> Resu
     let Some(n) = AnswerNumber::new(facts.count + 1) else {
         return Err(StoreFault::Failed);
     };
-    let key = AnswerKey {
-        entrant: person.name.clone()?,
-        round: handed.round.clone()?,
-        number: handed.number,
-        token: handed.token.clone()?,
-    };
     let stored = AnswerRow {
-        key,
+        answer: handed.answer.clone()?,
+        key: key_of(person, handed)?,
         n,
         moment: t,
-        answer: handed.answer.clone()?,
         verdict,
     };
     Ok(Plan {
         reply: received(&row.round, n, verdict),
         change: Change::AddAnswer(stored),
+    })
+}
+
+/// Where the answer is kept.
+fn key_of(person: &Person, handed: &Handed) -> Result<AnswerKey, AllocError>
+    ensures { IfOk result (λ key. key ≡ handed_key person.now handed.now) }
+{
+    Ok(AnswerKey {
+        entrant: person.name.clone()?,
+        round: handed.round.clone()?,
+        number: handed.number,
+        token: handed.token.clone()?,
     })
 }
 

@@ -27,6 +27,3 @@ pub use rule::{Decision, Rule};
 pub use text::{
     AnswerText, Checked, Key, Label, Name, ProtestText, PuzzleText, RoundId, TextKind, Title, Token,
 };
-
-#[cfg(test)]
-mod tests;

@@ -9,6 +9,7 @@ use crate::number::{
 };
 use crate::text::{AnswerText, Key, Label, Name, ProtestText, RoundId, Title, Token};
 use hall_grid::{Broken, Puzzle};
+use std::alloc::AllocError;
 
 /// What a person may be.
 #[derive(Clone, Copy, Debug, PartialEq, Eq)]
@@ -76,7 +77,7 @@ pub enum Mode {
 }
 
 /// A round without its puzzles.
-#[derive(Clone, Drop)]
+#[derive(Drop)]
 pub struct Round {
     pub id: RoundId,
     pub title: Title,
@@ -109,6 +110,28 @@ impl Round {
     }
 }
 
+// By hand, as a derived one would ask each field for memory.
+impl Clone for Round {
+    ghost use Rattle.std.specs.Prelude.{◌≡◌};
+
+    ghost is_clone = { λ x y. y ≡ x };
+
+    fn clone(&self) -> Result<Round, AllocError> {
+        Ok(Round {
+            id: self.id.clone()?,
+            title: self.title.clone()?,
+            start: self.start,
+            minutes: self.minutes,
+            protest_minutes: self.protest_minutes,
+            mode: self.mode,
+            penalty: self.penalty,
+            bonus: self.bonus,
+            released: self.released,
+            published: self.published,
+        })
+    }
+}
+
 /// A puzzle in a round, and the points for it.
 #[derive(Clone, Drop)]
 pub struct Entry {
@@ -124,7 +147,7 @@ pub struct RoundRow {
 }
 
 /// Where a round's puzzle is kept.
-#[derive(Clone, PartialEq, Eq, PartialOrd, Ord, Drop)]
+#[derive(Drop)]
 pub struct PlaceKey {
     pub round: RoundId,
     pub number: PuzzleNumber,
@@ -140,7 +163,7 @@ pub struct AnswerKey {
 }
 
 /// An accepted answer.
-#[derive(Clone, Drop)]
+#[derive(Drop)]
 pub struct AnswerRow {
     pub key: AnswerKey,
     /// Its number among the entrant's answers to the puzzle in the round.
@@ -150,8 +173,25 @@ pub struct AnswerRow {
     pub verdict: Broken,
 }
 
+// By hand, as a derived one would ask each field for memory.
+impl Clone for AnswerRow {
+    ghost use Rattle.std.specs.Prelude.{◌≡◌};
+
+    ghost is_clone = { λ x y. y ≡ x };
+
+    fn clone(&self) -> Result<AnswerRow, AllocError> {
+        Ok(AnswerRow {
+            key: self.key.clone()?,
+            n: self.n,
+            moment: self.moment,
+            answer: self.answer.clone()?,
+            verdict: self.verdict,
+        })
+    }
+}
+
 /// Where a protest is kept.
-#[derive(Clone, PartialEq, Eq, PartialOrd, Ord, Drop)]
+#[derive(PartialEq, Eq, PartialOrd, Ord, Drop)]
 pub struct ProtestKey {
     pub entrant: Name,
     pub round: RoundId,
@@ -166,7 +206,7 @@ pub enum Ruling {
 }
 
 /// A protest of an entrant.
-#[derive(Clone, Drop)]
+#[derive(Drop)]
 pub struct ProtestRow {
     pub key: ProtestKey,
     pub number: PuzzleNumber,

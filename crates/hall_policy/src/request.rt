@@ -6,7 +6,7 @@ use crate::text::{AnswerText, Key, Name, ProtestText, RoundId, Title, Token};
 use hall_grid::Puzzle;
 
 /// What a director says of a round.
-#[derive(Clone, Drop)]
+#[derive(Drop)]
 pub struct Sheet {
     pub title: Title,
     pub start: Moment,

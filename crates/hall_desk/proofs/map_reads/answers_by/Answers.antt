@@ -41,7 +41,7 @@ loop-row-preserved c =
     ∙ ap (λ (es : List (AnswerKey × AnswerRow)). old ++ take_while test (values_of es)) c.in-Some.ensures.steps
     ∙ ap (λ (rows : List AnswerRow). old ++ rows) (take_while-cons test row (values_of rest) ∙ ap (λ b. cond b (row ∷ take_while test (values_of rest)) []) passes)
     ∙ sym (append_assoc old (row ∷ []) (take_while test (values_of rest)))
-    ∙ ap (λ (rows : List AnswerRow). rows ++ take_while test (values_of rest)) (ap (λ (r : AnswerRow). old ++ r ∷ []) (sym cloned) ∙ sym c.in_ok-push.ensures.items)
+    ∙ ap (λ (rows : List AnswerRow). rows ++ take_while test (values_of rest)) (ap (λ (r : AnswerRow). old ++ r ∷ []) (sym cloned) ∙ sym c.in_ok-push.ensures)
 
 pub returns-clause-rows : goal.returns-clause-rows
 returns-clause-rows c =

@@ -22,8 +22,8 @@ loop-place-preserved g c =
       kept = kept_then c.args.store.now c.loop-place.store new old.kept step.kept;
       opened = λ h s. step.told.0 h (old.opened (step.kept.honest h) s);
       lines = λ h s.
-          subst (λ (list : List Entry). ShowsPuzzles (world new) 1 list c.push_line.new.shown.items) (sym more)
-          (subst (λ (shown : List ShownPuzzle). ShowsPuzzles (world new) 1 (take place entries ++ entry ∷ []) shown) (sym c.in_ok-push_line.ensures)
+          subst (λ (list : List Entry). ShowsPuzzles (world new) 1 list c.push.new.items.items) (sym more)
+          (subst (λ (shown : List ShownPuzzle). ShowsPuzzles (world new) 1 (take place entries ++ entry ∷ []) shown) (sym c.in_ok-push.ensures)
           (shows_more (world new) 1 (take place entries) c.loop-place.shown.items entry c.in_ok-line.line
           (carried (λ w. ShowsPuzzles w 1 (take place entries) c.loop-place.shown.items) c.loop-place.store new step.kept old.lines h s)
           (subst (λ (n : ℕ). ShowsPuzzle (world new) n entry c.in_ok-line.line) at (step.told.1 h s))));

@@ -7,11 +7,11 @@ use Rattle.hall_desk.specs.Maps.{world_of}
 use Rattle.hall_desk.proofs.MapWorlds.{inserted}
 use Rattle.hall_desk.proofs.map_calls.MapStoreStore.put_puzzle.Goals as goal
 
-pub returns-in-Ok-clause-served : goal.returns-in-Ok-clause-served
-returns-in-Ok-clause-served c =
+pub returns-clause-served : goal.returns-clause-served
+returns-clause-served c =
     let cases = c.in_ok-key.ensures.cases in
     let key : c.in_ok-key.key ≡ c.args.row.key = λ i. record { author = cases.0 i; label = cases.1 i } in
-    let made : from_entries {R = puzzle_cmp} c.insert.new.self.entries ≡ insert (from_entries c.args.self.now.puzzles.entries) c.args.row.key c.args.row =
-    inserted puzzle_total same_puzzle_keys c.args.self.now.puzzles.entries c.insert.new.self.entries c.in_ok-key.key c.args.row c.in-Ok.ensures.updates.0
+    let made : from_entries {R = puzzle_cmp} c.put.new.map.entries ≡ insert (from_entries c.args.self.now.puzzles.entries) c.args.row.key c.args.row =
+    inserted puzzle_total same_puzzle_keys c.args.self.now.puzzles.entries c.put.new.map.entries c.in_ok-key.key c.args.row c.in_ok-put.ensures.updates.0
     ∙ ap (λ (k : PuzzleKey). insert (from_entries {R = puzzle_cmp} c.args.self.now.puzzles.entries) k c.args.row) key in
     λ h. (tt, λ i. record (world_of c.args.self.now) { puzzles = made i })
