@@ -36,7 +36,7 @@ fn number_value(side: usize, byte: u8) -> Option<u8>
         b'a'..=b'z' => byte - b'a' + 9,
         _ => return None,
     };
-    if (value as usize) < side {
+    if usize::from(value) < side {
         Some(value)
     } else {
         None
@@ -94,7 +94,8 @@ fn parse_values(
 /// The filling of a text with one byte for each cell.
 fn parse_cells(alloc: Global, puzzle: &Puzzle, text: &[u8]) -> Result<Option<Filling>, AllocError>
     requires { HasCellText puzzle.now.kind }
-    ensures { IfOk result (λ found. MatchOption found (SaysNothing puzzle.now text.now) (AnswerText puzzle.now text.now)) }
+    ensures { IfOk result
+        (λ found. MatchOption found (SaysNothing puzzle.now text.now) (AnswerText puzzle.now text.now)) }
 {
     if text.len() != puzzle.cells() {
         return Ok(None);
@@ -109,7 +110,8 @@ fn parse_cells(alloc: Global, puzzle: &Puzzle, text: &[u8]) -> Result<Option<Fil
 /// The filling of a text of Slitherlink.
 fn parse_sides(alloc: Global, puzzle: &Puzzle, text: &[u8]) -> Result<Option<Filling>, AllocError>
     requires { puzzle.now.kind ≡ Kind.Slither }
-    ensures { IfOk result (λ found. MatchOption found (SaysNothing puzzle.now text.now) (AnswerText puzzle.now text.now)) }
+    ensures { IfOk result
+        (λ found. MatchOption found (SaysNothing puzzle.now text.now) (AnswerText puzzle.now text.now)) }
 {
     let size = puzzle.size();
     let flat = size.flat_sides();
@@ -132,7 +134,8 @@ pub fn parse_answer(
     puzzle: &Puzzle,
     text: &[u8],
 ) -> Result<Option<Filling>, AllocError>
-    ensures { IfOk result (λ found. MatchOption found (SaysNothing puzzle.now text.now) (AnswerText puzzle.now text.now)) }
+    ensures { IfOk result
+        (λ found. MatchOption found (SaysNothing puzzle.now text.now) (AnswerText puzzle.now text.now)) }
 {
     match puzzle.kind() {
         Kind::Slither => parse_sides(alloc, puzzle, text),

@@ -16,7 +16,7 @@ fn fits(kind: Kind, size: Size, clue: Clue) -> bool
     match (kind, clue) {
         (_, Clue::Blank) => true,
         (kind, Clue::Unknown) => kind != Kind::Sudoku,
-        (Kind::Sudoku, Clue::Number(n)) => n >= 1 && n as usize <= size.cols,
+        (Kind::Sudoku, Clue::Number(n)) => n >= 1 && usize::from(n) <= size.cols,
         (Kind::Slither, Clue::Number(n)) => n <= 4,
         (Kind::Nurikabe, Clue::Number(n)) => n >= 1 && n <= MOST_NUMBER,
     }

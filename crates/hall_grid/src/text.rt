@@ -70,9 +70,9 @@ fn side_of(field: &[u8]) -> Option<usize>
     ensures { MatchOption result (IsNoSide field.now) (IsSide field.now) }
 {
     match field {
-        [a @ b'0'..=b'9'] => Some((*a - b'0') as usize),
+        [a @ b'0'..=b'9'] => Some(usize::from(*a - b'0')),
         [a @ b'0'..=b'9', b @ b'0'..=b'9'] => Some(
-            10 * (*a - b'0') as usize + (*b - b'0') as usize,
+            10 * usize::from(*a - b'0') + usize::from(*b - b'0'),
         ),
         _ => None,
     }
