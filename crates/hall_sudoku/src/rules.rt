@@ -53,8 +53,11 @@ impl<'a> SudokuRules<'a> {
 impl<'a> Rules for SudokuRules<'a> {
     ghost use Rattle.hall_grid.specs.declared.board.Kind.TheVariants.{Sudoku};
     ghost use Rattle.hall_solve.specs.Puzzle.{question_of};
+    ghost use Rattle.hall_sudoku.specs.Settled.{IsSettled};
 
     ghost question = { λ r. question_of Sudoku r.board };
+
+    ghost settled = { λ r. IsSettled r.board.size };
 
     ghost visits = { λ r. r.visits };
 
