@@ -62,8 +62,8 @@ fn push_beside(size: Size, side: usize, stack: &mut Vec<Centre>) -> Result<(), A
     let (first, second) = dot_ends(size, side);
     stack.push(Centre::Dot(first))?;
     stack.push(Centre::Dot(second))?;
-    for cell in cells_beside(size, side) {
-        if let Some(cell) = cell {
+    for cell in &cells_beside(size, side) {
+        if let Some(cell) = *cell {
             stack.push(Centre::Cell(cell))?;
         }
     }
