@@ -4,7 +4,7 @@ use Rattle.std.proofs.lemmas.Bool.{cases_eq}
 use Rattle.hall_grid.specs.declared.rule.Rule.TheVariants.{N3, N4}
 use Rattle.hall_grid.specs.Board.{Board, cells, Touch}
 use Rattle.hall_grid.specs.Nurikabe.{IsWall, InIsland}
-use Rattle.hall_grid.specs.Component.{IsLabelled, AreComponents}
+use Rattle.hall_grid.specs.Component.{IsLabelled, LabelsDiffer, AreComponents}
 use Rattle.hall_grid.proofs.Labelling.{one_label}
 use Rattle.hall_grid.proofs.Joined.{labelled_member}
 use Rattle.hall_solve.specs.Question.{IsPartial}
@@ -40,7 +40,7 @@ module _ (board : Board) (kind : board.kind ≡ Nurikabe) (p : List (Option ℕ)
 
   -- one of two parts of the walls
   pub wall_grows : (labels : List (Option ℕ)) → AreComponents (cells board.size) (Touch board.size) (IsSetTo p 1) labels
-      → ((a b x y : ℕ) × IsLabelled labels a x × IsLabelled labels b y × (x ≢ y)) → (label : ℕ) → IsLabelled labels label label
+      → LabelsDiffer labels → (label : ℕ) → IsLabelled labels label label
       → MustGrow board p 1 labels label
   wall_grows labels a (c, d, x, y, hc, hd, ne) label own = λ f s out.
       let wall : (z l : ℕ) → IsLabelled labels z l → IsWall board.size f z = λ z l h.
