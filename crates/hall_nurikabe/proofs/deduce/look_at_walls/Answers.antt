@@ -1,8 +1,8 @@
 use Rattle.std.proofs.Common.{◌≡◌, true, rules}
 use Rattle.hall_grid.proofs.Joined.{AreComponents-members}
 use Rattle.hall_nurikabe.specs.Forced.{IsSetTo}
-use Rattle.hall_nurikabe.proofs.Judging.{AreCells-from_regions}
-use Rattle.hall_nurikabe.proofs.Growing.{wall_grows}
+use Rattle.hall_nurikabe.proofs.AreBroken.{AreCells-from_regions}
+use Rattle.hall_nurikabe.proofs.NeedsMore.{wall_grows}
 use Rattle.hall_nurikabe.proofs.deduce.look_at_walls.Goals as goal
 
 pub exits_of-requires-clause-labels : goal.exits_of-requires-clause-labels

@@ -4,7 +4,7 @@ use Rattle.hall_grid.specs.Nurikabe.{IsWhite, IsWall}
 use Rattle.hall_grid.specs.Component.{AreComponents}
 use Rattle.hall_grid.specs.declared.board.Kind.TheVariants.{Nurikabe}
 use Rattle.hall_grid.proofs.Naming.{broken_are}
-use Rattle.hall_nurikabe.proofs.Judging.{AreCells-from_regions, apart_are, without_number_are, with_two_are, other_size_are, number_in_wall_are}
+use Rattle.hall_nurikabe.proofs.AreBroken.{AreCells-from_regions, apart_are, without_number_are, with_two_are, other_size_are, number_in_wall_are}
 use Rattle.hall_nurikabe.proofs.Marks.{Marks-colour, through}
 use Rattle.hall_nurikabe.proofs.judge.broken.Goals as goal
 
@@ -43,6 +43,22 @@ returns c =
     let n5 = through (rw c.deref-10.ensures.value at c.has_label_with_two.ensures) (with_two_are board f _ i _ _ numbered numbers) in
     let n6 = through (rw (c.deref-11.ensures.value, c.deref-12.ensures.value) at c.has_other_size.ensures)
     (other_size_are board f _ i _ _ (λ cell w. (whites.marked cell).1 (let low = w.0 in omega arith, w.1)) sizes) in
-    broken_are Nurikabe board f _ _ c.requires.kind c.new-broken.ensures.empty c.new-broken.ensures.set
-    (_, _, c.insert_if.ensures, n1, (_, _, c.insert_if-2.ensures, n2, (_, _, c.insert_if-3.ensures, n3,
-    (_, _, c.insert_if-4.ensures, n4, (_, _, c.insert_if-5.ensures, n5, (_, _, c.insert_if-6.ensures, n6, refl))))))
+    broken_are Nurikabe board f _ _ c.requires.kind c.new-broken.ensures.empty c.new-broken.ensures.set (
+      _,
+      _,
+      c.insert_if.ensures,
+      n1,
+      (
+        _,
+        _,
+        c.insert_if-2.ensures,
+        n2,
+        (
+          _,
+          _,
+          c.insert_if-3.ensures,
+          n3,
+          (_, _, c.insert_if-4.ensures, n4, (_, _, c.insert_if-5.ensures, n5, (_, _, c.insert_if-6.ensures, n6, refl))),
+        ),
+      ),
+    )

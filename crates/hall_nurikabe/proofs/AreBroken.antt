@@ -1,23 +1,19 @@
 -- What marks, labels and counts say of the rules.
-use Rattle.std.proofs.Common.{◌≡◌, ◌≢◌, ℕ, ◌<◌, ◌⊎◌, ◌↔◌, Bool, List, [], ◌∷◌, length, Option, Some, refl, sym, ◌∙◌, subst, inl, inr, arith}
-use Rattle.std.specs.Prelude.{slice_index, slice_get, IsTrue}
+use Rattle.std.proofs.Common.{◌≡◌, ◌≢◌, ℕ, ◌<◌, ◌↔◌, Bool, List, length, Option, Some, sym, ◌∙◌, subst, inl, inr, arith}
+use Rattle.std.specs.Prelude.{slice_index, slice_get}
 use Rattle.std.proofs.lemmas.Bool.{cases_eq}
 use Rattle.hall_grid.specs.declared.board.Size.{Size}
 use Rattle.hall_grid.specs.declared.board.Clue.TheVariants.{Number}
-use Rattle.hall_grid.specs.declared.rule.Rule.{Rule}
-use Rattle.hall_grid.specs.declared.rule.Rule.TheVariants.{A0, U1, U2, U3, U4, S1, S2, S3, S4, S5, N1, N2, N3, N4, N5, N6}
-use Rattle.hall_grid.specs.Rule.{Names}
 use Rattle.hall_grid.specs.Board.{Board, cells, Touch}
 use Rattle.hall_grid.specs.Component.{IsLabelled, LabelsDiffer, AreComponents}
 use Rattle.hall_grid.specs.Reached.{IsMarked}
 use Rattle.hall_grid.specs.RegionLaws.{Touch-turn}
-use Rattle.hall_grid.specs.Nurikabe.{IsNumbered, IsWhite, IsWall, InIsland, HasNumberInWall, HasPool, HasWallsApart, HasIslandWithoutNumber, HasIslandWithTwo, HasIslandOfOtherSize}
-use Rattle.hall_grid.specs.Answer.{BreaksNurikabe}
+use Rattle.hall_grid.specs.Nurikabe.{IsNumbered, IsWhite, IsWall, InIsland, HasNumberInWall, HasWallsApart, HasIslandWithoutNumber, HasIslandWithTwo, HasIslandOfOtherSize}
 use Rattle.hall_grid.proofs.Labelling.{one_label, labelled_below}
-use Rattle.hall_grid.proofs.Joined.{AreComponents-members, own_label, labelled_member, walk_from_label, label_from_walk}
+use Rattle.hall_grid.proofs.Joined.{own_label, labelled_member, walk_from_label, label_from_walk}
 use Rattle.hall_nurikabe.specs.Counts.{HasCount, IsCounted, AreCounts, AreCells}
 use Rattle.hall_nurikabe.specs.Marks.{IsColoured, MarksWhere}
-use Rattle.hall_nurikabe.proofs.Counting.{same_length, HasCount-same, HasCount-empty, HasCount-some, HasCount-two, two_HasCount}
+use Rattle.hall_nurikabe.proofs.HasCount.{same_length, HasCount-same, HasCount-empty, HasCount-some, HasCount-two, two_HasCount}
 
 -- the labels are numbers of cells
 pub AreCells-from_regions : (n : ℕ) (size : Size) (IsMember : ℕ → Type 0) (labels : List (Option ℕ)) → AreComponents n (Touch size) IsMember labels

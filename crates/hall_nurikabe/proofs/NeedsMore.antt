@@ -1,5 +1,5 @@
 -- Regions that must grow.
-use Rattle.std.proofs.Common.{◌≡◌, ◌≢◌, ℕ, List, Option, Some, None, length, get_or, sym, ◌∙◌, inl, inr, arith}
+use Rattle.std.proofs.Common.{◌≡◌, ℕ, List, Option, Some, None, length, get_or, sym, ◌∙◌, inl, inr, arith}
 use Rattle.std.proofs.lemmas.Bool.{cases_eq}
 use Rattle.hall_grid.specs.declared.rule.Rule.TheVariants.{N3, N4}
 use Rattle.hall_grid.specs.Board.{Board, cells, Touch}
@@ -12,10 +12,10 @@ use Rattle.hall_grid.specs.declared.board.Kind.TheVariants.{Nurikabe}
 use Rattle.hall_solve.specs.Puzzle.{question_of}
 use Rattle.hall_nurikabe.specs.Forced.{IsSetTo, AreRegions, AreOwners}
 use Rattle.hall_nurikabe.specs.Exit.{MustGrow, NeedsMore}
-use Rattle.hall_nurikabe.proofs.Counting.{HasCount-within}
-use Rattle.hall_nurikabe.proofs.Solutions.{no_rule_broken, set_wall, set_white}
-use Rattle.hall_nurikabe.proofs.Sound.{counted, group_count}
-use Rattle.hall_nurikabe.proofs.Leaving.{label_is}
+use Rattle.hall_nurikabe.proofs.HasCount.{HasCount-within}
+use Rattle.hall_nurikabe.proofs.Solves.{no_rule_broken, set_wall, set_white}
+use Rattle.hall_nurikabe.proofs.HasAlways.{counted, group_count}
+use Rattle.hall_nurikabe.proofs.MustGrow.{label_is}
 
 module _ (board : Board) (kind : board.kind ≡ Nurikabe) (p : List (Option ℕ)) (part : IsPartial (question_of Nurikabe board) p) where
   -- a group of white cells that is no whole island
