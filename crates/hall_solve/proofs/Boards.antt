@@ -39,6 +39,10 @@ open-keeps (x ∷ xs) (y ∷ ys) e k =
     heads (Some v) None h = let no : None ≡ Some v = h v refl in cc
     heads (Some v) (Some w) h = omega arith
 
+-- what narrows leaves no more open
+pub open-narrows : (q : Question) (old new : List (Option ℕ)) → IsPartial q old → Narrows q old new → open_places new ≤ open_places old
+open-narrows q old new h n = open-keeps old new (h.size ∙ sym n.partial.size) n.keeps
+
 -- a solution solves the branch that has its value
 pub Solves-set : (q : Question) (p : List (Option ℕ)) (f : List ℕ) (i : ℕ) → Solves q p f → i < length p → Solves q (set p i (Some (get_or f i 0))) f
 Solves-set q p f i s within = record {

@@ -3,7 +3,7 @@ use Rattle.hall_solve.specs.Question.{Question, IsSame, IsOpen, IsPartial, Narro
 use Rattle.hall_solve.specs.Explored.{Explored, answer_of}
 use Rattle.hall_solve.specs.declared.outcome.Outcome.{Outcome}
 use Rattle.hall_solve.specs.declared.outcome.Outcome.TheVariants.{None as Nothing, One}
-use Rattle.hall_solve.proofs.Boards.{IsPartial-set, IsPartial-same, same_twice, open-set, open-keeps}
+use Rattle.hall_solve.proofs.Boards.{IsPartial-set, IsPartial-same, same_twice, open-set, open-narrows}
 use Rattle.hall_solve.proofs.Verdicts.{Explored-same}
 use Rattle.hall_solve.proofs.Steps.{Tried, explored_spent, explored_dead, explored_whole, tried_dead, tried_first, explored_second, explored_rest, explored_all}
 use Rattle.hall_solve.proofs.explore.+explore.Goals as goal
@@ -23,6 +23,9 @@ returns-in_default-clause-explored g t c =
     let one_more : g.R.Rules.visits c.judge.new.rules ≡ g.R.Rules.visits c.args.rules.now + 1 = c.judge.ensures.visits ∙ c.propagate.ensures.counted in
     explored_whole (g.R.Rules.question c.args.rules.now) _ c.args.partial c.propagate.new.partial c.args.budget (g.R.Rules.visits c.args.rules.now) _ c.judge.result c.propagate.ensures.same (c.in_ok-propagate.ensures.live c.in-Live.is) c.judge.ensures.answer c.judge.ensures.one one_more
 
+branch_is : (new copied r board : List (Option ℕ)) (place value : ℕ) → new ≡ set copied place (Some value) → copied ≡ board → r ≡ board → new ≡ set r place (Some value)
+branch_is new copied r board place value a b e = a ∙ ap (λ x. set x place (Some value)) (b ∙ sym e)
+
 pub explore-requires : goal.explore-requires
 explore-requires g t c κs covers =
     let q = g.R.Rules.question c.args.rules.now in
@@ -32,19 +35,19 @@ explore-requires g t c κs covers =
     let value = c.loop-value.value in
     let narrows : Narrows q p r = (rw c.partial-2.view_is (c.in_ok-propagate.ensures.live c.in-Live.is)) in
     let unset : IsOpen r place = (rw c.partial-2.view_is c.in-Some.ensures.unset) in
-    let branch : c.set.new.self ≡ set r place (Some value) = c.set.ensures ∙ ap (λ x. set x place (Some value)) (c.in_ok-branch.ensures ∙ sym c.partial-2.view_is) in
+    let branch : c.set.new.self ≡ set r place (Some value) = branch_is c.set.new.self c.in_ok-branch.branch c.partial-2.inside.places.items c.propagate.new.partial c.in-Some.place c.loop-value.value c.set.ensures c.in_ok-branch.ensures c.partial-2.view_is in
     let lt : value < q.values = omega (arith, c.values-value-end.ensures, c.propagate.ensures.same.values) in
     let partial : IsPartial (g.R.Rules.question c.loop-value.rules) c.set.new.self =
     (rw branch (IsPartial-same q (g.R.Rules.question c.loop-value.rules) (set r place (Some value)) c.loop-value.invariant.same (IsPartial-set q r place value unset.0 lt narrows.partial))) in
-    let fewer : open_places r ≤ open_places p = open-keeps p r (c.requires.partial.size ∙ sym narrows.partial.size) narrows.keeps in
+    let fewer : open_places r ≤ open_places p = open-narrows q p r c.requires.partial narrows in
     let one_less : open_places c.set.new.self + 1 ≡ open_places r = (rw branch (open-set r place value unset.0 unset.1)) in
     let smaller : open_places c.set.new.self < open_places p = omega arith in
     search rules
 
 -- what the search below a branch answered, of the question at the start
-branch_explored : (q now : Question) (r board branch : List (Option ℕ)) (place value budget before after : ℕ) (o : Outcome) → IsSame q now → r ≡ board → branch ≡ set board place (Some value) → Explored now branch budget before after o → Explored q (set r place (Some value)) budget before after o
-branch_explored q now r board branch place value budget before after o same r_is branch_is h =
-    let e : branch ≡ set r place (Some value) = branch_is ∙ ap (λ x. set x place (Some value)) (sym r_is) in
+branch_explored : (q now : Question) (r board copied branch : List (Option ℕ)) (place value budget before after : ℕ) (o : Outcome) → IsSame q now → r ≡ board → branch ≡ set copied place (Some value) → copied ≡ board → Explored now branch budget before after o → Explored q (set r place (Some value)) budget before after o
+branch_explored q now r board copied branch place value budget before after o same r_is branch_set copied_is h =
+    let e : branch ≡ set r place (Some value) = branch_is branch copied r board place value branch_set copied_is r_is in
     Explored-same q now (set r place (Some value)) budget before after o same (subst (λ (x : List (Option ℕ)). Explored now x budget before after o) e h)
 
 pub returns-in-Some-take-clause-same : goal.returns-in-Some-take-clause-same
@@ -60,7 +63,7 @@ returns-in-Some-take-clause-explored g t c =
     let narrows : Narrows q c.args.partial r = (rw c.partial-2.view_is (c.in_ok-propagate.ensures.live c.in-Live.is)) in
     let unset : IsOpen r place = (rw c.partial-2.view_is c.in-Some.ensures.unset) in
     let lt : value < q.values = omega (arith, c.values-value-end.ensures, c.propagate.ensures.same.values) in
-    let explored = branch_explored q (g.R.Rules.question c.loop-value.rules) r c.propagate.new.partial c.set.new.self place value c.args.budget (g.R.Rules.visits c.loop-value.rules) (g.R.Rules.visits c.explore.new.rules) c.in_ok-rest.rest c.loop-value.invariant.same c.partial-2.view_is (c.set.ensures ∙ ap (λ x. set x place (Some value)) c.in_ok-branch.ensures) c.in_ok-rest.ensures.explored in
+    let explored = branch_explored q (g.R.Rules.question c.loop-value.rules) r c.propagate.new.partial c.in_ok-branch.branch c.set.new.self place value c.args.budget (g.R.Rules.visits c.loop-value.rules) (g.R.Rules.visits c.explore.new.rules) c.in_ok-rest.rest c.loop-value.invariant.same c.partial-2.view_is c.set.ensures c.in_ok-branch.ensures c.in_ok-rest.ensures.explored in
     let one : Explored q (set r place (Some value)) c.args.budget (g.R.Rules.visits c.loop-value.rules) (g.R.Rules.visits c.explore.new.rules) (One c.in-One.filling) = subst (λ (o : Outcome). Explored q (set r place (Some value)) c.args.budget (g.R.Rules.visits c.loop-value.rules) (g.R.Rules.visits c.explore.new.rules) o) c.in-One.is explored in
     let tried : Tried q r place (g.R.Rules.visits c.args.rules.now) value (g.R.Rules.visits c.loop-value.rules) (Some c.in-Some-take.first) = subst (λ (o : Option (List ℕ)). Tried q r place (g.R.Rules.visits c.args.rules.now) value (g.R.Rules.visits c.loop-value.rules) o) (sym c.in-Some-take.ensures.value) c.loop-value.invariant.tried in
     explored_second q c.args.partial r c.args.budget (g.R.Rules.visits c.args.rules.now) c.requires.partial narrows place unset value _ _ c.in-Some-take.first c.in-One.filling tried one lt
@@ -74,7 +77,7 @@ returns-in_default-2-clause-explored g t c =
     let narrows : Narrows q c.args.partial r = (rw c.partial-2.view_is (c.in_ok-propagate.ensures.live c.in-Live.is)) in
     let unset : IsOpen r place = (rw c.partial-2.view_is c.in-Some.ensures.unset) in
     let lt : value < q.values = omega (arith, c.values-value-end.ensures, c.propagate.ensures.same.values) in
-    let explored = branch_explored q (g.R.Rules.question c.loop-value.rules) r c.propagate.new.partial c.set.new.self place value c.args.budget (g.R.Rules.visits c.loop-value.rules) (g.R.Rules.visits c.explore.new.rules) c.in_ok-rest.rest c.loop-value.invariant.same c.partial-2.view_is (c.set.ensures ∙ ap (λ x. set x place (Some value)) c.in_ok-branch.ensures) c.in_ok-rest.ensures.explored in
+    let explored = branch_explored q (g.R.Rules.question c.loop-value.rules) r c.propagate.new.partial c.in_ok-branch.branch c.set.new.self place value c.args.budget (g.R.Rules.visits c.loop-value.rules) (g.R.Rules.visits c.explore.new.rules) c.in_ok-rest.rest c.loop-value.invariant.same c.partial-2.view_is c.set.ensures c.in_ok-branch.ensures c.in_ok-rest.ensures.explored in
     explored_rest q c.args.partial r c.args.budget (g.R.Rules.visits c.args.rules.now) c.requires.partial narrows place unset value _ _ c.loop-value.found c.in_ok-rest.rest c.loop-value.invariant.tried c.in_default-2.not-None c.in_default-2.not-One explored lt
 
 pub loop-value-preserved : goal.loop-value-preserved
@@ -85,7 +88,7 @@ loop-value-preserved g t c =
     let value = c.loop-value.value in
     let narrows : Narrows q c.args.partial r = (rw c.partial-2.view_is (c.in_ok-propagate.ensures.live c.in-Live.is)) in
     let unset : IsOpen r place = (rw c.partial-2.view_is c.in-Some.ensures.unset) in
-    let explored = branch_explored q (g.R.Rules.question c.loop-value.rules) r c.propagate.new.partial c.set.new.self place value c.args.budget (g.R.Rules.visits c.loop-value.rules) (g.R.Rules.visits c.explore.new.rules) c.in_ok-rest.rest c.loop-value.invariant.same c.partial-2.view_is (c.set.ensures ∙ ap (λ x. set x place (Some value)) c.in_ok-branch.ensures) c.in_ok-rest.ensures.explored in
+    let explored = branch_explored q (g.R.Rules.question c.loop-value.rules) r c.propagate.new.partial c.in_ok-branch.branch c.set.new.self place value c.args.budget (g.R.Rules.visits c.loop-value.rules) (g.R.Rules.visits c.explore.new.rules) c.in_ok-rest.rest c.loop-value.invariant.same c.partial-2.view_is c.set.ensures c.in_ok-branch.ensures c.in_ok-rest.ensures.explored in
     let same = same_twice q (g.R.Rules.question c.loop-value.rules) (g.R.Rules.question c.explore.new.rules) c.loop-value.invariant.same c.in_ok-rest.ensures.same in
     let HasExplored : Outcome → Type 0 = λ (o : Outcome). Explored q (set r place (Some value)) c.args.budget (g.R.Rules.visits c.loop-value.rules) (g.R.Rules.visits c.explore.new.rules) o in
     elim c.match-branch-5.branch [
