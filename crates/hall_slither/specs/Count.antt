@@ -1,8 +1,10 @@
 -- Counts of lines at dots and round cells, and what follows from them for the open sides.
-use Rattle.std.specs.Prelude.{◌≡◌, ◌⊎◌, ℕ, ◌+◌, ◌*◌, ◌<◌, ◌≤◌, ◌==◌, Bool, false, List, Option, Some, None, Contains, slice_index, slice_index_or, is_none, map}
+use Rattle.std.specs.Prelude.{◌≡◌, ◌⊎◌, ℕ, ◌+◌, ◌*◌, ◌<◌, ◌≤◌, ◌==◌, Bool, false, List, Option, Some, None, Contains, slice_index, slice_get, slice_index_or, is_none, map}
 use Rattle.std.specs.List.{sum_by}
 use Rattle.hall_grid.specs.declared.board.Size.{Size}
-use Rattle.hall_grid.specs.Board.{cells}
+use Rattle.hall_grid.specs.declared.board.Clue.{Clue}
+use Rattle.hall_grid.specs.declared.board.Clue.TheVariants.{Blank, Unknown, Number}
+use Rattle.hall_grid.specs.Board.{Board, cells}
 use Rattle.hall_grid.specs.Slither.{dots, sides_of}
 use Rattle.hall_solve.specs.Question.{Question, Solves, IsHopeless, IsOpen}
 use Rattle.hall_slither.specs.declared.count.Centre.{Centre}
@@ -45,9 +47,16 @@ Meets Any n = Unit {0}
 Meets Through n = (n ≡ 0) ⊎ (n ≡ 2)
 Meets (Exactly number) n = n ≡ number
 
--- so many are lines and so many open: what each count between says of the open ones; nothing only where some count is as demanded
+-- some count from the least to below the end is as demanded
+abbrev pub IsPossible : Demand → ℕ → ℕ → Type 0
+IsPossible demand least end = (n : ℕ) × (least ≤ n) × (n < end) × Meets demand n
+
+-- so many are lines and so many open: what each count between says of the open ones; nothing only where some count is as demanded,
+-- and, where any is open, also one with more lines than so far, and one that leaves some of them without
 abbrev pub Follows : Demand → ℕ → ℕ → Consequence → Type 0
-Follows demand lines unset Nothing = (n : ℕ) × (lines ≤ n) × (n ≤ lines + unset) × Meets demand n
+Follows demand lines unset Nothing =
+    IsPossible demand lines (lines + unset + 1)
+    × (0 < unset → IsPossible demand (lines + 1) (lines + unset + 1) × IsPossible demand lines (lines + unset))
 Follows demand lines unset (AllBe value) =
     (0 < unset) × (value < 2) × ((n : ℕ) → lines ≤ n → n ≤ lines + unset → Meets demand n → n ≡ lines + value * unset)
 Follows demand lines unset Impossible = (n : ℕ) → lines ≤ n → n ≤ lines + unset → Meets demand n → ⊥
@@ -60,3 +69,25 @@ IsTold q p sides (AllBe value) =
     × ((s : ℕ) × Contains sides (Some s) × IsOpen p s)
     × ((f : List ℕ) (s : ℕ) → Solves q p f → Contains sides (Some s) → IsOpen p s → slice_index f s ≡ value)
 IsTold q p sides Impossible = IsHopeless q p
+
+-- what a clue demands
+abbrev pub demand_for : Option Clue → Demand
+demand_for None = Any
+demand_for (Some Blank) = Any
+demand_for (Some Unknown) = Any
+demand_for (Some (Number n)) = Exactly n
+
+-- how many lines there must be: a loop passes a dot or doesn't, and a number is the count round its cell
+abbrev pub demand_of : Board → Centre → Demand
+demand_of board (Dot d) = Through
+demand_of board (Cell cell) = demand_for (slice_get board.clues cell)
+
+-- the count at the centre says nothing of its sides
+abbrev pub IsSilent : Board → List (Option ℕ) → Centre → Type 0
+IsSilent board p centre =
+    Follows (demand_of board centre) (count_sides (has_line p) (sides_round board.size centre))
+    (count_sides (is_open p) (sides_round board.size centre)) Nothing
+
+-- no count says anything
+abbrev pub AreSilent : Board → List (Option ℕ) → Type 0
+AreSilent board p = (centre : Centre) → IsCentre board.size centre → IsSilent board p centre

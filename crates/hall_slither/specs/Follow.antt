@@ -1,7 +1,9 @@
 -- Open sides that are set, and what is still to look at.
 use Rattle.std.specs.Prelude.{◌≡◌, ◌≢◌, ◌⊎◌, ℕ, ◌+◌, ◌*◌, List, Option, Some, None, Contains, length, slice_index_or}
+use Rattle.hall_grid.specs.declared.board.Size.{Size}
 use Rattle.hall_solve.specs.Question.{Keeps, IsOpen, open_places}
 use Rattle.hall_slither.specs.declared.count.Centre.{Centre}
+use Rattle.hall_slither.specs.Count.{IsCentre}
 
 -- of the open sides among these some were set to the value, and nothing else was
 pub record SetsAmong (sides : List (Option ℕ)) (value : ℕ) (old new : List (Option ℕ)) : Type 0 where
@@ -13,6 +15,10 @@ pub record SetsAmong (sides : List (Option ℕ)) (value : ℕ) (old new : List (
 -- none of the sides is open
 abbrev pub AreSet : List (Option ℕ) → List (Option ℕ) → Type 0
 AreSet sides p = (s : ℕ) → Contains sides (Some s) → slice_index_or p s None ≢ None
+
+-- all dots and cells of the board are there
+abbrev pub HasAll : Size → List Centre → Type 0
+HasAll size centres = (centre : Centre) → IsCentre size centre → Contains centres centre
 
 -- a set side brings at most four dots and cells
 abbrev pub work : List (Option ℕ) → List Centre → ℕ

@@ -6,8 +6,8 @@ ghost use Rattle.hall_solve.specs.Question.{IsPartial, Narrows};
 ghost use Rattle.hall_solve.specs.Deduction.{IsDeduced};
 ghost use Rattle.hall_solve.specs.Puzzle.{question_of};
 ghost use Rattle.hall_slither.specs.Dot.{AreBelow};
-ghost use Rattle.hall_slither.specs.Count.{IsCentre};
-ghost use Rattle.hall_slither.specs.Follow.{SetsAmong, AreSet, work};
+ghost use Rattle.hall_slither.specs.Count.{IsCentre, AreSilent};
+ghost use Rattle.hall_slither.specs.Follow.{SetsAmong, AreSet, HasAll, work};
 
 use crate::count::{Centre, Consequence, consequence_at, sides_round};
 use crate::dot::dot_count;
@@ -102,7 +102,8 @@ fn set_open(
 fn push_all(size: Size, stack: &mut Vec<Centre>) -> Result<(), AllocError>
     requires size { IsSize size }
     requires centres { All (IsCentre size) stack.old.items }
-    ensures { OnOk result (All (IsCentre size) stack.new.items) }
+    ensures centres { OnOk result (All (IsCentre size) stack.new.items) }
+    ensures all { OnOk result (HasAll size stack.new.items) }
 {
     for dot in 0..dot_count(size) {
         stack.push(Centre::Dot(dot))?;
@@ -122,6 +123,8 @@ fn follow_stack(
     requires kind { puzzle.now.kind ≡ Kind.Slither }
     requires partial { IsPartial (question_of Kind.Slither puzzle.now) partial.old }
     requires centres { All (IsCentre puzzle.now.size) stack.old.items }
+    requires all { HasAll puzzle.now.size stack.old.items }
+    ensures silent { IfOk result (λ pass. pass ≡ Pass.Settled → AreSilent puzzle.now partial.new) }
     ensures deduced { IfOk result (IsDeduced (question_of Kind.Slither puzzle.now) partial.old partial.new) }
     ensures err { OnErr result (Narrows (question_of Kind.Slither puzzle.now) partial.old partial.new) }
 {
@@ -148,6 +151,7 @@ pub(crate) fn follow_counts(
 ) -> Result<Pass, AllocError>
     requires kind { puzzle.now.kind ≡ Kind.Slither }
     requires partial { IsPartial (question_of Kind.Slither puzzle.now) partial.old }
+    ensures silent { IfOk result (λ pass. pass ≡ Pass.Settled → AreSilent puzzle.now partial.new) }
     ensures deduced { IfOk result (IsDeduced (question_of Kind.Slither puzzle.now) partial.old partial.new) }
     ensures err { OnErr result (Narrows (question_of Kind.Slither puzzle.now) partial.old partial.new) }
 {

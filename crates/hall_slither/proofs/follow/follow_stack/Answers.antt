@@ -1,8 +1,10 @@
-use Rattle.std.proofs.Common.{◌≡◌, sym, ap, ◌∙◌, refl, subst, arith}
+use Rattle.std.proofs.Common.{◌≡◌, ◌<◌, ◌++◌, ◌∷◌, [], List, Some, length, inl, inr, sym, ap, ◌∙◌, refl, subst, arith}
+use Rattle.std.specs.Prelude.{All, Contains}
+use Rattle.std.proofs.lemmas.List.Elements.{All-pop, Contains-push_cases}
 use Rattle.hall_solve.specs.Question.{Narrows}
 use Rattle.hall_solve.proofs.Boards.{open-keeps}
-use Rattle.hall_solve.specs.declared.deduce.Pass.TheVariants.{Advanced, Dead}
-use Rattle.hall_slither.specs.Count.{sides_round, IsTold}
+use Rattle.hall_solve.specs.declared.deduce.Pass.TheVariants.{Settled, Advanced, Dead}
+use Rattle.hall_slither.specs.Count.{sides_round, IsCentre, IsTold, IsSilent}
 use Rattle.hall_grid.specs.declared.board.Kind.TheVariants.{Slither}
 use Rattle.hall_solve.specs.Puzzle.{question_of}
 use Rattle.hall_slither.specs.declared.count.Consequence.TheVariants.{AllBe}
@@ -15,7 +17,7 @@ loop-centre-preserved c =
     let sides_are : c.sides_round.result ≡ sides_round c.args.puzzle.now.size c.in-Some.centre =
     c.sides_round.ensures.sides ∙ ap (λ size. sides_round size c.in-Some.centre) c.size-size.ensures.size in
     let told : IsTold q c.loop-centre.partial c.sides_round.result (AllBe c.in-AllBe.value) =
-    subst (λ sides. IsTold q c.loop-centre.partial sides (AllBe c.in-AllBe.value)) (sym sides_are) c.in-AllBe.ensures in
+    subst (λ sides. IsTold q c.loop-centre.partial sides (AllBe c.in-AllBe.value)) (sym sides_are) c.in-AllBe.ensures.told in
     let among = c.set_open.ensures.among in
     let narrows = Narrows-among q c.args.partial.now c.loop-centre.partial c.set_open.new.partial c.sides_round.result c.in-AllBe.value refl
     c.loop-centre.invariant.narrows told among in
@@ -26,6 +28,7 @@ loop-centre-preserved c =
       narrows = narrows;
       deduced = (narrows, omega arith);
       alive = λ (e : Advanced ≡ Dead). cc;
+      silent = λ (e : Advanced ≡ Settled). absurd (cc);
       centres = c.in_ok-set_open-in-AllBe.ensures.centres;
     }
 
@@ -35,7 +38,39 @@ returns-in_err-set_open-in-AllBe-clause-err c =
     let sides_are : c.sides_round.result ≡ sides_round c.args.puzzle.now.size c.in-Some.centre =
     c.sides_round.ensures.sides ∙ ap (λ size. sides_round size c.in-Some.centre) c.size-size.ensures.size in
     let told : IsTold q c.loop-centre.partial c.sides_round.result (AllBe c.in-AllBe.value) =
-    subst (λ sides. IsTold q c.loop-centre.partial sides (AllBe c.in-AllBe.value)) (sym sides_are) c.in-AllBe.ensures in
+    subst (λ sides. IsTold q c.loop-centre.partial sides (AllBe c.in-AllBe.value)) (sym sides_are) c.in-AllBe.ensures.told in
     OnErr-from c.from_residual.result (Narrows q c.args.partial.now c.set_open.new.partial)
     (Narrows-among q c.args.partial.now c.loop-centre.partial c.set_open.new.partial c.sides_round.result c.in-AllBe.value refl
     c.loop-centre.invariant.narrows told c.set_open.ensures.among)
+
+pub loop-centre-preserved-in-Nothing : goal.loop-centre-preserved-in-Nothing
+loop-centre-preserved-in-Nothing c =
+    let before = c.loop-centre.invariant in
+    let popped = All-pop (IsCentre c.size-size.result) c.loop-centre.stack.items c.pop.new.self.items (Some c.in-Some.centre) c.in-Some.ensures.items before.centres in
+    record {
+      narrows = before.narrows;
+      deduced = before.deduced;
+      alive = before.alive;
+      centres = popped.0;
+      silent = λ settled x is. elim (before.silent settled x is) [
+        | inl has ↦ elim (Contains-push_cases c.pop.new.self.items c.in-Some.centre x (subst (λ xs. Contains xs x) c.in-Some.ensures.items has)) [
+          | inl still ↦ inl still
+          | inr e ↦ inr (subst (IsSilent c.args.puzzle.now c.loop-centre.partial) e (c.in-Nothing.ensures.silent refl))
+        ]
+        | inr silent ↦ inr silent
+      ];
+    }
+
+pub sides_round-requires-clause-centre : goal.sides_round-requires-clause-centre
+sides_round-requires-clause-centre c =
+    (All-pop (IsCentre c.size-size.result) c.loop-centre.stack.items c.pop.new.self.items (Some c.in-Some.centre) c.in-Some.ensures.items c.loop-centre.invariant.centres).1
+
+pub set_open-requires-clause-centres : goal.set_open-requires-clause-centres
+set_open-requires-clause-centres c =
+    (All-pop (IsCentre c.size-size.result) c.loop-centre.stack.items c.pop.new.self.items (Some c.in-Some.centre) c.in-Some.ensures.items c.loop-centre.invariant.centres).0
+
+pub returns-clause-silent : goal.returns-clause-silent
+returns-clause-silent c = λ settled x is. elim (c.loop-centre.invariant.silent settled x is) [
+  | inl has ↦ absurd (let low : has.0 < length c.loop-centre.stack.items = has.1 in let empty = c.in_default.ensures.cases in let size = c.loop-centre.stack.ok.0 in omega arith)
+  | inr silent ↦ silent
+]

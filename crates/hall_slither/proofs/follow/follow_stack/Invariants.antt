@@ -1,9 +1,10 @@
-use Rattle.std.proofs.Common.{◌≢◌}
-use Rattle.std.specs.Prelude.{All}
+use Rattle.std.proofs.Common.{◌≡◌, ◌≢◌, ◌⊎◌}
+use Rattle.std.specs.Prelude.{All, Contains}
 use Rattle.hall_solve.specs.Question.{Narrows}
 use Rattle.hall_solve.specs.Deduction.{IsDeduced}
-use Rattle.hall_solve.specs.declared.deduce.Pass.TheVariants.{Dead}
-use Rattle.hall_slither.specs.Count.{IsCentre}
+use Rattle.hall_solve.specs.declared.deduce.Pass.TheVariants.{Settled, Dead}
+use Rattle.hall_slither.specs.Count.{IsCentre, IsSilent}
+use Rattle.hall_slither.specs.declared.count.Centre.{Centre}
 use Rattle.hall_slither.specs.Follow.{work}
 use Rattle.hall_grid.specs.declared.board.Kind.TheVariants.{Slither}
 use Rattle.hall_solve.specs.Puzzle.{question_of}
@@ -15,6 +16,7 @@ invariant-loop-centre l = record {
   deduced : IsDeduced (question_of Slither l.puzzle) l.fn.partial l.partial l.pass;
   alive : l.pass ≢ Dead;
   centres : All (IsCentre l.size) l.stack.items;
+  silent : l.pass ≡ Settled → (centre : Centre) → IsCentre l.puzzle.size centre → Contains l.stack.items centre ⊎ IsSilent l.puzzle l.partial centre;
 }
 
 abbrev pub decreases-loop-centre : goal.decreases-loop-centre
