@@ -6,7 +6,8 @@ use Rattle.std.proofs.lemmas.List.{length-replicate, length-map, take_at}
 use Rattle.std.proofs.lemmas.List.Elements.{Contains-append_left, Contains-push, Contains-push_cases}
 use Rattle.std.proofs.lemmas.Bool.{cases_lt}
 use Rattle.hall_grid.specs.Walk.{Walk, at, on}
-use Rattle.hall_grid.specs.Component.{IsLabelled, AreComponents, HasComponents, Floods, Labels}
+use Rattle.hall_grid.specs.Component.{IsLabelled, AreComponents}
+use Rattle.hall_grid.specs.Flood.{HasComponents, Floods, Labels}
 use Rattle.hall_grid.specs.Reached.{IsMarked, IsReach}
 use Rattle.hall_grid.proofs.Labelling.{one_label, labelled_below}
 use Rattle.hall_grid.proofs.Walks.{Walk-along, Walk-start, Walk-end}

@@ -5,7 +5,8 @@ use Rattle.std.specs.Option.{is_some}
 use Rattle.std.proofs.lemmas.List.{get_or-set_same, get_or-set_other, length-set, length_push, take_more}
 use Rattle.std.proofs.lemmas.List.Elements.{Contains-append_left, Contains-push, Contains-push_cases, Contains-get_or}
 use Rattle.std.proofs.lemmas.Bool.{cases_eq}
-use Rattle.hall_grid.specs.Component.{IsLabelled, Labels, unlabelled}
+use Rattle.hall_grid.specs.Component.{IsLabelled}
+use Rattle.hall_grid.specs.Flood.{Labels, unlabelled}
 
 unlabelled-set : (labels : List (Option ℕ)) (i label : ℕ) → i < length labels → get_or labels i None ≡ None → unlabelled (set labels i (Some label)) + 1 ≡ unlabelled labels
 unlabelled-set [] i label h e = omega arith

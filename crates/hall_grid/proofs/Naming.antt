@@ -1,64 +1,125 @@
--- A set of names that was made by one test after another.
-use Rattle.std.proofs.Common.{◌≡◌, ℕ, ◌⊎◌, ◌↔◌, Bool, List, [], ◌∷◌, sym, inl, inr, subst}
+-- The names of the rules that a filling breaks, put into a set by one test after another.
+use Rattle.std.proofs.Common.{◌≡◌, ℕ, ◌⊎◌, ◌↔◌, Bool, List, [], ◌∷◌, refl, sym, inl, inr, subst}
 use Rattle.std.specs.Prelude.{IsTrue}
+use Rattle.hall_grid.specs.declared.board.Kind.{Kind}
+use Rattle.hall_grid.specs.declared.board.Kind.TheVariants.{Sudoku, Slither, Nurikabe}
 use Rattle.hall_grid.specs.declared.rule.Rule.{Rule}
-use Rattle.hall_grid.specs.Rule.{Names}
+use Rattle.hall_grid.specs.declared.rule.Rule.TheVariants.{A0, U1, U2, U3, U4, S1, S2, S3, S4, S5, N1, N2, N3, N4, N5, N6}
+use Rattle.hall_grid.specs.Board.{Board}
+use Rattle.hall_grid.specs.Rule.{Adds, IsNameSet, Names}
+use Rattle.hall_grid.specs.Answer.{AreBroken, Breaks}
 
--- a name, and whether it was put in
-pub record Test : Type 0 where
-  pub rule : Rule
-  pub holds : Bool
+-- the rules of a kind
+abbrev pub rules_of : Kind → List Rule
+rules_of Sudoku = U1 ∷ U2 ∷ U3 ∷ U4 ∷ []
+rules_of Slither = S1 ∷ S2 ∷ S3 ∷ S4 ∷ S5 ∷ []
+rules_of Nurikabe = N1 ∷ N2 ∷ N3 ∷ N4 ∷ N5 ∷ N6 ∷ []
 
--- some test put the name in
-abbrev pub PutIn : List Test → Rule → Type 0
-PutIn [] rule = ⊥
-PutIn (t ∷ tests) rule = PutIn tests rule ⊎ ((rule ≡ t.rule) × IsTrue t.holds)
+-- the list has the rule
+abbrev Lists : List Rule → Rule → Type 0
+Lists [] rule = ⊥
+Lists (r ∷ rules) rule = (rule ≡ r) ⊎ Lists rules rule
 
--- a test of the list is about the name
-abbrev pub IsTested : List Test → Rule → Type 0
-IsTested [] rule = ⊥
-IsTested (t ∷ tests) rule = IsTested tests rule ⊎ (rule ≡ t.rule)
+-- a filling breaks the rules of its kind alone
+lists_broken : (kind : Kind) (board : Board) (f : List ℕ) (rule : Rule) → Breaks kind board f rule → Lists (rules_of kind) rule
+lists_broken Sudoku board f A0 h = absurd h
+lists_broken Sudoku board f U1 h = inl refl
+lists_broken Sudoku board f U2 h = inr (inl refl)
+lists_broken Sudoku board f U3 h = inr (inr (inl refl))
+lists_broken Sudoku board f U4 h = inr (inr (inr (inl refl)))
+lists_broken Sudoku board f S1 h = absurd h
+lists_broken Sudoku board f S2 h = absurd h
+lists_broken Sudoku board f S3 h = absurd h
+lists_broken Sudoku board f S4 h = absurd h
+lists_broken Sudoku board f S5 h = absurd h
+lists_broken Sudoku board f N1 h = absurd h
+lists_broken Sudoku board f N2 h = absurd h
+lists_broken Sudoku board f N3 h = absurd h
+lists_broken Sudoku board f N4 h = absurd h
+lists_broken Sudoku board f N5 h = absurd h
+lists_broken Sudoku board f N6 h = absurd h
+lists_broken Slither board f A0 h = absurd h
+lists_broken Slither board f U1 h = absurd h
+lists_broken Slither board f U2 h = absurd h
+lists_broken Slither board f U3 h = absurd h
+lists_broken Slither board f U4 h = absurd h
+lists_broken Slither board f S1 h = inl refl
+lists_broken Slither board f S2 h = inr (inl refl)
+lists_broken Slither board f S3 h = inr (inr (inl refl))
+lists_broken Slither board f S4 h = inr (inr (inr (inl refl)))
+lists_broken Slither board f S5 h = inr (inr (inr (inr (inl refl))))
+lists_broken Slither board f N1 h = absurd h
+lists_broken Slither board f N2 h = absurd h
+lists_broken Slither board f N3 h = absurd h
+lists_broken Slither board f N4 h = absurd h
+lists_broken Slither board f N5 h = absurd h
+lists_broken Slither board f N6 h = absurd h
+lists_broken Nurikabe board f A0 h = absurd h
+lists_broken Nurikabe board f U1 h = absurd h
+lists_broken Nurikabe board f U2 h = absurd h
+lists_broken Nurikabe board f U3 h = absurd h
+lists_broken Nurikabe board f U4 h = absurd h
+lists_broken Nurikabe board f S1 h = absurd h
+lists_broken Nurikabe board f S2 h = absurd h
+lists_broken Nurikabe board f S3 h = absurd h
+lists_broken Nurikabe board f S4 h = absurd h
+lists_broken Nurikabe board f S5 h = absurd h
+lists_broken Nurikabe board f N1 h = inl refl
+lists_broken Nurikabe board f N2 h = inr (inl refl)
+lists_broken Nurikabe board f N3 h = inr (inr (inl refl))
+lists_broken Nurikabe board f N4 h = inr (inr (inr (inl refl)))
+lists_broken Nurikabe board f N5 h = inr (inr (inr (inr (inl refl))))
+lists_broken Nurikabe board f N6 h = inr (inr (inr (inr (inr (inl refl)))))
 
--- each test of the list says whether its sentence is true
-abbrev pub AreRight : (Rule → Type 0) → List Test → Type 0
-AreRight Sentence [] = Unit {0}
-AreRight Sentence (t ∷ tests) = AreRight Sentence tests × (IsTrue t.holds ↔ Sentence t.rule)
+-- sets from the first to the last: each adds the next name of the list, where its sentence is true
+abbrev pub Adding : (Rule → Type 0) → List Rule → ℕ → ℕ → Type 0
+Adding Sentence [] first last = first ≡ last
+Adding Sentence (rule ∷ rules) first last =
+    (next : ℕ) × (holds : Bool) × Adds first next rule holds × (IsTrue holds ↔ Sentence rule) × Adding Sentence rules next last
 
--- the set has the names that the tests put in
-pub record HasPutIn (names : ℕ) (tests : List Test) : Type 0 where
-  pub each : (rule : Rule) → Names names rule ↔ PutIn tests rule
+-- a name of the last set was in the first one, or its sentence is true
+sentence_true : (Sentence : Rule → Type 0) (rules : List Rule) (first last : ℕ) → Adding Sentence rules first last
+    → (rule : Rule) → Names last rule → Names first rule ⊎ Sentence rule
+sentence_true Sentence [] first last adding rule h = inl (subst (λ n. Names n rule) (sym adding) h)
+sentence_true Sentence (r ∷ rules) first last (next, holds, adds, right, rest) rule h = elim (sentence_true Sentence rules next last rest rule h) [
+  | inr true ↦ inr true
+  | inl before ↦ elim ((adds.each rule).0 before) [
+    | inl k ↦ inl k
+    | inr k ↦ inr (subst Sentence (sym k.0) (right.0 k.1))
+  ]
+]
 
-pub nothing_put_in : (names : ℕ) → ((rule : Rule) → Names names rule → ⊥) → HasPutIn names []
-nothing_put_in names none = record { each = λ rule. (none rule, λ h. absurd h) }
+-- a name of the first set is in the last one
+name_kept : (Sentence : Rule → Type 0) (rules : List Rule) (first last : ℕ) → Adding Sentence rules first last
+    → (rule : Rule) → Names first rule → Names last rule
+name_kept Sentence [] first last adding rule h = subst (λ n. Names n rule) adding h
+name_kept Sentence (r ∷ rules) first last (next, holds, adds, right, rest) rule h =
+    name_kept Sentence rules next last rest rule ((adds.each rule).1 (inl h))
 
-pub one_more : (old new : ℕ) (tests : List Test) (rule : Rule) (holds : Bool) → HasPutIn old tests
-    → ((other : Rule) → Names new other ↔ (Names old other ⊎ ((other ≡ rule) × IsTrue holds)))
-    → HasPutIn new (record { rule = rule; holds = holds } ∷ tests)
-one_more old new tests rule holds before adds = record {
-  each = λ other. (
-    (λ h. elim ((adds other).0 h) [ inl k ↦ inl ((before.each other).0 k) | inr k ↦ inr k ]),
-    (λ h. elim h [ inl k ↦ (adds other).1 (inl ((before.each other).1 k)) | inr k ↦ (adds other).1 (inr k) ]),
+-- a name whose sentence is true is in the last set
+name_added : (Sentence : Rule → Type 0) (rules : List Rule) (first last : ℕ) → Adding Sentence rules first last
+    → (rule : Rule) → Lists rules rule → Sentence rule → Names last rule
+name_added Sentence [] first last adding rule lists h = absurd lists
+name_added Sentence (r ∷ rules) first last (next, holds, adds, right, rest) rule (inl e) h =
+    name_kept Sentence rules next last rest rule ((adds.each rule).1 (inr (e, right.1 (subst Sentence e h))))
+name_added Sentence (r ∷ rules) first last (next, holds, adds, right, rest) rule (inr lists) h =
+    name_added Sentence rules next last rest rule lists h
+
+set_last : (Sentence : Rule → Type 0) (rules : List Rule) (first last : ℕ) → Adding Sentence rules first last → IsNameSet first → IsNameSet last
+set_last Sentence [] first last adding set = subst IsNameSet adding set
+set_last Sentence (r ∷ rules) first last (next, holds, adds, right, rest) set = set_last Sentence rules next last rest adds.set
+
+-- from the empty set on, the tests of a kind's rules make the set of the broken ones; callers give the last fact as
+-- (_, _, adds, right, (_, _, adds, right, .. (_, _, adds, right, refl))), with the clauses of `insert_if` and of the tests
+pub broken_are : (kind : Kind) (board : Board) (f : List ℕ) (first last : ℕ) → board.kind ≡ kind
+    → ((rule : Rule) → Names first rule → ⊥) → IsNameSet first → Adding (Breaks kind board f) (rules_of kind) first last → AreBroken board f last
+broken_are kind board f first last is none set adding = record {
+  set = set_last (Breaks kind board f) (rules_of kind) first last adding set;
+  each = λ rule. subst (λ (k : Kind). Names last rule ↔ Breaks k board f rule) (sym is) (
+    (λ named. elim (sentence_true (Breaks kind board f) (rules_of kind) first last adding rule named) [
+      | inl before ↦ absurd (none rule before)
+      | inr true ↦ true
+    ]),
+    (λ true. name_added (Breaks kind board f) (rules_of kind) first last adding rule (lists_broken kind board f rule true) true),
   );
 }
-
-put_in_true : (Sentence : Rule → Type 0) (tests : List Test) → AreRight Sentence tests → (rule : Rule) → PutIn tests rule → Sentence rule
-put_in_true Sentence [] right rule h = absurd h
-put_in_true Sentence (t ∷ tests) right rule h = elim h [
-  | inl k ↦ put_in_true Sentence tests right.0 rule k
-  | inr k ↦ subst Sentence (sym k.0) (right.1.0 k.1)
-]
-
-true_put_in : (Sentence : Rule → Type 0) (tests : List Test) → AreRight Sentence tests → (rule : Rule) → IsTested tests rule → Sentence rule → PutIn tests rule
-true_put_in Sentence [] right rule tested h = absurd tested
-true_put_in Sentence (t ∷ tests) right rule tested h = elim tested [
-  | inl k ↦ inl (true_put_in Sentence tests right.0 rule k h)
-  | inr e ↦ inr (e, right.1.1 (subst Sentence e h))
-]
-
--- the set has the names of the true sentences
-pub names_are : (Sentence : Rule → Type 0) (tests : List Test) (names : ℕ) → HasPutIn names tests → AreRight Sentence tests
-    → ((rule : Rule) → Sentence rule → IsTested tests rule) → (rule : Rule) → Names names rule ↔ Sentence rule
-names_are Sentence tests names put right tested rule = (
-  (λ h. put_in_true Sentence tests right rule ((put.each rule).0 h)),
-  (λ h. (put.each rule).1 (true_put_in Sentence tests right rule (tested rule h) h)),
-)

@@ -95,12 +95,14 @@ abbrev pub IsBroken : Board → List ℕ → Rule → Type 0
 IsBroken board f rule = Breaks board.kind board f rule
 
 -- the set has the names of the rules that the filling breaks, and no other
-abbrev pub AreBroken : Board → List ℕ → ℕ → Type 0
-AreBroken board f names = (rule : Rule) → Names names rule ↔ IsBroken board f rule
+pub record AreBroken (board : Board) (f : List ℕ) (names : ℕ) : Type 0 where
+  pub set : IsNameSet names
+  pub each : (rule : Rule) → Names names rule ↔ IsBroken board f rule
 
 -- the set has A0 alone
-abbrev pub IsNoForm : ℕ → Type 0
-IsNoForm names = (rule : Rule) → Names names rule ↔ (rule ≡ A0)
+pub record IsNoForm (names : ℕ) : Type 0 where
+  pub set : IsNameSet names
+  pub each : (rule : Rule) → Names names rule ↔ (rule ≡ A0)
 
 -- no filling has this text
 abbrev pub SaysNothing : Board → List ℕ → Type 0
@@ -109,5 +111,4 @@ SaysNothing board text = (f : List ℕ) → AnswerText board text f → ⊥
 -- the names for an answer text: those of its filling, or A0 where there is none
 abbrev pub Verdict : Board → List ℕ → ℕ → Type 0
 Verdict board text names =
-    IsNameSet names
-    × (((f : List ℕ) × AnswerText board text f × AreBroken board f names) ⊎ (SaysNothing board text × IsNoForm names))
+    ((f : List ℕ) × AnswerText board text f × AreBroken board f names) ⊎ (SaysNothing board text × IsNoForm names)

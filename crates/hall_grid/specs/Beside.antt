@@ -8,12 +8,12 @@ abbrev pub IsAbove : Size → ℕ → ℕ → Type 0
 IsAbove size cell other = (other < cells size) × (row size other + 1 ≡ row size cell) × (col size other ≡ col size cell)
 
 -- the other cell is the next to the left
-abbrev pub IsLeft : Size → ℕ → ℕ → Type 0
-IsLeft size cell other = (other < cells size) × (row size other ≡ row size cell) × (col size other + 1 ≡ col size cell)
+abbrev pub IsNextLeft : Size → ℕ → ℕ → Type 0
+IsNextLeft size cell other = (other < cells size) × (row size other ≡ row size cell) × (col size other + 1 ≡ col size cell)
 
 -- the other cell is the next to the right
-abbrev pub IsRight : Size → ℕ → ℕ → Type 0
-IsRight size cell other = (other < cells size) × (row size other ≡ row size cell) × (col size other ≡ col size cell + 1)
+abbrev pub IsNextRight : Size → ℕ → ℕ → Type 0
+IsNextRight size cell other = (other < cells size) × (row size other ≡ row size cell) × (col size other ≡ col size cell + 1)
 
 -- the other cell is the one straight below
 abbrev pub IsBelow : Size → ℕ → ℕ → Type 0

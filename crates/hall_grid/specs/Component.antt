@@ -1,10 +1,14 @@
 -- Labels of nodes, and the labels that tell a graph's components apart.
-use Rattle.std.specs.Prelude.{◌≡◌, ◌⊎◌, ℕ, ◌+◌, ◌*◌, ◌≤◌, List, [], ◌∷◌, length, slice_index_or, Contains, Option, Some, None}
+use Rattle.std.specs.Prelude.{◌≡◌, ◌≢◌, ℕ, List, length, slice_index_or, Option, Some, None}
 use Rattle.hall_grid.specs.Walk.{Walk}
 
 -- the node has this label
 abbrev pub IsLabelled : List (Option ℕ) → ℕ → ℕ → Type 0
 IsLabelled labels node label = slice_index_or labels node None ≡ Some label
+
+-- two nodes have different labels
+abbrev pub LabelsDiffer : List (Option ℕ) → Type 0
+LabelsDiffer labels = (a b x y : ℕ) × IsLabelled labels a x × IsLabelled labels b y × (x ≢ y)
 
 -- labels of components: a member has one, it is the number of a member that a walk joins to it, and members that a walk joins have the same
 pub record AreComponents (nodes : ℕ) (IsNext : ℕ → ℕ → Type 0) (IsMember : ℕ → Type 0) (labels : List (Option ℕ)) : Type 0 where
@@ -12,33 +16,3 @@ pub record AreComponents (nodes : ℕ) (IsNext : ℕ → ℕ → Type 0) (IsMemb
   pub labelled : (a : ℕ) → IsMember a → (label : ℕ) × IsLabelled labels a label
   pub joined : (a label : ℕ) → IsLabelled labels a label → Walk IsNext IsMember label a
   pub shared : (a b label : ℕ) → Walk IsNext IsMember a b → IsLabelled labels a label → IsLabelled labels b label
-
--- some components have their labels, and no other member has one
-pub record HasComponents (nodes : ℕ) (IsNext : ℕ → ℕ → Type 0) (IsMember : ℕ → Type 0) (labels : List (Option ℕ)) : Type 0 where
-  pub exact : length labels ≡ nodes
-  pub joined : (a label : ℕ) → IsLabelled labels a label → Walk IsNext IsMember label a
-  pub closed : (a b label : ℕ) → IsLabelled labels a label → IsNext a b → IsMember b → IsLabelled labels b label
-
--- the component of one more node has its label
-pub record Floods (nodes : ℕ) (IsNext : ℕ → ℕ → Type 0) (IsMember : ℕ → Type 0) (root : ℕ) (old new : List (Option ℕ)) : Type 0 where
-  pub components : HasComponents nodes IsNext IsMember new
-  pub kept : (a label : ℕ) → IsLabelled old a label → IsLabelled new a label
-  pub only : (a label : ℕ) → IsLabelled new a label → IsLabelled old a label ⊎ (label ≡ root)
-  pub begun : IsMember root → (label : ℕ) × IsLabelled new root label
-
--- how many nodes have no label
-abbrev pub unlabelled : List (Option ℕ) → ℕ
-unlabelled [] = 0
-unlabelled (None ∷ labels) = unlabelled labels + 1
-unlabelled (Some _ ∷ labels) = unlabelled labels
-
--- the targets that are members have a label, and what newly has one has this label and was put onto the stack
-pub record Labels (IsTarget IsMember : ℕ → Type 0) (root : ℕ) (old new : List (Option ℕ)) (before after : List ℕ) : Type 0 where
-  pub exact : length new ≡ length old
-  pub kept : (a label : ℕ) → IsLabelled old a label → IsLabelled new a label
-  pub covered : (a : ℕ) → IsTarget a → IsMember a → (label : ℕ) × IsLabelled new a label
-  pub only : (a label : ℕ) → IsLabelled new a label
-      → IsLabelled old a label ⊎ ((label ≡ root) × IsTarget a × IsMember a × Contains after a)
-  pub stacked : (a : ℕ) → Contains before a → Contains after a
-  pub fresh : (a : ℕ) → Contains after a → Contains before a ⊎ IsLabelled new a root
-  pub work : 2 * unlabelled new + length after ≤ 2 * unlabelled old + length before

@@ -1,5 +1,5 @@
 -- Reading forms from left to right, with the first fault that is met. The relations of Body.antt are proved of it.
-use Rattle.std.specs.Prelude.{ℕ, ◌+◌, ◌-◌, ◌*◌, ◌&&◌, Bool, true, false, List, [], ◌∷◌, ◌++◌, replicate, option_to_list, Option, Some, None, Result, Ok, Err, nat_le, ◌==◌, if◌then◌else◌}
+use Rattle.std.specs.Prelude.{◌≡◌, ℕ, ◌+◌, ◌-◌, ◌*◌, ◌&&◌, Bool, true, false, List, [], ◌∷◌, ◌++◌, replicate, option_to_list, Option, Some, None, Result, Ok, Err, nat_le, ◌==◌, if◌then◌else◌}
 use Rattle.hall_grid.specs.declared.board.Kind.{Kind}
 use Rattle.hall_grid.specs.declared.board.Kind.TheVariants.{Sudoku, Slither, Nurikabe}
 use Rattle.hall_grid.specs.declared.board.Clue.{Clue}
@@ -7,6 +7,8 @@ use Rattle.hall_grid.specs.declared.board.Clue.TheVariants.{Blank, Unknown, Numb
 use Rattle.hall_grid.specs.declared.form.Given.{Given}
 use Rattle.hall_grid.specs.declared.form.FormFault.{FormFault}
 use Rattle.hall_grid.specs.declared.form.FormFault.TheVariants.{Strange, Cut}
+use Rattle.hall_grid.specs.declared.board.Size.{Size}
+use Rattle.hall_grid.specs.Body.{Piece, IsPiece}
 
 -- the clues of a form: a number or none, and then empty cells
 abbrev pub given_clues : Given → List Clue
@@ -103,3 +105,10 @@ form_at Nurikabe = number16_form Nurikabe
 -- what the code reads, as lists
 abbrev pub read_view : {Y : Type 0} → (Y → List ℕ) → Given × Y → List Clue × List ℕ
 read_view now r = (given_clues r.0, now r.1)
+
+-- a form in range stands at the front of the bytes, and its clues are put at the end
+pub record TakesForm (kind : Kind) (size : Size) (bytes : List ℕ) (old new : List Clue) (after : List ℕ) : Type 0 where
+  pub piece : Piece
+  pub is_piece : IsPiece kind size piece
+  pub front : bytes ≡ piece.bytes ++ after
+  pub clues : new ≡ old ++ piece.clues

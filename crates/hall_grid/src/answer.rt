@@ -36,7 +36,7 @@ fn number_value(side: usize, byte: u8) -> Option<u8>
         b'a'..=b'z' => byte - b'a' + 9,
         _ => return None,
     };
-    if (value as usize) < side {
+    if usize::from(value) < side {
         Some(value)
     } else {
         None
@@ -94,7 +94,8 @@ fn parse_values(
 /// The filling of a text with one byte for each cell.
 fn parse_cells(alloc: Global, puzzle: &Puzzle, text: &[u8]) -> Result<Option<Filling>, AllocError>
     requires { HasCellText puzzle.now.kind }
-    ensures { IfOk result (λ found. MatchOption found (SaysNothing puzzle.now text.now) (AnswerText puzzle.now text.now)) }
+    ensures { IfOk result
+        (λ found. MatchOption found (SaysNothing puzzle.now text.now) (AnswerText puzzle.now text.now)) }
 {
     if text.len() != puzzle.cells() {
         return Ok(None);
@@ -109,7 +110,8 @@ fn parse_cells(alloc: Global, puzzle: &Puzzle, text: &[u8]) -> Result<Option<Fil
 /// The filling of a text of Slitherlink.
 fn parse_sides(alloc: Global, puzzle: &Puzzle, text: &[u8]) -> Result<Option<Filling>, AllocError>
     requires { puzzle.now.kind ≡ Kind.Slither }
-    ensures { IfOk result (λ found. MatchOption found (SaysNothing puzzle.now text.now) (AnswerText puzzle.now text.now)) }
+    ensures { IfOk result
+        (λ found. MatchOption found (SaysNothing puzzle.now text.now) (AnswerText puzzle.now text.now)) }
 {
     let size = puzzle.size();
     let flat = size.flat_sides();
@@ -132,12 +134,32 @@ pub fn parse_answer(
     puzzle: &Puzzle,
     text: &[u8],
 ) -> Result<Option<Filling>, AllocError>
-    ensures { IfOk result (λ found. MatchOption found (SaysNothing puzzle.now text.now) (AnswerText puzzle.now text.now)) }
+    ensures { IfOk result
+        (λ found. MatchOption found (SaysNothing puzzle.now text.now) (AnswerText puzzle.now text.now)) }
 {
     match puzzle.kind() {
         Kind::Slither => parse_sides(alloc, puzzle, text),
         Kind::Sudoku | Kind::Nurikabe => parse_cells(alloc, puzzle, text),
     }
+}
+
+/// How a number less 1 is written.
+fn number_byte(value: u8) -> u8
+    requires { value < 35 }
+    ensures { result ≡ sudoku_byte value }
+{
+    if value < 9 {
+        b'1' + value
+    } else {
+        b'a' + (value - 9)
+    }
+}
+
+/// How wall or white is written.
+fn wall_byte(value: u8) -> u8
+    ensures { result ≡ nurikabe_byte value }
+{
+    if value == 1 { b'#' } else { b'.' }
 }
 
 /// How a value is written.
@@ -146,11 +168,9 @@ fn byte_of(kind: Kind, value: u8) -> u8
     ensures { result ≡ value_byte kind value }
 {
     match kind {
-        Kind::Sudoku if value < 9 => b'1' + value,
-        Kind::Sudoku => b'a' + (value - 9),
+        Kind::Sudoku => number_byte(value),
         Kind::Slither => b'0' + value,
-        Kind::Nurikabe if value == 1 => b'#',
-        Kind::Nurikabe => b'.',
+        Kind::Nurikabe => wall_byte(value),
     }
 }
 
@@ -185,6 +205,3 @@ pub fn write_answer(alloc: Global, puzzle: &Puzzle, filling: &Filling) -> Result
     }
     Ok(text)
 }
-
-#[cfg(test)]
-mod tests;

@@ -1,8 +1,8 @@
 //! The body of a puzzle text.
 ghost use Rattle.std.specs.Prelude.{◌≡◌, ◌<◌, ◌-◌, ◌*◌, ◌⊎◌, ◌↔◌, ◌++◌, IsTrue, IfOk, IfErr, OnOk, length, replicate, All};
 ghost use Rattle.hall_grid.specs.Board.{cells, HasSize, IsClue};
-ghost use Rattle.hall_grid.specs.Body.{Spells, FaultAt, IsWrong, HasPlace, TakesForm, fitted};
-ghost use Rattle.hall_grid.specs.FormReading.{given_clues};
+ghost use Rattle.hall_grid.specs.Body.{Spells, FaultAt, IsWrong, HasPlace, fitted};
+ghost use Rattle.hall_grid.specs.FormReading.{TakesForm, given_clues};
 
 use crate::board::{Clue, Kind, MOST_NUMBER, Size};
 use crate::fault::TextFault;
@@ -16,7 +16,7 @@ fn fits(kind: Kind, size: Size, clue: Clue) -> bool
     match (kind, clue) {
         (_, Clue::Blank) => true,
         (kind, Clue::Unknown) => kind != Kind::Sudoku,
-        (Kind::Sudoku, Clue::Number(n)) => n >= 1 && n as usize <= size.cols,
+        (Kind::Sudoku, Clue::Number(n)) => n >= 1 && usize::from(n) <= size.cols,
         (Kind::Slither, Clue::Number(n)) => n <= 4,
         (Kind::Nurikabe, Clue::Number(n)) => n >= 1 && n <= MOST_NUMBER,
     }
@@ -86,9 +86,7 @@ fn read_form<'a>(
 fn fit(clues: &mut Vec<Clue>, n: usize) -> Result<(), AllocError>
     ensures { OnOk result (clues.new.items ≡ fitted n clues.old.items) }
 {
-    let missing = n.saturating_sub(clues.len());
-    clues.truncate(n);
-    push_blanks(clues, missing)
+    clues.resize(n, Clue::Blank)
 }
 
 /// The clues that the body spells, or its leftmost fault.
@@ -102,7 +100,7 @@ pub fn parse_body(
     ensures ok { IfOk result (λ clues. Spells kind size body.now clues.items) }
     ensures err { IfErr result (λ e. (e ≡ TextFault.Memory) ⊎ FaultAt kind size body.now e) }
 {
-    let cells = size.rows * size.cols;
+    let cells = size.cells();
     let mut clues = Vec::new(alloc);
     let mut rest = body;
     while !rest.is_empty() {

@@ -34,4 +34,11 @@ impl Filling {
     {
         &self.values
     }
+
+    /// The values as a list of the caller's own.
+    pub fn into_vec(self) -> Vec<u8>
+        ensures { result.items ≡ self }
+    {
+        self.values
+    }
 }

@@ -22,8 +22,8 @@ fn hex_digit(byte: u8) -> Option<u16>
     ensures { result ≡ hex_value byte }
 {
     match byte {
-        b'0'..=b'9' => Some((byte - b'0') as u16),
-        b'a'..=b'f' => Some((byte - b'a') as u16 + 10),
+        b'0'..=b'9' => Some(u16::from(byte - b'0')),
+        b'a'..=b'f' => Some(u16::from(byte - b'a') + 10),
         _ => None,
     }
 }
@@ -32,7 +32,7 @@ fn run_length(byte: u8) -> Option<usize>
     ensures { result ≡ run_value byte }
 {
     match byte {
-        b'g'..=b'z' => Some((byte - b'f') as usize),
+        b'g'..=b'z' => Some(usize::from(byte - b'f')),
         _ => None,
     }
 }
@@ -121,9 +121,9 @@ fn cell4_number(byte: u8) -> Option<(u16, usize)>
     ensures { result ≡ cell4_value byte }
 {
     match byte {
-        b'0'..=b'4' => Some(((byte - b'0') as u16, 0)),
-        b'5'..=b'9' => Some(((byte - b'5') as u16, 1)),
-        b'a'..=b'e' => Some(((byte - b'a') as u16, 2)),
+        b'0'..=b'4' => Some((u16::from(byte - b'0'), 0)),
+        b'5'..=b'9' => Some((u16::from(byte - b'5'), 1)),
+        b'a'..=b'e' => Some((u16::from(byte - b'a'), 2)),
         _ => None,
     }
 }

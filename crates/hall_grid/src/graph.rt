@@ -1,7 +1,8 @@
 //! Graphs on numbers: floods and components.
 ghost use Rattle.std.specs.Prelude.{◌≡◌, ℕ, ◌<◌, ◌↔◌, ◌⊎◌, IsTrue, IfOk, OnOk, length, map, Contains, []};
 ghost use Rattle.std.specs.Option.{is_some};
-ghost use Rattle.hall_grid.specs.Component.{AreComponents, Floods, HasComponents, IsLabelled, Labels};
+ghost use Rattle.hall_grid.specs.Component.{AreComponents, IsLabelled, LabelsDiffer};
+ghost use Rattle.hall_grid.specs.Flood.{Floods, HasComponents, Labels};
 ghost use Rattle.hall_grid.specs.Reached.{IsReach};
 
 use std::alloc::{AllocError, Global};
@@ -26,7 +27,10 @@ pub trait Graph {
         requires { node < nodes self.now }
         ensures below { (other : ℕ) → Contains result (Some other) → other < nodes self.now }
         ensures next { (other : ℕ) → Contains result (Some other) → IsNext self.now node other }
-        ensures all { (other : ℕ) → IsNext self.now node other → IsMember self.now other → (other ≡ node) ⊎ Contains result (Some other) };
+        ensures all { (other : ℕ)
+            → IsNext self.now node other
+            → IsMember self.now other
+            → (other ≡ node) ⊎ Contains result (Some other) };
 
     ghost member_below: { (graph : Self) (node : ℕ) → IsMember graph node → node < nodes graph };
 
@@ -43,7 +47,8 @@ fn label_node<G: Graph>(
 ) -> Result<(), AllocError>
     requires exact { length labels.old ≡ G.nodes graph.now }
     requires node { node < G.nodes graph.now }
-    ensures { OnOk result (Labels (λ x. x ≡ node) (G.IsMember graph.now) label labels.old labels.new stack.old.items stack.new.items) }
+    ensures { OnOk result
+        (Labels (λ x. x ≡ node) (G.IsMember graph.now) label labels.old labels.new stack.old.items stack.new.items) }
 {
     if labels[node].is_none() && graph.is_member(node) {
         stack.push(node)?;
@@ -63,7 +68,8 @@ fn label_around<G: Graph>(
     requires exact { length labels.old ≡ G.nodes graph.now }
     requires node { node < G.nodes graph.now }
     requires labelled { IsLabelled labels.old node label }
-    ensures { OnOk result (Labels (G.IsNext graph.now node) (G.IsMember graph.now) label labels.old labels.new stack.old.items stack.new.items) }
+    ensures { OnOk result (Labels (G.IsNext graph.now node) (G.IsMember graph.now) label
+        labels.old labels.new stack.old.items stack.new.items) }
 {
     for place in graph.next_to(node) {
         if let Some(other) = place {
@@ -83,7 +89,8 @@ fn flood<G: Graph>(
     requires root { root < G.nodes graph.now }
     requires components { HasComponents (G.nodes graph.now) (G.IsNext graph.now) (G.IsMember graph.now) labels.old }
     requires empty { stack.old.items ≡ [] }
-    ensures floods { OnOk result (Floods (G.nodes graph.now) (G.IsNext graph.now) (G.IsMember graph.now) root labels.old labels.new) }
+    ensures floods { OnOk result
+        (Floods (G.nodes graph.now) (G.IsNext graph.now) (G.IsMember graph.now) root labels.old labels.new) }
     ensures empty { OnOk result (stack.new.items ≡ []) }
 {
     label_node(graph, labels, stack, root, root)?;
@@ -103,7 +110,8 @@ fn labelled(alloc: Global, labels: &[Option<usize>]) -> Result<Vec<bool>, AllocE
 /// The nodes that a walk over members reaches from a node.
 pub fn reached<G: Graph>(alloc: Global, graph: &G, from: usize) -> Result<Vec<bool>, AllocError>
     requires { from < G.nodes graph.now }
-    ensures { IfOk result (λ marks. IsReach (G.nodes graph.now) (G.IsNext graph.now) (G.IsMember graph.now) from marks.items) }
+    ensures { IfOk result
+        (λ marks. IsReach (G.nodes graph.now) (G.IsNext graph.now) (G.IsMember graph.now) from marks.items) }
 {
     let mut labels = vec![in alloc; None; graph.nodes()]?;
     let mut stack = Vec::new(alloc);
@@ -113,7 +121,8 @@ pub fn reached<G: Graph>(alloc: Global, graph: &G, from: usize) -> Result<Vec<bo
 
 /// The components of a graph: for each member the number of one member of its component, the same for all of them.
 pub fn components<G: Graph>(alloc: Global, graph: &G) -> Result<Vec<Option<usize>>, AllocError>
-    ensures { IfOk result (λ labels. AreComponents (G.nodes graph.now) (G.IsNext graph.now) (G.IsMember graph.now) labels.items) }
+    ensures { IfOk result
+        (λ labels. AreComponents (G.nodes graph.now) (G.IsNext graph.now) (G.IsMember graph.now) labels.items) }
 {
     let nodes = graph.nodes();
     let mut labels = vec![in alloc; None; nodes]?;
@@ -122,4 +131,20 @@ pub fn components<G: Graph>(alloc: Global, graph: &G) -> Result<Vec<Option<usize
         flood(graph, &mut labels, &mut stack, node)?;
     }
     Ok(labels)
+}
+
+/// Whether two nodes have different labels.
+pub fn labels_differ(labels: &[Option<usize>]) -> bool
+    ensures { IsTrue result ↔ LabelsDiffer labels.now }
+{
+    let mut known = None;
+    for place in labels {
+        if let Some(label) = place {
+            match known {
+                Some(other) if other != *label => return true,
+                _ => known = Some(*label),
+            }
+        }
+    }
+    false
 }

@@ -22,7 +22,7 @@ pub use board::{Clue, Kind, Size};
 pub use counted::Counted;
 pub use fault::TextFault;
 pub use filling::Filling;
-pub use graph::{Graph, components, reached};
+pub use graph::{Graph, components, labels_differ, reached};
 pub use law::law_texts;
 pub use neighbour::{dot_ends, neighbours, sides};
 pub use puzzle::Puzzle;
@@ -30,8 +30,3 @@ pub use region::{reach, regions};
 pub use rule::{Broken, Rule};
 pub use text::parse_puzzle;
 pub use write::write_puzzle;
-
-#[cfg(test)]
-mod tests;
-#[cfg(test)]
-mod walk_tests;

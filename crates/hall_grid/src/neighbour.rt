@@ -1,7 +1,7 @@
 //! What stands beside a cell: cells, sides and dots.
 ghost use Rattle.std.specs.Prelude.{◌≡◌, ℕ, ◌<◌, ◌↔◌, Contains, All, slice_index_or, None, Some};
 ghost use Rattle.hall_grid.specs.Board.{cells, IsSize, Touch};
-ghost use Rattle.hall_grid.specs.Beside.{IsAbove, IsLeft, IsRight, IsBelow, Holds};
+ghost use Rattle.hall_grid.specs.Beside.{IsAbove, IsNextLeft, IsNextRight, IsBelow, Holds};
 ghost use Rattle.hall_grid.specs.Slither.{sides_of, all_sides, ends, dots};
 
 use crate::board::Size;
@@ -21,7 +21,7 @@ fn above(size: Size, cell: usize) -> Option<usize>
 fn left(size: Size, cell: usize) -> Option<usize>
     requires size { IsSize size }
     requires board { cell < cells size }
-    ensures { Holds result (IsLeft size cell) }
+    ensures { Holds result (IsNextLeft size cell) }
 {
     if cell % size.cols > 0 {
         Some(cell - 1)
@@ -33,7 +33,7 @@ fn left(size: Size, cell: usize) -> Option<usize>
 fn right(size: Size, cell: usize) -> Option<usize>
     requires size { IsSize size }
     requires board { cell < cells size }
-    ensures { Holds result (IsRight size cell) }
+    ensures { Holds result (IsNextRight size cell) }
 {
     if cell % size.cols + 1 < size.cols {
         Some(cell + 1)
@@ -59,8 +59,8 @@ pub fn neighbours(size: Size, cell: usize) -> [Option<usize>; 4]
     requires size { IsSize size }
     requires board { cell < cells size }
     ensures up { Holds (slice_index_or result 0 None) (IsAbove size cell) }
-    ensures left { Holds (slice_index_or result 1 None) (IsLeft size cell) }
-    ensures right { Holds (slice_index_or result 2 None) (IsRight size cell) }
+    ensures left { Holds (slice_index_or result 1 None) (IsNextLeft size cell) }
+    ensures right { Holds (slice_index_or result 2 None) (IsNextRight size cell) }
     ensures down { Holds (slice_index_or result 3 None) (IsBelow size cell) }
     ensures touching { (other : ℕ) → Contains result (Some other) ↔ ((other < cells size) × Touch size cell other) }
 {
@@ -80,7 +80,7 @@ pub fn sides(size: Size, cell: usize) -> [usize; 4]
     ensures board { All (λ side. side < all_sides size) result }
 {
     let row = cell / size.cols;
-    let flat_sides = (size.rows + 1) * size.cols;
+    let flat_sides = size.flat_sides();
     let left = flat_sides + cell + row;
     [cell, left, left + 1, cell + size.cols]
 }
@@ -92,7 +92,7 @@ pub fn dot_ends(size: Size, edge: usize) -> (usize, usize)
     ensures ends { result ≡ ends size edge }
     ensures dots { (result.0 < dots size) × (result.1 < dots size) }
 {
-    let flat_sides = (size.rows + 1) * size.cols;
+    let flat_sides = size.flat_sides();
     if edge < flat_sides {
         let dot = edge + edge / size.cols;
         (dot, dot + 1)

@@ -2,6 +2,7 @@
 ghost use Rattle.std.specs.Prelude.{◌≡◌, ◌<◌, ◌⊎◌, ◌↔◌, [], ◌==◌, position, IsTrue, IfOk, IfErr, MatchOption, MatchResult, option_copied};
 ghost use Rattle.std.specs.List.{before_first, after_first};
 ghost use Rattle.hall_grid.specs.Board.{Board, HasSize};
+ghost use Rattle.hall_grid.specs.Head.{HasHead};
 ghost use Rattle.hall_grid.specs.Text.{bare, has_address, is_slash, word_of, IsSide, IsNoSide, without_final_slash, SpellsText, FaultOf};
 
 use crate::board::{Kind, MOST_CELLS, MOST_SIDE, Size};
@@ -11,7 +12,7 @@ use crate::puzzle::Puzzle;
 use std::alloc::Global;
 
 /// Where the byte stands first.
-fn place_of(text: &[u8], byte: u8) -> Option<usize>
+fn position_of(text: &[u8], byte: u8) -> Option<usize>
     ensures { result ≡ position (λ b. b == byte) text.now }
 {
     text.iter().position(|b| *b == byte)
@@ -22,7 +23,7 @@ fn split_field(text: &[u8]) -> (&[u8], &[u8])
     ensures field { result.0.now ≡ before_first is_slash text.now }
     ensures rest { result.1.now ≡ after_first is_slash text.now }
 {
-    match place_of(text, b'/') {
+    match position_of(text, b'/') {
         Some(at) => (&text[..at], &text[at + 1..]),
         None => (text, &[]),
     }
@@ -42,7 +43,7 @@ fn without_address(text: &[u8]) -> Option<&[u8]>
     if !is_address(text) {
         return Some(text);
     }
-    match place_of(text, b'?') {
+    match position_of(text, b'?') {
         Some(at) => Some(&text[at + 1..]),
         None => None,
     }
@@ -69,9 +70,9 @@ fn side_of(field: &[u8]) -> Option<usize>
     ensures { MatchOption result (IsNoSide field.now) (IsSide field.now) }
 {
     match field {
-        [a @ b'0'..=b'9'] => Some((*a - b'0') as usize),
+        [a @ b'0'..=b'9'] => Some(usize::from(*a - b'0')),
         [a @ b'0'..=b'9', b @ b'0'..=b'9'] => Some(
-            10 * (*a - b'0') as usize + (*b - b'0') as usize,
+            10 * usize::from(*a - b'0') + usize::from(*b - b'0'),
         ),
         _ => None,
     }
@@ -110,13 +111,18 @@ fn has_size(kind: Kind, size: Size) -> bool
     }
 }
 
-/// The puzzle that the text spells, or the first fault of the text. Want of memory may come in place of either.
-pub fn parse_puzzle(alloc: Global, text: &[u8]) -> Result<Puzzle, TextFault>
-    ensures ok { IfOk result (SpellsText text.now) }
-    ensures err { IfErr result (λ e. (e ≡ TextFault.Memory) ⊎ FaultOf text.now e) }
-    ensures only { (board : Board)
-        → SpellsText text.now board
-        → MatchResult result (λ p. p ≡ board) (λ e. e ≡ TextFault.Memory) }
+/// What stands before the clues, and their body.
+#[derive(Clone, Copy)]
+struct Head<'a> {
+    kind: Kind,
+    size: Size,
+    body: &'a [u8],
+}
+
+/// The kind and the size, each in its limits, and the body that follows them.
+fn parse_head(text: &[u8]) -> Result<Head<'_>, TextFault>
+    ensures ok { IfOk result (λ head. HasHead text.now head.kind head.size head.body.now) }
+    ensures err { IfErr result (FaultOf text.now) }
 {
     let start = without_address(text).ok_or(TextFault::Kind)?;
     let (word, sides) = split_field(start);
@@ -127,6 +133,19 @@ pub fn parse_puzzle(alloc: Global, text: &[u8]) -> Result<Puzzle, TextFault>
     if !has_size(kind, size) {
         return Err(TextFault::SizeLimit);
     }
-    let clues = parse_body(alloc, kind, size, without_slash(rest))?;
-    Ok(Puzzle::new(kind, size, clues))
+    let body = without_slash(rest);
+    Ok(Head { kind, size, body })
+}
+
+/// The puzzle that the text spells, or the first fault of the text. Want of memory may come in place of either.
+pub fn parse_puzzle(alloc: Global, text: &[u8]) -> Result<Puzzle, TextFault>
+    ensures ok { IfOk result (SpellsText text.now) }
+    ensures err { IfErr result (λ e. (e ≡ TextFault.Memory) ⊎ FaultOf text.now e) }
+    ensures only { (board : Board)
+        → SpellsText text.now board
+        → MatchResult result (λ p. p ≡ board) (λ e. e ≡ TextFault.Memory) }
+{
+    let head = parse_head(text)?;
+    let clues = parse_body(alloc, head.kind, head.size, head.body)?;
+    Ok(Puzzle::new(head.kind, head.size, clues))
 }

@@ -1,5 +1,5 @@
 use Rattle.std.proofs.Common.{inr, refl, IsTrue}
-use Rattle.hall_grid.proofs.Forms.{takes_form, has_wrong, is_cut, is_strange}
+use Rattle.hall_grid.proofs.FormAt.{takes_form, has_wrong, is_cut, is_strange}
 use Rattle.hall_grid.proofs.body.read_form.Goals as goal
 
 pub returns-then-not-is_in_range-clause-err : goal.returns-then-not-is_in_range-clause-err

@@ -1,5 +1,5 @@
 use Rattle.std.proofs.Common.{◌+◌, ◌*◌, length}
-use Rattle.hall_grid.specs.Component.{unlabelled}
+use Rattle.hall_grid.specs.Flood.{unlabelled}
 use Rattle.hall_grid.proofs.Floods.{Flooding}
 use Rattle.hall_grid.proofs.graph.flood.Given as goal
 

@@ -1,6 +1,6 @@
 use Rattle.std.proofs.Common.{Some, take}
 use Rattle.std.specs.Prelude.{Contains}
-use Rattle.hall_grid.specs.Component.{Labels}
+use Rattle.hall_grid.specs.Flood.{Labels}
 use Rattle.hall_grid.proofs.graph.label_around.Given as goal
 
 abbrev pub invariant-loop-place : goal.invariant-loop-place

@@ -1,9 +1,9 @@
-use Rattle.hall_grid.proofs.EveryText.{spells_or_fault}
-use Rattle.hall_grid.proofs.EveryPuzzle.{has_canonical_text}
+use Rattle.hall_grid.proofs.SpellsOrHasFault.{spells_or_fault}
+use Rattle.hall_grid.proofs.HasCanonicalText.{has_canonical_text}
 use Rattle.hall_grid.proofs.Bodies.{IsBoard-from_Spells}
-use Rattle.hall_grid.proofs.OneReading.{one_puzzle, no_text_fault, one_text_fault}
-use Rattle.hall_grid.proofs.OneWriting.{one_canonical_text}
-use Rattle.hall_grid.proofs.Spelled.{SpellsText-from_CanonicalText}
+use Rattle.hall_grid.proofs.SpellsOnePuzzle.{one_puzzle, no_text_fault, one_text_fault}
+use Rattle.hall_grid.proofs.HasOneCanonicalText.{one_canonical_text}
+use Rattle.hall_grid.proofs.CanonicalSpells.{SpellsText-from_CanonicalText}
 use Rattle.hall_grid.proofs.law.law_texts.Goals as goal
 
 pub returns-clause-spells_or_fault : goal.returns-clause-spells_or_fault

@@ -1,4 +1,4 @@
-use Rattle.hall_grid.proofs.Touching.{above_is}
+use Rattle.hall_grid.proofs.Beside.{above_is}
 use Rattle.hall_grid.proofs.neighbour.above.Goals as goal
 
 pub returns-then-cell-size : goal.returns-then-cell-size

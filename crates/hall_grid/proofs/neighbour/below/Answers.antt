@@ -1,4 +1,4 @@
-use Rattle.hall_grid.proofs.Touching.{below_is_cell}
+use Rattle.hall_grid.proofs.Beside.{below_is_cell}
 use Rattle.hall_grid.proofs.neighbour.below.Goals as goal
 
 pub returns-then-cell-size : goal.returns-then-cell-size

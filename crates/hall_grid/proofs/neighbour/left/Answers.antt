@@ -1,4 +1,4 @@
-use Rattle.hall_grid.proofs.Touching.{left_is}
+use Rattle.hall_grid.proofs.Beside.{left_is}
 use Rattle.hall_grid.proofs.neighbour.left.Goals as goal
 
 pub returns-then-cell-size-gt0 : goal.returns-then-cell-size-gt0

@@ -1,4 +1,4 @@
-use Rattle.hall_grid.proofs.Touching.{touching_are}
+use Rattle.hall_grid.proofs.Beside.{touching_are}
 use Rattle.hall_grid.proofs.neighbour.neighbours.Goals as goal
 
 pub returns-clause-touching : goal.returns-clause-touching

@@ -1,4 +1,4 @@
-use Rattle.hall_grid.proofs.Touching.{right_is}
+use Rattle.hall_grid.proofs.Beside.{right_is}
 use Rattle.hall_grid.proofs.neighbour.right.Goals as goal
 
 pub returns-then-cell-size : goal.returns-then-cell-size

@@ -1,5 +1,5 @@
 use Rattle.std.proofs.Common.{◌+◌, string_bytes, arith, subst, sym, ap}
-use Rattle.hall_grid.proofs.Writings.{IsWritten, IsWritten-more, AppendsBody-from_IsWritten}
+use Rattle.hall_grid.proofs.AppendsBody.{IsWritten, IsWritten-more, AppendsBody-from_IsWritten}
 use Rattle.hall_grid.proofs.write.push_body.Goals as goal
 
 pub loop-cell-preserved : goal.loop-cell-preserved
@@ -7,7 +7,7 @@ loop-cell-preserved c =
     subst (λ n. IsWritten c.args.puzzle.now (string_bytes c.args.text.now) (string_bytes c.push_form.new.text) n)
     (ap (λ n. c.loop-cell.cell + n) (sym c.cells_of-cell.ensures))
     (IsWritten-more c.args.puzzle.now _ _ _ c.loop-cell.cell c.choose-form.result c.cells.ensures.board c.loop-cell.invariant (omega (arith, c.cells.ensures.cells))
-    c.choose-form.ensures (rw c.kind.ensures at c.in_ok-push_form.ensures))
+    c.choose-form.ensures (rw c.kind.ensures.kind at c.in_ok-push_form.ensures))
 
 pub returns : goal.returns
 returns c =

@@ -1,6 +1,6 @@
 use Rattle.std.proofs.Common.{◌-◌, string_bytes}
 use Rattle.hall_grid.specs.Board.{cells}
-use Rattle.hall_grid.proofs.Writings.{IsWritten}
+use Rattle.hall_grid.proofs.AppendsBody.{IsWritten}
 use Rattle.hall_grid.proofs.write.push_body.Given as goal
 
 -- the text is the old one and the forms of the cells so far

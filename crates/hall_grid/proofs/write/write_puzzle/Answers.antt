@@ -2,9 +2,9 @@ use Rattle.std.proofs.Common.{◌≡◌, ◌++◌, ℕ, List, ◌∙◌, ap, str
 use Rattle.hall_grid.specs.Board.{Board}
 use Rattle.hall_grid.specs.Canonical.{CanonicalText, head_of}
 use Rattle.hall_grid.specs.Writing.{AppendsBody}
-use Rattle.hall_grid.proofs.Spelled.{SpellsText-from_CanonicalText}
-use Rattle.hall_grid.proofs.OneWriting.{one_canonical_text}
-use Rattle.hall_grid.proofs.Plain.{IsPlain-from_CanonicalText}
+use Rattle.hall_grid.proofs.CanonicalSpells.{SpellsText-from_CanonicalText}
+use Rattle.hall_grid.proofs.HasOneCanonicalText.{one_canonical_text}
+use Rattle.hall_grid.proofs.IsPlain.{IsPlain-from_CanonicalText}
 use Rattle.hall_grid.proofs.write.write_puzzle.Goals as goal
 
 -- the head and a canonical body
@@ -14,14 +14,14 @@ whole_text board head text e adds = record { body = adds.body; canonical = adds.
 pub returns-clause-reads_back : goal.returns-clause-reads_back
 returns-clause-reads_back c =
     SpellsText-from_CanonicalText _ c.args.puzzle.now c.size.ensures.board.size
-    (whole_text c.args.puzzle.now (string_bytes c.in_ok-text.text) _ (rw (← c.kind.ensures, ← c.size.ensures.size) c.in_ok-text.ensures) c.in_ok-push_body.ensures)
+    (whole_text c.args.puzzle.now (string_bytes c.in_ok-text.text) _ (rw (← c.kind.ensures.kind, ← c.size.ensures.size) c.in_ok-text.ensures) c.in_ok-push_body.ensures)
 
 pub returns-clause-plain : goal.returns-clause-plain
 returns-clause-plain c =
     IsPlain-from_CanonicalText _ c.args.puzzle.now c.size.ensures.board.size
-    (whole_text c.args.puzzle.now (string_bytes c.in_ok-text.text) _ (rw (← c.kind.ensures, ← c.size.ensures.size) c.in_ok-text.ensures) c.in_ok-push_body.ensures)
+    (whole_text c.args.puzzle.now (string_bytes c.in_ok-text.text) _ (rw (← c.kind.ensures.kind, ← c.size.ensures.size) c.in_ok-text.ensures) c.in_ok-push_body.ensures)
 
 pub returns-clause-only : goal.returns-clause-only
 returns-clause-only c = λ other canonical.
     one_canonical_text other _ c.args.puzzle.now c.size.ensures.board canonical
-    (whole_text c.args.puzzle.now (string_bytes c.in_ok-text.text) _ (rw (← c.kind.ensures, ← c.size.ensures.size) c.in_ok-text.ensures) c.in_ok-push_body.ensures)
+    (whole_text c.args.puzzle.now (string_bytes c.in_ok-text.text) _ (rw (← c.kind.ensures.kind, ← c.size.ensures.size) c.in_ok-text.ensures) c.in_ok-push_body.ensures)

@@ -1,7 +1,7 @@
 use Rattle.std.proofs.Common.{inr}
 use Rattle.hall_grid.specs.Board.{cells}
 use Rattle.hall_grid.specs.RegionLaws.{marked_below}
-use Rattle.hall_grid.proofs.Touching.{padded_touching, padded_among}
+use Rattle.hall_grid.proofs.Beside.{padded_touching, padded_among}
 use Rattle.hall_grid.proofs.region.RegionGraph.next_to.Goals as goal
 
 pub returns-clause-below : goal.returns-clause-below

@@ -1,7 +1,7 @@
 -- What the labels of components say of two nodes.
-use Rattle.std.proofs.Common.{◌≡◌, ℕ, ◌↔◌, List, Option, None, get_or, sym, ◌∙◌}
+use Rattle.std.proofs.Common.{◌≡◌, ℕ, ◌↔◌, List, Option, None, get_or, sym, subst, ◌∙◌}
 use Rattle.hall_grid.specs.Walk.{Walk}
-use Rattle.hall_grid.specs.Component.{IsLabelled, AreComponents}
+use Rattle.hall_grid.specs.Component.{IsLabelled, AreComponents, LabelsDiffer}
 use Rattle.hall_grid.proofs.Walks.{Walk-start, Walk-end, Walk-join, Walk-reverse, Walk-map}
 
 module _ (nodes : ℕ) (IsNext : ℕ → ℕ → Type 0) (IsMember : ℕ → Type 0) (labels : List (Option ℕ)) (are : AreComponents nodes IsNext IsMember labels) where
@@ -32,6 +32,28 @@ module _ (nodes : ℕ) (IsNext : ℕ → ℕ → Type 0) (IsMember : ℕ → Typ
     (λ e. let l = are.labelled a m in walk_from_label turn a b l.0 l.1 (sym e ∙ l.1)),
     (λ w. let l = label_from_walk a b w in l.1 ∙ sym l.2),
   )
+
+  differing_apart : (turn : (a b : ℕ) → IsNext a b → IsNext b a) → LabelsDiffer labels
+      → (a b : ℕ) × IsMember a × IsMember b × (Walk IsNext IsMember a b → ⊥)
+  differing_apart turn (a, b, x, y, p, q, other) = (
+    a,
+    b,
+    labelled_member a x p,
+    labelled_member b y q,
+    (λ w. let l = label_from_walk a b w in other (let r = l.1 in let s = l.2 in cc)),
+  )
+
+  apart_differing : (turn : (a b : ℕ) → IsNext a b → IsNext b a) → (a b : ℕ) × IsMember a × IsMember b × (Walk IsNext IsMember a b → ⊥)
+      → LabelsDiffer labels
+  apart_differing turn (a, b, m, n, apart) =
+      let x = are.labelled a m in
+      let y = are.labelled b n in
+      (a, b, x.0, y.0, x.1, y.1, (λ e. apart (walk_from_label turn a b x.0 x.1 (subst (λ l. IsLabelled labels b l) (sym e) y.1))))
+
+  -- labels differ exactly where no walk joins two of the members
+  pub labels_apart : (turn : (a b : ℕ) → IsNext a b → IsNext b a)
+      → LabelsDiffer labels ↔ ((a b : ℕ) × IsMember a × IsMember b × (Walk IsNext IsMember a b → ⊥))
+  labels_apart turn = (differing_apart turn, apart_differing turn)
 
 -- labels of components where the same nodes are said to be members in other words
 pub AreComponents-members : (nodes : ℕ) (IsNext : ℕ → ℕ → Type 0) (S T : ℕ → Type 0) (labels : List (Option ℕ)) → ((a : ℕ) → S a ↔ T a)

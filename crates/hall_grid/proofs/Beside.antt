@@ -6,7 +6,7 @@ use Rattle.std.proofs.Math.Nat.{mul-le-mul_right}
 use Rattle.std.proofs.lemmas.List.Elements.{Contains-append_left, Contains-append_cases}
 use Rattle.hall_grid.specs.declared.board.Size.{Size}
 use Rattle.hall_grid.specs.Board.{cells, row, col, Touch}
-use Rattle.hall_grid.specs.Beside.{IsAbove, IsLeft, IsRight, IsBelow, Holds}
+use Rattle.hall_grid.specs.Beside.{IsAbove, IsNextLeft, IsNextRight, IsBelow, Holds}
 
 -- the row and the column of a place
 at_place : (size : Size) (d r c : ℕ) → d ≡ r * size.cols + c → c < size.cols → (row size d ≡ r) × (col size d ≡ c)
@@ -52,13 +52,13 @@ module _ (size : Size) (cell : ℕ) (some : 0 < size.cols) (board : cell < cells
       let c = q.2 in
       omega arith)
 
-  pub left_is : 0 < col size cell → Holds (Some (cell - 1)) (IsLeft size cell)
+  pub left_is : 0 < col size cell → Holds (Some (cell - 1)) (IsNextLeft size cell)
   left_is h =
       let s = spelled in
       let low = col_low in
       let e : cell - 1 ≡ row size cell * size.cols + (col size cell - 1) = omega arith in
       let p = at_place size (cell - 1) (row size cell) (col size cell - 1) e (omega arith) in
-      Holds-some (IsLeft size cell) (cell - 1)
+      Holds-some (IsNextLeft size cell) (cell - 1)
       (omega arith, p.0, let c = p.1 in omega arith)
       (λ x q.
       let z : row size x * size.cols + col size x ≡ x = div-add-mod' x size.cols in
@@ -66,12 +66,12 @@ module _ (size : Size) (cell : ℕ) (some : 0 < size.cols) (board : cell < cells
       let c = q.2 in
       omega arith)
 
-  pub right_is : col size cell + 1 < size.cols → Holds (Some (cell + 1)) (IsRight size cell)
+  pub right_is : col size cell + 1 < size.cols → Holds (Some (cell + 1)) (IsNextRight size cell)
   right_is h =
       let s = spelled in
       let e : cell + 1 ≡ row size cell * size.cols + (col size cell + 1) = omega arith in
       let p = at_place size (cell + 1) (row size cell) (col size cell + 1) e h in
-      Holds-some (IsRight size cell) (cell + 1)
+      Holds-some (IsNextRight size cell) (cell + 1)
       (below_is size (cell + 1) (row size cell) (col size cell + 1) e row_low h, p.0, p.1)
       (λ x q.
       let z : row size x * size.cols + col size x ≡ x = div-add-mod' x size.cols in
@@ -98,8 +98,8 @@ no_place other (suc zero, h, e) = absurd (cc)
 no_place other (suc (suc k), h, e) = absurd (omega arith)
 
 -- four places that hold the cells above, to the left, to the right and below hold the cells that touch
-module _ (size : Size) (cell : ℕ) (up left right down : Option ℕ) (above : Holds up (IsAbove size cell)) (before : Holds left (IsLeft size cell))
-    (after : Holds right (IsRight size cell)) (under : Holds down (IsBelow size cell)) where
+module _ (size : Size) (cell : ℕ) (up left right down : Option ℕ) (above : Holds up (IsAbove size cell)) (before : Holds left (IsNextLeft size cell))
+    (after : Holds right (IsNextRight size cell)) (under : Holds down (IsBelow size cell)) where
   touching : (other : ℕ) → Contains (up ∷ left ∷ right ∷ down ∷ []) (Some other) → (other < cells size) × Touch size cell other
   touching other (zero, h, e) = let q = (above other).0 e in (q.0, inr (inr q.1, sym q.2))
   touching other (suc zero, h, e) = let q = (before other).0 e in (q.0, inl (sym q.1, inr q.2))

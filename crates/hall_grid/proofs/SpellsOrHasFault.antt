@@ -17,9 +17,9 @@ use Rattle.hall_grid.specs.Board.{Board, IsSize, IsSudokuSide, HasSize, IsClue, 
 use Rattle.hall_grid.specs.Body.{IsDigit, bytes_of, clues_of, fitted, Spells, FaultAt, IsWrong, HasPlace}
 use Rattle.hall_grid.specs.FormReading.{form_at}
 use Rattle.hall_grid.specs.Text.{bare, IsBare, IsSide, IsNoSide, word_of, word_field, cols_field, rows_field, body_of, Heads, SpellsText, FaultOf}
-use Rattle.hall_grid.proofs.Forms.{form_is, is_cut, is_strange, takes_form, has_wrong}
+use Rattle.hall_grid.proofs.FormAt.{form_is, is_cut, is_strange, takes_form, has_wrong}
 use Rattle.hall_grid.proofs.Bodies.{IsRead, IsRead-start, IsRead-more}
-use Rattle.hall_grid.proofs.Unique.{some_bytes}
+use Rattle.hall_grid.proofs.Spells.{some_bytes}
 
 abbrev Decided : Type 0 → Type 0
 Decided P = P ⊎ (P → ⊥)

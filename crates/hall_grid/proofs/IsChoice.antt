@@ -17,7 +17,7 @@ use Rattle.hall_grid.specs.Board.{HasSize, IsClue}
 use Rattle.hall_grid.specs.Body.{IsHexDigit, HasNumber16, Form, one, two, three, some_number, alone, before_one, before_two, some_count, run}
 use Rattle.hall_grid.specs.Canonical.{IsEmpty, IsFull, Takes, IsChosen}
 use Rattle.hall_grid.proofs.Bodies.{blank_in_range}
-use Rattle.hall_grid.proofs.Unique.{some_bytes}
+use Rattle.hall_grid.proofs.Spells.{some_bytes}
 use Rattle.hall_grid.specs.Writing.{IsRunAt, IsChoiceAt, IsShort, number16_bytes, form_bytes}
 
 glyph_is : (n : ℕ) → n < 16 → IsHexDigit (digit_glyph false n) n

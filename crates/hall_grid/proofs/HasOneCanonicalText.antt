@@ -13,7 +13,7 @@ use Rattle.hall_grid.specs.Board.{Board, IsBoard, cells}
 use Rattle.hall_grid.specs.Body.{IsHexDigit, Form, one, two, three, some_number, alone, before_one, before_two, some_count, run, Piece, IsChain, bytes_of, clues_of, fitted}
 use Rattle.hall_grid.specs.Canonical.{IsLongestRun, Takes, IsChosen, IsShortest, AreChosen, Canonical, CanonicalText, head_of}
 use Rattle.hall_grid.specs.Writing.{cell4_first}
-use Rattle.hall_grid.proofs.Written.{get_or_blanks}
+use Rattle.hall_grid.proofs.IsChoice.{get_or_blanks}
 
 -- the digit of a number
 glyph_of : (b n : ℕ) → IsHexDigit b n → b ≡ digit_glyph false n

@@ -10,9 +10,9 @@ use Rattle.hall_grid.specs.declared.fault.TextFault.{TextFault}
 use Rattle.hall_grid.specs.declared.fault.TextFault.TheVariants as faults
 use Rattle.hall_grid.specs.Body.{IsHexDigit, Piece, Form, two, three, HasNumber16, IsChain, bytes_of, clues_of, FaultAt, IsWrong, HasPlace, BeginsLong, BeginsNone, HasNone, HasWrong}
 use Rattle.hall_grid.specs.FormReading.{form_at}
-use Rattle.hall_grid.proofs.Number16.{ok_is}
-use Rattle.hall_grid.proofs.Forms.{form_again}
-use Rattle.hall_grid.proofs.Unique.{Stands, begun, wrong_or_stands}
+use Rattle.hall_grid.proofs.Number16Form.{ok_is}
+use Rattle.hall_grid.proofs.FormAt.{form_again}
+use Rattle.hall_grid.proofs.Spells.{Stands, begun, wrong_or_stands}
 
 -- two forms at the front of one text are one form, with one rest
 record IsOneForm (p q : Piece) (after after' : List ℕ) : Type 0 where

@@ -5,12 +5,14 @@ use Rattle.hall_grid.specs.declared.board.Kind.{Kind}
 use Rattle.hall_grid.specs.declared.board.Kind.TheVariants.{Sudoku, Slither, Nurikabe}
 use Rattle.hall_grid.specs.declared.fault.TextFault.{TextFault}
 use Rattle.hall_grid.specs.declared.fault.TextFault.TheVariants as faults
-use Rattle.hall_grid.specs.Board.{Board, HasSize}
+use Rattle.hall_grid.specs.declared.board.Clue.{Clue}
+use Rattle.hall_grid.specs.Board.{Board, HasSize, of_parts}
 use Rattle.hall_grid.specs.Body.{Spells, FaultAt}
+use Rattle.hall_grid.specs.Head.{HasHead}
 use Rattle.hall_grid.specs.Text.{IsBare, IsSide, word_of, word_field, cols_field, rows_field, body_of, Heads, SpellsText, HasNoKind, HasNoSide, HasNoLimit, HasBodyFault, FaultOf}
-use Rattle.hall_grid.proofs.Number16.{some_is}
-use Rattle.hall_grid.proofs.Unique.{one_spelling, no_fault}
-use Rattle.hall_grid.proofs.OneFault.{one_fault}
+use Rattle.hall_grid.proofs.Number16Form.{some_is}
+use Rattle.hall_grid.proofs.Spells.{one_spelling, no_fault}
+use Rattle.hall_grid.proofs.FaultAt.{one_fault}
 
 -- a field is one number
 one_side : (field : List ℕ) (m n : ℕ) → IsSide field m → IsSide field n → m ≡ n
@@ -154,9 +156,48 @@ one_text_fault text (faults.Cut at) b f g = only_body text (faults.Cut at) b f g
 one_text_fault text (faults.Range at) b f g = only_body text (faults.Range at) b f g
 one_text_fault text (faults.After at) b f g = only_body text (faults.After at) b f g
 
--- at a text that spells a puzzle a reader of the body answers no fault
-pub only_body_refusal : (text start : List ℕ) (kind : Kind) (size : Size) (fault : TextFault) → Heads text start kind size → HasSize kind size
-    → (fault ≡ faults.Memory) ⊎ FaultAt kind size (body_of start) fault → (board : Board) → SpellsText text board → fault ≡ faults.Memory
-only_body_refusal text start kind size fault heads fits (inl memory) board s = memory
-only_body_refusal text start kind size fault heads fits (inr f) board s =
-    absurd (no_body_fault text board fault s (record { start = start; kind = kind; size = size; heads = heads; limit = fits; body = f }))
+-- a head and a body that spells clues are a text that spells the puzzle
+pub spells_from_head : (text : List ℕ) (kind : Kind) (size : Size) (body : List ℕ) (clues : List Clue) → HasHead text kind size body
+    → Spells kind size body clues → SpellsText text (of_parts kind size clues)
+spells_from_head text kind size body clues head s = record {
+  start = head.start;
+  heads = head.heads;
+  size = head.limit;
+  body = subst (λ b. Spells kind size b clues) head.follows s;
+}
+
+body_fault : (text : List ℕ) (kind : Kind) (size : Size) (body : List ℕ) (fault : TextFault) → HasHead text kind size body
+    → FaultAt kind size body fault → HasBodyFault text fault
+body_fault text kind size body fault head f = record {
+  start = head.start;
+  kind = kind;
+  size = size;
+  heads = head.heads;
+  limit = head.limit;
+  body = subst (λ b. FaultAt kind size b fault) head.follows f;
+}
+
+-- a head and a fault of the body are a fault of the text
+pub fault_from_head : (text : List ℕ) (kind : Kind) (size : Size) (body : List ℕ) (fault : TextFault) → HasHead text kind size body
+    → FaultAt kind size body fault → FaultOf text fault
+fault_from_head text kind size body faults.Memory head f = absurd f.place
+fault_from_head text kind size body faults.Kind head f = absurd f.place
+fault_from_head text kind size body faults.SizeField head f = absurd f.place
+fault_from_head text kind size body faults.SizeLimit head f = absurd f.place
+fault_from_head text kind size body (faults.Strange at) head f = body_fault text kind size body (faults.Strange at) head f
+fault_from_head text kind size body (faults.Cut at) head f = body_fault text kind size body (faults.Cut at) head f
+fault_from_head text kind size body (faults.Range at) head f = body_fault text kind size body (faults.Range at) head f
+fault_from_head text kind size body (faults.After at) head f = body_fault text kind size body (faults.After at) head f
+
+-- at a text that spells a puzzle a reader answers no fault
+pub only_memory : (text : List ℕ) (fault : TextFault) → (fault ≡ faults.Memory) ⊎ FaultOf text fault → (board : Board) → SpellsText text board
+    → fault ≡ faults.Memory
+only_memory text fault (inl memory) board s = memory
+only_memory text fault (inr f) board s = absurd (no_text_fault text board fault s f)
+
+-- nor does one that has read the head
+pub only_memory_after_head : (text : List ℕ) (kind : Kind) (size : Size) (body : List ℕ) (fault : TextFault) → HasHead text kind size body
+    → (fault ≡ faults.Memory) ⊎ FaultAt kind size body fault → (board : Board) → SpellsText text board → fault ≡ faults.Memory
+only_memory_after_head text kind size body fault head (inl memory) board s = memory
+only_memory_after_head text kind size body fault head (inr f) board s =
+    absurd (no_text_fault text board fault s (fault_from_head text kind size body fault head f))

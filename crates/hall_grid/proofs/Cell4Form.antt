@@ -10,7 +10,7 @@ use Rattle.hall_grid.specs.declared.form.FormFault.{FormFault}
 use Rattle.hall_grid.specs.declared.form.FormFault.TheVariants.{Strange}
 use Rattle.hall_grid.specs.Body.{IsRun, Form, one, two, three, alone, before_one, before_two, some_count, run, BeginsNone}
 use Rattle.hall_grid.specs.FormReading.{run_value, cell4_value, cell4_form, cell4_short}
-use Rattle.hall_grid.proofs.Number16.{Reads, chosen, ok_is, run_again, run_is}
+use Rattle.hall_grid.proofs.Number16Form.{Reads, chosen, ok_is, run_again, run_is}
 
 -- a byte of the scheme that is a number, and the empty cells after it
 abbrev IsCounted : ℕ → ℕ × ℕ → Type 0

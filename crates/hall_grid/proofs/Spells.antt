@@ -11,8 +11,8 @@ use Rattle.hall_grid.specs.declared.fault.TextFault.TheVariants as faults
 use Rattle.hall_grid.specs.Board.{cells, IsClue}
 use Rattle.hall_grid.specs.Body.{Piece, Form, one, two, three, some_number, alone, before_one, before_two, some_count, run, IsChain, bytes_of, clues_of, Spells, FaultAt, IsWrong, fitted}
 use Rattle.hall_grid.specs.FormReading.{form_at}
-use Rattle.hall_grid.proofs.Number16.{ok_is}
-use Rattle.hall_grid.proofs.Forms.{form_again}
+use Rattle.hall_grid.proofs.Number16Form.{ok_is}
+use Rattle.hall_grid.proofs.FormAt.{form_again}
 
 pub some_bytes : (kind : Kind) (form : List ℕ) (clues : List Clue) → Form kind form clues → 0 < length form
 some_bytes kind form clues (one _ _) = omega arith

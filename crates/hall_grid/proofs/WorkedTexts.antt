@@ -1,5 +1,5 @@
 -- Worked texts, against the definitions.
-use Rattle.std.proofs.Common.{◌≡◌, ◌+◌, ◌<◌, ◌≤◌, ℕ, zero, suc, List, [], ◌∷◌, length, get_or, replicate, refl, ap, inl, inr, arith}
+use Rattle.std.proofs.Common.{◌≡◌, ◌+◌, ◌<◌, ◌≤◌, ℕ, zero, suc, List, [], ◌∷◌, length, get_or, replicate, Some, None, refl, ap, inl, inr, arith}
 use Rattle.std.specs.Prelude.{codes, All}
 use Rattle.std.proofs.lemmas.Fmt.{decimal_digit}
 use Rattle.std.proofs.lemmas.List.Elements.{All-cons, All-head, All-replicate}
@@ -13,12 +13,12 @@ use Rattle.hall_grid.specs.declared.fault.TextFault.TheVariants as faults
 use Rattle.hall_grid.specs.Board.{Board, IsBoard, IsClue, HasSize, of_parts}
 use Rattle.hall_grid.specs.Body.{Piece, IsPiece, Form, one, alone, before_two, run, FaultAt, HasPlace, IsWrong}
 use Rattle.hall_grid.specs.FormReading.{number16_form, cell4_form}
-use Rattle.hall_grid.specs.Text.{word_of, word_field, SpellsText, FaultOf}
+use Rattle.hall_grid.specs.Text.{bare, word_of, word_field, cols_field, rows_field, body_of, SpellsText, FaultOf}
 use Rattle.hall_grid.specs.Canonical.{IsFull, CanonicalText}
-use Rattle.hall_grid.proofs.Forms.{is_strange, is_cut}
+use Rattle.hall_grid.proofs.FormAt.{is_strange, is_cut}
 use Rattle.hall_grid.proofs.Bodies.{IsBoard-from_Spells}
-use Rattle.hall_grid.proofs.Unique.{some_bytes}
-use Rattle.hall_grid.proofs.OneWriting.{one_canonical_text}
+use Rattle.hall_grid.proofs.Spells.{some_bytes}
+use Rattle.hall_grid.proofs.HasOneCanonicalText.{one_canonical_text}
 
 abbrev square : ℕ → Size
 square n = record { cols = n; rows = n }
@@ -281,3 +281,21 @@ row_kind = inr (codes "kakuro/4/4/", refl, other)
 
 row_no_question_mark : FaultOf (codes "https://puzz.link/p") faults.Kind
 row_no_question_mark = inl refl
+
+row_bare : bare (codes "https://puzz.link/p?sudoku/4/4/12g/") ≡ Some (codes "sudoku/4/4/12g/")
+row_bare = refl
+
+row_bare_missing : bare (codes "https://puzz.link/p") ≡ None
+row_bare_missing = refl
+
+row_cols : cols_field (codes "sudoku/9") ≡ codes "9"
+row_cols = refl
+
+row_rows : rows_field (codes "sudoku/9") ≡ []
+row_rows = refl
+
+row_body : body_of (codes "sudoku/4/4/12g/") ≡ codes "12g"
+row_body = refl
+
+row_bare_body : body_of (codes "sudoku/4/4/") ≡ []
+row_bare_body = refl

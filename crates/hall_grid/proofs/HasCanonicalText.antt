@@ -12,8 +12,8 @@ use Rattle.hall_grid.specs.Board.{Board, IsBoard, cells}
 use Rattle.hall_grid.specs.Canonical.{IsEmpty, IsFull, Takes, CanonicalText, head_of}
 use Rattle.hall_grid.specs.FormReading.{given_clues}
 use Rattle.hall_grid.specs.Writing.{IsRunAt, IsChoice, written, AppendsBody}
-use Rattle.hall_grid.proofs.Written.{choice_covers}
-use Rattle.hall_grid.proofs.Writings.{IsWritten, IsWritten-start, IsWritten-more, AppendsBody-from_IsWritten}
+use Rattle.hall_grid.proofs.IsChoice.{choice_covers}
+use Rattle.hall_grid.proofs.AppendsBody.{IsWritten, IsWritten-start, IsWritten-more, AppendsBody-from_IsWritten}
 
 -- a cell is empty, or full, or past the end
 cell_cases : (clues : List Clue) (cell : ℕ) → (IsEmpty clues cell × (IsFull clues cell → ⊥)) ⊎ (IsFull clues cell × (IsEmpty clues cell → ⊥)) ⊎ ((IsEmpty clues cell → ⊥) × (IsFull clues cell → ⊥))

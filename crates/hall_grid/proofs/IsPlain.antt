@@ -15,7 +15,7 @@ use Rattle.hall_grid.specs.Board.{Board, cells, HasSize}
 use Rattle.hall_grid.specs.Body.{IsHexDigit, Form, one, two, three, some_number, alone, before_one, before_two, some_count, run, Piece, IsChain, bytes_of}
 use Rattle.hall_grid.specs.Text.{word_of}
 use Rattle.hall_grid.specs.Canonical.{CanonicalText, IsPrintable, IsPlain, head_of}
-use Rattle.hall_grid.proofs.Spelled.{small_sides}
+use Rattle.hall_grid.proofs.CanonicalSpells.{small_sides}
 
 abbrev ArePrintable : List ℕ → Type 0
 ArePrintable bytes = All IsPrintable bytes

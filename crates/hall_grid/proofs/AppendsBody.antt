@@ -12,7 +12,7 @@ use Rattle.hall_grid.specs.Canonical.{IsChosen, IsShortest, AreChosen}
 use Rattle.hall_grid.specs.FormReading.{given_clues}
 use Rattle.hall_grid.specs.Writing.{IsChoice, written, AppendsBody}
 use Rattle.hall_grid.proofs.Bodies.{bytes_of-push, clues_of-push, IsChain-push}
-use Rattle.hall_grid.proofs.Written.{choice_form, choice_ranges, choice_shortest, choice_gives, choice_chosen}
+use Rattle.hall_grid.proofs.IsChoice.{choice_form, choice_ranges, choice_shortest, choice_gives, choice_chosen}
 
 -- the forms so far are those that the writer chooses, and give the clues of the cells so far
 pub record IsWritten (board : Board) (old new : List ℕ) (cell : ℕ) : Type 0 where

@@ -8,10 +8,10 @@ use Rattle.hall_grid.specs.declared.board.Clue.{Clue}
 use Rattle.hall_grid.specs.declared.form.FormFault.{FormFault}
 use Rattle.hall_grid.specs.declared.form.FormFault.TheVariants.{Strange, Cut}
 use Rattle.hall_grid.specs.Board.{IsClue}
-use Rattle.hall_grid.specs.Body.{Form, HasNumber16, HasNone, HasWrong, BeginsNone, BeginsLong, TakesForm}
-use Rattle.hall_grid.specs.FormReading.{form_at}
-use Rattle.hall_grid.proofs.Number16.{Reads, number16_again, number16_is, number16_cut, number16_strange}
-use Rattle.hall_grid.proofs.Cell4.{cell4_again, cell4_is, cell4_err, cell4_strange}
+use Rattle.hall_grid.specs.Body.{Form, HasNumber16, HasNone, HasWrong, BeginsNone, BeginsLong}
+use Rattle.hall_grid.specs.FormReading.{TakesForm, form_at}
+use Rattle.hall_grid.proofs.Number16Form.{Reads, number16_again, number16_is, number16_cut, number16_strange}
+use Rattle.hall_grid.proofs.Cell4Form.{cell4_again, cell4_is, cell4_err, cell4_strange}
 
 -- a form is read as the table says, whatever follows it
 pub form_again : (kind : Kind) (form after : List ℕ) (clues : List Clue) → Form kind form clues → form_at kind (form ++ after) ≡ Ok (clues, after)
