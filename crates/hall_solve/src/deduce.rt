@@ -3,7 +3,7 @@
 //! A deduction is a type of its own under [`Look`]; [`sweep`] goes once over its spots. One that
 //! sets many places at a time writes a pass of its own. A kind's [`Deduce::pass`] tries one after
 //! another, and [`settle`] calls it until a pass sets nothing.
-ghost use Rattle.std.specs.Prelude.{◌≡◌, ℕ, ◌<◌, IfOk, OnErr};
+ghost use Rattle.std.specs.Prelude.{◌≡◌, ℕ, ◌<◌, List, Option, IfOk, OnErr};
 ghost use Rattle.hall_solve.specs.Question.{Question, IsPartial, IsHopeless, Narrows};
 ghost use Rattle.hall_solve.specs.Deduction.{IsSound, IsDeduced};
 
@@ -57,10 +57,14 @@ pub trait Deduce {
     /// What is to be solved.
     ghost question: { Self → Question };
 
+    /// The partial fillings of which these deductions leave none to apply.
+    ghost settled: { Self → List (Option ℕ) → Type 0 } = { λ _ _. Unit {0} };
+
     /// One pass: sets places that follow.
     fn pass(&self, alloc: Global, partial: &mut Partial) -> Result<Pass, AllocError>
         requires { IsPartial (question self.now) partial.old }
         ensures deduced { IfOk result (IsDeduced (question self.now) partial.old partial.new) }
+        ensures settled { IfOk result (λ pass. pass ≡ Pass.Settled → settled self.now partial.new) }
         ensures err { OnErr result (Narrows (question self.now) partial.old partial.new) };
 }
 
@@ -96,6 +100,7 @@ pub fn settle<D: Deduce>(
 ) -> Result<Step, AllocError>
     requires { IsPartial (D.question deductions.now) partial.old }
     ensures live { IfOk result (λ step. step ≡ Step.Live → Narrows (D.question deductions.now) partial.old partial.new) }
+    ensures settled { IfOk result (λ step. step ≡ Step.Live → D.settled deductions.now partial.new) }
     ensures dead { IfOk result (λ step. step ≡ Step.Dead → IsHopeless (D.question deductions.now) partial.old) }
     ensures err { OnErr result (Narrows (D.question deductions.now) partial.old partial.new) }
 {

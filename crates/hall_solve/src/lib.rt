@@ -8,8 +8,6 @@ mod explore;
 mod outcome;
 mod partial;
 mod rules;
-#[cfg(test)]
-mod tests;
 
 pub use deduce::{Deduce, Finding, Look, Pass, settle, sweep};
 pub use explore::search;

@@ -83,9 +83,8 @@ impl Partial {
         ensures extends { IfOk result (λ f. Extends f self.now) }
     {
         let mut values = Vec::with_capacity(alloc, self.places.len())?;
-        for place in 0..self.places.len() {
-            let value = self.places[place].unwrap();
-            values.push(value)?;
+        for place in &self.places {
+            values.push(place.unwrap())?;
         }
         Ok(Filling::new(values))
     }

@@ -1,5 +1,5 @@
 //! What a kind of puzzle tells a search.
-ghost use Rattle.std.specs.Prelude.{◌≡◌, ◌↔◌, ℕ, ◌+◌, ◌-◌, ◌^◌, ◌<◌, List, IfOk, OnErr, IfSome, IfNone, IsTrue, length};
+ghost use Rattle.std.specs.Prelude.{◌≡◌, ◌↔◌, ℕ, ◌+◌, ◌-◌, ◌^◌, ◌<◌, List, Option, IfOk, OnErr, IfSome, IfNone, IsTrue, length};
 ghost use Rattle.hall_solve.specs.Question.{Question, IsSame, IsFilling, IsPartial, IsHopeless, IsOpen, IsWhole, Narrows};
 
 use crate::partial::Partial;
@@ -19,6 +19,9 @@ pub enum Step {
 pub trait Rules {
     /// What is to be solved.
     ghost question: { Self → Question };
+
+    /// The partial fillings of which `propagate` leaves no deduction to apply.
+    ghost settled: { Self → List (Option ℕ) → Type 0 } = { λ _ _. Unit {0} };
 
     /// How often `propagate` was called.
     ghost visits: { Self → ℕ };
@@ -49,6 +52,7 @@ pub trait Rules {
         requires countable { visits self.old < 2 ^ 64 - 1 }
         requires partial { IsPartial (question self.old) partial.old }
         ensures live { IfOk result (λ step. step ≡ Step.Live → Narrows (question self.old) partial.old partial.new) }
+        ensures settled { IfOk result (λ step. step ≡ Step.Live → settled self.old partial.new) }
         ensures dead { IfOk result (λ step. step ≡ Step.Dead → IsHopeless (question self.old) partial.old) }
         ensures err { OnErr result (Narrows (question self.old) partial.old partial.new) }
         ensures counted { visits self.new ≡ visits self.old + 1 }

@@ -1,11 +1,12 @@
 -- Sets of values as bits.
 use Rattle.std.proofs.Common.{◌≡◌, ◌≢◌, ℕ, ◌-◌, ◌*◌, ◌%◌, ◌^◌, ◌<◌, ◌⊎◌, ◌↔◌, IsTrue, bit_and, bit_or, not, eqb, sym, ◌∙◌, ap, subst, inl, inr, arith, w32}
 use Rattle.std.specs.Int.{bit_at, trailing_zeros}
+use Rattle.std.specs.Int.Bits.{and_lt}
 use Rattle.std.proofs.Math.Nat.{mod-eq_of_lt}
 use Rattle.std.proofs.Math.Pow.{pow_pos, pow-lt}
 use Rattle.std.proofs.lemmas.Bool.{cases_eq, cases_lt, eqb-false, ne_eqb, not-true, not_from_false}
 use Rattle.std.proofs.lemmas.Nat.Bits.{bit_at-lt, bit_at_and, bit_at_or, bit_at_not, bit_at_above, bit_at_ones, bit_at_ones_above, bit_at-pow_same, bit_at-pow_other, bit_at-zero, and_pow, bit_at-trailing_zeros, same_from_bits}
-use Rattle.hall_sudoku.specs.Values.{Has}
+use Rattle.hall_sudoku.specs.Values.{Has, HasTwo}
 
 pub not_has : (s v : ℕ) → (Has s v → ⊥) → bit_at s v ≡ 0
 not_has s v none =
@@ -91,3 +92,22 @@ has_test s t k e lt = (
   (λ yes. subst (λ x. Has x k) e ((bit_not_zero s k).0 (λ z. eqb-false _ _ (not-true _ yes) (has_tested s k lt ∙ z)))),
   (λ h. not_from_false _ (ne_eqb _ _ (λ z. (bit_not_zero s k).1 (subst (λ x. Has x k) (sym e) h) (sym (has_tested s k lt) ∙ z)))),
 )
+
+-- a set that is not its one value alone has another
+pub has_two : (s k : ℕ) → s < 2 ^ 32 → Has s k → k < 32 → s ≢ 1 * 2 ^ k % 4294967296 → HasTwo s
+has_two s k small has lt more =
+    let small_one : 1 * 2 ^ k % 4294967296 < 2 ^ 32 = (rw (one_bit k lt) (pow-lt lt)) in
+    let rest = bit_and s (4294967295 - 1 * 2 ^ k % 4294967296) in
+    elim (cases_eq rest 0) [
+      | inl none ↦ absurd (more (same_from_bits s (1 * 2 ^ k % 4294967296) (λ i. elim (cases_eq (bit_at s i) 1) [
+        | inl on ↦ elim (cases_eq i k) [
+          | inl e ↦ on ∙ sym ((has_of k i lt).1 e)
+          | inr ne ↦ absurd (zero_has i (subst (λ x. Has x i) none ((has_without s (1 * 2 ^ k % 4294967296) i small small_one).1 (on, λ h. ne ((has_of k i lt).0 h)))))
+        ]
+        | inr off ↦ not_has s i off ∙ sym (not_has (1 * 2 ^ k % 4294967296) i (λ h. off (subst (λ j. Has s j) (sym ((has_of k i lt).0 h)) has)))
+      ])))
+      | inr some ↦
+          let found = has_least rest some (and_lt 32 s (4294967295 - 1 * 2 ^ k % 4294967296) small (omega arith)) in
+          let both = (has_without s (1 * 2 ^ k % 4294967296) (trailing_zeros w32 rest) small small_one).0 found.0 in
+          record { first = k; second = trailing_zeros w32 rest; differ = λ e. both.1 ((has_of k (trailing_zeros w32 rest) lt).1 (sym e)); has_first = has; has_second = both.0 }
+    ]

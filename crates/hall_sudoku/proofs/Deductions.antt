@@ -10,7 +10,8 @@ use Rattle.hall_sudoku.specs.Values.{Has}
 use Rattle.hall_sudoku.specs.Units.{units_question}
 use Rattle.hall_sudoku.specs.declared.singles.Shared.{Shared}
 use Rattle.hall_sudoku.specs.declared.candidates.Taken.{Taken}
-use Rattle.hall_sudoku.specs.Candidates.{StandsIn, Clashes, IsLeft, AreCandidates, AreShared, AreAllShared, IsMissing, IsSole, AreAllTaken}
+use Rattle.hall_sudoku.specs.Settled.{StandsIn}
+use Rattle.hall_sudoku.specs.Candidates.{Clashes, IsLeft, AreCandidates, AreShared, AreAllShared, IsMissing, IsSole, AreAllTaken}
 use Rattle.hall_sudoku.proofs.Sizes.{IsUnit, IsSquare, row_unit, column_unit, box_unit, box_cell}
 use Rattle.hall_sudoku.proofs.Pigeons.{no_value_missing}
 
@@ -60,10 +61,10 @@ module _ (size : Size) (unit : ℕ → ℕ) (at : ℕ → ℕ → ℕ) (u : IsUn
           | inr ne ↦ absurd (stands (unit cell) v (u.small cell within) ((holds cell within).in_range v may) (λ other h e is_v.
               let there : Has (get_or candidates other 0) v = subst (λ x. Has (get_or candidates other 0) x) is_v (theirs other h) in
               elim (cases_lt other cell) [
-                | inl lt ↦ one (subst (λ x. Has (get_or shared x 0) v) e (sh other cell v lt within e there may))
+                | inl lt ↦ one (subst (λ x. Has (get_or shared x 0) v) e (sh.all other cell v lt within e there may))
                 | inr ge ↦ elim (cases_eq other cell) [
                   | inl same ↦ ne (ap (λ c. get_or f c 0) (sym same) ∙ is_v)
-                  | inr no_same ↦ one (sh cell other v (omega arith) h (sym e) may there)
+                  | inr no_same ↦ one (sh.all cell other v (omega arith) h (sym e) may there)
                 ]
               ]))
         ]
@@ -92,10 +93,31 @@ left_open size p taken cell sq whole t within unset all a b left e_all e_a e_b e
         (e_b v).1 (
           (e_a v).1 (
             (e_all v).1 (s.filling.in_range cell within),
-            λ h. not_taken size (row size) (λ u k. u * size.cols + k) (row_unit size sq) p whole.size f s s.right.rows cell v within unset (t.rows (row size cell) v h) refl,
+            λ h. not_taken size (row size) (λ u k. u * size.cols + k) (row_unit size sq) p whole.size f s s.right.rows cell v within unset ((t.rows (row size cell) v).0 h) refl,
           ),
-          λ h. not_taken size (col size) (λ u k. k * size.cols + u) (column_unit size sq) p whole.size f s s.right.columns cell v within unset (t.columns (col size cell) v h) refl,
+          λ h. not_taken size (col size) (λ u k. k * size.cols + u) (column_unit size sq) p whole.size f s s.right.columns cell v within unset ((t.columns (col size cell) v).0 h) refl,
         ),
-        λ h. not_taken size (box size) (box_cell size) (box_unit size sq) p whole.size f s s.right.boxes cell v within unset (t.boxes (box size cell) v h) refl,
+        λ h. not_taken size (box size) (box_cell size) (box_unit size sq) p whole.size f s s.right.boxes cell v within unset ((t.boxes (box size cell) v).0 h) refl,
       );
+  set = λ w e. let clash : None ≡ Some w = sym unset ∙ e in cc;
+  unset = λ is_open v h.
+      let in_b = (e_left v).0 h in
+      let in_a = (e_b v).0 in_b.0 in
+      let in_all = (e_a v).0 in_a.0 in
+      record {
+        unset = is_open;
+        in_range = (e_all v).0 in_all.0;
+        row = λ s. in_all.1 ((t.rows (row size cell) v).1 s);
+        column = λ s. in_a.1 ((t.columns (col size cell) v).1 s);
+        box = λ s. in_b.1 ((t.boxes (box size cell) v).1 s);
+      };
+}
+
+-- what is left to a cell that is set: its value
+pub left_set : (size : Size) (p : List (Option ℕ)) (cell w left : ℕ) → IsPartial (units_question size) p → get_or p cell None ≡ Some w → ((v : ℕ) → Has left v ↔ (v ≡ w)) → IsLeft size p cell left
+left_set size p cell w left whole at e = record {
+  in_range = λ v h. subst (λ x. x < size.cols) (sym ((e v).0 h)) (whole.in_range cell w at);
+  holds = λ f s. (e (get_or f cell 0)).1 (s.extends cell w at);
+  set = λ x at_x v h. let two : Some w ≡ Some x = sym at ∙ at_x in let is_x : w ≡ x = cc in (e v).0 h ∙ is_x;
+  unset = λ is_open. let clash : None ≡ Some w = sym is_open.1 ∙ at in cc;
 }

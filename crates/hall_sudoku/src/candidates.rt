@@ -3,7 +3,7 @@ ghost use Rattle.std.specs.Prelude.{◌≡◌, ◌<◌, ◌≤◌, ℕ, Some, No
 ghost use Rattle.hall_grid.specs.Board.{cells};
 ghost use Rattle.hall_solve.specs.Question.{IsPartial, IsHopeless, IsOpen, IsWhole};
 ghost use Rattle.hall_sudoku.specs.Units.{units_question};
-ghost use Rattle.hall_sudoku.specs.Candidates.{AreTaken, AreAllTaken, Clashes, IsLeft, AreCandidates};
+ghost use Rattle.hall_sudoku.specs.Candidates.{AreTaken, AreAllTaken, Clashes, IsLeft, AreCandidates, AreFilled};
 
 use crate::units::{MOST_CELLS, MOST_UNITS, Units};
 use crate::values::Values;
@@ -64,6 +64,7 @@ pub(crate) fn candidates(units: &Units, partial: &Partial) -> Option<[Values; MO
     requires { IsPartial (units_question units.now) partial.now }
     ensures room { IfSome result (λ c. cells units.now ≤ length c) }
     ensures some { IfSome result (AreCandidates units.now partial.now) }
+    ensures filled { IfSome result (AreFilled units.now) }
     ensures none { IfNone result (IsHopeless (units_question units.now) partial.now) }
 {
     let taken = Taken {

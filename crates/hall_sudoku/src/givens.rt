@@ -1,7 +1,7 @@
 //! Where a search of a Sudoku starts.
 ghost use Rattle.std.specs.Prelude.{◌≡◌, IfOk};
 ghost use Rattle.hall_solve.specs.Question.{IsPartial};
-ghost use Rattle.hall_sudoku.specs.Units.{question_of, SetsGivens, AllExtend};
+ghost use Rattle.hall_solve.specs.Puzzle.{question_of, start_of, AllExtend};
 
 use hall_grid::{Clue, Kind, Puzzle};
 use hall_solve::Partial;
@@ -10,9 +10,9 @@ use std::alloc::{AllocError, Global};
 /// The partial filling that has exactly the givens, each a number less 1.
 pub fn start(alloc: Global, puzzle: &Puzzle) -> Result<Partial, AllocError>
     requires { puzzle.now.kind ≡ Kind.Sudoku }
-    ensures givens { IfOk result (SetsGivens puzzle.now) }
-    ensures partial { IfOk result (IsPartial (question_of puzzle.now)) }
-    ensures solutions { IfOk result (AllExtend puzzle.now) }
+    ensures givens { IfOk result (λ p. p ≡ start_of Kind.Sudoku puzzle.now) }
+    ensures partial { IfOk result (IsPartial (question_of Kind.Sudoku puzzle.now)) }
+    ensures solutions { IfOk result (AllExtend Kind.Sudoku puzzle.now) }
 {
     let mut partial = Partial::new(alloc, puzzle.cells())?;
     for cell in 0..puzzle.cells() {

@@ -1,10 +1,12 @@
 //! Deductions: a cell with one value left, and a value with one cell left in a unit.
-ghost use Rattle.std.specs.Prelude.{◌≡◌, ◌≤◌, ◌<◌, ℕ, IsTrue, IfSome, IfNone, length, slice_index};
+ghost use Rattle.std.specs.Prelude.{◌≡◌, ◌≤◌, ◌<◌, ℕ, false, IsTrue, IfSome, IfNone, length, slice_index};
 ghost use Rattle.hall_grid.specs.Board.{cells};
 ghost use Rattle.hall_solve.specs.Question.{IsPartial, IsHopeless};
 ghost use Rattle.hall_solve.specs.Deduction.{HasAlways, IsDeduced};
 ghost use Rattle.hall_sudoku.specs.Units.{units_question};
-ghost use Rattle.hall_sudoku.specs.Candidates.{AreCandidates, AreSeen, AreShared, AreAllShared, IsMissing, Lacks, IsSole};
+ghost use Rattle.hall_sudoku.specs.Settled.{IsSettled};
+ghost use Rattle.hall_sudoku.specs.Candidates.{AreCandidates, AreFilled, AreSeen, AreShared, AreAllShared, AreComplete};
+ghost use Rattle.hall_sudoku.specs.Candidates.{AreAllComplete, IsMissing, Lacks, LacksNothing, IsSole, HasNoSole, HaveNoSole};
 
 use crate::candidates::candidates;
 use crate::units::{MOST_UNITS, Units};
@@ -21,7 +23,10 @@ struct Shared {
 }
 
 /// The values that some cell of each unit may have, and those that several may have.
-fn spread(units: &[u8], candidates: &[Values]) -> ([Values; MOST_UNITS], [Values; MOST_UNITS])
+fn seen_and_shared(
+    units: &[u8],
+    candidates: &[Values],
+) -> ([Values; MOST_UNITS], [Values; MOST_UNITS])
     requires cells { length units.now ≤ length candidates.now }
     requires units { (cell : ℕ) → cell < length units.now → slice_index units.now cell < MOST_UNITS }
     ensures seen_size { length result.0 ≡ MOST_UNITS }
@@ -44,7 +49,8 @@ fn spread(units: &[u8], candidates: &[Values]) -> ([Values; MOST_UNITS], [Values
 fn lacks_one(seen: &[Values], side: u8) -> bool
     requires side { side ≤ MOST_UNITS }
     requires units { length seen.now ≡ MOST_UNITS }
-    ensures { IsTrue result → Lacks side seen.now }
+    ensures lacks { IsTrue result → Lacks side seen.now }
+    ensures nothing { result ≡ false → LacksNothing side side seen.now }
 {
     let all = Values::below(side);
     for unit in 0..side as usize {
@@ -62,9 +68,10 @@ fn shared_in(units: &[u8], candidates: &[Values], side: u8) -> Option<[Values; M
     requires side { side ≤ MOST_UNITS }
     ensures size { IfSome result (λ s. length s ≡ MOST_UNITS) }
     ensures some { IfSome result (AreShared (slice_index units.now) (length units.now) candidates.now) }
+    ensures complete { IfSome result (λ _. AreComplete (slice_index units.now) (length units.now) candidates.now side) }
     ensures none { IfNone result (IsMissing (slice_index units.now) (length units.now) candidates.now side) }
 {
-    let (seen, shared) = spread(units, candidates);
+    let (seen, shared) = seen_and_shared(units, candidates);
     if lacks_one(&seen, side) {
         None
     } else {
@@ -81,6 +88,7 @@ fn all_shared(units: &Units, candidates: &[Values], partial: &Partial) -> Option
     ensures columns { IfSome result (λ s. length s.columns ≡ MOST_UNITS) }
     ensures boxes { IfSome result (λ s. length s.boxes ≡ MOST_UNITS) }
     ensures some { IfSome result (AreAllShared units.now candidates.now) }
+    ensures complete { IfSome result (λ _. AreAllComplete units.now candidates.now) }
     ensures none { IfNone result (IsHopeless (units_question units.now) partial.now) }
 {
     let side = units.side();
@@ -95,10 +103,12 @@ fn all_shared(units: &Units, candidates: &[Values], partial: &Partial) -> Option
 fn sole_at(units: &Units, candidates: &[Values], shared: &Shared, cell: usize) -> Option<u8>
     requires room { cells units.now ≤ length candidates.now }
     requires cell { cell < cells units.now }
+    requires filled { AreFilled units.now candidates.now }
     requires rows { length shared.now.rows ≡ MOST_UNITS }
     requires columns { length shared.now.columns ≡ MOST_UNITS }
     requires boxes { length shared.now.boxes ≡ MOST_UNITS }
-    ensures { IfSome result (IsSole units.now candidates.now shared.now cell) }
+    ensures some { IfSome result (IsSole units.now candidates.now shared.now cell) }
+    ensures none { IfNone result (HasNoSole units.now candidates.now shared.now cell) }
 {
     let left = candidates[cell];
     if let Some(value) = left.only() {
@@ -115,11 +125,13 @@ fn set_soles(units: &Units, candidates: &[Values], shared: &Shared, partial: &mu
     requires room { cells units.now ≤ length candidates.now }
     requires partial { IsPartial (units_question units.now) partial.old }
     requires candidates { AreCandidates units.now partial.old candidates.now }
+    requires filled { AreFilled units.now candidates.now }
     requires shared { AreAllShared units.now candidates.now shared.now }
     requires rows { length shared.now.rows ≡ MOST_UNITS }
     requires columns { length shared.now.columns ≡ MOST_UNITS }
     requires boxes { length shared.now.boxes ≡ MOST_UNITS }
-    ensures { IsDeduced (units_question units.now) partial.old partial.new result }
+    ensures deduced { IsDeduced (units_question units.now) partial.old partial.new result }
+    ensures settled { result ≡ Pass.Settled → HaveNoSole units.now partial.old candidates.now shared.now }
 {
     let mut pass = Pass::Settled;
     for cell in 0..units.cells() {
@@ -135,6 +147,8 @@ fn set_soles(units: &Units, candidates: &[Values], shared: &Shared, partial: &mu
 
 impl Deduce for Units {
     ghost question = { units_question };
+
+    ghost settled = { IsSettled };
 
     fn pass(&self, _alloc: Global, partial: &mut Partial) -> Result<Pass, AllocError> {
         let Some(candidates) = candidates(self, partial) else {

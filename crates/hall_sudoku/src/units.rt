@@ -132,7 +132,7 @@ fn table(alloc: Global, unit: Unit, size: Size) -> Result<Vec<u8>, AllocError>
     requires { HasSize Kind.Sudoku size }
     ensures { IfOk result (λ v. IsDivision size (unit_of unit size) v.items) }
 {
-    let cells = size.rows * size.cols;
+    let cells = size.cells();
     let mut units = Vec::with_capacity(alloc, cells)?;
     for cell in 0..cells {
         units.push(unit_of(unit, size, cell) as u8)?;

@@ -1,6 +1,6 @@
 //! Sets of values of a cell.
 ghost use Rattle.std.specs.Prelude.{◌≡◌, ◌≢◌, ◌↔◌, ◌⊎◌, ◌<◌, ◌^◌, ℕ, IsTrue, IfSome, IfNone};
-ghost use Rattle.hall_sudoku.specs.Values.{Has};
+ghost use Rattle.hall_sudoku.specs.Values.{Has, HasTwo};
 
 use std::marker::Model;
 
@@ -101,9 +101,11 @@ impl Values {
         Some(self.bits.trailing_zeros() as u8)
     }
 
-    /// The only value, where there is one and no other.
+    /// The only value, `None` where there are two; the set is not empty.
     pub(crate) fn only(self) -> Option<u8>
+        requires some { ((v : ℕ) → Has self v → ⊥) → ⊥ }
         ensures some { IfSome result (λ v. Has self v × ((w : ℕ) → Has self w → w ≡ v)) }
+        ensures none { IfNone result (HasTwo self) }
     {
         let value = self.least()?;
         if self.bits == 1 << value {

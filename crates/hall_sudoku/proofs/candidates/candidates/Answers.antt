@@ -1,9 +1,11 @@
-use Rattle.std.proofs.Common.{◌+◌, ◌*◌, ◌<◌, length, get_or, ◌∙◌, arith}
+use Rattle.std.proofs.Common.{◌+◌, ◌*◌, ◌<◌, ℕ, length, get_or, ◌∙◌, arith}
 use Rattle.std.proofs.lemmas.List.{length-set}
 use Rattle.hall_grid.specs.Board.{row, col}
 use Rattle.hall_grid.specs.Sudoku.{box}
+use Rattle.hall_sudoku.specs.Values.{Has}
+use Rattle.hall_sudoku.specs.Candidates.{IsLeft}
 use Rattle.hall_sudoku.proofs.Sizes.{square_of, row_unit, column_unit, box_unit, box_cell}
-use Rattle.hall_sudoku.proofs.Tables.{taken_of, clash_of, left_more}
+use Rattle.hall_sudoku.proofs.Tables.{taken_of, clash_of, at_more}
 use Rattle.hall_sudoku.proofs.Deductions.{no_clash}
 use Rattle.hall_sudoku.proofs.candidates.candidates.Goals as goal
 
@@ -63,7 +65,8 @@ loop-cell-preserved c =
     let small : c.loop-cell.cell < length c.loop-cell.candidates = omega (arith, c.loop-cell-test.true, c.len-cell-end.ensures, c.requires.size, c.loop-cell.invariant.size, (square_of c.args.units.now c.rows.ensures.sudoku).room) in
     record {
       size = length-set _ _ _ ∙ c.loop-cell.invariant.size;
-      left = left_more c.args.units.now c.args.partial.now c.loop-cell.cell c.left_at-left.result c.loop-cell.candidates c.loop-cell.invariant.left small c.left_at-left.ensures;
+      left = at_more (λ k left. IsLeft c.args.units.now c.args.partial.now k left) c.loop-cell.cell c.left_at-left.result c.loop-cell.candidates c.loop-cell.invariant.left small c.left_at-left.ensures;
+      filled = at_more (λ k left. ((v : ℕ) → Has left v → ⊥) → ⊥) c.loop-cell.cell c.left_at-left.result c.loop-cell.candidates c.loop-cell.invariant.filled small (λ none. let yes = c.is_empty.ensures.1 none in cc);
     }
 
 pub returns-clause-room : goal.returns-clause-room

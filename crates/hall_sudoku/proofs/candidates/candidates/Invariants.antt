@@ -1,4 +1,5 @@
 use Rattle.std.proofs.Common.{◌≡◌, ℕ, ◌<◌, length, get_or}
+use Rattle.hall_sudoku.specs.Values.{Has}
 use Rattle.hall_sudoku.specs.Candidates.{IsLeft}
 use Rattle.hall_sudoku.proofs.candidates.candidates.Given as goal
 
@@ -6,4 +7,5 @@ abbrev pub invariant-loop-cell : goal.invariant-loop-cell
 invariant-loop-cell l = record {
   size : length l.candidates ≡ 256;
   left : (c : ℕ) → c < l.cell → IsLeft l.units l.partial c (get_or l.candidates c 0);
+  filled : (c : ℕ) → c < l.cell → ((v : ℕ) → Has (get_or l.candidates c 0) v → ⊥) → ⊥;
 }

@@ -1,9 +1,9 @@
 use Rattle.std.proofs.Common.{◌+◌, ◌*◌, subst}
 use Rattle.hall_grid.specs.Board.{cells, row, col}
 use Rattle.hall_grid.specs.Sudoku.{box}
-use Rattle.hall_sudoku.specs.Candidates.{IsMissing}
+use Rattle.hall_sudoku.specs.Candidates.{IsMissing, AreComplete}
 use Rattle.hall_sudoku.proofs.Sizes.{square_of, row_unit, column_unit, box_unit, box_cell}
-use Rattle.hall_sudoku.proofs.Tables.{missing_of, shared_of}
+use Rattle.hall_sudoku.proofs.Tables.{missing_of, shared_of, complete_of}
 use Rattle.hall_sudoku.proofs.Deductions.{none_missing}
 use Rattle.hall_sudoku.proofs.singles.all_shared.Goals as goal
 
@@ -38,4 +38,15 @@ returns-clause-some c =
       rows = shared_of size (row size) c.rows.result.now c.rows.ensures.division c.args.candidates.now c.in_ok-shared_in.field-0 c.in_ok-shared_in.ensures.some;
       columns = shared_of size (col size) c.columns.result.now c.columns.ensures.division c.args.candidates.now c.in_ok-shared_in-2.field-0 c.in_ok-shared_in-2.ensures.some;
       boxes = shared_of size (box size) c.boxes.result.now c.boxes.ensures.division c.args.candidates.now c.in_ok-shared_in-3.field-0 c.in_ok-shared_in-3.ensures.some;
+    }
+
+pub returns-clause-complete : goal.returns-clause-complete
+returns-clause-complete c =
+    let size = c.args.units.now in
+    let cs = c.args.candidates.now in
+    let side_is = c.side-side.ensures.side in
+    record {
+      rows = subst (λ n. AreComplete (row size) (cells size) cs n) side_is (complete_of size (row size) c.rows.result.now c.rows.ensures.division cs c.side-side.result c.in_ok-shared_in.ensures.complete);
+      columns = subst (λ n. AreComplete (col size) (cells size) cs n) side_is (complete_of size (col size) c.columns.result.now c.columns.ensures.division cs c.side-side.result c.in_ok-shared_in-2.ensures.complete);
+      boxes = subst (λ n. AreComplete (box size) (cells size) cs n) side_is (complete_of size (box size) c.boxes.result.now c.boxes.ensures.division cs c.side-side.result c.in_ok-shared_in-3.ensures.complete);
     }

@@ -3,8 +3,9 @@ use Rattle.std.proofs.lemmas.Result.{IfOk-weaker, on_err_weaker}
 use Rattle.hall_solve.specs.Question.{Narrows, IsHopeless}
 use Rattle.hall_grid.specs.declared.board.Size.{Size}
 use Rattle.hall_sudoku.specs.Units.{units_question}
-use Rattle.hall_sudoku.proofs.Puzzles.{narrows_of, hopeless_of}
-use Rattle.hall_sudoku.proofs.sudoku.SudokuRulesRules.propagate.Goals as goal
+use Rattle.hall_sudoku.specs.Settled.{IsSettled}
+use Rattle.hall_sudoku.proofs.UnitsQuestion.{narrows_of, hopeless_of}
+use Rattle.hall_sudoku.proofs.rules.SudokuRulesRules.propagate.Goals as goal
 
 pub returns-clause-live : goal.returns-clause-live
 returns-clause-live c =
@@ -29,3 +30,10 @@ returns-clause-err c =
     narrows_of c.self.inside.puzzle.now c.args.partial.now c.settle.new.partial c.self.invariant.0
     (subst (λ (n : Size). Narrows (units_question n) c.args.partial.now c.settle.new.partial) c.self.invariant.1 h))
     c.settle.ensures.err)
+
+pub returns-clause-settled : goal.returns-clause-settled
+returns-clause-settled c =
+    rw (← c.self.view_is)
+    (IfOk-weaker c.settle.result _ _ (λ step h is_live.
+    subst (λ (n : Size). IsSettled n c.settle.new.partial) c.self.invariant.1 (h is_live))
+    c.settle.ensures.settled)

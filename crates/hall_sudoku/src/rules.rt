@@ -21,7 +21,7 @@ pub struct SudokuRules<'a> {
 }
 
 impl<'a> Model for SudokuRules<'a> {
-    ghost use Rattle.hall_sudoku.specs.Units.{Progress};
+    ghost use Rattle.hall_solve.specs.Puzzle.{Progress};
 
     ghost Value = { Progress };
 
@@ -34,7 +34,7 @@ impl<'a> Model for SudokuRules<'a> {
 }
 
 impl<'a> SudokuRules<'a> {
-    ghost use Rattle.hall_sudoku.specs.Units.{begun};
+    ghost use Rattle.hall_solve.specs.Puzzle.{begun};
 
     /// The rules of the puzzle, with both counts 0.
     pub fn new(alloc: Global, puzzle: &'a Puzzle) -> Result<SudokuRules<'a>, AllocError>
@@ -51,9 +51,13 @@ impl<'a> SudokuRules<'a> {
 }
 
 impl<'a> Rules for SudokuRules<'a> {
-    ghost use Rattle.hall_sudoku.specs.Units.{question_of};
+    ghost use Rattle.hall_grid.specs.declared.board.Kind.TheVariants.{Sudoku};
+    ghost use Rattle.hall_solve.specs.Puzzle.{question_of};
+    ghost use Rattle.hall_sudoku.specs.Settled.{IsSettled};
 
-    ghost question = { λ r. question_of r.board };
+    ghost question = { λ r. question_of Sudoku r.board };
+
+    ghost settled = { λ r. IsSettled r.board.size };
 
     ghost visits = { λ r. r.visits };
 
