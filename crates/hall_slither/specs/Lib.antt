@@ -1,6 +1,5 @@
-pub mod Chains
-pub mod Closing
-pub mod Counts
-pub mod Label
-pub mod Search
-pub mod SidesAt
+pub mod Chain
+pub mod Close
+pub mod Count
+pub mod Dot
+pub mod Follow

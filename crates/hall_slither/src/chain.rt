@@ -1,10 +1,10 @@
 //! Chains of lines and their loose ends.
-ghost use Rattle.std.specs.Prelude.{◌≡◌, ◌<◌, ◌↔◌, ℕ, true, slice_index, IfOk, IfSome, IfNone, Some, Contains, length};
+ghost use Rattle.std.specs.Prelude.{◌≡◌, ◌<◌, ◌≤◌, ◌↔◌, ℕ, true, slice_index, IfOk, IfSome, IfNone, Some, Contains, length};
 ghost use Rattle.hall_grid.specs.Board.{IsSize};
-ghost use Rattle.hall_grid.specs.Slither.{all_sides, dots, IsLine, ShareDot};
+ghost use Rattle.hall_grid.specs.Slither.{all_sides, dots, degree, IsLine, ShareDot};
 ghost use Rattle.hall_grid.specs.Component.{AreComponents};
-ghost use Rattle.hall_slither.specs.Counts.{AreBelow};
-ghost use Rattle.hall_slither.specs.Chains.{AreLines, HaveEnds, with_end};
+ghost use Rattle.hall_slither.specs.Dot.{AreBelow};
+ghost use Rattle.hall_slither.specs.Chain.{AreLines, Touches, HaveEnds, with_end};
 
 use crate::dot::{degree, dot_count, sides_at};
 use hall_grid::Size;
@@ -12,7 +12,7 @@ use hall_solve::Partial;
 use std::alloc::{AllocError, Global};
 
 /// The dots where a chain has one line.
-#[derive(Clone, Copy, Debug, PartialEq, Eq)]
+#[derive(Clone, Copy)]
 pub(crate) enum Ends {
     /// There is none: the chain is a loop.
     Closed,
@@ -63,6 +63,24 @@ pub(crate) fn first_line(lines: &[u8], sides: &[Option<usize>]) -> Option<usize>
     None
 }
 
+/// The label of the chain that has one line at the dot, where there is one.
+fn label_ending_at(size: Size, lines: &[u8], labels: &[Option<usize>], dot: usize) -> Option<usize>
+    requires size { IsSize size }
+    requires lines { length lines.now ≡ all_sides size }
+    requires labels { AreComponents (all_sides size) (ShareDot size) (IsLine size lines.now) labels.now }
+    requires board { dot < dots size }
+    ensures some { IfSome result (λ label. (label < length labels.now) × Touches size labels.now label dot) }
+    ensures none { IfNone result ((label : ℕ) → Touches size labels.now label dot → 2 ≤ degree size lines.now dot) }
+{
+    if degree(size, lines, dot) != 1 {
+        return None;
+    }
+    let Some(side) = first_line(lines, &sides_at(size, dot)) else {
+        return None;
+    };
+    labels[side]
+}
+
 /// The ends of each chain, by its label.
 pub(crate) fn chain_ends(
     alloc: Global,
@@ -77,12 +95,8 @@ pub(crate) fn chain_ends(
 {
     let mut ends = vec![in alloc; Ends::Closed; labels.len()]?;
     for dot in 0..dot_count(size) {
-        if degree(size, lines, dot) == 1 {
-            if let Some(side) = first_line(lines, &sides_at(size, dot)) {
-                if let Some(label) = labels[side] {
-                    ends[label] = ends[label].with(dot);
-                }
-            }
+        if let Some(label) = label_ending_at(size, lines, labels, dot) {
+            ends[label] = ends[label].with(dot);
         }
     }
     Ok(ends)

@@ -1,22 +1,22 @@
 //! Loops: a side that would close one too early has no line, and beside a loop there is no other line.
-ghost use Rattle.std.specs.Prelude.{◌≡◌, ◌<◌, ◌↔◌, IsTrue, IfOk, IfSome, OnErr, length, slice_set, slice_index_or};
+ghost use Rattle.std.specs.Prelude.{◌≡◌, ◌<◌, ◌↔◌, ℕ, IsTrue, IfOk, OnErr, List, Option, length, slice_set};
 ghost use Rattle.hall_grid.specs.Slither.{all_sides, HasOtherCount};
-ghost use Rattle.hall_grid.specs.Component.{IsLabelled};
-ghost use Rattle.hall_solve.specs.Question.{IsPartial, Narrows};
+ghost use Rattle.hall_solve.specs.Question.{IsPartial, IsHopeless, Narrows};
 ghost use Rattle.hall_solve.specs.Deduction.{IsDeduced};
-ghost use Rattle.hall_slither.specs.Search.{question_of};
+ghost use Rattle.hall_solve.specs.Puzzle.{question_of};
+ghost use Rattle.hall_slither.specs.Close.{HasLoop};
 
 use crate::chain::{Ends, chain_ends, first_line, lines_so_far};
+use crate::dot::sides_at;
 use crate::judge::has_other_count;
-use crate::lines::{labels_differ, line_labels};
-use crate::spot::{Spot, spot_sides};
-use hall_grid::{Kind, Puzzle, Size, dot_ends};
+use crate::lines::line_labels;
+use hall_grid::{Kind, Puzzle, Size, dot_ends, labels_differ};
 use hall_solve::{Finding, Look, Partial, Pass, sweep};
 use std::alloc::{AllocError, Global};
 use std::marker::Model;
 
 /// The chains of a puzzle's lines so far.
-#[derive(Debug, Drop)]
+#[derive(Drop)]
 struct Chains<'a> {
     puzzle: &'a Puzzle,
     lines: Vec<u8>,
@@ -24,33 +24,33 @@ struct Chains<'a> {
     ends: Vec<Ends>,
     /// Whether there are several chains.
     apart: bool,
-    /// The label of a chain that is a loop.
-    closed: Option<usize>,
+    /// Whether a chain is a loop.
+    closed: bool,
 }
 
 impl<'a> Model for Chains<'a> {
-    ghost use Rattle.hall_slither.specs.Closing.{Layout};
+    ghost use Rattle.hall_slither.specs.Close.{Layout};
 
     ghost Value = { Layout };
 
-    ghost use Rattle.hall_slither.specs.Closing.{IsLayout};
+    ghost use Rattle.hall_slither.specs.Close.{IsLayout};
 
     ghost view = { λ c. record { board = c.puzzle.now; lines = c.lines.items; labels = c.labels.items; ends = c.ends.items; apart = c.apart; closed = c.closed } };
 
     ghost invariant = { λ c. IsLayout (record { board = c.puzzle.now; lines = c.lines.items; labels = c.labels.items; ends = c.ends.items; apart = c.apart; closed = c.closed }) };
 }
 
-/// The label of a chain that is a loop.
-fn closed_label(labels: &[Option<usize>], ends: &[Ends]) -> Option<usize>
+/// Whether a chain is a loop.
+fn has_loop(labels: &[Option<usize>], ends: &[Ends]) -> bool
     requires { length ends.now ≡ length labels.now }
-    ensures { IfSome result (λ label. IsLabelled labels.now label label × (slice_index_or ends.now label Ends.Closed ≡ Ends.Closed)) }
+    ensures { IsTrue result ↔ HasLoop labels.now ends.now }
 {
     for label in 0..labels.len() {
-        if labels[label] == Some(label) && ends[label] == Ends::Closed {
-            return Some(label);
+        if labels[label] == Some(label) && matches!(ends[label], Ends::Closed) {
+            return true;
         }
     }
-    None
+    false
 }
 
 /// Whether with one more line a number differs from the count of lines on its cell's sides.
@@ -71,12 +71,12 @@ fn misses_number(
 }
 
 impl<'a> Chains<'a> {
-    ghost use Rattle.hall_slither.specs.Closing.{Closes};
-    ghost use Rattle.hall_slither.specs.Chains.{AreLines};
+    ghost use Rattle.hall_slither.specs.Close.{Closes, HasWrongLoop, layout_question};
+    ghost use Rattle.hall_slither.specs.Chain.{AreLines};
 
     fn new(alloc: Global, puzzle: &'a Puzzle, partial: &Partial) -> Result<Chains<'a>, AllocError>
         requires kind { puzzle.now.kind ≡ Kind.Slither }
-        requires partial { IsPartial (question_of puzzle.now) partial.now }
+        requires partial { IsPartial (question_of Kind.Slither puzzle.now) partial.now }
         ensures board { IfOk result (λ c. c.board ≡ puzzle.now) }
         ensures lines { IfOk result (λ c. AreLines partial.now c.lines) }
     {
@@ -85,7 +85,7 @@ impl<'a> Chains<'a> {
         let labels = line_labels(alloc, size, &lines)?;
         let ends = chain_ends(alloc, size, &lines, &labels)?;
         let apart = labels_differ(&labels);
-        let closed = closed_label(&labels, &ends);
+        let closed = has_loop(&labels, &ends);
         Ok(Chains {
             puzzle,
             lines,
@@ -96,6 +96,14 @@ impl<'a> Chains<'a> {
         })
     }
 
+    /// Whether there is a loop that isn't all of a solution: beside another chain, or with a number that differs from the count of lines.
+    fn has_wrong_loop(&self) -> bool
+        ensures wrong { IsTrue result ↔ HasWrongLoop self.now }
+        ensures hopeless { IsTrue result → (p : List (Option ℕ)) → IsHopeless (layout_question self.now) p }
+    {
+        self.closed && (self.apart || has_other_count(self.puzzle, &self.lines))
+    }
+
     /// Whether the side joins the two ends of one chain.
     fn closes(&self, side: usize) -> bool
         requires { side < all_sides self.now.board.size }
@@ -103,7 +111,7 @@ impl<'a> Chains<'a> {
     {
         let size = self.puzzle.size();
         let (first, second) = dot_ends(size, side);
-        let Some(line) = first_line(&self.lines, &spot_sides(size, Spot::Dot(first))) else {
+        let Some(line) = first_line(&self.lines, &sides_at(size, first)) else {
             return false;
         };
         let Some(label) = self.labels[line] else {
@@ -118,7 +126,7 @@ impl<'a> Chains<'a> {
 }
 
 impl<'a> Look for Chains<'a> {
-    ghost use Rattle.hall_slither.specs.Closing.{layout_question};
+    ghost use Rattle.hall_slither.specs.Close.{layout_question};
 
     ghost question = { layout_question };
 
@@ -132,12 +140,8 @@ impl<'a> Look for Chains<'a> {
         if partial.get(spot).is_some() || self.lines[spot] == 1 {
             return Ok(Finding::Nothing);
         }
-        if self.closed.is_some() {
-            return Ok(if self.apart {
-                Finding::Impossible
-            } else {
-                Finding::Must(spot, 0)
-            });
+        if self.closed {
+            return Ok(Finding::Must(spot, 0));
         }
         if !self.closes(spot) {
             return Ok(Finding::Nothing);
@@ -149,17 +153,20 @@ impl<'a> Look for Chains<'a> {
     }
 }
 
-/// Clears sides that would close a loop too early, and all sides beside a loop.
+/// Clears sides that would close a loop too early, and all sides beside a loop, which must be all of a solution.
 pub(crate) fn close_chains(
     alloc: Global,
     puzzle: &Puzzle,
     partial: &mut Partial,
 ) -> Result<Pass, AllocError>
     requires kind { puzzle.now.kind ≡ Kind.Slither }
-    requires partial { IsPartial (question_of puzzle.now) partial.old }
-    ensures deduced { IfOk result (IsDeduced (question_of puzzle.now) partial.old partial.new) }
-    ensures err { OnErr result (Narrows (question_of puzzle.now) partial.old partial.new) }
+    requires partial { IsPartial (question_of Kind.Slither puzzle.now) partial.old }
+    ensures deduced { IfOk result (IsDeduced (question_of Kind.Slither puzzle.now) partial.old partial.new) }
+    ensures err { OnErr result (Narrows (question_of Kind.Slither puzzle.now) partial.old partial.new) }
 {
     let chains = Chains::new(alloc, puzzle, partial)?;
+    if chains.has_wrong_loop() {
+        return Ok(Pass::Dead);
+    }
     sweep(alloc, &chains, partial)
 }

@@ -2,7 +2,7 @@
 ghost use Rattle.std.specs.Prelude.{◌≡◌, ℕ, ◌+◌, ◌-◌, ◌*◌, ◌/◌, ◌%◌, ◌<◌, ◌≤◌, ◌⊎◌, length, IfSome, Contains};
 ghost use Rattle.hall_grid.specs.Board.{IsSize};
 ghost use Rattle.hall_grid.specs.Slither.{dots, all_sides, degree, is_line, ShareDot};
-ghost use Rattle.hall_slither.specs.SidesAt.{sides_at, count_at};
+ghost use Rattle.hall_slither.specs.Dot.{sides_at, count_at};
 
 use hall_grid::{Size, dot_ends};
 

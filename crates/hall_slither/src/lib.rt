@@ -3,17 +3,12 @@
 
 mod chain;
 mod close;
+mod count;
 mod dot;
+mod follow;
 mod judge;
 mod lines;
 mod rules;
-mod spot;
-mod spread;
 
 pub use judge::broken;
 pub use rules::{SlitherRules, start};
-
-#[cfg(test)]
-mod search_tests;
-#[cfg(test)]
-mod tests;

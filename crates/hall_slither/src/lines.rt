@@ -3,10 +3,9 @@ ghost use Rattle.std.specs.Prelude.{◌≡◌, ◌↔◌, ◌⊎◌, ◌<◌, �
 ghost use Rattle.hall_grid.specs.Board.{IsSize};
 ghost use Rattle.hall_grid.specs.Slither.{all_sides, IsLine, ShareDot, HasLinesApart};
 ghost use Rattle.hall_grid.specs.Component.{AreComponents};
-ghost use Rattle.hall_slither.specs.Label.{LabelsDiffer};
 
 use crate::dot::sides_beside;
-use hall_grid::{Graph, Size, components};
+use hall_grid::{Graph, Size, components, labels_differ};
 use std::alloc::{AllocError, Global};
 
 /// The sides of a board, of which the lines are members.
@@ -40,22 +39,6 @@ impl Graph for Lines<'_> {
     fn next_to(&self, node: usize) -> [Option<usize>; 6] {
         sides_beside(self.size, node)
     }
-}
-
-/// Whether two nodes have different labels.
-pub(crate) fn labels_differ(labels: &[Option<usize>]) -> bool
-    ensures { IsTrue result ↔ LabelsDiffer labels.now }
-{
-    let mut known = None;
-    for node in 0..labels.len() {
-        if let Some(label) = labels[node] {
-            match known {
-                Some(other) if other != label => return true,
-                _ => known = Some(label),
-            }
-        }
-    }
-    false
 }
 
 /// For each line a label of its chain, the same for all lines that are joined.

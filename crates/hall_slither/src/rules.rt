@@ -1,11 +1,12 @@
 //! The rules of a Slitherlink puzzle, as a search asks them.
 ghost use Rattle.std.specs.Prelude.{◌≡◌, ◌<◌, IsTrue, IfOk, Some, slice_set};
+ghost use Rattle.hall_grid.specs.declared.board.Kind.TheVariants.{Slither};
 ghost use Rattle.hall_solve.specs.Question.{IsPartial, IsOpen, IsHopeless};
-ghost use Rattle.hall_slither.specs.Search.{question_of, IsUnset, AllExtend};
+ghost use Rattle.hall_solve.specs.Puzzle.{question_of, start_of, AllExtend};
 
 use crate::close::close_chains;
+use crate::follow::follow_counts;
 use crate::judge::broken;
-use crate::spread::follow_counts;
 use hall_grid::{Filling, Kind, Puzzle};
 use hall_solve::{Deduce, Finding, Look, Partial, Pass, Rules, Step, settle, sweep};
 use std::alloc::{AllocError, Global};
@@ -15,7 +16,7 @@ use std::marker::Model;
 const VISITS_WITH_TRIALS: u64 = 8;
 
 /// What follows for the sides of a puzzle.
-#[derive(Debug, Drop)]
+#[derive(Drop)]
 struct Deductions<'a> {
     puzzle: &'a Puzzle,
 }
@@ -34,7 +35,7 @@ impl<'a> Model for Deductions<'a> {
 }
 
 impl<'a> Deduce for Deductions<'a> {
-    ghost question = { question_of };
+    ghost question = { question_of Slither };
 
     fn pass(&self, alloc: Global, partial: &mut Partial) -> Result<Pass, AllocError> {
         match follow_counts(alloc, self.puzzle, partial)? {
@@ -45,7 +46,7 @@ impl<'a> Deduce for Deductions<'a> {
 }
 
 /// The same, and what a trial of both values at each side shows; that takes far longer.
-#[derive(Debug, Drop)]
+#[derive(Drop)]
 struct Trials<'a> {
     deductions: Deductions<'a>,
 }
@@ -72,10 +73,10 @@ impl<'a> Trials<'a> {
         side: usize,
         value: u8,
     ) -> Result<bool, AllocError>
-        requires partial { IsPartial (question_of self.now) partial.now }
+        requires partial { IsPartial (question_of Kind.Slither self.now) partial.now }
         requires side { IsOpen partial.now side }
         requires value { value < 2 }
-        ensures { IfOk result (λ fails. IsTrue fails → IsHopeless (question_of self.now) (slice_set partial.now side (Some value))) }
+        ensures { IfOk result (λ fails. IsTrue fails → IsHopeless (question_of Kind.Slither self.now) (slice_set partial.now side (Some value))) }
     {
         let mut trial = partial.copy()?;
         trial.set(side, value);
@@ -86,7 +87,7 @@ impl<'a> Trials<'a> {
 impl<'a> Look for Trials<'a> {
     ghost use Rattle.hall_grid.specs.Slither.{all_sides};
 
-    ghost question = { question_of };
+    ghost question = { question_of Slither };
 
     ghost spots = { λ board. all_sides board.size };
 
@@ -109,7 +110,7 @@ impl<'a> Look for Trials<'a> {
 }
 
 impl<'a> Deduce for Trials<'a> {
-    ghost question = { question_of };
+    ghost question = { question_of Slither };
 
     fn pass(&self, alloc: Global, partial: &mut Partial) -> Result<Pass, AllocError> {
         match self.deductions.pass(alloc, partial)? {
@@ -120,7 +121,7 @@ impl<'a> Deduce for Trials<'a> {
 }
 
 /// The rules of one puzzle, and counts of what a search asked.
-#[derive(Debug, Drop)]
+#[derive(Drop)]
 pub struct SlitherRules<'a> {
     trials: Trials<'a>,
     visits: u64,
@@ -128,7 +129,7 @@ pub struct SlitherRules<'a> {
 }
 
 impl<'a> Model for SlitherRules<'a> {
-    ghost use Rattle.hall_slither.specs.Search.{Progress};
+    ghost use Rattle.hall_solve.specs.Puzzle.{Progress};
 
     ghost Value = { Progress };
 
@@ -141,7 +142,7 @@ impl<'a> Model for SlitherRules<'a> {
 }
 
 impl<'a> SlitherRules<'a> {
-    ghost use Rattle.hall_slither.specs.Search.{begun};
+    ghost use Rattle.hall_solve.specs.Puzzle.{begun};
 
     /// The rules of the puzzle, with both counts 0.
     pub fn new(puzzle: &'a Puzzle) -> SlitherRules<'a>
@@ -159,7 +160,7 @@ impl<'a> SlitherRules<'a> {
 }
 
 impl<'a> Rules for SlitherRules<'a> {
-    ghost question = { λ r. question_of r.board };
+    ghost question = { λ r. question_of Slither r.board };
 
     ghost visits = { λ r. r.visits };
 
@@ -199,9 +200,9 @@ impl<'a> Rules for SlitherRules<'a> {
 /// The partial filling where a search begins: no side is given.
 pub fn start(alloc: Global, puzzle: &Puzzle) -> Result<Partial, AllocError>
     requires { puzzle.now.kind ≡ Kind.Slither }
-    ensures givens { IfOk result (IsUnset puzzle.now) }
-    ensures partial { IfOk result (IsPartial (question_of puzzle.now)) }
-    ensures solutions { IfOk result (AllExtend puzzle.now) }
+    ensures start { IfOk result (λ p. p ≡ start_of Kind.Slither puzzle.now) }
+    ensures partial { IfOk result (IsPartial (question_of Kind.Slither puzzle.now)) }
+    ensures solutions { IfOk result (AllExtend Kind.Slither puzzle.now) }
 {
     Partial::new(alloc, puzzle.size().all_sides())
 }

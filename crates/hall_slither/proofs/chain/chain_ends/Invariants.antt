@@ -1,4 +1,4 @@
-use Rattle.hall_slither.specs.Chains.{HaveEnds}
+use Rattle.hall_slither.specs.Chain.{HaveEnds}
 use Rattle.hall_slither.proofs.chain.chain_ends.Given as goal
 
 abbrev pub invariant-loop-dot : goal.invariant-loop-dot

@@ -4,21 +4,23 @@ use Rattle.hall_grid.specs.Board.{Board}
 use Rattle.hall_solve.specs.Question.{Narrows}
 use Rattle.hall_solve.specs.Deduction.{IsDeduced}
 use Rattle.hall_solve.specs.declared.deduce.Pass.{Pass}
-use Rattle.hall_slither.specs.Chains.{AreLines}
-use Rattle.hall_slither.specs.Closing.{Layout, layout_question}
-use Rattle.hall_slither.specs.Search.{question_of}
-use Rattle.hall_slither.proofs.Questions.{Narrows-puzzle, IsDeduced-puzzle}
+use Rattle.hall_solve.specs.declared.deduce.Pass.TheVariants.{Dead}
+use Rattle.hall_slither.specs.Chain.{AreLines}
+use Rattle.hall_slither.specs.Close.{Layout, layout_question}
+use Rattle.hall_grid.specs.declared.board.Kind.TheVariants.{Slither}
+use Rattle.hall_solve.specs.Puzzle.{question_of}
+use Rattle.hall_slither.proofs.LayoutQuestion.{Narrows-puzzle, IsDeduced-puzzle}
 use Rattle.hall_slither.proofs.close.close_chains.Goals as goal
 
 IfOk-puzzle : {E : Type 0} (layout : Layout) (board : Board) (old new : List (Option ℕ)) (r : Result Pass E) → layout.board ≡ board → AreLines old layout.lines
-    → IfOk r (IsDeduced (layout_question layout) old new) → IfOk r (IsDeduced (question_of board) old new)
-IfOk-puzzle layout board old new (Ok pass) e are h = subst (λ b. IsDeduced (question_of b) old new pass) e (IsDeduced-puzzle layout old are new pass h)
+    → IfOk r (IsDeduced (layout_question layout) old new) → IfOk r (IsDeduced (question_of Slither board) old new)
+IfOk-puzzle layout board old new (Ok pass) e are h = subst (λ b. IsDeduced (question_of Slither b) old new pass) e (IsDeduced-puzzle layout old are new pass h)
 IfOk-puzzle layout board old new (Err x) e are h = tt
 
 OnErr-puzzle : {E : Type 0} (layout : Layout) (board : Board) (old new : List (Option ℕ)) (r : Result Pass E) → layout.board ≡ board → AreLines old layout.lines
-    → OnErr r (Narrows (layout_question layout) old new) → OnErr r (Narrows (question_of board) old new)
+    → OnErr r (Narrows (layout_question layout) old new) → OnErr r (Narrows (question_of Slither board) old new)
 OnErr-puzzle layout board old new (Ok pass) e are h = tt
-OnErr-puzzle layout board old new (Err x) e are h = subst (λ b. Narrows (question_of b) old new) e (Narrows-puzzle layout old are new h)
+OnErr-puzzle layout board old new (Err x) e are h = subst (λ b. Narrows (question_of Slither b) old new) e (Narrows-puzzle layout old are new h)
 
 pub returns-clause-deduced : goal.returns-clause-deduced
 returns-clause-deduced c =
@@ -29,3 +31,9 @@ pub returns-clause-err : goal.returns-clause-err
 returns-clause-err c =
     OnErr-puzzle c.in_ok-chains.chains c.args.puzzle.now c.args.partial.now c.sweep.new.partial c.sweep.result c.in_ok-chains.ensures.board c.in_ok-chains.ensures.lines
     c.sweep.ensures.err
+
+pub returns-then-has_wrong_loop-clause-deduced : goal.returns-then-has_wrong_loop-clause-deduced
+returns-then-has_wrong_loop-clause-deduced c =
+    subst (λ b. IsDeduced (question_of Slither b) c.args.partial.now c.args.partial.now Dead) c.in_ok-chains.ensures.board
+    (IsDeduced-puzzle c.in_ok-chains.chains c.args.partial.now c.in_ok-chains.ensures.lines c.args.partial.now Dead
+    (c.has_wrong_loop.ensures.hopeless c.if-has_wrong_loop.true c.args.partial.now))

@@ -1,5 +1,5 @@
 use Rattle.std.proofs.Common.{◌<◌, length, inr, arith}
-use Rattle.hall_slither.proofs.Degrees.{all_held, sides_below, degree_is}
+use Rattle.hall_slither.proofs.Degree.{all_held, sides_below, degree_is}
 use Rattle.hall_slither.proofs.dot.degree.Goals as goal
 
 pub line_at-requires-4 : goal.line_at-requires-4

@@ -1,6 +1,6 @@
 use Rattle.std.proofs.Common.{List, [], ◌∷◌, Option, None, get_or, ℕ, ap, ◌∙◌, arith}
-use Rattle.hall_slither.specs.SidesAt.{sides_at}
-use Rattle.hall_slither.proofs.Neighbours.{first_end, AreBeside, AreBeside-flat, AreBeside-upright}
+use Rattle.hall_slither.specs.Dot.{sides_at}
+use Rattle.hall_slither.proofs.SidesBeside.{first_end, AreBeside, AreBeside-flat, AreBeside-upright}
 use Rattle.hall_slither.proofs.dot.sides_beside.Goals as goal
 
 abbrev flat_list : List (Option ℕ) → List (Option ℕ) → List (Option ℕ)

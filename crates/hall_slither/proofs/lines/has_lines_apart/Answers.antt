@@ -1,4 +1,4 @@
-use Rattle.hall_slither.proofs.Apart.{apart_by_labels}
+use Rattle.hall_slither.proofs.HasLinesApart.{apart_by_labels}
 use Rattle.hall_slither.proofs.lines.has_lines_apart.Goals as goal
 
 pub returns : goal.returns

@@ -3,12 +3,15 @@ use Rattle.std.specs.Prelude.{IfSome, Contains}
 use Rattle.std.proofs.lemmas.List.{get_or_default}
 use Rattle.std.proofs.lemmas.List.Elements.{All-contains}
 use Rattle.hall_grid.specs.declared.board.Size.{Size}
+use Rattle.hall_grid.specs.Board.{IsSize}
 use Rattle.hall_grid.specs.Slither.{all_sides, dots, ends, IsLine, ShareDot}
 use Rattle.hall_grid.specs.Component.{IsLabelled, AreComponents}
 use Rattle.hall_grid.proofs.Joined.{label_member}
-use Rattle.hall_slither.specs.Counts.{AreBelow}
-use Rattle.hall_slither.specs.Chains.{HaveEnds}
-use Rattle.hall_slither.specs.Closing.{Layout, Closes}
+use Rattle.hall_slither.specs.Dot.{sides_at, AreBelow}
+use Rattle.hall_slither.proofs.Demand.{AreBelow-dot}
+use Rattle.hall_slither.proofs.IsLayout.{size_of_board}
+use Rattle.hall_slither.specs.Chain.{HaveEnds}
+use Rattle.hall_slither.specs.Close.{Layout, Closes}
 use Rattle.hall_slither.specs.declared.chain.Ends.{Ends}
 use Rattle.hall_slither.specs.declared.chain.Ends.TheVariants.{Closed, Two}
 use Rattle.hall_slither.proofs.close.Chains.closes.Goals as goal
@@ -33,19 +36,34 @@ two_are : (ends : List Ends) (label a b x y : ℕ) (was : Ends) → label < leng
     → get_or ends label Closed ≡ Two x y
 two_are ends label a b x y was room got is e f = get_or_default ends label Closed was room ∙ sym got ∙ is ∙ ap (λ a. Two a b) e ∙ ap (λ b. Two x b) f
 
+-- the sides at a dot that was read
+below_at : (size read : Size) (d : ℕ) (sides : List (Option ℕ)) → IsSize size → read ≡ size → d < dots read → sides ≡ sides_at read d
+    → AreBelow (all_sides read) sides
+below_at size read d sides is e low are =
+    subst (AreBelow (all_sides read)) (sym are) (AreBelow-dot read d (let some = is.some_cols in let cols = ap (λ s. s.cols) e in omega arith) low)
+
+pub first_line-requires : goal.first_line-requires
+first_line-requires c =
+    subst (λ n. AreBelow n c.sides_at.result)
+    (ap all_sides c.size-size.ensures.size ∙ sym c.self.invariant.exact ∙ sym (ap length c.deref.ensures.value))
+    (below_at c.self.inside.puzzle.now.size c.size-size.result c.dot_ends-first.result.0 c.sides_at.result
+    (size_of_board c.self.inside.puzzle.now c.self.invariant.kind c.self.invariant.board) c.size-size.ensures.size c.dot_ends-first.ensures.dots.0 c.sides_at.ensures)
+
 pub index-requires-2 : goal.index-requires-2
 index-requires-2 c =
     let room = label_room c.self.inside.puzzle.now.size c.size-size.result c.self.inside.lines.items c.self.inside.labels.items c.self.inside.ends.items
-    c.spot_sides.result c.in-Some.line c.in-Some-index.label c.index.result.now c.size-size.ensures.size c.self.invariant.components c.self.invariant.ends
-    c.spot_sides.ensures.below c.in-Some.ensures.found.0 c.index.ensures c.in-Some-index.is in
+    c.sides_at.result c.in-Some.line c.in-Some-index.label c.index.result.now c.size-size.ensures.size c.self.invariant.components c.self.invariant.ends
+    (below_at c.self.inside.puzzle.now.size c.size-size.result c.dot_ends-first.result.0 c.sides_at.result
+    (size_of_board c.self.inside.puzzle.now c.self.invariant.kind c.self.invariant.board) c.size-size.ensures.size c.dot_ends-first.ensures.dots.0 c.sides_at.ensures) c.in-Some.ensures.found.0 c.index.ensures c.in-Some-index.is in
     let ok = c.self.inside.ends.ok.0 in
     omega arith
 
 pub returns-in-Two : goal.returns-in-Two
 returns-in-Two c = λ _.
     let room = label_room c.self.inside.puzzle.now.size c.size-size.result c.self.inside.lines.items c.self.inside.labels.items c.self.inside.ends.items
-    c.spot_sides.result c.in-Some.line c.in-Some-index.label c.index.result.now c.size-size.ensures.size c.self.invariant.components c.self.invariant.ends
-    c.spot_sides.ensures.below c.in-Some.ensures.found.0 c.index.ensures c.in-Some-index.is in
+    c.sides_at.result c.in-Some.line c.in-Some-index.label c.index.result.now c.size-size.ensures.size c.self.invariant.components c.self.invariant.ends
+    (below_at c.self.inside.puzzle.now.size c.size-size.result c.dot_ends-first.result.0 c.sides_at.result
+    (size_of_board c.self.inside.puzzle.now c.self.invariant.kind c.self.invariant.board) c.size-size.ensures.size c.dot_ends-first.ensures.dots.0 c.sides_at.ensures) c.in-Some.ensures.found.0 c.index.ensures c.in-Some-index.is in
     let dots_are = c.dot_ends-first.ensures.ends ∙ ap (λ size. ends size c.args.side) c.size-size.ensures.size in
     subst (λ (l : Layout). Closes l c.args.side) c.self.view_is (
       c.in-Some-index.label,
@@ -56,8 +74,9 @@ returns-in-Two c = λ _.
 pub returns-in-Two-2 : goal.returns-in-Two-2
 returns-in-Two-2 c = λ _.
     let room = label_room c.self.inside.puzzle.now.size c.size-size.result c.self.inside.lines.items c.self.inside.labels.items c.self.inside.ends.items
-    c.spot_sides.result c.in-Some.line c.in-Some-index.label c.index.result.now c.size-size.ensures.size c.self.invariant.components c.self.invariant.ends
-    c.spot_sides.ensures.below c.in-Some.ensures.found.0 c.index.ensures c.in-Some-index.is in
+    c.sides_at.result c.in-Some.line c.in-Some-index.label c.index.result.now c.size-size.ensures.size c.self.invariant.components c.self.invariant.ends
+    (below_at c.self.inside.puzzle.now.size c.size-size.result c.dot_ends-first.result.0 c.sides_at.result
+    (size_of_board c.self.inside.puzzle.now c.self.invariant.kind c.self.invariant.board) c.size-size.ensures.size c.dot_ends-first.ensures.dots.0 c.sides_at.ensures) c.in-Some.ensures.found.0 c.index.ensures c.in-Some-index.is in
     let dots_are = c.dot_ends-first.ensures.ends ∙ ap (λ size. ends size c.args.side) c.size-size.ensures.size in
     subst (λ (l : Layout). Closes l c.args.side) c.self.view_is (
       c.in-Some-index.label,

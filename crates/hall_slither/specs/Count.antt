@@ -1,0 +1,62 @@
+-- Counts of lines at dots and round cells, and what follows from them for the open sides.
+use Rattle.std.specs.Prelude.{◌≡◌, ◌⊎◌, ℕ, ◌+◌, ◌*◌, ◌<◌, ◌≤◌, ◌==◌, Bool, false, List, Option, Some, None, Contains, slice_index, slice_index_or, is_none, map}
+use Rattle.std.specs.List.{sum_by}
+use Rattle.hall_grid.specs.declared.board.Size.{Size}
+use Rattle.hall_grid.specs.Board.{cells}
+use Rattle.hall_grid.specs.Slither.{dots, sides_of}
+use Rattle.hall_solve.specs.Question.{Question, Solves, IsHopeless, IsOpen}
+use Rattle.hall_slither.specs.declared.count.Centre.{Centre}
+use Rattle.hall_slither.specs.declared.count.Centre.TheVariants.{Dot, Cell}
+use Rattle.hall_slither.specs.declared.count.Demand.{Demand}
+use Rattle.hall_slither.specs.declared.count.Demand.TheVariants.{Any, Through, Exactly}
+use Rattle.hall_slither.specs.declared.count.Consequence.{Consequence}
+use Rattle.hall_slither.specs.declared.count.Consequence.TheVariants.{Nothing, AllBe, Impossible}
+use Rattle.hall_slither.specs.Dot.{sides_at, count_at}
+
+-- the spot is on the board
+abbrev pub IsCentre : Size → Centre → Type 0
+IsCentre size (Dot d) = d < dots size
+IsCentre size (Cell cell) = cell < cells size
+
+-- the sides at a dot or round a cell
+abbrev pub sides_round : Size → Centre → List (Option ℕ)
+sides_round size (Dot d) = sides_at size d
+sides_round size (Cell cell) = map Some (sides_of size cell)
+
+-- how many of the sides pass a test
+abbrev pub count_sides : (ℕ → Bool) → List (Option ℕ) → ℕ
+count_sides p sides = sum_by (count_at p) sides
+
+-- the place has a line
+abbrev pub is_one : Option ℕ → Bool
+is_one None = false
+is_one (Some v) = v == 1
+
+abbrev pub has_line : List (Option ℕ) → ℕ → Bool
+has_line p s = is_one (slice_index_or p s None)
+
+-- the place is not set
+abbrev pub is_open : List (Option ℕ) → ℕ → Bool
+is_open p s = is_none (slice_index_or p s None)
+
+-- the count is as demanded: a loop passes a dot or doesn't, and a number is the count
+abbrev pub Meets : Demand → ℕ → Type 0
+Meets Any n = Unit {0}
+Meets Through n = (n ≡ 0) ⊎ (n ≡ 2)
+Meets (Exactly number) n = n ≡ number
+
+-- so many are lines and so many open: what each count between says of the open ones; nothing only where some count is as demanded
+abbrev pub Follows : Demand → ℕ → ℕ → Consequence → Type 0
+Follows demand lines unset Nothing = (n : ℕ) × (lines ≤ n) × (n ≤ lines + unset) × Meets demand n
+Follows demand lines unset (AllBe value) =
+    (0 < unset) × (value < 2) × ((n : ℕ) → lines ≤ n → n ≤ lines + unset → Meets demand n → n ≡ lines + value * unset)
+Follows demand lines unset Impossible = (n : ℕ) → lines ≤ n → n ≤ lines + unset → Meets demand n → ⊥
+
+-- what is told of the open ones of the sides is true of each solution
+abbrev pub IsTold : Question → List (Option ℕ) → List (Option ℕ) → Consequence → Type 0
+IsTold q p sides Nothing = Unit {0}
+IsTold q p sides (AllBe value) =
+    (value < 2)
+    × ((s : ℕ) × Contains sides (Some s) × IsOpen p s)
+    × ((f : List ℕ) (s : ℕ) → Solves q p f → Contains sides (Some s) → IsOpen p s → slice_index f s ≡ value)
+IsTold q p sides Impossible = IsHopeless q p
