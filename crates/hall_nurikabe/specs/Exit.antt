@@ -9,7 +9,8 @@ use Rattle.hall_grid.specs.Reached.{IsMarked}
 use Rattle.hall_solve.specs.Question.{Solves}
 use Rattle.hall_nurikabe.specs.declared.exits.Exits.{Exits}
 use Rattle.hall_nurikabe.specs.declared.exits.Exits.TheVariants.{Nowhere, One, Many}
-use Rattle.hall_nurikabe.specs.Solving.{question_of}
+use Rattle.hall_grid.specs.declared.board.Kind.TheVariants.{Nurikabe}
+use Rattle.hall_solve.specs.Puzzle.{question_of}
 use Rattle.hall_nurikabe.specs.Forced.{IsBeside}
 
 -- the cell may be among the exits
@@ -34,7 +35,7 @@ pub record AddsExit (cell : ℕ) (old new : List Exits) : Type 0 where
 -- in no solution do all cells of the value that are joined to a cell with the label have the label
 abbrev pub MustGrow : Board → List (Option ℕ) → ℕ → List (Option ℕ) → ℕ → Type 0
 MustGrow board p value labels label =
-    (f : List ℕ) → Solves (question_of board) p f
+    (f : List ℕ) → Solves (question_of Nurikabe board) p f
     → ((c d : ℕ) → IsLabelled labels c label → (IsLabelled labels d label → ⊥)
     → Walk (Touch board.size) (λ cell. (cell < cells board.size) × (slice_index f cell ≡ value)) c d → ⊥) → ⊥
 

@@ -1,18 +1,23 @@
 -- What marks, regions and numbers of a partial filling say.
-use Rattle.std.specs.Prelude.{◌≡◌, ◌≢◌, ◌↔◌, ℕ, ◌<◌, Bool, List, length, slice_index, slice_index_or, Option, Some, None}
+use Rattle.std.specs.Prelude.{◌≡◌, ◌≢◌, ℕ, ◌<◌, List, length, slice_index, slice_index_or, Option, Some, None}
 use Rattle.hall_grid.specs.declared.board.Size.{Size}
 use Rattle.hall_grid.specs.Board.{Board, cells, Touch}
 use Rattle.hall_grid.specs.Nurikabe.{IsNumbered}
 use Rattle.hall_grid.specs.Component.{IsLabelled, AreComponents}
-use Rattle.hall_grid.specs.Reached.{IsMarked}
+use Rattle.hall_solve.specs.Question.{Question, Extends}
 use Rattle.hall_solve.specs.Deduction.{HasAlways}
-use Rattle.hall_nurikabe.specs.Tally.{HasCount}
-use Rattle.hall_nurikabe.specs.Solving.{question_of}
+use Rattle.hall_nurikabe.specs.Counts.{HasCount}
+use Rattle.hall_grid.specs.declared.board.Kind.TheVariants.{Nurikabe}
+use Rattle.hall_solve.specs.Puzzle.{IsRight, question_of}
+
+-- the filling has the values of the list, where there are any
+abbrev pub with_forced : Board → List (Option ℕ) → Question
+with_forced board forced = record { cells = cells board.size; values = 2; right = λ f. IsRight board f × Extends f forced }
 
 -- each value of the list is one that every solution has at its place
 pub record AreForced (board : Board) (p forced : List (Option ℕ)) : Type 0 where
   pub exact : length forced ≡ cells board.size
-  pub always : (cell v : ℕ) → slice_index_or forced cell None ≡ Some v → (v < 2) × HasAlways (question_of board) p cell v
+  pub always : (cell v : ℕ) → slice_index_or forced cell None ≡ Some v → (v < 2) × HasAlways (question_of Nurikabe board) p cell v
 
 -- the cells that are set to the value
 abbrev pub IsSetTo : List (Option ℕ) → ℕ → ℕ → Type 0
@@ -21,11 +26,6 @@ IsSetTo p value cell = slice_index_or p cell None ≡ Some value
 -- the cells of the board that aren't set to the value
 abbrev pub IsOpenTo : List (Option ℕ) → ℕ → ℕ → Type 0
 IsOpenTo p value cell = (cell < length p) × (slice_index_or p cell None ≡ Some value → ⊥)
-
--- exactly the members of the set are marked
-pub record MarksSet (IsMember : ℕ → Type 0) (n : ℕ) (marks : List Bool) : Type 0 where
-  pub exact : length marks ≡ n
-  pub marked : (cell : ℕ) → IsMarked marks cell ↔ IsMember cell
 
 -- the regions of a set of cells, and for each label how many cells have it
 pub record AreRegions (size : Size) (IsMember : ℕ → Type 0) (labels : List (Option ℕ)) (sizes : List ℕ) : Type 0 where

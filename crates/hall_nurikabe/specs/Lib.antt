@@ -1,6 +1,7 @@
-pub mod Tally
-pub mod Solving
+pub mod Colour
+pub mod Marks
+pub mod Counts
 pub mod Block
 pub mod Forced
-pub mod Spreading
+pub mod Steps
 pub mod Exit

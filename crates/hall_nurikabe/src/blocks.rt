@@ -3,7 +3,8 @@ ghost use Rattle.std.specs.Prelude.{◌≡◌, ℕ, ◌<◌, ◌↔◌, IsTrue, 
 ghost use Rattle.hall_grid.specs.Board.{cells, IsSize};
 ghost use Rattle.hall_solve.specs.Question.{Question, IsPartial};
 ghost use Rattle.hall_solve.specs.Deduction.{IsSound};
-ghost use Rattle.hall_nurikabe.specs.Solving.{question_of};
+ghost use Rattle.hall_grid.specs.declared.board.Kind.TheVariants.{Nurikabe};
+ghost use Rattle.hall_solve.specs.Puzzle.{question_of};
 ghost use Rattle.hall_nurikabe.specs.Block.{MakePool};
 
 use crate::judge::{WALL, WHITE};
@@ -15,6 +16,7 @@ use std::alloc::{AllocError, Global};
 #[derive(Drop)]
 pub(crate) struct Blocks<'a> {
     pub(crate) puzzle: &'a Puzzle,
+    pub(crate) ghost kind: { puzzle.now.kind ≡ Nurikabe },
 }
 
 /// The block at the cell, if it is on the board.
@@ -30,35 +32,27 @@ fn block_at(size: Size, cell: usize) -> Option<[usize; 4]>
     }
 }
 
-/// Whether the place is set to the value.
-pub(crate) fn has(partial: &Partial, place: usize, value: u8) -> bool
-    requires { place < length partial.now }
-    ensures { IsTrue result ↔ (slice_index_or partial.now place None ≡ Some value) }
-{
-    match partial.get(place) {
-        Some(other) => other == value,
-        None => false,
-    }
-}
-
-/// What follows for the cell `a` of a block from the three others.
-fn last_of(_puzzle: &Puzzle, partial: &Partial, a: usize, b: usize, c: usize, d: usize) -> Finding
-    requires partial { IsPartial (question_of _puzzle.now) partial.now }
-    requires block { MakePool _puzzle.now.size a b c d }
-    ensures { IsSound (question_of _puzzle.now) partial.now result }
-{
-    if !has(partial, b, WALL) || !has(partial, c, WALL) || !has(partial, d, WALL) {
-        return Finding::Nothing;
-    }
-    match partial.get(a) {
-        None => Finding::Must(a, WHITE),
-        Some(WALL) => Finding::Impossible,
-        Some(_) => Finding::Nothing,
+impl Blocks<'_> {
+    /// What follows for the cell `a` of a block from the three others.
+    fn last_of(&self, partial: &Partial, a: usize, b: usize, c: usize, d: usize) -> Finding
+        requires partial { IsPartial (question_of Nurikabe self.now.puzzle.now) partial.now }
+        requires block { MakePool self.now.puzzle.now.size a b c d }
+        ensures { IsSound (question_of Nurikabe self.now.puzzle.now) partial.now result }
+    {
+        let wall = Some(WALL);
+        if partial.get(b) != wall || partial.get(c) != wall || partial.get(d) != wall {
+            return Finding::Nothing;
+        }
+        match partial.get(a) {
+            None => Finding::Must(a, WHITE),
+            Some(WALL) => Finding::Impossible,
+            Some(_) => Finding::Nothing,
+        }
     }
 }
 
 impl Look for Blocks<'_> {
-    ghost question = { λ blocks. question_of blocks.puzzle.now };
+    ghost question = { λ blocks. question_of Nurikabe blocks.puzzle.now };
 
     ghost spots = { λ blocks. cells blocks.puzzle.now.size };
 
@@ -71,18 +65,18 @@ impl Look for Blocks<'_> {
             return Ok(Finding::Nothing);
         };
         let [a, b, c, d] = block;
-        let found = last_of(self.puzzle, partial, a, b, c, d);
+        let found = self.last_of(partial, a, b, c, d);
         if found != Finding::Nothing {
             return Ok(found);
         }
-        let found = last_of(self.puzzle, partial, b, a, c, d);
+        let found = self.last_of(partial, b, a, c, d);
         if found != Finding::Nothing {
             return Ok(found);
         }
-        let found = last_of(self.puzzle, partial, c, a, b, d);
+        let found = self.last_of(partial, c, a, b, d);
         if found != Finding::Nothing {
             return Ok(found);
         }
-        Ok(last_of(self.puzzle, partial, d, a, b, c))
+        Ok(self.last_of(partial, d, a, b, c))
     }
 }

@@ -5,17 +5,18 @@ ghost use Rattle.hall_grid.specs.Component.{AreComponents};
 ghost use Rattle.hall_solve.specs.Question.{Question, IsPartial, IsHopeless, Narrows};
 ghost use Rattle.hall_solve.specs.Deduction.{IsDeduced};
 ghost use Rattle.hall_grid.specs.declared.board.Kind.TheVariants.{Nurikabe};
-ghost use Rattle.hall_nurikabe.specs.Solving.{question_of};
+ghost use Rattle.hall_solve.specs.Puzzle.{question_of};
 ghost use Rattle.hall_nurikabe.specs.Forced.{AreForced, AreOwners, AreRegions, IsOpenTo, IsSetTo};
-ghost use Rattle.hall_nurikabe.specs.Spreading.{IsSpread};
+ghost use Rattle.hall_nurikabe.specs.Steps.{AreStepsLeft};
 
 use crate::blocks::Blocks;
 use crate::exits::{exits_of, force_exits, growing_groups, roots};
 use crate::forced::{Forced, force_label, force_walls_beside};
-use crate::judge::{WALL, WHITE, have_two_labels};
+use crate::judge::{WALL, WHITE};
+use crate::position::Position;
 use crate::region::{Regions, are_apart, is_between, owners, places_open_to, places_set_to};
-use crate::spread::spread;
-use hall_grid::{Clue, Puzzle, regions};
+use crate::steps::steps_left;
+use hall_grid::{Clue, Puzzle, labels_differ, regions};
 use hall_solve::{Deduce, Partial, Pass, sweep};
 use std::alloc::{AllocError, Global};
 
@@ -27,7 +28,7 @@ pub(crate) struct Deductions<'a> {
 }
 
 impl Deduce for Deductions<'_> {
-    ghost question = { λ deductions. question_of deductions.puzzle.now };
+    ghost question = { λ deductions. question_of Nurikabe deductions.puzzle.now };
 
     fn pass(&self, alloc: Global, partial: &mut Partial) -> Result<Pass, AllocError> {
         match sweep(
@@ -54,10 +55,10 @@ fn sweep_forced(
     partial: &mut Partial,
     values: &[Option<u8>],
 ) -> Result<Pass, AllocError>
-    requires partial { IsPartial (question_of puzzle.now) partial.old }
+    requires partial { IsPartial (question_of Nurikabe puzzle.now) partial.old }
     requires forced { AreForced puzzle.now partial.old values.now }
-    ensures deduced { IfOk result (IsDeduced (question_of puzzle.now) partial.old partial.new) }
-    ensures err { OnErr result (Narrows (question_of puzzle.now) partial.old partial.new) }
+    ensures deduced { IfOk result (IsDeduced (question_of Nurikabe puzzle.now) partial.old partial.new) }
+    ensures err { OnErr result (Narrows (question_of Nurikabe puzzle.now) partial.old partial.new) }
 {
     sweep(alloc, &Forced { puzzle, values }, partial)
 }
@@ -69,146 +70,142 @@ fn forced_by_regions(
     partial: &Partial,
 ) -> Result<Option<Vec<Option<u8>>>, AllocError>
     requires kind { puzzle.now.kind ≡ Nurikabe }
-    requires partial { IsPartial (question_of puzzle.now) partial.now }
-    ensures { IfOk result (λ found. MatchOption found (IsHopeless (question_of puzzle.now) partial.now) (λ forced. AreForced puzzle.now partial.now forced.items)) }
+    requires partial { IsPartial (question_of Nurikabe puzzle.now) partial.now }
+    ensures { IfOk result (λ found. MatchOption found (IsHopeless (question_of Nurikabe puzzle.now) partial.now)
+        (λ forced. AreForced puzzle.now partial.now forced.items)) }
 {
-    let cells = puzzle.cells();
-    if are_walls_apart(alloc, puzzle, partial)? {
+    let mut forced = vec![in alloc; None; puzzle.cells()]?;
+    let position = Position { puzzle, partial };
+    if are_walls_apart(alloc, &position)? {
         return Ok(None);
     }
-    let mut forced = vec![in alloc; None; cells]?;
-    if look_at_groups(alloc, puzzle, partial, &mut forced)? {
+    if look_at_groups(alloc, &position, &mut forced)? {
         return Ok(None);
     }
-    if look_at_walls(alloc, puzzle, partial, &mut forced)? {
+    if look_at_walls(alloc, &position, &mut forced)? {
         return Ok(None);
     }
-    if look_at_reaches(alloc, puzzle, partial, &mut forced)? {
+    if look_at_reaches(alloc, &position, &mut forced)? {
         return Ok(None);
     }
     Ok(Some(forced))
 }
 
+/// Whether two walls can't be joined any more.
+fn are_walls_apart(alloc: Global, position: &Position) -> Result<bool, AllocError>
+    ensures { IfOk result (λ apart. IsTrue apart → IsHopeless (question_of Nurikabe position.now.puzzle.now) position.now.partial.now) }
+{
+    let open = places_open_to(alloc, position.partial, WHITE)?;
+    let labels = regions(alloc, position.puzzle.size(), &open)?;
+    Ok(are_apart(position.partial, WALL, &labels))
+}
+
 /// Forces what groups of white cells say; tells whether they leave no solution.
 fn look_at_groups(
     alloc: Global,
-    puzzle: &Puzzle,
-    partial: &Partial,
+    position: &Position,
     forced: &mut [Option<u8>],
 ) -> Result<bool, AllocError>
-    requires size { IsSize puzzle.now.size }
-    requires partial { IsPartial (question_of puzzle.now) partial.now }
-    requires forced { AreForced puzzle.now partial.now forced.old }
-    ensures dead { IfOk result (λ dead. IsTrue dead → IsHopeless (question_of puzzle.now) partial.now) }
-    ensures forced { OnOk result (AreForced puzzle.now partial.now forced.new) }
+    requires forced { AreForced position.now.puzzle.now position.now.partial.now forced.old }
+    ensures dead { IfOk result (λ dead. IsTrue dead → IsHopeless (question_of Nurikabe position.now.puzzle.now) position.now.partial.now) }
+    ensures forced { OnOk result (AreForced position.now.puzzle.now position.now.partial.now forced.new) }
 {
-    let white = places_set_to(alloc, partial, WHITE)?;
-    let groups = Regions::new(alloc, puzzle.size(), &white)?;
-    let Some(owners) = owners(alloc, puzzle, &groups.labels)? else {
+    let white = places_set_to(alloc, position.partial, WHITE)?;
+    let groups = Regions::new(alloc, position.puzzle.size(), &white)?;
+    force_groups(alloc, position, &groups.labels, &groups.sizes, forced)
+}
+
+/// The same for these groups.
+fn force_groups(
+    alloc: Global,
+    position: &Position,
+    labels: &[Option<usize>],
+    sizes: &[usize],
+    forced: &mut [Option<u8>],
+) -> Result<bool, AllocError>
+    requires groups { AreRegions position.now.puzzle.now.size (IsSetTo position.now.partial.now 0) labels.now sizes.now }
+    requires forced { AreForced position.now.puzzle.now position.now.partial.now forced.old }
+    ensures dead { IfOk result (λ dead. IsTrue dead → IsHopeless (question_of Nurikabe position.now.puzzle.now) position.now.partial.now) }
+    ensures forced { OnOk result (AreForced position.now.puzzle.now position.now.partial.now forced.new) }
+{
+    let Some(owners) = owners(alloc, position.puzzle, labels)? else {
         return Ok(true);
     };
-    part_groups(puzzle, partial, &groups.labels, &owners, forced);
-    if close_groups(puzzle, partial, &groups.labels, &groups.sizes, forced) {
+    part_groups(position, labels, &owners, forced);
+    if close_groups(position, labels, sizes, forced) {
         return Ok(true);
     }
-    let exits = exits_of(alloc, puzzle.size(), partial, &groups.labels)?;
-    let growing = growing_groups(alloc, puzzle, &groups.labels, &groups.sizes, &owners)?;
-    Ok(force_exits(
-        puzzle,
-        partial,
-        &groups.labels,
-        &exits,
-        WHITE,
-        &growing,
-        forced,
-    ))
+    let exits = exits_of(alloc, position, labels)?;
+    let growing = growing_groups(alloc, position.puzzle, labels, sizes, &owners)?;
+    Ok(force_exits(position, labels, &exits, WHITE, &growing, forced))
 }
 
 /// Forces what walls need to be joined; tells whether they leave no solution.
 fn look_at_walls(
     alloc: Global,
-    puzzle: &Puzzle,
-    partial: &Partial,
+    position: &Position,
     forced: &mut [Option<u8>],
 ) -> Result<bool, AllocError>
-    requires size { IsSize puzzle.now.size }
-    requires partial { IsPartial (question_of puzzle.now) partial.now }
-    requires forced { AreForced puzzle.now partial.now forced.old }
-    ensures dead { IfOk result (λ dead. IsTrue dead → IsHopeless (question_of puzzle.now) partial.now) }
-    ensures forced { OnOk result (AreForced puzzle.now partial.now forced.new) }
+    requires forced { AreForced position.now.puzzle.now position.now.partial.now forced.old }
+    ensures dead { IfOk result (λ dead. IsTrue dead → IsHopeless (question_of Nurikabe position.now.puzzle.now) position.now.partial.now) }
+    ensures forced { OnOk result (AreForced position.now.puzzle.now position.now.partial.now forced.new) }
 {
-    let walls = places_set_to(alloc, partial, WALL)?;
-    let labels = regions(alloc, puzzle.size(), &walls)?;
-    if !have_two_labels(&labels) {
+    let walls = places_set_to(alloc, position.partial, WALL)?;
+    let labels = regions(alloc, position.puzzle.size(), &walls)?;
+    if !labels_differ(&labels) {
         return Ok(false);
     }
-    let exits = exits_of(alloc, puzzle.size(), partial, &labels)?;
+    let exits = exits_of(alloc, position, &labels)?;
     let growing = roots(alloc, &labels)?;
-    Ok(force_exits(puzzle, partial, &labels, &exits, WALL, &growing, forced))
+    Ok(force_exits(position, &labels, &exits, WALL, &growing, forced))
+}
+
+/// Forces what the reaches of numbers say; tells whether they leave no solution.
+fn look_at_reaches(
+    alloc: Global,
+    position: &Position,
+    forced: &mut [Option<u8>],
+) -> Result<bool, AllocError>
+    requires forced { AreForced position.now.puzzle.now position.now.partial.now forced.old }
+    ensures dead { IfOk result (λ dead. IsTrue dead → IsHopeless (question_of Nurikabe position.now.puzzle.now) position.now.partial.now) }
+    ensures forced { OnOk result (AreForced position.now.puzzle.now position.now.partial.now forced.new) }
+{
+    let open = places_open_to(alloc, position.partial, WALL)?;
+    let left = steps_left(alloc, position.puzzle, &open)?;
+    wall_far_cells(position, &left, forced);
+    let reaches = Regions::new(alloc, position.puzzle.size(), &open)?;
+    Ok(fill_reaches(position, &reaches.labels, &reaches.sizes, forced))
 }
 
 /// Forces walls where no number comes.
-fn wall_far_cells(puzzle: &Puzzle, _partial: &Partial, left: &[usize], forced: &mut [Option<u8>])
-    requires partial { IsPartial (question_of puzzle.now) _partial.now }
-    requires left { IsSpread puzzle.now (IsOpenTo _partial.now 1) left.now }
-    requires forced { AreForced puzzle.now _partial.now forced.old }
-    ensures { AreForced puzzle.now _partial.now forced.new }
+fn wall_far_cells(position: &Position, left: &[usize], forced: &mut [Option<u8>])
+    requires left { AreStepsLeft position.now.puzzle.now (IsOpenTo position.now.partial.now 1) left.now }
+    requires forced { AreForced position.now.puzzle.now position.now.partial.now forced.old }
+    ensures { AreForced position.now.puzzle.now position.now.partial.now forced.new }
 {
-    for cell in 0..puzzle.cells() {
+    for cell in 0..position.puzzle.cells() {
         if left[cell] == 0 {
             forced[cell] = Some(WALL);
         }
     }
 }
 
-/// Forces what the reaches of numbers say; tells whether they leave no solution.
-fn look_at_reaches(
-    alloc: Global,
-    puzzle: &Puzzle,
-    partial: &Partial,
-    forced: &mut [Option<u8>],
-) -> Result<bool, AllocError>
-    requires size { IsSize puzzle.now.size }
-    requires partial { IsPartial (question_of puzzle.now) partial.now }
-    requires forced { AreForced puzzle.now partial.now forced.old }
-    ensures dead { IfOk result (λ dead. IsTrue dead → IsHopeless (question_of puzzle.now) partial.now) }
-    ensures forced { OnOk result (AreForced puzzle.now partial.now forced.new) }
-{
-    let open = places_open_to(alloc, partial, WALL)?;
-    let left = spread(alloc, puzzle, &open)?;
-    wall_far_cells(puzzle, partial, &left, forced);
-    let reaches = Regions::new(alloc, puzzle.size(), &open)?;
-    Ok(fill_reaches(puzzle, partial, &reaches.labels, &reaches.sizes, forced))
-}
-
-/// Whether two walls can't be joined any more.
-fn are_walls_apart(alloc: Global, puzzle: &Puzzle, partial: &Partial) -> Result<bool, AllocError>
-    requires size { IsSize puzzle.now.size }
-    requires partial { IsPartial (question_of puzzle.now) partial.now }
-    ensures { IfOk result (λ apart. IsTrue apart → IsHopeless (question_of puzzle.now) partial.now) }
-{
-    let open = places_open_to(alloc, partial, WHITE)?;
-    let labels = regions(alloc, puzzle.size(), &open)?;
-    Ok(are_apart(partial, WALL, &labels))
-}
-
 /// Forces walls between groups of white cells with different numbers.
 fn part_groups(
-    puzzle: &Puzzle,
-    _partial: &Partial,
+    position: &Position,
     labels: &[Option<usize>],
     owners: &[Option<usize>],
     forced: &mut [Option<u8>],
 )
-    requires size { IsSize puzzle.now.size }
-    requires partial { IsPartial (question_of puzzle.now) _partial.now }
-    requires labels { AreComponents (cells puzzle.now.size) (Touch puzzle.now.size) (IsSetTo _partial.now 0) labels.now }
-    requires owners { AreOwners puzzle.now labels.now owners.now }
-    requires forced { AreForced puzzle.now _partial.now forced.old }
-    ensures { AreForced puzzle.now _partial.now forced.new }
+    requires labels { AreComponents (cells position.now.puzzle.now.size) (Touch position.now.puzzle.now.size)
+        (IsSetTo position.now.partial.now 0) labels.now }
+    requires owners { AreOwners position.now.puzzle.now labels.now owners.now }
+    requires forced { AreForced position.now.puzzle.now position.now.partial.now forced.old }
+    ensures { AreForced position.now.puzzle.now position.now.partial.now forced.new }
 {
-    for cell in 0..puzzle.cells() {
-        if is_between(puzzle.size(), labels, owners, cell) {
+    let size = position.puzzle.size();
+    for cell in 0..position.puzzle.cells() {
+        if is_between(size, labels, owners, cell) {
             forced[cell] = Some(WALL);
         }
     }
@@ -216,28 +213,25 @@ fn part_groups(
 
 /// Forces walls round full groups; tells whether a group is too large.
 fn close_groups(
-    puzzle: &Puzzle,
-    partial: &Partial,
+    position: &Position,
     labels: &[Option<usize>],
     sizes: &[usize],
     forced: &mut [Option<u8>],
 ) -> bool
-    requires size { IsSize puzzle.now.size }
-    requires partial { IsPartial (question_of puzzle.now) partial.now }
-    requires groups { AreRegions puzzle.now.size (IsSetTo partial.now 0) labels.now sizes.now }
-    requires forced { AreForced puzzle.now partial.now forced.old }
-    ensures dead { IsTrue result → IsHopeless (question_of puzzle.now) partial.now }
-    ensures forced { AreForced puzzle.now partial.now forced.new }
+    requires groups { AreRegions position.now.puzzle.now.size (IsSetTo position.now.partial.now 0) labels.now sizes.now }
+    requires forced { AreForced position.now.puzzle.now position.now.partial.now forced.old }
+    ensures dead { IsTrue result → IsHopeless (question_of Nurikabe position.now.puzzle.now) position.now.partial.now }
+    ensures forced { AreForced position.now.puzzle.now position.now.partial.now forced.new }
 {
-    for cell in 0..puzzle.cells() {
-        if let Clue::Number(given) = puzzle.clue(cell) {
+    for cell in 0..position.puzzle.cells() {
+        if let Clue::Number(given) = position.puzzle.clue(cell) {
             if let Some(label) = labels[cell] {
                 let size = sizes[label];
                 if size > usize::from(given) {
                     return true;
                 }
                 if size == usize::from(given) {
-                    force_walls_beside(puzzle, partial, labels, label, forced);
+                    force_walls_beside(position, labels, label, forced);
                 }
             }
         }
@@ -247,28 +241,25 @@ fn close_groups(
 
 /// Forces white cells where a number has no more room than it needs; tells whether one has too little.
 fn fill_reaches(
-    puzzle: &Puzzle,
-    partial: &Partial,
+    position: &Position,
     labels: &[Option<usize>],
     sizes: &[usize],
     forced: &mut [Option<u8>],
 ) -> bool
-    requires size { IsSize puzzle.now.size }
-    requires partial { IsPartial (question_of puzzle.now) partial.now }
-    requires reaches { AreRegions puzzle.now.size (IsOpenTo partial.now 1) labels.now sizes.now }
-    requires forced { AreForced puzzle.now partial.now forced.old }
-    ensures dead { IsTrue result → IsHopeless (question_of puzzle.now) partial.now }
-    ensures forced { AreForced puzzle.now partial.now forced.new }
+    requires reaches { AreRegions position.now.puzzle.now.size (IsOpenTo position.now.partial.now 1) labels.now sizes.now }
+    requires forced { AreForced position.now.puzzle.now position.now.partial.now forced.old }
+    ensures dead { IsTrue result → IsHopeless (question_of Nurikabe position.now.puzzle.now) position.now.partial.now }
+    ensures forced { AreForced position.now.puzzle.now position.now.partial.now forced.new }
 {
-    for cell in 0..puzzle.cells() {
-        if let Clue::Number(given) = puzzle.clue(cell) {
+    for cell in 0..position.puzzle.cells() {
+        if let Clue::Number(given) = position.puzzle.clue(cell) {
             if let Some(label) = labels[cell] {
                 let size = sizes[label];
                 if size < usize::from(given) {
                     return true;
                 }
                 if size == usize::from(given) {
-                    force_label(puzzle, partial, labels, label, WHITE, forced);
+                    force_label(position, labels, label, WHITE, forced);
                 }
             }
         }

@@ -4,13 +4,14 @@ ghost use Rattle.hall_grid.specs.Board.{cells, IsSize, Touch};
 ghost use Rattle.hall_grid.specs.Component.{AreComponents, IsLabelled};
 ghost use Rattle.hall_grid.specs.Reached.{IsMarked};
 ghost use Rattle.hall_solve.specs.Question.{Question, IsPartial, IsHopeless};
-ghost use Rattle.hall_nurikabe.specs.Tally.{AreCells};
-ghost use Rattle.hall_nurikabe.specs.Solving.{question_of};
+ghost use Rattle.hall_nurikabe.specs.Counts.{AreCells};
+ghost use Rattle.hall_grid.specs.declared.board.Kind.TheVariants.{Nurikabe};
+ghost use Rattle.hall_solve.specs.Puzzle.{question_of};
 ghost use Rattle.hall_nurikabe.specs.Forced.{AreForced, AreOwners, IsBeside, IsSetTo};
 ghost use Rattle.hall_nurikabe.specs.Exit.{AddsExit, Covers, KnowsExits, MarksGrowing, MarksRoots, MustGrow, NeedsMore};
 
+use crate::position::Position;
 use hall_grid::{Clue, Puzzle, Size, neighbours};
-use hall_solve::Partial;
 use std::alloc::{AllocError, Global};
 
 /// The open cells beside a region.
@@ -58,19 +59,18 @@ fn add_exit(size: Size, labels: &[Option<usize>], cell: usize, exits: &mut [Exit
 /// For each label the open cells beside the cells that have it.
 pub(crate) fn exits_of(
     alloc: Global,
-    size: Size,
-    partial: &Partial,
+    position: &Position,
     labels: &[Option<usize>],
 ) -> Result<Vec<Exits>, AllocError>
-    requires size { IsSize size }
-    requires exact { length labels.now ≡ cells size }
-    requires partial { length partial.now ≡ cells size }
+    requires exact { length labels.now ≡ cells position.now.puzzle.now.size }
     requires labels { AreCells labels.now }
-    ensures { IfOk result (λ exits. KnowsExits size partial.now labels.now (cells size) exits.items) }
+    ensures { IfOk result (λ exits. KnowsExits position.now.puzzle.now.size position.now.partial.now labels.now
+        (cells position.now.puzzle.now.size) exits.items) }
 {
+    let size = position.puzzle.size();
     let mut exits = vec![in alloc; Exits::Nowhere; labels.len()]?;
     for cell in 0..labels.len() {
-        if partial.get(cell).is_none() {
+        if position.partial.get(cell).is_none() {
             add_exit(size, labels, cell, &mut exits);
         }
     }
@@ -91,6 +91,14 @@ fn must_grow(puzzle: &Puzzle, owner: Option<usize>, size: usize) -> bool
     }
 }
 
+/// Whether some cell has the label: the one of its number has it then.
+fn is_root(labels: &[Option<usize>], label: usize) -> bool
+    requires { label < length labels.now }
+    ensures { IsTrue result → IsLabelled labels.now label label }
+{
+    labels[label] == Some(label)
+}
+
 /// Whether the label is that of a group of white cells that is no whole island.
 fn is_growing(
     puzzle: &Puzzle,
@@ -106,7 +114,7 @@ fn is_growing(
     ensures label { IsTrue result → IsLabelled labels.now label label }
     ensures more { IsTrue result → NeedsMore puzzle.now (slice_index_or owners.now label None) (slice_index sizes.now label) }
 {
-    labels[label] == Some(label) && must_grow(puzzle, owners[label], sizes[label])
+    is_root(labels, label) && must_grow(puzzle, owners[label], sizes[label])
 }
 
 /// The labels of groups of white cells that are no whole islands.
@@ -135,32 +143,33 @@ pub(crate) fn roots(alloc: Global, labels: &[Option<usize>]) -> Result<Vec<bool>
 {
     let mut marks = Vec::new(alloc);
     for label in 0..labels.len() {
-        marks.push(labels[label] == Some(label))?;
+        marks.push(is_root(labels, label))?;
     }
     Ok(marks)
 }
 
 /// Forces the value at the only exit of each marked label; tells whether one has no exit.
 pub(crate) fn force_exits(
-    puzzle: &Puzzle,
-    _partial: &Partial,
+    position: &Position,
     labels: &[Option<usize>],
     exits: &[Exits],
     value: u8,
     growing: &[bool],
     forced: &mut [Option<u8>],
 ) -> bool
-    requires partial { IsPartial (question_of puzzle.now) _partial.now }
-    requires labels { AreComponents (cells puzzle.now.size) (Touch puzzle.now.size) (IsSetTo _partial.now value) labels.now }
-    requires exits { KnowsExits puzzle.now.size _partial.now labels.now (cells puzzle.now.size) exits.now }
+    requires labels { AreComponents (cells position.now.puzzle.now.size) (Touch position.now.puzzle.now.size)
+        (IsSetTo position.now.partial.now value) labels.now }
+    requires exits { KnowsExits position.now.puzzle.now.size position.now.partial.now labels.now
+        (cells position.now.puzzle.now.size) exits.now }
     requires value { value < 2 }
-    requires marks { length growing.now ≡ cells puzzle.now.size }
-    requires growing { (label : ℕ) → IsMarked growing.now label → MustGrow puzzle.now _partial.now value labels.now label }
-    requires forced { AreForced puzzle.now _partial.now forced.old }
-    ensures dead { IsTrue result → IsHopeless (question_of puzzle.now) _partial.now }
-    ensures forced { AreForced puzzle.now _partial.now forced.new }
+    requires marks { length growing.now ≡ cells position.now.puzzle.now.size }
+    requires growing { (label : ℕ) → IsMarked growing.now label
+        → MustGrow position.now.puzzle.now position.now.partial.now value labels.now label }
+    requires forced { AreForced position.now.puzzle.now position.now.partial.now forced.old }
+    ensures dead { IsTrue result → IsHopeless (question_of Nurikabe position.now.puzzle.now) position.now.partial.now }
+    ensures forced { AreForced position.now.puzzle.now position.now.partial.now forced.new }
 {
-    for label in 0..puzzle.cells() {
+    for label in 0..position.puzzle.cells() {
         if growing[label] {
             match exits[label] {
                 Exits::Nowhere => return true,

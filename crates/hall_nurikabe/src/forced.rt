@@ -4,10 +4,12 @@ ghost use Rattle.hall_grid.specs.Board.{cells, IsSize};
 ghost use Rattle.hall_grid.specs.Component.{IsLabelled};
 ghost use Rattle.hall_solve.specs.Question.{Question, IsPartial};
 ghost use Rattle.hall_solve.specs.Deduction.{HasAlways, IsSound};
-ghost use Rattle.hall_nurikabe.specs.Solving.{question_of, with_forced};
-ghost use Rattle.hall_nurikabe.specs.Forced.{AreForced, IsBeside};
+ghost use Rattle.hall_grid.specs.declared.board.Kind.TheVariants.{Nurikabe};
+ghost use Rattle.hall_solve.specs.Puzzle.{question_of};
+ghost use Rattle.hall_nurikabe.specs.Forced.{AreForced, IsBeside, with_forced};
 
 use crate::judge::WALL;
+use crate::position::Position;
 use hall_grid::{Puzzle, Size, neighbours};
 use hall_solve::{Finding, Look, Partial};
 use std::alloc::{AllocError, Global};
@@ -44,20 +46,20 @@ impl Look for Forced<'_> {
 
 /// Forces the value at each cell that has the label.
 pub(crate) fn force_label(
-    puzzle: &Puzzle,
-    _partial: &Partial,
+    position: &Position,
     labels: &[Option<usize>],
     label: usize,
     value: u8,
     forced: &mut [Option<u8>],
 )
-    requires labels { length labels.now ≡ cells puzzle.now.size }
+    requires labels { length labels.now ≡ cells position.now.puzzle.now.size }
     requires value { value < 2 }
-    requires always { (cell : ℕ) → IsLabelled labels.now cell label → HasAlways (question_of puzzle.now) _partial.now cell value }
-    requires forced { AreForced puzzle.now _partial.now forced.old }
-    ensures { AreForced puzzle.now _partial.now forced.new }
+    requires always { (cell : ℕ) → IsLabelled labels.now cell label
+        → HasAlways (question_of Nurikabe position.now.puzzle.now) position.now.partial.now cell value }
+    requires forced { AreForced position.now.puzzle.now position.now.partial.now forced.old }
+    ensures { AreForced position.now.puzzle.now position.now.partial.now forced.new }
 {
-    for cell in 0..puzzle.cells() {
+    for cell in 0..position.puzzle.cells() {
         if labels[cell] == Some(label) {
             forced[cell] = Some(value);
         }
@@ -83,21 +85,21 @@ fn is_beside(size: Size, labels: &[Option<usize>], cell: usize, label: usize) ->
 
 /// Forces walls at the cells without a label that stand beside one with the label.
 pub(crate) fn force_walls_beside(
-    puzzle: &Puzzle,
-    _partial: &Partial,
+    position: &Position,
     labels: &[Option<usize>],
     label: usize,
     forced: &mut [Option<u8>],
 )
-    requires size { IsSize puzzle.now.size }
-    requires labels { length labels.now ≡ cells puzzle.now.size }
-    requires always { (cell : ℕ) → cell < cells puzzle.now.size → slice_index_or labels.now cell None ≡ None → IsBeside puzzle.now.size labels.now cell label
-        → HasAlways (question_of puzzle.now) _partial.now cell 1 }
-    requires forced { AreForced puzzle.now _partial.now forced.old }
-    ensures { AreForced puzzle.now _partial.now forced.new }
+    requires labels { length labels.now ≡ cells position.now.puzzle.now.size }
+    requires always { (cell : ℕ) → cell < cells position.now.puzzle.now.size → slice_index_or labels.now cell None ≡ None
+        → IsBeside position.now.puzzle.now.size labels.now cell label
+        → HasAlways (question_of Nurikabe position.now.puzzle.now) position.now.partial.now cell 1 }
+    requires forced { AreForced position.now.puzzle.now position.now.partial.now forced.old }
+    ensures { AreForced position.now.puzzle.now position.now.partial.now forced.new }
 {
-    for cell in 0..puzzle.cells() {
-        if labels[cell].is_none() && is_beside(puzzle.size(), labels, cell, label) {
+    let size = position.puzzle.size();
+    for cell in 0..position.puzzle.cells() {
+        if labels[cell].is_none() && is_beside(size, labels, cell, label) {
             forced[cell] = Some(WALL);
         }
     }

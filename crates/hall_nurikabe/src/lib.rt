@@ -2,21 +2,18 @@
 #![tactic(auto)]
 
 mod blocks;
+mod colour;
 mod deduce;
 mod exits;
 mod forced;
 mod givens;
 mod island;
 mod judge;
+mod position;
 mod region;
 mod rules;
-mod spread;
+mod steps;
 
 pub use givens::start;
 pub use judge::broken;
 pub use rules::NurikabeRules;
-
-#[cfg(test)]
-mod search_tests;
-#[cfg(test)]
-mod tests;

@@ -4,11 +4,11 @@ ghost use Rattle.hall_grid.specs.Board.{cells, IsSize};
 ghost use Rattle.hall_grid.specs.Component.{IsLabelled};
 ghost use Rattle.hall_grid.specs.Reached.{IsMarked};
 ghost use Rattle.hall_solve.specs.Question.{Question, IsPartial};
-ghost use Rattle.hall_nurikabe.specs.Tally.{AreCells};
-ghost use Rattle.hall_nurikabe.specs.Forced.{AreApart, AreOwners, AreRegions, HaveTwoOwners, IsBetween, IsOpenTo, IsSetTo, MarksSet};
+ghost use Rattle.hall_nurikabe.specs.Counts.{AreCells};
+ghost use Rattle.hall_nurikabe.specs.Forced.{AreApart, AreOwners, AreRegions, HaveTwoOwners, IsBetween, IsOpenTo, IsSetTo};
+ghost use Rattle.hall_nurikabe.specs.Marks.{MarksWhere};
 
-use crate::blocks::has;
-use crate::island::{is_number, tally};
+use crate::island::{count_by_label, is_number};
 use hall_grid::{Puzzle, Size, neighbours, regions};
 use hall_solve::Partial;
 use std::alloc::{AllocError, Global};
@@ -26,11 +26,11 @@ pub(crate) fn places_set_to(
     partial: &Partial,
     value: u8,
 ) -> Result<Vec<bool>, AllocError>
-    ensures { IfOk result (λ marks. MarksSet (IsSetTo partial.now value) (length partial.now) marks.items) }
+    ensures { IfOk result (λ marks. MarksWhere (IsSetTo partial.now value) (length partial.now) marks.items) }
 {
     let mut marks = Vec::new(alloc);
     for place in 0..partial.len() {
-        marks.push(has(partial, place, value))?;
+        marks.push(partial.get(place) == Some(value))?;
     }
     Ok(marks)
 }
@@ -41,11 +41,11 @@ pub(crate) fn places_open_to(
     partial: &Partial,
     value: u8,
 ) -> Result<Vec<bool>, AllocError>
-    ensures { IfOk result (λ marks. MarksSet (IsOpenTo partial.now value) (length partial.now) marks.items) }
+    ensures { IfOk result (λ marks. MarksWhere (IsOpenTo partial.now value) (length partial.now) marks.items) }
 {
     let mut marks = Vec::new(alloc);
     for place in 0..partial.len() {
-        marks.push(!has(partial, place, value))?;
+        marks.push(partial.get(place) != Some(value))?;
     }
     Ok(marks)
 }
@@ -58,7 +58,7 @@ impl Regions {
         ensures { IfOk result (λ r. AreRegions size (IsMarked marks.now) r.labels.items r.sizes.items) }
     {
         let labels = regions(alloc, size, marks)?;
-        let sizes = tally(alloc, &labels, marks)?;
+        let sizes = count_by_label(alloc, &labels, marks)?;
         Ok(Regions { labels, sizes })
     }
 }
@@ -139,7 +139,7 @@ pub(crate) fn are_apart(partial: &Partial, value: u8, labels: &[Option<usize>]) 
 {
     let mut first = None;
     for place in 0..labels.len() {
-        if has(partial, place, value) {
+        if partial.get(place) == Some(value) {
             if let Some(label) = labels[place] {
                 match first {
                     Some(other) if other != label => return true,

@@ -17,7 +17,7 @@ pub struct NurikabeRules<'a> {
 }
 
 impl<'a> Model for NurikabeRules<'a> {
-    ghost use Rattle.hall_nurikabe.specs.Solving.{Progress};
+    ghost use Rattle.hall_solve.specs.Puzzle.{Progress};
 
     ghost Value = { Progress };
 
@@ -30,7 +30,7 @@ impl<'a> Model for NurikabeRules<'a> {
 }
 
 impl<'a> NurikabeRules<'a> {
-    ghost use Rattle.hall_nurikabe.specs.Solving.{begun};
+    ghost use Rattle.hall_solve.specs.Puzzle.{begun};
 
     /// The rules of the puzzle, with both counts 0.
     pub fn new(puzzle: &'a Puzzle) -> NurikabeRules<'a>
@@ -46,9 +46,10 @@ impl<'a> NurikabeRules<'a> {
 }
 
 impl<'a> Rules for NurikabeRules<'a> {
-    ghost use Rattle.hall_nurikabe.specs.Solving.{question_of};
+    ghost use Rattle.hall_grid.specs.declared.board.Kind.TheVariants.{Nurikabe};
+    ghost use Rattle.hall_solve.specs.Puzzle.{question_of};
 
-    ghost question = { λ r. question_of r.board };
+    ghost question = { λ r. question_of Nurikabe r.board };
 
     ghost visits = { λ r. r.visits };
 

@@ -1,11 +1,11 @@
-use Rattle.hall_nurikabe.proofs.Regioning.{AreRegions-members}
-use Rattle.hall_nurikabe.proofs.Distance.{IsSpread-members}
+use Rattle.hall_nurikabe.proofs.AreRegions.{AreRegions-members}
+use Rattle.hall_nurikabe.proofs.AreStepsLeft.{AreStepsLeft-members}
 use Rattle.hall_nurikabe.proofs.deduce.look_at_reaches.Goals as goal
 
 pub wall_far_cells-requires-clause-left : goal.wall_far_cells-requires-clause-left
 wall_far_cells-requires-clause-left c =
     rw c.deref-2.ensures.value
-    (IsSpread-members _ _ _ _ c.in_ok-open.ensures.marked (rw c.deref.ensures.value at c.in_ok-left.ensures))
+    (AreStepsLeft-members _ _ _ _ c.in_ok-open.ensures.marked (rw c.deref.ensures.value at c.in_ok-left.ensures))
 
 pub fill_reaches-requires-clause-reaches : goal.fill_reaches-requires-clause-reaches
 fill_reaches-requires-clause-reaches c =

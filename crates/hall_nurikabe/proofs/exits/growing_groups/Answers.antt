@@ -1,15 +1,9 @@
-use Rattle.std.proofs.Common.{◌≡◌, ℕ, zero, suc, ◌⊎◌, ◌++◌, Bool, true, None, List, [], ◌∷◌, length, get_or, refl, subst, inl, inr, arith}
+use Rattle.std.proofs.Common.{◌≡◌, None, get_or, subst, inl, inr, arith}
 use Rattle.std.proofs.lemmas.List.{length_push}
 use Rattle.hall_grid.specs.Component.{IsLabelled}
-use Rattle.hall_grid.specs.Reached.{IsMarked}
 use Rattle.hall_nurikabe.specs.Exit.{NeedsMore}
+use Rattle.hall_nurikabe.proofs.Marks.{marked_push}
 use Rattle.hall_nurikabe.proofs.exits.growing_groups.Goals as goal
-
-marked_push : (marks : List Bool) (b : Bool) (i : ℕ) → IsMarked (marks ++ b ∷ []) i → IsMarked marks i ⊎ ((i ≡ length marks) × (b ≡ true))
-marked_push [] b zero h = inr (refl, h)
-marked_push [] b (suc i) h = absurd (cc)
-marked_push (m ∷ marks) b zero h = inl h
-marked_push (m ∷ marks) b (suc i) h = elim (marked_push marks b i h) [ inl k ↦ inl k | inr k ↦ inr (let e = k.0 in omega arith, k.1) ]
 
 pub loop-label-preserved : goal.loop-label-preserved
 loop-label-preserved c =

@@ -1,6 +1,8 @@
-use Rattle.std.proofs.Common.{◌≡◌, true, false, arith}
-use Rattle.hall_nurikabe.specs.Solving.{SetsGivens}
-use Rattle.hall_nurikabe.proofs.Solutions.{Begun-skip, Begun-set, SetsGivens-from_Begun, IsPartial-from_SetsGivens, AllExtend-from_SetsGivens, numbered_clue}
+use Rattle.std.proofs.Common.{◌≡◌, true, false, sym, subst, arith}
+use Rattle.hall_grid.specs.declared.board.Kind.TheVariants.{Nurikabe}
+use Rattle.hall_solve.specs.Puzzle.{question_of, start_of, AllExtend}
+use Rattle.hall_solve.specs.Question.{IsPartial}
+use Rattle.hall_nurikabe.proofs.Begun.{Begun-skip, Begun-set, start_is, IsPartial-start, AllExtend-start}
 use Rattle.hall_nurikabe.proofs.givens.start.Goals as goal
 use Rattle.hall_nurikabe.proofs.givens.start.Goals.{then-is_number, else-is_number}
 
@@ -10,27 +12,28 @@ loop-cell-preserved c =
     elim c.if-is_number.branch [
       | then-is_number w ↦
           rw (w.partial-is, w.set.ensures)
-          (Begun-set c.args.puzzle.now c.loop-cell.partial c.loop-cell.cell (omega (arith, c.cells-cell-end.ensures.cells))
-          ((numbered_clue c.args.puzzle.now c.loop-cell.cell c.clue.result c.clue.ensures).0 (c.is_number.ensures.0 w.if-is_number.true)) c.loop-cell.invariant)
+          (Begun-set c.args.puzzle.now c.loop-cell.partial c.loop-cell.cell c.clue.result c.clue.ensures (c.is_number.ensures.0 w.if-is_number.true)
+          (omega (arith, c.cells-cell-end.ensures.cells)) c.loop-cell.invariant)
       | else-is_number w ↦
           rw w.partial-is
-          (Begun-skip c.args.puzzle.now c.loop-cell.partial c.loop-cell.cell (λ h.
-          let yes : c.is_number.result ≡ true = c.is_number.ensures.1 ((numbered_clue c.args.puzzle.now c.loop-cell.cell c.clue.result c.clue.ensures).1 h) in
+          (Begun-skip c.args.puzzle.now c.loop-cell.partial c.loop-cell.cell c.clue.result c.clue.ensures (λ h.
+          let yes : c.is_number.result ≡ true = c.is_number.ensures.1 h in
           let no : c.is_number.result ≡ false = w.if-is_number.false in
           absurd (cc)) c.loop-cell.invariant)
     ]
 
-given : (c : goal.After-loop-cell) → SetsGivens c.args.puzzle.now c.loop-cell.partial
-given c =
-    let whole = c.cells-cell-end.ensures.board.clues in
+is : (c : goal.After-loop-cell) → c.loop-cell.partial ≡ start_of Nurikabe c.args.puzzle.now
+is c =
     let all = c.cells-cell-end.ensures.cells in
-    SetsGivens-from_Begun _ _ c.loop-cell.cell (omega arith) c.loop-cell.invariant
+    start_is _ _ c.loop-cell.cell c.cells-cell-end.ensures.board.clues (omega arith) c.loop-cell.invariant
 
 pub returns-clause-givens : goal.returns-clause-givens
-returns-clause-givens c = given c
+returns-clause-givens c = is c
 
 pub returns-clause-partial : goal.returns-clause-partial
-returns-clause-partial c = IsPartial-from_SetsGivens _ _ (given c)
+returns-clause-partial c =
+    subst (IsPartial (question_of Nurikabe c.args.puzzle.now)) (sym (is c)) (IsPartial-start c.args.puzzle.now c.cells-cell-end.ensures.board.clues)
 
 pub returns-clause-solutions : goal.returns-clause-solutions
-returns-clause-solutions c = AllExtend-from_SetsGivens _ _ c.cells-cell-end.ensures.board.clues (given c)
+returns-clause-solutions c =
+    subst (AllExtend Nurikabe c.args.puzzle.now) (sym (is c)) (AllExtend-start c.args.puzzle.now c.requires c.cells-cell-end.ensures.board.clues)

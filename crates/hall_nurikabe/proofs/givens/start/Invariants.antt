@@ -1,4 +1,4 @@
-use Rattle.hall_nurikabe.proofs.Solutions.{Begun}
+use Rattle.hall_nurikabe.proofs.Begun.{Begun}
 use Rattle.hall_nurikabe.proofs.givens.start.Given as goal
 
 abbrev pub invariant-loop-cell : goal.invariant-loop-cell

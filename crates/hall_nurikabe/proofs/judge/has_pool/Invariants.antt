@@ -1,5 +1,5 @@
 use Rattle.std.proofs.Common.{ℕ, ◌<◌}
-use Rattle.hall_nurikabe.specs.Tally.{IsPoolAt}
+use Rattle.hall_nurikabe.specs.Block.{IsPoolAt}
 use Rattle.hall_nurikabe.proofs.judge.has_pool.Given as goal
 
 abbrev pub invariant-loop-cell : goal.invariant-loop-cell

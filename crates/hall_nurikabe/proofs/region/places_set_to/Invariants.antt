@@ -1,11 +1,6 @@
-use Rattle.std.proofs.Common.{ℕ, ◌<◌, ◌≡◌, length}
-use Rattle.std.specs.Prelude.{◌↔◌}
-use Rattle.hall_grid.specs.Reached.{IsMarked}
 use Rattle.hall_nurikabe.specs.Forced.{IsSetTo}
+use Rattle.hall_nurikabe.proofs.Marks.{MarksBelow}
 use Rattle.hall_nurikabe.proofs.region.places_set_to.Given as goal
 
 abbrev pub invariant-loop-place : goal.invariant-loop-place
-invariant-loop-place l = record {
-  exact : length l.marks.items ≡ l.place;
-  marked : (cell : ℕ) → cell < l.place → IsMarked l.marks.items cell ↔ IsSetTo l.partial l.value cell;
-}
+invariant-loop-place l = MarksBelow (IsSetTo l.partial l.value) l.place l.marks.items
