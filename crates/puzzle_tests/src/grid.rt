@@ -1,5 +1,7 @@
-use hall_grid::{Broken, Counted, Rule, Size, TextFault};
-use hall_grid::{dot_ends, law_texts, neighbours, parse_answer, parse_puzzle, reach, regions, sides, write_answer, write_puzzle};
+use hall_grid::{
+    Broken, Counted, Rule, Size, TextFault, dot_ends, law_texts, neighbours, parse_answer,
+    parse_puzzle, reach, regions, sides, write_answer, write_puzzle,
+};
 use std::alloc::Global;
 use std::io;
 use std::io::{Read, Write};
@@ -25,7 +27,10 @@ const TEXTS: [(&str, &str); 29] = [
     ("slither/3/1/0i", "slither/3/1/a"),
     ("sudoku/9/9/", "sudoku/9/9/zzzzg"),
     ("sudoku/9/9", "sudoku/9/9/zzzzg"),
-    ("https://puzz.link/p?sudoku/4/4/123434122143432g/", "sudoku/4/4/123434122143432g"),
+    (
+        "https://puzz.link/p?sudoku/4/4/123434122143432g/",
+        "sudoku/4/4/123434122143432g",
+    ),
     ("sudoku/09/09//", "sudoku/9/9/zzzzg"),
     ("sudoku/9/9/-05", "sudoku/9/9/5zzzz"),
     ("sudoku/16/16/-10", "sudoku/16/16/-10zzzzzzzzzzzzu"),
@@ -36,9 +41,15 @@ const TEXTS: [(&str, &str); 29] = [
     ("nurikabe/50/1/", "nurikabe/50/1/zzp"),
     ("nurikabe/41/1/zz", "nurikabe/41/1/zzg"),
     ("slither/3/1/.", "slither/3/1/.h"),
-    ("slither/50/20", "slither/50/20/zzzzzzzzzzzzzzzzzzzzzzzzzzzzzzzzzzzzzzzzzzzzzzzzzz"),
+    (
+        "slither/50/20",
+        "slither/50/20/zzzzzzzzzzzzzzzzzzzzzzzzzzzzzzzzzzzzzzzzzzzzzzzzzz",
+    ),
     ("sudoku/6/6/zv", "sudoku/6/6/zv"),
-    ("sudoku/16/16/-10zzzzzzzzzzzzu", "sudoku/16/16/-10zzzzzzzzzzzzu"),
+    (
+        "sudoku/16/16/-10zzzzzzzzzzzzu",
+        "sudoku/16/16/-10zzzzzzzzzzzzu",
+    ),
     ("nurikabe/2/2/1i", "nurikabe/2/2/1i"),
     ("nurikabe/2/1/.g", "nurikabe/2/1/.g"),
     ("nurikabe/1/1/+fff", "nurikabe/1/1/+fff"),
@@ -190,7 +201,10 @@ fn joins_by_sides_alone(rt: HostRuntime) -> Result<(), Fail> {
     // Cells 0 and 4 meet at a corner, and so do 4 and 2.
     let allowed = [true, false, true, false, true, true];
     let marks = reach(rt.alloc(), size, 4, &allowed)?;
-    assert_eq!(rt; marks.as_slice(), [false, false, true, false, true, true].as_slice());
+    assert_eq!(rt;
+        marks.as_slice(),
+        [false, false, true, false, true, true].as_slice()
+    );
     let labels = regions(rt.alloc(), size, &allowed)?;
     assert_eq!(rt;
         labels.as_slice(),

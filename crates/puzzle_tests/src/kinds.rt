@@ -134,20 +134,28 @@ fn value_of(kind: Kind, letter: u8) -> Option<u8> {
     }
 }
 
+/// Sets the place where it is open and may have the value.
+fn set_place<R: Rules>(rules: &R, partial: &mut Partial, place: usize, value: u8)
+    requires { IsPartial (R.question rules.now) partial.old }
+    ensures { IsPartial (R.question rules.now) partial.new }
+{
+    if place < partial.len() && partial.get(place).is_none() && value < rules.values() {
+        partial.set(place, value);
+    }
+}
+
 /// Sets the open places whose letters say a value.
 fn set_places<R: Rules>(rules: &R, partial: &mut Partial, kind: Kind, text: &[u8])
     requires { IsPartial (R.question rules.now) partial.old }
     ensures { IsPartial (R.question rules.now) partial.new }
 {
-    let mut place = 0;
+    let mut place: usize = 0;
     for letter in text {
         if let Some(value) = value_of(kind, *letter) {
-            if place < rules.cells() && value < rules.values() && partial.get(place).is_none() {
-                partial.set(place, value);
-            }
+            set_place(rules, partial, place, value);
         }
-        if *letter != b'/' && place < rules.cells() {
-            place += 1;
+        if *letter != b'/' {
+            place = place.wrapping_add(1);
         }
     }
 }
@@ -186,15 +194,36 @@ fn visited(
     match kind {
         Kind::Sudoku => {
             let rules = SudokuRules::new(alloc, puzzle)?;
-            visit_fresh(alloc, rules, hall_sudoku::start(alloc, puzzle)?, kind, text, visits)
+            visit_fresh(
+                alloc,
+                rules,
+                hall_sudoku::start(alloc, puzzle)?,
+                kind,
+                text,
+                visits,
+            )
         }
         Kind::Slither => {
             let rules = SlitherRules::new(puzzle);
-            visit_fresh(alloc, rules, hall_slither::start(alloc, puzzle)?, kind, text, visits)
+            visit_fresh(
+                alloc,
+                rules,
+                hall_slither::start(alloc, puzzle)?,
+                kind,
+                text,
+                visits,
+            )
         }
         Kind::Nurikabe => {
             let rules = NurikabeRules::new(puzzle);
-            visit_fresh(alloc, rules, hall_nurikabe::start(alloc, puzzle)?, kind, text, visits)
+            visit_fresh(
+                alloc,
+                rules,
+                hall_nurikabe::start(alloc, puzzle)?,
+                kind,
+                text,
+                visits,
+            )
         }
     }
 }
@@ -202,13 +231,11 @@ fn visited(
 /// Whether the board has exactly the values that the letters say.
 fn shows(kind: Kind, partial: &Partial, text: &[u8]) -> bool {
     let mut place = 0;
-    for letter in text {
-        if *letter != b'/' {
-            if place >= partial.len() || partial.get(place) != value_of(kind, *letter) {
-                return false;
-            }
-            place += 1;
+    for letter in text.iter().filter(|it| **it != b'/') {
+        if place >= partial.len() || partial.get(place) != value_of(kind, *letter) {
+            return false;
         }
+        place += 1;
     }
     place == partial.len()
 }

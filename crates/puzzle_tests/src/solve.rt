@@ -3,7 +3,9 @@ ghost use Rattle.std.specs.Prelude.{◌≡◌, ℕ, ◌+◌, ◌<◌, ◌≤◌,
 ghost use Rattle.hall_solve.specs.Question.{Question};
 
 use hall_grid::Filling;
-use hall_solve::{Deduce, Finding, Look, Outcome, Partial, Pass, Rules, Step, search, settle, sweep};
+use hall_solve::{
+    Deduce, Finding, Look, Outcome, Partial, Pass, Rules, Step, search, settle, sweep,
+};
 use std::alloc::{AllocError, Global};
 use std::test::Fail;
 
@@ -147,8 +149,16 @@ fn wastes_no_visits(rt: HostRuntime) -> Result<(), Fail> {
         let mut rules = make_kind(cells, values, limit, deduces);
         let start = Partial::new(rt.alloc(), cells)?;
         let outcome = search(rt.alloc(), &mut rules, &start, budget)?;
-        assert_eq!(rt; shown(&outcome), answer, "{cells} {values} {limit} {budget}");
-        assert_eq!(rt; (rules.visits(), rules.asked()), (visits, asked), "{cells} {values} {limit} {budget}");
+        assert_eq!(rt;
+            shown(&outcome),
+            answer,
+            "{cells} {values} {limit} {budget}"
+        );
+        assert_eq!(rt;
+            (rules.visits(), rules.asked()),
+            (visits, asked),
+            "{cells} {values} {limit} {budget}"
+        );
     }
     Ok(())
 }
