@@ -1,9 +1,9 @@
-"""Refuses each allocation of the built program in turn, on the examples.
+"""Refuses each allocation of the built program in turn, on the examples: of a long replay the first 2,000, and then each 97th.
 
 A command then writes what it writes with ample memory, or nothing and `fault` with status 3. A replay may also answer one request by 503 in its place: every other
 reply is that of a replay without this request, so the world was left as it was.
 
-    python3 bench/refusals.py [--program PATH] [--most N]
+    python3 bench/refusals.py [--program PATH] [--only NAME] [--most N]
 """
 import argparse
 import os
@@ -53,9 +53,10 @@ def try_example(program, name, words, text, most):
     """The count of refusals, and those with a wrong answer."""
     usual, _ = program.run(words, text)
     asked = records(text) if words[0] == "replay" else []
-    good, kept, bad, count = {usual, (b"", 3)}, {}, [], 0
+    good, kept, bad, count, refused = {usual, (b"", 3)}, {}, [], 0, 0
     while count < most:
-        got, was_refused = program.run(words, text, count + 1)
+        refused += 1 if count < 2_000 else 97
+        got, was_refused = program.run(words, text, refused)
         if not was_refused:
             break
         count += 1
@@ -68,13 +69,14 @@ def try_example(program, name, words, text, most):
                 kept[place] = without(program, words, asked, place)
             if got == kept[place]:
                 continue
-        bad.append((count, got))
+        bad.append((refused, got))
     return count, bad
 
 
 def main():
     parser = argparse.ArgumentParser(description=__doc__)
     parser.add_argument("--program", default=f"{HERE}/../crates/hall/out/hall")
+    parser.add_argument("--only", default="")
     parser.add_argument("--most", type=int, default=20_000)
     args = parser.parse_args()
     wrong = 0
@@ -83,6 +85,8 @@ def main():
         folder = f"{HERE}/../examples"
         for file in sorted(it for it in os.listdir(folder) if it.endswith(".txt")):
             name = file[:-4]
+            if args.only not in ("", name):
+                continue
             words = open(f"{folder}/{name}.args", encoding="utf-8").read().split()
             with open(f"{folder}/{file}", "rb") as it:
                 count, bad = try_example(program, name, words, it.read(), args.most)

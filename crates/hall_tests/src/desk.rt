@@ -64,31 +64,45 @@ fn right_number(reply: &Reply) -> Option<u64> {
     }
 }
 
+/// A request too early, two answers, and the first one again.
+fn requests(rt: &(impl AllocGlobal + Abort)) -> Vec<(Moment, Request)> {
+    let early = number(rt, 1_777_712_399);
+    let late = number(rt, 1_777_712_400);
+    let requests = [
+        (early, answer(rt, "k1")),
+        (late, answer(rt, "k1")),
+        (late, answer(rt, "k2")),
+        (early, answer(rt, "k1")),
+    ];
+    Vec::from_array(rt.alloc(), requests).expect(rt, "memory")
+}
+
+/// Certifies the puzzle by a plan and its commit, and says whether both are answered so.
+fn certified(rt: &(impl AllocGlobal + Abort), desk: &mut Desk, t: Moment) -> bool {
+    let request = certificate(rt);
+    let plan = desk.plan(rt.alloc(), t, &request).expect(rt, "plan");
+    let is_planned = matches!(plan.reply(), Reply::Certified(StateName::One));
+    let reply = desk.commit(rt.alloc(), plan).expect(rt, "commit");
+    is_planned && matches!(&reply, Reply::Certified(StateName::One))
+}
+
+/// Releases the round by a step, and says whether it is answered so.
+fn released(rt: &(impl AllocGlobal + Abort), desk: &mut Desk, t: Moment) -> bool {
+    let reply = desk.step(rt.alloc(), t, &release(rt));
+    matches!(&reply, Reply::Released(_))
+}
+
 #[test]
 fn plans_are_committed_and_lists_run(rt: HostRuntime) {
-    let t: Moment = number(&rt, 1_777_712_399);
+    let t = number(&rt, 1_777_712_399);
     let mut desk = Desk::new(rt.alloc()).expect(&rt, "desk");
-    let plan = desk
-        .plan(rt.alloc(), t, &certificate(&rt))
-        .expect(&rt, "plan");
-    assert!(rt; matches!(plan.reply(), Reply::Certified(StateName::One)));
-    let reply = desk.commit(rt.alloc(), plan).expect(&rt, "commit");
-    assert!(rt; matches!(&reply, Reply::Certified(StateName::One)));
-    let reply = desk.step(rt.alloc(), t, &release(&rt));
-    assert!(rt; matches!(&reply, Reply::Released(_)));
-    let later: Moment = number(&rt, 1_777_712_400);
-    let requests = [
-        (t, answer(&rt, "k1")),
-        (later, answer(&rt, "k1")),
-        (later, answer(&rt, "k2")),
-        (t, answer(&rt, "k1")),
-    ];
-    let replies = desk.run(rt.alloc(), &requests).expect(&rt, "run");
-    assert_eq!(rt; replies.len(), 4);
-    assert!(rt; matches!(&replies[0], Reply::Denied(7)));
-    assert_eq!(rt; right_number(&replies[1]), Some(1));
-    assert_eq!(rt; right_number(&replies[2]), Some(2));
-    assert_eq!(rt; right_number(&replies[3]), Some(1));
+    assert!(rt; certified(&rt, &mut desk, t));
+    assert!(rt; released(&rt, &mut desk, t));
+    let replies = desk.run(rt.alloc(), &requests(&rt)).expect(&rt, "run");
+    assert!(rt; replies.len() == 4);
+    for (reply, number) in replies.iter().zip([None, Some(1), Some(2), Some(1)]) {
+        assert!(rt; right_number(reply) == number);
+    }
 }
 
 fn puzzle(rt: &(impl AllocGlobal + Abort), text: &str) -> Puzzle {

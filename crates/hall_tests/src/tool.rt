@@ -2,8 +2,10 @@
 use hall_desk::Desk;
 use hall_grid::Counted;
 use hall_tool::{ReplayFault, ToolFault, judge_run, replay, solve_run};
+use std::alloc::{AllocGlobal, Global};
 use std::io;
 use std::io::{ErrorKind, Read, Write};
+use std::process::Abort;
 use std::test::Fail;
 
 /// Gives its bytes one at a time, and fails at call `fails_at`, counted from 0.
@@ -183,15 +185,25 @@ const COMMANDS: [Ended; 34] = [
     ),
 ];
 
+/// Searches with the budget, or judges where there is none.
+fn command<R: Read, W: Write>(
+    alloc: Global,
+    reader: &mut Counted<R>,
+    writer: &mut Counted<W>,
+    budget: Option<u64>,
+) -> Result<u8, ToolFault> {
+    match budget {
+        Some(budget) => solve_run(alloc, reader, writer, budget),
+        None => judge_run(alloc, reader, writer),
+    }
+}
+
 #[test]
 fn commands_write_a_line_and_end(rt: HostRuntime) {
     for (place, (input, budget, line, status)) in COMMANDS.iter().enumerate() {
         let mut reader = Counted::new(*input);
         let mut writer = Counted::new(Vec::new(rt.alloc()));
-        let ended = match *budget {
-            Some(budget) => solve_run(rt.alloc(), &mut reader, &mut writer, budget),
-            None => judge_run(rt.alloc(), &mut reader, &mut writer),
-        };
+        let ended = command(rt.alloc(), &mut reader, &mut writer, *budget);
         assert!(rt; ended == Ok(*status), "command {place}");
         assert!(rt; writer.into_inner().as_slice() == *line, "command {place}");
     }
@@ -204,7 +216,7 @@ fn an_input_has_8192_bytes_and_no_more(rt: HostRuntime) -> Result<(), Fail> {
         input.resize(size, b'1')?;
         let mut reader = Counted::new(input.as_slice());
         let mut writer = Counted::new(Vec::new(rt.alloc()));
-        assert!(rt; judge_run(rt.alloc(), &mut reader, &mut writer) == Ok(status));
+        assert!(rt; command(rt.alloc(), &mut reader, &mut writer, None) == Ok(status));
     }
     Ok(())
 }
@@ -215,7 +227,7 @@ fn a_command_ends_at_a_device_fault(rt: HostRuntime) {
         for error in [ErrorKind::Other, ErrorKind::Interrupted] {
             let mut reader = failing_reader(RIGHT, fails_at, error);
             let mut writer = Counted::new(Vec::new(rt.alloc()));
-            let ended = judge_run(rt.alloc(), &mut reader, &mut writer);
+            let ended = command(rt.alloc(), &mut reader, &mut writer, None);
             assert!(rt; ended == Err(ToolFault::Device));
             assert!(rt; reader.failures() == 1 && writer.into_inner().is_empty());
         }
@@ -223,7 +235,7 @@ fn a_command_ends_at_a_device_fault(rt: HostRuntime) {
     for fails_at in 0..6 {
         for by_taking_none in [false, true] {
             let mut writer = failing_writer(fails_at, by_taking_none);
-            let ended = judge_run(rt.alloc(), &mut Counted::new(RIGHT), &mut writer);
+            let ended = command(rt.alloc(), &mut Counted::new(RIGHT), &mut writer, None);
             assert!(rt; ended == Err(ToolFault::Device));
             assert!(rt; writer.failures() == 1 && writer.into_inner().asked == fails_at + 1);
         }
@@ -262,17 +274,21 @@ const REPLAYS: [Replayed; 20] = [
     (b"@11111111111111111", b"", CUT),
 ];
 
+/// Replays over the opening world.
+fn replayed<R: Read, W: Write>(
+    rt: &(impl AllocGlobal + Abort),
+    reader: &mut Counted<R>,
+    writer: &mut Counted<W>,
+) -> Result<(), ReplayFault> {
+    let mut desk = Desk::new(rt.alloc()).expect(rt, "desk");
+    replay(rt.alloc(), &mut desk, reader, writer)
+}
+
 #[test]
 fn a_replay_ends_with_its_whole_records(rt: HostRuntime) {
     for (place, (input, lines, end)) in REPLAYS.iter().enumerate() {
-        let mut desk = Desk::new(rt.alloc()).expect(&rt, "desk");
         let mut writer = Counted::new(Vec::new(rt.alloc()));
-        let ended = replay(
-            rt.alloc(),
-            &mut desk,
-            &mut Counted::new(*input),
-            &mut writer,
-        );
+        let ended = replayed(&rt, &mut Counted::new(*input), &mut writer);
         assert!(rt; ended == *end, "replay {place}");
         assert!(rt; writer.into_inner().as_slice() == *lines, "replay {place}");
     }
@@ -288,22 +304,15 @@ const LINES: &[u8] =
 #[test]
 fn a_replay_ends_at_a_device_fault(rt: HostRuntime) {
     for fails_at in 0..RECORDS.len() + 1 {
-        let mut desk = Desk::new(rt.alloc()).expect(&rt, "desk");
         let mut reader = failing_reader(RECORDS, fails_at, ErrorKind::Interrupted);
         let mut writer = Counted::new(Vec::new(rt.alloc()));
-        let ended = replay(rt.alloc(), &mut desk, &mut reader, &mut writer);
+        let ended = replayed(&rt, &mut reader, &mut writer);
         assert!(rt; ended == Err(ReplayFault::Device));
         assert!(rt; LINES.starts_with(writer.into_inner().as_slice()));
     }
     for fails_at in 0..LINES.len() {
-        let mut desk = Desk::new(rt.alloc()).expect(&rt, "desk");
         let mut writer = failing_writer(fails_at, fails_at % 2 == 0);
-        let ended = replay(
-            rt.alloc(),
-            &mut desk,
-            &mut Counted::new(RECORDS),
-            &mut writer,
-        );
+        let ended = replayed(&rt, &mut Counted::new(RECORDS), &mut writer);
         assert!(rt; ended == Err(ReplayFault::Device));
         assert!(rt; writer.into_inner().asked == fails_at + 1);
     }
