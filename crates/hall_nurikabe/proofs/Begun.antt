@@ -12,7 +12,7 @@ use Rattle.hall_solve.specs.Question.{IsPartial}
 use Rattle.hall_solve.specs.Puzzle.{question_of, given_of, start_of, AllExtend}
 use Rattle.hall_nurikabe.specs.Marks.{IsNumber}
 use Rattle.hall_nurikabe.proofs.Marks.{numbered_clue}
-use Rattle.hall_nurikabe.proofs.Solutions.{number_is_white}
+use Rattle.hall_nurikabe.proofs.Solves.{number_is_white}
 
 -- the cells below an end have their givens, and no other is set
 pub record Begun (board : Board) (p : List (Option ℕ)) (end : ℕ) : Type 0 where

@@ -1,3 +1,4 @@
+pub mod Colour
 pub mod Marks
 pub mod Counts
 pub mod Block

@@ -12,11 +12,11 @@ ghost use Rattle.hall_nurikabe.specs.Steps.{AreStepsLeft};
 use crate::blocks::Blocks;
 use crate::exits::{exits_of, force_exits, growing_groups, roots};
 use crate::forced::{Forced, force_label, force_walls_beside};
-use crate::judge::{WALL, WHITE, have_two_labels};
+use crate::judge::{WALL, WHITE};
 use crate::position::Position;
 use crate::region::{Regions, are_apart, is_between, owners, places_open_to, places_set_to};
 use crate::steps::steps_left;
-use hall_grid::{Clue, Puzzle, regions};
+use hall_grid::{Clue, Puzzle, labels_differ, regions};
 use hall_solve::{Deduce, Partial, Pass, sweep};
 use std::alloc::{AllocError, Global};
 
@@ -152,7 +152,7 @@ fn look_at_walls(
 {
     let walls = places_set_to(alloc, position.partial, WALL)?;
     let labels = regions(alloc, position.puzzle.size(), &walls)?;
-    if !have_two_labels(&labels) {
+    if !labels_differ(&labels) {
         return Ok(false);
     }
     let exits = exits_of(alloc, position, &labels)?;

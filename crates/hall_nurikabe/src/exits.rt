@@ -91,6 +91,14 @@ fn must_grow(puzzle: &Puzzle, owner: Option<usize>, size: usize) -> bool
     }
 }
 
+/// Whether some cell has the label: the one of its number has it then.
+fn is_root(labels: &[Option<usize>], label: usize) -> bool
+    requires { label < length labels.now }
+    ensures { IsTrue result → IsLabelled labels.now label label }
+{
+    labels[label] == Some(label)
+}
+
 /// Whether the label is that of a group of white cells that is no whole island.
 fn is_growing(
     puzzle: &Puzzle,
@@ -106,7 +114,7 @@ fn is_growing(
     ensures label { IsTrue result → IsLabelled labels.now label label }
     ensures more { IsTrue result → NeedsMore puzzle.now (slice_index_or owners.now label None) (slice_index sizes.now label) }
 {
-    labels[label] == Some(label) && must_grow(puzzle, owners[label], sizes[label])
+    is_root(labels, label) && must_grow(puzzle, owners[label], sizes[label])
 }
 
 /// The labels of groups of white cells that are no whole islands.
@@ -135,7 +143,7 @@ pub(crate) fn roots(alloc: Global, labels: &[Option<usize>]) -> Result<Vec<bool>
 {
     let mut marks = Vec::new(alloc);
     for label in 0..labels.len() {
-        marks.push(labels[label] == Some(label))?;
+        marks.push(is_root(labels, label))?;
     }
     Ok(marks)
 }

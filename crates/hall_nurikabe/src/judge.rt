@@ -8,8 +8,9 @@ ghost use Rattle.hall_grid.specs.declared.board.Clue.TheVariants.{Number};
 ghost use Rattle.hall_nurikabe.specs.Counts.{AreCells};
 ghost use Rattle.hall_nurikabe.specs.Block.{IsPoolAt};
 
-use crate::island::{cells_of, count_by_label, numbered_cells};
-use hall_grid::{Broken, Clue, Filling, Kind, Puzzle, Rule, Size, regions};
+use crate::colour::{cells_of, regions_of};
+use crate::island::{count_by_label, numbered_cells};
+use hall_grid::{Broken, Clue, Filling, Kind, Puzzle, Rule, Size, labels_differ};
 use std::alloc::{AllocError, Global};
 
 pub(crate) const WHITE: u8 = 0;
@@ -53,22 +54,6 @@ fn has_pool(size: Size, filling: &[u8]) -> bool
     for cell in 0..filling.len() {
         if is_pool_at(size, filling, cell) {
             return true;
-        }
-    }
-    false
-}
-
-/// Whether two cells have different labels.
-pub(crate) fn have_two_labels(labels: &[Option<usize>]) -> bool
-    ensures { IsTrue result ↔ ((a b x y : ℕ) × IsLabelled labels.now a x × IsLabelled labels.now b y × (x ≢ y)) }
-{
-    let mut first = None;
-    for place in labels {
-        if let Some(label) = place {
-            match first {
-                Some(other) if other != *label => return true,
-                _ => first = Some(*label),
-            }
         }
     }
     false
@@ -133,14 +118,14 @@ pub fn broken(alloc: Global, puzzle: &Puzzle, filling: &Filling) -> Result<Broke
     let walls = cells_of(alloc, filling, WALL)?;
     let whites = cells_of(alloc, filling, WHITE)?;
     let numbered = numbered_cells(alloc, puzzle)?;
-    let wall_labels = regions(alloc, size, &walls)?;
-    let islands = regions(alloc, size, &whites)?;
+    let wall_labels = regions_of(alloc, size, filling, WALL)?;
+    let islands = regions_of(alloc, size, filling, WHITE)?;
     let numbers = count_by_label(alloc, &islands, &numbered)?;
     let sizes = count_by_label(alloc, &islands, &whites)?;
     let mut broken = Broken::new();
     broken.insert_if(Rule::N1, have_common_cell(&numbered, &walls));
     broken.insert_if(Rule::N2, has_pool(size, filling));
-    broken.insert_if(Rule::N3, have_two_labels(&wall_labels));
+    broken.insert_if(Rule::N3, labels_differ(&wall_labels));
     broken.insert_if(Rule::N4, has_label_without_number(&islands, &numbers));
     broken.insert_if(Rule::N5, has_label_with_two(&numbers));
     broken.insert_if(Rule::N6, has_other_size(puzzle, &islands, &sizes));

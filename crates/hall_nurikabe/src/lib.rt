@@ -2,6 +2,7 @@
 #![tactic(auto)]
 
 mod blocks;
+mod colour;
 mod deduce;
 mod exits;
 mod forced;

@@ -7,17 +7,25 @@ ghost use Rattle.hall_nurikabe.specs.Steps.{CoversNumbers, FallsByOne, AreStepsL
 use hall_grid::{Clue, Puzzle, Size, neighbours};
 use std::alloc::{AllocError, Global};
 
+/// How many cells an island of the clue may have: its number, all cells where that is unknown, and none without a number.
+fn most_cells(puzzle: &Puzzle, clue: Clue) -> usize
+    ensures known { (n : ℕ) → clue ≡ Clue.Number n → result ≡ n }
+    ensures unknown { clue ≡ Clue.Unknown → result ≡ cells puzzle.now.size }
+{
+    match clue {
+        Clue::Number(n) => usize::from(n),
+        Clue::Unknown => puzzle.cells(),
+        Clue::Blank => 0,
+    }
+}
+
 /// For each cell its number, for a number of unknown size the count of all cells, and 0 where there is none.
 fn numbers(alloc: Global, puzzle: &Puzzle) -> Result<Vec<usize>, AllocError>
     ensures { IfOk result (λ left. CoversNumbers puzzle.now left.items) }
 {
     let mut left = Vec::new(alloc);
     for cell in 0..puzzle.cells() {
-        left.push(match puzzle.clue(cell) {
-            Clue::Number(n) => usize::from(n),
-            Clue::Unknown => puzzle.cells(),
-            Clue::Blank => 0,
-        })?;
+        left.push(most_cells(puzzle, puzzle.clue(cell)))?;
     }
     Ok(left)
 }
@@ -62,9 +70,7 @@ fn greatest(values: &[usize]) -> usize
 {
     let mut most = 0;
     for value in values {
-        if *value > most {
-            most = *value;
-        }
+        most = most.max(*value);
     }
     most
 }

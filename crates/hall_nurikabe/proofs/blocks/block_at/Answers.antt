@@ -1,4 +1,4 @@
-use Rattle.hall_nurikabe.proofs.Blocking.{MakePool-at}
+use Rattle.hall_nurikabe.proofs.Block.{MakePool-at}
 use Rattle.hall_nurikabe.proofs.blocks.block_at.Goals as goal
 
 pub returns-then-cell-size-2 : goal.returns-then-cell-size-2

@@ -1,6 +1,6 @@
 use Rattle.std.proofs.Common.{arith, ◌∙◌}
-use Rattle.hall_nurikabe.proofs.Judging.{AreCells-from_regions}
-use Rattle.hall_nurikabe.proofs.Sound.{large_hopeless, full_forced}
+use Rattle.hall_nurikabe.proofs.AreBroken.{AreCells-from_regions}
+use Rattle.hall_nurikabe.proofs.HasAlways.{large_hopeless, full_forced}
 use Rattle.hall_nurikabe.proofs.deduce.close_groups.Goals as goal
 
 pub returns-then-size-from-clause-dead : goal.returns-then-size-from-clause-dead

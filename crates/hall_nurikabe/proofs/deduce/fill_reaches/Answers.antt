@@ -1,6 +1,6 @@
 use Rattle.std.proofs.Common.{arith, ◌∙◌}
-use Rattle.hall_nurikabe.proofs.Judging.{AreCells-from_regions}
-use Rattle.hall_nurikabe.proofs.Sound.{small_hopeless, tight_forced}
+use Rattle.hall_nurikabe.proofs.AreBroken.{AreCells-from_regions}
+use Rattle.hall_nurikabe.proofs.HasAlways.{small_hopeless, tight_forced}
 use Rattle.hall_nurikabe.proofs.deduce.fill_reaches.Goals as goal
 
 pub returns-then-size-from-clause-dead : goal.returns-then-size-from-clause-dead

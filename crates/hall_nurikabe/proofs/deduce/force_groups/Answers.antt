@@ -1,6 +1,6 @@
-use Rattle.hall_nurikabe.proofs.Judging.{AreCells-from_regions}
-use Rattle.hall_nurikabe.proofs.Sound.{two_hopeless}
-use Rattle.hall_nurikabe.proofs.Growing.{group_grows}
+use Rattle.hall_nurikabe.proofs.AreBroken.{AreCells-from_regions}
+use Rattle.hall_nurikabe.proofs.HasAlways.{two_hopeless}
+use Rattle.hall_nurikabe.proofs.NeedsMore.{group_grows}
 use Rattle.hall_nurikabe.proofs.deduce.force_groups.Goals as goal
 
 pub owners-requires-clause-labels : goal.owners-requires-clause-labels

@@ -1,5 +1,5 @@
 use Rattle.hall_nurikabe.specs.Forced.{IsSetTo}
-use Rattle.hall_nurikabe.proofs.Regioning.{AreRegions-members}
+use Rattle.hall_nurikabe.proofs.AreRegions.{AreRegions-members}
 use Rattle.hall_nurikabe.proofs.deduce.look_at_groups.Goals as goal
 
 pub force_groups-requires-clause-groups : goal.force_groups-requires-clause-groups

@@ -1,5 +1,5 @@
-use Rattle.hall_nurikabe.proofs.Regioning.{AreRegions-members}
-use Rattle.hall_nurikabe.proofs.Distance.{AreStepsLeft-members}
+use Rattle.hall_nurikabe.proofs.AreRegions.{AreRegions-members}
+use Rattle.hall_nurikabe.proofs.AreStepsLeft.{AreStepsLeft-members}
 use Rattle.hall_nurikabe.proofs.deduce.look_at_reaches.Goals as goal
 
 pub wall_far_cells-requires-clause-left : goal.wall_far_cells-requires-clause-left

@@ -1,8 +1,8 @@
 use Rattle.std.proofs.Common.{◌≡◌, true, rules}
 use Rattle.hall_grid.proofs.Joined.{AreComponents-members}
 use Rattle.hall_nurikabe.specs.Forced.{IsSetTo}
-use Rattle.hall_nurikabe.proofs.Judging.{AreCells-from_regions}
-use Rattle.hall_nurikabe.proofs.Growing.{wall_grows}
+use Rattle.hall_nurikabe.proofs.AreBroken.{AreCells-from_regions}
+use Rattle.hall_nurikabe.proofs.NeedsMore.{wall_grows}
 use Rattle.hall_nurikabe.proofs.deduce.look_at_walls.Goals as goal
 
 pub exits_of-requires-clause-labels : goal.exits_of-requires-clause-labels
@@ -17,8 +17,8 @@ pub force_exits-requires-clause-growing : goal.force_exits-requires-clause-growi
 force_exits-requires-clause-growing c =
     let a = AreComponents-members _ _ _ (IsSetTo c.args.position.now.partial.now 1) _ c.in_ok-walls.ensures.marked
     (rw (c.size.ensures.size, c.deref.ensures.value) at c.in_ok-labels.ensures) in
-    let two : c.have_two_labels.result ≡ true = search rules in
-    let apart = (rw c.deref-2.ensures.value at (c.have_two_labels.ensures.0 two)) in
+    let two : c.labels_differ.result ≡ true = search rules in
+    let apart = (rw c.deref-2.ensures.value at (c.labels_differ.ensures.0 two)) in
     let g = (rw c.deref-4.ensures.value at c.in_ok-growing.ensures) in
     rw (c.deref-5.ensures.value, c.deref-7.ensures.value)
     (λ label h. wall_grows c.args.position.now.puzzle.now c.args.position.now.kind c.args.position.now.partial.now c.args.position.now.fits c.in_ok-labels.labels.items a apart label (g.marked label h))

@@ -1,7 +1,7 @@
 use Rattle.std.proofs.Common.{arith}
-use Rattle.hall_nurikabe.proofs.Judging.{AreCells-from_regions}
-use Rattle.hall_nurikabe.proofs.Forcing.{AreForced-set}
-use Rattle.hall_nurikabe.proofs.Sound.{between_forced}
+use Rattle.hall_nurikabe.proofs.AreBroken.{AreCells-from_regions}
+use Rattle.hall_nurikabe.proofs.AreForced.{AreForced-set}
+use Rattle.hall_nurikabe.proofs.HasAlways.{between_forced}
 use Rattle.hall_nurikabe.proofs.deduce.part_groups.Goals as goal
 use Rattle.hall_nurikabe.proofs.deduce.part_groups.Goals.{then-is_between, else-is_between}
 

@@ -1,6 +1,6 @@
 use Rattle.std.proofs.Common.{arith}
-use Rattle.hall_nurikabe.proofs.Forcing.{AreForced-set}
-use Rattle.hall_nurikabe.proofs.Distance.{far_forced}
+use Rattle.hall_nurikabe.proofs.AreForced.{AreForced-set}
+use Rattle.hall_nurikabe.proofs.AreStepsLeft.{far_forced}
 use Rattle.hall_nurikabe.proofs.deduce.wall_far_cells.Goals as goal
 use Rattle.hall_nurikabe.proofs.deduce.wall_far_cells.Goals.{then-left-cell-eq0, else-left-cell-eq0}
 

@@ -6,7 +6,7 @@ use Rattle.hall_grid.specs.Component.{IsLabelled}
 use Rattle.hall_grid.proofs.Labelling.{place_in, more_place, one_label, labelled_below}
 use Rattle.hall_nurikabe.specs.declared.exits.Exits.TheVariants.{Nowhere}
 use Rattle.hall_nurikabe.specs.Exit.{Covers}
-use Rattle.hall_nurikabe.proofs.Exiting.{AddsExit-set, covers_here, covers_set}
+use Rattle.hall_nurikabe.proofs.KnowsExits.{AddsExit-set, covers_here, covers_set}
 use Rattle.hall_nurikabe.proofs.exits.add_exit.Goals as goal
 use Rattle.hall_nurikabe.proofs.exits.add_exit.Goals.{in-Some+in-Some-labels, in-Some+in_default-labels, in_default}
 

@@ -1,7 +1,7 @@
 use Rattle.std.proofs.Common.{◌≡◌, ℕ, Option, Some, None, true, length, arith, ◌∙◌}
 use Rattle.std.specs.Option.{is_some}
 use Rattle.hall_grid.proofs.Floods.{written}
-use Rattle.hall_nurikabe.proofs.Exiting.{KnowsExits-skip, KnowsExits-add}
+use Rattle.hall_nurikabe.proofs.KnowsExits.{KnowsExits-skip, KnowsExits-add}
 use Rattle.hall_nurikabe.proofs.exits.exits_of.Goals as goal
 use Rattle.hall_nurikabe.proofs.exits.exits_of.Goals.{then-is_none, else-is_none}
 

@@ -1,6 +1,6 @@
 use Rattle.std.proofs.Common.{arith}
-use Rattle.hall_nurikabe.proofs.Forcing.{AreForced-set}
-use Rattle.hall_nurikabe.proofs.Leaving.{nowhere_hopeless, one_forced}
+use Rattle.hall_nurikabe.proofs.AreForced.{AreForced-set}
+use Rattle.hall_nurikabe.proofs.MustGrow.{nowhere_hopeless, one_forced}
 use Rattle.hall_nurikabe.proofs.exits.force_exits.Goals as goal
 use Rattle.hall_nurikabe.proofs.exits.force_exits.Goals.{then-growing-label+in-One, then-growing-label+in-Many, else-growing-label}
 

@@ -1,6 +1,6 @@
 use Rattle.std.proofs.Common.{arith}
 use Rattle.hall_grid.proofs.Labelling.{if_none}
-use Rattle.hall_nurikabe.proofs.Forcing.{AreForced-set}
+use Rattle.hall_nurikabe.proofs.AreForced.{AreForced-set}
 use Rattle.hall_nurikabe.proofs.forced.force_walls_beside.Goals as goal
 use Rattle.hall_nurikabe.proofs.forced.force_walls_beside.Goals.{then-is_none+then-is_beside, else-is_none}
 

@@ -1,7 +1,7 @@
 use Rattle.std.proofs.Common.{◌≡◌, ◌+◌, length, get_or, refl, subst, arith}
 use Rattle.std.proofs.lemmas.List.{get_or_default}
 use Rattle.hall_nurikabe.specs.Counts.{AreCounts}
-use Rattle.hall_nurikabe.proofs.Counts.{AreCounts-none, AreCounts-skip, AreCounts-count, AreCounts-bound}
+use Rattle.hall_nurikabe.proofs.AreCounts.{AreCounts-none, AreCounts-skip, AreCounts-count, AreCounts-bound}
 use Rattle.hall_nurikabe.proofs.island.count_by_label.Goals as goal
 use Rattle.hall_nurikabe.proofs.island.count_by_label.Goals.{then-marks-cell+in-Some, then-marks-cell+in_default, else-marks-cell}
 

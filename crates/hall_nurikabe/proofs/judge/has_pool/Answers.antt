@@ -1,5 +1,5 @@
 use Rattle.std.proofs.Common.{refl, arith}
-use Rattle.hall_nurikabe.proofs.Pools.{HasPool-from_at, HasPool-at}
+use Rattle.hall_nurikabe.proofs.IsPoolAt.{HasPool-from_at, HasPool-at}
 use Rattle.hall_nurikabe.proofs.judge.has_pool.Goals as goal
 
 pub returns-then-is_pool_at : goal.returns-then-is_pool_at

@@ -1,7 +1,7 @@
 use Rattle.std.proofs.Common.{◌≡◌, ◌<◌, Some, None, refl, sym, ◌∙◌, subst, arith}
 use Rattle.hall_grid.specs.Board.{cells}
 use Rattle.hall_grid.proofs.Labelling.{place_in}
-use Rattle.hall_nurikabe.proofs.Regioning.{IsOwnedBeside, owned_beside}
+use Rattle.hall_nurikabe.proofs.AreRegions.{IsOwnedBeside, owned_beside}
 use Rattle.hall_nurikabe.proofs.region.is_between.Goals as goal
 use Rattle.hall_nurikabe.proofs.region.is_between.Goals.{in-Some+in-Some-first+else-other-label, in-Some+in_default-first, in_default}
 

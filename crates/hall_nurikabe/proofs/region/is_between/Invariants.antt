@@ -1,5 +1,5 @@
 use Rattle.std.proofs.Common.{ℕ, ◌≡◌, Some}
-use Rattle.hall_nurikabe.proofs.Regioning.{IsOwnedBeside}
+use Rattle.hall_nurikabe.proofs.AreRegions.{IsOwnedBeside}
 use Rattle.hall_nurikabe.proofs.region.is_between.Given as goal
 
 abbrev pub invariant-loop-place : goal.invariant-loop-place

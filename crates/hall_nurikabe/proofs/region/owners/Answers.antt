@@ -1,7 +1,7 @@
 use Rattle.std.proofs.Common.{◌≡◌, get_or, None, true, false, sym, ◌∙◌, arith}
 use Rattle.std.proofs.lemmas.List.{get_or_default}
 use Rattle.hall_nurikabe.proofs.Marks.{numbered_clue}
-use Rattle.hall_nurikabe.proofs.Regioning.{OwnersBelow-skip, OwnersBelow-set, two_owners, AreOwners-from_below}
+use Rattle.hall_nurikabe.proofs.AreRegions.{OwnersBelow-skip, OwnersBelow-set, two_owners, AreOwners-from_below}
 use Rattle.hall_nurikabe.proofs.region.owners.Goals as goal
 use Rattle.hall_nurikabe.proofs.region.owners.Goals.{then-is_number+in-Some+in-None, then-is_number+in_default, else-is_number}
 

@@ -1,4 +1,4 @@
-use Rattle.hall_nurikabe.proofs.Regioning.{OwnersBelow}
+use Rattle.hall_nurikabe.proofs.AreRegions.{OwnersBelow}
 use Rattle.hall_nurikabe.proofs.region.owners.Given as goal
 
 abbrev pub invariant-loop-cell : goal.invariant-loop-cell

@@ -5,7 +5,7 @@ use Rattle.hall_grid.specs.Board.{cells}
 use Rattle.hall_grid.specs.Reached.{IsMarked}
 use Rattle.hall_grid.specs.RegionLaws.{marked_below}
 use Rattle.hall_grid.proofs.Labelling.{place_in, more_place}
-use Rattle.hall_nurikabe.proofs.Rising.{Raises-none, Raises-set, rises}
+use Rattle.hall_nurikabe.proofs.Raises.{Raises-none, Raises-set, rises}
 use Rattle.hall_nurikabe.proofs.steps.raise_around.Goals as goal
 use Rattle.hall_nurikabe.proofs.steps.raise_around.Goals.{in-Some+then-marks-other+then-left-other, in-Some+else-marks-other, else-marks-other-via-then-marks-other+else-left-other, else-marks-other-via-else-marks-other, in_default}
 

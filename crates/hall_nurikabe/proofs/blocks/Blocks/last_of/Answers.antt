@@ -1,5 +1,5 @@
 use Rattle.std.proofs.Common.{◌≡◌, sym, ◌∙◌}
-use Rattle.hall_nurikabe.proofs.Blocking.{fourth_forced, four_hopeless}
+use Rattle.hall_nurikabe.proofs.Block.{fourth_forced, four_hopeless}
 use Rattle.hall_nurikabe.proofs.Marks.{set_from_test}
 use Rattle.hall_nurikabe.proofs.blocks.Blocks.last_of.Goals as goal
 

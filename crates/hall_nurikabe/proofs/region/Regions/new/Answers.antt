@@ -1,5 +1,5 @@
-use Rattle.hall_nurikabe.proofs.Judging.{AreCells-from_regions}
-use Rattle.hall_nurikabe.proofs.Regioning.{AreRegions-from_AreCounts}
+use Rattle.hall_nurikabe.proofs.AreBroken.{AreCells-from_regions}
+use Rattle.hall_nurikabe.proofs.AreRegions.{AreRegions-from_AreCounts}
 use Rattle.hall_nurikabe.proofs.region.Regions.new.Goals as goal
 
 pub count_by_label-requires-clause-labels : goal.count_by_label-requires-clause-labels

@@ -1,4 +1,4 @@
-use Rattle.hall_nurikabe.proofs.Solutions.{right_is}
+use Rattle.hall_nurikabe.proofs.Solves.{right_is}
 use Rattle.hall_nurikabe.proofs.rules.NurikabeRulesRules.accepts.Goals as goal
 
 pub returns-clause-right : goal.returns-clause-right

@@ -15,9 +15,9 @@ use Rattle.hall_grid.specs.declared.board.Kind.TheVariants.{Nurikabe}
 use Rattle.hall_solve.specs.Puzzle.{question_of}
 use Rattle.hall_nurikabe.specs.Forced.{IsOpenTo}
 use Rattle.hall_nurikabe.specs.Steps.{FallsByOne, AreStepsLeft}
-use Rattle.hall_nurikabe.proofs.Counting.{HasCount-within, HasCount-lacks, HasCount-bound, HasCount-empty, not_uncounted}
-use Rattle.hall_nurikabe.proofs.Solutions.{no_rule_broken, wall_or_white}
-use Rattle.hall_nurikabe.proofs.Sound.{open_white, counted}
+use Rattle.hall_nurikabe.proofs.HasCount.{HasCount-within, HasCount-lacks, HasCount-bound, HasCount-empty, not_uncounted}
+use Rattle.hall_nurikabe.proofs.Solves.{no_rule_broken, wall_or_white}
+use Rattle.hall_nurikabe.proofs.HasAlways.{open_white, counted}
 
 -- on a walk each value between those of its ends is taken, where it falls by one at most
 taken : (size : Size) (IsMember : ℕ → Type 0) (left : List ℕ) → FallsByOne size IsMember left 0 → (c x v : ℕ) → Walk (Touch size) IsMember c x

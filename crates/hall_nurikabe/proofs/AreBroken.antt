@@ -1,36 +1,19 @@
 -- What marks, labels and counts say of the rules.
-use Rattle.std.proofs.Common.{◌≡◌, ◌≢◌, ℕ, ◌<◌, ◌⊎◌, ◌↔◌, Bool, List, [], ◌∷◌, length, Option, Some, refl, sym, ◌∙◌, subst, inl, inr, arith}
-use Rattle.std.specs.Prelude.{slice_index, slice_get, IsTrue}
+use Rattle.std.proofs.Common.{◌≡◌, ◌≢◌, ℕ, ◌<◌, ◌↔◌, Bool, List, length, Option, Some, sym, ◌∙◌, subst, inl, inr, arith}
+use Rattle.std.specs.Prelude.{slice_index, slice_get}
 use Rattle.std.proofs.lemmas.Bool.{cases_eq}
 use Rattle.hall_grid.specs.declared.board.Size.{Size}
 use Rattle.hall_grid.specs.declared.board.Clue.TheVariants.{Number}
-use Rattle.hall_grid.specs.declared.rule.Rule.{Rule}
-use Rattle.hall_grid.specs.declared.rule.Rule.TheVariants.{A0, U1, U2, U3, U4, S1, S2, S3, S4, S5, N1, N2, N3, N4, N5, N6}
-use Rattle.hall_grid.specs.Rule.{Names}
 use Rattle.hall_grid.specs.Board.{Board, cells, Touch}
-use Rattle.hall_grid.specs.Component.{IsLabelled, AreComponents}
+use Rattle.hall_grid.specs.Component.{IsLabelled, LabelsDiffer, AreComponents}
 use Rattle.hall_grid.specs.Reached.{IsMarked}
 use Rattle.hall_grid.specs.RegionLaws.{Touch-turn}
-use Rattle.hall_grid.specs.Nurikabe.{IsNumbered, IsWhite, IsWall, InIsland, HasNumberInWall, HasPool, HasWallsApart, HasIslandWithoutNumber, HasIslandWithTwo, HasIslandOfOtherSize}
-use Rattle.hall_grid.specs.Answer.{BreaksNurikabe}
+use Rattle.hall_grid.specs.Nurikabe.{IsNumbered, IsWhite, IsWall, InIsland, HasNumberInWall, HasWallsApart, HasIslandWithoutNumber, HasIslandWithTwo, HasIslandOfOtherSize}
 use Rattle.hall_grid.proofs.Labelling.{one_label, labelled_below}
-use Rattle.hall_grid.proofs.Joined.{AreComponents-members, own_label, labelled_member, walk_from_label, label_from_walk}
-use Rattle.hall_grid.proofs.Naming.{Test, IsTested, nothing_put_in, one_more, names_are}
+use Rattle.hall_grid.proofs.Joined.{own_label, labelled_member, walk_from_label, label_from_walk}
 use Rattle.hall_nurikabe.specs.Counts.{HasCount, IsCounted, AreCounts, AreCells}
 use Rattle.hall_nurikabe.specs.Marks.{IsColoured, MarksWhere}
-use Rattle.hall_nurikabe.proofs.Counting.{same_length, HasCount-same, HasCount-empty, HasCount-some, HasCount-two, two_HasCount}
-
--- labels of the regions of one colour
-module _ (size : Size) (f : List ℕ) (colour : ℕ) (marks : List Bool) (labels : List (Option ℕ)) (exact : length f ≡ cells size)
-    (m : MarksWhere (IsColoured f colour) (length f) marks) (a : AreComponents (cells size) (Touch size) (IsMarked marks) labels) where
-  colour_is : (cell : ℕ) → IsMarked marks cell ↔ ((cell < cells size) × (slice_index f cell ≡ colour))
-  colour_is cell = (
-    (λ h. let k = (m.marked cell).0 h in (let low = k.0 in omega arith, k.1)),
-    (λ h. (m.marked cell).1 (let low = h.0 in omega arith, h.1)),
-  )
-
-  pub regions_are : AreComponents (cells size) (Touch size) (λ cell. (cell < cells size) × (slice_index f cell ≡ colour)) labels
-  regions_are = AreComponents-members (cells size) (Touch size) (IsMarked marks) _ labels colour_is a
+use Rattle.hall_nurikabe.proofs.HasCount.{same_length, HasCount-same, HasCount-empty, HasCount-some, HasCount-two, two_HasCount}
 
 -- the labels are numbers of cells
 pub AreCells-from_regions : (n : ℕ) (size : Size) (IsMember : ℕ → Type 0) (labels : List (Option ℕ)) → AreComponents n (Touch size) IsMember labels
@@ -40,7 +23,7 @@ AreCells-from_regions n size IsMember labels a cell label h =
 
 -- two labels of walls
 module _ (size : Size) (f : List ℕ) (labels : List (Option ℕ)) (a : AreComponents (cells size) (Touch size) (IsWall size f) labels) where
-  walls_apart : ((a b x y : ℕ) × IsLabelled labels a x × IsLabelled labels b y × (x ≢ y)) → HasWallsApart size f
+  walls_apart : LabelsDiffer labels → HasWallsApart size f
   walls_apart (c, d, x, y, p, q, ne) = (
     c,
     d,
@@ -49,7 +32,7 @@ module _ (size : Size) (f : List ℕ) (labels : List (Option ℕ)) (a : AreCompo
     (λ w. ne (one_label labels d x y (a.shared c d x w p) q)),
   )
 
-  labels_apart : HasWallsApart size f → (a b x y : ℕ) × IsLabelled labels a x × IsLabelled labels b y × (x ≢ y)
+  labels_apart : HasWallsApart size f → LabelsDiffer labels
   labels_apart (c, d, p, q, none) =
       let x = a.labelled c p in
       let y = a.labelled d q in (
@@ -63,7 +46,7 @@ module _ (size : Size) (f : List ℕ) (labels : List (Option ℕ)) (a : AreCompo
             (subst (λ l. IsLabelled labels c l) e x.1) y.1)),
       )
 
-  pub apart_are : ((a b x y : ℕ) × IsLabelled labels a x × IsLabelled labels b y × (x ≢ y)) ↔ HasWallsApart size f
+  pub apart_are : LabelsDiffer labels ↔ HasWallsApart size f
   apart_are = (walls_apart, labels_apart)
 
 -- the numbers and the sizes of islands
@@ -171,47 +154,3 @@ number_in_wall_are board f numbered walls e n w = (
   (λ (c, p, q). (c, (n.marked c).0 p, (let k = (w.marked c).0 q in (let low = k.0 in omega arith, k.1)))),
   (λ (c, p, q). (c, (n.marked c).1 p, (w.marked c).1 (let low = q.0 in omega arith, q.1))),
 )
-
--- the tests of a filling, the last one first
-abbrev pub six_tests : Bool → Bool → Bool → Bool → Bool → Bool → List Test
-six_tests b1 b2 b3 b4 b5 b6 =
-    record { rule = N6; holds = b6 } ∷ record { rule = N5; holds = b5 } ∷ record { rule = N4; holds = b4 }
-    ∷ record { rule = N3; holds = b3 } ∷ record { rule = N2; holds = b2 } ∷ record { rule = N1; holds = b1 } ∷ []
-
--- the rules of Nurikabe are all asked
-pub tested : (board : Board) (f : List ℕ) (b1 b2 b3 b4 b5 b6 : Bool) (rule : Rule) → BreaksNurikabe board f rule
-    → IsTested (six_tests b1 b2 b3 b4 b5 b6) rule
-tested board f b1 b2 b3 b4 b5 b6 A0 h = absurd h
-tested board f b1 b2 b3 b4 b5 b6 U1 h = absurd h
-tested board f b1 b2 b3 b4 b5 b6 U2 h = absurd h
-tested board f b1 b2 b3 b4 b5 b6 U3 h = absurd h
-tested board f b1 b2 b3 b4 b5 b6 U4 h = absurd h
-tested board f b1 b2 b3 b4 b5 b6 S1 h = absurd h
-tested board f b1 b2 b3 b4 b5 b6 S2 h = absurd h
-tested board f b1 b2 b3 b4 b5 b6 S3 h = absurd h
-tested board f b1 b2 b3 b4 b5 b6 S4 h = absurd h
-tested board f b1 b2 b3 b4 b5 b6 S5 h = absurd h
-tested board f b1 b2 b3 b4 b5 b6 N1 h = inl (inl (inl (inl (inl (inr refl)))))
-tested board f b1 b2 b3 b4 b5 b6 N2 h = inl (inl (inl (inl (inr refl))))
-tested board f b1 b2 b3 b4 b5 b6 N3 h = inl (inl (inl (inr refl)))
-tested board f b1 b2 b3 b4 b5 b6 N4 h = inl (inl (inr refl))
-tested board f b1 b2 b3 b4 b5 b6 N5 h = inl (inr refl)
-tested board f b1 b2 b3 b4 b5 b6 N6 h = inr refl
-
--- new is old with the name where the test holds
-abbrev pub Adds : ℕ → ℕ → Rule → Bool → Type 0
-Adds old new rule holds = (other : Rule) → Names new other ↔ (Names old other ⊎ ((other ≡ rule) × IsTrue holds))
-
--- the set that the six tests put together
-pub nurikabe_names : (board : Board) (f : List ℕ) (n0 n1 n2 n3 n4 n5 n6 : ℕ) (b1 b2 b3 b4 b5 b6 : Bool) → ((rule : Rule) → Names n0 rule → ⊥)
-    → Adds n0 n1 N1 b1 → Adds n1 n2 N2 b2 → Adds n2 n3 N3 b3 → Adds n3 n4 N4 b4 → Adds n4 n5 N5 b5 → Adds n5 n6 N6 b6
-    → IsTrue b1 ↔ HasNumberInWall board f → IsTrue b2 ↔ HasPool board.size f → IsTrue b3 ↔ HasWallsApart board.size f
-    → IsTrue b4 ↔ HasIslandWithoutNumber board f → IsTrue b5 ↔ HasIslandWithTwo board f → IsTrue b6 ↔ HasIslandOfOtherSize board f
-    → (rule : Rule) → Names n6 rule ↔ BreaksNurikabe board f rule
-nurikabe_names board f n0 n1 n2 n3 n4 n5 n6 b1 b2 b3 b4 b5 b6 none a1 a2 a3 a4 a5 a6 e1 e2 e3 e4 e5 e6 =
-    let p1 = one_more n0 n1 [] N1 b1 (nothing_put_in n0 none) a1 in
-    let p2 = one_more n1 n2 _ N2 b2 p1 a2 in
-    let p3 = one_more n2 n3 _ N3 b3 p2 a3 in
-    let p4 = one_more n3 n4 _ N4 b4 p3 a4 in
-    let p5 = one_more n4 n5 _ N5 b5 p4 a5 in
-    names_are (BreaksNurikabe board f) (six_tests b1 b2 b3 b4 b5 b6) n6 (one_more n5 n6 _ N6 b6 p5 a6) ((((((tt, e1), e2), e3), e4), e5), e6) (tested board f b1 b2 b3 b4 b5 b6)

@@ -54,6 +54,6 @@ module _ (board : Board) (p : List (Option ℕ)) (f : List ℕ) (part : IsPartia
 pub right_is : (board : Board) (f : List ℕ) (names : ℕ) (b : Bool) → AreBroken board f names → (IsTrue b ↔ ((rule : Rule) → Names names rule → ⊥))
     → IsTrue b ↔ IsRight board f
 right_is board f names b broken empty = (
-  (λ yes rule h. empty.0 yes rule ((broken rule).1 h)),
-  (λ right. empty.1 (λ rule h. right rule ((broken rule).0 h))),
+  (λ yes rule h. empty.0 yes rule ((broken.each rule).1 h)),
+  (λ right. empty.1 (λ rule h. right rule ((broken.each rule).0 h))),
 )

@@ -12,7 +12,7 @@ use Rattle.hall_grid.proofs.Labelling.{labelled_below, one_label, place_in}
 use Rattle.hall_grid.proofs.Joined.{labelled_member, AreComponents-members}
 use Rattle.hall_nurikabe.specs.Counts.{IsCounted, AreCounts}
 use Rattle.hall_nurikabe.specs.Forced.{AreOwners, AreRegions, HaveTwoOwners, IsBeside}
-use Rattle.hall_nurikabe.proofs.Counting.{HasCount-same}
+use Rattle.hall_nurikabe.proofs.HasCount.{HasCount-same}
 
 -- the owners among the cells below an end
 pub record OwnersBelow (board : Board) (labels owners : List (Option ℕ)) (end : ℕ) : Type 0 where

@@ -1,10 +1,10 @@
 -- Regions that must grow.
-use Rattle.std.proofs.Common.{◌≡◌, ◌≢◌, ℕ, List, Option, Some, None, length, get_or, sym, ◌∙◌, inl, inr, arith}
+use Rattle.std.proofs.Common.{◌≡◌, ℕ, List, Option, Some, None, length, get_or, sym, ◌∙◌, inl, inr, arith}
 use Rattle.std.proofs.lemmas.Bool.{cases_eq}
 use Rattle.hall_grid.specs.declared.rule.Rule.TheVariants.{N3, N4}
 use Rattle.hall_grid.specs.Board.{Board, cells, Touch}
 use Rattle.hall_grid.specs.Nurikabe.{IsWall, InIsland}
-use Rattle.hall_grid.specs.Component.{IsLabelled, AreComponents}
+use Rattle.hall_grid.specs.Component.{IsLabelled, LabelsDiffer, AreComponents}
 use Rattle.hall_grid.proofs.Labelling.{one_label}
 use Rattle.hall_grid.proofs.Joined.{labelled_member}
 use Rattle.hall_solve.specs.Question.{IsPartial}
@@ -12,10 +12,10 @@ use Rattle.hall_grid.specs.declared.board.Kind.TheVariants.{Nurikabe}
 use Rattle.hall_solve.specs.Puzzle.{question_of}
 use Rattle.hall_nurikabe.specs.Forced.{IsSetTo, AreRegions, AreOwners}
 use Rattle.hall_nurikabe.specs.Exit.{MustGrow, NeedsMore}
-use Rattle.hall_nurikabe.proofs.Counting.{HasCount-within}
-use Rattle.hall_nurikabe.proofs.Solutions.{no_rule_broken, set_wall, set_white}
-use Rattle.hall_nurikabe.proofs.Sound.{counted, group_count}
-use Rattle.hall_nurikabe.proofs.Leaving.{label_is}
+use Rattle.hall_nurikabe.proofs.HasCount.{HasCount-within}
+use Rattle.hall_nurikabe.proofs.Solves.{no_rule_broken, set_wall, set_white}
+use Rattle.hall_nurikabe.proofs.HasAlways.{counted, group_count}
+use Rattle.hall_nurikabe.proofs.MustGrow.{label_is}
 
 module _ (board : Board) (kind : board.kind ≡ Nurikabe) (p : List (Option ℕ)) (part : IsPartial (question_of Nurikabe board) p) where
   -- a group of white cells that is no whole island
@@ -40,7 +40,7 @@ module _ (board : Board) (kind : board.kind ≡ Nurikabe) (p : List (Option ℕ)
 
   -- one of two parts of the walls
   pub wall_grows : (labels : List (Option ℕ)) → AreComponents (cells board.size) (Touch board.size) (IsSetTo p 1) labels
-      → ((a b x y : ℕ) × IsLabelled labels a x × IsLabelled labels b y × (x ≢ y)) → (label : ℕ) → IsLabelled labels label label
+      → LabelsDiffer labels → (label : ℕ) → IsLabelled labels label label
       → MustGrow board p 1 labels label
   wall_grows labels a (c, d, x, y, hc, hd, ne) label own = λ f s out.
       let wall : (z l : ℕ) → IsLabelled labels z l → IsWall board.size f z = λ z l h.

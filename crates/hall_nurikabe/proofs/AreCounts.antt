@@ -1,4 +1,4 @@
--- The counts of a tally, cell by cell.
+-- Counts by labels, cell by cell.
 use Rattle.std.proofs.Common.{◌≡◌, ℕ, zero, suc, ◌+◌, ◌<◌, ◌≤◌, ◌↔◌, Bool, List, length, get_or, set, replicate, Option, refl, sym, ◌∙◌, subst, inl, inr, arith}
 use Rattle.std.proofs.lemmas.List.{get_or-set_same, get_or-set_other, length-set, length-replicate}
 use Rattle.std.proofs.lemmas.Bool.{cases_eq}
@@ -6,7 +6,7 @@ use Rattle.hall_grid.specs.Component.{IsLabelled}
 use Rattle.hall_grid.specs.Reached.{IsMarked}
 use Rattle.hall_grid.proofs.Labelling.{one_label}
 use Rattle.hall_nurikabe.specs.Counts.{HasCount, IsCounted, AreCounts}
-use Rattle.hall_nurikabe.proofs.Counting.{HasCount-none, HasCount-same, HasCount-more, HasCount-bound}
+use Rattle.hall_nurikabe.proofs.HasCount.{HasCount-none, HasCount-same, HasCount-more, HasCount-bound}
 
 no_count : (n i : ℕ) → ◌≡◌ {A = ℕ} (get_or (replicate n 0) i 0) 0
 no_count zero i = refl

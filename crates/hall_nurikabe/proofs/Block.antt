@@ -8,8 +8,8 @@ use Rattle.hall_solve.specs.Deduction.{IsForced}
 use Rattle.hall_grid.specs.declared.board.Kind.TheVariants.{Nurikabe}
 use Rattle.hall_solve.specs.Puzzle.{question_of}
 use Rattle.hall_nurikabe.specs.Block.{MakePool}
-use Rattle.hall_nurikabe.proofs.Pools.{HasPool-from_at}
-use Rattle.hall_nurikabe.proofs.Solutions.{no_rule_broken, white_or_wall}
+use Rattle.hall_nurikabe.proofs.IsPoolAt.{HasPool-from_at}
+use Rattle.hall_nurikabe.proofs.Solves.{no_rule_broken, white_or_wall}
 
 pub MakePool-at : (size : Size) (cell : ℕ) → col size cell + 1 < size.cols → cell + size.cols + 1 < cells size
     → MakePool size cell (cell + 1) (cell + size.cols) (cell + size.cols + 1)

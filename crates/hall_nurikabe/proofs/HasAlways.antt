@@ -19,8 +19,8 @@ use Rattle.hall_grid.specs.declared.board.Kind.TheVariants.{Nurikabe}
 use Rattle.hall_solve.specs.Puzzle.{question_of}
 use Rattle.hall_nurikabe.specs.Forced.{IsSetTo, IsOpenTo, AreRegions, AreOwners, HaveTwoOwners, IsBeside, IsBetween, AreApart}
 use Rattle.hall_nurikabe.proofs.Marks.{numbered_below}
-use Rattle.hall_nurikabe.proofs.Counting.{HasCount-within, HasCount-lacks, not_uncounted}
-use Rattle.hall_nurikabe.proofs.Solutions.{set_wall, set_white, white_or_wall, wall_or_white, number_is_white, no_rule_broken}
+use Rattle.hall_nurikabe.proofs.HasCount.{HasCount-within, HasCount-lacks, not_uncounted}
+use Rattle.hall_nurikabe.proofs.Solves.{set_wall, set_white, white_or_wall, wall_or_white, number_is_white, no_rule_broken}
 
 module _ (board : Board) (kind : board.kind ≡ Nurikabe) (p : List (Option ℕ)) (part : IsPartial (question_of Nurikabe board) p) where
   -- what is white in a solution isn't set to wall, and the other way round

@@ -1,0 +1,19 @@
+use Rattle.std.proofs.Common.{◌≡◌, subst, inl, inr, arith}
+use Rattle.std.proofs.lemmas.List.{length_push}
+use Rattle.hall_grid.specs.Component.{IsLabelled}
+use Rattle.hall_nurikabe.proofs.Marks.{marked_push}
+use Rattle.hall_nurikabe.proofs.exits.roots.Goals as goal
+
+pub loop-label-preserved : goal.loop-label-preserved
+loop-label-preserved c =
+    let exact = c.loop-label.invariant.exact in
+    rw c.in_ok-push.ensures.items
+    record {
+      exact = (let k = length_push c.loop-label.marks.items c.is_root.result in omega arith);
+      marked = λ label h. elim (marked_push c.loop-label.marks.items c.is_root.result label h) [
+        | inl k ↦ c.loop-label.invariant.marked label k
+        | inr k ↦
+            let same : c.loop-label.label ≡ label = let e = k.0 in omega arith in
+            subst (λ l. IsLabelled c.args.labels.now l l) same (c.is_root.ensures k.1)
+      ];
+    }
