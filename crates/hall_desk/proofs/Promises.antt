@@ -85,16 +85,16 @@ unique_solutions world sane id key stands =
 
 -- the filling of an answer that breaks no rule is the one solution, whose text is stored
 right_answers_of : (puzzle : Board) (solution answer : List ℕ) (names : ℕ) → IsTrueState puzzle (state.One solution) → Verdict puzzle answer names → NamesNoRule names ↔ (answer ≡ solution)
-right_answers_of puzzle solution answer names (f, written, solves, only) (set, inl (g, says, broken)) = (
+right_answers_of puzzle solution answer names (f, written, solves, only) (inl (g, says, broken)) = (
   (λ right.
-      let same : g ≡ f = only g (record { filling = says.filling; right = λ rule is. right rule ((broken rule).1 is) }) in
+      let same : g ≡ f = only g (record { filling = says.filling; right = λ rule is. right rule ((broken.each rule).1 is) }) in
       says.written ∙ ap (text_of puzzle.kind puzzle.size) same ∙ sym written.written),
   (λ same rule named.
       let one : g ≡ f = one_filling puzzle solution g f (subst (λ (text : List ℕ). AnswerText puzzle text g) same says) written in
-      solves.right rule (subst (λ (h : List ℕ). Breaks puzzle.kind puzzle h rule) one ((broken rule).0 named))),
+      solves.right rule (subst (λ (h : List ℕ). Breaks puzzle.kind puzzle h rule) one ((broken.each rule).0 named))),
 )
-right_answers_of puzzle solution answer names (f, written, solves, only) (set, inr (none, no_form)) = (
-  (λ right. absurd (right A0 ((no_form A0).1 refl))),
+right_answers_of puzzle solution answer names (f, written, solves, only) (inr (none, no_form)) = (
+  (λ right. absurd (right A0 ((no_form.each A0).1 refl))),
   (λ same rule named. none f (subst (λ (text : List ℕ). AnswerText puzzle text f) (sym same) written)),
 )
 

@@ -44,11 +44,11 @@ release_told world request id facts is found = record {
       (
         found.round.round,
         (
-          ((λ t. let f = found.shared.0 t in (f.0, f.2.0, f.1, f.2.1, f.2.2)), (λ f. found.shared.1 (f.0, f.2, (f.1, f.3, f.4)))),
+          ((λ t. let f = found.faults.shared.0 t in (f.0, f.2.0, f.1, f.2.1, f.2.2)), (λ f. found.faults.shared.1 (f.0, f.2, (f.1, f.3, f.4)))),
           (
             (
-              (λ t. let f = found.uncertified.0 t in (id, f.0, refl, f.1, f.2)),
-              (λ f. let same : id ≡ f.0 = let named = f.2 in cc in found.uncertified.1 (f.1, subst (λ (x : List ℕ). Lists world x f.1) (sym same) f.3, f.4)),
+              (λ t. let f = found.faults.uncertified.0 t in (id, f.0, refl, f.1, f.2)),
+              (λ f. let same : id ≡ f.0 = let named = f.2 in cc in found.faults.uncertified.1 (f.1, subst (λ (x : List ℕ). Lists world x f.1) (sym same) f.3, f.4)),
             ),
             (found.round.round, (found.round.round, tt)),
           ),

@@ -1,5 +1,5 @@
 -- What is found for a request, and of which worlds it is true.
-use Rattle.std.specs.Prelude.{◌≡◌, ◌≢◌, ◌↔◌, ℕ, List, Option, Some, None, IsTrue, IfSome}
+use Rattle.std.specs.Prelude.{◌≡◌, ◌≢◌, ◌↔◌, ℕ, Bool, List, Option, Some, None, IsTrue, IfSome}
 use Rattle.std.specs.FinMap.{get}
 use Rattle.hall_policy.specs.World.{World}
 use Rattle.hall_policy.specs.Facts.{IsRoundFound, AllTrue}
@@ -70,8 +70,12 @@ HasFault Uncertified world id entry = ¬ (IsCertified world entry.puzzle)
 abbrev pub HasFaultyEntry : EntryFault → World → List ℕ → Type 0
 HasFaultyEntry fault world id = (entry : Entry) × Lists world id entry × HasFault fault world id entry
 
+-- what keeps the round of the id from its release
+pub record HasFaults (world : World) (id : List ℕ) (in_released uncertified : Bool) : Type 0 where
+  pub shared : IsTrue in_released ↔ HasFaultyEntry Shared world id
+  pub uncertified : IsTrue uncertified ↔ HasFaultyEntry Uncertified world id
+
 -- the facts on a round that is released
 pub record AreReleaseFacts (world : World) (caller_key : Option (List ℕ)) (id : List ℕ) (facts : Facts) : Type 0 where
   pub round : AreRoundFacts world caller_key id facts
-  pub shared : IsTrue facts.in_released ↔ HasFaultyEntry Shared world id
-  pub uncertified : IsTrue facts.uncertified ↔ HasFaultyEntry Uncertified world id
+  pub faults : HasFaults world id facts.in_released facts.uncertified

@@ -1,9 +1,9 @@
 -- What holds of every world that the hall reaches.
 use Rattle.std.specs.Prelude.{◌≡◌, ◌≢◌, ◌≤◌, ℕ, List, Some, None, IsTrue}
 use Rattle.std.specs.FinMap.{get}
-use Rattle.hall_grid.specs.declared.rule.Rule.{Rule as Broken}
 use Rattle.hall_grid.specs.Board.{Board}
-use Rattle.hall_grid.specs.Answer.{AnswerText, IsFilling, IsBroken, Verdict}
+use Rattle.hall_grid.specs.Answer.{AnswerText, IsFilling, Verdict}
+use Rattle.hall_solve.specs.Puzzle.{IsRight}
 use Rattle.hall_policy.specs.World.{World, IsRoundAt}
 use Rattle.hall_policy.specs.Lists.{AreEntries}
 use Rattle.hall_policy.specs.Rules.{StandsReleased, IsCertified, answers_given, protests_made, puzzles_put}
@@ -25,7 +25,7 @@ use Rattle.hall_policy.specs.declared.record.ProtestRow.{ProtestRow}
 -- the filling breaks no rule of the puzzle
 pub record Solves (puzzle : Board) (f : List ℕ) : Type 0 where
   pub filling : IsFilling puzzle f
-  pub right : (rule : Broken) → ¬ (IsBroken puzzle f rule)
+  pub right : IsRight puzzle f
 
 -- what a state says of the puzzle's solutions
 abbrev pub IsTrueState : Board → PuzzleState → Type 0

@@ -1,48 +1,49 @@
 //! The search that certifies a puzzle.
 ghost use Rattle.std.specs.Prelude.{◌≡◌, IfOk};
-ghost use Rattle.hall_solve.specs.Puzzle.{OutcomeOfPuzzle};
+ghost use Rattle.hall_solve.specs.Question.{IsPartial};
+ghost use Rattle.hall_solve.specs.Puzzle.{OutcomeOfPuzzle, question_of, start_of};
 
 use hall_grid::{Kind, Puzzle};
-use hall_solve::{Outcome, search};
+use hall_nurikabe::NurikabeRules;
+use hall_slither::SlitherRules;
+use hall_solve::{Outcome, Partial, search};
+use hall_sudoku::SudokuRules;
 use std::alloc::{AllocError, Global};
 
 /// What the search of the puzzle finds in at most `budget` visits: no solution, one and no other, two different ones, or that it gave up.
 pub fn certify(alloc: Global, puzzle: &Puzzle, budget: u64) -> Result<Outcome, AllocError>
     ensures { IfOk result (OutcomeOfPuzzle puzzle.now budget) }
 {
+    let start = start(alloc, puzzle)?;
+    search_from(alloc, puzzle, &start, budget)
+}
+
+/// Where a search of the puzzle starts.
+fn start(alloc: Global, puzzle: &Puzzle) -> Result<Partial, AllocError>
+    ensures start { IfOk result (λ start. start ≡ start_of puzzle.now.kind puzzle.now) }
+    ensures partial { IfOk result (IsPartial (question_of puzzle.now.kind puzzle.now)) }
+{
     match puzzle.kind() {
-        Kind::Sudoku => certify_sudoku(alloc, puzzle, budget),
-        Kind::Slither => certify_slither(alloc, puzzle, budget),
-        Kind::Nurikabe => certify_nurikabe(alloc, puzzle, budget),
+        Kind::Sudoku => hall_sudoku::start(alloc, puzzle),
+        Kind::Slither => hall_slither::start(alloc, puzzle),
+        Kind::Nurikabe => hall_nurikabe::start(alloc, puzzle),
     }
 }
 
-fn certify_sudoku(alloc: Global, puzzle: &Puzzle, budget: u64) -> Result<Outcome, AllocError>
-    requires { puzzle.now.kind ≡ Kind.Sudoku }
+/// What the search finds from its start, by the rules of the puzzle's kind.
+fn search_from(
+    alloc: Global,
+    puzzle: &Puzzle,
+    start: &Partial,
+    budget: u64,
+) -> Result<Outcome, AllocError>
+    requires start { start.now ≡ start_of puzzle.now.kind puzzle.now }
+    requires partial { IsPartial (question_of puzzle.now.kind puzzle.now) start.now }
     ensures { IfOk result (OutcomeOfPuzzle puzzle.now budget) }
 {
-    let _board = puzzle.size();
-    let mut rules = hall_sudoku::SudokuRules::new(alloc, puzzle)?;
-    let start = hall_sudoku::start(alloc, puzzle)?;
-    search(alloc, &mut rules, &start, budget)
-}
-
-fn certify_slither(alloc: Global, puzzle: &Puzzle, budget: u64) -> Result<Outcome, AllocError>
-    requires { puzzle.now.kind ≡ Kind.Slither }
-    ensures { IfOk result (OutcomeOfPuzzle puzzle.now budget) }
-{
-    let _board = puzzle.size();
-    let mut rules = hall_slither::SlitherRules::new(puzzle);
-    let start = hall_slither::start(alloc, puzzle)?;
-    search(alloc, &mut rules, &start, budget)
-}
-
-fn certify_nurikabe(alloc: Global, puzzle: &Puzzle, budget: u64) -> Result<Outcome, AllocError>
-    requires { puzzle.now.kind ≡ Kind.Nurikabe }
-    ensures { IfOk result (OutcomeOfPuzzle puzzle.now budget) }
-{
-    let _board = puzzle.size();
-    let mut rules = hall_nurikabe::NurikabeRules::new(puzzle);
-    let start = hall_nurikabe::start(alloc, puzzle)?;
-    search(alloc, &mut rules, &start, budget)
+    match puzzle.kind() {
+        Kind::Sudoku => search(alloc, &mut SudokuRules::new(alloc, puzzle)?, start, budget),
+        Kind::Slither => search(alloc, &mut SlitherRules::new(puzzle), start, budget),
+        Kind::Nurikabe => search(alloc, &mut NurikabeRules::new(puzzle), start, budget),
+    }
 }

@@ -4,13 +4,14 @@ ghost use Rattle.std.specs.FinMap.{get};
 ghost use Rattle.hall_policy.specs.World.{same_text};
 ghost use Rattle.hall_policy.specs.Rules.{puzzles_put, StandsReleased};
 ghost use Rattle.hall_policy.specs.Facts.{IsRoundFound};
-ghost use Rattle.hall_desk.specs.Store.{Kept, Served, Told};
-ghost use Rattle.hall_desk.specs.Found.{IsCaller, AreFactsOf, AreRoundFacts, AreAnswerFacts, AreSubmitFacts, HasAuthor, ArePutFacts, AreCertifyFacts, AreReleaseFacts, IsReleasedRound};
+ghost use Rattle.hall_desk.specs.Store.{Kept, Served, Told, IsRoundKept};
+ghost use Rattle.hall_desk.specs.Found.{IsCaller, AreFactsOf, AreRoundFacts, AreAnswerFacts, AreSubmitFacts, HasAuthor, ArePutFacts, AreCertifyFacts, HasFaults, AreReleaseFacts, IsReleasedRound};
 
 use crate::entry_fault::{EntryFault, find_fault};
 use crate::store::{Store, StoreFault};
 use hall_policy::{
-    Action, AnswerRow, Facts, Key, Name, Person, PuzzleKey, PuzzleNumber, Request, RoundId, Token,
+    Action, AnswerRow, Facts, Key, Name, Person, PuzzleKey, PuzzleNumber, Request, RoundId,
+    RoundRow, Token,
 };
 use std::alloc::{AllocError, Global};
 
@@ -105,16 +106,18 @@ fn submit_facts<S: Store>(
     ensures kept { Kept S.is_honest S.serves S.world store.old store.new }
     ensures served { Served S.is_honest S.serves store.new result (AreSubmitFacts (S.world store.new) key.now id.now number token.now) }
 {
-    let caller = find_caller(alloc, store, key)?;
-    let (answer, count) = find_answer(alloc, store, &caller, id, number, token)?;
-    let round = store.round(alloc, id)?;
-    Ok(Facts {
-        caller,
-        round,
-        answer,
-        count,
-        ..no_facts()
-    })
+    let facts = round_facts(alloc, store, key, id)?;
+    match find_answer(alloc, store, &facts.caller, id, number, token) {
+        Ok((answer, count)) => Ok(Facts {
+            answer,
+            count,
+            ..facts
+        }),
+        Err(fault) => {
+            drop(facts);
+            Err(fault)
+        }
+    }
 }
 
 /// The caller's answer under the token, and how many answers to the puzzle the caller gave.
@@ -236,8 +239,7 @@ fn release_facts<S: Store>(
 {
     let caller = find_caller(alloc, store, key)?;
     let round = store.round(alloc, id)?;
-    let in_released = find_fault(alloc, store, id, &round, EntryFault::Shared)?;
-    let uncertified = find_fault(alloc, store, id, &round, EntryFault::Uncertified)?;
+    let (in_released, uncertified) = find_faults(alloc, store, id, &round)?;
     Ok(Facts {
         caller,
         round,
@@ -245,6 +247,22 @@ fn release_facts<S: Store>(
         uncertified,
         ..no_facts()
     })
+}
+
+/// Whether an entry of the round stands in another released round, and whether one isn't certified.
+fn find_faults<S: Store>(
+    alloc: Global,
+    store: &mut S,
+    id: &RoundId,
+    round: &Option<RoundRow>,
+) -> Result<(bool, bool), StoreFault>
+    requires { S.is_honest store.old → S.serves store.old → IsRoundKept (S.world store.old) id.now round.now }
+    ensures kept { Kept S.is_honest S.serves S.world store.old store.new }
+    ensures told { Told S.is_honest S.serves store.old store.new result (λ pair. HasFaults (S.world store.new) id.now pair.0 pair.1) }
+{
+    let shared = find_fault(alloc, store, id, round, EntryFault::Shared)?;
+    let uncertified = find_fault(alloc, store, id, round, EntryFault::Uncertified)?;
+    Ok((shared, uncertified))
 }
 
 /// Whether a person of the name with the role author is there.

@@ -7,11 +7,11 @@ ghost use Rattle.hall_desk.specs.Store.{Kept, Served, Told, IsListing};
 ghost use Rattle.hall_desk.specs.Shown.{is_sealed, sees_all, shows_verdict, answer_line};
 ghost use Rattle.hall_desk.specs.Plans.{IsAllowedPlan, AreRowsFor};
 
-use crate::writes::push;
 use crate::plan::Plan;
 use crate::reply::{AnswerLine, Reply};
 use crate::rows::Rows;
 use crate::store::{Change, Store, StoreFault};
+use crate::writes::push;
 use hall_policy::{AnswerRow, Facts, Mode, Moment, Name, Person, Round, RoundId};
 use std::alloc::{AllocError, Global};
 

@@ -7,8 +7,8 @@ use crate::map_reads::{
     round_at, sort_answers,
 };
 use crate::map_store::MapStore;
-use crate::writes::put;
 use crate::store::{RoundFlag, Store, StoreFault};
+use crate::writes::put;
 use hall_policy::{
     AnswerRow, Key, Name, Person, PuzzleKey, PuzzleRow, PuzzleState, Round, RoundId, RoundRow,
 };

@@ -10,8 +10,8 @@ ghost use Rattle.hall_desk.specs.Keyed.{uses, least_key, is_bounded, are_keyed, 
 
 use crate::writes::push;
 use hall_policy::{
-    AnswerKey, AnswerRow, Entry, Key, Name, Person, PuzzleKey, PuzzleNumber, PuzzleRow,
-    RoundId, RoundRow, Token,
+    AnswerKey, AnswerRow, Entry, Key, Name, Person, PuzzleKey, PuzzleNumber, PuzzleRow, RoundId,
+    RoundRow, Token,
 };
 use std::alloc::{AllocError, Global};
 use std::cmp::Ordering;

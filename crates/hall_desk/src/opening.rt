@@ -10,10 +10,10 @@ ghost use Rattle.hall_desk.specs.Sane.{Sane};
 
 use crate::map_reads::{holder, person_at};
 use crate::map_store::MapStore;
-use crate::writes::{push, put};
 use crate::reply::Reply;
 use crate::step::step;
 use crate::store::StoreFault;
+use crate::writes::{push, put};
 use hall_grid::{Puzzle, parse_puzzle};
 use hall_policy::{
     Action, Bonus, Checked, Entries, Entry, Minutes, Mode, Moment, Penalty, Person, Points,

@@ -6,12 +6,12 @@ ghost use Rattle.hall_desk.specs.Store.{Kept, Told};
 ghost use Rattle.hall_desk.specs.Shown.{ShowsRound, ShowsPuzzles, ShowsPuzzle};
 ghost use Rattle.hall_desk.specs.Plans.{IsAllowedPlan};
 
-use crate::writes::push;
 use crate::plan::Plan;
 use crate::putting::text_of;
 use crate::reply::{Reply, ShownPuzzle, ShownRound};
 use crate::rows::Rows;
 use crate::store::{Change, Store, StoreFault};
+use crate::writes::push;
 use hall_policy::{Entry, Facts, PuzzleNumber, RoundId, RoundRow};
 use std::alloc::Global;
 
@@ -97,10 +97,11 @@ fn show_puzzle<S: Store>(
     let Some(row) = store.puzzle(alloc, &entry.puzzle)? else {
         return Err(StoreFault::Failed);
     };
-    let text = text_of(alloc, &row.puzzle)?;
+    let text = text_of(alloc, &row.puzzle);
+    drop(row);
     Ok(ShownPuzzle {
         number,
         points: entry.points,
-        text,
+        text: text?,
     })
 }

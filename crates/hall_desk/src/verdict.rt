@@ -9,13 +9,10 @@ use std::alloc::{AllocError, Global};
 pub fn judge(alloc: Global, puzzle: &Puzzle, text: &[u8]) -> Result<Broken, AllocError>
     ensures { IfOk result (Verdict puzzle.now text.now) }
 {
-    let names = match parse_answer(alloc, puzzle, text)? {
-        Some(filling) => broken(alloc, puzzle, &filling)?,
-        None => no_form(),
-    };
-    // The bits show that the set has no name beyond the table.
-    let _bits = names.bits();
-    Ok(names)
+    match parse_answer(alloc, puzzle, text)? {
+        Some(filling) => broken(alloc, puzzle, &filling),
+        None => Ok(no_form()),
+    }
 }
 
 /// The names of the rules that the filling breaks, by the judge of the puzzle's kind.
