@@ -1,5 +1,5 @@
-use Rattle.std.proofs.Common.{◌≡◌, ◌<◌, ◌++◌, ◌∷◌, [], List, Some, length, inl, inr, sym, ap, ◌∙◌, refl, subst, arith}
-use Rattle.std.specs.Prelude.{All, Contains}
+use Rattle.std.proofs.Common.{◌≡◌, ◌<◌, Some, length, inl, inr, sym, ap, ◌∙◌, refl, subst, arith}
+use Rattle.std.specs.Prelude.{Contains}
 use Rattle.std.proofs.lemmas.List.Elements.{All-pop, Contains-push_cases}
 use Rattle.hall_solve.specs.Question.{Narrows}
 use Rattle.hall_solve.proofs.Boards.{open-keeps}
