@@ -1,13 +1,14 @@
 -- Answer texts and the values in them.
-use Rattle.std.proofs.Common.{◌≡◌, ℕ, ◌<◌, ◌≤◌, List, length, map, get_or, refl, sym, ap, ◌∙◌, arith}
+use Rattle.std.proofs.Common.{◌≡◌, ℕ, ◌+◌, ◌-◌, ◌<◌, ◌≤◌, List, length, map, get_or, refl, sym, ap, ◌∙◌, arith}
 use Rattle.std.specs.Prelude.{All}
+use Rattle.std.proofs.lemmas.Bool.{lt-ltb, le-ltb}
 use Rattle.std.proofs.lemmas.List.{get_or-map, length-map}
 use Rattle.std.proofs.lemmas.List.Elements.{All-get_or, All-weaker}
 use Rattle.hall_grid.specs.declared.board.Size.{Size}
 use Rattle.hall_grid.specs.declared.board.Kind.{Kind}
 use Rattle.hall_grid.specs.declared.board.Kind.TheVariants.{Sudoku, Slither, Nurikabe}
 use Rattle.hall_grid.specs.Board.{Board, HasSize, IsBoard, cells}
-use Rattle.hall_grid.specs.Answer.{places_of, values_of, value_byte, text_of, IsFilling, AnswerText}
+use Rattle.hall_grid.specs.Answer.{places_of, values_of, value_byte, sudoku_byte, text_of, IsFilling, AnswerText}
 use Rattle.hall_grid.specs.Values.{SpellsValues, HasCellText}
 
 -- each byte stands for a value
@@ -51,3 +52,10 @@ few_values Nurikabe size h = omega arith
 pub small_values : (board : Board) (f : List ℕ) → IsBoard board → IsFilling board f → All (λ v. v < 35) f
 small_values board f b filling =
     let few = few_values board.kind board.size b.size in All-weaker (λ v. v < values_of board.kind board.size) (λ v. v < 35) (λ v h. omega arith) f filling.ranges
+
+-- how a number less 1 is written, up to 9 and above
+pub low_number : (v : ℕ) → v < 9 → 49 + v ≡ sudoku_byte v
+low_number v low = rw (lt-ltb v 9 low) refl
+
+pub high_number : (v : ℕ) → 9 ≤ v → 97 + (v - 9) ≡ sudoku_byte v
+high_number v high = rw (le-ltb v 9 high) (omega arith)
