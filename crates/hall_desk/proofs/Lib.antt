@@ -23,4 +23,3 @@ pub mod Tokens
 pub mod Remaining
 pub mod Retries
 pub mod Answered
-pub mod Starts

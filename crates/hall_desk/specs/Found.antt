@@ -71,9 +71,9 @@ abbrev pub HasFaultyEntry : EntryFault → World → List ℕ → Type 0
 HasFaultyEntry fault world id = (entry : Entry) × Lists world id entry × HasFault fault world id entry
 
 -- what keeps the round of the id from its release
-pub record HasFaults (world : World) (id : List ℕ) (in_released uncertified : Bool) : Type 0 where
-  pub shared : IsTrue in_released ↔ HasFaultyEntry Shared world id
-  pub uncertified : IsTrue uncertified ↔ HasFaultyEntry Uncertified world id
+pub record HasFaults (world : World) (id : List ℕ) (shares lacks : Bool) : Type 0 where
+  pub shared : IsTrue shares ↔ HasFaultyEntry Shared world id
+  pub uncertified : IsTrue lacks ↔ HasFaultyEntry Uncertified world id
 
 -- the facts on a round that is released
 pub record AreReleaseFacts (world : World) (caller_key : Option (List ℕ)) (id : List ℕ) (facts : Facts) : Type 0 where

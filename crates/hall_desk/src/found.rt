@@ -239,14 +239,20 @@ fn release_facts<S: Store>(
 {
     let caller = find_caller(alloc, store, key)?;
     let round = store.round(alloc, id)?;
-    let (in_released, uncertified) = find_faults(alloc, store, id, &round)?;
-    Ok(Facts {
-        caller,
-        round,
-        in_released,
-        uncertified,
-        ..no_facts()
-    })
+    match find_faults(alloc, store, id, &round) {
+        Ok((in_released, uncertified)) => Ok(Facts {
+            caller,
+            round,
+            in_released,
+            uncertified,
+            ..no_facts()
+        }),
+        Err(fault) => {
+            drop(round);
+            drop(caller);
+            Err(fault)
+        }
+    }
 }
 
 /// Whether an entry of the round stands in another released round, and whether one isn't certified.
