@@ -1,6 +1,6 @@
 use hall_grid::{
-    Broken, Counted, Rule, Size, TextFault, dot_ends, law_texts, neighbours, parse_answer,
-    parse_puzzle, reach, regions, sides, write_answer, write_puzzle,
+    Broken, Counted, Puzzle, Rule, Size, TextFault, dot_ends, labels_differ, law_texts, neighbours,
+    parse_answer, parse_puzzle, reach, regions, sides, write_answer, write_puzzle,
 };
 use std::alloc::Global;
 use std::io;
@@ -110,10 +110,13 @@ fn rewrites_or_refuses(rt: HostRuntime) -> Result<(), Fail> {
 }
 
 /// The text of the filling that a text says; none where it says none.
-fn answer_rewritten(alloc: Global, puzzle: &str, text: &str) -> Result<Option<String>, TextFault> {
-    let puzzle = parse_puzzle(alloc, puzzle.as_bytes())?.clone()?;
-    match parse_answer(alloc, &puzzle, text.as_bytes())? {
-        Some(filling) => Ok(Some(write_answer(alloc, &puzzle, &filling)?)),
+fn answer_rewritten(
+    alloc: Global,
+    puzzle: &Puzzle,
+    text: &str,
+) -> Result<Option<String>, TextFault> {
+    match parse_answer(alloc, puzzle, text.as_bytes())? {
+        Some(filling) => Ok(Some(write_answer(alloc, puzzle, &filling)?)),
         None => Ok(None),
     }
 }
@@ -148,7 +151,10 @@ const ANSWERS: [(&str, &str, bool); 16] = [
 #[test]
 fn rewrites_answers(rt: HostRuntime) -> Result<(), Fail> {
     for (puzzle, text, is_filling) in ANSWERS {
-        let written = answer_rewritten(rt.alloc(), puzzle, text)?;
+        let puzzle = parse_puzzle(rt.alloc(), puzzle.as_bytes())?;
+        let copy = puzzle.clone()?;
+        assert!(rt; copy.is_same(&puzzle), "{text}");
+        let written = answer_rewritten(rt.alloc(), &copy, text)?;
         let want = if is_filling { Some(text) } else { None };
         assert!(rt; written.as_ref().map(|it| it.as_str()) == want, "{text}");
     }
@@ -192,7 +198,10 @@ fn numbers_cells_sides_and_dots(rt: HostRuntime) {
             assert_eq!(rt; dot_ends(size, side), ends, "{side}");
         }
     }
-    assert_eq!(rt; (size.flat_sides(), size.all_sides()), (9, 17));
+    assert_eq!(rt;
+        (size.cells(), size.flat_sides(), size.all_sides()),
+        (6, 9, 17)
+    );
 }
 
 #[test]
@@ -210,6 +219,7 @@ fn joins_by_sides_alone(rt: HostRuntime) -> Result<(), Fail> {
         labels.as_slice(),
         [Some(0), None, Some(2), None, Some(2), Some(2)].as_slice()
     );
+    assert!(rt; labels_differ(&labels));
     law_texts();
     Ok(())
 }

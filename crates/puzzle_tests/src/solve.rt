@@ -176,7 +176,9 @@ fn sets_and_copies_places(rt: HostRuntime) -> Result<(), Fail> {
     assert_eq!(rt; other.first_unset(), None);
     assert_eq!(rt; board.get(1), None);
     assert_eq!(rt; board.get(2), Some(9));
-    assert_eq!(rt; other.filling(rt.alloc())?.as_slice(), [7, 8, 9].as_slice());
+    let filling = other.filling(rt.alloc())?;
+    assert_eq!(rt; filling.as_slice(), [7, 8, 9].as_slice());
+    assert_eq!(rt; filling.into_vec().as_slice(), [7, 8, 9].as_slice());
     Ok(())
 }
 
