@@ -10,7 +10,7 @@ use Rattle.hall_grid.specs.Reached.{IsMarked}
 use Rattle.hall_grid.specs.RegionLaws.{Touch-turn}
 use Rattle.hall_grid.specs.Nurikabe.{IsNumbered, IsWhite, IsWall, InIsland, HasNumberInWall, HasWallsApart, HasIslandWithoutNumber, HasIslandWithTwo, HasIslandOfOtherSize}
 use Rattle.hall_grid.proofs.Labelling.{one_label, labelled_below}
-use Rattle.hall_grid.proofs.Joined.{own_label, labelled_member, walk_from_label, label_from_walk}
+use Rattle.hall_grid.proofs.AreComponents.{own_label, labelled_member, walk_from_label, label_from_walk}
 use Rattle.hall_nurikabe.specs.Counts.{HasCount, IsCounted, AreCounts, AreCells}
 use Rattle.hall_nurikabe.specs.Marks.{IsColoured, MarksWhere}
 use Rattle.hall_nurikabe.proofs.HasCount.{same_length, HasCount-same, HasCount-empty, HasCount-some, HasCount-two, two_HasCount}

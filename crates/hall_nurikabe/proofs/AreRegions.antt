@@ -9,7 +9,7 @@ use Rattle.hall_grid.specs.Nurikabe.{IsNumbered}
 use Rattle.hall_grid.specs.Component.{IsLabelled, AreComponents}
 use Rattle.hall_grid.specs.Reached.{IsMarked}
 use Rattle.hall_grid.proofs.Labelling.{labelled_below, one_label, place_in}
-use Rattle.hall_grid.proofs.Joined.{labelled_member, AreComponents-members}
+use Rattle.hall_grid.proofs.AreComponents.{labelled_member, AreComponents-members}
 use Rattle.hall_nurikabe.specs.Counts.{IsCounted, AreCounts}
 use Rattle.hall_nurikabe.specs.Forced.{AreOwners, AreRegions, HaveTwoOwners, IsBeside}
 use Rattle.hall_nurikabe.proofs.HasCount.{HasCount-same}

@@ -11,7 +11,7 @@ use Rattle.hall_grid.specs.Component.{IsLabelled, AreComponents}
 use Rattle.hall_grid.specs.RegionLaws.{Touch-turn}
 use Rattle.hall_grid.proofs.Labelling.{one_label, labelled_below}
 use Rattle.hall_grid.proofs.Walks.{Walk-map, Walk-join, Walk-start, Walk-end}
-use Rattle.hall_grid.proofs.Joined.{walk_from_label}
+use Rattle.hall_grid.proofs.AreComponents.{walk_from_label}
 use Rattle.hall_solve.specs.Question.{IsPartial, IsHopeless, Solves}
 use Rattle.hall_solve.specs.Deduction.{HasAlways}
 use Rattle.hall_nurikabe.specs.Counts.{HasCount}

@@ -5,7 +5,7 @@ use Rattle.hall_grid.specs.Board.{Board, cells, Touch}
 use Rattle.hall_grid.specs.Walk.{Walk, at, on}
 use Rattle.hall_grid.specs.RegionLaws.{Touch-turn}
 use Rattle.hall_grid.specs.Component.{IsLabelled, AreComponents}
-use Rattle.hall_grid.proofs.Joined.{labelled_member}
+use Rattle.hall_grid.proofs.AreComponents.{labelled_member}
 use Rattle.hall_solve.specs.Question.{IsPartial, IsHopeless, Solves}
 use Rattle.hall_solve.specs.Deduction.{HasAlways}
 use Rattle.hall_nurikabe.specs.declared.exits.Exits.{Exits}

@@ -6,7 +6,7 @@ use Rattle.hall_grid.specs.Board.{Board, cells, Touch}
 use Rattle.hall_grid.specs.Nurikabe.{IsWall, InIsland}
 use Rattle.hall_grid.specs.Component.{IsLabelled, LabelsDiffer, AreComponents}
 use Rattle.hall_grid.proofs.Labelling.{one_label}
-use Rattle.hall_grid.proofs.Joined.{labelled_member}
+use Rattle.hall_grid.proofs.AreComponents.{labelled_member}
 use Rattle.hall_solve.specs.Question.{IsPartial}
 use Rattle.hall_grid.specs.declared.board.Kind.TheVariants.{Nurikabe}
 use Rattle.hall_solve.specs.Puzzle.{question_of}

@@ -4,7 +4,7 @@ use Rattle.std.specs.Prelude.{IsTrue}
 use Rattle.hall_grid.specs.declared.board.Size.{Size}
 use Rattle.hall_grid.specs.Slither.{all_sides, IsLine, ShareDot, HasLinesApart}
 use Rattle.hall_grid.specs.Component.{IsLabelled, AreComponents, LabelsDiffer}
-use Rattle.hall_grid.proofs.Joined.{labelled_member, walk_from_label, label_from_walk}
+use Rattle.hall_grid.proofs.AreComponents.{labelled_member, walk_from_label, label_from_walk}
 
 module _ (size : Size) (f : List ℕ) (labels : List (Option ℕ)) (are : AreComponents (all_sides size) (ShareDot size) (IsLine size f) labels) where
   turn : (a b : ℕ) → ShareDot size a b → ShareDot size b a

@@ -7,7 +7,7 @@ use Rattle.hall_grid.specs.declared.board.Size.{Size}
 use Rattle.hall_grid.specs.Walk.{at, on}
 use Rattle.hall_grid.specs.Slither.{all_sides, IsLine, ShareDot, is_end, degree}
 use Rattle.hall_grid.specs.Component.{IsLabelled, AreComponents}
-use Rattle.hall_grid.proofs.Joined.{label_member, labelled_member}
+use Rattle.hall_grid.proofs.AreComponents.{label_member, labelled_member}
 use Rattle.hall_slither.specs.Chain.{IsEndOf, with_end, Touches, HaveEnds}
 use Rattle.hall_slither.specs.declared.chain.Ends.{Ends}
 use Rattle.hall_slither.specs.declared.chain.Ends.TheVariants.{Closed, One, Two, Many}

@@ -13,7 +13,7 @@ use Rattle.hall_grid.specs.Walk.{at, on}
 use Rattle.hall_grid.specs.Slither.{dots, all_sides, flat_side, upright_side, sides_of, is_line, is_end, IsLine, ShareDot, degree, HasOtherCount}
 use Rattle.hall_grid.specs.Component.{IsLabelled, LabelsDiffer}
 use Rattle.hall_grid.proofs.Walks.{Walk-along}
-use Rattle.hall_grid.proofs.Joined.{labelled_member}
+use Rattle.hall_grid.proofs.AreComponents.{labelled_member}
 use Rattle.hall_solve.specs.Puzzle.{IsRight}
 use Rattle.hall_solve.specs.Question.{Solves, IsHopeless, IsOpen}
 use Rattle.hall_solve.specs.Deduction.{IsForced}

@@ -1,4 +1,4 @@
-use Rattle.hall_grid.proofs.Joined.{AreComponents-members}
+use Rattle.hall_grid.proofs.AreComponents.{AreComponents-members}
 use Rattle.hall_nurikabe.proofs.HasAlways.{apart_hopeless}
 use Rattle.hall_nurikabe.proofs.deduce.are_walls_apart.Goals as goal
 

@@ -1,5 +1,5 @@
 use Rattle.std.proofs.Common.{◌≡◌, true, rules}
-use Rattle.hall_grid.proofs.Joined.{AreComponents-members}
+use Rattle.hall_grid.proofs.AreComponents.{AreComponents-members}
 use Rattle.hall_nurikabe.specs.Forced.{IsSetTo}
 use Rattle.hall_nurikabe.proofs.AreBroken.{AreCells-from_regions}
 use Rattle.hall_nurikabe.proofs.NeedsMore.{wall_grows}

@@ -1,7 +1,7 @@
 use Rattle.std.proofs.Common.{get_or, Some, None, sym, refl, subst, arith}
 use Rattle.std.specs.Prelude.{Contains}
 use Rattle.hall_grid.specs.Slither.{all_sides, IsLine, ShareDot}
-use Rattle.hall_grid.proofs.Joined.{labelled_member}
+use Rattle.hall_grid.proofs.AreComponents.{labelled_member}
 use Rattle.hall_slither.specs.Dot.{AreBelow}
 use Rattle.hall_slither.proofs.Demand.{AreBelow-dot}
 use Rattle.hall_slither.proofs.SidesBeside.{end_of_contained, contained_from_end}

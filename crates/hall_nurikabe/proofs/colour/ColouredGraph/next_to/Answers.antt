@@ -1,5 +1,5 @@
 use Rattle.std.proofs.Common.{inr}
-use Rattle.hall_grid.proofs.Touching.{padded_touching, padded_among}
+use Rattle.hall_grid.proofs.Beside.{padded_touching, padded_among}
 use Rattle.hall_nurikabe.proofs.colour.ColouredGraph.next_to.Goals as goal
 
 pub returns-clause-below : goal.returns-clause-below

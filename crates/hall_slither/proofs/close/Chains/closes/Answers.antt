@@ -6,7 +6,7 @@ use Rattle.hall_grid.specs.declared.board.Size.{Size}
 use Rattle.hall_grid.specs.Board.{IsSize}
 use Rattle.hall_grid.specs.Slither.{all_sides, dots, ends, IsLine, ShareDot}
 use Rattle.hall_grid.specs.Component.{IsLabelled, AreComponents}
-use Rattle.hall_grid.proofs.Joined.{label_member}
+use Rattle.hall_grid.proofs.AreComponents.{label_member}
 use Rattle.hall_slither.specs.Dot.{sides_at, AreBelow}
 use Rattle.hall_slither.proofs.Demand.{AreBelow-dot}
 use Rattle.hall_slither.proofs.IsLayout.{size_of_board}
