@@ -1,5 +1,5 @@
 //! The search by recursion: a visit, then a branch for each value of one open place.
-ghost use Rattle.std.specs.Prelude.{◌≡◌, ◌≢◌, ◌≤◌, ◌<◌, ◌+◌, ◌^◌, ◌-◌, ℕ, IfOk, length};
+ghost use Rattle.std.specs.Prelude.{◌≡◌, ◌≤◌, ◌<◌, ◌+◌, ◌^◌, ◌-◌, IfOk};
 ghost use Rattle.hall_solve.specs.Question.{IsPartial, IsSame, IsWhole, Solves, plain_tree, open_places};
 ghost use Rattle.hall_solve.specs.Answer.{IsTrueOf, OutcomeOf, fewest_visits};
 ghost use Rattle.hall_solve.specs.Explored.{Explored};

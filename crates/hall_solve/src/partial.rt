@@ -1,6 +1,6 @@
 //! Boards on which some places are set.
 ghost use Rattle.hall_solve.specs.Question.{Extends, IsOpen, IsWhole};
-ghost use Rattle.std.specs.Prelude.{◌≡◌, ◌≢◌, ℕ, ◌<◌, List, Option, Some, None, IfOk, IfSome, IfNone, length, replicate, slice_index, slice_index_or, slice_set};
+ghost use Rattle.std.specs.Prelude.{◌≡◌, ◌≢◌, ℕ, ◌<◌, List, Option, Some, None, IfOk, IfSome, IfNone, length, replicate, slice_index_or, slice_set};
 
 use hall_grid::Filling;
 use std::alloc::{AllocError, Global};
