@@ -15,7 +15,8 @@ IsCounted labels marks end label cell = (cell < end) × IsLabelled labels cell l
 -- for each label the number of marked cells below an end that have it
 pub record AreCounts (labels : List (Option ℕ)) (marks : List Bool) (end : ℕ) (counts : List ℕ) : Type 0 where
   pub exact : length counts ≡ length labels
-  pub counted : (label : ℕ) → label < length labels → HasCount (IsCounted labels marks end label) (slice_index counts label)
+  pub counted : (label : ℕ) → label < length labels
+      → HasCount (IsCounted labels marks end label) (slice_index counts label)
 
 -- the labels are numbers of cells
 abbrev pub AreCells : List (Option ℕ) → Type 0

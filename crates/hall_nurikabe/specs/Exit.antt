@@ -1,5 +1,6 @@
 -- Open cells beside regions.
-use Rattle.std.specs.Prelude.{◌≡◌, ◌⊎◌, ℕ, ◌<◌, List, length, slice_get, slice_index, slice_index_or, Option, Some, None, Bool}
+use Rattle.std.specs.Prelude.{◌≡◌, ◌⊎◌, ℕ, ◌<◌, List, length, slice_get, slice_index, slice_index_or}
+use Rattle.std.specs.Prelude.{Option, Some, None, Bool}
 use Rattle.hall_grid.specs.declared.board.Clue.TheVariants.{Number}
 use Rattle.hall_grid.specs.declared.board.Size.{Size}
 use Rattle.hall_grid.specs.Board.{Board, cells, Touch}
@@ -29,8 +30,10 @@ pub record KnowsExits (size : Size) (p labels : List (Option ℕ)) (end : ℕ) (
 -- the exits of some labels were added to by this cell
 pub record AddsExit (cell : ℕ) (old new : List Exits) : Type 0 where
   pub exact : length new ≡ length old
-  pub kept : (label other : ℕ) → Covers (slice_index_or old label Nowhere) other → Covers (slice_index_or new label Nowhere) other
-  pub below : (label other n : ℕ) → cell < n → ((x : ℕ) → slice_index_or old label Nowhere ≡ One x → x < n) → slice_index_or new label Nowhere ≡ One other → other < n
+  pub kept : (label other : ℕ) → Covers (slice_index_or old label Nowhere) other
+      → Covers (slice_index_or new label Nowhere) other
+  pub below : (label other n : ℕ) → cell < n → ((x : ℕ) → slice_index_or old label Nowhere ≡ One x → x < n)
+      → slice_index_or new label Nowhere ≡ One other → other < n
 
 -- in no solution do all cells of the value that are joined to a cell with the label have the label
 abbrev pub MustGrow : Board → List (Option ℕ) → ℕ → List (Option ℕ) → ℕ → Type 0
@@ -42,10 +45,12 @@ MustGrow board p value labels label =
 -- a group of white cells with this owner and this size is no whole island
 abbrev pub NeedsMore : Board → Option ℕ → ℕ → Type 0
 NeedsMore board owner size =
-    (owner ≡ None) ⊎ ((cell given : ℕ) × (owner ≡ Some cell) × (slice_get board.clues cell ≡ Some (Number given)) × (size < given))
+    (owner ≡ None)
+    ⊎ ((cell given : ℕ) × (owner ≡ Some cell) × (slice_get board.clues cell ≡ Some (Number given)) × (size < given))
 
 -- marked labels are those of groups that are no whole islands
-pub record MarksGrowing (board : Board) (labels : List (Option ℕ)) (sizes : List ℕ) (owners : List (Option ℕ)) (marks : List Bool) : Type 0 where
+pub record MarksGrowing (board : Board) (labels : List (Option ℕ)) (sizes : List ℕ) (owners : List (Option ℕ))
+    (marks : List Bool) : Type 0 where
   pub exact : length marks ≡ length labels
   pub marked : (label : ℕ) → IsMarked marks label
       → IsLabelled labels label label × NeedsMore board (slice_index_or owners label None) (slice_index sizes label)

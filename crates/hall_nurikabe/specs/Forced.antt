@@ -12,12 +12,14 @@ use Rattle.hall_solve.specs.Puzzle.{IsRight, question_of}
 
 -- the filling has the values of the list, where there are any
 abbrev pub with_forced : Board → List (Option ℕ) → Question
-with_forced board forced = record { cells = cells board.size; values = 2; right = λ f. IsRight board f × Extends f forced }
+with_forced board forced =
+    record { cells = cells board.size; values = 2; right = λ f. IsRight board f × Extends f forced }
 
 -- each value of the list is one that every solution has at its place
 pub record AreForced (board : Board) (p forced : List (Option ℕ)) : Type 0 where
   pub exact : length forced ≡ cells board.size
-  pub always : (cell v : ℕ) → slice_index_or forced cell None ≡ Some v → (v < 2) × HasAlways (question_of Nurikabe board) p cell v
+  pub always : (cell v : ℕ) → slice_index_or forced cell None ≡ Some v
+      → (v < 2) × HasAlways (question_of Nurikabe board) p cell v
 
 -- the cells that are set to the value
 abbrev pub IsSetTo : List (Option ℕ) → ℕ → ℕ → Type 0
@@ -31,7 +33,8 @@ IsOpenTo p value cell = (cell < length p) × (slice_index_or p cell None ≡ Som
 pub record AreRegions (size : Size) (IsMember : ℕ → Type 0) (labels : List (Option ℕ)) (sizes : List ℕ) : Type 0 where
   pub components : AreComponents (cells size) (Touch size) IsMember labels
   pub exact : length sizes ≡ cells size
-  pub counted : (label : ℕ) → label < cells size → HasCount (λ cell. IsLabelled labels cell label) (slice_index sizes label)
+  pub counted : (label : ℕ) → label < cells size
+      → HasCount (λ cell. IsLabelled labels cell label) (slice_index sizes label)
 
 -- a cell beside the cell has the label
 abbrev pub IsBeside : Size → List (Option ℕ) → ℕ → ℕ → Type 0
@@ -40,12 +43,15 @@ IsBeside size labels cell label = (other : ℕ) × Touch size cell other × IsLa
 -- each label's number is a cell of it, and there is one where such a cell has a number
 pub record AreOwners (board : Board) (labels owners : List (Option ℕ)) : Type 0 where
   pub exact : length owners ≡ cells board.size
-  pub owner : (label cell : ℕ) → slice_index_or owners label None ≡ Some cell → IsNumbered board cell × IsLabelled labels cell label
-  pub found : (label cell : ℕ) → IsNumbered board cell → IsLabelled labels cell label → (owner : ℕ) × (slice_index_or owners label None ≡ Some owner)
+  pub owner : (label cell : ℕ) → slice_index_or owners label None ≡ Some cell
+      → IsNumbered board cell × IsLabelled labels cell label
+  pub found : (label cell : ℕ) → IsNumbered board cell → IsLabelled labels cell label
+      → (owner : ℕ) × (slice_index_or owners label None ≡ Some owner)
 
 -- two cells with numbers have one label
 abbrev pub HaveTwoOwners : Board → List (Option ℕ) → Type 0
-HaveTwoOwners board labels = (a b label : ℕ) × (a ≢ b) × IsNumbered board a × IsNumbered board b × IsLabelled labels a label × IsLabelled labels b label
+HaveTwoOwners board labels = (a b label : ℕ) × (a ≢ b) × IsNumbered board a × IsNumbered board b
+    × IsLabelled labels a label × IsLabelled labels b label
 
 -- cells beside the cell have different labels with numbers
 abbrev pub IsBetween : Size → List (Option ℕ) → List (Option ℕ) → ℕ → Type 0

@@ -13,7 +13,8 @@ pub record CoversNumbers (board : Board) (left : List ℕ) : Type 0 where
 -- where more than so much is left, at most one less is left in the next cell of the set
 abbrev pub FallsByOne : Size → (ℕ → Type 0) → List ℕ → ℕ → Type 0
 FallsByOne size IsMember left above =
-    (a b : ℕ) → Touch size a b → IsMember a → IsMember b → above < slice_index left a → slice_index left a ≤ slice_index left b + 1
+    (a b : ℕ) → Touch size a b → IsMember a → IsMember b → above < slice_index left a
+    → slice_index left a ≤ slice_index left b + 1
 
 -- what numbers have left in the cells that they reach, one less with each step
 pub record AreStepsLeft (board : Board) (IsMember : ℕ → Type 0) (left : List ℕ) : Type 0 where
@@ -23,4 +24,5 @@ pub record AreStepsLeft (board : Board) (IsMember : ℕ → Type 0) (left : List
 -- some cells had less and have this much now; the others are as they were
 pub record Raises (reach : ℕ) (old new : List ℕ) : Type 0 where
   pub exact : length new ≡ length old
-  pub only : (cell : ℕ) → (slice_index new cell ≡ slice_index old cell) ⊎ ((slice_index old cell < reach) × (slice_index new cell ≡ reach))
+  pub only : (cell : ℕ) → (slice_index new cell ≡ slice_index old cell)
+      ⊎ ((slice_index old cell < reach) × (slice_index new cell ≡ reach))

@@ -12,7 +12,9 @@ use hall_grid::{Puzzle, Size};
 use hall_solve::{Finding, Look, Partial};
 use std::alloc::{AllocError, Global};
 
-/// Three walls of two by two cells make the fourth cell white, and four are too many. A block stands at its upper left cell.
+/// Three walls of two by two cells make the fourth cell white, and four are too many.
+///
+/// A block stands at its upper left cell.
 #[derive(Drop)]
 pub(crate) struct Blocks<'a> {
     pub(crate) puzzle: &'a Puzzle,
@@ -23,7 +25,8 @@ pub(crate) struct Blocks<'a> {
 fn block_at(size: Size, cell: usize) -> Option<[usize; 4]>
     requires size { IsSize size }
     requires cell { cell < cells size }
-    ensures { IfSome result (λ b. MakePool size (slice_index b 0) (slice_index b 1) (slice_index b 2) (slice_index b 3)) }
+    ensures { IfSome result (λ b. MakePool size (slice_index b 0) (slice_index b 1)
+        (slice_index b 2) (slice_index b 3)) }
 {
     if cell % size.cols + 1 < size.cols && cell + size.cols + 1 < size.rows * size.cols {
         Some([cell, cell + 1, cell + size.cols, cell + size.cols + 1])

@@ -93,7 +93,8 @@ fn forced_by_regions(
 
 /// Whether two walls can't be joined any more.
 fn are_walls_apart(alloc: Global, position: &Position) -> Result<bool, AllocError>
-    ensures { IfOk result (λ apart. IsTrue apart → IsHopeless (question_of Nurikabe position.now.puzzle.now) position.now.partial.now) }
+    ensures { IfOk result (λ apart. IsTrue apart
+        → IsHopeless (question_of Nurikabe position.now.puzzle.now) position.now.partial.now) }
 {
     let open = places_open_to(alloc, position.partial, WHITE)?;
     let labels = regions(alloc, position.puzzle.size(), &open)?;
@@ -107,7 +108,8 @@ fn look_at_groups(
     forced: &mut [Option<u8>],
 ) -> Result<bool, AllocError>
     requires forced { AreForced position.now.puzzle.now position.now.partial.now forced.old }
-    ensures dead { IfOk result (λ dead. IsTrue dead → IsHopeless (question_of Nurikabe position.now.puzzle.now) position.now.partial.now) }
+    ensures dead { IfOk result (λ dead. IsTrue dead
+        → IsHopeless (question_of Nurikabe position.now.puzzle.now) position.now.partial.now) }
     ensures forced { OnOk result (AreForced position.now.puzzle.now position.now.partial.now forced.new) }
 {
     let white = places_set_to(alloc, position.partial, WHITE)?;
@@ -123,9 +125,11 @@ fn force_groups(
     sizes: &[usize],
     forced: &mut [Option<u8>],
 ) -> Result<bool, AllocError>
-    requires groups { AreRegions position.now.puzzle.now.size (IsSetTo position.now.partial.now 0) labels.now sizes.now }
+    requires groups { AreRegions position.now.puzzle.now.size (IsSetTo position.now.partial.now 0)
+        labels.now sizes.now }
     requires forced { AreForced position.now.puzzle.now position.now.partial.now forced.old }
-    ensures dead { IfOk result (λ dead. IsTrue dead → IsHopeless (question_of Nurikabe position.now.puzzle.now) position.now.partial.now) }
+    ensures dead { IfOk result (λ dead. IsTrue dead
+        → IsHopeless (question_of Nurikabe position.now.puzzle.now) position.now.partial.now) }
     ensures forced { OnOk result (AreForced position.now.puzzle.now position.now.partial.now forced.new) }
 {
     let Some(owners) = owners(alloc, position.puzzle, labels)? else {
@@ -147,7 +151,8 @@ fn look_at_walls(
     forced: &mut [Option<u8>],
 ) -> Result<bool, AllocError>
     requires forced { AreForced position.now.puzzle.now position.now.partial.now forced.old }
-    ensures dead { IfOk result (λ dead. IsTrue dead → IsHopeless (question_of Nurikabe position.now.puzzle.now) position.now.partial.now) }
+    ensures dead { IfOk result (λ dead. IsTrue dead
+        → IsHopeless (question_of Nurikabe position.now.puzzle.now) position.now.partial.now) }
     ensures forced { OnOk result (AreForced position.now.puzzle.now position.now.partial.now forced.new) }
 {
     let walls = places_set_to(alloc, position.partial, WALL)?;
@@ -167,7 +172,8 @@ fn look_at_reaches(
     forced: &mut [Option<u8>],
 ) -> Result<bool, AllocError>
     requires forced { AreForced position.now.puzzle.now position.now.partial.now forced.old }
-    ensures dead { IfOk result (λ dead. IsTrue dead → IsHopeless (question_of Nurikabe position.now.puzzle.now) position.now.partial.now) }
+    ensures dead { IfOk result (λ dead. IsTrue dead
+        → IsHopeless (question_of Nurikabe position.now.puzzle.now) position.now.partial.now) }
     ensures forced { OnOk result (AreForced position.now.puzzle.now position.now.partial.now forced.new) }
 {
     let open = places_open_to(alloc, position.partial, WALL)?;
@@ -218,7 +224,8 @@ fn close_groups(
     sizes: &[usize],
     forced: &mut [Option<u8>],
 ) -> bool
-    requires groups { AreRegions position.now.puzzle.now.size (IsSetTo position.now.partial.now 0) labels.now sizes.now }
+    requires groups { AreRegions position.now.puzzle.now.size (IsSetTo position.now.partial.now 0)
+        labels.now sizes.now }
     requires forced { AreForced position.now.puzzle.now position.now.partial.now forced.old }
     ensures dead { IsTrue result → IsHopeless (question_of Nurikabe position.now.puzzle.now) position.now.partial.now }
     ensures forced { AreForced position.now.puzzle.now position.now.partial.now forced.new }
@@ -246,7 +253,8 @@ fn fill_reaches(
     sizes: &[usize],
     forced: &mut [Option<u8>],
 ) -> bool
-    requires reaches { AreRegions position.now.puzzle.now.size (IsOpenTo position.now.partial.now 1) labels.now sizes.now }
+    requires reaches { AreRegions position.now.puzzle.now.size (IsOpenTo position.now.partial.now 1)
+        labels.now sizes.now }
     requires forced { AreForced position.now.puzzle.now position.now.partial.now forced.old }
     ensures dead { IsTrue result → IsHopeless (question_of Nurikabe position.now.puzzle.now) position.now.partial.now }
     ensures forced { AreForced position.now.puzzle.now position.now.partial.now forced.new }

@@ -45,7 +45,8 @@ fn add_exit(size: Size, labels: &[Option<usize>], cell: usize, exits: &mut [Exit
     requires exits { length exits.old ≡ cells size }
     requires labels { AreCells labels.now }
     ensures adds { AddsExit cell exits.old exits.new }
-    ensures beside { (label : ℕ) → IsBeside size labels.now cell label → Covers (slice_index_or exits.new label Exits.Nowhere) cell }
+    ensures beside { (label : ℕ) → IsBeside size labels.now cell label
+        → Covers (slice_index_or exits.new label Exits.Nowhere) cell }
 {
     for place in neighbours(size, cell) {
         if let Some(other) = place {
@@ -112,7 +113,8 @@ fn is_growing(
     requires sizes { length sizes.now ≡ cells puzzle.now.size }
     requires owners { AreOwners puzzle.now labels.now owners.now }
     ensures label { IsTrue result → IsLabelled labels.now label label }
-    ensures more { IsTrue result → NeedsMore puzzle.now (slice_index_or owners.now label None) (slice_index sizes.now label) }
+    ensures more { IsTrue result
+        → NeedsMore puzzle.now (slice_index_or owners.now label None) (slice_index sizes.now label) }
 {
     is_root(labels, label) && must_grow(puzzle, owners[label], sizes[label])
 }

@@ -91,7 +91,8 @@ pub(crate) fn force_walls_beside(
     forced: &mut [Option<u8>],
 )
     requires labels { length labels.now ≡ cells position.now.puzzle.now.size }
-    requires always { (cell : ℕ) → cell < cells position.now.puzzle.now.size → slice_index_or labels.now cell None ≡ None
+    requires always { (cell : ℕ) → cell < cells position.now.puzzle.now.size
+        → slice_index_or labels.now cell None ≡ None
         → IsBeside position.now.puzzle.now.size labels.now cell label
         → HasAlways (question_of Nurikabe position.now.puzzle.now) position.now.partial.now cell 1 }
     requires forced { AreForced position.now.puzzle.now position.now.partial.now forced.old }

@@ -63,7 +63,8 @@ fn has_pool(size: Size, filling: &[u8]) -> bool
 fn has_label_without_number(labels: &[Option<usize>], numbers: &[usize]) -> bool
     requires exact { length numbers.now ≡ length labels.now }
     requires labels { AreCells labels.now }
-    ensures { IsTrue result ↔ ((cell label : ℕ) × IsLabelled labels.now cell label × (slice_index numbers.now label ≡ 0)) }
+    ensures { IsTrue result ↔ ((cell label : ℕ) × IsLabelled labels.now cell label
+        × (slice_index numbers.now label ≡ 0)) }
 {
     for cell in 0..labels.len() {
         if let Some(label) = labels[cell] {

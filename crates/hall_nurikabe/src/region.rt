@@ -13,7 +13,7 @@ use hall_grid::{Puzzle, Size, neighbours, regions};
 use hall_solve::Partial;
 use std::alloc::{AllocError, Global};
 
-/// Regions of cells: for each cell the number of one cell of its region, and for each such number the size of the region.
+/// Regions of cells: for each cell the number of one cell of its region, and for each such number the region's size.
 #[derive(Drop)]
 pub(crate) struct Regions {
     pub(crate) labels: Vec<Option<usize>>,
@@ -71,7 +71,8 @@ pub(crate) fn owners(
 ) -> Result<Option<Vec<Option<usize>>>, AllocError>
     requires exact { length labels.now ≡ cells puzzle.now.size }
     requires labels { AreCells labels.now }
-    ensures { IfOk result (λ found. MatchOption found (HaveTwoOwners puzzle.now labels.now) (λ owners. AreOwners puzzle.now labels.now owners.items)) }
+    ensures { IfOk result (λ found. MatchOption found (HaveTwoOwners puzzle.now labels.now)
+        (λ owners. AreOwners puzzle.now labels.now owners.items)) }
 {
     let mut owners = vec![in alloc; None; labels.len()]?;
     for cell in 0..labels.len() {
@@ -125,7 +126,8 @@ fn owned_label(
     requires exact { length owners.now ≡ length labels.now }
     requires labels { AreCells labels.now }
     ensures { (label : ℕ) → result ≡ Some label
-        → ((cell owner : ℕ) × (place ≡ Some cell) × IsLabelled labels.now cell label × (slice_index_or owners.now label None ≡ Some owner)) }
+        → ((cell owner : ℕ) × (place ≡ Some cell) × IsLabelled labels.now cell label
+        × (slice_index_or owners.now label None ≡ Some owner)) }
 {
     let label = labels[place?]?;
     owners[label]?;

@@ -7,7 +7,7 @@ ghost use Rattle.hall_nurikabe.specs.Steps.{CoversNumbers, FallsByOne, AreStepsL
 use hall_grid::{Clue, Puzzle, Size, neighbours};
 use std::alloc::{AllocError, Global};
 
-/// How many cells an island of the clue may have: its number, all cells where that is unknown, and none without a number.
+/// How many cells an island of the clue may have: its number, all cells where that is unknown, none without one.
 fn most_cells(puzzle: &Puzzle, clue: Clue) -> usize
     ensures known { (n : ℕ) → clue ≡ Clue.Number n → result ≡ n }
     ensures unknown { clue ≡ Clue.Unknown → result ≡ cells puzzle.now.size }
@@ -37,7 +37,8 @@ fn raise_around(size: Size, marks: &[bool], left: &mut [usize], cell: usize, rea
     requires marks { length marks.now ≡ cells size }
     requires left { length left.old ≡ cells size }
     ensures raises { Raises reach left.old left.new }
-    ensures beside { (other : ℕ) → Touch size cell other → IsMarked marks.now other → reach ≤ slice_index left.new other }
+    ensures beside { (other : ℕ) → Touch size cell other → IsMarked marks.now other
+        → reach ≤ slice_index left.new other }
 {
     for place in neighbours(size, cell) {
         if let Some(other) = place {
@@ -75,7 +76,9 @@ fn greatest(values: &[usize]) -> usize
     most
 }
 
-/// What numbers have left in the marked cells that they reach by sides over marked cells: one less with each step, and 0 where none comes.
+/// What numbers have left in the marked cells that they reach by sides over marked cells.
+///
+/// It is one less with each step, and 0 where none comes.
 pub(crate) fn steps_left(
     alloc: Global,
     puzzle: &Puzzle,
