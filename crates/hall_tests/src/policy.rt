@@ -65,7 +65,7 @@ enum Under {
 /// is of what is limited, the moment, and the rule that denies: 0 where the action is allowed and 100 where it is repeated.
 type Row = (Ask, &'static str, Held, Under, u8, u64, u64, u8);
 
-const DECISIONS: [Row; 66] = [
+const DECISIONS: [Row; 68] = [
     (Import, "dora", NoRound, Nothing, 0, 0, START, 0),
     (Import, "dora", NoRound, Nothing, 20, 0, START, 20),
     (Import, "eve", NoRound, Nothing, 20, 0, START, 2),
@@ -89,6 +89,8 @@ const DECISIONS: [Row; 66] = [
     (Release, "dora", Draft, Nothing, 11, 0, START, 11),
     (Release, "dora", Draft, Nothing, 12, 0, START, 12),
     (Release, "dora", Draft, Nothing, 0, 0, START, 14),
+    (Submit, "eve", Released, Nothing, 0, 0, START - 1, 7),
+    (Submit, "eve", Released, Same, 6, 1, START, 6),
     (Submit, "eve", Published, Nothing, 0, 50, START, 15),
     (Submit, "eve", Published, Nothing, 0, 50, END, 8),
     (Submit, "player", Released, Nothing, 0, 0, START - 1, 5),
@@ -221,7 +223,7 @@ fn stored(rt: &(impl AllocGlobal + Abort)) -> PuzzleRow {
     }
 }
 
-fn answer(rt: &(impl AllocGlobal + Abort)) -> AnswerRow {
+fn answer(rt: &(impl AllocGlobal + Abort), said: &str) -> AnswerRow {
     let key = AnswerKey {
         entrant: text(rt, "eve"),
         round: text(rt, "r1"),
@@ -232,7 +234,7 @@ fn answer(rt: &(impl AllocGlobal + Abort)) -> AnswerRow {
         key,
         n: number(rt, 1),
         moment: number(rt, START),
-        answer: text(rt, "1234"),
+        answer: text(rt, said),
         verdict: Broken::new(),
     }
 }
@@ -273,7 +275,7 @@ fn facts(rt: &(impl AllocGlobal + Abort), row: &Row) -> Facts {
         Some(round(rt, held))
     };
     let answer = if under == Same {
-        Some(answer(rt))
+        Some(answer(rt, if test == 6 { "4321" } else { "1234" }))
     } else {
         None
     };
