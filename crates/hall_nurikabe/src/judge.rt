@@ -108,7 +108,8 @@ fn has_other_size(puzzle: &Puzzle, labels: &[Option<usize>], sizes: &[usize]) ->
     false
 }
 
-/// The names of the rules that the filling breaks.
+/// The names of the rules that the filling breaks: N1 where a number stands in a wall, N2 where two by two cells are all wall, N3 where the walls aren't all joined by sides,
+/// N4 where an island has no number, N5 where one has two, N6 where a number isn't the size of its island. The one error is want of memory.
 pub fn broken(alloc: Global, puzzle: &Puzzle, filling: &Filling) -> Result<Broken, AllocError>
     requires kind { puzzle.now.kind ≡ Kind.Nurikabe }
     requires filling { IsFilling puzzle.now filling.now }

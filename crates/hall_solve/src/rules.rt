@@ -20,7 +20,7 @@ pub trait Rules {
     /// What is to be solved.
     ghost question: { Self → Question };
 
-    /// The partial fillings of which `propagate` leaves no deduction to apply.
+    /// The partial fillings of which `propagate` leaves no deduction to apply; it says nothing where a kind doesn't give it.
     ghost settled: { Self → List (Option ℕ) → Type 0 } = { λ _ _. Unit {0} };
 
     /// How often `propagate` was called.
