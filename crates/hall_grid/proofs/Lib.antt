@@ -11,7 +11,7 @@ pub mod FormAt
 pub mod HasCanonicalText
 pub mod HasOneCanonicalText
 pub mod IsChoice
-pub mod IsPlain
+pub mod IsPrintableText
 pub mod Labelling
 pub mod NameSets
 pub mod Naming

@@ -1,5 +1,5 @@
 -- The one text that the writer gives to a puzzle.
-use Rattle.std.specs.Prelude.{◌≡◌, ◌≢◌, ◌⊎◌, ℕ, ◌+◌, ◌≤◌, List, [], ◌∷◌, ◌++◌, length, slice_get, Some, decimal, All}
+use Rattle.std.specs.Prelude.{◌≡◌, ◌≢◌, ◌⊎◌, ℕ, ◌+◌, ◌≤◌, List, [], ◌∷◌, ◌++◌, length, slice_get, Some, decimal}
 use Rattle.hall_grid.specs.declared.board.Size.{Size}
 use Rattle.hall_grid.specs.declared.board.Kind.{Kind}
 use Rattle.hall_grid.specs.declared.board.Kind.TheVariants.{Sudoku, Slither, Nurikabe}
@@ -66,13 +66,3 @@ pub record CanonicalText (text : List ℕ) (board : Board) : Type 0 where
   pub body : List ℕ
   pub canonical : Canonical board.kind board.size body board.clues
   pub whole : text ≡ head_of board.kind board.size ++ body
-
--- the byte is printable ASCII
-abbrev pub IsPrintable : ℕ → Type 0
-IsPrintable byte = (32 ≤ byte) × (byte ≤ 126)
-
--- a text of printable ASCII: at most the longest head, and four bytes for each of 1000 cells
-pub record IsPlain (text : List ℕ) : Type 0 where
-  pub some : 1 ≤ length text
-  pub few : length text ≤ 4015
-  pub printable : All IsPrintable text

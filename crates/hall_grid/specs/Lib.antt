@@ -11,6 +11,7 @@ pub mod FormReading
 pub mod Head
 pub mod Laws
 pub mod Nurikabe
+pub mod Printable
 pub mod Reached
 pub mod RegionLaws
 pub mod Rule

@@ -3,6 +3,7 @@ ghost use Rattle.std.specs.Prelude.{◌≡◌, ◌<◌, ◌≤◌, ◌≢◌, �
 ghost use Rattle.hall_grid.specs.Board.{HasSize};
 ghost use Rattle.hall_grid.specs.Slither.{flat_sides, all_sides};
 ghost use Rattle.hall_grid.specs.Answer.{places_of, values_of, value_byte, sudoku_byte, slither_byte, nurikabe_byte, text_of, IsFilling, AnswerText, SaysNothing};
+ghost use Rattle.hall_grid.specs.Printable.{IsPrintableText};
 ghost use Rattle.hall_grid.specs.Values.{SpellsValues, HasCellText};
 
 use crate::board::{Kind, Size};
@@ -185,23 +186,36 @@ fn push_values(text: &mut String, kind: Kind, values: &[u8]) -> Result<(), Alloc
     Ok(())
 }
 
-/// The text of the filling.
-pub fn write_answer(alloc: Global, puzzle: &Puzzle, filling: &Filling) -> Result<String, AllocError>
-    requires { IsFilling puzzle.now filling.now }
-    ensures { IfOk result (λ text. AnswerText puzzle.now (string_bytes text) filling.now) }
+/// Puts the text of a filling at the end of the text.
+fn push_filling(
+    text: &mut String,
+    kind: Kind,
+    size: Size,
+    values: &[u8],
+) -> Result<(), AllocError>
+    requires size { HasSize kind size }
+    requires exact { length values.now ≡ places_of kind size }
+    requires ranges { All (λ v. v < values_of kind size) values.now }
+    ensures { OnOk result (string_bytes text.new ≡ string_bytes text.old ++ text_of kind size values.now) }
 {
-    let kind = puzzle.kind();
-    let size = puzzle.size();
-    let values = filling.as_slice();
-    let mut text = String::new(alloc);
     match kind {
         Kind::Slither => {
             let (flat, upright) = values.split_at(size.flat_sides());
-            push_values(&mut text, kind, flat)?;
+            push_values(text, kind, flat)?;
             text.push('/')?;
-            push_values(&mut text, kind, upright)?;
+            push_values(text, kind, upright)
         }
-        Kind::Sudoku | Kind::Nurikabe => push_values(&mut text, kind, values)?,
+        Kind::Sudoku | Kind::Nurikabe => push_values(text, kind, values),
     }
+}
+
+/// The text of the filling, in at most 2,101 bytes of printable ASCII.
+pub fn write_answer(alloc: Global, puzzle: &Puzzle, filling: &Filling) -> Result<String, AllocError>
+    requires { IsFilling puzzle.now filling.now }
+    ensures says { IfOk result (λ text. AnswerText puzzle.now (string_bytes text) filling.now) }
+    ensures printable { IfOk result (λ text. IsPrintableText 0 2101 (string_bytes text)) }
+{
+    let mut text = String::new(alloc);
+    push_filling(&mut text, puzzle.kind(), puzzle.size(), filling.as_slice())?;
     Ok(text)
 }

@@ -2,7 +2,8 @@
 ghost use Rattle.std.specs.Prelude.{◌≡◌, ℕ, ◌+◌, ◌<◌, ◌≤◌, ◌↔◌, ◌++◌, List, length, string_bytes, IsTrue, IfOk, OnOk, Some};
 ghost use Rattle.hall_grid.specs.Board.{cells};
 ghost use Rattle.hall_grid.specs.Text.{word_of, SpellsText};
-ghost use Rattle.hall_grid.specs.Canonical.{IsFull, Takes, CanonicalText, IsPlain, head_of};
+ghost use Rattle.hall_grid.specs.Canonical.{IsFull, Takes, CanonicalText, head_of};
+ghost use Rattle.hall_grid.specs.Printable.{IsPrintableText};
 ghost use Rattle.hall_grid.specs.FormReading.{given_clues};
 ghost use Rattle.hall_grid.specs.Writing.{IsRunAt, IsChoice, IsShort, cell4_first, number16_bytes, written, AppendsBody};
 
@@ -149,11 +150,11 @@ fn push_body(text: &mut String, puzzle: &Puzzle) -> Result<(), AllocError>
     Ok(())
 }
 
-/// The one canonical text of the puzzle, in printable ASCII. The error is want of memory.
+/// The one canonical text of the puzzle, in at most 4,015 bytes of printable ASCII. The error is want of memory.
 pub fn write_puzzle(alloc: Global, puzzle: &Puzzle) -> Result<String, AllocError>
     ensures canonical { IfOk result (λ text. CanonicalText (string_bytes text) puzzle.now) }
     ensures reads_back { IfOk result (λ text. SpellsText (string_bytes text) puzzle.now) }
-    ensures plain { IfOk result (λ text. IsPlain (string_bytes text)) }
+    ensures printable { IfOk result (λ text. IsPrintableText 1 4015 (string_bytes text)) }
     ensures only { IfOk result
         (λ text. (other : List ℕ) → CanonicalText other puzzle.now → other ≡ string_bytes text) }
 {
