@@ -4,7 +4,8 @@ use Rattle.hall_grid.specs.Walk.{Walk}
 use Rattle.hall_grid.specs.Component.{IsLabelled, AreComponents, LabelsDiffer}
 use Rattle.hall_grid.proofs.Walks.{Walk-start, Walk-end, Walk-join, Walk-reverse, Walk-map}
 
-module _ (nodes : ℕ) (IsNext : ℕ → ℕ → Type 0) (IsMember : ℕ → Type 0) (labels : List (Option ℕ)) (are : AreComponents nodes IsNext IsMember labels) where
+module _ (nodes : ℕ) (IsNext : ℕ → ℕ → Type 0) (IsMember : ℕ → Type 0) (labels : List (Option ℕ))
+    (are : AreComponents nodes IsNext IsMember labels) where
   -- only members have labels, and a label is a member that has itself as its label
   pub labelled_member : (a label : ℕ) → IsLabelled labels a label → IsMember a
   labelled_member a label h = Walk-end IsNext IsMember label a (are.joined a label h)
@@ -12,18 +13,29 @@ module _ (nodes : ℕ) (IsNext : ℕ → ℕ → Type 0) (IsMember : ℕ → Typ
   pub label_member : (a label : ℕ) → IsLabelled labels a label → IsMember label
   label_member a label h = Walk-start IsNext IsMember label a (are.joined a label h)
 
-  pub own_label : (turn : (a b : ℕ) → IsNext a b → IsNext b a) → (a label : ℕ) → IsLabelled labels a label → IsLabelled labels label label
-  own_label turn a label h = are.shared a label label (Walk-reverse IsNext IsMember turn label a (are.joined a label h)) h
+  pub own_label : (turn : (a b : ℕ) → IsNext a b → IsNext b a)
+      → (a label : ℕ)
+      → IsLabelled labels a label
+      → IsLabelled labels label label
+  own_label turn a label h =
+      are.shared a label label (Walk-reverse IsNext IsMember turn label a (are.joined a label h)) h
 
   -- nodes with one label are joined
-  pub walk_from_label : (turn : (a b : ℕ) → IsNext a b → IsNext b a) → (a b label : ℕ) → IsLabelled labels a label → IsLabelled labels b label
+  pub walk_from_label : (turn : (a b : ℕ) → IsNext a b → IsNext b a)
+      → (a b label : ℕ)
+      → IsLabelled labels a label
+      → IsLabelled labels b label
       → Walk IsNext IsMember a b
   walk_from_label turn a b label p q =
-      Walk-join IsNext IsMember a label b (Walk-reverse IsNext IsMember turn label a (are.joined a label p)) (are.joined b label q)
+      Walk-join IsNext IsMember a label b (Walk-reverse IsNext IsMember turn label a (are.joined a label p))
+      (are.joined b label q)
 
   -- joined nodes have one label
-  pub label_from_walk : (a b : ℕ) → Walk IsNext IsMember a b → (label : ℕ) × IsLabelled labels a label × IsLabelled labels b label
-  label_from_walk a b w = let l = are.labelled a (Walk-start IsNext IsMember a b w) in (l.0, l.1, are.shared a b l.0 w l.1)
+  pub label_from_walk : (a b : ℕ)
+      → Walk IsNext IsMember a b
+      → (label : ℕ) × IsLabelled labels a label × IsLabelled labels b label
+  label_from_walk a b w = let l = are.labelled a (Walk-start IsNext IsMember a b w) in
+      (l.0, l.1, are.shared a b l.0 w l.1)
 
   -- of members, the labels are equal exactly where a walk joins them
   pub same_label : (turn : (a b : ℕ) → IsNext a b → IsNext b a) → (a b : ℕ) → IsMember a → IsMember b
@@ -43,12 +55,20 @@ module _ (nodes : ℕ) (IsNext : ℕ → ℕ → Type 0) (IsMember : ℕ → Typ
     (λ w. let l = label_from_walk a b w in other (let r = l.1 in let s = l.2 in cc)),
   )
 
-  apart_differing : (turn : (a b : ℕ) → IsNext a b → IsNext b a) → (a b : ℕ) × IsMember a × IsMember b × (Walk IsNext IsMember a b → ⊥)
+  apart_differing : (turn : (a b : ℕ) → IsNext a b → IsNext b a)
+      → (a b : ℕ) × IsMember a × IsMember b × (Walk IsNext IsMember a b → ⊥)
       → LabelsDiffer labels
   apart_differing turn (a, b, m, n, apart) =
       let x = are.labelled a m in
-      let y = are.labelled b n in
-      (a, b, x.0, y.0, x.1, y.1, (λ e. apart (walk_from_label turn a b x.0 x.1 (subst (λ l. IsLabelled labels b l) (sym e) y.1))))
+      let y = are.labelled b n in (
+        a,
+        b,
+        x.0,
+        y.0,
+        x.1,
+        y.1,
+        (λ e. apart (walk_from_label turn a b x.0 x.1 (subst (λ l. IsLabelled labels b l) (sym e) y.1))),
+      )
 
   -- labels differ exactly where no walk joins two of the members
   pub labels_apart : (turn : (a b : ℕ) → IsNext a b → IsNext b a)
@@ -56,11 +76,13 @@ module _ (nodes : ℕ) (IsNext : ℕ → ℕ → Type 0) (IsMember : ℕ → Typ
   labels_apart turn = (differing_apart turn, apart_differing turn)
 
 -- labels of components where the same nodes are said to be members in other words
-pub AreComponents-members : (nodes : ℕ) (IsNext : ℕ → ℕ → Type 0) (S T : ℕ → Type 0) (labels : List (Option ℕ)) → ((a : ℕ) → S a ↔ T a)
+pub AreComponents-members : (nodes : ℕ) (IsNext : ℕ → ℕ → Type 0) (S T : ℕ → Type 0) (labels : List (Option ℕ))
+    → ((a : ℕ) → S a ↔ T a)
     → AreComponents nodes IsNext S labels → AreComponents nodes IsNext T labels
 AreComponents-members nodes IsNext S T labels same are = record {
   exact = are.exact;
   labelled = λ a m. are.labelled a ((same a).1 m);
   joined = λ a label h. Walk-map IsNext IsNext S T (λ x. (same x).0) (λ x y _ _ n. n) label a (are.joined a label h);
-  shared = λ a b label w h. are.shared a b label (Walk-map IsNext IsNext T S (λ x. (same x).1) (λ x y _ _ n. n) a b w) h;
+  shared =
+      λ a b label w h. are.shared a b label (Walk-map IsNext IsNext T S (λ x. (same x).1) (λ x y _ _ n. n) a b w) h;
 }

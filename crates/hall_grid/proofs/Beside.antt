@@ -14,7 +14,8 @@ at_place size d r c e h =
     subst (λ d. (row size d ≡ r) × (col size d ≡ c)) (sym e) (div-mul-add r size.cols c h, mod-mul-add r size.cols c h)
 
 below_is : (size : Size) (d r c : ℕ) → d ≡ r * size.cols + c → r < size.rows → c < size.cols → d < cells size
-below_is size d r c e h k = let p : (r + 1) * size.cols ≤ size.rows * size.cols = mul-le-mul_right size.cols (omega arith) in omega arith
+below_is size d r c e h k =
+    let p : (r + 1) * size.cols ≤ size.rows * size.cols = mul-le-mul_right size.cols (omega arith) in omega arith
 
 -- a cell that isn't in the first row
 later_row : (r c n cell : ℕ) → cell ≡ r * n + c → c < n → n ≤ cell → (k : ℕ) × (r ≡ k + 1) × (cell ≡ k * n + n + c)
@@ -98,31 +99,43 @@ no_place other (suc zero, h, e) = absurd (cc)
 no_place other (suc (suc k), h, e) = absurd (omega arith)
 
 -- four places that hold the cells above, to the left, to the right and below hold the cells that touch
-module _ (size : Size) (cell : ℕ) (up left right down : Option ℕ) (above : Holds up (IsAbove size cell)) (before : Holds left (IsNextLeft size cell))
+module _ (size : Size) (cell : ℕ) (up left right down : Option ℕ) (above : Holds up (IsAbove size cell))
+    (before : Holds left (IsNextLeft size cell))
     (after : Holds right (IsNextRight size cell)) (under : Holds down (IsBelow size cell)) where
-  touching : (other : ℕ) → Contains (up ∷ left ∷ right ∷ down ∷ []) (Some other) → (other < cells size) × Touch size cell other
+  touching : (other : ℕ)
+      → Contains (up ∷ left ∷ right ∷ down ∷ []) (Some other)
+      → (other < cells size) × Touch size cell other
   touching other (zero, h, e) = let q = (above other).0 e in (q.0, inr (inr q.1, sym q.2))
   touching other (suc zero, h, e) = let q = (before other).0 e in (q.0, inl (sym q.1, inr q.2))
   touching other (suc (suc zero), h, e) = let q = (after other).0 e in (q.0, inl (sym q.1, inl (sym q.2)))
   touching other (suc (suc (suc zero)), h, e) = let q = (under other).0 e in (q.0, inr (inl (sym q.1), sym q.2))
   touching other (suc (suc (suc (suc k))), h, e) = absurd (omega arith)
 
-  among : (other : ℕ) → (other < cells size) × Touch size cell other → Contains (up ∷ left ∷ right ∷ down ∷ []) (Some other)
+  among : (other : ℕ)
+      → (other < cells size) × Touch size cell other
+      → Contains (up ∷ left ∷ right ∷ down ∷ []) (Some other)
   among other (low, inl (r, inl c)) = (2, omega arith, (after other).1 (low, sym r, sym c))
   among other (low, inl (r, inr c)) = (1, omega arith, (before other).1 (low, sym r, c))
   among other (low, inr (inl r, c)) = (3, omega arith, (under other).1 (low, sym r, sym c))
   among other (low, inr (inr r, c)) = (0, omega arith, (above other).1 (low, r, sym c))
 
-  pub touching_are : (other : ℕ) → Contains (up ∷ left ∷ right ∷ down ∷ []) (Some other) ↔ ((other < cells size) × Touch size cell other)
+  pub touching_are : (other : ℕ)
+      → Contains (up ∷ left ∷ right ∷ down ∷ []) (Some other) ↔ ((other < cells size) × Touch size cell other)
   touching_are other = (touching other, among other)
 
   -- the same, filled up with empty places
-  pub padded_touching : (other : ℕ) → Contains (up ∷ left ∷ right ∷ down ∷ None ∷ None ∷ []) (Some other) → (other < cells size) × Touch size cell other
+  pub padded_touching : (other : ℕ)
+      → Contains (up ∷ left ∷ right ∷ down ∷ None ∷ None ∷ []) (Some other)
+      → (other < cells size) × Touch size cell other
   padded_touching other h =
       elim (Contains-append_cases (up ∷ left ∷ right ∷ down ∷ []) (None ∷ None ∷ []) (Some other) h) [
         | inl k ↦ touching other k
         | inr k ↦ absurd (no_place other k)
       ]
 
-  pub padded_among : (other : ℕ) → other < cells size → Touch size cell other → Contains (up ∷ left ∷ right ∷ down ∷ None ∷ None ∷ []) (Some other)
-  padded_among other low t = Contains-append_left (up ∷ left ∷ right ∷ down ∷ []) (None ∷ None ∷ []) (Some other) (among other (low, t))
+  pub padded_among : (other : ℕ)
+      → other < cells size
+      → Touch size cell other
+      → Contains (up ∷ left ∷ right ∷ down ∷ None ∷ None ∷ []) (Some other)
+  padded_among other low t =
+      Contains-append_left (up ∷ left ∷ right ∷ down ∷ []) (None ∷ None ∷ []) (Some other) (among other (low, t))

@@ -28,16 +28,22 @@ before_two_again b n few e = rw e (grind (arith, nat_tests, common_steps))
 run_has_no_number : (b n : ℕ) → IsRun b n → cell4_value b ≡ None
 run_has_no_number b n r = grind (arith, nat_tests, common_steps)
 
-pub cell4_again : (form after : List ℕ) (clues : List Clue) → Form Slither form clues → cell4_form (form ++ after) ≡ Ok (clues, after)
+pub cell4_again : (form after : List ℕ) (clues : List Clue)
+    → Form Slither form clues
+    → cell4_form (form ++ after) ≡ Ok (clues, after)
 unfolding cell4_form
 cell4_again form after clues (one h _) = absurd h
 cell4_again form after clues (two h _ _) = absurd h
 cell4_again form after clues (three h _ _ _) = absurd h
-cell4_again form after clues (alone {a = a} {n = n} few e) = rw (ne_eqb a 46 (λ h. omega arith), alone_again a n few e) refl
-cell4_again form after clues (before_one {a = a} {n = n} few e) = rw (ne_eqb a 46 (λ h. omega arith), before_one_again a n few e) refl
-cell4_again form after clues (before_two {a = a} {n = n} few e) = rw (ne_eqb a 46 (λ h. omega arith), before_two_again a n few e) refl
+cell4_again form after clues (alone {a = a} {n = n} few e) =
+    rw (ne_eqb a 46 (λ h. omega arith), alone_again a n few e) refl
+cell4_again form after clues (before_one {a = a} {n = n} few e) =
+    rw (ne_eqb a 46 (λ h. omega arith), before_one_again a n few e) refl
+cell4_again form after clues (before_two {a = a} {n = n} few e) =
+    rw (ne_eqb a 46 (λ h. omega arith), before_two_again a n few e) refl
 cell4_again form after clues some_count = refl
-cell4_again form after clues (run {a = a} {n = n} r) = rw (ne_eqb a 46 (λ h. omega arith), run_has_no_number a n r, (run_again a n r).0) refl
+cell4_again form after clues (run {a = a} {n = n} r) =
+    rw (ne_eqb a 46 (λ h. omega arith), run_has_no_number a n r, (run_again a n r).0) refl
 
 cell4_value_is : (b : ℕ) (n : ℕ × ℕ) → cell4_value b ≡ Some n → IsCounted b n
 cell4_value_is b n e = grind (arith, nat_tests, common_steps)
@@ -50,9 +56,17 @@ counted_form b n (few, inr (inr h)) = rw h.0 (before_two few h.1)
 short_is : (b : ℕ) (rest : List ℕ) (n : Option (ℕ × ℕ)) (k : Option ℕ) (r : List Clue × List ℕ)
     → cell4_value b ≡ n → run_value b ≡ k → cell4_short n k rest ≡ Ok r → Reads Slither (b ∷ rest) r
 short_is b rest (Some n) k r e f g =
-    subst (λ r. Reads Slither (b ∷ rest) r) (ok_is _ r g) (record { form = b ∷ []; is_form = counted_form b n (cell4_value_is b n e); front = refl })
+    subst (λ r. Reads Slither (b ∷ rest) r) (ok_is _ r g) (record {
+      form = b ∷ [];
+      is_form = counted_form b n (cell4_value_is b n e);
+      front = refl;
+    })
 short_is b rest None (Some n) r e f g =
-    subst (λ r. Reads Slither (b ∷ rest) r) (ok_is _ r g) (record { form = b ∷ []; is_form = run (run_is b n f); front = refl })
+    subst (λ r. Reads Slither (b ∷ rest) r) (ok_is _ r g) (record {
+      form = b ∷ [];
+      is_form = run (run_is b n f);
+      front = refl;
+    })
 short_is b rest None None r e f g = absurd (cc)
 
 pub cell4_is : (bytes : List ℕ) (r : List Clue × List ℕ) → cell4_form bytes ≡ Ok r → Reads Slither bytes r
@@ -61,17 +75,25 @@ cell4_is [] r e = absurd (cc)
 cell4_is (b ∷ rest) r e =
     elim (chosen (b == 46) _ _ (Ok r) e) [
       | inl p ↦ subst (λ b. Reads Slither (b ∷ rest) r) (sym (eqb-true b 46 p.0))
-          (subst (λ r. Reads Slither (46 ∷ rest) r) (ok_is _ r p.1) (record { form = 46 ∷ []; is_form = some_count; front = refl }))
+          (subst (λ r. Reads Slither (46 ∷ rest) r) (ok_is _ r p.1) (record {
+            form = 46 ∷ [];
+            is_form = some_count;
+            front = refl;
+          }))
       | inr p ↦ short_is b rest (cell4_value b) (run_value b) r refl refl p.1
     ]
 
-short_err : (n : Option (ℕ × ℕ)) (k : Option ℕ) (rest rest' : List ℕ) (f : FormFault) → cell4_short n k rest ≡ Err f → (f ≡ Strange) × (cell4_short n k rest' ≡ Err Strange)
+short_err : (n : Option (ℕ × ℕ)) (k : Option ℕ) (rest rest' : List ℕ) (f : FormFault)
+    → cell4_short n k rest ≡ Err f
+    → (f ≡ Strange) × (cell4_short n k rest' ≡ Err Strange)
 short_err (Some n) k rest rest' f e = absurd (cc)
 short_err None (Some n) rest rest' f e = absurd (cc)
 short_err None None rest rest' f e = (cc, refl)
 
 -- only Strange is met, whatever follows the first byte
-pub cell4_err : (b : ℕ) (rest rest' : List ℕ) (f : FormFault) → cell4_form (b ∷ rest) ≡ Err f → (f ≡ Strange) × (cell4_form (b ∷ rest') ≡ Err Strange)
+pub cell4_err : (b : ℕ) (rest rest' : List ℕ) (f : FormFault)
+    → cell4_form (b ∷ rest) ≡ Err f
+    → (f ≡ Strange) × (cell4_form (b ∷ rest') ≡ Err Strange)
 unfolding cell4_form
 cell4_err b rest rest' f e =
     elim (chosen (b == 46) _ _ (Err f) e) [
@@ -79,7 +101,9 @@ cell4_err b rest rest' f e =
       | inr p ↦ let s = short_err (cell4_value b) (run_value b) rest rest' f p.1 in (s.0, rw p.0 s.1)
     ]
 
-pub cell4_strange : (b : ℕ) (rest : List ℕ) (f : FormFault) → cell4_form (b ∷ rest) ≡ Err f → BeginsNone Slither (b ∷ rest)
+pub cell4_strange : (b : ℕ) (rest : List ℕ) (f : FormFault)
+    → cell4_form (b ∷ rest) ≡ Err f
+    → BeginsNone Slither (b ∷ rest)
 cell4_strange b rest f e = λ bytes clues is_form.
     let again : cell4_form (b ∷ (bytes ++ [])) ≡ Ok (clues, []) = cell4_again (b ∷ bytes) [] clues is_form in
     let fails = (cell4_err b rest (bytes ++ []) f e).1 in cc

@@ -1,4 +1,5 @@
--- A flood: what has the new label is joined to the root, and what has it and isn't on the stack has its neighbours labelled.
+-- A flood: what has the new label is joined to the root, and what has it and isn't on the stack has its neighbours
+-- labelled.
 use Rattle.std.proofs.Common.{◌≡◌, ℕ, zero, suc, ◌+◌, ◌<◌, ◌⊎◌, ◌++◌, List, [], ◌∷◌, length, replicate, take, drop, map, Option, Some, None, refl, sym, ◌∙◌, subst, inl, inr, arith}
 use Rattle.std.specs.Prelude.{Contains}
 use Rattle.std.specs.Option.{is_some}
@@ -12,7 +13,8 @@ use Rattle.hall_grid.specs.Reached.{IsMarked, IsReach}
 use Rattle.hall_grid.proofs.Labelling.{one_label, labelled_below}
 use Rattle.hall_grid.proofs.Walks.{Walk-along, Walk-start, Walk-end}
 
-pub record Flooding (nodes : ℕ) (IsNext : ℕ → ℕ → Type 0) (IsMember : ℕ → Type 0) (root : ℕ) (old labels : List (Option ℕ)) (stack : List ℕ) : Type 0 where
+pub record Flooding (nodes : ℕ) (IsNext : ℕ → ℕ → Type 0) (IsMember : ℕ → Type 0) (root : ℕ)
+    (old labels : List (Option ℕ)) (stack : List ℕ) : Type 0 where
   pub exact : length labels ≡ nodes
   pub joined : (a label : ℕ) → IsLabelled labels a label → Walk IsNext IsMember label a
   pub closed : (a label : ℕ) → IsLabelled labels a label
@@ -51,11 +53,17 @@ module _ (nodes : ℕ) (IsNext : ℕ → ℕ → Type 0) (IsMember : ℕ → Typ
     taken_below = let k = labelled_below labels node root taken in let e = f.exact in omega arith
 
     -- a neighbour of the node that has a label has this label
-    same : ((a b : ℕ) → IsNext a b → IsNext b a) → (b label : ℕ) → IsNext node b → IsLabelled labels b label → label ≡ root
+    same : ((a b : ℕ) → IsNext a b → IsNext b a)
+        → (b label : ℕ)
+        → IsNext node b
+        → IsLabelled labels b label
+        → label ≡ root
     same turn b label n h =
         elim (f.closed b label h) [
           | inl s ↦ one_label labels b label root h (f.stacked b s)
-          | inr k ↦ one_label labels node label root (k node (turn node b n) (Walk-end IsNext IsMember root node (f.joined node root taken))) taken
+          | inr k ↦
+              one_label labels node label root
+              (k node (turn node b n) (Walk-end IsNext IsMember root node (f.joined node root taken))) taken
         ]
 
     pub taken_member : IsMember node
@@ -79,14 +87,17 @@ module _ (nodes : ℕ) (IsNext : ℕ → ℕ → Type 0) (IsMember : ℕ → Typ
             | inr e ↦ inr (λ b n m.
                 let n2 : IsNext node b = subst (λ x. IsNext x b) (sym e) n in
                 let c = l.covered b n2 m in
-                let r : label ≡ root = one_label labels node label root (subst (λ x. IsLabelled labels x label) (sym e) k) taken in
+                let r : label ≡ root =
+                one_label labels node label root (subst (λ x. IsLabelled labels x label) (sym e) k) taken in
                 let q : c.0 ≡ root = elim (l.only b c.0 c.1) [ inl j ↦ same turn b c.0 n2 j | inr j ↦ j.0 ] in
                 subst (λ x. IsLabelled new b x) (q ∙ sym r) c.1)
           ]
         ]
       ];
       stacked = λ a h. elim (l.fresh a h) [
-        | inl k ↦ l.kept a root (f.stacked a (subst (λ s. Contains s a) (sym split) (Contains-append_left rest (node ∷ []) a k)))
+        | inl k ↦
+            l.kept a root
+            (f.stacked a (subst (λ s. Contains s a) (sym split) (Contains-append_left rest (node ∷ []) a k)))
         | inr k ↦ k
       ];
       kept = λ a label h. l.kept a label (f.kept a label h);
@@ -100,7 +111,12 @@ module _ (nodes : ℕ) (IsNext : ℕ → ℕ → Type 0) (IsMember : ℕ → Typ
     components = record {
       exact = f.exact;
       joined = f.joined;
-      closed = λ a b label h n m. elim (f.closed a label h) [ inl k ↦ absurd (let low = k.1 in omega arith) | inr closed ↦ closed b n m ];
+      closed =
+          λ a b label h n m. elim (f.closed a label h) [
+            | inl k ↦ absurd (let low = k.1 in omega arith)
+            | inr closed ↦
+                closed b n m
+          ];
     };
     kept = f.kept;
     only = f.only;
@@ -122,7 +138,8 @@ HasComponents-none nodes IsNext IsMember n e = record {
 }
 
 -- all members below a number have labels
-pub record Labelling (nodes : ℕ) (IsNext : ℕ → ℕ → Type 0) (IsMember : ℕ → Type 0) (labels : List (Option ℕ)) (done : ℕ) : Type 0 where
+pub record Labelling (nodes : ℕ) (IsNext : ℕ → ℕ → Type 0) (IsMember : ℕ → Type 0) (labels : List (Option ℕ))
+    (done : ℕ) : Type 0 where
   pub components : HasComponents nodes IsNext IsMember labels
   pub labelled : (a : ℕ) → a < done → IsMember a → (label : ℕ) × IsLabelled labels a label
 
@@ -136,8 +153,11 @@ Labelling-none nodes IsNext IsMember n e = record {
 below_or_at : (a b : ℕ) → a < b + 1 → (a < b) ⊎ (a ≡ b)
 below_or_at a b h = elim (cases_lt a b) [ inl k ↦ inl k | inr k ↦ inr (omega arith) ]
 
-pub Labelling-step : (nodes : ℕ) (IsNext : ℕ → ℕ → Type 0) (IsMember : ℕ → Type 0) (old new : List (Option ℕ)) (node : ℕ)
-    → Labelling nodes IsNext IsMember old node → Floods nodes IsNext IsMember node old new → Labelling nodes IsNext IsMember new (node + 1)
+pub Labelling-step : (nodes : ℕ) (IsNext : ℕ → ℕ → Type 0) (IsMember : ℕ → Type 0) (old new : List (Option ℕ))
+    (node : ℕ)
+    → Labelling nodes IsNext IsMember old node
+    → Floods nodes IsNext IsMember node old new
+    → Labelling nodes IsNext IsMember new (node + 1)
 Labelling-step nodes IsNext IsMember old new node l f = record {
   components = f.components;
   labelled = λ a h m. elim (below_or_at a node h) [
@@ -146,7 +166,8 @@ Labelling-step nodes IsNext IsMember old new node l f = record {
   ];
 }
 
-pub AreComponents-from_Labelling : (nodes : ℕ) (IsNext : ℕ → ℕ → Type 0) (IsMember : ℕ → Type 0) (labels : List (Option ℕ))
+pub AreComponents-from_Labelling : (nodes : ℕ) (IsNext : ℕ → ℕ → Type 0) (IsMember : ℕ → Type 0)
+    (labels : List (Option ℕ))
     → ((a : ℕ) → IsMember a → a < nodes) → (done : ℕ) → done ≡ nodes → Labelling nodes IsNext IsMember labels done
     → AreComponents nodes IsNext IsMember labels
 AreComponents-from_Labelling nodes IsNext IsMember labels below done e l = record {
@@ -154,14 +175,17 @@ AreComponents-from_Labelling nodes IsNext IsMember labels below done e l = recor
   labelled = λ a m. l.labelled a (let k = below a m in omega arith) m;
   joined = l.components.joined;
   shared = λ a b label w h.
-      Walk-along IsNext IsMember (λ x. IsLabelled labels x label) (λ x y k n m. l.components.closed x y label k n m) a b h w;
+      Walk-along IsNext IsMember (λ x. IsLabelled labels x label)
+      (λ x y k n m. l.components.closed x y label k n m) a b h w;
 }
 
 -- what a borrowed vector holds after its whole slice was written
 pub written : {A : Type 0} → (n : ℕ) (xs ys : List A) → length xs ≡ n → take n (xs ++ drop (length xs) ys) ≡ xs
 written n xs ys e = take_at xs (drop (length xs) ys) n e
 
-marked_label : (labels : List (Option ℕ)) (a : ℕ) → IsMarked (map is_some labels) a → (label : ℕ) × IsLabelled labels a label
+marked_label : (labels : List (Option ℕ)) (a : ℕ)
+    → IsMarked (map is_some labels) a
+    → (label : ℕ) × IsLabelled labels a label
 marked_label [] a h = absurd (cc)
 marked_label (None ∷ labels) zero h = absurd (cc)
 marked_label (Some x ∷ labels) zero h = (x, refl)
@@ -174,8 +198,10 @@ label_marked (Some x ∷ labels) zero label h = refl
 label_marked (x ∷ labels) (suc a) label h = label_marked labels a label h
 
 -- after a flood over no labels those with a label are reached
-pub IsReach-from_Floods : (nodes : ℕ) (IsNext : ℕ → ℕ → Type 0) (IsMember : ℕ → Type 0) (from n : ℕ) (labels : List (Option ℕ))
-    → Floods nodes IsNext IsMember from (replicate n None) labels → IsReach nodes IsNext IsMember from (map is_some labels)
+pub IsReach-from_Floods : (nodes : ℕ) (IsNext : ℕ → ℕ → Type 0) (IsMember : ℕ → Type 0) (from n : ℕ)
+    (labels : List (Option ℕ))
+    → Floods nodes IsNext IsMember from (replicate n None) labels
+    → IsReach nodes IsNext IsMember from (map is_some labels)
 IsReach-from_Floods nodes IsNext IsMember from n labels f = record {
   exact = length-map labels is_some ∙ f.components.exact;
   walks = λ a. (
@@ -188,6 +214,7 @@ IsReach-from_Floods nodes IsNext IsMember from n labels f = record {
     (λ w.
         let l = f.begun (Walk-start IsNext IsMember from a w) in
         label_marked labels a l.0
-        (Walk-along IsNext IsMember (λ x. IsLabelled labels x l.0) (λ x y k n m. f.components.closed x y l.0 k n m) from a l.1 w)),
+        (Walk-along IsNext IsMember (λ x. IsLabelled labels x l.0)
+        (λ x y k n m. f.components.closed x y l.0 k n m) from a l.1 w)),
   );
 }

@@ -14,7 +14,9 @@ use Rattle.hall_grid.proofs.Number16Form.{Reads, number16_again, number16_is, nu
 use Rattle.hall_grid.proofs.Cell4Form.{cell4_again, cell4_is, cell4_err, cell4_strange}
 
 -- a form is read as the table says, whatever follows it
-pub form_again : (kind : Kind) (form after : List ℕ) (clues : List Clue) → Form kind form clues → form_at kind (form ++ after) ≡ Ok (clues, after)
+pub form_again : (kind : Kind) (form after : List ℕ) (clues : List Clue)
+    → Form kind form clues
+    → form_at kind (form ++ after) ≡ Ok (clues, after)
 form_again Sudoku form after clues f = number16_again Sudoku form after clues tt f
 form_again Slither form after clues f = cell4_again form after clues f
 form_again Nurikabe form after clues f = number16_again Nurikabe form after clues tt f
@@ -31,14 +33,20 @@ none_is kind bytes f e = λ form after clues is_form front.
     let again : form_at kind bytes ≡ Ok (clues, after) = rw front (form_again kind form after clues is_form) in cc
 
 -- at Cut the bytes begin with a sign, and no form stands there
-pub is_cut : (kind : Kind) (bytes : List ℕ) → 0 < length bytes → form_at kind bytes ≡ Err Cut → HasNumber16 kind × BeginsLong bytes × HasNone kind bytes
+pub is_cut : (kind : Kind) (bytes : List ℕ)
+    → 0 < length bytes
+    → form_at kind bytes ≡ Err Cut
+    → HasNumber16 kind × BeginsLong bytes × HasNone kind bytes
 is_cut kind [] some e = absurd (omega arith)
 is_cut Sudoku (b ∷ rest) some e = (tt, number16_cut Sudoku (b ∷ rest) e, none_is Sudoku (b ∷ rest) Cut e)
 is_cut Slither (b ∷ rest) some e = let bad = (cell4_err b rest rest Cut e).0 in absurd (cc)
 is_cut Nurikabe (b ∷ rest) some e = (tt, number16_cut Nurikabe (b ∷ rest) e, none_is Nurikabe (b ∷ rest) Cut e)
 
 -- at Strange no form begins with the first byte
-pub is_strange : (kind : Kind) (bytes : List ℕ) → 0 < length bytes → form_at kind bytes ≡ Err Strange → BeginsNone kind bytes
+pub is_strange : (kind : Kind) (bytes : List ℕ)
+    → 0 < length bytes
+    → form_at kind bytes ≡ Err Strange
+    → BeginsNone kind bytes
 is_strange kind [] some e = omega arith
 is_strange Sudoku (b ∷ rest) some e = number16_strange Sudoku b rest tt e
 is_strange Slither (b ∷ rest) some e = cell4_strange b rest Strange e
@@ -46,14 +54,28 @@ is_strange Nurikabe (b ∷ rest) some e = number16_strange Nurikabe b rest tt e
 
 -- a form that is read and in range
 pub takes_form : (kind : Kind) (size : Size) (bytes : List ℕ) (old new clues : List Clue) (after : List ℕ)
-    → form_at kind bytes ≡ Ok (clues, after) → All (IsClue kind size) clues → new ≡ old ++ clues → TakesForm kind size bytes old new after
+    → form_at kind bytes ≡ Ok (clues, after)
+    → All (IsClue kind size) clues
+    → new ≡ old ++ clues
+    → TakesForm kind size bytes old new after
 takes_form kind size bytes old new clues after e ranges adds =
     let r = form_is kind bytes (clues, after) e in
-    record { piece = record { bytes = r.form; clues = clues }; is_piece = (r.is_form, ranges); front = r.front; clues = adds }
+    record {
+      piece = record { bytes = r.form; clues = clues };
+      is_piece = (r.is_form, ranges);
+      front = r.front;
+      clues = adds;
+    }
 
 -- a form that is read and isn't in range
 pub has_wrong : (kind : Kind) (size : Size) (bytes : List ℕ) (clues : List Clue) (after : List ℕ)
     → form_at kind bytes ≡ Ok (clues, after) → (All (IsClue kind size) clues → ⊥) → HasWrong kind size bytes
 has_wrong kind size bytes clues after e wrong =
     let r = form_is kind bytes (clues, after) e in
-    record { piece = record { bytes = r.form; clues = clues }; after = after; front = r.front; form = r.is_form; wrong = wrong }
+    record {
+      piece = record { bytes = r.form; clues = clues };
+      after = after;
+      front = r.front;
+      form = r.is_form;
+      wrong = wrong;
+    }

@@ -16,7 +16,9 @@ use Rattle.hall_grid.proofs.IsChoice.{choice_covers}
 use Rattle.hall_grid.proofs.AppendsBody.{IsWritten, IsWritten-start, IsWritten-more, AppendsBody-from_IsWritten}
 
 -- a cell is empty, or full, or past the end
-cell_cases : (clues : List Clue) (cell : ℕ) → (IsEmpty clues cell × (IsFull clues cell → ⊥)) ⊎ (IsFull clues cell × (IsEmpty clues cell → ⊥)) ⊎ ((IsEmpty clues cell → ⊥) × (IsFull clues cell → ⊥))
+cell_cases : (clues : List Clue) (cell : ℕ)
+    → (IsEmpty clues cell × (IsFull clues cell → ⊥)) ⊎ (IsFull clues cell × (IsEmpty clues cell → ⊥))
+    ⊎ ((IsEmpty clues cell → ⊥) × (IsFull clues cell → ⊥))
 cell_cases clues cell =
     elim (slice_get_cases clues cell).1 [
       | inl (Blank, within, e, _) ↦ inl (e, (λ full. let shown = full.2 in full.1 (cc)))
@@ -26,8 +28,18 @@ cell_cases clues cell =
     ]
 
 -- the longest run from a cell on, of which so many cells are known to be empty
-run_from : (clues : List Clue) (cell rest count : ℕ) → count + rest ≡ 20 → ((k : ℕ) → k < count → IsEmpty clues (cell + k)) → (n : ℕ) × IsRunAt clues cell n
-run_from clues cell zero count sum empty = (count, record { few = omega arith; empty = empty; stops = λ less. absurd (omega arith) })
+run_from : (clues : List Clue) (cell rest count : ℕ)
+    → count + rest ≡ 20
+    → ((k : ℕ) → k < count → IsEmpty clues (cell + k))
+    → (n : ℕ) × IsRunAt clues cell n
+run_from clues cell zero count sum empty = (
+  count,
+  record {
+    few = omega arith;
+    empty = empty;
+    stops = λ less. absurd (omega arith);
+  },
+)
 run_from clues cell (suc rest) count sum empty =
     elim (cell_cases clues (cell + count)) [
       | inl here ↦ run_from clues cell rest (suc count) (omega arith) (λ k below.
@@ -59,7 +71,10 @@ abbrev given_of : Option Clue → ℕ → Given
 given_of clue blanks = record { clue = clue; blanks = blanks }
 
 -- at each cell there is a form to choose
-number_choice : (board : Board) (kind : Kind) (cell n : ℕ) → board.kind ≡ kind → slice_get board.clues cell ≡ Some (Number n) → (given : Given) × IsChoice board cell given
+number_choice : (board : Board) (kind : Kind) (cell n : ℕ)
+    → board.kind ≡ kind
+    → slice_get board.clues cell ≡ Some (Number n)
+    → (given : Given) × IsChoice board cell given
 number_choice board Sudoku cell n e shown = (given_of (Some (Number n)) 0, rw e (shown, refl))
 number_choice board Slither cell n e shown =
     let takes = takes_some board.clues cell in (given_of (Some (Number n)) takes.0, rw e (shown, takes.1))
@@ -68,15 +83,21 @@ number_choice board Nurikabe cell n e shown = (given_of (Some (Number n)) 0, rw 
 choice : (board : Board) (cell : ℕ) → cell < length board.clues → (given : Given) × IsChoice board cell given
 choice board cell within =
     elim (slice_get_cases board.clues cell).1 [
-      | inl (Blank, _, e, _) ↦ let r = run_from board.clues cell 20 0 refl (λ k below. absurd (omega arith)) in (given_of None r.0, (e, r.1))
+      | inl (Blank, _, e, _) ↦ let r = run_from board.clues cell 20 0 refl (λ k below. absurd (omega arith)) in
+          (given_of None r.0, (e, r.1))
       | inl (Unknown, _, e, _) ↦ (given_of (Some Unknown) 0, (e, refl))
       | inl (Number n, _, e, _) ↦ number_choice board board.kind cell n refl e
       | inr (past, _) ↦ absurd (omega arith)
     ]
 
 -- with so many cells left at most
-write_on : (n : ℕ) (board : Board) (text : List ℕ) (cell : ℕ) → IsBoard board → cells board.size - cell ≤ n → IsWritten board [] text cell → (body : List ℕ) × AppendsBody board [] body
-write_on zero board text cell is_board few so_far = (text, AppendsBody-from_IsWritten board [] text cell is_board so_far (omega arith))
+write_on : (n : ℕ) (board : Board) (text : List ℕ) (cell : ℕ)
+    → IsBoard board
+    → cells board.size - cell ≤ n
+    → IsWritten board [] text cell
+    → (body : List ℕ) × AppendsBody board [] body
+write_on zero board text cell is_board few so_far =
+    (text, AppendsBody-from_IsWritten board [] text cell is_board so_far (omega arith))
 write_on (suc n) board text cell is_board few so_far =
     elim (cases_lt cell (cells board.size)) [
       | inr all ↦ (text, AppendsBody-from_IsWritten board [] text cell is_board so_far all)

@@ -168,14 +168,15 @@ head_printable kind size fits =
     let after_rows : List ℕ = decimal size.rows ++ (47 ∷ []) in
     let after_cols : List ℕ = decimal size.cols ++ (47 ∷ after_rows) in
     let rows_end : ArePrintable after_rows =
-        All-append IsPrintable (decimal size.rows) (47 ∷ []) rows.printable (last_byte 47 refl) in
+    All-append IsPrintable (decimal size.rows) (47 ∷ []) rows.printable (last_byte 47 refl) in
     let cols_end : ArePrintable after_cols =
-        All-append IsPrintable (decimal size.cols) (47 ∷ after_rows) cols.printable (slash_then after_rows rows_end) in
+    All-append IsPrintable (decimal size.cols) (47 ∷ after_rows) cols.printable (slash_then after_rows rows_end) in
     let rows_length = length-append (decimal size.rows) (47 ∷ []) in
     let cols_length = length-append (decimal size.cols) (47 ∷ after_rows) in
     let whole_length = length-append (word_of kind) (47 ∷ after_cols) in
     record {
-      printable = All-append IsPrintable (word_of kind) (47 ∷ after_cols) word.printable (slash_then after_cols cols_end);
+      printable =
+          All-append IsPrintable (word_of kind) (47 ∷ after_cols) word.printable (slash_then after_cols cols_end);
       some = omega (arith, word.some, whole_length);
       few = omega (arith, word.few, cols.few, rows.few, rows_length, cols_length, whole_length);
     }
@@ -229,7 +230,7 @@ values_printable : (kind : Kind) (size : Size) (vs : List ℕ)
 values_printable kind size vs fits ranges =
     All-map IsPrintable (value_byte kind) vs
     (All-weaker (λ v. v < values_of kind size) (λ v. IsPrintable (value_byte kind v))
-      (λ v few. value_printable kind size v fits few) vs ranges)
+    (λ v few. value_printable kind size v fits few) vs ranges)
 
 filling_printable : (kind : Kind) (size : Size) (clues : List Clue) (f : List ℕ)
     → HasSize kind size
@@ -249,10 +250,18 @@ filling_printable Slither size clues f fits filling =
     let after = values_printable Slither size upright fits (All-drop IsLine (flat_sides size) f filling.ranges) in
     let whole = length-append (map slither_byte flat) (47 ∷ map slither_byte upright) in
     let parts : length flat + length upright ≡ length f =
-        sym (length-append flat upright) ∙ ap length (take-append-drop (flat_sides size) f) in
+    sym (length-append flat upright) ∙ ap length (take-append-drop (flat_sides size) f) in
     record {
       some = omega arith;
-      few = omega (arith, fits.few_cells, filling.exact, whole, length-map flat slither_byte, length-map upright slither_byte);
+      few =
+          omega (
+            arith,
+            fits.few_cells,
+            filling.exact,
+            whole,
+            length-map flat slither_byte,
+            length-map upright slither_byte,
+          );
       printable = All-append IsPrintable (map slither_byte flat) _ before (slash_then _ after);
     }
 filling_printable Nurikabe size clues f fits filling =

@@ -8,7 +8,10 @@ use Rattle.std.proofs.lemmas.Bool.{cases_eq}
 use Rattle.hall_grid.specs.Component.{IsLabelled}
 use Rattle.hall_grid.specs.Flood.{Labels, unlabelled}
 
-unlabelled-set : (labels : List (Option ℕ)) (i label : ℕ) → i < length labels → get_or labels i None ≡ None → unlabelled (set labels i (Some label)) + 1 ≡ unlabelled labels
+unlabelled-set : (labels : List (Option ℕ)) (i label : ℕ)
+    → i < length labels
+    → get_or labels i None ≡ None
+    → unlabelled (set labels i (Some label)) + 1 ≡ unlabelled labels
 unlabelled-set [] i label h e = omega arith
 unlabelled-set (Some x ∷ labels) zero label h e = absurd (cc)
 unlabelled-set (None ∷ labels) zero label h e = refl
@@ -25,7 +28,8 @@ one_label labels a x y p q = cc
 
 -- no label was given
 pub Labels-none : (IsTarget IsMember : ℕ → Type 0) (root : ℕ) (labels : List (Option ℕ)) (stack : List ℕ)
-    → ((a : ℕ) → IsTarget a → IsMember a → (label : ℕ) × IsLabelled labels a label) → Labels IsTarget IsMember root labels labels stack stack
+    → ((a : ℕ) → IsTarget a → IsMember a → (label : ℕ) × IsLabelled labels a label)
+    → Labels IsTarget IsMember root labels labels stack stack
 Labels-none IsTarget IsMember root labels stack covered = record {
   exact = refl;
   kept = λ a label h. h;
@@ -37,15 +41,19 @@ Labels-none IsTarget IsMember root labels stack covered = record {
 }
 
 -- one node got the label
-pub Labels-one : (IsMember : ℕ → Type 0) (root : ℕ) (labels : List (Option ℕ)) (stack : List ℕ) (node : ℕ) → node < length labels → IsMember node
-    → get_or labels node None ≡ None → Labels (λ x. x ≡ node) IsMember root labels (set labels node (Some root)) stack (stack ++ node ∷ [])
+pub Labels-one : (IsMember : ℕ → Type 0) (root : ℕ) (labels : List (Option ℕ)) (stack : List ℕ) (node : ℕ)
+    → node < length labels
+    → IsMember node
+    → get_or labels node None ≡ None
+    → Labels (λ x. x ≡ node) IsMember root labels (set labels node (Some root)) stack (stack ++ node ∷ [])
 Labels-one IsMember root labels stack node within member fresh =
     let new : List (Option ℕ) = set labels node (Some root) in
     let here : IsLabelled new node root = get_or-set_same labels node (Some root) None within in
     record {
       exact = length-set labels node (Some root);
       kept = λ a label h. elim (cases_eq a node) [
-        | inl e ↦ absurd (let k : get_or labels node None ≡ Some label = subst (λ a. IsLabelled labels a label) e h in cc)
+        | inl e ↦
+            absurd (let k : get_or labels node None ≡ Some label = subst (λ a. IsLabelled labels a label) e h in cc)
         | inr ne ↦ get_or-set_other labels node a (Some root) None ne ∙ h
       ];
       covered = λ a t m. (root, subst (λ a. IsLabelled new a root) (sym t) here);
@@ -68,7 +76,9 @@ Labels-one IsMember root labels stack node within member fresh =
 
 -- one step after the other
 pub Labels-then : (S T IsMember : ℕ → Type 0) (root : ℕ) (l0 l1 l2 : List (Option ℕ)) (s0 s1 s2 : List ℕ)
-    → Labels S IsMember root l0 l1 s0 s1 → Labels T IsMember root l1 l2 s1 s2 → Labels (λ a. S a ⊎ T a) IsMember root l0 l2 s0 s2
+    → Labels S IsMember root l0 l1 s0 s1
+    → Labels T IsMember root l1 l2 s1 s2
+    → Labels (λ a. S a ⊎ T a) IsMember root l0 l2 s0 s2
 Labels-then S T IsMember root l0 l1 l2 s0 s1 s2 p q = record {
   exact = q.exact ∙ p.exact;
   kept = λ a label h. q.kept a label (p.kept a label h);
@@ -110,29 +120,46 @@ if_some None true e h = absurd (cc)
 if_some None false e h = absurd (cc)
 
 -- the places up to an index and the place there
-pub more_place : (places : List (Option ℕ)) (i : ℕ) (d x : Option ℕ) → i < length places → Contains (take (i + 1) places) x
+pub more_place : (places : List (Option ℕ)) (i : ℕ) (d x : Option ℕ)
+    → i < length places
+    → Contains (take (i + 1) places) x
     → Contains (take i places) x ⊎ (get_or places i d ≡ x)
-more_place places i d x h k = Contains-push_cases (take i places) (get_or places i d) x (subst (λ l. Contains l x) (take_more places i d h) k)
+more_place places i d x h k =
+    Contains-push_cases (take i places) (get_or places i d) x (subst (λ l. Contains l x) (take_more places i d h) k)
 
-place_before : (places : List (Option ℕ)) (i : ℕ) (d x : Option ℕ) → i < length places → Contains (take i places) x → Contains (take (i + 1) places) x
+place_before : (places : List (Option ℕ)) (i : ℕ) (d x : Option ℕ)
+    → i < length places
+    → Contains (take i places) x
+    → Contains (take (i + 1) places) x
 place_before places i d x h k =
-    subst (λ l. Contains l x) (sym (take_more places i d h)) (Contains-append_left (take i places) (get_or places i d ∷ []) x k)
+    subst (λ l. Contains l x) (sym (take_more places i d h))
+    (Contains-append_left (take i places) (get_or places i d ∷ []) x k)
 
-place_here : (places : List (Option ℕ)) (i : ℕ) (d x : Option ℕ) → i < length places → get_or places i d ≡ x → Contains (take (i + 1) places) x
+place_here : (places : List (Option ℕ)) (i : ℕ) (d x : Option ℕ)
+    → i < length places
+    → get_or places i d ≡ x
+    → Contains (take (i + 1) places) x
 place_here places i d x h e =
     subst (λ l. Contains l x) (sym (take_more places i d h))
-    (subst (λ y. Contains (take i places ++ get_or places i d ∷ []) y) e (Contains-push (take i places) (get_or places i d)))
+    (subst (λ y. Contains (take i places ++ get_or places i d ∷ []) y) e
+    (Contains-push (take i places) (get_or places i d)))
 
-pub place_in : (places : List (Option ℕ)) (i : ℕ) (d x : Option ℕ) → i < length places → get_or places i d ≡ x → Contains places x
+pub place_in : (places : List (Option ℕ)) (i : ℕ) (d x : Option ℕ)
+    → i < length places
+    → get_or places i d ≡ x
+    → Contains places x
 place_in places i d x h e = subst (λ y. Contains places y) e (Contains-get_or places i d h)
 
 abbrev pub AmongFirst : List (Option ℕ) → ℕ → ℕ → Type 0
 AmongFirst places i x = Contains (take i places) (Some x)
 
-module _ (IsMember : ℕ → Type 0) (root : ℕ) (places : List (Option ℕ)) (i : ℕ) (d : Option ℕ) (within : i < length places) where
+module _ (IsMember : ℕ → Type 0) (root : ℕ) (places : List (Option ℕ)) (i : ℕ) (d : Option ℕ)
+    (within : i < length places) where
   -- one more place that holds no node
-  pub Labels-empty_place : (old new : List (Option ℕ)) (before after : List ℕ) → ((x : ℕ) → get_or places i d ≡ Some x → ⊥)
-      → Labels (AmongFirst places i) IsMember root old new before after → Labels (AmongFirst places (i + 1)) IsMember root old new before after
+  pub Labels-empty_place : (old new : List (Option ℕ)) (before after : List ℕ)
+      → ((x : ℕ) → get_or places i d ≡ Some x → ⊥)
+      → Labels (AmongFirst places i) IsMember root old new before after
+      → Labels (AmongFirst places (i + 1)) IsMember root old new before after
   Labels-empty_place old new before after none =
       Labels-retarget (AmongFirst places i) (AmongFirst places (i + 1)) IsMember root old new before after
       (λ x h. place_before places i d (Some x) within h)

@@ -21,7 +21,9 @@ Lists [] rule = ⊥
 Lists (r ∷ rules) rule = (rule ≡ r) ⊎ Lists rules rule
 
 -- a filling breaks the rules of its kind alone
-lists_broken : (kind : Kind) (board : Board) (f : List ℕ) (rule : Rule) → Breaks kind board f rule → Lists (rules_of kind) rule
+lists_broken : (kind : Kind) (board : Board) (f : List ℕ) (rule : Rule)
+    → Breaks kind board f rule
+    → Lists (rules_of kind) rule
 lists_broken Sudoku board f A0 h = absurd h
 lists_broken Sudoku board f U1 h = inl refl
 lists_broken Sudoku board f U2 h = inr (inl refl)
@@ -75,19 +77,21 @@ lists_broken Nurikabe board f N6 h = inr (inr (inr (inr (inr (inl refl)))))
 abbrev pub Adding : (Rule → Type 0) → List Rule → ℕ → ℕ → Type 0
 Adding Sentence [] first last = first ≡ last
 Adding Sentence (rule ∷ rules) first last =
-    (next : ℕ) × (holds : Bool) × Adds first next rule holds × (IsTrue holds ↔ Sentence rule) × Adding Sentence rules next last
+    (next : ℕ) × (holds : Bool) × Adds first next rule holds × (IsTrue holds ↔ Sentence rule)
+    × Adding Sentence rules next last
 
 -- a name of the last set was in the first one, or its sentence is true
 sentence_true : (Sentence : Rule → Type 0) (rules : List Rule) (first last : ℕ) → Adding Sentence rules first last
     → (rule : Rule) → Names last rule → Names first rule ⊎ Sentence rule
 sentence_true Sentence [] first last adding rule h = inl (subst (λ n. Names n rule) (sym adding) h)
-sentence_true Sentence (r ∷ rules) first last (next, holds, adds, right, rest) rule h = elim (sentence_true Sentence rules next last rest rule h) [
-  | inr true ↦ inr true
-  | inl before ↦ elim ((adds.each rule).0 before) [
-    | inl k ↦ inl k
-    | inr k ↦ inr (subst Sentence (sym k.0) (right.0 k.1))
-  ]
-]
+sentence_true Sentence (r ∷ rules) first last (next, holds, adds, right, rest) rule h =
+    elim (sentence_true Sentence rules next last rest rule h) [
+      | inr true ↦ inr true
+      | inl before ↦ elim ((adds.each rule).0 before) [
+        | inl k ↦ inl k
+        | inr k ↦ inr (subst Sentence (sym k.0) (right.0 k.1))
+      ]
+    ]
 
 -- a name of the first set is in the last one
 name_kept : (Sentence : Rule → Type 0) (rules : List Rule) (first last : ℕ) → Adding Sentence rules first last
@@ -105,14 +109,22 @@ name_added Sentence (r ∷ rules) first last (next, holds, adds, right, rest) ru
 name_added Sentence (r ∷ rules) first last (next, holds, adds, right, rest) rule (inr lists) h =
     name_added Sentence rules next last rest rule lists h
 
-set_last : (Sentence : Rule → Type 0) (rules : List Rule) (first last : ℕ) → Adding Sentence rules first last → IsNameSet first → IsNameSet last
+set_last : (Sentence : Rule → Type 0) (rules : List Rule) (first last : ℕ)
+    → Adding Sentence rules first last
+    → IsNameSet first
+    → IsNameSet last
 set_last Sentence [] first last adding set = subst IsNameSet adding set
-set_last Sentence (r ∷ rules) first last (next, holds, adds, right, rest) set = set_last Sentence rules next last rest adds.set
+set_last Sentence (r ∷ rules) first last (next, holds, adds, right, rest) set =
+    set_last Sentence rules next last rest adds.set
 
 -- from the empty set on, the tests of a kind's rules make the set of the broken ones; callers give the last fact as
--- (_, _, adds, right, (_, _, adds, right, .. (_, _, adds, right, refl))), with the clauses of `insert_if` and of the tests
+-- (_, _, adds, right, (_, _, adds, right, .. (_, _, adds, right, refl))), with the clauses of `insert_if` and of
+-- the tests
 pub broken_are : (kind : Kind) (board : Board) (f : List ℕ) (first last : ℕ) → board.kind ≡ kind
-    → ((rule : Rule) → Names first rule → ⊥) → IsNameSet first → Adding (Breaks kind board f) (rules_of kind) first last → AreBroken board f last
+    → ((rule : Rule) → Names first rule → ⊥)
+    → IsNameSet first
+    → Adding (Breaks kind board f) (rules_of kind) first last
+    → AreBroken board f last
 broken_are kind board f first last is none set adding = record {
   set = set_last (Breaks kind board f) (rules_of kind) first last adding set;
   each = λ rule. subst (λ (k : Kind). Names last rule ↔ Breaks k board f rule) (sym is) (
@@ -120,6 +132,7 @@ broken_are kind board f first last is none set adding = record {
       | inl before ↦ absurd (none rule before)
       | inr true ↦ true
     ]),
-    (λ true. name_added (Breaks kind board f) (rules_of kind) first last adding rule (lists_broken kind board f rule true) true),
+    (λ true. name_added (Breaks kind board f) (rules_of kind) first last adding rule
+        (lists_broken kind board f rule true) true),
   );
 }

@@ -50,11 +50,16 @@ one_head text s t k l y z g h =
     record {
       start = start;
       kind = one_kind k l (sym g.word ∙ ap word_field start ∙ h.word);
-      size = same_size y z (one_side (cols_field t) y.cols z.cols (subst (λ r. IsSide (cols_field r) y.cols) start g.cols) h.cols)
+      size =
+          same_size y z
+          (one_side (cols_field t) y.cols z.cols (subst (λ r. IsSide (cols_field r) y.cols) start g.cols) h.cols)
           (one_side (rows_field t) y.rows z.rows (subst (λ r. IsSide (rows_field r) y.rows) start g.rows) h.rows);
     }
 
-move : (P : List ℕ → Kind → Size → Type 0) (s t : List ℕ) (k l : Kind) (y z : Size) → IsOneHead s t k l y z → P s k y → P t l z
+move : (P : List ℕ → Kind → Size → Type 0) (s t : List ℕ) (k l : Kind) (y z : Size)
+    → IsOneHead s t k l y z
+    → P s k y
+    → P t l z
 move P s t k l y z e p = subst (λ r. P r l z) e.start (subst (λ r. P s r z) e.kind (subst (λ r. P s k r) e.size p))
 
 same_board : (a b : Board) → a.kind ≡ b.kind → a.size ≡ b.size → a.clues ≡ b.clues → a ≡ b
@@ -75,19 +80,33 @@ kind_is text start kind h w (inr (other, k, none)) = none kind (ap word_field (o
 sides_are : (text start : List ℕ) (kind : Kind) (size : Size) → Heads text start kind size → HasNoSide text → ⊥
 sides_are text start kind size h none =
     elim none.side [
-      | inl cols ↦ cols size.cols (subst (λ r. IsSide (cols_field r) size.cols) (one_bare text start none.start h.bare none.bare) h.cols)
-      | inr rows ↦ rows size.rows (subst (λ r. IsSide (rows_field r) size.rows) (one_bare text start none.start h.bare none.bare) h.rows)
+      | inl cols ↦
+          cols size.cols
+          (subst (λ r. IsSide (cols_field r) size.cols) (one_bare text start none.start h.bare none.bare) h.cols)
+      | inr rows ↦
+          rows size.rows
+          (subst (λ r. IsSide (rows_field r) size.rows) (one_bare text start none.start h.bare none.bare) h.rows)
     ]
 
-limit_is : (text start : List ℕ) (kind : Kind) (size : Size) → Heads text start kind size → HasSize kind size → HasNoLimit text → ⊥
+limit_is : (text start : List ℕ) (kind : Kind) (size : Size)
+    → Heads text start kind size
+    → HasSize kind size
+    → HasNoLimit text
+    → ⊥
 limit_is text start kind size h fits none =
-    none.limit (move (λ r k z. HasSize k z) start none.start kind none.kind size none.size (one_head text start none.start kind none.kind size none.size h none.heads) fits)
+    none.limit
+    (move (λ r k z. HasSize k z) start none.start kind none.kind size none.size
+    (one_head text start none.start kind none.kind size none.size h none.heads) fits)
 
-no_body_fault : (text : List ℕ) (board : Board) (fault : TextFault) → SpellsText text board → HasBodyFault text fault → ⊥
+no_body_fault : (text : List ℕ) (board : Board) (fault : TextFault)
+    → SpellsText text board
+    → HasBodyFault text fault
+    → ⊥
 no_body_fault text board fault s f =
     let head = one_head text s.start f.start board.kind f.kind board.size f.size s.heads f.heads in
     no_fault f.kind f.size (body_of f.start) board.clues fault
-    (move (λ r k z. Spells k z (body_of r) board.clues) s.start f.start board.kind f.kind board.size f.size head s.body) f.body
+    (move (λ r k z. Spells k z (body_of r) board.clues) s.start f.start board.kind f.kind board.size f.size head
+    s.body) f.body
 
 -- a text that spells a puzzle has no fault
 pub no_text_fault : (text : List ℕ) (board : Board) (fault : TextFault) → SpellsText text board → FaultOf text fault → ⊥
@@ -103,7 +122,8 @@ no_text_fault text board (faults.After at) s f = no_body_fault text board (fault
 one_body_fault : (text : List ℕ) (a b : TextFault) → HasBodyFault text a → HasBodyFault text b → a ≡ b
 one_body_fault text a b f g =
     let head = one_head text f.start g.start f.kind g.kind f.size g.size f.heads g.heads in
-    one_fault g.kind g.size (body_of g.start) a b (move (λ r k z. FaultAt k z (body_of r) a) f.start g.start f.kind g.kind f.size g.size head f.body) g.body
+    one_fault g.kind g.size (body_of g.start) a b
+    (move (λ r k z. FaultAt k z (body_of r) a) f.start g.start f.kind g.kind f.size g.size head f.body) g.body
 
 only_kind : (text : List ℕ) (b : TextFault) → HasNoKind text → FaultOf text b → faults.Kind ≡ b
 only_kind text faults.Memory f g = absurd g
@@ -157,7 +177,8 @@ one_text_fault text (faults.Range at) b f g = only_body text (faults.Range at) b
 one_text_fault text (faults.After at) b f g = only_body text (faults.After at) b f g
 
 -- a head and a body that spells clues are a text that spells the puzzle
-pub spells_from_head : (text : List ℕ) (kind : Kind) (size : Size) (body : List ℕ) (clues : List Clue) → HasHead text kind size body
+pub spells_from_head : (text : List ℕ) (kind : Kind) (size : Size) (body : List ℕ) (clues : List Clue)
+    → HasHead text kind size body
     → Spells kind size body clues → SpellsText text (of_parts kind size clues)
 spells_from_head text kind size body clues head s = record {
   start = head.start;
@@ -166,7 +187,8 @@ spells_from_head text kind size body clues head s = record {
   body = subst (λ b. Spells kind size b clues) head.follows s;
 }
 
-body_fault : (text : List ℕ) (kind : Kind) (size : Size) (body : List ℕ) (fault : TextFault) → HasHead text kind size body
+body_fault : (text : List ℕ) (kind : Kind) (size : Size) (body : List ℕ) (fault : TextFault)
+    → HasHead text kind size body
     → FaultAt kind size body fault → HasBodyFault text fault
 body_fault text kind size body fault head f = record {
   start = head.start;
@@ -178,26 +200,35 @@ body_fault text kind size body fault head f = record {
 }
 
 -- a head and a fault of the body are a fault of the text
-pub fault_from_head : (text : List ℕ) (kind : Kind) (size : Size) (body : List ℕ) (fault : TextFault) → HasHead text kind size body
+pub fault_from_head : (text : List ℕ) (kind : Kind) (size : Size) (body : List ℕ) (fault : TextFault)
+    → HasHead text kind size body
     → FaultAt kind size body fault → FaultOf text fault
 fault_from_head text kind size body faults.Memory head f = absurd f.place
 fault_from_head text kind size body faults.Kind head f = absurd f.place
 fault_from_head text kind size body faults.SizeField head f = absurd f.place
 fault_from_head text kind size body faults.SizeLimit head f = absurd f.place
-fault_from_head text kind size body (faults.Strange at) head f = body_fault text kind size body (faults.Strange at) head f
+fault_from_head text kind size body (faults.Strange at) head f =
+    body_fault text kind size body (faults.Strange at) head f
 fault_from_head text kind size body (faults.Cut at) head f = body_fault text kind size body (faults.Cut at) head f
 fault_from_head text kind size body (faults.Range at) head f = body_fault text kind size body (faults.Range at) head f
 fault_from_head text kind size body (faults.After at) head f = body_fault text kind size body (faults.After at) head f
 
 -- at a text that spells a puzzle a reader answers no fault
-pub only_memory : (text : List ℕ) (fault : TextFault) → (fault ≡ faults.Memory) ⊎ FaultOf text fault → (board : Board) → SpellsText text board
+pub only_memory : (text : List ℕ) (fault : TextFault)
+    → (fault ≡ faults.Memory) ⊎ FaultOf text fault
+    → (board : Board)
+    → SpellsText text board
     → fault ≡ faults.Memory
 only_memory text fault (inl memory) board s = memory
 only_memory text fault (inr f) board s = absurd (no_text_fault text board fault s f)
 
 -- nor does one that has read the head
-pub only_memory_after_head : (text : List ℕ) (kind : Kind) (size : Size) (body : List ℕ) (fault : TextFault) → HasHead text kind size body
-    → (fault ≡ faults.Memory) ⊎ FaultAt kind size body fault → (board : Board) → SpellsText text board → fault ≡ faults.Memory
+pub only_memory_after_head : (text : List ℕ) (kind : Kind) (size : Size) (body : List ℕ) (fault : TextFault)
+    → HasHead text kind size body
+    → (fault ≡ faults.Memory) ⊎ FaultAt kind size body fault
+    → (board : Board)
+    → SpellsText text board
+    → fault ≡ faults.Memory
 only_memory_after_head text kind size body fault head (inl memory) board s = memory
 only_memory_after_head text kind size body fault head (inr f) board s =
     absurd (no_text_fault text board fault s (fault_from_head text kind size body fault head f))

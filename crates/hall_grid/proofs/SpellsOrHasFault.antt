@@ -16,7 +16,7 @@ use Rattle.hall_grid.specs.declared.fault.TextFault.TheVariants as faults
 use Rattle.hall_grid.specs.Board.{Board, IsSize, IsSudokuSide, HasSize, IsClue, cells, of_parts}
 use Rattle.hall_grid.specs.Body.{IsDigit, bytes_of, clues_of, fitted, Spells, FaultAt, IsWrong, HasPlace}
 use Rattle.hall_grid.specs.FormReading.{form_at}
-use Rattle.hall_grid.specs.Text.{bare, IsBare, IsSide, IsNoSide, word_of, word_field, cols_field, rows_field, body_of, Heads, SpellsText, FaultOf}
+use Rattle.hall_grid.specs.Text.{bare, IsBare, IsSide, IsNoSide, word_of, word_field, cols_field, rows_field, body_of, Heads, SpellsText, HasBodyFault, FaultOf}
 use Rattle.hall_grid.proofs.FormAt.{form_is, is_cut, is_strange, takes_form, has_wrong}
 use Rattle.hall_grid.proofs.Bodies.{IsRead, IsRead-start, IsRead-more}
 use Rattle.hall_grid.proofs.Spells.{some_bytes}
@@ -61,10 +61,15 @@ clues_decided kind size (c ∷ clues) =
 
 -- the body spells clues, or has a fault
 abbrev BodyOutcome : Kind → Size → List ℕ → Type 0
-BodyOutcome kind size body = ((clues : List Clue) × Spells kind size body clues) ⊎ ((fault : TextFault) × FaultAt kind size body fault)
+BodyOutcome kind size body =
+    ((clues : List Clue) × Spells kind size body clues) ⊎ ((fault : TextFault) × FaultAt kind size body fault)
 
-fault_here : (kind : Kind) (size : Size) (body rest : List ℕ) (clues : List Clue) (make : ℕ → TextFault) → ((place : ℕ) → HasPlace (make place) place)
-    → IsRead kind size body rest clues → 0 < length rest → ((place : ℕ) → IsWrong kind size (length clues) rest (make place)) → BodyOutcome kind size body
+fault_here : (kind : Kind) (size : Size) (body rest : List ℕ) (clues : List Clue) (make : ℕ → TextFault)
+    → ((place : ℕ) → HasPlace (make place) place)
+    → IsRead kind size body rest clues
+    → 0 < length rest
+    → ((place : ℕ) → IsWrong kind size (length clues) rest (make place))
+    → BodyOutcome kind size body
 fault_here kind size body rest clues make places read some wrong =
     let place : ℕ = length (bytes_of read.pieces) in
     inr (
@@ -80,9 +85,19 @@ fault_here kind size body rest clues make places read some wrong =
       },
     )
 
-spelled : (kind : Kind) (size : Size) (body : List ℕ) (clues : List Clue) → IsRead kind size body [] clues → BodyOutcome kind size body
+spelled : (kind : Kind) (size : Size) (body : List ℕ) (clues : List Clue)
+    → IsRead kind size body [] clues
+    → BodyOutcome kind size body
 spelled kind size body clues read =
-    inl (fitted (cells size) (clues_of read.pieces), record { pieces = read.pieces; chain = read.chain; whole = read.whole ∙ append-nil (bytes_of read.pieces); gives = refl })
+    inl (
+      fitted (cells size) (clues_of read.pieces),
+      record {
+        pieces = read.pieces;
+        chain = read.chain;
+        whole = read.whole ∙ append-nil (bytes_of read.pieces);
+        gives = refl;
+      },
+    )
 
 -- one form more is read, and fewer bytes are left
 record ReadsOn (kind : Kind) (size : Size) (body rest : List ℕ) : Type 0 where
@@ -91,13 +106,20 @@ record ReadsOn (kind : Kind) (size : Size) (body rest : List ℕ) : Type 0 where
   read : IsRead kind size body after clues
   fewer : length after < length rest
 
-read_form : (kind : Kind) (size : Size) (body rest : List ℕ) (clues : List Clue) (form : Result (List Clue × List ℕ) FormFault) → form_at kind rest ≡ form → 0 < length rest
-    → IsRead kind size body rest clues → length clues < cells size → BodyOutcome kind size body ⊎ ReadsOn kind size body rest
+read_form : (kind : Kind) (size : Size) (body rest : List ℕ) (clues : List Clue)
+    (form : Result (List Clue × List ℕ) FormFault)
+    → form_at kind rest ≡ form
+    → 0 < length rest
+    → IsRead kind size body rest clues
+    → length clues < cells size
+    → BodyOutcome kind size body ⊎ ReadsOn kind size body rest
 read_form kind size body rest clues (Err Strange) e some read room =
-    inl (fault_here kind size body rest clues faults.Strange (λ place. refl) read some (λ place. (room, is_strange kind rest some e)))
+    inl (fault_here kind size body rest clues faults.Strange (λ place. refl) read some
+    (λ place. (room, is_strange kind rest some e)))
 read_form kind size body rest clues (Err Cut) e some read room =
     let cut = is_cut kind rest some e in
-    inl (fault_here kind size body rest clues faults.Cut (λ place. refl) read some (λ place. (room, cut.0, cut.1, cut.2)))
+    inl (fault_here kind size body rest clues faults.Cut (λ place. refl) read some
+    (λ place. (room, cut.0, cut.1, cut.2)))
 read_form kind size body rest clues (Ok (more, after)) e some read room =
     elim (clues_decided kind size more) [
       | inl ranges ↦
@@ -105,23 +127,32 @@ read_form kind size body rest clues (Ok (more, after)) e some read room =
           inr (record {
             after = after;
             clues = clues ++ more;
-            read = IsRead-more kind size body rest after clues (clues ++ more) read room (takes_form kind size rest clues (clues ++ more) more after e ranges refl);
+            read =
+                IsRead-more kind size body rest after clues (clues ++ more) read room
+                (takes_form kind size rest clues (clues ++ more) more after e ranges refl);
             fewer = omega (arith, ap length r.front, length-append r.form after, some_bytes kind r.form more r.is_form);
           })
-      | inr wrong ↦ inl (fault_here kind size body rest clues faults.Range (λ place. refl) read some (λ place. (room, has_wrong kind size rest more after e wrong)))
+      | inr wrong ↦
+          inl (fault_here kind size body rest clues faults.Range (λ place. refl) read some
+          (λ place. (room, has_wrong kind size rest more after e wrong)))
     ]
 
 -- with so many bytes left at most
-read_on : (n : ℕ) (kind : Kind) (size : Size) (body rest : List ℕ) (clues : List Clue) → length rest ≤ n → IsRead kind size body rest clues → BodyOutcome kind size body
+read_on : (n : ℕ) (kind : Kind) (size : Size) (body rest : List ℕ) (clues : List Clue)
+    → length rest ≤ n
+    → IsRead kind size body rest clues
+    → BodyOutcome kind size body
 read_on n kind size body [] clues few read = spelled kind size body clues read
 read_on zero kind size body (b ∷ rest) clues few read = absurd (omega arith)
 read_on (suc n) kind size body (b ∷ rest) clues few read =
     elim (cases_lt (length clues) (cells size)) [
-      | inl room ↦ elim (read_form kind size body (b ∷ rest) clues (form_at kind (b ∷ rest)) refl (omega arith) read room) [
-        | inl outcome ↦ outcome
-        | inr next ↦ read_on n kind size body next.after next.clues (omega (arith, next.fewer)) next.read
-      ]
-      | inr full ↦ fault_here kind size body (b ∷ rest) clues faults.After (λ place. refl) read (omega arith) (λ place. full)
+      | inl room ↦
+          elim (read_form kind size body (b ∷ rest) clues (form_at kind (b ∷ rest)) refl (omega arith) read room) [
+            | inl outcome ↦ outcome
+            | inr next ↦ read_on n kind size body next.after next.clues (omega (arith, next.fewer)) next.read
+          ]
+      | inr full ↦
+          fault_here kind size body (b ∷ rest) clues faults.After (λ place. refl) read (omega arith) (λ place. full)
     ]
 
 body_outcome : (kind : Kind) (size : Size) (body : List ℕ) → BodyOutcome kind size body
@@ -151,7 +182,12 @@ kind_outcome word =
       ]
     ]
   where
-    none : (word ≡ word_of Sudoku → ⊥) → (word ≡ word_of Slither → ⊥) → (word ≡ word_of Nurikabe → ⊥) → (kind : Kind) → word ≡ word_of kind → ⊥
+    none : (word ≡ word_of Sudoku → ⊥)
+        → (word ≡ word_of Slither → ⊥)
+        → (word ≡ word_of Nurikabe → ⊥)
+        → (kind : Kind)
+        → word ≡ word_of kind
+        → ⊥
     none a b c Sudoku e = a e
     none a b c Slither e = b e
     none a b c Nurikabe e = c e
@@ -184,7 +220,13 @@ size_decided size =
     elim (both (1 ≤ size.cols) (size.cols ≤ 50) (at_most 1 size.cols) (at_most size.cols 50)) [
       | inl cols ↦ elim (both (1 ≤ size.rows) (size.rows ≤ 50) (at_most 1 size.rows) (at_most size.rows 50)) [
         | inl rows ↦ elim (at_most (cells size) 1000) [
-          | inl few ↦ inl (record { some_cols = cols.0; few_cols = cols.1; some_rows = rows.0; few_rows = rows.1; few_cells = few })
+          | inl few ↦ inl (record {
+            some_cols = cols.0;
+            few_cols = cols.1;
+            some_rows = rows.0;
+            few_rows = rows.1;
+            few_cells = few;
+          })
           | inr many ↦ inr (λ h. many h.few_cells)
         ]
         | inr wrong ↦ inr (λ h. wrong (h.some_rows, h.few_rows))
@@ -205,22 +247,44 @@ limit_decided Nurikabe size = size_decided size
 abbrev TextOutcome : List ℕ → Type 0
 TextOutcome text = ((board : Board) × SpellsText text board) ⊎ ((fault : TextFault) × FaultOf text fault)
 
-is_body_fault : (text start : List ℕ) (kind : Kind) (size : Size) (fault : TextFault) → Heads text start kind size → HasSize kind size
+has_body_fault : (text start : List ℕ) (kind : Kind) (size : Size) (fault : TextFault)
+    → Heads text start kind size
+    → HasSize kind size
+    → FaultAt kind size (body_of start) fault
+    → HasBodyFault text fault
+has_body_fault text start kind size fault heads fits f =
+    record { start = start; kind = kind; size = size; heads = heads; limit = fits; body = f }
+
+is_body_fault : (text start : List ℕ) (kind : Kind) (size : Size) (fault : TextFault)
+    → Heads text start kind size
+    → HasSize kind size
     → FaultAt kind size (body_of start) fault → FaultOf text fault
 is_body_fault text start kind size faults.Memory heads fits f = absurd f.wrong
 is_body_fault text start kind size faults.Kind heads fits f = absurd f.wrong
 is_body_fault text start kind size faults.SizeField heads fits f = absurd f.wrong
 is_body_fault text start kind size faults.SizeLimit heads fits f = absurd f.wrong
-is_body_fault text start kind size (faults.Strange at) heads fits f = record { start = start; kind = kind; size = size; heads = heads; limit = fits; body = f }
-is_body_fault text start kind size (faults.Cut at) heads fits f = record { start = start; kind = kind; size = size; heads = heads; limit = fits; body = f }
-is_body_fault text start kind size (faults.Range at) heads fits f = record { start = start; kind = kind; size = size; heads = heads; limit = fits; body = f }
-is_body_fault text start kind size (faults.After at) heads fits f = record { start = start; kind = kind; size = size; heads = heads; limit = fits; body = f }
+is_body_fault text start kind size (faults.Strange at) heads fits f =
+    has_body_fault text start kind size (faults.Strange at) heads fits f
+is_body_fault text start kind size (faults.Cut at) heads fits f =
+    has_body_fault text start kind size (faults.Cut at) heads fits f
+is_body_fault text start kind size (faults.Range at) heads fits f =
+    has_body_fault text start kind size (faults.Range at) heads fits f
+is_body_fault text start kind size (faults.After at) heads fits f =
+    has_body_fault text start kind size (faults.After at) heads fits f
 
 headed : (text start : List ℕ) (kind : Kind) (size : Size) → Heads text start kind size → TextOutcome text
 headed text start kind size heads =
     elim (limit_decided kind size) [
       | inl fits ↦ elim (body_outcome kind size (body_of start)) [
-        | inl (clues, s) ↦ inl (of_parts kind size clues, record { start = start; heads = heads; size = fits; body = s })
+        | inl (clues, s) ↦ inl (
+          of_parts kind size clues,
+          record {
+            start = start;
+            heads = heads;
+            size = fits;
+            body = s;
+          },
+        )
         | inr (fault, f) ↦ inr (fault, is_body_fault text start kind size fault heads fits f)
       ]
       | inr out ↦ inr (faults.SizeLimit, record { start = start; kind = kind; size = size; heads = heads; limit = out })
@@ -230,10 +294,30 @@ worded : (text start : List ℕ) (kind : Kind) → IsBare text start → word_fi
 worded text start kind h w =
     elim (side_outcome (cols_field start)) [
       | inl (cols, c) ↦ elim (side_outcome (rows_field start)) [
-        | inl (rows, r) ↦ headed text start kind (record { cols = cols; rows = rows }) (record { bare = h; word = w; cols = c; rows = r })
-        | inr missing ↦ inr (faults.SizeField, record { start = start; kind = kind; bare = h; word = w; side = inr missing })
+        | inl (rows, r) ↦
+            headed text start kind (record { cols = cols; rows = rows })
+            (record { bare = h; word = w; cols = c; rows = r })
+        | inr missing ↦ inr (
+          faults.SizeField,
+          record {
+            start = start;
+            kind = kind;
+            bare = h;
+            word = w;
+            side = inr missing;
+          },
+        )
       ]
-      | inr missing ↦ inr (faults.SizeField, record { start = start; kind = kind; bare = h; word = w; side = inl missing })
+      | inr missing ↦ inr (
+        faults.SizeField,
+        record {
+          start = start;
+          kind = kind;
+          bare = h;
+          word = w;
+          side = inl missing;
+        },
+      )
     ]
 
 from_bare : (text : List ℕ) (start : Option (List ℕ)) → bare text ≡ start → TextOutcome text
@@ -245,5 +329,6 @@ from_bare text (Some start) e =
     ]
 
 -- each text spells a puzzle or has a fault
-pub spells_or_fault : (text : List ℕ) → ((board : Board) × SpellsText text board) ⊎ ((fault : TextFault) × FaultOf text fault)
+pub spells_or_fault : (text : List ℕ)
+    → ((board : Board) × SpellsText text board) ⊎ ((fault : TextFault) × FaultOf text fault)
 spells_or_fault text = from_bare text (bare text) refl

@@ -24,12 +24,14 @@ rule_at i = get_or all_rules i A0
 more : (names i : ℕ) (part : List ℕ) → i < 16 → named_text names (rule_at i) ≡ part
     → flat_map (named_text names) (take i all_rules) ++ part ≡ flat_map (named_text names) (take (i + 1) all_rules)
 more names i part h same =
-    ap (λ s. flat_map (named_text names) (take i all_rules) ++ s) (sym same) ∙ flat_map_more (named_text names) [] (take i all_rules) (rule_at i)
+    ap (λ s. flat_map (named_text names) (take i all_rules) ++ s) (sym same)
+    ∙ flat_map_more (named_text names) [] (take i all_rules) (rule_at i)
     ∙ ap (flat_map (named_text names)) (sym (take_more all_rules i A0 h))
 
 -- a name of the set comes next
 pub named_more : (names i : ℕ) (b : Bool) → i < 16 → b ≡ true → (IsTrue b ↔ Names names (rule_at i))
-    → flat_map (named_text names) (take i all_rules) ++ (32 ∷ name_of (rule_at i)) ≡ flat_map (named_text names) (take (i + 1) all_rules)
+    → flat_map (named_text names) (take i all_rules) ++ (32 ∷ name_of (rule_at i))
+    ≡ flat_map (named_text names) (take (i + 1) all_rules)
 named_more names i b h on n = more names i (32 ∷ name_of (rule_at i)) h (rw (named_is names (rule_at i) b n ∙ on) refl)
 
 -- a name that the set doesn't have
@@ -38,7 +40,11 @@ pub unnamed_more : (names i : ℕ) (b : Bool) → i < 16 → b ≡ false → (Is
 unnamed_more names i b h off n = sym (append-nil _) ∙ more names i [] h (rw (named_is names (rule_at i) b n ∙ off) refl)
 
 -- the verdict of a set that isn't empty
-pub verdict_is : (names i : ℕ) → names ≢ 0 → 16 ≤ i → codes "wrong" ++ flat_map (named_text names) (take i all_rules) ≡ verdict_text names
+pub verdict_is : (names i : ℕ)
+    → names ≢ 0
+    → 16 ≤ i
+    → codes "wrong" ++ flat_map (named_text names) (take i all_rules) ≡ verdict_text names
 verdict_is names i some h =
     ap (λ rules. codes "wrong" ++ flat_map (named_text names) rules) (take_all i all_rules h)
-    ∙ ap (λ b. if b then codes "right" else codes "wrong" ++ flat_map (named_text names) all_rules) (sym (ne_eqb names 0 some))
+    ∙ ap (λ b. if b then codes "right" else codes "wrong" ++ flat_map (named_text names) all_rules)
+    (sym (ne_eqb names 0 some))

@@ -6,7 +6,8 @@ use Rattle.hall_grid.specs.Walk.{Walk, at, on}
 pub Walk-along : (IsNext : ℕ → ℕ → Type 0) (IsMember P : ℕ → Type 0) → ((b c : ℕ) → P b → IsNext b c → IsMember c → P c)
     → (a b : ℕ) → P a → Walk IsNext IsMember a b → P b
 Walk-along IsNext IsMember P step a b p (at m) = p
-Walk-along IsNext IsMember P step a b p (on {b = m} {c = c} w n k) = step m c (Walk-along IsNext IsMember P step a m p w) n k
+Walk-along IsNext IsMember P step a b p (on {b = m} {c = c} w n k) =
+    step m c (Walk-along IsNext IsMember P step a m p w) n k
 
 pub Walk-end : (IsNext : ℕ → ℕ → Type 0) (IsMember : ℕ → Type 0) → (a b : ℕ) → Walk IsNext IsMember a b → IsMember b
 Walk-end IsNext IsMember a b (at m) = m
@@ -16,7 +17,10 @@ pub Walk-start : (IsNext : ℕ → ℕ → Type 0) (IsMember : ℕ → Type 0) �
 Walk-start IsNext IsMember a b (at m) = m
 Walk-start IsNext IsMember a b (on {b = m} w n k) = Walk-start IsNext IsMember a m w
 
-pub Walk-join : (IsNext : ℕ → ℕ → Type 0) (IsMember : ℕ → Type 0) → (a b c : ℕ) → Walk IsNext IsMember a b → Walk IsNext IsMember b c
+pub Walk-join : (IsNext : ℕ → ℕ → Type 0) (IsMember : ℕ → Type 0)
+    → (a b c : ℕ)
+    → Walk IsNext IsMember a b
+    → Walk IsNext IsMember b c
     → Walk IsNext IsMember a c
 Walk-join IsNext IsMember a b c v (at m) = v
 Walk-join IsNext IsMember a b c v (on {b = m} w n k) = on (Walk-join IsNext IsMember a b m v w) n k
@@ -25,7 +29,8 @@ pub Walk-reverse : (IsNext : ℕ → ℕ → Type 0) (IsMember : ℕ → Type 0)
     → (a b : ℕ) → Walk IsNext IsMember a b → Walk IsNext IsMember b a
 Walk-reverse IsNext IsMember turn a b (at m) = at m
 Walk-reverse IsNext IsMember turn a b (on {b = m} {c = c} w n k) =
-    Walk-join IsNext IsMember c m a (on (at k) (turn m c n) (Walk-end IsNext IsMember a m w)) (Walk-reverse IsNext IsMember turn a m w)
+    Walk-join IsNext IsMember c m a (on (at k) (turn m c n) (Walk-end IsNext IsMember a m w))
+    (Walk-reverse IsNext IsMember turn a m w)
 
 -- a walk over other members by another relation
 pub Walk-map : (IsNext S : ℕ → ℕ → Type 0) (IsMember T : ℕ → Type 0) → ((a : ℕ) → IsMember a → T a)

@@ -27,15 +27,26 @@ abbrev piece : List ℕ → List Clue → Piece
 piece bytes clues = record { bytes = bytes; clues = clues }
 
 -- the clues of a number and empty cells are in range
-ranges : (kind : Kind) (size : Size) (n blanks : ℕ) → IsClue kind size (Number n) → IsClue kind size Blank → All (IsClue kind size) (Number n ∷ replicate blanks Blank)
-ranges kind size n blanks h empty = All-cons (IsClue kind size) (Number n) (replicate blanks Blank) h (All-replicate (IsClue kind size) blanks Blank empty)
+ranges : (kind : Kind) (size : Size) (n blanks : ℕ)
+    → IsClue kind size (Number n)
+    → IsClue kind size Blank
+    → All (IsClue kind size) (Number n ∷ replicate blanks Blank)
+ranges kind size n blanks h empty =
+    All-cons (IsClue kind size) (Number n) (replicate blanks Blank) h
+    (All-replicate (IsClue kind size) blanks Blank empty)
 
 -- four cells that each want two lines
 abbrev twos : Board
 twos = of_parts Slither (square 2) (Number 2 ∷ Number 2 ∷ Number 2 ∷ Number 2 ∷ [])
 
 small : HasSize Slither (square 2)
-small = record { some_cols = omega arith; few_cols = omega arith; some_rows = omega arith; few_rows = omega arith; few_cells = omega arith }
+small = record {
+  some_cols = omega arith;
+  few_cols = omega arith;
+  some_rows = omega arith;
+  few_rows = omega arith;
+  few_cells = omega arith;
+}
 
 two_alone : IsPiece Slither (square 2) (piece (50 ∷ []) (Number 2 ∷ []))
 two_alone = (alone (omega arith) refl, ranges Slither (square 2) 2 0 (omega arith) tt)
@@ -50,8 +61,11 @@ row_short =
       heads = record { bare = refl; word = refl; cols = (omega arith, refl); rows = (omega arith, refl) };
       size = small;
       body = record {
-        pieces = piece (50 ∷ []) (Number 2 ∷ []) ∷ piece (50 ∷ []) (Number 2 ∷ []) ∷ piece (50 ∷ []) (Number 2 ∷ []) ∷ piece (50 ∷ []) (Number 2 ∷ []) ∷ [];
-        chain = (omega arith, two_alone, (omega arith, two_alone, (omega arith, two_alone, (omega arith, two_alone, tt))));
+        pieces =
+            piece (50 ∷ []) (Number 2 ∷ []) ∷ piece (50 ∷ []) (Number 2 ∷ []) ∷ piece (50 ∷ []) (Number 2 ∷ []) ∷ piece
+            (50 ∷ []) (Number 2 ∷ []) ∷ [];
+        chain =
+            (omega arith, two_alone, (omega arith, two_alone, (omega arith, two_alone, (omega arith, two_alone, tt))));
         whole = refl;
         gives = refl;
       };
@@ -65,8 +79,11 @@ row_address =
       heads = record { bare = refl; word = refl; cols = (omega arith, refl); rows = (omega arith, refl) };
       size = small;
       body = record {
-        pieces = piece (50 ∷ []) (Number 2 ∷ []) ∷ piece (50 ∷ []) (Number 2 ∷ []) ∷ piece (50 ∷ []) (Number 2 ∷ []) ∷ piece (99 ∷ []) (Number 2 ∷ Blank ∷ Blank ∷ []) ∷ [];
-        chain = (omega arith, two_alone, (omega arith, two_alone, (omega arith, two_alone, (omega arith, two_last, tt))));
+        pieces =
+            piece (50 ∷ []) (Number 2 ∷ []) ∷ piece (50 ∷ []) (Number 2 ∷ []) ∷ piece (50 ∷ []) (Number 2 ∷ []) ∷ piece
+            (99 ∷ []) (Number 2 ∷ Blank ∷ Blank ∷ []) ∷ [];
+        chain =
+            (omega arith, two_alone, (omega arith, two_alone, (omega arith, two_alone, (omega arith, two_last, tt))));
         whole = refl;
         gives = refl;
       };
@@ -88,8 +105,11 @@ row_canonical =
     record {
       body = codes "222c";
       canonical = record {
-        pieces = piece (50 ∷ []) (Number 2 ∷ []) ∷ piece (50 ∷ []) (Number 2 ∷ []) ∷ piece (50 ∷ []) (Number 2 ∷ []) ∷ piece (99 ∷ []) (Number 2 ∷ Blank ∷ Blank ∷ []) ∷ [];
-        chain = (omega arith, two_alone, (omega arith, two_alone, (omega arith, two_alone, (omega arith, two_last, tt))));
+        pieces =
+            piece (50 ∷ []) (Number 2 ∷ []) ∷ piece (50 ∷ []) (Number 2 ∷ []) ∷ piece (50 ∷ []) (Number 2 ∷ []) ∷ piece
+            (99 ∷ []) (Number 2 ∷ Blank ∷ Blank ∷ []) ∷ [];
+        chain =
+            (omega arith, two_alone, (omega arith, two_alone, (omega arith, two_alone, (omega arith, two_last, tt))));
         whole = refl;
         gives = refl;
         covers = omega arith;
@@ -138,7 +158,10 @@ row_written_empty =
     record {
       body = codes "zzzzg";
       canonical = record {
-        pieces = piece (122 ∷ []) (replicate 20 Blank) ∷ piece (122 ∷ []) (replicate 20 Blank) ∷ piece (122 ∷ []) (replicate 20 Blank) ∷ piece (122 ∷ []) (replicate 20 Blank) ∷ piece (103 ∷ []) (replicate 1 Blank) ∷ [];
+        pieces =
+            piece (122 ∷ []) (replicate 20 Blank) ∷ piece (122 ∷ []) (replicate 20 Blank) ∷ piece (122 ∷ [])
+            (replicate 20 Blank) ∷ piece (122 ∷ []) (replicate 20 Blank) ∷ piece (103 ∷ [])
+            (replicate 1 Blank) ∷ [];
         chain = (
           omega arith,
           empty_run 20 (omega arith) (omega arith),
@@ -181,7 +204,11 @@ row_written_empty =
     }
 
 -- a fault of the body's first byte
-first_fault : (kind : Kind) (size : Size) (body : List ℕ) (fault : TextFault) → 0 < length body → HasPlace fault 0 → IsWrong kind size 0 body fault → FaultAt kind size body fault
+first_fault : (kind : Kind) (size : Size) (body : List ℕ) (fault : TextFault)
+    → 0 < length body
+    → HasPlace fault 0
+    → IsWrong kind size 0 body fault
+    → FaultAt kind size body fault
 first_fault kind size body fault some place wrong =
     record { pieces = []; rest = body; chain = tt; whole = refl; place = place; follows = some; wrong = wrong }
 
@@ -194,7 +221,9 @@ row_strange =
       size = square 2;
       heads = record { bare = refl; word = refl; cols = (omega arith, refl); rows = (omega arith, refl) };
       limit = small;
-      body = first_fault Slither (square 2) (codes "f") (faults.Strange 0) (omega arith) refl (omega arith, is_strange Slither (codes "f") (omega arith) refl);
+      body =
+          first_fault Slither (square 2) (codes "f") (faults.Strange 0) (omega arith) refl
+          (omega arith, is_strange Slither (codes "f") (omega arith) refl);
     }
 
 row_cut : FaultOf (codes "nurikabe/2/2/-0") (faults.Cut 0)
@@ -207,7 +236,9 @@ row_cut =
       size = square 2;
       heads = record { bare = refl; word = refl; cols = (omega arith, refl); rows = (omega arith, refl) };
       limit = small;
-      body = first_fault Nurikabe (square 2) (codes "-0") (faults.Cut 0) (omega arith) refl (omega arith, cut.0, cut.1, cut.2);
+      body =
+          first_fault Nurikabe (square 2) (codes "-0") (faults.Cut 0) (omega arith) refl
+          (omega arith, cut.0, cut.1, cut.2);
     }
 
 -- a sign in Slitherlink begins no form
@@ -220,7 +251,9 @@ row_sign =
       size = square 2;
       heads = record { bare = refl; word = refl; cols = (omega arith, refl); rows = (omega arith, refl) };
       limit = small;
-      body = first_fault Slither (square 2) (codes "-02") (faults.Strange 0) (omega arith) refl (omega arith, is_strange Slither (codes "-02") (omega arith) refl);
+      body =
+          first_fault Slither (square 2) (codes "-02") (faults.Strange 0) (omega arith) refl
+          (omega arith, is_strange Slither (codes "-02") (omega arith) refl);
     }
 
 five : Form Sudoku (53 ∷ []) (Number 5 ∷ [])
@@ -234,8 +267,16 @@ row_range =
       size = square 4;
       heads = record { bare = refl; word = refl; cols = (omega arith, refl); rows = (omega arith, refl) };
       limit = (refl, inl refl);
-      body = first_fault Sudoku (square 4) (codes "5u") (faults.Range 0) (omega arith) refl
-          (omega arith, record { piece = piece (53 ∷ []) (Number 5 ∷ []); after = 117 ∷ []; front = refl; form = five; wrong = λ all. let high = All-head (IsClue Sudoku (square 4)) (Number 5) [] all in omega arith });
+      body = first_fault Sudoku (square 4) (codes "5u") (faults.Range 0) (omega arith) refl (
+        omega arith,
+        record {
+          piece = piece (53 ∷ []) (Number 5 ∷ []);
+          after = 117 ∷ [];
+          front = refl;
+          form = five;
+          wrong = λ all. let high = All-head (IsClue Sudoku (square 4)) (Number 5) [] all in omega arith;
+        },
+      );
     }
 
 -- a byte after the last cell
@@ -246,7 +287,13 @@ row_after =
       kind = Slither;
       size = square 1;
       heads = record { bare = refl; word = refl; cols = (omega arith, refl); rows = (omega arith, refl) };
-      limit = record { some_cols = omega arith; few_cols = omega arith; some_rows = omega arith; few_rows = omega arith; few_cells = omega arith };
+      limit = record {
+        some_cols = omega arith;
+        few_cols = omega arith;
+        some_rows = omega arith;
+        few_rows = omega arith;
+        few_cells = omega arith;
+      };
       body = record {
         pieces = piece (48 ∷ []) (Number 0 ∷ []) ∷ [];
         rest = 48 ∷ [];

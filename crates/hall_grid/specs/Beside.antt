@@ -9,11 +9,13 @@ IsAbove size cell other = (other < cells size) × (row size other + 1 ≡ row si
 
 -- the other cell is the next to the left
 abbrev pub IsNextLeft : Size → ℕ → ℕ → Type 0
-IsNextLeft size cell other = (other < cells size) × (row size other ≡ row size cell) × (col size other + 1 ≡ col size cell)
+IsNextLeft size cell other =
+    (other < cells size) × (row size other ≡ row size cell) × (col size other + 1 ≡ col size cell)
 
 -- the other cell is the next to the right
 abbrev pub IsNextRight : Size → ℕ → ℕ → Type 0
-IsNextRight size cell other = (other < cells size) × (row size other ≡ row size cell) × (col size other ≡ col size cell + 1)
+IsNextRight size cell other =
+    (other < cells size) × (row size other ≡ row size cell) × (col size other ≡ col size cell + 1)
 
 -- the other cell is the one straight below
 abbrev pub IsBelow : Size → ℕ → ℕ → Type 0

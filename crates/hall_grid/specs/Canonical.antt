@@ -46,7 +46,8 @@ IsShortest kind piece = (bytes : List ℕ) → Form kind bytes piece.clues → l
 abbrev pub AreChosen : Kind → List Clue → ℕ → List Piece → Type 0
 AreChosen kind clues cell [] = Unit {0}
 AreChosen kind clues cell (piece ∷ pieces) =
-    IsChosen kind clues cell piece.clues × IsShortest kind piece × AreChosen kind clues (cell + length piece.clues) pieces
+    IsChosen kind clues cell piece.clues × IsShortest kind piece
+    × AreChosen kind clues (cell + length piece.clues) pieces
 
 -- the body spells the clues in the forms that the writer chooses, which cover every cell
 pub record Canonical (kind : Kind) (size : Size) (body : List ℕ) (clues : List Clue) : Type 0 where

@@ -10,8 +10,10 @@ IsLabelled labels node label = slice_index_or labels node None ≡ Some label
 abbrev pub LabelsDiffer : List (Option ℕ) → Type 0
 LabelsDiffer labels = (a b x y : ℕ) × IsLabelled labels a x × IsLabelled labels b y × (x ≢ y)
 
--- labels of components: a member has one, it is the number of a member that a walk joins to it, and members that a walk joins have the same
-pub record AreComponents (nodes : ℕ) (IsNext : ℕ → ℕ → Type 0) (IsMember : ℕ → Type 0) (labels : List (Option ℕ)) : Type 0 where
+-- labels of components: a member has one, it is the number of a member that a walk joins to it,
+-- and members that a walk joins have the same
+pub record AreComponents (nodes : ℕ) (IsNext : ℕ → ℕ → Type 0) (IsMember : ℕ → Type 0)
+    (labels : List (Option ℕ)) : Type 0 where
   pub exact : length labels ≡ nodes
   pub labelled : (a : ℕ) → IsMember a → (label : ℕ) × IsLabelled labels a label
   pub joined : (a label : ℕ) → IsLabelled labels a label → Walk IsNext IsMember label a

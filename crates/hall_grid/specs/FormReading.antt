@@ -16,7 +16,9 @@ given_clues given = option_to_list given.clue ++ replicate given.blanks Blank
 
 -- the value of a hexadecimal digit
 abbrev pub hex_value : ℕ → Option ℕ
-hex_value b = if nat_le 48 b && nat_le b 57 then Some (b - 48) else if nat_le 97 b && nat_le b 102 then Some (b - 87) else None
+hex_value b =
+    if nat_le 48 b && nat_le b 57 then Some (b - 48)
+    else if nat_le 97 b && nat_le b 102 then Some (b - 87) else None
 
 -- the empty cells of a run
 abbrev pub run_value : ℕ → Option ℕ

@@ -11,7 +11,8 @@ SpellsOnePuzzle = (text : List ℕ) (a b : Board) → SpellsText text a → Spel
 
 -- each text spells a puzzle or has a fault
 abbrev pub SpellsOrHasFault : Type 0
-SpellsOrHasFault = (text : List ℕ) → ((board : Board) × SpellsText text board) ⊎ ((fault : TextFault) × FaultOf text fault)
+SpellsOrHasFault =
+    (text : List ℕ) → ((board : Board) × SpellsText text board) ⊎ ((fault : TextFault) × FaultOf text fault)
 
 -- what a text spells is a puzzle: its sides, its clues and their numbers are in the limits
 abbrev pub SpellsBoardsAlone : Type 0
@@ -35,4 +36,5 @@ HasCanonicalText = (board : Board) → IsBoard board → (text : List ℕ) × Ca
 
 -- a puzzle has one canonical text
 abbrev pub HasOneCanonicalText : Type 0
-HasOneCanonicalText = (a b : List ℕ) (board : Board) → IsBoard board → CanonicalText a board → CanonicalText b board → a ≡ b
+HasOneCanonicalText =
+    (a b : List ℕ) (board : Board) → IsBoard board → CanonicalText a board → CanonicalText b board → a ≡ b

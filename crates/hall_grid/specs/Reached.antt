@@ -7,6 +7,7 @@ abbrev pub IsMarked : List Bool → ℕ → Type 0
 IsMarked marks node = slice_index_or marks node false ≡ true
 
 -- exactly the nodes that a walk over members reaches are marked
-pub record IsReach (nodes : ℕ) (IsNext : ℕ → ℕ → Type 0) (IsMember : ℕ → Type 0) (from : ℕ) (marks : List Bool) : Type 0 where
+pub record IsReach (nodes : ℕ) (IsNext : ℕ → ℕ → Type 0) (IsMember : ℕ → Type 0)
+    (from : ℕ) (marks : List Bool) : Type 0 where
   pub exact : length marks ≡ nodes
   pub walks : (node : ℕ) → IsMarked marks node ↔ Walk IsNext IsMember from node

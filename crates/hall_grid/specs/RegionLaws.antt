@@ -1,4 +1,5 @@
--- The laws of cells as a graph, which an `impl` of the trait `Graph` cites: touching goes both ways, and marked cells are in range.
+-- The laws of cells as a graph, which an `impl` of the trait `Graph` cites:
+-- touching goes both ways, and marked cells are in range.
 use Rattle.std.specs.Prelude.{◌≡◌, ℕ, ◌<◌, Bool, false, List, length}
 use Rattle.std.proofs.Common.{sym, inl, inr, subst, ◌∙◌}
 use Rattle.std.proofs.lemmas.Bool.{cases_lt, false≢true}

@@ -22,7 +22,8 @@ IsChoiceAt kind clues cell None blanks = IsEmpty clues cell × IsRunAt clues cel
 IsChoiceAt kind clues cell (Some Blank) blanks = ⊥
 IsChoiceAt kind clues cell (Some Unknown) blanks = (slice_get clues cell ≡ Some Unknown) × (blanks ≡ 0)
 IsChoiceAt Sudoku clues cell (Some (Number n)) blanks = (slice_get clues cell ≡ Some (Number n)) × (blanks ≡ 0)
-IsChoiceAt Slither clues cell (Some (Number n)) blanks = (slice_get clues cell ≡ Some (Number n)) × Takes clues cell blanks
+IsChoiceAt Slither clues cell (Some (Number n)) blanks =
+    (slice_get clues cell ≡ Some (Number n)) × Takes clues cell blanks
 IsChoiceAt Nurikabe clues cell (Some (Number n)) blanks = (slice_get clues cell ≡ Some (Number n)) × (blanks ≡ 0)
 
 -- the form that the writer chooses at the cell
@@ -40,7 +41,9 @@ IsShort Slither (Some (Number n)) = n ≤ 4
 
 -- a number in the scheme Number16, in the fewest digits
 abbrev pub number16_bytes : ℕ → List ℕ
-number16_bytes n = if nat_lt n 16 then digits 16 false n else (if nat_lt n 256 then 45 ∷ digits 16 false n else 43 ∷ digits 16 false n)
+number16_bytes n =
+    if nat_lt n 16 then digits 16 false n
+    else (if nat_lt n 256 then 45 ∷ digits 16 false n else 43 ∷ digits 16 false n)
 
 -- the first byte of the numbers that take so many empty cells with them
 abbrev pub cell4_first : ℕ → ℕ

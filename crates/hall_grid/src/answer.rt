@@ -187,12 +187,7 @@ fn push_values(text: &mut String, kind: Kind, values: &[u8]) -> Result<(), Alloc
 }
 
 /// Puts the text of a filling at the end of the text.
-fn push_filling(
-    text: &mut String,
-    kind: Kind,
-    size: Size,
-    values: &[u8],
-) -> Result<(), AllocError>
+fn push_filling(text: &mut String, kind: Kind, size: Size, values: &[u8]) -> Result<(), AllocError>
     requires size { HasSize kind size }
     requires exact { length values.now ≡ places_of kind size }
     requires ranges { All (λ v. v < values_of kind size) values.now }

@@ -5,8 +5,9 @@ use std::marker::Model;
 
 /// A value for each place of a board, in the order of the places.
 ///
-/// Sudoku has a place for each cell, row by row, and its values are numbers less 1. Nurikabe has the same places, with 0 for white and 1 for wall.
-/// Slitherlink has a place for each side of a cell, first the horizontal ones row by row, then the upright ones, with 1 for a line and 0 for none.
+/// Sudoku has a place for each cell, row by row, and its values are numbers less 1. Nurikabe has the same places,
+/// with 0 for white and 1 for wall. Slitherlink has a place for each side of a cell, first the horizontal ones
+/// row by row, then the upright ones, with 1 for a line and 0 for none.
 #[derive(Debug, Drop)]
 pub struct Filling {
     values: Vec<u8>,

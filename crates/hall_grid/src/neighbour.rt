@@ -72,7 +72,8 @@ pub fn neighbours(size: Size, cell: usize) -> [Option<usize>; 4]
     ]
 }
 
-/// The sides of the cell: top, left, right, bottom. Sides are numbered row by row, first the horizontal ones and then the upright ones.
+/// The sides of the cell: top, left, right, bottom. Sides are numbered row by row, first the horizontal ones
+/// and then the upright ones.
 pub fn sides(size: Size, cell: usize) -> [usize; 4]
     requires size { IsSize size }
     requires board { cell < cells size }
@@ -85,7 +86,8 @@ pub fn sides(size: Size, cell: usize) -> [usize; 4]
     [cell, left, left + 1, cell + size.cols]
 }
 
-/// The two dots that the side joins, the left or the upper one first. Dots are numbered row by row, sides as in `sides`.
+/// The two dots that the side joins, the left or the upper one first. Dots are numbered row by row, sides as in
+/// `sides`.
 pub fn dot_ends(size: Size, edge: usize) -> (usize, usize)
     requires size { IsSize size }
     requires board { edge < all_sides size }

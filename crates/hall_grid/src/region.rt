@@ -59,7 +59,8 @@ pub fn reach(
     reached(alloc, &Region { size, allowed }, from)
 }
 
-/// The greatest sets of allowed cells joined by sides: for each allowed cell the number of one cell of its set, the same for all of them.
+/// The greatest sets of allowed cells joined by sides: for each allowed cell the number of one cell of its set,
+/// the same for all of them.
 pub fn regions(
     alloc: Global,
     size: Size,

@@ -14,9 +14,11 @@ pub returns-else-is_none : goal.returns-else-is_none
 returns-else-is_none g c =
     Labels-none _ _ _ _ _ (λ a e m. elim c.else-is_none.branch [
       | else-is_none-via-then-is_none+else-is_member w ↦
-          let yes : w.is_member.result ≡ true = w.is_member.ensures.1 (subst (g.G.Graph.IsMember c.args.graph.now) e m) in
+          let yes : w.is_member.result ≡ true =
+          w.is_member.ensures.1 (subst (g.G.Graph.IsMember c.args.graph.now) e m) in
           let no : w.is_member.result ≡ false = w.if-is_member.false in
           absurd (cc)
       | else-is_none-via-else-is_none w ↦
-          let k = if_some _ c.is_none.result c.is_none.ensures w.if-is_none.false in (k.0, subst (λ a. IsLabelled c.args.labels.now a k.0) (sym e) k.1)
+          let k = if_some _ c.is_none.result c.is_none.ensures w.if-is_none.false in
+          (k.0, subst (λ a. IsLabelled c.args.labels.now a k.0) (sym e) k.1)
     ])

@@ -25,7 +25,8 @@ pub returns-clause-has_canonical_text : goal.returns-clause-has_canonical_text
 returns-clause-has_canonical_text c = has_canonical_text
 
 pub returns-clause-canonical_spells : goal.returns-clause-canonical_spells
-returns-clause-canonical_spells c = λ text board is_board canonical. SpellsText-from_CanonicalText text board is_board.size canonical
+returns-clause-canonical_spells c =
+    λ text board is_board canonical. SpellsText-from_CanonicalText text board is_board.size canonical
 
 pub returns-clause-one_canonical_text : goal.returns-clause-one_canonical_text
 returns-clause-one_canonical_text c = one_canonical_text

@@ -25,18 +25,21 @@ returns-clause-reads_back c =
     let head = c.in_ok-text.ensures in
     let adds = c.in_ok-push_body.ensures in
     SpellsText-from_CanonicalText _ c.args.puzzle.now c.size.ensures.board.size
-    (whole_text c.args.puzzle.now _ _ (string_bytes c.in_ok-text.text) _ c.kind.ensures.kind c.size.ensures.size head adds)
+    (whole_text c.args.puzzle.now _ _
+    (string_bytes c.in_ok-text.text) _ c.kind.ensures.kind c.size.ensures.size head adds)
 
 pub returns-clause-printable : goal.returns-clause-printable
 returns-clause-printable c =
     let head = c.in_ok-text.ensures in
     let adds = c.in_ok-push_body.ensures in
     IsPrintableText-from_CanonicalText _ c.args.puzzle.now c.size.ensures.board.size
-    (whole_text c.args.puzzle.now _ _ (string_bytes c.in_ok-text.text) _ c.kind.ensures.kind c.size.ensures.size head adds)
+    (whole_text c.args.puzzle.now _ _
+    (string_bytes c.in_ok-text.text) _ c.kind.ensures.kind c.size.ensures.size head adds)
 
 pub returns-clause-only : goal.returns-clause-only
 returns-clause-only c = λ other canonical.
     let head = c.in_ok-text.ensures in
     let adds = c.in_ok-push_body.ensures in
     one_canonical_text other _ c.args.puzzle.now c.size.ensures.board canonical
-    (whole_text c.args.puzzle.now _ _ (string_bytes c.in_ok-text.text) _ c.kind.ensures.kind c.size.ensures.size head adds)
+    (whole_text c.args.puzzle.now _ _
+    (string_bytes c.in_ok-text.text) _ c.kind.ensures.kind c.size.ensures.size head adds)

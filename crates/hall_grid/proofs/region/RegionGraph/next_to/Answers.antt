@@ -6,13 +6,17 @@ use Rattle.hall_grid.proofs.region.RegionGraph.next_to.Goals as goal
 
 pub returns-clause-below : goal.returns-clause-below
 returns-clause-below c = λ other h.
-    (padded_touching c.args.self.now.size c.args.node _ _ _ _ c.neighbours.ensures.up c.neighbours.ensures.left c.neighbours.ensures.right c.neighbours.ensures.down other h).0
+    let around = c.neighbours.ensures in
+    (padded_touching c.args.self.now.size c.args.node _ _ _ _ around.up around.left around.right around.down other h).0
 
 pub returns-clause-next : goal.returns-clause-next
 returns-clause-next c = λ other h.
-    (padded_touching c.args.self.now.size c.args.node _ _ _ _ c.neighbours.ensures.up c.neighbours.ensures.left c.neighbours.ensures.right c.neighbours.ensures.down other h).1
+    let around = c.neighbours.ensures in
+    (padded_touching c.args.self.now.size c.args.node _ _ _ _ around.up around.left around.right around.down other h).1
 
 pub returns-clause-all : goal.returns-clause-all
 returns-clause-all c = λ other t m.
-    inr (padded_among c.args.self.now.size c.args.node _ _ _ _ c.neighbours.ensures.up c.neighbours.ensures.left c.neighbours.ensures.right c.neighbours.ensures.down other
-    (marked_below c.args.self.now.allowed.now other (cells c.args.self.now.size) c.args.self.now.exact m) t)
+    let around = c.neighbours.ensures in
+    let below = marked_below c.args.self.now.allowed.now other (cells c.args.self.now.size) c.args.self.now.exact m in
+    inr
+    (padded_among c.args.self.now.size c.args.node _ _ _ _ around.up around.left around.right around.down other below t)

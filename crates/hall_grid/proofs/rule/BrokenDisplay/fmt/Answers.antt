@@ -11,11 +11,15 @@ loop-rule-preserved g c = λ p.
     let n : IsTrue c.contains.result ↔ Names c.args.self.now (rule_at c.loop-rule.rule-index) = c.contains.ensures in
     elim c.if-contains.branch [
       | then-contains+in_ok-write-2 w ↦ rw w.f-is (has_written_of_eq _ _ _ _ _
-          (let e : flat_map (named_text c.args.self.now) (take c.loop-rule.rule-index all_rules) ++ (32 ∷ name_of (rule_at c.loop-rule.rule-index)) ≡ flat_map (named_text c.args.self.now) (take (c.loop-rule.rule-index + 1) all_rules) =
+          (let e : flat_map (named_text c.args.self.now)
+          (take c.loop-rule.rule-index all_rules) ++ (32 ∷ name_of (rule_at c.loop-rule.rule-index))
+          ≡ flat_map (named_text c.args.self.now) (take (c.loop-rule.rule-index + 1) all_rules) =
           named_more c.args.self.now c.loop-rule.rule-index _ c.loop-rule-test.true w.if-contains.true n in e)
-          (has_written_append _ _ _ _ _ _ (c.loop-rule.invariant p) (rw w.name.ensures at (w.in_ok-write-2.ensures.writes (c.loop-rule.invariant p).plain refl))))
+          (has_written_append _ _ _ _ _ _ (c.loop-rule.invariant p)
+          (rw w.name.ensures at (w.in_ok-write-2.ensures.writes (c.loop-rule.invariant p).plain refl))))
       | else-contains w ↦ rw w.f-is (has_written_of_eq _ _ _ _ _
-          (unnamed_more c.args.self.now c.loop-rule.rule-index _ c.loop-rule-test.true w.if-contains.false n) (c.loop-rule.invariant p))
+          (unnamed_more c.args.self.now c.loop-rule.rule-index _ c.loop-rule-test.true w.if-contains.false n)
+          (c.loop-rule.invariant p))
     ]
 
 pub returns-clause-writes : goal.returns-clause-writes
