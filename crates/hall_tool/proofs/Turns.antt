@@ -10,8 +10,8 @@ use Rattle.std.specs.Prelude.{All}
 use Rattle.std.proofs.lemmas.List.Elements.{All-nil, All-cons}
 use Rattle.hall_desk.specs.Run.{Run}
 use Rattle.hall_policy.specs.World.{World}
-use Rattle.hall_tool.specs.declared.session.ReplayFault.{ReplayFault}
-use Rattle.hall_tool.specs.declared.session.ReplayFault.TheVariants as fault
+use Rattle.hall_tool.specs.declared.fault.ReplayFault.{ReplayFault}
+use Rattle.hall_tool.specs.declared.fault.ReplayFault.TheVariants as fault
 use Rattle.hall_tool.specs.Input.{WritesPart}
 use Rattle.hall_tool.specs.Records.{Record, IsRecord, record_bytes, header_of, HasNoRecord, NeverHasRecord, IsCut, bytes_between}
 use Rattle.hall_tool.specs.Replay.{Exchange, Exchanged, Answers, Session, records_of, lines_of, IsRunOver, LacksRecord, IsReplayed, ReadsMore}

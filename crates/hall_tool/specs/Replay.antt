@@ -11,8 +11,8 @@ use Rattle.hall_desk.specs.declared.reply.Reply.TheVariants.{Unavailable as NotS
 use Rattle.hall_tool.specs.declared.form.FormFault.{FormFault}
 use Rattle.hall_tool.specs.declared.answer.Line.{Line}
 use Rattle.hall_tool.specs.declared.answer.Line.TheVariants.{Text, Unavailable}
-use Rattle.hall_tool.specs.declared.session.ReplayFault.{ReplayFault}
-use Rattle.hall_tool.specs.declared.session.ReplayFault.TheVariants as fault
+use Rattle.hall_tool.specs.declared.fault.ReplayFault.{ReplayFault}
+use Rattle.hall_tool.specs.declared.fault.ReplayFault.TheVariants as fault
 use Rattle.hall_tool.specs.Input.{WritesPart}
 use Rattle.hall_tool.specs.Request.{RequestOf}
 use Rattle.hall_tool.specs.Reply.{BytesOf, FaultBytesOf}
@@ -114,12 +114,3 @@ pub record IsReplayed {U : Type 0} (stream after wrote written : Option (List �
   pub run : IsRunOver old answered new
   pub consumed : Consumes stream after (records_of answered ++ unread)
   pub ended : Ended end after wrote written answered unread failed
-
--- some bytes were read behind those that are there, or the input is at its end; a refused read took none, and where memory is refused some bytes may be lost
-abbrev pub ReadsMore : Option (List ℕ) → Option (List ℕ) → List ℕ → List ℕ → ℕ → ℕ → Result Bool ReplayFault → Type 0
-ReadsMore stream after old new failed fails (Ok true) =
-    (piece : List ℕ) × (0 < length piece) × (length piece ≤ 4096) × (new ≡ old ++ piece) × Consumes stream after piece × (fails ≡ failed)
-ReadsMore stream after old new failed fails (Ok false) = (new ≡ old) × Consumes stream after [] × IsAtEnd after × (fails ≡ failed)
-ReadsMore stream after old new failed fails (Err fault.Device) = Consumes stream after [] × HasFailed failed fails
-ReadsMore stream after old new failed fails (Err fault.Memory) = (piece : List ℕ) × Consumes stream after piece
-ReadsMore stream after old new failed fails (Err fault.Record) = ⊥

@@ -1,6 +1,6 @@
 use Rattle.std.proofs.Common.{◌≡◌, ◌∙◌, inl, inr, rules, arith, Err, []}
 use Rattle.std.proofs.KnownBytes.{Consumes-nil}
-use Rattle.hall_tool.specs.declared.session.ReplayFault.TheVariants as fault
+use Rattle.hall_tool.specs.declared.fault.ReplayFault.TheVariants as fault
 use Rattle.hall_tool.proofs.Turns.{kept_start, kept_answered, unsent, no_memory, read_refused, never_record, at_end, too_many}
 use Rattle.hall_tool.proofs.session.answer_records.Goals as goal
 
