@@ -1,7 +1,7 @@
 -- A replay: records of a stream, answered one after another.
-use Rattle.std.specs.Prelude.{◌≡◌, ◌≢◌, ◌<◌, ◌≤◌, ◌⊎◌, ℕ, List, [], ◌∷◌, ◌++◌, length, flat_map, All, Option, Result, Ok, Err, Bool, true, false, codes, string_bytes}
+use Rattle.std.specs.Prelude.{◌≡◌, ◌≢◌, ◌<◌, ◌≤◌, ◌⊎◌, ℕ, List, [], ◌∷◌, ◌++◌, length, flat_map, All, Option, Result}
+use Rattle.std.specs.Prelude.{Ok, Err, codes, string_bytes}
 use Rattle.std.specs.Io.KnownBytes.{Appends, Consumes, IsAtEnd}
-use Rattle.hall_grid.specs.Device.{HasFailed}
 use Rattle.hall_policy.specs.World.{World}
 use Rattle.hall_policy.specs.declared.request.Request.{Request}
 use Rattle.hall_desk.specs.Step.{Step}
@@ -37,9 +37,11 @@ pub record IsRefused (bytes line : List ℕ) : Type 0 where
   pub reads : RequestOf bytes (Err found)
   pub written : FaultBytesOf found line
 
--- the bytes are answered: by a step of the hall; or by the fault of their form, or for want of memory by 503, and the world stays
+-- the bytes are answered: by a step of the hall; or by the fault of their form, or for want of memory by 503,
+-- and the world stays
 abbrev pub Answers : World → ℕ → List ℕ → List ℕ → World → Type 0
-Answers world moment bytes line after = IsStep world moment bytes line after ⊎ ((IsRefused bytes line ⊎ BytesOf NotServed line) × (after ≡ world))
+Answers world moment bytes line after =
+    IsStep world moment bytes line after ⊎ ((IsRefused bytes line ⊎ BytesOf NotServed line) × (after ≡ world))
 
 -- a record, and the line that answers it
 pub record Exchange : Type 0 where
@@ -99,15 +101,18 @@ WritesAllButLast wrote written xs =
     × Appends wrote between (lines_of before) × WritesPart between written last.line)
 
 -- how the replay ended: what it wrote, and why it ended
-abbrev pub Ended : {U : Type 0} → Result U ReplayFault → Option (List ℕ) → Option (List ℕ) → Option (List ℕ) → List Exchange → List ℕ → Type 0 → Type 0
-Ended (Ok done) after wrote written xs unread failed = Appends wrote written (lines_of xs) × (unread ≡ []) × IsAtEnd after
+abbrev pub Ended : {U : Type 0} → Result U ReplayFault → Option (List ℕ) → Option (List ℕ) → Option (List ℕ)
+    → List Exchange → List ℕ → Type 0 → Type 0
+Ended (Ok done) after wrote written xs unread failed =
+    Appends wrote written (lines_of xs) × (unread ≡ []) × IsAtEnd after
 Ended (Err fault.Record) after wrote written xs unread failed =
     Appends wrote written (lines_of xs) × (LacksRecord after unread ⊎ (1000000000 ≤ length (records_of xs ++ unread)))
 Ended (Err fault.Device) after wrote written xs unread failed = WritesAllButLast wrote written xs × failed
 Ended (Err fault.Memory) after wrote written xs unread failed = Appends wrote written (lines_of xs)
 
 -- the stream was read as these records and then this rest, the records were answered, and the replay ended so
-pub record IsReplayed {U : Type 0} (stream after wrote written : Option (List ℕ)) (old new : World) (failed : Type 0) (end : Result U ReplayFault) : Type 0 where
+pub record IsReplayed {U : Type 0} (stream after wrote written : Option (List ℕ)) (old new : World)
+    (failed : Type 0) (end : Result U ReplayFault) : Type 0 where
   pub answered : List Exchange
   pub unread : List ℕ
   pub whole : All (λ x. IsRecord x.asked) answered

@@ -37,10 +37,7 @@ impl Inbox {
         ensures { IfOk result (λ inbox. inbox ≡ []) }
     {
         let bytes = Vec::with_capacity(alloc, ROOM)?;
-        Ok(Inbox {
-            bytes,
-            passed: 0,
-        })
+        Ok(Inbox { bytes, passed: 0 })
     }
 
     /// The bytes that are left.
