@@ -42,7 +42,8 @@ in_ranges moment size = if nat_le moment 4102444800 && nat_le size 73728 then So
 
 -- what a header's numbers say: a moment and a length in their ranges
 abbrev pub numbers_in : List ℕ × List ℕ → Option (ℕ × ℕ)
-numbers_in parts = option_and_then (λ moment. option_and_then (in_ranges moment) (number_in parts.1)) (number_in parts.0)
+numbers_in parts =
+    option_and_then (λ moment. option_and_then (in_ranges moment) (number_in parts.1)) (number_in parts.0)
 
 -- the moment and the length of a header @MOMENT LENGTH
 abbrev pub header_in : List ℕ → Option (ℕ × ℕ)

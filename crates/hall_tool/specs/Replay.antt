@@ -23,6 +23,11 @@ abbrev pub line_text : Line → List ℕ
 line_text (Text text) = string_bytes text
 line_text Unavailable = codes "503 {\"fault\":\"hall\"}\n"
 
+-- the line is the reply of a step of the hall for the request
+abbrev pub IsStepLine : World → ℕ → Request → List ℕ → World → Type 0
+IsStepLine world moment request line after =
+    (reply : Reply) × Step world moment request reply after × BytesOf reply line
+
 -- the bytes are a request, and the line is the reply of a step of the hall
 pub record IsStep (world : World) (moment : ℕ) (bytes line : List ℕ) (after : World) : Type 0 where
   pub request : Request

@@ -23,9 +23,11 @@ const READ_LIMIT: u64 = 1_000_000_000;
 
 /// Writes a line.
 fn send<W: Write>(writer: &mut Counted<W>, line: Line) -> Result<(), ToolFault>
-    ensures written { OnOk result (Appends (W.contents writer.old.device) (W.contents writer.new.device) (line_text line)) }
+    ensures written { OnOk result
+        (Appends (W.contents writer.old.device) (W.contents writer.new.device) (line_text line)) }
     ensures same { OnOk result (writer.new.failures ≡ writer.old.failures) }
-    ensures part { OnErr result (WritesPart (W.contents writer.old.device) (W.contents writer.new.device) (line_text line)) }
+    ensures part { OnErr result
+        (WritesPart (W.contents writer.old.device) (W.contents writer.new.device) (line_text line)) }
     ensures device { IfErr result (λ e. (e ≡ ToolFault.Device) × HasFailed writer.old.failures writer.new.failures) }
 {
     write_line(writer, line.as_bytes())
@@ -33,16 +35,16 @@ fn send<W: Write>(writer: &mut Counted<W>, line: Line) -> Result<(), ToolFault>
 
 /// Answers the records of the input, and writes their lines.
 ///
-/// Ends well where the input held whole records and no more. A device's fault leaves the records handled made, the last one's line perhaps unsent; any other fault comes
-/// after the lines of the records before. A sane world stays sane.
+/// Ends well where the input held whole records and no more. A device's fault leaves the records handled made, the last
+/// one's line perhaps unsent; any other fault comes after the lines of the records before. A sane world stays sane.
 pub fn replay<R: Read, W: Write>(
     alloc: Global,
     desk: &mut Desk,
     reader: &mut Counted<R>,
     writer: &mut Counted<W>,
 ) -> Result<(), ReplayFault>
-    ensures replayed { IsReplayed (R.remaining reader.old.device) (R.remaining reader.new.device) (W.contents writer.old.device) (W.contents writer.new.device)
-        (world_in desk.old) (world_in desk.new)
+    ensures replayed { IsReplayed (R.remaining reader.old.device) (R.remaining reader.new.device)
+        (W.contents writer.old.device) (W.contents writer.new.device) (world_in desk.old) (world_in desk.new)
         (HasFailed reader.old.failures reader.new.failures ⊎ HasFailed writer.old.failures writer.new.failures) result }
     ensures sane { Sane (world_in desk.old) → Sane (world_in desk.new) }
     ensures unique { Sane (world_in desk.old) → HasUniqueSolutions (world_in desk.new) }
@@ -58,8 +60,8 @@ fn answer_records<R: Read, W: Write>(
     reader: &mut Counted<R>,
     writer: &mut Counted<W>,
 ) -> Result<(), ReplayFault>
-    ensures { IsReplayed (R.remaining reader.old.device) (R.remaining reader.new.device) (W.contents writer.old.device) (W.contents writer.new.device)
-        (world_in desk.old) (world_in desk.new)
+    ensures { IsReplayed (R.remaining reader.old.device) (R.remaining reader.new.device)
+        (W.contents writer.old.device) (W.contents writer.new.device) (world_in desk.old) (world_in desk.new)
         (HasFailed reader.old.failures reader.new.failures ⊎ HasFailed writer.old.failures writer.new.failures) result }
 {
     let mut inbox = Inbox::new(alloc)?;
