@@ -59,8 +59,7 @@ header_reads m n late long =
     let small : m < 2 ^ 64 = omega arith in
     let few : n < 2 ^ 64 = omega arith in
     rw (
-      cut_at 32 (decimal m) (decimal n)
-          (decimal_free 32 m (omega arith) small),
+      cut_at 32 (decimal m) (decimal n) (decimal_free 32 m (omega arith) small),
       number_reads m small,
       number_reads n few,
       le-leb m 4102444800 late,
@@ -95,8 +94,7 @@ numbers_told a b m n e =
     let first : x ≡ m = ap (λ p. p.0) same in
     let second : y ≡ n = ap (λ p. p.1) same in (
       (number_writes a x xs).0 ∙ ap decimal first,
-      (number_writes b y ys).0
-          ∙ ap decimal second,
+      (number_writes b y ys).0 ∙ ap decimal second,
       rw first at (leb-true x 4102444800 late),
       rw second at (leb-true y 73728 long),
     )

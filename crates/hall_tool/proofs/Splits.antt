@@ -54,6 +54,5 @@ found_split x text i e =
 
 pub found_none : (x : ℕ) (text : List ℕ) → position (λ y. y == x) text ≡ None → Free x text
 found_none x text e =
-    list_all-from_AllPass (λ y. not (y == x)) text
-    (λ k d inside. not_from_false _
+    list_all-from_AllPass (λ y. not (y == x)) text (λ k d inside. not_from_false _
     (fails_before_first (λ y. y == x) text k d (let past = position_past (λ y. y == x) text e in omega arith)))

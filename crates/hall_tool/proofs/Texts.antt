@@ -34,8 +34,7 @@ kind_told least most allows text e =
     let (low, high) = and_parts _ _ sizes in
     record {
       long_enough = leb-true _ _ low;
-      short_enough = leb-true _
-          _ high;
+      short_enough = leb-true _ _ high;
       allowed = AllPass-from_list_all allows text all;
     }
 
@@ -55,8 +54,7 @@ ascii_at : (text : List ℕ) → ((k : ℕ) → k < length text → get_or text 
 ascii_at text h i =
     elim (cases_lt i (length text)) [
       | inl inside ↦ h i inside
-      | inr past ↦ rw (get_or_past text i 0 past)
-          (omega arith)
+      | inr past ↦ rw (get_or_past text i 0 past) (omega arith)
     ]
 
 pub kind_ascii : (least most : ℕ) (allows : ℕ → Bool) (text : List ℕ)
@@ -89,8 +87,7 @@ pub decimal_zero : (text : List ℕ) → is_decimal text ≡ true → get_or tex
 decimal_zero text e z =
     elim (or_cases _ _ (and_parts _ _ e).1) [
       | inl one ↦ eqb-true _ _ one
-      | inr other ↦ absurd
-          (eqb-false _ _ (not-true _ other) z)
+      | inr other ↦ absurd (eqb-false _ _ (not-true _ other) z)
     ]
 
 -- what parses is the number, and what doesn't is none of 64 bits
@@ -107,8 +104,7 @@ pub reads_none : (text : List ℕ) → is_decimal text ≡ true → ((0 < length
 reads_none text d other =
     let large : 2 ^ 64 ≤ digits_value 10 text =
     elim (cases_lt (digits_value 10 text) (2 ^ 64)) [
-      | inl small ↦ absurd
-          (other (decimal_some text d, small))
+      | inl small ↦ absurd (other (decimal_some text d, small))
       | inr large ↦ large
     ] in
     rw (d, le-ltb _ _ large) refl
