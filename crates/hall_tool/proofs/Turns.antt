@@ -17,8 +17,7 @@ use Rattle.hall_tool.specs.Input.{WritesPart}
 use Rattle.hall_tool.specs.Records.{Record, IsRecord, record_bytes, header_of, HasNoRecord, NeverHasRecord, IsCut}
 use Rattle.hall_tool.specs.Records.{bytes_between}
 use Rattle.hall_tool.specs.Replay.{Exchange, Exchanged, Answers, Session, records_of, lines_of, IsRunOver, LacksRecord}
-use Rattle.hall_tool.specs.Replay.{IsMade, IsReplayed, Ended}
-use Rattle.hall_tool.specs.Inbox.{ReadsMore}
+use Rattle.hall_tool.specs.Replay.{IsMade, IsReplayed, Ended, ReadsMore}
 
 records_more : (xs : List Exchange) (x : Exchange) → records_of (xs ++ x ∷ []) ≡ records_of xs ++ record_bytes x.asked
 records_more xs x =

@@ -1,6 +1,6 @@
 //! What a replay has read and not answered.
 ghost use Rattle.std.specs.Prelude.{◌≡◌, ◌≤◌, [], IfOk, drop, length};
-ghost use Rattle.hall_tool.specs.Inbox.{ReadsMore};
+ghost use Rattle.hall_tool.specs.Replay.{ReadsMore};
 
 use crate::fault::ReplayFault;
 use hall_grid::Counted;
