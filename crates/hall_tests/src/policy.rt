@@ -1,4 +1,5 @@
-//! What requests to the program don't show of the policy: the rules of actions that have no route yet, and limits of texts and numbers.
+//! What requests to the program don't show of the policy: the rules of actions that have no route yet, and limits of
+//! texts and numbers.
 use self::Ask::{
     Import, ListPuzzles, ListRounds, Protest, Protests, Publish, PutPuzzle, PutRound, ReadPuzzle,
     Release, Rule, Solutions, Submit, Table,
@@ -21,7 +22,8 @@ const END: u64 = 1_777_716_000;
 
 const CLOSE: u64 = 1_777_717_800;
 
-/// What is asked, always by its round r1, puzzle bob/p1 or token, and for a protest by its number, for a ruling by its points.
+/// What is asked, always by its round r1, puzzle bob/p1 or token, and for a protest by its number, for a ruling by its
+/// points.
 #[derive(Clone, Copy, PartialEq, Eq)]
 enum Ask {
     Import,
@@ -61,8 +63,9 @@ enum Under {
     Upheld,
 }
 
-/// What is asked, by whom ("player" is bob as an entrant), the round, what stands under the key or token, the rule whose test was found true (0 for none), how much there
-/// is of what is limited, the moment, and the rule that denies: 0 where the action is allowed and 100 where it is repeated.
+/// What is asked, by whom ("player" is bob as an entrant), the round, what stands under the key or token, the rule whose
+/// test was found true (0 for none), how much there is of what is limited, the moment, and the rule that denies: 0 where
+/// the action is allowed and 100 where it is repeated.
 type Row = (Ask, &'static str, Held, Under, u8, u64, u64, u8);
 
 const DECISIONS: [Row; 68] = [
@@ -433,70 +436,79 @@ fn meets<const LEAST: u64, const MOST: u64>(ends: [Option<Within<LEAST, MOST>>; 
 }
 
 #[test]
-fn texts_and_numbers_keep_their_limits(rt: HostRuntime) {
+fn texts_keep_their_limits(rt: HostRuntime) {
     let key: Option<Key> = None;
     let title: Option<Title> = None;
     let protest: Option<ProtestText> = None;
-    assert!(rt; keeps(&rt, key, 8, 64, "Z", " "));
-    assert!(rt; keeps(&rt, title, 1, 60, " ", "\n"));
-    assert!(rt; keeps(&rt, protest, 1, 200, "~", "\u{7f}"));
-    assert!(rt;
+    let rows = [
+        keeps(&rt, key, 8, 64, "Z", " "),
+        keeps(&rt, title, 1, 60, " ", "\n"),
+        keeps(&rt, protest, 1, 200, "~", "\u{7f}"),
+    ];
+    for (place, are_kept) in rows.iter().enumerate() {
+        assert!(rt; *are_kept, "row {place}");
+    }
+}
+
+#[test]
+fn numbers_from_one_keep_their_limits(rt: HostRuntime) {
+    let rows = [
         meets([
             AnswerNumber::new(0),
             AnswerNumber::new(1),
             AnswerNumber::new(50),
-            AnswerNumber::new(51)
-        ])
-    );
-    assert!(rt;
+            AnswerNumber::new(51),
+        ]),
         meets([
             Points::new(0),
             Points::new(1),
             Points::new(1000),
-            Points::new(1001)
-        ])
-    );
-    assert!(rt;
+            Points::new(1001),
+        ]),
         meets([
             Minutes::new(0),
             Minutes::new(1),
             Minutes::new(1440),
-            Minutes::new(1441)
-        ])
-    );
-    assert!(rt;
-        meets([
-            None,
-            ProtestMinutes::new(0),
-            ProtestMinutes::new(10080),
-            ProtestMinutes::new(10081)
-        ])
-    );
-    assert!(rt;
-        meets([
-            None,
-            Penalty::new(0),
-            Penalty::new(1000),
-            Penalty::new(1001)
-        ])
-    );
-    assert!(rt; meets([None, Bonus::new(0), Bonus::new(1000), Bonus::new(1001)]));
-    assert!(rt;
-        meets([
-            None,
-            Moment::new(0),
-            Moment::new(4_102_444_800),
-            Moment::new(4_102_444_801)
-        ])
-    );
-    assert!(rt;
+            Minutes::new(1441),
+        ]),
         meets([
             PuzzleNumber::new(0),
             PuzzleNumber::new(1),
             PuzzleNumber::new(99),
-            PuzzleNumber::new(100)
-        ])
-    );
-    assert!(rt; RulingPoints::new(-1000).is_some() && RulingPoints::new(-1001).is_none());
-    assert!(rt; RulingPoints::new(1000).is_some() && RulingPoints::new(1001).is_none());
+            PuzzleNumber::new(100),
+        ]),
+    ];
+    for (place, are_kept) in rows.iter().enumerate() {
+        assert!(rt; *are_kept, "row {place}");
+    }
+}
+
+#[test]
+fn numbers_from_nought_and_below_keep_their_limits(rt: HostRuntime) {
+    let rows = [
+        meets([
+            None,
+            ProtestMinutes::new(0),
+            ProtestMinutes::new(10080),
+            ProtestMinutes::new(10081),
+        ]),
+        meets([
+            None,
+            Penalty::new(0),
+            Penalty::new(1000),
+            Penalty::new(1001),
+        ]),
+        meets([None, Bonus::new(0), Bonus::new(1000), Bonus::new(1001)]),
+        meets([
+            None,
+            Moment::new(0),
+            Moment::new(4_102_444_800),
+            Moment::new(4_102_444_801),
+        ]),
+        RulingPoints::new(-1001).is_none() && RulingPoints::new(-1000).is_some(),
+        RulingPoints::new(1000).is_some() && RulingPoints::new(1001).is_none(),
+    ];
+    for (place, are_kept) in rows.iter().enumerate() {
+        assert!(rt; *are_kept, "row {place}");
+    }
 }

@@ -1,9 +1,12 @@
 -- The header of a record: written in one way, and read as it was written.
-use Rattle.std.proofs.Common.{◌≡◌, ◌∙◌, sym, ap, refl, arith, ℕ, ◌+◌, ◌<◌, ◌≤◌, ◌^◌, not, ◌==◌, Bool, true, false, List, [], ◌∷◌, ◌++◌, length, take, drop, get_or, Option, Some, None, decimal, option_map, length-append}
+use Rattle.std.proofs.Common.{◌≡◌, ◌∙◌, sym, ap, refl, arith, ℕ, ◌+◌, ◌<◌, ◌≤◌, ◌^◌, not, ◌==◌, Bool, true, false, List}
+use Rattle.std.proofs.Common.{[], ◌∷◌, ◌++◌, length, take, drop, get_or, Option, Some, None, decimal, option_map}
+use Rattle.std.proofs.Common.{length-append}
 use Rattle.std.specs.Prelude.{if◌then◌else◌, nat_eq, codes, option_and_then}
 use Rattle.std.specs.Char.{is_ascii_digit}
 use Rattle.std.specs.List.{position, position_or_len, starts_with}
-use Rattle.std.proofs.lemmas.Bool.{and_parts, and_from, leb-true, le-leb, lt-ltb, eq-eqb, eqb-true, ne_eqb, not_from_false}
+use Rattle.std.proofs.lemmas.Bool.{and_parts, and_from, leb-true, le-leb, lt-ltb, eq-eqb, eqb-true, ne_eqb}
+use Rattle.std.proofs.lemmas.Bool.{not_from_false}
 use Rattle.std.proofs.lemmas.List.{take_at}
 use Rattle.std.proofs.lemmas.List.Sums.{list_all-from_AllPass, AllPass-from_list_all}
 use Rattle.std.proofs.lemmas.List.Folds.{list_all-append}
@@ -20,14 +23,16 @@ digit_high byte e = leb-true 48 byte (and_parts _ _ e).0
 digits_free : (x : ℕ) (text : List ℕ) → x < 48 → AreDigits text → Free x text
 digits_free x text low e =
     list_all-from_AllPass (λ y. not (y == x)) text (λ k d inside.
-    let high : 48 ≤ get_or text k d = digit_high _ (AllPass-from_list_all is_ascii_digit text e k d inside) in not_from_false _ (ne_eqb _ x (λ z. absurd (omega arith))))
+    let high : 48 ≤ get_or text k d = digit_high _ (AllPass-from_list_all is_ascii_digit text e k d inside) in
+    not_from_false _ (ne_eqb _ x (λ z. absurd (omega arith))))
 
 decimal_free : (x n : ℕ) → x < 48 → n < 2 ^ 64 → Free x (decimal n)
 decimal_free x n low small = digits_free x (decimal n) low (digits_decimal own n small)
 
 pub header_free : (m n : ℕ) → m < 2 ^ 64 → n < 2 ^ 64 → Free 10 (header_of m n)
 header_free m n small few =
-    list_all-append (λ y. not (y == 10)) (decimal m) (32 ∷ decimal n) ∙ and_from _ _ (decimal_free 10 m (omega arith) small) (decimal_free 10 n (omega arith) few)
+    list_all-append (λ y. not (y == 10)) (decimal m) (32 ∷ decimal n)
+    ∙ and_from _ _ (decimal_free 10 m (omega arith) small) (decimal_free 10 n (omega arith) few)
 
 pub header_short : (m n : ℕ) → m ≤ 4102444800 → n ≤ 73728 → length (header_of m n) ≤ 17
 header_short m n late long =
@@ -53,13 +58,21 @@ pub header_reads : (m n : ℕ) → m ≤ 4102444800 → n ≤ 73728 → header_i
 header_reads m n late long =
     let small : m < 2 ^ 64 = omega arith in
     let few : n < 2 ^ 64 = omega arith in
-    rw (cut_at 32 (decimal m) (decimal n) (decimal_free 32 m (omega arith) small), number_reads m small, number_reads n few, le-leb m 4102444800 late, le-leb n 73728 long) refl
+    rw (
+      cut_at 32 (decimal m) (decimal n) (decimal_free 32 m (omega arith) small),
+      number_reads m small,
+      number_reads n few,
+      le-leb m 4102444800 late,
+      le-leb n 73728 long,
+    ) refl
 
-and_then_some : {A B : Type 0} (f : A → Option B) (o : Option A) (v : B) → option_and_then f o ≡ Some v → (x : A) × (o ≡ Some x) × (f x ≡ Some v)
+and_then_some : {A B : Type 0} (f : A → Option B) (o : Option A) (v : B) → option_and_then f o ≡ Some v
+    → (x : A) × (o ≡ Some x) × (f x ≡ Some v)
 and_then_some f None v e = absurd cc
 and_then_some f (Some x) v e = (x, refl, e)
 
-map_some : {A B : Type 0} (f : A → B) (o : Option A) (v : B) → option_map f o ≡ Some v → (x : A) × (o ≡ Some x) × (f x ≡ v)
+map_some : {A B : Type 0} (f : A → B) (o : Option A) (v : B) → option_map f o ≡ Some v
+    → (x : A) × (o ≡ Some x) × (f x ≡ v)
 map_some f None v e = absurd cc
 map_some f (Some x) v e = (x, refl, cc)
 
@@ -71,18 +84,24 @@ marked : (line : List ℕ) → starts_with nat_eq line (codes "@") ≡ true → 
 marked [] e = absurd cc
 marked (y ∷ rest) e = ap (λ z. z ∷ rest) (sym (eqb-true 64 y (and_parts _ _ e).0))
 
-numbers_told : (a b : List ℕ) (m n : ℕ) → numbers_in (a, b) ≡ Some (m, n) → (a ≡ decimal m) × (b ≡ decimal n) × (m ≤ 4102444800) × (n ≤ 73728)
+numbers_told : (a b : List ℕ) (m n : ℕ) → numbers_in (a, b) ≡ Some (m, n)
+    → (a ≡ decimal m) × (b ≡ decimal n) × (m ≤ 4102444800) × (n ≤ 73728)
 numbers_told a b m n e =
     let (x, xs, more) = and_then_some _ (number_in a) (m, n) e in
     let (y, ys, last) = and_then_some _ (number_in b) (m, n) more in
     let (both, same) = if_some _ (x, y) (m, n) last in
     let (late, long) = and_parts _ _ both in
     let first : x ≡ m = ap (λ p. p.0) same in
-    let second : y ≡ n = ap (λ p. p.1) same in
-    ((number_writes a x xs).0 ∙ ap decimal first, (number_writes b y ys).0 ∙ ap decimal second, rw first at (leb-true x 4102444800 late), rw second at (leb-true y 73728 long))
+    let second : y ≡ n = ap (λ p. p.1) same in (
+      (number_writes a x xs).0 ∙ ap decimal first,
+      (number_writes b y ys).0 ∙ ap decimal second,
+      rw first at (leb-true x 4102444800 late),
+      rw second at (leb-true y 73728 long),
+    )
 
 -- what is read was written
-pub header_writes : (line : List ℕ) (m n : ℕ) → header_in line ≡ Some (m, n) → (line ≡ header_of m n) × (m ≤ 4102444800) × (n ≤ 73728)
+pub header_writes : (line : List ℕ) (m n : ℕ) → header_in line ≡ Some (m, n)
+    → (line ≡ header_of m n) × (m ≤ 4102444800) × (n ≤ 73728)
 header_writes line m n e =
     let (parts, cuts, numbers) = and_then_some numbers_in _ (m, n) e in
     let (rest, fronts, halves) = and_then_some (cut 32) _ parts cuts in

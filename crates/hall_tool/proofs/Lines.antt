@@ -1,5 +1,6 @@
 -- The first line of an input, and what follows it.
-use Rattle.std.proofs.Common.{◌≡◌, ℕ, ◌+◌, ◌<◌, ◌≤◌, Bool, true, false, cond, not, List, [], ◌∷◌, length, take, drop, Some, None, refl, ap, ◌∙◌, arith}
+use Rattle.std.proofs.Common.{◌≡◌, ℕ, ◌+◌, ◌<◌, ◌≤◌, Bool, true, false, cond, not, List, [], ◌∷◌, length, take, drop}
+use Rattle.std.proofs.Common.{Some, None, refl, ap, ◌∙◌, arith}
 use Rattle.std.specs.Prelude.{◌==◌, All}
 use Rattle.std.specs.List.{slice_split, position, position_or_len, after_first}
 use Rattle.std.specs.Str.Lines.{lines, lines_of_parts, strip_carriage_return}
@@ -12,7 +13,8 @@ use Rattle.hall_grid.proofs.Fields.{position_at, position_past}
 abbrev pub is_line_feed : ℕ → Bool
 is_line_feed byte = byte == 10
 
-more_lines : (line : List ℕ) (parts : List (List ℕ)) → 0 < length parts → lines_of_parts (line ∷ parts) ≡ strip_carriage_return line ∷ lines_of_parts parts
+more_lines : (line : List ℕ) (parts : List (List ℕ)) → 0 < length parts
+    → lines_of_parts (line ∷ parts) ≡ strip_carriage_return line ∷ lines_of_parts parts
 more_lines line [] h = absurd (omega arith)
 more_lines line (part ∷ parts) h = refl
 
@@ -23,7 +25,8 @@ line_then bytes at e =
     let p = position_at is_line_feed bytes at e in
     let few : position_or_len is_line_feed bytes < length bytes = omega arith in
     ap lines_of_parts (slice_split_first is_line_feed bytes 0 few)
-    ∙ more_lines _ (slice_split is_line_feed (after_first is_line_feed bytes)) (omega (arith, length-slice_split is_line_feed (after_first is_line_feed bytes)))
+    ∙ more_lines _ (slice_split is_line_feed (after_first is_line_feed bytes))
+    (omega (arith, length-slice_split is_line_feed (after_first is_line_feed bytes)))
     ∙ ap (λ i. strip_carriage_return (take i bytes) ∷ lines (drop (i + 1) bytes)) p.0
 
 first_stops : (b : Bool) (m n : ℕ) → n + 1 ≤ cond (not b) (1 + m) 0 → (b ≡ false) × (n ≤ m)
@@ -34,7 +37,8 @@ none_passes : (p : ℕ → Bool) (xs : List ℕ) → length xs ≤ position_or_l
 none_passes p [] h = All-nil (λ x. p x ≡ false)
 none_passes p (x ∷ xs) h =
     let k : length (x ∷ xs) ≤ cond (not (p x)) (1 + position_or_len p xs) 0 = h in
-    let s = first_stops (p x) (position_or_len p xs) (length xs) (omega (arith, k)) in All-cons (λ x. p x ≡ false) x xs s.0 (none_passes p xs s.1)
+    let s = first_stops (p x) (position_or_len p xs) (length xs) (omega (arith, k)) in
+    All-cons (λ x. p x ≡ false) x xs s.0 (none_passes p xs s.1)
 
 one_line : (bytes : List ℕ) → 0 < length bytes → lines_of_parts (bytes ∷ []) ≡ bytes ∷ []
 one_line [] h = absurd (omega arith)
@@ -43,4 +47,5 @@ one_line (byte ∷ bytes) h = rw (ne_eqb (length (byte ∷ bytes)) 0 (λ e. omeg
 -- a last line without a line feed
 pub last_line : (bytes : List ℕ) → 0 < length bytes → position is_line_feed bytes ≡ None → lines bytes ≡ bytes ∷ []
 last_line bytes some e =
-    ap lines_of_parts (slice_split_none is_line_feed bytes (none_passes is_line_feed bytes (position_past is_line_feed bytes e))) ∙ one_line bytes some
+    ap lines_of_parts (slice_split_none is_line_feed bytes
+    (none_passes is_line_feed bytes (position_past is_line_feed bytes e))) ∙ one_line bytes some

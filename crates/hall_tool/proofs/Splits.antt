@@ -1,5 +1,6 @@
 -- Bytes cut at a byte, in one way.
-use Rattle.std.proofs.Common.{◌≡◌, ◌∙◌, sym, ap, refl, arith, ℕ, ◌+◌, ◌<◌, ◌≤◌, not, ◌==◌, true, List, [], ◌∷◌, ◌++◌, length, take, drop, get_or, add-one, Some, None}
+use Rattle.std.proofs.Common.{◌≡◌, ◌∙◌, sym, ap, refl, arith, ℕ, ◌+◌, ◌<◌, ◌≤◌, not, ◌==◌, true, List, [], ◌∷◌, ◌++◌}
+use Rattle.std.proofs.Common.{length, take, drop, get_or, add-one, Some, None}
 use Rattle.std.specs.List.{list_all, position}
 use Rattle.std.proofs.lemmas.Bool.{and_parts, eq-eqb, eqb-true, not-true, not_from_false, true≢false}
 use Rattle.std.proofs.lemmas.List.{take-append-drop, length-take, get_or-take}
@@ -40,13 +41,18 @@ found_free x text i e =
     let before : k < i = omega (arith, length-take i text) in
     rw (get_or-take i text k d before) (not_from_false _ ((position-Some (λ y. y == x) text i d e).2 k before)))
 
-pub found_split : (x : ℕ) (text : List ℕ) (i : ℕ) → position (λ y. y == x) text ≡ Some i → (i < length text) × (text ≡ take i text ++ x ∷ drop (i + 1) text)
+pub found_split : (x : ℕ) (text : List ℕ) (i : ℕ) → position (λ y. y == x) text ≡ Some i
+    → (i < length text) × (text ≡ take i text ++ x ∷ drop (i + 1) text)
 found_split x text i e =
     let p = position-Some (λ y. y == x) text i 0 e in
     let inside : i < length text = p.0 in
-    let here : get_or text i 0 ≡ x = eqb-true _ _ p.1 in
-    (inside, sym (take-append-drop i text) ∙ ap (λ s. take i text ++ s) (drop-cons text i 0 inside ∙ rw (add-one, here) refl))
+    let here : get_or text i 0 ≡ x = eqb-true _ _ p.1 in (
+      inside,
+      sym (take-append-drop i text)
+          ∙ ap (λ s. take i text ++ s) (drop-cons text i 0 inside ∙ rw (add-one, here) refl),
+    )
 
 pub found_none : (x : ℕ) (text : List ℕ) → position (λ y. y == x) text ≡ None → Free x text
 found_none x text e =
-    list_all-from_AllPass (λ y. not (y == x)) text (λ k d inside. not_from_false _ (fails_before_first (λ y. y == x) text k d (let past = position_past (λ y. y == x) text e in omega arith)))
+    list_all-from_AllPass (λ y. not (y == x)) text (λ k d inside. not_from_false _
+    (fails_before_first (λ y. y == x) text k d (let past = position_past (λ y. y == x) text e in omega arith)))

@@ -1,5 +1,6 @@
 -- What the loop of a replay keeps, and how each of its ends follows.
-use Rattle.std.proofs.Common.{◌≡◌, ◌≢◌, ◌∙◌, sym, ap, subst, refl, arith, ℕ, zero, suc, ◌+◌, ◌<◌, ◌≤◌, inl, inr, List, [], ◌∷◌, ◌++◌, length, take, drop, Option, append_assoc, length-append}
+use Rattle.std.proofs.Common.{◌≡◌, ◌≢◌, ◌∙◌, sym, ap, subst, refl, arith, ℕ, zero, suc, ◌+◌, ◌<◌, ◌≤◌, inl, inr, List}
+use Rattle.std.proofs.Common.{[], ◌∷◌, ◌++◌, length, take, drop, Option, append_assoc, length-append}
 use Rattle.std.specs.Prelude.{Result, Ok, Err, false, MatchResult}
 use Rattle.std.proofs.lemmas.List.{append-nil, take-append-drop}
 use Rattle.std.proofs.lemmas.List.Concat.{flat_map-append}
@@ -10,19 +11,24 @@ use Rattle.std.specs.Prelude.{All}
 use Rattle.std.proofs.lemmas.List.Elements.{All-nil, All-cons}
 use Rattle.hall_desk.specs.Run.{Run}
 use Rattle.hall_policy.specs.World.{World}
-use Rattle.hall_tool.specs.declared.session.ReplayFault.{ReplayFault}
-use Rattle.hall_tool.specs.declared.session.ReplayFault.TheVariants as fault
+use Rattle.hall_tool.specs.declared.fault.ReplayFault.{ReplayFault}
+use Rattle.hall_tool.specs.declared.fault.ReplayFault.TheVariants as fault
 use Rattle.hall_tool.specs.Input.{WritesPart}
-use Rattle.hall_tool.specs.Records.{Record, IsRecord, record_bytes, header_of, HasNoRecord, NeverHasRecord, IsCut, bytes_between}
-use Rattle.hall_tool.specs.Replay.{Exchange, Exchanged, Answers, Session, records_of, lines_of, IsRunOver, LacksRecord, IsReplayed, ReadsMore}
+use Rattle.hall_tool.specs.Records.{Record, IsRecord, record_bytes, header_of, HasNoRecord, NeverHasRecord, IsCut}
+use Rattle.hall_tool.specs.Records.{bytes_between}
+use Rattle.hall_tool.specs.Replay.{Exchange, Exchanged, Answers, Session, records_of, lines_of, IsRunOver, LacksRecord}
+use Rattle.hall_tool.specs.Replay.{IsMade, IsReplayed, Ended, ReadsMore}
 
 records_more : (xs : List Exchange) (x : Exchange) → records_of (xs ++ x ∷ []) ≡ records_of xs ++ record_bytes x.asked
-records_more xs x = flat_map-append (λ x. record_bytes x.asked) xs (x ∷ []) ∙ ap (λ s. records_of xs ++ s) (append-nil (record_bytes x.asked))
+records_more xs x =
+    flat_map-append (λ x. record_bytes x.asked) xs (x ∷ [])
+    ∙ ap (λ s. records_of xs ++ s) (append-nil (record_bytes x.asked))
 
 lines_more : (xs : List Exchange) (x : Exchange) → lines_of (xs ++ x ∷ []) ≡ lines_of xs ++ x.line
 lines_more xs x = flat_map-append (λ x. x.line) xs (x ∷ []) ∙ ap (λ s. lines_of xs ++ s) (append-nil x.line)
 
-session_more : (a : World) (xs : List Exchange) (b : World) (x : Exchange) (c : World) → Session a xs b → Exchanged b x c → Session a (xs ++ x ∷ []) c
+session_more : (a : World) (xs : List Exchange) (b : World) (x : Exchange) (c : World) → Session a xs b
+    → Exchanged b x c → Session a (xs ++ x ∷ []) c
 session_more a [] b x c same step = (c, subst (λ w. Exchanged w x c) same step, refl)
 session_more a (y ∷ ys) b x c (next, first, rest) step = (next, first, session_more next ys b x c rest step)
 
@@ -31,23 +37,33 @@ pub run_over : (old : World) (xs : List Exchange) (new : World) → Session old 
 run_over old [] new same = record { requests = []; replies = []; run = same; made = (refl, refl) }
 run_over old (x ∷ xs) new (next, (is, inl step), rest) =
     let run = run_over next xs new rest in
+    let made : IsMade x (x.asked.moment, step.request) step.reply =
+    record { moment = refl; reads = step.reads; written = step.written } in
     record {
       requests = (x.asked.moment, step.request) ∷ run.requests;
       replies = step.reply ∷ run.replies;
       run = (next, step.step, run.run);
-      made = inr ((x.asked.moment, step.request), step.reply, run.requests, run.replies, refl, refl, record { moment = refl; reads = step.reads; written = step.written }, run.made);
+      made = inr ((x.asked.moment, step.request), step.reply, run.requests, run.replies, refl, refl, made, run.made);
     }
 run_over old (x ∷ xs) new (next, (is, inr (other, same)), rest) =
     let run = run_over next xs new rest in
-    record { requests = run.requests; replies = run.replies; run = subst (λ w. Run w run.requests run.replies new) same run.run; made = inl (other, run.made) }
+    record {
+      requests = run.requests;
+      replies = run.replies;
+      run = subst (λ w. Run w run.requests run.replies new) same run.run;
+      made = inl (other, run.made);
+    }
 
 pub all_records : (old : World) (xs : List Exchange) (new : World) → Session old xs new → All (λ x. IsRecord x.asked) xs
 all_records old [] new same = All-nil (λ x. IsRecord x.asked)
-all_records old (x ∷ xs) new (next, step, rest) = All-cons (λ x. IsRecord x.asked) x xs step.0 (all_records next xs new rest)
+all_records old (x ∷ xs) new (next, step, rest) =
+    All-cons (λ x. IsRecord x.asked) x xs step.0 (all_records next xs new rest)
 
 -- a whole record is at least a byte
 pub some_record : (bytes : List ℕ) (r : Record) (start end : ℕ) → IsCut bytes r start end → 0 < end
-some_record bytes r start zero h = absurd (let z : length (take 0 bytes) ≡ length (record_bytes r) = ap length h.whole in omega (arith, length-append (header_of r.moment (length r.request)) (10 ∷ r.request)))
+some_record bytes r start zero h =
+    let none : length (take 0 bytes) ≡ length (record_bytes r) = ap length h.whole in
+    absurd (omega (arith, length-append (header_of r.moment (length r.request)) (10 ∷ r.request)))
 some_record bytes r start (suc end) h = omega arith
 
 -- a record may follow where there are no bytes
@@ -60,7 +76,8 @@ pub not_nil : (xs : List ℕ) → 0 < length xs → xs ≢ []
 not_nil xs some e = let z : length xs ≡ 0 = ap length e in omega arith
 
 -- after some turns: the records answered, and what was read after them
-pub record Kept (stream after wrote written : Option (List ℕ)) (old new : World) (inbox : List ℕ) (reads : ℕ) : Type 0 where
+pub record Kept (stream after wrote written : Option (List ℕ)) (old new : World)
+    (inbox : List ℕ) (reads : ℕ) : Type 0 where
   pub done : List Exchange
   pub session : Session old done new
   pub consumed : Consumes stream after (records_of done ++ inbox)
@@ -68,12 +85,22 @@ pub record Kept (stream after wrote written : Option (List ℕ)) (old new : Worl
   pub replied : Appends wrote written (lines_of done)
 
 pub kept_start : (stream wrote : Option (List ℕ)) (world : World) → Kept stream stream wrote wrote world world [] 0
-kept_start stream wrote world = record { done = []; session = refl; consumed = Consumes-nil stream; pieces = omega arith; replied = Appends-nil wrote }
+kept_start stream wrote world =
+    record {
+      done = [];
+      session = refl;
+      consumed = Consumes-nil stream;
+      pieces = omega arith;
+      replied = Appends-nil wrote;
+    }
 
-module _ (stream after wrote written : Option (List ℕ)) (old new : World) (inbox : List ℕ) (reads : ℕ) (kept : Kept stream after wrote written old new inbox reads) where
-  pub kept_read : (then : Option (List ℕ)) (piece : List ℕ) → 0 < length piece → Consumes after then piece → Kept stream then wrote written old new (inbox ++ piece) (reads + 1)
+module _ (stream after wrote written : Option (List ℕ)) (old new : World) (inbox : List ℕ) (reads : ℕ)
+    (kept : Kept stream after wrote written old new inbox reads) where
+  pub kept_read : (then : Option (List ℕ)) (piece : List ℕ) → 0 < length piece → Consumes after then piece
+      → Kept stream then wrote written old new (inbox ++ piece) (reads + 1)
   kept_read then piece some more =
-      let all : records_of kept.done ++ (inbox ++ piece) ≡ (records_of kept.done ++ inbox) ++ piece = sym (append_assoc (records_of kept.done) inbox piece) in
+      let all : records_of kept.done ++ (inbox ++ piece) ≡ (records_of kept.done ++ inbox) ++ piece =
+      sym (append_assoc (records_of kept.done) inbox piece) in
       record {
         done = kept.done;
         session = kept.session;
@@ -82,28 +109,36 @@ module _ (stream after wrote written : Option (List ℕ)) (old new : World) (inb
         replied = kept.replied;
       }
 
-  module _ (r : Record) (start end : ℕ) (line : List ℕ) (next : World) (cut : IsCut inbox r start end) (says : Answers new r.moment (bytes_between inbox start end) line next) where
+  module _ (r : Record) (start end : ℕ) (line : List ℕ) (next : World) (cut : IsCut inbox r start end)
+      (says : Answers new r.moment (bytes_between inbox start end) line next) where
     abbrev x : Exchange
     x = record { asked = r; line = line }
 
     same_bytes : records_of (kept.done ++ x ∷ []) ++ drop end inbox ≡ records_of kept.done ++ inbox
-    same_bytes = ap (λ s. s ++ drop end inbox) (records_more kept.done x ∙ ap (λ s. records_of kept.done ++ s) (sym cut.whole))
-        ∙ append_assoc (records_of kept.done) (take end inbox) (drop end inbox) ∙ ap (λ s. records_of kept.done ++ s) (take-append-drop end inbox)
+    same_bytes =
+        ap (λ s. s ++ drop end inbox) (records_more kept.done x ∙ ap (λ s. records_of kept.done ++ s) (sym cut.whole))
+        ∙ append_assoc (records_of kept.done) (take end inbox) (drop end inbox)
+        ∙ ap (λ s. records_of kept.done ++ s) (take-append-drop end inbox)
 
     longer : Session old (kept.done ++ x ∷ []) next
-    longer = session_more old kept.done new x next kept.session (cut.is, subst (λ s. Answers new r.moment s line next) (sym cut.request) says)
+    longer =
+        session_more old kept.done new x next kept.session
+        (cut.is, subst (λ s. Answers new r.moment s line next) (sym cut.request) says)
 
-    pub kept_answered : (then : Option (List ℕ)) → Appends written then line → Kept stream after wrote then old next (drop end inbox) reads
+    pub kept_answered : (then : Option (List ℕ)) → Appends written then line
+        → Kept stream after wrote then old next (drop end inbox) reads
     kept_answered then sent = record {
       done = kept.done ++ x ∷ [];
       session = longer;
       consumed = rw same_bytes kept.consumed;
       pieces = rw same_bytes kept.pieces;
-      replied = rw (lines_more kept.done x) (Appends-trans wrote written then (lines_of kept.done) line kept.replied sent);
+      replied = rw (lines_more kept.done x)
+          (Appends-trans wrote written then (lines_of kept.done) line kept.replied sent);
     }
 
     -- the line couldn't be written whole
-    pub unsent : {U : Type 0} (then : Option (List ℕ)) (failed : Type 0) → WritesPart written then line → failed → IsReplayed {U = U} stream after wrote then old next failed (Err fault.Device)
+    pub unsent : {U : Type 0} (then : Option (List ℕ)) (failed : Type 0) → WritesPart written then line → failed
+        → IsReplayed {U = U} stream after wrote then old next failed (Err fault.Device)
     unsent then failed part rose = record {
       answered = kept.done ++ x ∷ [];
       unread = drop end inbox;
@@ -114,52 +149,71 @@ module _ (stream after wrote written : Option (List ℕ)) (old new : World) (inb
     }
 
   still : (then : Option (List ℕ)) → Consumes after then [] → Consumes stream then (records_of kept.done ++ inbox)
-  still then none = subst (λ s. Consumes stream then s) (append-nil (records_of kept.done ++ inbox)) (Consumes-trans stream after then (records_of kept.done ++ inbox) [] kept.consumed none)
+  still then none =
+      subst (λ s. Consumes stream then s) (append-nil (records_of kept.done ++ inbox))
+      (Consumes-trans stream after then (records_of kept.done ++ inbox) [] kept.consumed none)
 
   module _ {U : Type 0} (failed : Type 0) where
-    pub unread_device : (then : Option (List ℕ)) → Consumes after then [] → failed → IsReplayed {U = U} stream then wrote written old new failed (Err fault.Device)
-    unread_device then none rose = record {
+    -- how it ends with no further record answered
+    ends : (then : Option (List ℕ)) (end : Result U ReplayFault) → Consumes stream then (records_of kept.done ++ inbox)
+        → Ended end then wrote written kept.done inbox failed
+        → IsReplayed {U = U} stream then wrote written old new failed end
+    ends then end consumed ended = record {
       answered = kept.done;
       unread = inbox;
       whole = all_records old kept.done new kept.session;
       run = run_over old kept.done new kept.session;
-      consumed = still then none;
-      ended = (inl kept.replied, rose);
+      consumed = consumed;
+      ended = ended;
     }
 
-    pub no_memory : (then : Option (List ℕ)) (piece : List ℕ) → Consumes after then piece → IsReplayed {U = U} stream then wrote written old new failed (Err fault.Memory)
-    no_memory then piece more = record {
-      answered = kept.done;
-      unread = inbox ++ piece;
-      whole = all_records old kept.done new kept.session;
-      run = run_over old kept.done new kept.session;
-      consumed = subst (λ s. Consumes stream then s) (append_assoc (records_of kept.done) inbox piece) (Consumes-trans stream after then (records_of kept.done ++ inbox) piece kept.consumed more);
-      ended = kept.replied;
-    }
+    pub unread_device : (then : Option (List ℕ)) → Consumes after then [] → failed
+        → IsReplayed {U = U} stream then wrote written old new failed (Err fault.Device)
+    unread_device then none rose = ends then (Err fault.Device) (still then none) (inl kept.replied, rose)
 
-    pub finished : (u : U) (then : Option (List ℕ)) → Consumes after then [] → IsAtEnd then → inbox ≡ [] → IsReplayed {U = U} stream then wrote written old new failed (Ok u)
-    finished u then none over empty = record { answered = kept.done; unread = inbox; whole = all_records old kept.done new kept.session; run = run_over old kept.done new kept.session; consumed = still then none; ended = (kept.replied, empty, over) }
+    pub no_memory : (then : Option (List ℕ)) (piece : List ℕ) → Consumes after then piece
+        → IsReplayed {U = U} stream then wrote written old new failed (Err fault.Memory)
+    no_memory then piece more =
+        let all = Consumes-trans stream after then (records_of kept.done ++ inbox) piece kept.consumed more in
+        record {
+          answered = kept.done;
+          unread = inbox ++ piece;
+          whole = all_records old kept.done new kept.session;
+          run = run_over old kept.done new kept.session;
+          consumed = subst (λ s. Consumes stream then s) (append_assoc (records_of kept.done) inbox piece) all;
+          ended = kept.replied;
+        }
 
-    pub no_record : (then : Option (List ℕ)) → Consumes after then [] → LacksRecord then inbox → IsReplayed {U = U} stream then wrote written old new failed (Err fault.Record)
-    no_record then none lacks = record { answered = kept.done; unread = inbox; whole = all_records old kept.done new kept.session; run = run_over old kept.done new kept.session; consumed = still then none; ended = (kept.replied, inl lacks) }
+    pub finished : (u : U) (then : Option (List ℕ)) → Consumes after then [] → IsAtEnd then → inbox ≡ []
+        → IsReplayed {U = U} stream then wrote written old new failed (Ok u)
+    finished u then none over empty = ends then (Ok u) (still then none) (kept.replied, empty, over)
+
+    pub no_record : (then : Option (List ℕ)) → Consumes after then [] → LacksRecord then inbox
+        → IsReplayed {U = U} stream then wrote written old new failed (Err fault.Record)
+    no_record then none lacks = ends then (Err fault.Record) (still then none) (kept.replied, inl lacks)
 
     pub too_many : 1000000000 ≤ reads → IsReplayed {U = U} stream after wrote written old new failed (Err fault.Record)
-    too_many many = record { answered = kept.done; unread = inbox; whole = all_records old kept.done new kept.session; run = run_over old kept.done new kept.session; consumed = kept.consumed; ended = (kept.replied, inr (omega (arith, kept.pieces))) }
+    too_many many = ends after (Err fault.Record) kept.consumed (kept.replied, inr (omega (arith, kept.pieces)))
 
     -- a read was refused
-    pub read_refused : (then : Option (List ℕ)) (now : List ℕ) (rf rg : ℕ) (e : ReplayFault) → ReadsMore after then inbox now rf rg (Err e) → (HasFailed rf rg → failed)
+    pub read_refused : (then : Option (List ℕ)) (now : List ℕ) (rf rg : ℕ) (e : ReplayFault)
+        → ReadsMore after then inbox now rf rg (Err e) → (HasFailed rf rg → failed)
         → IsReplayed {U = U} stream then wrote written old new failed (Err e)
     read_refused then now rf rg fault.Device (none, rose) told = unread_device then none (told rose)
     read_refused then now rf rg fault.Memory (piece, more) told = no_memory then piece more
     read_refused then now rf rg fault.Record h told = absurd h
 
     -- the input is at its end
-    pub at_end : (result : Result U ReplayFault) (then : Option (List ℕ)) (now : List ℕ) (rf rg : ℕ) → ReadsMore after then inbox now rf rg (Ok false) → HasNoRecord inbox
-        → MatchResult result (λ _. now ≡ []) (λ e. (e ≡ fault.Record) × (0 < length now)) → IsReplayed {U = U} stream then wrote written old new failed result
+    pub at_end : (result : Result U ReplayFault) (then : Option (List ℕ)) (now : List ℕ) (rf rg : ℕ)
+        → ReadsMore after then inbox now rf rg (Ok false) → HasNoRecord inbox
+        → MatchResult result (λ _. now ≡ []) (λ e. (e ≡ fault.Record) × (0 < length now))
+        → IsReplayed {U = U} stream then wrote written old new failed result
     at_end (Ok u) then now rf rg (same, none, over, steady) has empty = finished u then none over (sym same ∙ empty)
     at_end (Err e) then now rf rg (same, none, over, steady) has (is, some) =
         rw is (no_record then none (not_nil inbox (subst (λ s. 0 < length s) same some), inl (has, over)))
 
     -- no record begins so
-    pub never_record : NeverHasRecord inbox → IsReplayed {U = U} stream after wrote written old new failed (Err fault.Record)
-    never_record never = no_record after (Consumes-nil after) ((λ e. never_nil (subst NeverHasRecord e never)), inr never)
+    pub never_record : NeverHasRecord inbox
+        → IsReplayed {U = U} stream after wrote written old new failed (Err fault.Record)
+    never_record never =
+        no_record after (Consumes-nil after) ((λ e. never_nil (subst NeverHasRecord e never)), inr never)

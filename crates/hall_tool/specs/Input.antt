@@ -7,13 +7,22 @@ use Rattle.std.specs.Str.Lines.{lines}
 abbrev pub IsFront : ℕ → Option (List ℕ) → List ℕ → Type 0
 IsFront limit known bytes = IfSome known (λ all. bytes ≡ take limit all)
 
--- the input is at most 8,192 bytes in two lines: each ends with a line feed, which the last one may lack, and loses a carriage return before it
+-- the input is at most 8,192 bytes in two lines: each ends with a line feed, which the last one may lack,
+-- and loses a carriage return before it
 abbrev pub HasTwoLines : List ℕ → List ℕ → List ℕ → Type 0
 HasTwoLines input first second = (length input ≤ 8192) × (lines input ≡ first ∷ second ∷ [])
+
+-- the input is longer, or has another number of lines than two
+abbrev pub LacksTwoLines : List ℕ → Type 0
+LacksTwoLines input = (first second : List ℕ) → HasTwoLines input first second → ⊥
 
 -- the input is at most 8,192 bytes in one line
 abbrev pub HasOneLine : List ℕ → List ℕ → Type 0
 HasOneLine input line = (length input ≤ 8192) × (lines input ≡ line ∷ [])
+
+-- the input is longer, or has another number of lines than one
+abbrev pub LacksOneLine : List ℕ → Type 0
+LacksOneLine input = (line : List ℕ) → HasOneLine input line → ⊥
 
 -- a first part of the bytes was written, perhaps none of them
 abbrev pub WritesPart : Option (List ℕ) → Option (List ℕ) → List ℕ → Type 0

@@ -1,5 +1,6 @@
 -- The records of a replay.
-use Rattle.std.specs.Prelude.{◌≡◌, ◌≢◌, ◌≤◌, ◌-◌, ◌&&◌, nat_le, if◌then◌else◌, ℕ, List, ◌∷◌, ◌++◌, length, take, drop, flat_map, All, Option, Some, None, option_and_then, codes, decimal}
+use Rattle.std.specs.Prelude.{◌≡◌, ◌≢◌, ◌≤◌, ◌-◌, ◌&&◌, nat_le, if◌then◌else◌, ℕ, List, ◌∷◌, ◌++◌, length, take, drop}
+use Rattle.std.specs.Prelude.{flat_map, All, Option, Some, None, option_and_then, codes, decimal}
 use Rattle.hall_tool.specs.declared.record.Cut.{Cut}
 use Rattle.hall_tool.specs.declared.record.Cut.TheVariants.{Whole, More, Never}
 use Rattle.hall_tool.specs.Words.{cut, after_front, number_in}
@@ -35,11 +36,14 @@ pub record Records (stream : List ℕ) (records : List Record) (rest : List ℕ)
   pub whole : stream ≡ flat_map record_bytes records ++ rest
   pub each : All IsRecord records
 
+-- a moment and a length, where they are in their ranges
+abbrev pub in_ranges : ℕ → ℕ → Option (ℕ × ℕ)
+in_ranges moment size = if nat_le moment 4102444800 && nat_le size 73728 then Some (moment, size) else None
+
 -- what a header's numbers say: a moment and a length in their ranges
 abbrev pub numbers_in : List ℕ × List ℕ → Option (ℕ × ℕ)
 numbers_in parts =
-    option_and_then (λ moment. option_and_then (λ size. if nat_le moment 4102444800 && nat_le size 73728 then Some (moment, size) else None)
-    (number_in parts.1)) (number_in parts.0)
+    option_and_then (λ moment. option_and_then (in_ranges moment) (number_in parts.1)) (number_in parts.0)
 
 -- the moment and the length of a header @MOMENT LENGTH
 abbrev pub header_in : List ℕ → Option (ℕ × ℕ)

@@ -1,5 +1,6 @@
 -- A replay: records of a stream, answered one after another.
-use Rattle.std.specs.Prelude.{◌≡◌, ◌≢◌, ◌<◌, ◌≤◌, ◌⊎◌, ℕ, List, [], ◌∷◌, ◌++◌, length, flat_map, All, Option, Result, Ok, Err, Bool, true, false, codes, string_bytes}
+use Rattle.std.specs.Prelude.{◌≡◌, ◌≢◌, ◌<◌, ◌≤◌, ◌⊎◌, ℕ, List, [], ◌∷◌, ◌++◌, length, flat_map, All, Option, Result}
+use Rattle.std.specs.Prelude.{Ok, Err, Bool, true, false, codes, string_bytes}
 use Rattle.std.specs.Io.KnownBytes.{Appends, Consumes, IsAtEnd}
 use Rattle.hall_grid.specs.Device.{HasFailed}
 use Rattle.hall_policy.specs.World.{World}
@@ -11,8 +12,8 @@ use Rattle.hall_desk.specs.declared.reply.Reply.TheVariants.{Unavailable as NotS
 use Rattle.hall_tool.specs.declared.form.FormFault.{FormFault}
 use Rattle.hall_tool.specs.declared.answer.Line.{Line}
 use Rattle.hall_tool.specs.declared.answer.Line.TheVariants.{Text, Unavailable}
-use Rattle.hall_tool.specs.declared.session.ReplayFault.{ReplayFault}
-use Rattle.hall_tool.specs.declared.session.ReplayFault.TheVariants as fault
+use Rattle.hall_tool.specs.declared.fault.ReplayFault.{ReplayFault}
+use Rattle.hall_tool.specs.declared.fault.ReplayFault.TheVariants as fault
 use Rattle.hall_tool.specs.Input.{WritesPart}
 use Rattle.hall_tool.specs.Request.{RequestOf}
 use Rattle.hall_tool.specs.Reply.{BytesOf, FaultBytesOf}
@@ -22,6 +23,11 @@ use Rattle.hall_tool.specs.Records.{Record, IsRecord, record_bytes, HasNoRecord,
 abbrev pub line_text : Line → List ℕ
 line_text (Text text) = string_bytes text
 line_text Unavailable = codes "503 {\"fault\":\"hall\"}\n"
+
+-- the line is the reply of a step of the hall for the request
+abbrev pub IsStepLine : World → ℕ → Request → List ℕ → World → Type 0
+IsStepLine world moment request line after =
+    (reply : Reply) × Step world moment request reply after × BytesOf reply line
 
 -- the bytes are a request, and the line is the reply of a step of the hall
 pub record IsStep (world : World) (moment : ℕ) (bytes line : List ℕ) (after : World) : Type 0 where
@@ -37,9 +43,11 @@ pub record IsRefused (bytes line : List ℕ) : Type 0 where
   pub reads : RequestOf bytes (Err found)
   pub written : FaultBytesOf found line
 
--- the bytes are answered: by a step of the hall; or by the fault of their form, or for want of memory by 503, and the world stays
+-- the bytes are answered: by a step of the hall; or by the fault of their form, or for want of memory by 503,
+-- and the world stays
 abbrev pub Answers : World → ℕ → List ℕ → List ℕ → World → Type 0
-Answers world moment bytes line after = IsStep world moment bytes line after ⊎ ((IsRefused bytes line ⊎ BytesOf NotServed line) × (after ≡ world))
+Answers world moment bytes line after =
+    IsStep world moment bytes line after ⊎ ((IsRefused bytes line ⊎ BytesOf NotServed line) × (after ≡ world))
 
 -- a record, and the line that answers it
 pub record Exchange : Type 0 where
@@ -99,15 +107,18 @@ WritesAllButLast wrote written xs =
     × Appends wrote between (lines_of before) × WritesPart between written last.line)
 
 -- how the replay ended: what it wrote, and why it ended
-abbrev pub Ended : {U : Type 0} → Result U ReplayFault → Option (List ℕ) → Option (List ℕ) → Option (List ℕ) → List Exchange → List ℕ → Type 0 → Type 0
-Ended (Ok done) after wrote written xs unread failed = Appends wrote written (lines_of xs) × (unread ≡ []) × IsAtEnd after
+abbrev pub Ended : {U : Type 0} → Result U ReplayFault → Option (List ℕ) → Option (List ℕ) → Option (List ℕ)
+    → List Exchange → List ℕ → Type 0 → Type 0
+Ended (Ok done) after wrote written xs unread failed =
+    Appends wrote written (lines_of xs) × (unread ≡ []) × IsAtEnd after
 Ended (Err fault.Record) after wrote written xs unread failed =
     Appends wrote written (lines_of xs) × (LacksRecord after unread ⊎ (1000000000 ≤ length (records_of xs ++ unread)))
 Ended (Err fault.Device) after wrote written xs unread failed = WritesAllButLast wrote written xs × failed
 Ended (Err fault.Memory) after wrote written xs unread failed = Appends wrote written (lines_of xs)
 
 -- the stream was read as these records and then this rest, the records were answered, and the replay ended so
-pub record IsReplayed {U : Type 0} (stream after wrote written : Option (List ℕ)) (old new : World) (failed : Type 0) (end : Result U ReplayFault) : Type 0 where
+pub record IsReplayed {U : Type 0} (stream after wrote written : Option (List ℕ)) (old new : World)
+    (failed : Type 0) (end : Result U ReplayFault) : Type 0 where
   pub answered : List Exchange
   pub unread : List ℕ
   pub whole : All (λ x. IsRecord x.asked) answered
@@ -115,11 +126,14 @@ pub record IsReplayed {U : Type 0} (stream after wrote written : Option (List �
   pub consumed : Consumes stream after (records_of answered ++ unread)
   pub ended : Ended end after wrote written answered unread failed
 
--- some bytes were read behind those that are there, or the input is at its end; a refused read took none, and where memory is refused some bytes may be lost
+-- some bytes were read behind the unread ones, or the input is at its end;
+-- a refused read took none, and where memory is refused some bytes may be lost
 abbrev pub ReadsMore : Option (List ℕ) → Option (List ℕ) → List ℕ → List ℕ → ℕ → ℕ → Result Bool ReplayFault → Type 0
 ReadsMore stream after old new failed fails (Ok true) =
-    (piece : List ℕ) × (0 < length piece) × (length piece ≤ 4096) × (new ≡ old ++ piece) × Consumes stream after piece × (fails ≡ failed)
-ReadsMore stream after old new failed fails (Ok false) = (new ≡ old) × Consumes stream after [] × IsAtEnd after × (fails ≡ failed)
+    (piece : List ℕ) × (0 < length piece) × (length piece ≤ 4096) × (new ≡ old ++ piece)
+    × Consumes stream after piece × (fails ≡ failed)
+ReadsMore stream after old new failed fails (Ok false) =
+    (new ≡ old) × Consumes stream after [] × IsAtEnd after × (fails ≡ failed)
 ReadsMore stream after old new failed fails (Err fault.Device) = Consumes stream after [] × HasFailed failed fails
 ReadsMore stream after old new failed fails (Err fault.Memory) = (piece : List ℕ) × Consumes stream after piece
 ReadsMore stream after old new failed fails (Err fault.Record) = ⊥

@@ -64,7 +64,9 @@ released_data id = object (text_member (codes "released") id no_members)
 
 -- {"number":N,"points":N,"text":T}
 abbrev pub puzzle_data : ShownPuzzle → Data
-puzzle_data p = object (number_member (codes "number") p.number (number_member (codes "points") p.points (text_member (codes "text") p.text no_members)))
+puzzle_data p =
+    let text = text_member (codes "text") p.text no_members in
+    object (number_member (codes "number") p.number (number_member (codes "points") p.points text))
 
 -- the round's members in the order of their names, the last being its title
 abbrev pub round_data : ShownRound → Data

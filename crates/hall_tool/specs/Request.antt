@@ -1,5 +1,7 @@
--- What bytes ask of the hall: a first line KEY METHOD PATH and a body, read as a request, or the first fault of their form.
-use Rattle.std.specs.Prelude.{◌≡◌, ℕ, ◌==◌, ◌&&◌, not, Bool, List, length, nat_le, if◌then◌else◌, Option, Some, None, Result, Ok, Err, codes}
+-- What bytes ask of the hall: a first line KEY METHOD PATH and a body, read as a request,
+-- or the first fault of their form.
+use Rattle.std.specs.Prelude.{◌≡◌, ℕ, ◌==◌, ◌&&◌, not, Bool, List, length, nat_le, if◌then◌else◌, Option, Some, None}
+use Rattle.std.specs.Prelude.{Result, Ok, Err, codes}
 use Rattle.std.specs.List.{list_any}
 use Rattle.std.specs.Str.{bytes_eq}
 use Rattle.hall_grid.specs.declared.fault.TextFault.{TextFault}
@@ -38,14 +40,19 @@ is_space byte = byte == 32
 abbrev pub is_word : List ℕ → Bool
 is_word text = not (length text == 0) && not (list_any is_space text)
 
+-- the parts, where three are words and the body has at most 65,536 bytes
+abbrev pub checked_parts : Parts → Result Parts FormFault
+checked_parts p =
+    unless fault.NotWhole (is_word p.key && is_word p.method && is_word p.path && nat_le (length p.body) 65536)
+    >>= (λ _. Ok p)
+
 -- a first line of three words, one space between neighbours, and after its line feed a body of at most 65,536 bytes
 abbrev pub parts_in : List ℕ → Result Parts FormFault
 parts_in bytes =
     or_fault fault.NotWhole (cut 10 bytes)
     >>= (λ whole. or_fault fault.NotWhole (cut 32 whole.0)
     >>= (λ first. or_fault fault.NotWhole (cut 32 first.1)
-    >>= (λ second. unless fault.NotWhole (is_word first.0 && is_word second.0 && is_word second.1 && nat_le (length whole.1) 65536)
-    >>= (λ _. Ok (record { key = first.0; method = second.0; path = second.1; body = whole.1 })))))
+    >>= (λ second. checked_parts (record { key = first.0; method = second.0; path = second.1; body = whole.1 }))))
 
 -- a path parameter that is a name, a label or a round's id
 abbrev pub word_in : List ℕ → Result (List ℕ) FormFault
@@ -67,7 +74,9 @@ is_method name method = unless fault.NoRoute (bytes_eq method name)
 -- PUT /puzzles/{author}/{label} has no slash after the label, and POST /puzzles/{author}/{label}/certificate has one
 abbrev pub label_parts : List ℕ → List ℕ → List ℕ → Option (List ℕ × List ℕ) → Result Route FormFault
 label_parts method author rest None =
-    is_method (codes "PUT") method >>= (λ _. word_in rest >>= (λ label. Ok (route.Puzzle (record { author = author; label = label }))))
+    is_method (codes "PUT") method
+    >>= (λ _. word_in rest
+    >>= (λ label. Ok (route.Puzzle (record { author = author; label = label }))))
 label_parts method author rest (Some parts) =
     unless fault.NoRoute (bytes_eq parts.1 (codes "certificate"))
     >>= (λ _. is_method (codes "POST") method
@@ -81,7 +90,9 @@ label_route method author rest = label_parts method author rest (cut 47 rest)
 -- what stands below the puzzles, from the author on
 abbrev pub puzzle_route : List ℕ → List ℕ → Result Route FormFault
 puzzle_route method rest =
-    or_fault fault.NoRoute (cut 47 rest) >>= (λ names. word_in names.0 >>= (λ author. label_route method author names.1))
+    or_fault fault.NoRoute (cut 47 rest)
+    >>= (λ names. word_in names.0
+    >>= (λ author. label_route method author names.1))
 
 -- PUT /rounds/{round}/answers/{number}/{token}, from `answers` on
 abbrev pub answer_route : List ℕ → List ℕ → List ℕ → Result Route FormFault
@@ -131,10 +142,12 @@ PutFrom key (Ok text) outcome = PutOf key text outcome
 -- what a route and a body ask for, or the body's first fault
 abbrev pub ActionOf : Route → List ℕ → Result Action FormFault → Type 0
 ActionOf (route.Puzzle key) body outcome = PutFrom key (text_in body) outcome
-ActionOf (route.Certificate key) body outcome = outcome ≡ (budget_in body >>= (λ budget. Ok (action.Certify key budget)))
+ActionOf (route.Certificate key) body outcome =
+    outcome ≡ (budget_in body >>= (λ budget. Ok (action.Certify key budget)))
 ActionOf (route.Round id) body outcome = outcome ≡ Ok (action.ReadRound id)
 ActionOf (route.Release id) body outcome = outcome ≡ Ok (action.Release id)
-ActionOf (route.Answer id number token) body outcome = outcome ≡ (answer_in body >>= (λ answer. Ok (action.Submit id number token answer)))
+ActionOf (route.Answer id number token) body outcome =
+    outcome ≡ (answer_in body >>= (λ answer. Ok (action.Submit id number token answer)))
 ActionOf (route.Answers id) body outcome = outcome ≡ Ok (action.Answers id)
 
 -- the caller's key: none where the word isn't of a key's form, as `-` isn't
@@ -148,7 +161,8 @@ asked_by key outcome = outcome >>= (λ asked. Ok (record { key = key_in key; act
 -- the first line's route with the body's action, or the route's fault
 abbrev pub RoutedOf : Parts → Result Route FormFault → Result Request FormFault → Type 0
 RoutedOf parts (Err f) outcome = outcome ≡ Err f
-RoutedOf parts (Ok found) outcome = (asked : Result Action FormFault) × ActionOf found parts.body asked × (outcome ≡ asked_by parts.key asked)
+RoutedOf parts (Ok found) outcome =
+    (asked : Result Action FormFault) × ActionOf found parts.body asked × (outcome ≡ asked_by parts.key asked)
 
 -- the request of a first line and a body, or the fault of their form
 abbrev pub PartedOf : Result Parts FormFault → Result Request FormFault → Type 0

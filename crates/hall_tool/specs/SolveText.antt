@@ -6,7 +6,7 @@ use Rattle.hall_grid.specs.Answer.{text_of}
 use Rattle.hall_solve.specs.declared.outcome.Outcome.{Outcome}
 use Rattle.hall_solve.specs.declared.outcome.Outcome.TheVariants.{None, One, More, GaveUp}
 use Rattle.hall_solve.specs.Puzzle.{OutcomeOfPuzzle}
-use Rattle.hall_tool.specs.Input.{HasOneLine}
+use Rattle.hall_tool.specs.Input.{HasOneLine, LacksOneLine}
 use Rattle.hall_tool.specs.JudgeText.{line_of, refusal_of, IsRefused}
 
 -- an outcome as it is written
@@ -40,4 +40,4 @@ pub record IsSolved (text : List ℕ) (budget : ℕ) (line : List ℕ) (status :
 abbrev pub SolveText : List ℕ → ℕ → List ℕ → ℕ → Type 0
 SolveText input budget line status =
     ((text : List ℕ) × HasOneLine input text × (IsSolved text budget line status ⊎ IsRefused text line status))
-    ⊎ (((text : List ℕ) → HasOneLine input text → ⊥) × (line ≡ refusal_of (codes "input")) × (status ≡ 2))
+    ⊎ (LacksOneLine input × (line ≡ refusal_of (codes "input")) × (status ≡ 2))

@@ -1,5 +1,6 @@
 -- Texts of bytes: cut at a byte, without a front, of a kind, and numbers in decimal.
-use Rattle.std.specs.Prelude.{ℕ, ◌+◌, ◌^◌, ◌==◌, ◌&&◌, ◌||◌, not, Bool, List, length, take, drop, slice_index, nat_eq, nat_lt, nat_le, if◌then◌else◌, Option, Some, None, option_map, Result, Ok, Err}
+use Rattle.std.specs.Prelude.{ℕ, ◌+◌, ◌^◌, ◌==◌, ◌&&◌, ◌||◌, not, Bool, List, length, take, drop, slice_index, nat_eq}
+use Rattle.std.specs.Prelude.{nat_lt, nat_le, if◌then◌else◌, Option, Some, None, option_map, Result, Ok, Err}
 use Rattle.std.specs.List.{list_all, position, starts_with}
 use Rattle.std.specs.Char.{is_ascii_digit}
 use Rattle.std.specs.Str.Parse.{digits_value}
@@ -23,7 +24,8 @@ of_kind fault least most allows text = if is_kind least most allows text then Ok
 
 -- digits, with no 0 before another one
 abbrev pub is_decimal : List ℕ → Bool
-is_decimal text = not (length text == 0) && list_all is_ascii_digit text && (length text == 1 || not (slice_index text 0 == 48))
+is_decimal text =
+    not (length text == 0) && list_all is_ascii_digit text && (length text == 1 || not (slice_index text 0 == 48))
 
 -- the number of 64 bits that the text writes in decimal
 abbrev pub number_in : List ℕ → Option ℕ

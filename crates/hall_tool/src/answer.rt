@@ -1,10 +1,7 @@
 //! Bytes to a line: a request is read, a step of the hall made, and its reply written.
 ghost use Rattle.std.specs.Prelude.{◌≡◌, IfOk, OnErr, Ok, string_bytes};
-ghost use Rattle.hall_desk.specs.declared.reply.Reply.{Reply as declared_Reply};
 ghost use Rattle.hall_desk.specs.Desk.{world_in};
-ghost use Rattle.hall_desk.specs.Step.{Step};
-ghost use Rattle.hall_tool.specs.Reply.{BytesOf};
-ghost use Rattle.hall_tool.specs.Replay.{line_text, Answers};
+ghost use Rattle.hall_tool.specs.Replay.{line_text, Answers, IsStepLine};
 
 use crate::form::RequestFault;
 use crate::reply::{UNAVAILABLE, fault_line, reply_line};
@@ -33,7 +30,8 @@ impl Line {
     }
 }
 
-/// The line for the bytes of a request, whose change is made. The line is there before the change: where either is refused, nothing is changed, and the line is 503.
+/// The line for the bytes of a request, whose change is made. The line is there before the change: where either is
+/// refused, nothing is changed, and the line is 503.
 pub fn answer_bytes(alloc: Global, desk: &mut Desk, moment: Moment, bytes: &[u8]) -> Line
     ensures { Answers (world_in desk.old) moment bytes.now (line_text result) (world_in desk.new) }
 {
@@ -57,7 +55,8 @@ fn answer_request(
     moment: Moment,
     request: &Request,
 ) -> Result<String, StoreFault>
-    ensures ok { IfOk result (λ line. (reply : declared_Reply) × Step (world_in desk.old) moment request.now reply (world_in desk.new) × BytesOf reply (string_bytes line)) }
+    ensures ok { IfOk result (λ line.
+        IsStepLine (world_in desk.old) moment request.now (string_bytes line) (world_in desk.new)) }
     ensures err { OnErr result (world_in desk.new ≡ world_in desk.old) }
 {
     let plan = desk.plan(alloc, moment, request)?;

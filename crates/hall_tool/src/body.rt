@@ -24,7 +24,8 @@ fn is_listed(names: &[&str], name: &str) -> bool
 
 /// Whether each member has one of these names.
 fn are_listed(members: &Map<String, Value>, names: &[&str]) -> bool
-    ensures { result ≡ list_all (λ k. list_any (λ n. bytes_eq n.now (string_bytes k)) names.now) (map (λ e. e.0) members.now.entries) }
+    ensures { result ≡ list_all
+        (λ k. list_any (λ n. bytes_eq n.now (string_bytes k)) names.now) (map (λ e. e.0) members.now.entries) }
 {
     members.keys().all(|name| is_listed(names, name.as_str()))
 }

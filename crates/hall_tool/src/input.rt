@@ -1,7 +1,7 @@
 //! Lines of an input.
-ghost use Rattle.std.specs.Prelude.{◌≡◌, ◌∷◌, [], List, ℕ, MatchOption};
+ghost use Rattle.std.specs.Prelude.{◌≡◌, ◌∷◌, [], MatchOption};
 ghost use Rattle.std.specs.Str.Lines.{lines, strip_carriage_return};
-ghost use Rattle.hall_tool.specs.Input.{HasOneLine, HasTwoLines};
+ghost use Rattle.hall_tool.specs.Input.{HasOneLine, HasTwoLines, LacksOneLine, LacksTwoLines};
 
 use crate::words::place_of;
 
@@ -33,9 +33,7 @@ fn next_line(bytes: &[u8]) -> Option<(&[u8], &[u8])>
 
 /// The two lines of an input; none where it has another number of lines or more than 8,192 bytes.
 pub fn two_lines(input: &[u8]) -> Option<(&[u8], &[u8])>
-    ensures { MatchOption result
-        ((first second : List ℕ) → HasTwoLines input.now first second → ⊥)
-        (λ r. HasTwoLines input.now r.0.now r.1.now) }
+    ensures { MatchOption result (LacksTwoLines input.now) (λ r. HasTwoLines input.now r.0.now r.1.now) }
 {
     if input.len() > LIMIT {
         return None;
@@ -50,7 +48,7 @@ pub fn two_lines(input: &[u8]) -> Option<(&[u8], &[u8])>
 
 /// The line of an input; none where it has another number of lines or more than 8,192 bytes.
 pub fn one_line(input: &[u8]) -> Option<&[u8]>
-    ensures { MatchOption result ((line : List ℕ) → HasOneLine input.now line → ⊥) (λ line. HasOneLine input.now line.now) }
+    ensures { MatchOption result (LacksOneLine input.now) (λ line. HasOneLine input.now line.now) }
 {
     if input.len() > LIMIT {
         return None;

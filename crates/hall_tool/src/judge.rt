@@ -45,8 +45,8 @@ fn answer_input(alloc: Global, input: &[u8]) -> Result<Ending, AllocError>
     }
 }
 
-/// Reads a puzzle text and an answer text, each on a line, and writes the verdict on a line, or why the texts are refused. The result is the exit
-/// status: 0 for right, 1 for wrong, 2 for refused.
+/// Reads a puzzle text and an answer text, each on a line, and writes the verdict on a line, or why the texts are
+/// refused. The result is the exit status: 0 for right, 1 for wrong, 2 for refused.
 pub fn judge_run<R: Read, W: Write>(
     alloc: Global,
     reader: &mut Counted<R>,
@@ -58,7 +58,8 @@ pub fn judge_run<R: Read, W: Write>(
         → HasFailed reader.old.failures reader.new.failures ⊎ HasFailed writer.old.failures writer.new.failures }
     // At a device's fault a first part of the line was written, perhaps none of it.
     ensures part { IsErrOf result ToolFault.Device → (writer.new ≡ writer.old) ⊎ IfSome (R.remaining reader.old.device)
-        (λ input. (line : List ℕ) × (status : ℕ) × JudgeText input line status × WritesPart (W.contents writer.old.device) (W.contents writer.new.device) line) }
+        (λ input. (line : List ℕ) × (status : ℕ) × JudgeText input line status
+        × WritesPart (W.contents writer.old.device) (W.contents writer.new.device) line) }
     // A refusal for memory leaves the writer as it was.
     ensures memory { IsErrOf result ToolFault.Memory → writer.new ≡ writer.old }
     ensures no_store { IsErrOf result ToolFault.Store → ⊥ }

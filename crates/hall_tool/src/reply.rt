@@ -2,7 +2,11 @@
 ghost use Rattle.std.specs.Prelude.{◌≡◌, [], false, IfOk, map, string_bytes};
 ghost use Rattle.serde_json.specs.View.{view};
 ghost use Rattle.serde_json.specs.Written.{has_float};
-ghost use Rattle.hall_tool.specs.Reply.{state_text, mode_text, put_data, certified_data, released_data, puzzle_data, round_data, received_data, answer_data, answers_data, denied_data, unavailable_data, reply_data, reply_status, denied_status, field_text, form_data, field_data, place_data, text_fault_data, fault_data, fault_status, line_bytes, BytesOf, FaultBytesOf};
+ghost use Rattle.hall_tool.specs.Reply.{state_text, mode_text, put_data, certified_data, released_data, puzzle_data};
+ghost use Rattle.hall_tool.specs.Reply.{round_data, received_data, answer_data, answers_data, denied_data};
+ghost use Rattle.hall_tool.specs.Reply.{unavailable_data, reply_data, reply_status, denied_status, field_text};
+ghost use Rattle.hall_tool.specs.Reply.{form_data, field_data, place_data, text_fault_data, fault_data, fault_status};
+ghost use Rattle.hall_tool.specs.Reply.{line_bytes, BytesOf, FaultBytesOf};
 
 use crate::form::{Field, FormFault};
 use crate::status::Status;

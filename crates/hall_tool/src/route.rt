@@ -1,6 +1,7 @@
 //! The routes that are served.
 ghost use Rattle.hall_tool.specs.Given.{Gives};
-ghost use Rattle.hall_tool.specs.Request.{puzzle_number, puzzle_route, label_route, answer_route, below_round, round_route, route_in, is_method};
+ghost use Rattle.hall_tool.specs.Request.{puzzle_number, puzzle_route, label_route, answer_route, below_round};
+ghost use Rattle.hall_tool.specs.Request.{round_route, route_in, is_method};
 
 use crate::form::{FormFault, RequestFault};
 use crate::words::{after_front, checked, cut, read_decimal};

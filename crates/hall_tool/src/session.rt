@@ -1,83 +1,33 @@
 //! The command `replay`.
-ghost use Rattle.std.specs.Prelude.{◌≡◌, ◌≤◌, ◌<◌, ◌⊎◌, [], true, false, IfErr, OnOk, OnErr, MatchResult, drop, length, vec_len};
+ghost use Rattle.std.specs.Prelude.{◌≡◌, ◌<◌, ◌⊎◌, [], IfErr, OnOk, OnErr, MatchResult, length};
 ghost use Rattle.std.specs.Io.KnownBytes.{Appends};
 ghost use Rattle.hall_grid.specs.Device.{HasFailed};
 ghost use Rattle.hall_desk.specs.Desk.{world_in};
 ghost use Rattle.hall_desk.specs.Sane.{Sane};
 ghost use Rattle.hall_desk.specs.Promises.{HasUniqueSolutions, RightAnswersAreSolutions};
 ghost use Rattle.hall_tool.specs.Input.{WritesPart};
-ghost use Rattle.hall_tool.specs.Replay.{IsReplayed, ReadsMore, line_text};
+ghost use Rattle.hall_tool.specs.Replay.{IsReplayed, line_text};
 
 use crate::answer::{Line, answer_bytes};
 use crate::device::write_line;
-use crate::fault::ToolFault;
+use crate::fault::{ReplayFault, ToolFault};
+use crate::inbox::Inbox;
 use crate::record::{Cut, cut_record};
 use hall_desk::Desk;
 use hall_grid::Counted;
-use std::alloc::{AllocError, Global};
+use std::alloc::Global;
 use std::io::{Read, Write};
 
 /// The most reads of a replay.
 const READ_LIMIT: u64 = 1_000_000_000;
 
-/// Room for the longest record and one more read.
-const INBOX_SIZE: usize = 81_920;
-
-/// The most bytes of one read.
-const CHUNK_SIZE: usize = 4096;
-
-/// Why a replay ended before the end of its input.
-#[derive(Clone, Copy, Debug, PartialEq, Eq)]
-pub enum ReplayFault {
-    /// What is left begins with no whole record, or a thousand million reads were made.
-    Record,
-    /// A call of the reader or the writer failed.
-    Device,
-    /// Want of memory of the replay's own.
-    Memory,
-}
-
-impl From<AllocError> for ReplayFault {
-    ghost use Rattle.std.specs.Prelude.{◌≡◌};
-    ghost use Rattle.hall_tool.specs.declared.session.ReplayFault.TheVariants.{Memory};
-
-    ghost from_gives = { λ _ e. e ≡ Memory };
-
-    fn from(_e: AllocError) -> ReplayFault {
-        ReplayFault::Memory
-    }
-}
-
-/// Takes so many bytes off the front.
-fn drop_front(inbox: &mut Vec<u8>, count: usize)
-    requires { count ≤ vec_len inbox.old }
-    ensures { inbox.new.items ≡ drop count inbox.old.items }
-{
-    let left = inbox.len() - count;
-    inbox.rotate_left(count);
-    inbox.truncate(left);
-}
-
-/// Reads some more bytes; false at the end of the input.
-fn read_more<R: Read>(reader: &mut Counted<R>, inbox: &mut Vec<u8>) -> Result<bool, ReplayFault>
-    ensures { ReadsMore (R.remaining reader.old.device) (R.remaining reader.new.device) inbox.old.items inbox.new.items reader.old.failures reader.new.failures result }
-{
-    let mut chunk = [0u8; CHUNK_SIZE];
-    match reader.read(&mut chunk) {
-        Ok(0) => Ok(false),
-        Ok(count) => {
-            inbox.extend_from_slice(&chunk[..count])?;
-            Ok(true)
-        }
-        Err(_) => Err(ReplayFault::Device),
-    }
-}
-
 /// Writes a line.
 fn send<W: Write>(writer: &mut Counted<W>, line: Line) -> Result<(), ToolFault>
-    ensures written { OnOk result (Appends (W.contents writer.old.device) (W.contents writer.new.device) (line_text line)) }
+    ensures written { OnOk result
+        (Appends (W.contents writer.old.device) (W.contents writer.new.device) (line_text line)) }
     ensures same { OnOk result (writer.new.failures ≡ writer.old.failures) }
-    ensures part { OnErr result (WritesPart (W.contents writer.old.device) (W.contents writer.new.device) (line_text line)) }
+    ensures part { OnErr result
+        (WritesPart (W.contents writer.old.device) (W.contents writer.new.device) (line_text line)) }
     ensures device { IfErr result (λ e. (e ≡ ToolFault.Device) × HasFailed writer.old.failures writer.new.failures) }
 {
     write_line(writer, line.as_bytes())
@@ -85,16 +35,16 @@ fn send<W: Write>(writer: &mut Counted<W>, line: Line) -> Result<(), ToolFault>
 
 /// Answers the records of the input, and writes their lines.
 ///
-/// Ends well where the input held whole records and no more. A device's fault leaves the records handled made, the last one's line perhaps unsent; any other fault comes
-/// after the lines of the records before. A sane world stays sane.
+/// Ends well where the input held whole records and no more. A device's fault leaves the records handled made, the last
+/// one's line perhaps unsent; any other fault comes after the lines of the records before. A sane world stays sane.
 pub fn replay<R: Read, W: Write>(
     alloc: Global,
     desk: &mut Desk,
     reader: &mut Counted<R>,
     writer: &mut Counted<W>,
 ) -> Result<(), ReplayFault>
-    ensures replayed { IsReplayed (R.remaining reader.old.device) (R.remaining reader.new.device) (W.contents writer.old.device) (W.contents writer.new.device)
-        (world_in desk.old) (world_in desk.new)
+    ensures replayed { IsReplayed (R.remaining reader.old.device) (R.remaining reader.new.device)
+        (W.contents writer.old.device) (W.contents writer.new.device) (world_in desk.old) (world_in desk.new)
         (HasFailed reader.old.failures reader.new.failures ⊎ HasFailed writer.old.failures writer.new.failures) result }
     ensures sane { Sane (world_in desk.old) → Sane (world_in desk.new) }
     ensures unique { Sane (world_in desk.old) → HasUniqueSolutions (world_in desk.new) }
@@ -110,17 +60,17 @@ fn answer_records<R: Read, W: Write>(
     reader: &mut Counted<R>,
     writer: &mut Counted<W>,
 ) -> Result<(), ReplayFault>
-    ensures { IsReplayed (R.remaining reader.old.device) (R.remaining reader.new.device) (W.contents writer.old.device) (W.contents writer.new.device)
-        (world_in desk.old) (world_in desk.new)
+    ensures { IsReplayed (R.remaining reader.old.device) (R.remaining reader.new.device)
+        (W.contents writer.old.device) (W.contents writer.new.device) (world_in desk.old) (world_in desk.new)
         (HasFailed reader.old.failures reader.new.failures ⊎ HasFailed writer.old.failures writer.new.failures) result }
 {
-    let mut inbox = Vec::with_capacity(alloc, INBOX_SIZE)?;
+    let mut inbox = Inbox::new(alloc)?;
     let mut reads = 0;
     'records: loop {
-        match cut_record(inbox.as_slice()) {
+        match cut_record(inbox.unread()) {
             Cut::Whole { moment, start, end } => {
-                let line = answer_bytes(alloc, desk, moment, &inbox.as_slice()[start..end]);
-                drop_front(&mut inbox, end);
+                let line = answer_bytes(alloc, desk, moment, &inbox.unread()[start..end]);
+                inbox.pass(end);
                 match send(writer, line) {
                     Ok(()) => {}
                     Err(_) => return Err(ReplayFault::Device),
@@ -131,9 +81,9 @@ fn answer_records<R: Read, W: Write>(
                     return Err(ReplayFault::Record);
                 }
                 reads += 1;
-                match read_more(reader, &mut inbox) {
+                match inbox.read_more(reader) {
                     Ok(true) => {}
-                    Ok(false) => return end_of_input(&inbox),
+                    Ok(false) => return end_of_input(inbox.unread()),
                     Err(fault) => return Err(fault),
                 }
             }
@@ -143,10 +93,10 @@ fn answer_records<R: Read, W: Write>(
 }
 
 /// How a replay ends at the end of its input, with these bytes left.
-fn end_of_input(inbox: &[u8]) -> Result<(), ReplayFault>
-    ensures { MatchResult result (λ _. inbox.now ≡ []) (λ e. (e ≡ ReplayFault.Record) × (0 < length inbox.now)) }
+fn end_of_input(unread: &[u8]) -> Result<(), ReplayFault>
+    ensures { MatchResult result (λ _. unread.now ≡ []) (λ e. (e ≡ ReplayFault.Record) × (0 < length unread.now)) }
 {
-    if inbox.is_empty() {
+    if unread.is_empty() {
         Ok(())
     } else {
         Err(ReplayFault::Record)

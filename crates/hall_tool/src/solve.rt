@@ -41,7 +41,8 @@ fn plain_line(alloc: Global, text: &str) -> Result<Ending, AllocError>
 
 /// The line for a puzzle text.
 fn answer_text(alloc: Global, text: &[u8], budget: u64) -> Result<Ending, AllocError>
-    ensures { IfOk result (λ a. IsSolved text.now budget (string_bytes a.line) a.status ⊎ IsRefused text.now (string_bytes a.line) a.status) }
+    ensures { IfOk result (λ a. IsSolved text.now budget (string_bytes a.line) a.status
+        ⊎ IsRefused text.now (string_bytes a.line) a.status) }
 {
     match parse_puzzle(alloc, text) {
         Ok(puzzle) => outcome_line(alloc, &puzzle, budget),
@@ -60,8 +61,9 @@ fn answer_input(alloc: Global, input: &[u8], budget: u64) -> Result<Ending, Allo
     }
 }
 
-/// Reads a puzzle text on a line, searches for its solutions in at most `budget` visits, and writes what was found on a line, or why the text is
-/// refused. The result is the exit status: 0 for one solution, 1 for none, more or gave up, 2 for refused.
+/// Reads a puzzle text on a line, searches for its solutions in at most `budget` visits, and writes what was found on
+/// a line, or why the text is refused. The result is the exit status: 0 for one solution, 1 for none, more or gave up,
+/// 2 for refused.
 pub fn solve_run<R: Read, W: Write>(
     alloc: Global,
     reader: &mut Counted<R>,
@@ -69,14 +71,16 @@ pub fn solve_run<R: Read, W: Write>(
     budget: u64,
 ) -> Result<u8, ToolFault>
     ensures line { IfOk result (λ status. IfSome (R.remaining reader.old.device) (λ input. (line : List ℕ)
-        × SolveText input budget line status × Appends (W.contents writer.old.device) (W.contents writer.new.device) line)) }
+        × SolveText input budget line status
+        × Appends (W.contents writer.old.device) (W.contents writer.new.device) line)) }
     ensures device { IsErrOf result ToolFault.Device
         → HasFailed reader.old.failures reader.new.failures ⊎ HasFailed writer.old.failures writer.new.failures }
     // A refusal for memory leaves the writer as it was.
     ensures memory { IsErrOf result ToolFault.Memory → writer.new ≡ writer.old }
     // A device's fault leaves a first part of a line that may be written.
-    ensures part { IsErrOf result ToolFault.Device → (writer.new ≡ writer.old) ⊎ IfSome (R.remaining reader.old.device) (λ input. (line : List ℕ) × (status : ℕ)
-        × SolveText input budget line status × WritesPart (W.contents writer.old.device) (W.contents writer.new.device) line) }
+    ensures part { IsErrOf result ToolFault.Device → (writer.new ≡ writer.old) ⊎ IfSome (R.remaining reader.old.device)
+        (λ input. (line : List ℕ) × (status : ℕ) × SolveText input budget line status
+        × WritesPart (W.contents writer.old.device) (W.contents writer.new.device) line) }
     ensures no_store { IsErrOf result ToolFault.Store → ⊥ }
 {
     let input = read_input(alloc, reader, LIMIT + 1)?;

@@ -13,17 +13,22 @@ use Rattle.hall_tool.proofs.body.integer_at.Goals as goal
 pub returns-in_default : goal.returns-in_default
 returns-in_default c =
     let got = rw c.in_default.is at c.get.ensures.value in
-    missing_integer c.args.field c.args.name.now (members_view c.args.members.now.entries) (sym (view-lookup c.args.name.now c.args.members.now.entries) ∙ ap (option_map view) (sym got))
+    missing_integer c.args.field c.args.name.now (members_view c.args.members.now.entries)
+    (sym (view-lookup c.args.name.now c.args.members.now.entries) ∙ ap (option_map view) (sym got))
 
 pub returns-in-Some-and_then : goal.returns-in-Some-and_then
 returns-in-Some-and_then c =
     let got = rw c.in-Some.is at c.get.ensures.value in
-    let is : option_and_then as_integer (as_number (view c.in-Some.value.now)) ≡ Some c.in-Some-and_then.integer = grind (arith, common_steps) in
+    let is : option_and_then as_integer (as_number (view c.in-Some.value.now)) ≡ Some c.in-Some-and_then.integer =
+    grind (arith, common_steps) in
     let fits : SFits w128 c.in-Some-and_then.integer = search rules in
-    simp to_z-of_z (integer_member c.args.field c.args.name.now (members_view c.args.members.now.entries) (view c.in-Some.value.now) _ (sym (view-lookup c.args.name.now c.args.members.now.entries) ∙ ap (option_map view) (sym got)) is)
+    simp to_z-of_z (integer_member c.args.field c.args.name.now (members_view c.args.members.now.entries)
+    (view c.in-Some.value.now) _
+    (sym (view-lookup c.args.name.now c.args.members.now.entries) ∙ ap (option_map view) (sym got)) is)
 
 pub returns-in-None : goal.returns-in-None
 returns-in-None c =
     let got = rw c.in-Some.is at c.get.ensures.value in
     let is : option_and_then as_integer (as_number (view c.in-Some.value.now)) ≡ None = grind (arith, common_steps) in
-    wrong_integer c.args.field c.args.name.now (members_view c.args.members.now.entries) (view c.in-Some.value.now) (sym (view-lookup c.args.name.now c.args.members.now.entries) ∙ ap (option_map view) (sym got)) is
+    wrong_integer c.args.field c.args.name.now (members_view c.args.members.now.entries) (view c.in-Some.value.now)
+    (sym (view-lookup c.args.name.now c.args.members.now.entries) ∙ ap (option_map view) (sym got)) is

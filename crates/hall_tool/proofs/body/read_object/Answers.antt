@@ -11,7 +11,8 @@ returns-in_default c = no_text _ c.args.body.now (rw c.in_default.is at c.from_u
 pub returns-then-not-are_listed : goal.returns-then-not-are_listed
 returns-then-not-are_listed c =
     let text = rw c.in-Ok.is at c.from_utf8.ensures.cases in
-    let seen : view c.in-Ok-from_str.value ≡ object (members_view c.in-Object.members.entries) = rw c.in-Object.is (search (rules, the_lemmas)) in
+    let seen : view c.in-Ok-from_str.value ≡ object (members_view c.in-Object.members.entries) =
+    rw c.in-Object.is (search (rules, the_lemmas)) in
     let got = rw (c.in-Ok-from_str.is, text.0, seen) at c.from_str.ensures.ok in
     object_is _ c.args.body.now (members_view c.in-Object.members.entries) false text.1 got
     (only_listed c.args.names.now c.in-Object.members.entries ∙ sym c.are_listed.ensures ∙ c.if-not-are_listed.true)
@@ -19,7 +20,8 @@ returns-then-not-are_listed c =
 pub returns : goal.returns
 returns c =
     let text = rw c.in-Ok.is at c.from_utf8.ensures.cases in
-    let seen : view c.in-Ok-from_str.value ≡ object (members_view c.in-Object.members.entries) = rw c.in-Object.is (search (rules, the_lemmas)) in
+    let seen : view c.in-Ok-from_str.value ≡ object (members_view c.in-Object.members.entries) =
+    rw c.in-Object.is (search (rules, the_lemmas)) in
     let got = rw (c.in-Ok-from_str.is, text.0, seen) at c.from_str.ensures.ok in
     object_is _ c.args.body.now (members_view c.in-Object.members.entries) true text.1 got
     (only_listed c.args.names.now c.in-Object.members.entries ∙ sym c.are_listed.ensures ∙ c.if-not-are_listed.false)

@@ -7,10 +7,14 @@ use Rattle.hall_tool.proofs.judge.judge_run.Goals as goal
 
 pub returns-clause-line : goal.returns-clause-line
 returns-clause-line g c =
-    known_decides JudgeText judged_by_front _ _ _ _ (Appends (g.W.Write.contents c.args.writer.now.device) (g.W.Write.contents c.write_line.new.writer.device))
-    c.in_ok-input.ensures.front (rw c.deref.ensures.value at c.in_ok-ending.ensures) (rw c.as_bytes.ensures.value at c.in_ok-write_line.ensures.written)
+    known_decides JudgeText judged_by_front _ _ _ _
+    (Appends (g.W.Write.contents c.args.writer.now.device) (g.W.Write.contents c.write_line.new.writer.device))
+    c.in_ok-input.ensures.front (rw c.deref.ensures.value at c.in_ok-ending.ensures)
+    (rw c.as_bytes.ensures.value at c.in_ok-write_line.ensures.written)
 
 pub returns-in_err-write_line-clause-part : goal.returns-in_err-write_line-clause-part
 returns-in_err-write_line-clause-part g c = λ _. inr (
-    known_tells JudgeText judged_by_front _ _ _ _ (WritesPart (g.W.Write.contents c.args.writer.now.device) (g.W.Write.contents c.write_line.new.writer.device))
-    c.in_ok-input.ensures.front (rw c.deref.ensures.value at c.in_ok-ending.ensures) (rw c.as_bytes.ensures.value at c.in_err-write_line.ensures.part))
+    known_tells JudgeText judged_by_front _ _ _ _
+    (WritesPart (g.W.Write.contents c.args.writer.now.device) (g.W.Write.contents c.write_line.new.writer.device))
+    c.in_ok-input.ensures.front (rw c.deref.ensures.value at c.in_ok-ending.ensures)
+    (rw c.as_bytes.ensures.value at c.in_err-write_line.ensures.part))

@@ -1,4 +1,4 @@
-use Rattle.std.proofs.Common.{◌≡◌, ◌≤◌, ◌+◌, ◌-◌, ◌*◌, vec_len}
+use Rattle.std.proofs.Common.{◌≡◌, ◌≤◌, ◌+◌, ◌-◌, ◌*◌, length}
 use Rattle.hall_desk.specs.Desk.{world_in}
 use Rattle.hall_tool.proofs.Turns.{Kept}
 use Rattle.hall_tool.proofs.session.answer_records.Given as goal
@@ -8,9 +8,10 @@ invariant-records g l = record {
   few : l.reads ≤ 1000000000;
   reader : l.reader.failures ≡ l.fn.reader.failures;
   writer : l.writer.failures ≡ l.fn.writer.failures;
-  kept : Kept (g.R.Read.remaining l.fn.reader.device) (g.R.Read.remaining l.reader.device) (g.W.Write.contents l.fn.writer.device) (g.W.Write.contents l.writer.device)
-      (world_in l.fn.desk) (world_in l.desk) l.inbox.items l.reads;
+  kept : Kept (g.R.Read.remaining l.fn.reader.device) (g.R.Read.remaining l.reader.device)
+      (g.W.Write.contents l.fn.writer.device) (g.W.Write.contents l.writer.device)
+      (world_in l.fn.desk) (world_in l.desk) l.inbox l.reads;
 }
 
 abbrev pub decreases-records : goal.decreases-records
-decreases-records g l = (1000000000 - l.reads) * 4097 + vec_len l.inbox
+decreases-records g l = (1000000000 - l.reads) * 4097 + length l.inbox

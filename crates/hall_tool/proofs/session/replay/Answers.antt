@@ -11,9 +11,11 @@ returns-clause-sane g c = λ sane.
 pub returns-clause-unique : goal.returns-clause-unique
 returns-clause-unique g c = λ sane.
     let over = c.answer_records.ensures.run in
-    unique_solutions (world_in c.answer_records.new.desk) (run_sane (world_in c.args.desk.now) over.requests over.replies (world_in c.answer_records.new.desk) over.run sane)
+    unique_solutions (world_in c.answer_records.new.desk)
+    (run_sane (world_in c.args.desk.now) over.requests over.replies (world_in c.answer_records.new.desk) over.run sane)
 
 pub returns-clause-right : goal.returns-clause-right
 returns-clause-right g c = λ sane.
     let over = c.answer_records.ensures.run in
-    right_answers (world_in c.answer_records.new.desk) (run_sane (world_in c.args.desk.now) over.requests over.replies (world_in c.answer_records.new.desk) over.run sane)
+    right_answers (world_in c.answer_records.new.desk)
+    (run_sane (world_in c.args.desk.now) over.requests over.replies (world_in c.answer_records.new.desk) over.run sane)
