@@ -63,9 +63,9 @@ enum Under {
     Upheld,
 }
 
-/// What is asked, by whom ("player" is bob as an entrant), the round, what stands under the key or token, the rule whose
-/// test was found true (0 for none), how much there is of what is limited, the moment, and the rule that denies: 0 where
-/// the action is allowed and 100 where it is repeated.
+/// What is asked, by whom ("player" is bob as an entrant), the round, what stands under the key or token, the rule
+/// whose test was found true (0 for none), how much there is of what is limited, the moment, and the rule that
+/// denies: 0 where the action is allowed and 100 where it is repeated.
 type Row = (Ask, &'static str, Held, Under, u8, u64, u64, u8);
 
 const DECISIONS: [Row; 68] = [
