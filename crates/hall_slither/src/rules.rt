@@ -3,6 +3,7 @@ ghost use Rattle.std.specs.Prelude.{◌≡◌, ◌<◌, IsTrue, IfOk, Some, slic
 ghost use Rattle.hall_grid.specs.declared.board.Kind.TheVariants.{Slither};
 ghost use Rattle.hall_solve.specs.Question.{IsPartial, IsOpen, IsHopeless};
 ghost use Rattle.hall_solve.specs.Puzzle.{question_of, start_of, AllExtend};
+ghost use Rattle.hall_slither.specs.Count.{AreSilent};
 
 use crate::close::close_chains;
 use crate::follow::follow_counts;
@@ -36,6 +37,8 @@ impl<'a> Model for Deductions<'a> {
 
 impl<'a> Deduce for Deductions<'a> {
     ghost question = { question_of Slither };
+
+    ghost settled = { AreSilent };
 
     fn pass(&self, alloc: Global, partial: &mut Partial) -> Result<Pass, AllocError> {
         match follow_counts(alloc, self.puzzle, partial)? {
@@ -112,6 +115,8 @@ impl<'a> Look for Trials<'a> {
 impl<'a> Deduce for Trials<'a> {
     ghost question = { question_of Slither };
 
+    ghost settled = { AreSilent };
+
     fn pass(&self, alloc: Global, partial: &mut Partial) -> Result<Pass, AllocError> {
         match self.deductions.pass(alloc, partial)? {
             Pass::Settled => sweep(alloc, self, partial),
@@ -161,6 +166,8 @@ impl<'a> SlitherRules<'a> {
 
 impl<'a> Rules for SlitherRules<'a> {
     ghost question = { λ r. question_of Slither r.board };
+
+    ghost settled = { λ r. AreSilent r.board };
 
     ghost visits = { λ r. r.visits };
 
