@@ -79,7 +79,8 @@ impl<'a> Trials<'a> {
         requires partial { IsPartial (question_of Kind.Slither self.now) partial.now }
         requires side { IsOpen partial.now side }
         requires value { value < 2 }
-        ensures { IfOk result (λ fails. IsTrue fails → IsHopeless (question_of Kind.Slither self.now) (slice_set partial.now side (Some value))) }
+        ensures { IfOk result (λ fails. IsTrue fails
+            → IsHopeless (question_of Kind.Slither self.now) (slice_set partial.now side (Some value))) }
     {
         let mut trial = partial.copy()?;
         trial.set(side, value);

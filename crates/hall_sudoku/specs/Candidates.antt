@@ -59,7 +59,8 @@ pub record AreSeen (unit : ℕ → ℕ) (n : ℕ) (candidates seen : List ℕ) :
 
 -- each unit's set has what two of the first n cells may have there
 pub record AreShared (unit : ℕ → ℕ) (n : ℕ) (candidates shared : List ℕ) : Type 0 where
-  pub all : (a b v : ℕ) → a < b → b < n → unit a ≡ unit b → Has (slice_index candidates a) v → Has (slice_index candidates b) v → Has (slice_index shared (unit a)) v
+  pub all : (a b v : ℕ) → a < b → b < n → unit a ≡ unit b
+      → Has (slice_index candidates a) v → Has (slice_index candidates b) v → Has (slice_index shared (unit a)) v
   pub alone : (at v : ℕ) → Has (slice_index shared at) v → IsSeenTwice unit n candidates at v
 
 -- each value below the side is seen in each unit
@@ -113,4 +114,5 @@ pub record HasNoSole (size : Size) (candidates : List ℕ) (shared : Shared) (ce
 
 -- no open cell has a value that follows
 abbrev pub HaveNoSole : Size → List (Option ℕ) → List ℕ → Shared → Type 0
-HaveNoSole size p candidates shared = (cell : ℕ) → cell < cells size → slice_index_or p cell None ≡ None → HasNoSole size candidates shared cell
+HaveNoSole size p candidates shared = (cell : ℕ) → cell < cells size → slice_index_or p cell None ≡ None
+    → HasNoSole size candidates shared cell

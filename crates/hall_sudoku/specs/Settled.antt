@@ -1,5 +1,5 @@
--- Where no deduction is left: no value stands twice in a unit, an open cell has two values to choose from, and a value that
--- stands nowhere in a unit two cells there.
+-- Where no deduction is left: no value stands twice in a unit, an open cell has two values to choose from,
+-- and a value that stands nowhere in a unit two cells there.
 use Rattle.std.specs.Prelude.{◌≡◌, ◌≢◌, ℕ, ◌<◌, List, Option, Some, None, length, slice_index_or}
 use Rattle.hall_grid.specs.declared.board.Size.{Size}
 use Rattle.hall_grid.specs.Board.{row, col}
@@ -56,7 +56,8 @@ pub record HasTwoCells (size : Size) (unit : ℕ → ℕ) (p : List (Option ℕ)
 
 -- a value that stands nowhere in a unit has two cells there
 abbrev pub HaveTwoCells : Size → (ℕ → ℕ) → List (Option ℕ) → Type 0
-HaveTwoCells size unit p = (at value : ℕ) → at < size.cols → value < size.cols → (StandsIn unit p at value → ⊥) → HasTwoCells size unit p at value
+HaveTwoCells size unit p = (at value : ℕ) → at < size.cols → value < size.cols → (StandsIn unit p at value → ⊥)
+    → HasTwoCells size unit p at value
 
 -- no value stands twice in a unit, no cell has one value left only, and no value one cell of a unit
 pub record IsSettled (size : Size) (p : List (Option ℕ)) : Type 0 where
