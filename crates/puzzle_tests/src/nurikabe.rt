@@ -57,7 +57,9 @@ fn solves(rt: HostRuntime) -> Result<(), Fail> {
     assert_searches(&rt, rt.alloc(), &SEARCHES)
 }
 
-/// Each row needs the deduction that it names: without that, the cells that it adds stay open, or the board isn't found dead.
+/// Each row needs the deduction that it names.
+///
+/// Without that, the cells that it adds stay open, or the board isn't found dead.
 const DEDUCTIONS: [(&str, &str, &str, &str); 13] = [
     ("no pool", "nurikabe/3/2/.k", ".?#?##", "..#?##"),
     ("a pool", "nurikabe/2/2/j", "####", "dead"),

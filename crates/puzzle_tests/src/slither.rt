@@ -96,7 +96,9 @@ fn solves(rt: HostRuntime) -> Result<(), Fail> {
 /// The visits from the first on that try both values at each side.
 const TRIALS: u8 = 8;
 
-/// Each row needs the deduction that it names: without that, the sides that it adds stay open, or the board isn't found dead.
+/// Each row needs the deduction that it names.
+///
+/// Without that, the sides that it adds stay open, or the board isn't found dead.
 const DEDUCTIONS: [(&str, &str, &str, &str); 14] = [
     (
         "a dot with one side left has no line",

@@ -1,6 +1,7 @@
 //! A small kind of rules: right is a filling whose first value is below a limit.
-ghost use Rattle.std.specs.Prelude.{◌≡◌, ℕ, ◌+◌, ◌<◌, ◌≤◌, List, slice_index};
+ghost use Rattle.std.specs.Prelude.{◌≡◌, ℕ, ◌+◌, ◌<◌, ◌≤◌, List};
 ghost use Rattle.hall_solve.specs.Question.{Question};
+ghost use Rattle.puzzle_tests.specs.FirstBelow.{first_below};
 
 use hall_grid::Filling;
 use hall_solve::{
@@ -18,7 +19,7 @@ struct Below {
 }
 
 impl Look for Below {
-    ghost question = { λ s. record { cells = s.cells; values = s.values; right = λ f. slice_index f 0 < s.limit } };
+    ghost question = { λ s. first_below s.cells s.values s.limit };
 
     ghost spots = { λ _. 1 };
 
@@ -38,7 +39,7 @@ impl Look for Below {
 }
 
 impl Deduce for Below {
-    ghost question = { λ s. record { cells = s.cells; values = s.values; right = λ f. slice_index f 0 < s.limit } };
+    ghost question = { λ s. first_below s.cells s.values s.limit };
 
     fn pass(&self, alloc: Global, partial: &mut Partial) -> Result<Pass, AllocError> {
         sweep(alloc, self, partial)
@@ -54,7 +55,7 @@ struct Kind {
 }
 
 impl Rules for Kind {
-    ghost question = { λ s. record { cells = s.below.cells; values = s.below.values; right = λ f. slice_index f 0 < s.below.limit } };
+    ghost question = { λ s. first_below s.below.cells s.below.values s.below.limit };
 
     ghost visits = { λ s. s.visits };
 
@@ -160,7 +161,9 @@ const SEARCHES: [(usize, u8, u8, bool, u64, Shown, u64, u64); 13] = [
     (1, 0, 5, false, 1, ("none", None, None), 1, 0),
 ];
 
-/// Each node of a tree is visited once: a tree of 1 + 2 + 4 nodes takes seven visits, and its four whole fillings are asked about once each.
+/// Each node of a tree is visited once.
+///
+/// A tree of 1 + 2 + 4 nodes takes seven visits, and its four whole fillings are asked about once each.
 #[test]
 fn wastes_no_visits(rt: HostRuntime) -> Result<(), Fail> {
     for (cells, values, limit, deduces, budget, answer, visits, asked) in SEARCHES {

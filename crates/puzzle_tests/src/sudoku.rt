@@ -66,7 +66,9 @@ fn solves(rt: HostRuntime) -> Result<(), Fail> {
     assert_searches(&rt, rt.alloc(), &SEARCHES)
 }
 
-/// Each row needs the deduction that it names: without that, the places that it adds stay open, or the board isn't found dead.
+/// Each row needs the deduction that it names.
+///
+/// Without that, the places that it adds stay open, or the board isn't found dead.
 const DEDUCTIONS: [(&str, &str, &str, &str); 11] = [
     (
         "naked single",
