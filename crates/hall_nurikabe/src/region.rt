@@ -7,7 +7,8 @@ ghost use Rattle.hall_grid.specs.Component.{IsLabelled};
 ghost use Rattle.hall_grid.specs.Reached.{IsMarked};
 ghost use Rattle.hall_solve.specs.Question.{Question, IsPartial};
 ghost use Rattle.hall_nurikabe.specs.Counts.{AreCells};
-ghost use Rattle.hall_nurikabe.specs.Forced.{AreKept, AreOwners, AreRegions, HaveTwoOwners, IsBetween, IsOpenTo, IsSetTo};
+ghost use Rattle.hall_nurikabe.specs.Forced.{AreKept, AreOwners, AreRegions, HaveTwoOwners};
+ghost use Rattle.hall_nurikabe.specs.Forced.{IsBetween, IsOpenTo, IsSetTo};
 ghost use Rattle.hall_nurikabe.specs.Marks.{MarksWhere};
 
 use crate::island::{count_by_label, is_number};
