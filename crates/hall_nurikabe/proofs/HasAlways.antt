@@ -7,7 +7,7 @@ use Rattle.hall_grid.specs.declared.rule.Rule.TheVariants.{N3, N5, N6}
 use Rattle.hall_grid.specs.Board.{Board, cells, Touch}
 use Rattle.hall_grid.specs.Walk.{Walk, on}
 use Rattle.hall_grid.specs.Nurikabe.{IsWhite, IsWall, InIsland}
-use Rattle.hall_grid.specs.Component.{IsLabelled, AreComponents}
+use Rattle.hall_grid.specs.Component.{IsLabelled, AreComponents, LabelsDiffer}
 use Rattle.hall_grid.specs.RegionLaws.{Touch-turn}
 use Rattle.hall_grid.proofs.Labelling.{one_label, labelled_below}
 use Rattle.hall_grid.proofs.Walks.{Walk-map, Walk-join, Walk-start, Walk-end}
@@ -17,7 +17,7 @@ use Rattle.hall_solve.specs.Deduction.{HasAlways}
 use Rattle.hall_nurikabe.specs.Counts.{HasCount}
 use Rattle.hall_grid.specs.declared.board.Kind.TheVariants.{Nurikabe}
 use Rattle.hall_solve.specs.Puzzle.{question_of}
-use Rattle.hall_nurikabe.specs.Forced.{IsSetTo, IsOpenTo, AreRegions, AreOwners, HaveTwoOwners, IsBeside, IsBetween, AreApart}
+use Rattle.hall_nurikabe.specs.Forced.{IsSetTo, IsOpenTo, AreRegions, AreOwners, HaveTwoOwners, IsBeside, IsBetween, AreKept}
 use Rattle.hall_nurikabe.proofs.Marks.{numbered_below}
 use Rattle.hall_nurikabe.proofs.HasCount.{HasCount-within, HasCount-lacks, not_uncounted}
 use Rattle.hall_nurikabe.proofs.Solves.{set_wall, set_white, white_or_wall, wall_or_white, number_is_white, no_rule_broken}
@@ -31,9 +31,11 @@ module _ (board : Board) (kind : board.kind ≡ Nurikabe) (p : List (Option ℕ)
   open_wall f s x w = (let low = w.0 in let size = part.size in omega arith, λ h. let none = s.extends x 0 h in let one = w.1 in omega arith)
 
   -- walls that no walk over cells that may be wall joins
-  pub apart_hopeless : (labels : List (Option ℕ)) → AreComponents (cells board.size) (Touch board.size) (IsOpenTo p 0) labels
-      → AreApart p 1 labels → IsHopeless (question_of Nurikabe board) p
-  apart_hopeless labels a (c, d, x, y, pc, pd, lc, ld, ne) = λ f s.
+  pub apart_hopeless : (labels walls : List (Option ℕ)) → AreComponents (cells board.size) (Touch board.size) (IsOpenTo p 0) labels
+      → AreKept p 1 labels walls → LabelsDiffer walls → IsHopeless (question_of Nurikabe board) p
+  apart_hopeless labels walls a kept (c, d, x, y, at_c, at_d, ne) = λ f s.
+      let (lc, pc) = (kept.kept c x).0 at_c in
+      let (ld, pd) = (kept.kept d y).0 at_d in
       no_rule_broken board f kind s.right N3 (
         c,
         d,

@@ -1,5 +1,6 @@
 pub mod HasCount
 pub mod Marks
+pub mod AreKept
 pub mod AreCounts
 pub mod IsPoolAt
 pub mod AreBroken

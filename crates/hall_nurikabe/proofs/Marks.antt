@@ -1,5 +1,5 @@
 -- Marks, one after another.
-use Rattle.std.proofs.Common.{◌≡◌, ℕ, zero, suc, ◌+◌, ◌<◌, ◌⊎◌, ◌↔◌, ◌++◌, Bool, true, false, Option, Some, None, List, [], ◌∷◌, length, map, refl, sym, ap, ◌∙◌, subst, inl, inr, arith}
+use Rattle.std.proofs.Common.{◌≡◌, ℕ, zero, suc, ◌+◌, ◌<◌, ◌⊎◌, ◌↔◌, ◌++◌, Bool, true, false, Option, Some, None, List, [], ◌∷◌, length, get_or, map, refl, sym, ap, ◌∙◌, subst, inl, inr, arith}
 use Rattle.std.specs.Prelude.{◌==◌, nat_eq, not, slice_get}
 use Rattle.std.specs.Option.{option_eq}
 use Rattle.std.proofs.lemmas.Bool.{cases_eq, eqb-true, eq-eqb}
@@ -9,6 +9,7 @@ use Rattle.hall_grid.specs.declared.board.Clue.{Clue}
 use Rattle.hall_grid.specs.Board.{Board}
 use Rattle.hall_grid.specs.Nurikabe.{IsNumbered}
 use Rattle.hall_grid.specs.Reached.{IsMarked}
+use Rattle.hall_nurikabe.specs.Forced.{IsSetTo, IsOpenTo}
 use Rattle.hall_nurikabe.specs.Marks.{MarksWhere, IsColoured, IsNumber}
 
 -- the marks below an end say where the property holds
@@ -107,3 +108,37 @@ set_from_test o v e = decide (option_eq nat_eq o (Some v)) e (is_set o v).0
     decide : (t : Bool) → false ≡ not t → (t ≡ true → o ≡ Some v) → o ≡ Some v
     decide true e k = k refl
     decide false e k = absurd (cc)
+
+-- marks of the places that have the value, and of those that don't
+set_at : (p : List (Option ℕ)) (value i : ℕ) → IsMarked (map (λ o. option_eq nat_eq o (Some value)) p) i ↔ (get_or p i None ≡ Some value)
+set_at [] value i = ((λ h. absurd (cc)), (λ h. absurd (cc)))
+set_at (o ∷ p) value zero = is_set o value
+set_at (o ∷ p) value (suc i) = set_at p value i
+
+open_at : (p : List (Option ℕ)) (value i : ℕ) → IsMarked (map (λ o. not (option_eq nat_eq o (Some value))) p) i
+    ↔ ((i < length p) × (get_or p i None ≡ Some value → ⊥))
+open_at [] value i = ((λ h. absurd (cc)), (λ h. absurd (let low = h.0 in omega arith)))
+open_at (o ∷ p) value zero = (
+  (λ h. (omega arith, λ e. let yes = (is_set o value).1 e in let no : true ≡ not true = sym h ∙ ap not yes in cc)),
+  (λ h. decide (option_eq nat_eq o (Some value)) (λ yes. h.1 ((is_set o value).0 yes))),
+)
+  where
+    decide : (t : Bool) → (t ≡ true → ⊥) → not t ≡ true
+    decide true k = absurd (k refl)
+    decide false k = refl
+open_at (o ∷ p) value (suc i) = (
+  (λ h. let k = (open_at p value i).0 h in (let low = k.0 in omega arith, k.1)),
+  (λ h. (open_at p value i).1 (let low = h.0 in omega arith, h.1)),
+)
+
+map_long : {A : Type 0} (g : A → Bool) (xs : List A) → length (map g xs) ≡ length xs
+map_long g [] = refl
+map_long g (x ∷ xs) = ap suc (map_long g xs)
+
+pub Marks-set : (p : List (Option ℕ)) (value : ℕ) (marks : List Bool) → marks ≡ map (λ o. option_eq nat_eq o (Some value)) p
+    → MarksWhere (IsSetTo p value) (length p) marks
+Marks-set p value marks e = subst (MarksWhere (IsSetTo p value) (length p)) (sym e) record { exact = map_long _ p; marked = set_at p value }
+
+pub Marks-open : (p : List (Option ℕ)) (value : ℕ) (marks : List Bool) → marks ≡ map (λ o. not (option_eq nat_eq o (Some value))) p
+    → MarksWhere (IsOpenTo p value) (length p) marks
+Marks-open p value marks e = subst (MarksWhere (IsOpenTo p value) (length p)) (sym e) record { exact = map_long _ p; marked = open_at p value }

@@ -1,5 +1,5 @@
 -- What marks, regions and numbers of a partial filling say.
-use Rattle.std.specs.Prelude.{◌≡◌, ◌≢◌, ℕ, ◌<◌, List, length, slice_index, slice_index_or, Option, Some, None}
+use Rattle.std.specs.Prelude.{◌≡◌, ◌≢◌, ◌↔◌, ℕ, ◌<◌, List, length, slice_index, slice_index_or, Option, Some, None}
 use Rattle.hall_grid.specs.declared.board.Size.{Size}
 use Rattle.hall_grid.specs.Board.{Board, cells, Touch}
 use Rattle.hall_grid.specs.Nurikabe.{IsNumbered}
@@ -58,6 +58,7 @@ abbrev pub IsBetween : Size → List (Option ℕ) → List (Option ℕ) → ℕ 
 IsBetween size labels owners cell = (x y a b : ℕ) × (x ≢ y) × IsBeside size labels cell x × IsBeside size labels cell y
     × (slice_index_or owners x None ≡ Some a) × (slice_index_or owners y None ≡ Some b)
 
--- two cells that are set to the value have different labels
-abbrev pub AreApart : List (Option ℕ) → ℕ → List (Option ℕ) → Type 0
-AreApart p value labels = (a b x y : ℕ) × IsSetTo p value a × IsSetTo p value b × IsLabelled labels a x × IsLabelled labels b y × (x ≢ y)
+-- the cells that are set to the value have kept their labels, and no other has one
+pub record AreKept (p : List (Option ℕ)) (value : ℕ) (old new : List (Option ℕ)) : Type 0 where
+  pub exact : length new ≡ length old
+  pub kept : (cell label : ℕ) → IsLabelled new cell label ↔ (IsLabelled old cell label × IsSetTo p value cell)

@@ -14,7 +14,7 @@ use crate::exits::{exits_of, force_exits, growing_groups, roots};
 use crate::forced::{Forced, force_label, force_walls_beside};
 use crate::judge::{WALL, WHITE};
 use crate::position::Position;
-use crate::region::{Regions, are_apart, is_between, owners, places_open_to, places_set_to};
+use crate::region::{Regions, is_between, keep_labels, owners, places_open_to, places_set_to};
 use crate::steps::steps_left;
 use hall_grid::{Clue, Puzzle, labels_differ, regions};
 use hall_solve::{Deduce, Partial, Pass, sweep};
@@ -97,8 +97,9 @@ fn are_walls_apart(alloc: Global, position: &Position) -> Result<bool, AllocErro
         → IsHopeless (question_of Nurikabe position.now.puzzle.now) position.now.partial.now) }
 {
     let open = places_open_to(alloc, position.partial, WHITE)?;
-    let labels = regions(alloc, position.puzzle.size(), &open)?;
-    Ok(are_apart(position.partial, WALL, &labels))
+    let mut labels = regions(alloc, position.puzzle.size(), &open)?;
+    keep_labels(position.partial, WALL, &mut labels);
+    Ok(labels_differ(&labels))
 }
 
 /// Forces what groups of white cells say; tells whether they leave no solution.

@@ -1,11 +1,14 @@
 //! Regions of cells of a partly filled board.
 ghost use Rattle.std.specs.Prelude.{◌≡◌, ℕ, ◌<◌, ◌⊎◌, IsTrue, IfOk, MatchOption, length, slice_index_or, None, Some};
+ghost use Rattle.std.specs.Prelude.{map, not, nat_eq};
+ghost use Rattle.std.specs.Option.{option_eq};
 ghost use Rattle.hall_grid.specs.Board.{cells, IsSize};
 ghost use Rattle.hall_grid.specs.Component.{IsLabelled};
 ghost use Rattle.hall_grid.specs.Reached.{IsMarked};
 ghost use Rattle.hall_solve.specs.Question.{Question, IsPartial};
 ghost use Rattle.hall_nurikabe.specs.Counts.{AreCells};
-ghost use Rattle.hall_nurikabe.specs.Forced.{AreApart, AreOwners, AreRegions, HaveTwoOwners, IsBetween, IsOpenTo, IsSetTo};
+ghost use Rattle.hall_nurikabe.specs.Forced.{AreKept, AreOwners, AreRegions, HaveTwoOwners};
+ghost use Rattle.hall_nurikabe.specs.Forced.{IsBetween, IsOpenTo, IsSetTo};
 ghost use Rattle.hall_nurikabe.specs.Marks.{MarksWhere};
 
 use crate::island::{count_by_label, is_number};
@@ -20,6 +23,26 @@ pub(crate) struct Regions {
     pub(crate) sizes: Vec<usize>,
 }
 
+/// For each place whether it has the value.
+fn have_value(alloc: Global, places: &[Option<u8>], value: u8) -> Result<Vec<bool>, AllocError>
+    ensures { IfOk result (λ marks. marks.items ≡ map (λ place. option_eq nat_eq place (Some value)) places.now) }
+{
+    places
+        .iter()
+        .map(|place| *place == Some(value))
+        .collect(alloc)
+}
+
+/// For each place whether it lacks the value.
+fn lack_value(alloc: Global, places: &[Option<u8>], value: u8) -> Result<Vec<bool>, AllocError>
+    ensures { IfOk result (λ marks. marks.items ≡ map (λ place. not (option_eq nat_eq place (Some value))) places.now) }
+{
+    places
+        .iter()
+        .map(|place| *place != Some(value))
+        .collect(alloc)
+}
+
 /// Which places are set to the value.
 pub(crate) fn places_set_to(
     alloc: Global,
@@ -28,11 +51,7 @@ pub(crate) fn places_set_to(
 ) -> Result<Vec<bool>, AllocError>
     ensures { IfOk result (λ marks. MarksWhere (IsSetTo partial.now value) (length partial.now) marks.items) }
 {
-    let mut marks = Vec::new(alloc);
-    for place in 0..partial.len() {
-        marks.push(partial.get(place) == Some(value))?;
-    }
-    Ok(marks)
+    have_value(alloc, partial.as_slice(), value)
 }
 
 /// Which places aren't set to the value.
@@ -43,11 +62,7 @@ pub(crate) fn places_open_to(
 ) -> Result<Vec<bool>, AllocError>
     ensures { IfOk result (λ marks. MarksWhere (IsOpenTo partial.now value) (length partial.now) marks.items) }
 {
-    let mut marks = Vec::new(alloc);
-    for place in 0..partial.len() {
-        marks.push(partial.get(place) != Some(value))?;
-    }
-    Ok(marks)
+    lack_value(alloc, partial.as_slice(), value)
 }
 
 impl Regions {
@@ -134,21 +149,14 @@ fn owned_label(
     Some(label)
 }
 
-/// Whether two places that are set to the value have different labels.
-pub(crate) fn are_apart(partial: &Partial, value: u8, labels: &[Option<usize>]) -> bool
-    requires { length labels.now ≡ length partial.now }
-    ensures { IsTrue result → AreApart partial.now value labels.now }
+/// Takes their labels from the places that aren't set to the value.
+pub(crate) fn keep_labels(partial: &Partial, value: u8, labels: &mut [Option<usize>])
+    requires { length labels.old ≡ length partial.now }
+    ensures { AreKept partial.now value labels.old labels.new }
 {
-    let mut first = None;
     for place in 0..labels.len() {
-        if partial.get(place) == Some(value) {
-            if let Some(label) = labels[place] {
-                match first {
-                    Some(other) if other != label => return true,
-                    _ => first = Some(label),
-                }
-            }
+        if partial.get(place) != Some(value) {
+            labels[place] = None;
         }
     }
-    false
 }

@@ -9,3 +9,4 @@ pub mod LineEnd
 pub mod HaveEnds
 pub mod IsLayout
 pub mod LayoutQuestion
+pub mod AreSilent

@@ -2,15 +2,16 @@
 use Rattle.std.specs.Prelude.{◌≡◌, ◌↔◌, ◌⊎◌, ℕ, Bool, IsTrue, List, Option, length, slice_index, slice_index_or}
 use Rattle.hall_grid.specs.declared.board.Kind.TheVariants.{Slither}
 use Rattle.hall_grid.specs.Board.{Board, IsBoard}
-use Rattle.hall_grid.specs.Slither.{all_sides, dots, ends, IsLine, ShareDot, HasOtherCount}
-use Rattle.hall_grid.specs.Component.{IsLabelled, AreComponents, LabelsDiffer}
+use Rattle.hall_grid.specs.Slither.{all_sides, dots, ends, HasOtherCount}
+use Rattle.hall_grid.specs.Component.{IsLabelled, LabelsDiffer}
 use Rattle.hall_solve.specs.Question.{Question}
 use Rattle.hall_slither.specs.declared.chain.Ends.{Ends}
 use Rattle.hall_slither.specs.declared.chain.Ends.TheVariants.{Closed, Two}
-use Rattle.hall_slither.specs.Chain.{HaveEnds}
+use Rattle.hall_slither.specs.Chain.{AreChains, HaveEnds}
 use Rattle.hall_solve.specs.Puzzle.{IsRight}
 
--- a puzzle, its lines so far, a label for each line's chain, the ends of each chain, whether there are several, and whether one is a loop
+-- a puzzle, its lines so far, a label for each line's chain, the ends of each chain, whether there are several,
+-- and whether one is a loop
 pub record Layout : Type 0 where
   pub board : Board
   pub lines : List ℕ
@@ -18,6 +19,11 @@ pub record Layout : Type 0 where
   pub ends : List Ends
   pub apart : Bool
   pub closed : Bool
+
+-- the layout of these parts
+abbrev pub layout_of : Board → List ℕ → List (Option ℕ) → List Ends → Bool → Bool → Layout
+layout_of board lines labels ends apart closed =
+    record { board = board; lines = lines; labels = labels; ends = ends; apart = apart; closed = closed }
 
 -- the chain with this label is a loop
 abbrev pub IsClosed : List (Option ℕ) → List Ends → ℕ → Type 0
@@ -31,14 +37,15 @@ pub record IsLayout (layout : Layout) : Type 0 where
   pub kind : layout.board.kind ≡ Slither
   pub board : IsBoard layout.board
   pub exact : length layout.lines ≡ all_sides layout.board.size
-  pub components : AreComponents (all_sides layout.board.size) (ShareDot layout.board.size) (IsLine layout.board.size layout.lines) layout.labels
+  pub components : AreChains layout.board.size layout.lines layout.labels
   pub ends : HaveEnds layout.board.size layout.lines layout.labels (dots layout.board.size) layout.ends
   pub apart : IsTrue layout.apart ↔ LabelsDiffer layout.labels
   pub closed : IsTrue layout.closed ↔ HasLoop layout.labels layout.ends
 
 -- a loop beside another chain, or with a number that differs from the count of lines
 abbrev pub HasWrongLoop : Layout → Type 0
-HasWrongLoop layout = HasLoop layout.labels layout.ends × (LabelsDiffer layout.labels ⊎ HasOtherCount layout.board layout.lines)
+HasWrongLoop layout = HasLoop layout.labels layout.ends
+    × (LabelsDiffer layout.labels ⊎ HasOtherCount layout.board layout.lines)
 
 -- the filling has the lines
 abbrev pub HasLines : List ℕ → List ℕ → Type 0
@@ -47,7 +54,11 @@ HasLines lines f = (s : ℕ) → slice_index lines s ≡ 1 → slice_index f s �
 -- the question with the lines given
 abbrev pub layout_question : Layout → Question
 layout_question layout =
-    record { cells = all_sides layout.board.size; values = 2; right = λ f. IsRight layout.board f × HasLines layout.lines f }
+    record {
+      cells = all_sides layout.board.size;
+      values = 2;
+      right = λ f. IsRight layout.board f × HasLines layout.lines f;
+    }
 
 -- the side joins the two ends of one chain
 abbrev pub Closes : Layout → ℕ → Type 0

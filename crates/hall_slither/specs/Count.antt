@@ -1,5 +1,6 @@
 -- Counts of lines at dots and round cells, and what follows from them for the open sides.
-use Rattle.std.specs.Prelude.{◌≡◌, ◌⊎◌, ℕ, ◌+◌, ◌*◌, ◌<◌, ◌≤◌, ◌==◌, Bool, false, List, Option, Some, None, Contains, slice_index, slice_get, slice_index_or, is_none, map}
+use Rattle.std.specs.Prelude.{◌≡◌, ◌⊎◌, ℕ, ◌+◌, ◌*◌, ◌<◌, ◌≤◌, ◌==◌, Bool, false, List, Option, Some, None}
+use Rattle.std.specs.Prelude.{Contains, slice_index, slice_get, slice_index_or, is_none, map}
 use Rattle.std.specs.List.{sum_by}
 use Rattle.hall_grid.specs.declared.board.Size.{Size}
 use Rattle.hall_grid.specs.declared.board.Clue.{Clue}
@@ -51,8 +52,9 @@ Meets (Exactly number) n = n ≡ number
 abbrev pub IsPossible : Demand → ℕ → ℕ → Type 0
 IsPossible demand least end = (n : ℕ) × (least ≤ n) × (n < end) × Meets demand n
 
--- so many are lines and so many open: what each count between says of the open ones; nothing only where some count is as demanded,
--- and, where any is open, also one with more lines than so far, and one that leaves some of them without
+-- so many are lines and so many open: what each count between says of the open ones; nothing only where some
+-- count is as demanded, and, where any is open, also one with more lines than so far, and one that leaves some
+-- of them without
 abbrev pub Follows : Demand → ℕ → ℕ → Consequence → Type 0
 Follows demand lines unset Nothing =
     IsPossible demand lines (lines + unset + 1)

@@ -1,5 +1,6 @@
 -- The sides at a dot, and counts of sides.
-use Rattle.std.specs.Prelude.{ℕ, ◌+◌, ◌-◌, ◌/◌, ◌%◌, Bool, List, [], ◌∷◌, Option, Some, None, if◌then◌else◌, nat_lt, ◌<◌, All, IfSome}
+use Rattle.std.specs.Prelude.{ℕ, ◌+◌, ◌-◌, ◌/◌, ◌%◌, ◌<◌, nat_lt, Bool, if◌then◌else◌, List, [], ◌∷◌, All}
+use Rattle.std.specs.Prelude.{Option, Some, None, IfSome}
 use Rattle.hall_grid.specs.declared.board.Size.{Size}
 use Rattle.hall_grid.specs.Slither.{flat_side, upright_side}
 

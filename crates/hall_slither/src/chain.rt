@@ -1,10 +1,9 @@
 //! Chains of lines and their loose ends.
-ghost use Rattle.std.specs.Prelude.{◌≡◌, ◌<◌, ◌≤◌, ◌↔◌, ℕ, true, slice_index, IfOk, IfSome, IfNone, Some, Contains, length};
+ghost use Rattle.std.specs.Prelude.{◌≡◌, ◌<◌, ◌≤◌, ℕ, slice_index, IfOk, IfSome, IfNone, Some, Contains, length};
 ghost use Rattle.hall_grid.specs.Board.{IsSize};
-ghost use Rattle.hall_grid.specs.Slither.{all_sides, dots, degree, IsLine, ShareDot};
-ghost use Rattle.hall_grid.specs.Component.{AreComponents};
+ghost use Rattle.hall_grid.specs.Slither.{all_sides, dots, degree};
 ghost use Rattle.hall_slither.specs.Dot.{AreBelow};
-ghost use Rattle.hall_slither.specs.Chain.{AreLines, Touches, HaveEnds, with_end};
+ghost use Rattle.hall_slither.specs.Chain.{AreChains, AreLines, Touches, HaveEnds, with_end};
 
 use crate::dot::{degree, dot_count, sides_at};
 use hall_grid::Size;
@@ -67,7 +66,7 @@ pub(crate) fn first_line(lines: &[u8], sides: &[Option<usize>]) -> Option<usize>
 fn label_ending_at(size: Size, lines: &[u8], labels: &[Option<usize>], dot: usize) -> Option<usize>
     requires size { IsSize size }
     requires lines { length lines.now ≡ all_sides size }
-    requires labels { AreComponents (all_sides size) (ShareDot size) (IsLine size lines.now) labels.now }
+    requires labels { AreChains size lines.now labels.now }
     requires board { dot < dots size }
     ensures some { IfSome result (λ label. (label < length labels.now) × Touches size labels.now label dot) }
     ensures none { IfNone result ((label : ℕ) → Touches size labels.now label dot → 2 ≤ degree size lines.now dot) }
@@ -90,7 +89,7 @@ pub(crate) fn chain_ends(
 ) -> Result<Vec<Ends>, AllocError>
     requires size { IsSize size }
     requires lines { length lines.now ≡ all_sides size }
-    requires labels { AreComponents (all_sides size) (ShareDot size) (IsLine size lines.now) labels.now }
+    requires labels { AreChains size lines.now labels.now }
     ensures { IfOk result (λ ends. HaveEnds size lines.now labels.now (dots size) ends.items) }
 {
     let mut ends = vec![in alloc; Ends::Closed; labels.len()]?;

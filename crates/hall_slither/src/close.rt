@@ -33,11 +33,12 @@ impl<'a> Model for Chains<'a> {
 
     ghost Value = { Layout };
 
-    ghost use Rattle.hall_slither.specs.Close.{IsLayout};
+    ghost use Rattle.hall_slither.specs.Close.{IsLayout, layout_of};
 
-    ghost view = { λ c. record { board = c.puzzle.now; lines = c.lines.items; labels = c.labels.items; ends = c.ends.items; apart = c.apart; closed = c.closed } };
+    ghost view = { λ c. layout_of c.puzzle.now c.lines.items c.labels.items c.ends.items c.apart c.closed };
 
-    ghost invariant = { λ c. IsLayout (record { board = c.puzzle.now; lines = c.lines.items; labels = c.labels.items; ends = c.ends.items; apart = c.apart; closed = c.closed }) };
+    ghost invariant = { λ c.
+        IsLayout (layout_of c.puzzle.now c.lines.items c.labels.items c.ends.items c.apart c.closed) };
 }
 
 /// Whether a chain is a loop.
@@ -96,7 +97,8 @@ impl<'a> Chains<'a> {
         })
     }
 
-    /// Whether there is a loop that isn't all of a solution: beside another chain, or with a number that differs from the count of lines.
+    /// Whether there is a loop that isn't all of a solution: beside another chain, or with a number that
+    /// differs from the count of lines.
     fn has_wrong_loop(&self) -> bool
         ensures wrong { IsTrue result ↔ HasWrongLoop self.now }
         ensures hopeless { IsTrue result → (p : List (Option ℕ)) → IsHopeless (layout_question self.now) p }

@@ -3,7 +3,8 @@ ghost use Rattle.std.specs.Prelude.{◌≡◌, ℕ, ◌+◌, ◌*◌, ◌<◌, �
 ghost use Rattle.hall_grid.specs.Board.{IsSize, cells};
 ghost use Rattle.hall_grid.specs.Slither.{all_sides, dots, is_line};
 ghost use Rattle.hall_solve.specs.Question.{IsPartial};
-ghost use Rattle.hall_slither.specs.Count.{IsCentre, sides_round, count_sides, has_line, is_open, Meets, Follows, IsTold, demand_of, IsSilent};
+ghost use Rattle.hall_slither.specs.Count.{IsCentre, sides_round, count_sides, has_line, is_open};
+ghost use Rattle.hall_slither.specs.Count.{Meets, Follows, IsTold, demand_of, IsSilent};
 ghost use Rattle.hall_slither.specs.Dot.{AreBelow};
 ghost use Rattle.hall_solve.specs.Puzzle.{IsRight, question_of};
 
@@ -62,7 +63,8 @@ pub(crate) fn demand_at(puzzle: &Puzzle, centre: Centre) -> Demand
     requires size { IsSize puzzle.now.size }
     requires centre { IsCentre puzzle.now.size centre }
     ensures demand { result ≡ demand_of puzzle.now centre }
-    ensures meets { (f : List ℕ) → IsRight puzzle.now f → Meets result (count_sides (is_line f) (sides_round puzzle.now.size centre)) }
+    ensures meets { (f : List ℕ) → IsRight puzzle.now f
+        → Meets result (count_sides (is_line f) (sides_round puzzle.now.size centre)) }
 {
     match centre {
         Centre::Dot(_) => Demand::Through,
@@ -137,7 +139,8 @@ pub(crate) fn consequence_at(puzzle: &Puzzle, partial: &Partial, centre: Centre)
     requires kind { puzzle.now.kind ≡ Kind.Slither }
     requires partial { IsPartial (question_of Kind.Slither puzzle.now) partial.now }
     requires centre { IsCentre puzzle.now.size centre }
-    ensures told { IsTold (question_of Kind.Slither puzzle.now) partial.now (sides_round puzzle.now.size centre) result }
+    ensures told { IsTold (question_of Kind.Slither puzzle.now) partial.now
+        (sides_round puzzle.now.size centre) result }
     ensures silent { result ≡ Consequence.Nothing → IsSilent puzzle.now partial.now centre }
 {
     let (lines, unset) = lines_and_open(partial, &sides_round(puzzle.size(), centre));

@@ -69,7 +69,8 @@ pub(crate) fn sides_beside(size: Size, side: usize) -> [Option<usize>; 6]
     requires board { side < all_sides size }
     ensures below { (other : ℕ) → Contains result (Some other) → other < all_sides size }
     ensures share { (other : ℕ) → Contains result (Some other) → ShareDot size side other }
-    ensures all { (other : ℕ) → ShareDot size side other → other < all_sides size → (other ≡ side) ⊎ Contains result (Some other) }
+    ensures all { (other : ℕ) → ShareDot size side other → other < all_sides size
+        → (other ≡ side) ⊎ Contains result (Some other) }
 {
     let (first, second) = dot_ends(size, side);
     let [up, left, right, down] = sides_at(size, first);

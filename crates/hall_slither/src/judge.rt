@@ -70,8 +70,10 @@ pub(crate) fn has_other_count(puzzle: &Puzzle, lines: &[u8]) -> bool
     false
 }
 
-/// The names of the rules that the filling breaks: S1 where there is no line, S2 where a dot has one line, S3 where a dot has three or four,
-/// S4 where a number isn't the count of lines on its cell's four sides, S5 where the lines aren't all joined. The one error is want of memory.
+/// The names of the rules that the filling breaks. The one error is want of memory.
+///
+/// S1: there is no line; S2: a dot has one line; S3: a dot has three or four; S4: a number isn't the count
+/// of lines on its cell's four sides; S5: the lines aren't all joined.
 pub fn broken(alloc: Global, puzzle: &Puzzle, filling: &Filling) -> Result<Broken, AllocError>
     requires kind { puzzle.now.kind ≡ Kind.Slither }
     requires filling { IsFilling puzzle.now filling.now }

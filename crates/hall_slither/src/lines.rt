@@ -2,7 +2,7 @@
 ghost use Rattle.std.specs.Prelude.{◌≡◌, ◌↔◌, ◌⊎◌, ◌<◌, ℕ, IsTrue, IfOk, length, Contains};
 ghost use Rattle.hall_grid.specs.Board.{IsSize};
 ghost use Rattle.hall_grid.specs.Slither.{all_sides, IsLine, ShareDot, HasLinesApart};
-ghost use Rattle.hall_grid.specs.Component.{AreComponents};
+ghost use Rattle.hall_slither.specs.Chain.{AreChains};
 
 use crate::dot::sides_beside;
 use hall_grid::{Graph, Size, components, labels_differ};
@@ -49,7 +49,7 @@ pub(crate) fn line_labels(
 ) -> Result<Vec<Option<usize>>, AllocError>
     requires size { IsSize size }
     requires lines { length lines.now ≡ all_sides size }
-    ensures { IfOk result (λ labels. AreComponents (all_sides size) (ShareDot size) (IsLine size lines.now) labels.items) }
+    ensures { IfOk result (λ labels. AreChains size lines.now labels.items) }
 {
     components(alloc, &Lines { size, lines })
 }

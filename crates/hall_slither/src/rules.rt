@@ -3,6 +3,7 @@ ghost use Rattle.std.specs.Prelude.{◌≡◌, ◌<◌, IsTrue, IfOk, Some, slic
 ghost use Rattle.hall_grid.specs.declared.board.Kind.TheVariants.{Slither};
 ghost use Rattle.hall_solve.specs.Question.{IsPartial, IsOpen, IsHopeless};
 ghost use Rattle.hall_solve.specs.Puzzle.{question_of, start_of, AllExtend};
+ghost use Rattle.hall_slither.specs.Count.{AreSilent};
 
 use crate::close::close_chains;
 use crate::follow::follow_counts;
@@ -36,6 +37,8 @@ impl<'a> Model for Deductions<'a> {
 
 impl<'a> Deduce for Deductions<'a> {
     ghost question = { question_of Slither };
+
+    ghost settled = { AreSilent };
 
     fn pass(&self, alloc: Global, partial: &mut Partial) -> Result<Pass, AllocError> {
         match follow_counts(alloc, self.puzzle, partial)? {
@@ -76,7 +79,8 @@ impl<'a> Trials<'a> {
         requires partial { IsPartial (question_of Kind.Slither self.now) partial.now }
         requires side { IsOpen partial.now side }
         requires value { value < 2 }
-        ensures { IfOk result (λ fails. IsTrue fails → IsHopeless (question_of Kind.Slither self.now) (slice_set partial.now side (Some value))) }
+        ensures { IfOk result (λ fails. IsTrue fails
+            → IsHopeless (question_of Kind.Slither self.now) (slice_set partial.now side (Some value))) }
     {
         let mut trial = partial.copy()?;
         trial.set(side, value);
@@ -111,6 +115,8 @@ impl<'a> Look for Trials<'a> {
 
 impl<'a> Deduce for Trials<'a> {
     ghost question = { question_of Slither };
+
+    ghost settled = { AreSilent };
 
     fn pass(&self, alloc: Global, partial: &mut Partial) -> Result<Pass, AllocError> {
         match self.deductions.pass(alloc, partial)? {
@@ -161,6 +167,8 @@ impl<'a> SlitherRules<'a> {
 
 impl<'a> Rules for SlitherRules<'a> {
     ghost question = { λ r. question_of Slither r.board };
+
+    ghost settled = { λ r. AreSilent r.board };
 
     ghost visits = { λ r. r.visits };
 

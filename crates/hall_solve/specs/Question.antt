@@ -1,5 +1,6 @@
 -- What a search is asked, and which fillings solve it.
-use Rattle.std.specs.Prelude.{◌≡◌, ◌↔◌, ◌≢◌, ℕ, ◌+◌, ◌^◌, ◌<◌, List, Option, Some, None, length, slice_index, slice_index_or, is_none, count_by, zero, suc}
+use Rattle.std.specs.Prelude.{◌≡◌, ◌↔◌, ◌≢◌, ℕ, zero, suc, ◌+◌, ◌^◌, ◌<◌, List, Option, Some, None}
+use Rattle.std.specs.Prelude.{length, slice_index, slice_index_or, is_none, count_by}
 
 -- how many places there are, how many values a place may have, and which whole fillings are right
 pub record Question : Type 1 where

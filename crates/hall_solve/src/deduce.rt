@@ -99,7 +99,8 @@ pub fn settle<D: Deduce>(
     partial: &mut Partial,
 ) -> Result<Step, AllocError>
     requires { IsPartial (D.question deductions.now) partial.old }
-    ensures live { IfOk result (λ step. step ≡ Step.Live → Narrows (D.question deductions.now) partial.old partial.new) }
+    ensures live { IfOk result (λ step. step ≡ Step.Live
+        → Narrows (D.question deductions.now) partial.old partial.new) }
     ensures settled { IfOk result (λ step. step ≡ Step.Live → D.settled deductions.now partial.new) }
     ensures dead { IfOk result (λ step. step ≡ Step.Dead → IsHopeless (D.question deductions.now) partial.old) }
     ensures err { OnErr result (Narrows (D.question deductions.now) partial.old partial.new) }

@@ -28,7 +28,8 @@ pub fn search<R: Rules>(
     // How many visits it made.
     ensures spent { IfOk result (λ o. o ≡ Outcome.GaveUp → R.visits rules.new ≡ budget) }
     ensures took { IfOk result (λ o. fewest_visits o ≤ R.visits rules.new) }
-    ensures frugal { IfOk result (λ _. R.visits rules.new ≤ plain_tree (R.question rules.old).values (open_places start.now)) }
+    ensures frugal { IfOk result
+        (λ _. R.visits rules.new ≤ plain_tree (R.question rules.old).values (open_places start.now)) }
     ensures within { R.visits rules.new ≤ budget }
     ensures at_visits { R.asked rules.new ≤ R.visits rules.new }
 
@@ -48,7 +49,8 @@ fn explore<R: Rules>(
     requires partial { IsPartial (R.question rules.old) partial }
     requires within { R.visits rules.old ≤ budget }
     requires at_visits { R.asked rules.old ≤ R.visits rules.old }
-    ensures explored { IfOk result (Explored (R.question rules.old) partial budget (R.visits rules.old) (R.visits rules.new)) }
+    ensures explored { IfOk result
+        (Explored (R.question rules.old) partial budget (R.visits rules.old) (R.visits rules.new)) }
     ensures stops { R.visits rules.old ≡ budget → IfOk result (λ o. o ≡ Outcome.GaveUp) }
     ensures within { R.visits rules.new ≤ budget }
     ensures at_visits { R.asked rules.new ≤ R.visits rules.new }

@@ -1,6 +1,7 @@
 //! Boards on which some places are set.
 ghost use Rattle.hall_solve.specs.Question.{Extends, IsOpen, IsWhole};
-ghost use Rattle.std.specs.Prelude.{◌≡◌, ◌≢◌, ℕ, ◌<◌, List, Option, Some, None, IfOk, IfSome, IfNone, length, replicate, slice_index_or, slice_set};
+ghost use Rattle.std.specs.Prelude.{◌≡◌, ◌≢◌, ℕ, ◌<◌, List, Option, Some, None, IfOk, IfSome, IfNone};
+ghost use Rattle.std.specs.Prelude.{length, replicate, slice_index_or, slice_set};
 
 use hall_grid::Filling;
 use std::alloc::{AllocError, Global};
@@ -35,6 +36,13 @@ impl Partial {
         ensures { result ≡ length self.now }
     {
         self.places.len()
+    }
+
+    /// What each place has.
+    pub fn as_slice(&self) -> &[Option<u8>]
+        ensures { result.now ≡ self.now }
+    {
+        &self.places
     }
 
     /// What the place has.

@@ -1,6 +1,7 @@
 //! What a kind of puzzle tells a search.
 ghost use Rattle.std.specs.Prelude.{◌≡◌, ◌↔◌, ℕ, ◌+◌, ◌-◌, ◌^◌, ◌<◌, List, Option, IfOk, OnErr, IfSome, IfNone, IsTrue};
-ghost use Rattle.hall_solve.specs.Question.{Question, IsSame, IsFilling, IsPartial, IsHopeless, IsOpen, IsWhole, Narrows};
+ghost use Rattle.hall_solve.specs.Question.{Question, IsSame, IsFilling, IsPartial};
+ghost use Rattle.hall_solve.specs.Question.{IsHopeless, IsOpen, IsWhole, Narrows};
 
 use crate::partial::Partial;
 use hall_grid::Filling;
@@ -20,7 +21,8 @@ pub trait Rules {
     /// What is to be solved.
     ghost question: { Self → Question };
 
-    /// The partial fillings of which `propagate` leaves no deduction to apply; it says nothing where a kind doesn't give it.
+    /// What `propagate` leaves where it finds no more: no deduction of these to apply.
+    /// It says nothing where a kind doesn't give it.
     ghost settled: { Self → List (Option ℕ) → Type 0 } = { λ _ _. Unit {0} };
 
     /// How often `propagate` was called.

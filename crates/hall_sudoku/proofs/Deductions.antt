@@ -10,8 +10,8 @@ use Rattle.hall_sudoku.specs.Values.{Has}
 use Rattle.hall_sudoku.specs.Units.{units_question}
 use Rattle.hall_sudoku.specs.declared.singles.Shared.{Shared}
 use Rattle.hall_sudoku.specs.declared.candidates.Taken.{Taken}
-use Rattle.hall_sudoku.specs.Settled.{StandsIn}
-use Rattle.hall_sudoku.specs.Candidates.{Clashes, IsLeft, AreCandidates, AreShared, AreAllShared, IsMissing, IsSole, AreAllTaken}
+use Rattle.hall_sudoku.specs.Settled.{StandsIn, Clashes}
+use Rattle.hall_sudoku.specs.Candidates.{IsLeft, AreCandidates, AreShared, AreAllShared, IsMissing, IsSole, AreAllTaken}
 use Rattle.hall_sudoku.proofs.Sizes.{IsUnit, IsSquare, row_unit, column_unit, box_unit, box_cell}
 use Rattle.hall_sudoku.proofs.Pigeons.{no_value_missing}
 

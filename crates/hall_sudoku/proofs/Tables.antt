@@ -9,8 +9,8 @@ use Rattle.hall_grid.specs.Board.{cells}
 use Rattle.hall_solve.specs.Question.{IsOpen}
 use Rattle.hall_sudoku.specs.Values.{Has}
 use Rattle.hall_sudoku.specs.Units.{IsDivision}
-use Rattle.hall_sudoku.specs.Settled.{StandsIn}
-use Rattle.hall_sudoku.specs.Candidates.{AreTaken, Clashes, IsSeenTwice, AreSeen, AreShared, AreComplete, IsMissing, Lacks, LacksNothing}
+use Rattle.hall_sudoku.specs.Settled.{StandsIn, Clashes}
+use Rattle.hall_sudoku.specs.Candidates.{AreTaken, IsSeenTwice, AreSeen, AreShared, AreComplete, IsMissing, Lacks, LacksNothing}
 
 -- what indexing read is the set at the place
 pub read_has : (xs : List ℕ) (k d v : ℕ) → k < length xs → Has (get_or xs k d) v ↔ Has (get_or xs k 0) v
@@ -76,6 +76,29 @@ takes_more unit p n w y taken takes small at_n old new cell v lt at =
       | inr ne ↦ old v (subst (λ x. Has (get_or taken x 0) v) e (takes cell v (omega arith) at))
     ])
     (λ ne. takes cell v (let other : cell ≢ n = (λ same. ne (ap unit same)) in omega arith) at)
+
+-- no two of the first n cells of one unit have the same value
+abbrev pub ApartBelow : (ℕ → ℕ) → List (Option ℕ) → ℕ → Type 0
+ApartBelow unit p n = (h : Clashes unit p) → h.cell < n → ⊥
+
+pub apart_skip : (unit : ℕ → ℕ) (p : List (Option ℕ)) (n : ℕ) → ApartBelow unit p n → get_or p n None ≡ None → ApartBelow unit p (n + 1)
+apart_skip unit p n apart unset h lt =
+    elim (cases_eq h.cell n) [
+      | inl e ↦ (let clash : None ≡ Some h.value = sym unset ∙ ap (λ c. get_or p c None) (sym e) ∙ h.value_is in cc)
+      | inr ne ↦ apart h (omega arith)
+    ]
+
+pub apart_more : (unit : ℕ → ℕ) (p : List (Option ℕ)) (n w : ℕ) (taken : List ℕ) → ApartBelow unit p n → TakesBelow unit p n taken → get_or p n None ≡ Some w
+    → (Has (get_or taken (unit n) 0) w → ⊥) → ApartBelow unit p (n + 1)
+apart_more unit p n w taken apart takes at_n fresh h lt =
+    elim (cases_eq h.cell n) [
+      | inl e ↦
+          let two : Some w ≡ Some h.value = sym at_n ∙ ap (λ c. get_or p c None) (sym e) ∙ h.value_is in
+          let is_v : h.value ≡ w = cc in
+          let there : Has (get_or taken (unit h.other.cell) 0) h.value = takes h.other.cell h.value (omega (arith, h.before)) h.other.value_is in
+          fresh (subst (λ x. Has (get_or taken (unit n) 0) x) is_v (subst (λ a. Has (get_or taken a 0) h.value) (h.other.unit_is ∙ ap unit e) there))
+      | inr ne ↦ apart h (omega arith)
+    ]
 
 pub taken_both : (unit : ℕ → ℕ) (p : List (Option ℕ)) (n : ℕ) (taken : List ℕ) → length p ≤ n → TakenBelow unit p n taken → TakesBelow unit p n taken → AreTaken unit p taken
 taken_both unit p n taken all below takes at v = (
@@ -233,6 +256,18 @@ module _ (size : Size) (unit : ℕ → ℕ) (units : List ℕ) (d : IsDivision s
         other = record { cell = s.cell; within = s.within; unit_is = sym (d.units_are s.cell (omega (arith, s.within))) ∙ s.unit_is ∙ d.units_are h.cell (omega (arith, h.within)); value_is = s.value_is };
         before = h.before;
       }
+
+  pub apart_of : (p : List (Option ℕ)) → length p ≡ cells size → (Clashes (λ c. get_or units c 0) p → ⊥) → Clashes unit p → ⊥
+  apart_of p exact apart h =
+      let s = h.other in
+      apart (record {
+        cell = h.cell;
+        value = h.value;
+        within = h.within;
+        value_is = h.value_is;
+        other = record { cell = s.cell; within = s.within; unit_is = d.units_are s.cell (omega (arith, s.within)) ∙ s.unit_is ∙ sym (d.units_are h.cell (omega (arith, h.within))); value_is = s.value_is };
+        before = h.before;
+      })
 
   pub shared_of : (candidates shared : List ℕ) → AreShared (λ c. get_or units c 0) (length units) candidates shared → AreShared unit (cells size) candidates shared
   shared_of candidates shared h = record {

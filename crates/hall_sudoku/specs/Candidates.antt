@@ -1,5 +1,5 @@
 -- Sets of values that cells may still have.
-use Rattle.std.specs.Prelude.{◌≡◌, ◌⊎◌, ◌↔◌, ℕ, ◌<◌, List, Option, Some, None, length, slice_index, slice_index_or}
+use Rattle.std.specs.Prelude.{◌≡◌, ◌⊎◌, ◌↔◌, ℕ, ◌<◌, List, Option, Some, None, slice_index, slice_index_or}
 use Rattle.hall_grid.specs.declared.board.Size.{Size}
 use Rattle.hall_grid.specs.Board.{cells, row, col}
 use Rattle.hall_grid.specs.Sudoku.{box}
@@ -13,15 +13,6 @@ use Rattle.hall_sudoku.specs.Units.{units_question}
 -- each unit's set has what stands in the unit
 abbrev pub AreTaken : (ℕ → ℕ) → List (Option ℕ) → List ℕ → Type 0
 AreTaken unit p taken = (at value : ℕ) → Has (slice_index taken at) value ↔ StandsIn unit p at value
-
--- two cells of one unit have the same value
-pub record Clashes (unit : ℕ → ℕ) (p : List (Option ℕ)) : Type 0 where
-  pub cell : ℕ
-  pub value : ℕ
-  pub within : cell < length p
-  pub value_is : slice_index_or p cell None ≡ Some value
-  pub other : StandsIn unit p (unit cell) value
-  pub before : other.cell < cell
 
 pub record AreAllTaken (size : Size) (p : List (Option ℕ)) (taken : Taken) : Type 0 where
   pub rows : AreTaken (row size) p taken.rows
@@ -68,7 +59,8 @@ pub record AreSeen (unit : ℕ → ℕ) (n : ℕ) (candidates seen : List ℕ) :
 
 -- each unit's set has what two of the first n cells may have there
 pub record AreShared (unit : ℕ → ℕ) (n : ℕ) (candidates shared : List ℕ) : Type 0 where
-  pub all : (a b v : ℕ) → a < b → b < n → unit a ≡ unit b → Has (slice_index candidates a) v → Has (slice_index candidates b) v → Has (slice_index shared (unit a)) v
+  pub all : (a b v : ℕ) → a < b → b < n → unit a ≡ unit b
+      → Has (slice_index candidates a) v → Has (slice_index candidates b) v → Has (slice_index shared (unit a)) v
   pub alone : (at v : ℕ) → Has (slice_index shared at) v → IsSeenTwice unit n candidates at v
 
 -- each value below the side is seen in each unit
@@ -122,4 +114,5 @@ pub record HasNoSole (size : Size) (candidates : List ℕ) (shared : Shared) (ce
 
 -- no open cell has a value that follows
 abbrev pub HaveNoSole : Size → List (Option ℕ) → List ℕ → Shared → Type 0
-HaveNoSole size p candidates shared = (cell : ℕ) → cell < cells size → slice_index_or p cell None ≡ None → HasNoSole size candidates shared cell
+HaveNoSole size p candidates shared = (cell : ℕ) → cell < cells size → slice_index_or p cell None ≡ None
+    → HasNoSole size candidates shared cell

@@ -3,7 +3,8 @@ ghost use Rattle.std.specs.Prelude.{◌≡◌, ◌<◌, ◌≤◌, ℕ, Some, No
 ghost use Rattle.hall_grid.specs.Board.{cells};
 ghost use Rattle.hall_solve.specs.Question.{IsPartial, IsHopeless, IsOpen, IsWhole};
 ghost use Rattle.hall_sudoku.specs.Units.{units_question};
-ghost use Rattle.hall_sudoku.specs.Candidates.{AreTaken, AreAllTaken, Clashes, IsLeft, AreCandidates, AreFilled};
+ghost use Rattle.hall_sudoku.specs.Settled.{Clashes, HaveNoClash};
+ghost use Rattle.hall_sudoku.specs.Candidates.{AreTaken, AreAllTaken, IsLeft, AreCandidates, AreFilled};
 
 use crate::units::{MOST_CELLS, MOST_UNITS, Units};
 use crate::values::Values;
@@ -24,6 +25,7 @@ fn taken_in(units: &[u8], partial: &Partial) -> Option<[Values; MOST_UNITS]>
     requires values { (cell v : ℕ) → slice_index_or partial.now cell None ≡ Some v → v < 32 }
     ensures size { IfSome result (λ t. length t ≡ MOST_UNITS) }
     ensures some { IfSome result (AreTaken (slice_index units.now) partial.now) }
+    ensures apart { IfSome result (λ _. Clashes (slice_index units.now) partial.now → ⊥) }
     ensures none { IfNone result (Clashes (slice_index units.now) partial.now) }
 {
     let mut taken = [Values::none(); MOST_UNITS];
@@ -65,6 +67,7 @@ pub(crate) fn candidates(units: &Units, partial: &Partial) -> Option<[Values; MO
     ensures room { IfSome result (λ c. cells units.now ≤ length c) }
     ensures some { IfSome result (AreCandidates units.now partial.now) }
     ensures filled { IfSome result (AreFilled units.now) }
+    ensures apart { IfSome result (λ _. HaveNoClash units.now partial.now) }
     ensures none { IfNone result (IsHopeless (units_question units.now) partial.now) }
 {
     let taken = Taken {

@@ -6,7 +6,8 @@ ghost use Rattle.hall_solve.specs.Deduction.{HasAlways, IsDeduced};
 ghost use Rattle.hall_sudoku.specs.Units.{units_question};
 ghost use Rattle.hall_sudoku.specs.Settled.{IsSettled};
 ghost use Rattle.hall_sudoku.specs.Candidates.{AreCandidates, AreFilled, AreSeen, AreShared, AreAllShared, AreComplete};
-ghost use Rattle.hall_sudoku.specs.Candidates.{AreAllComplete, IsMissing, Lacks, LacksNothing, IsSole, HasNoSole, HaveNoSole};
+ghost use Rattle.hall_sudoku.specs.Candidates.{AreAllComplete, IsMissing, Lacks, LacksNothing};
+ghost use Rattle.hall_sudoku.specs.Candidates.{IsSole, HasNoSole, HaveNoSole};
 
 use crate::candidates::candidates;
 use crate::units::{MOST_UNITS, Units};

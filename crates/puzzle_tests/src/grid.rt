@@ -7,12 +7,22 @@ use std::io;
 use std::io::{Read, Write};
 use std::test::Fail;
 
+fn written(alloc: Global, puzzle: &Puzzle) -> Result<String, TextFault> {
+    Ok(write_puzzle(alloc, puzzle)?)
+}
+
+fn named(alloc: Global, fault: TextFault) -> Result<String, TextFault> {
+    match fault {
+        TextFault::Memory => Err(TextFault::Memory),
+        fault => Ok(fault.to_string(alloc)?),
+    }
+}
+
 /// The canonical text of the puzzle of a text, or why there is none, as it is written.
 fn rewritten(alloc: Global, text: &[u8]) -> Result<String, TextFault> {
     match parse_puzzle(alloc, text) {
-        Ok(puzzle) => Ok(write_puzzle(alloc, &puzzle)?),
-        Err(TextFault::Memory) => Err(TextFault::Memory),
-        Err(fault) => Ok(fault.to_string(alloc)?),
+        Ok(puzzle) => written(alloc, &puzzle),
+        Err(fault) => named(alloc, fault),
     }
 }
 

@@ -255,7 +255,9 @@ fn leaves(
     }
 }
 
-/// Rows of a deduction, a puzzle, a partial board, and the same after the last of several visits. Clues are set in any case.
+/// Rows of a deduction, a puzzle, a partial board, and the same after the last of several visits.
+///
+/// Clues are set in any case.
 pub(crate) fn assert_deductions(
     rt: &impl Abort,
     alloc: Global,

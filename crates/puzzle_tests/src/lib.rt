@@ -1,4 +1,6 @@
-//! Tests of the puzzle crates, by calls that any crate may make. A module bears the name of the crate that it tests, without `hall_`.
+//! Tests of the puzzle crates, by calls that any crate may make.
+//!
+//! A module bears the name of the crate that it tests, without `hall_`.
 #![tactic(auto)]
 
 #[cfg(test)]

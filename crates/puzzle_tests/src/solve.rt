@@ -1,6 +1,7 @@
 //! A small kind of rules: right is a filling whose first value is below a limit.
-ghost use Rattle.std.specs.Prelude.{◌≡◌, ℕ, ◌+◌, ◌<◌, ◌≤◌, List, slice_index};
+ghost use Rattle.std.specs.Prelude.{◌≡◌, ℕ, ◌+◌, ◌<◌, ◌≤◌, List};
 ghost use Rattle.hall_solve.specs.Question.{Question};
+ghost use Rattle.puzzle_tests.specs.FirstBelow.{first_below};
 
 use hall_grid::Filling;
 use hall_solve::{
@@ -18,7 +19,7 @@ struct Below {
 }
 
 impl Look for Below {
-    ghost question = { λ s. record { cells = s.cells; values = s.values; right = λ f. slice_index f 0 < s.limit } };
+    ghost question = { λ s. first_below s.cells s.values s.limit };
 
     ghost spots = { λ _. 1 };
 
@@ -38,7 +39,7 @@ impl Look for Below {
 }
 
 impl Deduce for Below {
-    ghost question = { λ s. record { cells = s.cells; values = s.values; right = λ f. slice_index f 0 < s.limit } };
+    ghost question = { λ s. first_below s.cells s.values s.limit };
 
     fn pass(&self, alloc: Global, partial: &mut Partial) -> Result<Pass, AllocError> {
         sweep(alloc, self, partial)
@@ -54,7 +55,7 @@ struct Kind {
 }
 
 impl Rules for Kind {
-    ghost question = { λ s. record { cells = s.below.cells; values = s.below.values; right = λ f. slice_index f 0 < s.below.limit } };
+    ghost question = { λ s. first_below s.below.cells s.below.values s.below.limit };
 
     ghost visits = { λ s. s.visits };
 
@@ -109,8 +110,10 @@ fn make_kind(cells: usize, values: u8, limit: u8, deduces: bool) -> Kind
     }
 }
 
-/// The outcome in a word, and the first values of the fillings that it hands out.
-fn shown(outcome: &Outcome) -> (&'static str, Option<u8>, Option<u8>) {
+/// An outcome in a word, and the first values of the fillings that it hands out.
+type Shown = (&'static str, Option<u8>, Option<u8>);
+
+fn shown(outcome: &Outcome) -> Shown {
     match outcome {
         Outcome::None => ("none", None, None),
         Outcome::One(filling) => ("one", filling.as_slice().first().copied(), None),
@@ -123,40 +126,51 @@ fn shown(outcome: &Outcome) -> (&'static str, Option<u8>, Option<u8>) {
     }
 }
 
-/// Each node of a tree is visited once: a tree of 1 + 2 + 4 nodes takes seven visits, and its four whole fillings are asked about once each.
+/// What a search finds with such rules, how often it visited, and how often it asked.
+fn searched(
+    alloc: Global,
+    cells: usize,
+    values: u8,
+    limit: u8,
+    deduces: bool,
+    budget: u64,
+) -> Result<(Shown, u64, u64), Fail> {
+    if cells < 1 {
+        return Err(Fail::from("no cell"));
+    }
+    let mut rules = make_kind(cells, values, limit, deduces);
+    let start = Partial::new(alloc, cells)?;
+    let outcome = search(alloc, &mut rules, &start, budget)?;
+    Ok((shown(&outcome), rules.visits, rules.asked))
+}
+
+/// Cells, values, limit, whether it deduces, and budget; the outcome, how often it visits, and how often it asks.
+const SEARCHES: [(usize, u8, u8, bool, u64, Shown, u64, u64); 13] = [
+    (2, 2, 0, false, 100, ("none", None, None), 7, 4),
+    (2, 2, 0, false, 7, ("none", None, None), 7, 4),
+    (2, 2, 0, false, 6, ("gave up", None, None), 6, 3),
+    (2, 2, 0, false, 0, ("gave up", None, None), 0, 0),
+    (1, 3, 1, false, 100, ("one", Some(0), None), 4, 3),
+    (1, 3, 1, false, 3, ("gave up", None, None), 3, 2),
+    (1, 3, 2, false, 3, ("more", Some(0), Some(1)), 3, 2),
+    (1, 3, 2, false, 2, ("gave up", None, None), 2, 1),
+    (2, 2, 1, false, 100, ("more", Some(0), Some(0)), 4, 2),
+    (1, 3, 1, true, 1, ("one", Some(0), None), 1, 1),
+    (1, 3, 0, true, 1, ("none", None, None), 1, 0),
+    (2, 3, 1, true, 100, ("more", Some(0), Some(0)), 3, 2),
+    (1, 0, 5, false, 1, ("none", None, None), 1, 0),
+];
+
+/// Each node of a tree is visited once.
+///
+/// A tree of 1 + 2 + 4 nodes takes seven visits, and its four whole fillings are asked about once each.
 #[test]
 fn wastes_no_visits(rt: HostRuntime) -> Result<(), Fail> {
-    let rows = [
-        // cells, values, limit, deduces, budget: answer, visits, asked
-        (2, 2, 0, false, 100, ("none", None, None), 7, 4),
-        (2, 2, 0, false, 7, ("none", None, None), 7, 4),
-        (2, 2, 0, false, 6, ("gave up", None, None), 6, 3),
-        (2, 2, 0, false, 0, ("gave up", None, None), 0, 0),
-        (1, 3, 1, false, 100, ("one", Some(0), None), 4, 3),
-        (1, 3, 1, false, 3, ("gave up", None, None), 3, 2),
-        (1, 3, 2, false, 3, ("more", Some(0), Some(1)), 3, 2),
-        (1, 3, 2, false, 2, ("gave up", None, None), 2, 1),
-        (2, 2, 1, false, 100, ("more", Some(0), Some(0)), 4, 2),
-        (1, 3, 1, true, 1, ("one", Some(0), None), 1, 1),
-        (1, 3, 0, true, 1, ("none", None, None), 1, 0),
-        (2, 3, 1, true, 100, ("more", Some(0), Some(0)), 3, 2),
-        (1, 0, 5, false, 1, ("none", None, None), 1, 0),
-    ];
-    for (cells, values, limit, deduces, budget, answer, visits, asked) in rows {
-        if cells < 1 {
-            return Ok(());
-        }
-        let mut rules = make_kind(cells, values, limit, deduces);
-        let start = Partial::new(rt.alloc(), cells)?;
-        let outcome = search(rt.alloc(), &mut rules, &start, budget)?;
+    for (cells, values, limit, deduces, budget, answer, visits, asked) in SEARCHES {
+        let found = searched(rt.alloc(), cells, values, limit, deduces, budget)?;
         assert_eq!(rt;
-            shown(&outcome),
-            answer,
-            "{cells} {values} {limit} {budget}"
-        );
-        assert_eq!(rt;
-            (rules.visits(), rules.asked()),
-            (visits, asked),
+            found,
+            (answer, visits, asked),
             "{cells} {values} {limit} {budget}"
         );
     }

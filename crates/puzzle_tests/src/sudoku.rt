@@ -1,28 +1,26 @@
 use crate::kinds::{assert_deductions, assert_searches, assert_verdicts};
 use std::test::Fail;
 
+const VERDICTS: [(&str, &str, &str); 6] = [
+    ("sudoku/4/4/123434122143432g", "1234341221434321", "right"),
+    (
+        "sudoku/4/4/123434122143432g",
+        "1234341221434312",
+        "wrong U2 U4",
+    ),
+    ("sudoku/4/4/", "1234123434123412", "wrong U2 U3"),
+    ("sudoku/4/4/", "1212343421214343", "wrong U1"),
+    ("sudoku/4/4/", "1234234134124123", "wrong U3"),
+    (
+        "sudoku/6/6/",
+        "123456456123234561561234345612612345",
+        "right",
+    ),
+];
+
 #[test]
 fn judges(rt: HostRuntime) -> Result<(), Fail> {
-    assert_verdicts(
-        &rt,
-        rt.alloc(),
-        &[
-            ("sudoku/4/4/123434122143432g", "1234341221434321", "right"),
-            (
-                "sudoku/4/4/123434122143432g",
-                "1234341221434312",
-                "wrong U2 U4",
-            ),
-            ("sudoku/4/4/", "1234123434123412", "wrong U2 U3"),
-            ("sudoku/4/4/", "1212343421214343", "wrong U1"),
-            ("sudoku/4/4/", "1234234134124123", "wrong U3"),
-            (
-                "sudoku/6/6/",
-                "123456456123234561561234345612612345",
-                "right",
-            ),
-        ],
-    )
+    assert_verdicts(&rt, rt.alloc(), &VERDICTS)
 }
 
 const NINE: &str = "sudoku/9/9/53h7j6h195j98j6g8i6i34h8g3h17i2i6g6j28j419h5j8h79";
@@ -40,95 +38,92 @@ const SIXTEEN: &str =
 const SIXTEEN_SOLVED: &str =
     "123456789abcdefg56789abcdefg12349abcdefg12345678defg123456789abc23456789abcdefg16789abcdefg12345abcdefg123456789efg123456789abcd3456789abcdefg12789abcdefg123456bcdefg123456789afg123456789abcde456789abcdefg12389abcdefg1234567cdefg123456789abg123456789abcdef";
 
+const SEARCHES: [(&str, u64, &str, &str, u64); 14] = [
+    (NINE, 200_000, "one", NINE_SOLVED, 1),
+    (NINE, 0, "gave up", "", 0),
+    (SIX, 200_000, "one", SIX_SOLVED, 1),
+    (SIXTEEN, 200_000, "one", SIXTEEN_SOLVED, 1),
+    ("sudoku/4/4/g2g4g4g221434321", 200_000, "more", "", 4),
+    ("sudoku/4/4/g2g4g4g221434321", 2, "gave up", "", 2),
+    (
+        "sudoku/4/4/123434122143432g",
+        1,
+        "one",
+        "1234341221434321",
+        1,
+    ),
+    ("sudoku/4/4/123434122143433g", 1, "none", "", 1),
+    ("sudoku/4/4/123j4", 200_000, "none", "", 1),
+    ("sudoku/4/4/v", 1, "gave up", "", 1),
+    ("sudoku/4/4/v", 200_000, "more", "", 400),
+    ("sudoku/6/6/zv", 200_000, "more", "", 400),
+    ("sudoku/9/9/zzzz", 200_000, "more", "", 400),
+    ("sudoku/16/16/", 200_000, "more", "", 2000),
+];
+
 #[test]
 fn solves(rt: HostRuntime) -> Result<(), Fail> {
-    assert_searches(
-        &rt,
-        rt.alloc(),
-        &[
-            (NINE, 200_000, "one", NINE_SOLVED, 1),
-            (NINE, 0, "gave up", "", 0),
-            (SIX, 200_000, "one", SIX_SOLVED, 1),
-            (SIXTEEN, 200_000, "one", SIXTEEN_SOLVED, 1),
-            ("sudoku/4/4/g2g4g4g221434321", 200_000, "more", "", 4),
-            ("sudoku/4/4/g2g4g4g221434321", 2, "gave up", "", 2),
-            (
-                "sudoku/4/4/123434122143432g",
-                1,
-                "one",
-                "1234341221434321",
-                1,
-            ),
-            ("sudoku/4/4/123434122143433g", 1, "none", "", 1),
-            ("sudoku/4/4/123j4", 200_000, "none", "", 1),
-            ("sudoku/4/4/v", 1, "gave up", "", 1),
-            ("sudoku/4/4/v", 200_000, "more", "", 400),
-            ("sudoku/6/6/zv", 200_000, "more", "", 400),
-            ("sudoku/9/9/zzzz", 200_000, "more", "", 400),
-            ("sudoku/16/16/", 200_000, "more", "", 2000),
-        ],
-    )
+    assert_searches(&rt, rt.alloc(), &SEARCHES)
 }
 
-/// Each row needs the deduction that it names: without that, the places that it adds stay open, or the board isn't found dead.
+/// Each row needs the deduction that it names.
+///
+/// Without that, the places that it adds stay open, or the board isn't found dead.
+const DEDUCTIONS: [(&str, &str, &str, &str); 11] = [
+    (
+        "naked single",
+        "sudoku/6/6/g6k4p531u",
+        "",
+        "?6?????4?????2????531???????????????",
+    ),
+    (
+        "hidden single in a row",
+        "sudoku/6/6/k1j5p1n324i",
+        "",
+        "?????1????5??????????1????????324?1?",
+    ),
+    (
+        "hidden single in a column",
+        "sudoku/6/6/j1n4k6r1i",
+        "",
+        "????1??1?????4?????6????????????1???",
+    ),
+    (
+        "hidden single in a box",
+        "sudoku/6/6/u1r56k4",
+        "",
+        "???????????????1????????????56????14",
+    ),
+    (
+        "a cell with no value left",
+        "sudoku/9/9/l123g78m9m4n5n6zu",
+        "",
+        "dead",
+    ),
+    (
+        "a value with no cell left in a row",
+        "sudoku/9/9/i2345671zzzq",
+        "",
+        "dead",
+    ),
+    (
+        "a value with no cell left in a column",
+        "sudoku/9/9/g1zk2n3n4n5n6n7n",
+        "",
+        "dead",
+    ),
+    (
+        "a value with no cell left in a box",
+        "sudoku/9/9/i1k234l567zzz",
+        "",
+        "dead",
+    ),
+    ("two equal in a row", "sudoku/9/9/1h1zzzw", "", "dead"),
+    ("two equal in a column", "sudoku/6/6/1q1zi", "", "dead"),
+    ("two equal in a box", "sudoku/9/9/zs8o8zw", "", "dead"),
+];
+
 #[test]
 fn deduces(rt: HostRuntime) -> Result<(), Fail> {
-    assert_deductions(
-        &rt,
-        rt.alloc(),
-        1,
-        &[
-            (
-                "naked single",
-                "sudoku/6/6/g6k4p531u",
-                "",
-                "?6?????4?????2????531???????????????",
-            ),
-            (
-                "hidden single in a row",
-                "sudoku/6/6/k1j5p1n324i",
-                "",
-                "?????1????5??????????1????????324?1?",
-            ),
-            (
-                "hidden single in a column",
-                "sudoku/6/6/j1n4k6r1i",
-                "",
-                "????1??1?????4?????6????????????1???",
-            ),
-            (
-                "hidden single in a box",
-                "sudoku/6/6/u1r56k4",
-                "",
-                "???????????????1????????????56????14",
-            ),
-            (
-                "a cell with no value left",
-                "sudoku/9/9/l123g78m9m4n5n6zu",
-                "",
-                "dead",
-            ),
-            (
-                "a value with no cell left in a row",
-                "sudoku/9/9/i2345671zzzq",
-                "",
-                "dead",
-            ),
-            (
-                "a value with no cell left in a column",
-                "sudoku/9/9/g1zk2n3n4n5n6n7n",
-                "",
-                "dead",
-            ),
-            (
-                "a value with no cell left in a box",
-                "sudoku/9/9/i1k234l567zzz",
-                "",
-                "dead",
-            ),
-            ("two equal in a row", "sudoku/9/9/1h1zzzw", "", "dead"),
-            ("two equal in a column", "sudoku/6/6/1q1zi", "", "dead"),
-            ("two equal in a box", "sudoku/9/9/zs8o8zw", "", "dead"),
-        ],
-    )
+    assert_deductions(&rt, rt.alloc(), 1, &DEDUCTIONS)
 }

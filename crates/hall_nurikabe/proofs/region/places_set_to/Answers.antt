@@ -1,12 +1,8 @@
-use Rattle.std.proofs.Common.{rules}
-use Rattle.hall_nurikabe.specs.Forced.{IsSetTo}
-use Rattle.hall_nurikabe.proofs.Marks.{Marks-none, Marks-push}
+use Rattle.std.proofs.lemmas.Result.{IfOk-weaker}
+use Rattle.hall_nurikabe.proofs.Marks.{Marks-set}
 use Rattle.hall_nurikabe.proofs.region.places_set_to.Goals as goal
 
-pub loop-place-init : goal.loop-place-init
-loop-place-init c = rw c.new-marks.ensures.items (Marks-none (IsSetTo c.args.partial.now c.args.value))
-
-pub loop-place-preserved : goal.loop-place-preserved
-loop-place-preserved c =
-    rw c.in_ok-push.ensures.items
-    (Marks-push (IsSetTo c.args.partial.now c.args.value) c.loop-place.place c.loop-place.marks.items c.eq.result (search rules) c.loop-place.invariant)
+pub returns : goal.returns
+returns c =
+    IfOk-weaker c.have_value.result _ _ (λ marks e. Marks-set c.args.partial.now c.args.value marks.items e)
+    (rw c.as_slice.ensures at c.have_value.ensures)

@@ -5,7 +5,7 @@ use Rattle.hall_grid.specs.Sudoku.{box}
 use Rattle.hall_sudoku.specs.Values.{Has}
 use Rattle.hall_sudoku.specs.Candidates.{IsLeft}
 use Rattle.hall_sudoku.proofs.Sizes.{square_of, row_unit, column_unit, box_unit, box_cell}
-use Rattle.hall_sudoku.proofs.Tables.{taken_of, clash_of, at_more}
+use Rattle.hall_sudoku.proofs.Tables.{taken_of, clash_of, apart_of, at_more}
 use Rattle.hall_sudoku.proofs.Deductions.{no_clash}
 use Rattle.hall_sudoku.proofs.candidates.candidates.Goals as goal
 
@@ -71,3 +71,12 @@ loop-cell-preserved c =
 
 pub returns-clause-room : goal.returns-clause-room
 returns-clause-room c = omega (arith, c.loop-cell.invariant.size, (square_of c.args.units.now c.rows.ensures.sudoku).room)
+
+pub returns-clause-apart : goal.returns-clause-apart
+returns-clause-apart c =
+    let size = c.args.units.now in
+    record {
+      rows = apart_of size (row size) c.rows.result.now c.rows.ensures.division c.args.partial.now c.requires.size c.in_ok-taken_in.ensures.apart;
+      columns = apart_of size (col size) c.columns.result.now c.columns.ensures.division c.args.partial.now c.requires.size c.in_ok-taken_in-2.ensures.apart;
+      boxes = apart_of size (box size) c.boxes.result.now c.boxes.ensures.division c.args.partial.now c.requires.size c.in_ok-taken_in-3.ensures.apart;
+    }

@@ -11,4 +11,4 @@ returns-clause-settled c = λ eq.
     let size = c.args.self.now in
     let same = subst (λ (x : Pass). IsDeduced (units_question size) c.args.partial.now c.set_soles.new.partial x) eq c.set_soles.ensures.deduced in
     subst (λ q. IsSettled size q) (sym same)
-    (settled_of size c.args.partial.now c.in-Some.candidates c.requires.size c.in-Some.ensures.some c.in-Some-all_shared.shared c.in-Some-all_shared.ensures.some c.in-Some-all_shared.ensures.complete (c.set_soles.ensures.settled eq))
+    (settled_of size c.args.partial.now c.in-Some.candidates c.requires.size c.in-Some.ensures.some c.in-Some.ensures.apart c.in-Some-all_shared.shared c.in-Some-all_shared.ensures.some c.in-Some-all_shared.ensures.complete (c.set_soles.ensures.settled eq))
