@@ -1,5 +1,5 @@
 -- What the desk found for one request, and of which worlds it is true.
-use Rattle.std.specs.Prelude.{◌≡◌, ◌≤◌, ◌↔◌, ◌&&◌, ℕ, false, List, Option, Some, None, IsTrue, Contains}
+use Rattle.std.specs.Prelude.{◌≡◌, ◌↔◌, ◌&&◌, nat_le, ℕ, Bool, true, false, List, Option, Some, None, IsTrue, Contains}
 use Rattle.std.specs.FinMap.{get}
 use Rattle.std.specs.List.{AllByRecursion}
 use Rattle.hall_policy.specs.World.{World, IsRoundAt, entry_at}
@@ -82,9 +82,15 @@ deciding (Rule round entrant token ruling) Repeat = 18
 deciding action Repeat = 6
 deciding action Allow = 20
 
--- the facts, up to the rule that decides, are true of the world
+-- P, where the test passes
+abbrev pub Where : Bool → Type 0 → Type 0
+Where true P = P
+Where false P = Unit {0}
+
+-- the facts that the asked rules read, up to the one of number n, are true of the world
 abbrev pub TrueUpTo : ℕ → Facts → World → Action → Type 0
-TrueUpTo n facts world action = (r : rule.Rule) → Contains (rules_asked action) r → number_of r ≤ n → Tells r facts world action
+TrueUpTo n facts world action =
+    AllByRecursion (λ r. Where (nat_le (number_of r) n) (Tells r facts world action)) (rules_asked action)
 
 -- no round was found, or a draft that the action doesn't find
 abbrev pub HidesRound : Facts → Action → Type 0
@@ -93,7 +99,3 @@ HidesRound facts action = (row : RoundRow) → facts.round ≡ Some row → (row
 -- no round was found, or one without a puzzle of this number
 abbrev pub LacksNumber : Facts → ℕ → Type 0
 LacksNumber facts number = (row : RoundRow) → facts.round ≡ Some row → entry_at row.puzzles number ≡ None
-
--- each fact that a rule asked of the action reads is true of the world
-abbrev pub AllTrue : Facts → World → Action → Type 0
-AllTrue facts world action = AllByRecursion (λ r. Tells r facts world action) (rules_asked action)

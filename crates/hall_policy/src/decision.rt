@@ -1,11 +1,15 @@
 //! Which rule decides a request.
-ghost use Rattle.std.specs.Prelude.{◌≡◌, ◌↔◌, ◌⊎◌, IsTrue, Contains, Any, option_copied, IsSome, Option, List, ℕ};
+ghost use Rattle.std.specs.Prelude.{◌≡◌, ◌↔◌, ◌⊎◌, IsTrue, Contains, Any, option_copied, IsSome, IfSome, IfNone, Option, List, ℕ, ◌<◌, false};
 ghost use Rattle.hall_policy.specs.World.{World, entry_at};
 ghost use Rattle.hall_policy.specs.Rules.{KeyIsUnknown, LacksRole, NamesOtherAuthor, IsMissing, IsOwnPuzzle, SameContent, IsBeforeStart, IsAfterEnd, IsBeforeEnd, IsAfterClose, IsNoDraft, IsAfterStart, IsPublished, SameRuling, IsAtLimit, ListsAuthor, is_director};
 ghost use Rattle.hall_policy.specs.First.{Sentence, SameBefore, First};
+ghost use Rattle.hall_policy.specs.Actions.{number_of};
 ghost use Rattle.hall_policy.specs.Facts.{Tells, TrueUpTo, deciding, HidesRound, LacksNumber, IsRoundFound};
-ghost use Rattle.hall_policy.specs.Finding.{IsFinding, finding_of, standing};
+ghost use Rattle.hall_policy.specs.Finding.{IsFinding, FindingImplies, finding_of, standing};
+ghost use Rattle.hall_policy.specs.Implies.{Implies, ObjectIsThere, RoundIsThere, EntryIsThere, RoundIsDraft, IsBelowLimit};
+ghost use Rattle.hall_policy.specs.Decided.{IsDecided, PassesUpTo};
 ghost use Rattle.hall_policy.specs.declared.record.Entry.{Entry as declared_Entry};
+ghost use Rattle.hall_policy.specs.declared.record.RoundRow.{RoundRow};
 
 use crate::asked::{finds_drafts, may, puzzle_named, rules_asked};
 use crate::facts::Facts;
@@ -89,7 +93,8 @@ fn is_after_start(facts: &Facts, action: &Action, t: Moment) -> bool
 }
 
 fn is_no_draft(facts: &Facts, action: &Action) -> bool
-    ensures { (world : World) → Tells Rule.NoDraft facts.now world action.now → (IsTrue result ↔ IsNoDraft world action.now) }
+    ensures tells { (world : World) → Tells Rule.NoDraft facts.now world action.now → (IsTrue result ↔ IsNoDraft world action.now) }
+    ensures draft { result ≡ false → RoundIsDraft facts.now }
 {
     match &facts.round {
         Some(row) => row.round.released,
@@ -109,7 +114,8 @@ fn is_published(facts: &Facts, action: &Action) -> bool
 
 /// Whether the round that was found can't be seen.
 fn hides_round(facts: &Facts, action: &Action) -> bool
-    ensures { IsTrue result ↔ HidesRound facts.now action.now }
+    ensures tells { IsTrue result ↔ HidesRound facts.now action.now }
+    ensures there { result ≡ false → RoundIsThere facts.now action.now }
 {
     match &facts.round {
         Some(row) => !row.round.released && !(is_director(facts) && finds_drafts(action)),
@@ -119,7 +125,8 @@ fn hides_round(facts: &Facts, action: &Action) -> bool
 
 /// Whether the round that was found has no puzzle of this number.
 fn lacks_number(facts: &Facts, number: PuzzleNumber) -> bool
-    ensures { IsTrue result ↔ LacksNumber facts.now number }
+    ensures tells { IsTrue result ↔ LacksNumber facts.now number }
+    ensures there { (row : RoundRow) → facts.now.round ≡ Some row → result ≡ false → EntryIsThere row number }
 {
     match &facts.round {
         Some(row) => is_beyond(row.puzzles.as_slice(), number),
@@ -134,7 +141,8 @@ fn is_beyond(entries: &[Entry], number: PuzzleNumber) -> bool
 }
 
 fn is_missing(facts: &Facts, action: &Action) -> bool
-    ensures { (world : World) → Tells Rule.Missing facts.now world action.now → (IsTrue result ↔ IsMissing world facts.now.caller action.now) }
+    ensures tells { (world : World) → Tells Rule.Missing facts.now world action.now → (IsTrue result ↔ IsMissing world facts.now.caller action.now) }
+    ensures there { result ≡ false → ObjectIsThere facts.now action.now }
 {
     match action {
         Action::Import { .. } | Action::ListPuzzles | Action::ListRounds => false,
@@ -206,7 +214,8 @@ fn standing(same: bool) -> Finding
 
 /// What stands under the token.
 fn token_finding(facts: &Facts, action: &Action) -> Finding
-    ensures { (world : World) → Tells Rule.TokenTaken facts.now world action.now → IsFinding result (Sentence Rule.TokenTaken world facts.now.caller action.now 0) (SameContent world facts.now.caller action.now) }
+    ensures tells { (world : World) → Tells Rule.TokenTaken facts.now world action.now → IsFinding result (Sentence Rule.TokenTaken world facts.now.caller action.now 0) (SameContent world facts.now.caller action.now) }
+    ensures implies { FindingImplies result Rule.TokenTaken facts.now action.now }
 {
     match &facts.caller {
         Some(_) => token_finding_of_caller(facts, action),
@@ -216,7 +225,8 @@ fn token_finding(facts: &Facts, action: &Action) -> Finding
 
 fn token_finding_of_caller(facts: &Facts, action: &Action) -> Finding
     requires { IsSome facts.now.caller }
-    ensures { (world : World) → Tells Rule.TokenTaken facts.now world action.now → IsFinding result (Sentence Rule.TokenTaken world facts.now.caller action.now 0) (SameContent world facts.now.caller action.now) }
+    ensures tells { (world : World) → Tells Rule.TokenTaken facts.now world action.now → IsFinding result (Sentence Rule.TokenTaken world facts.now.caller action.now 0) (SameContent world facts.now.caller action.now) }
+    ensures implies { FindingImplies result Rule.TokenTaken facts.now action.now }
 {
     match action {
         Action::Submit { answer, .. } => match &facts.answer {
@@ -233,7 +243,8 @@ fn token_finding_of_caller(facts: &Facts, action: &Action) -> Finding
 
 /// How the protest was ruled before.
 fn ruling_finding(facts: &Facts, action: &Action) -> Finding
-    ensures { (world : World) → Tells Rule.RuledOtherwise facts.now world action.now → IsFinding result (Sentence Rule.RuledOtherwise world facts.now.caller action.now 0) (SameRuling world action.now) }
+    ensures tells { (world : World) → Tells Rule.RuledOtherwise facts.now world action.now → IsFinding result (Sentence Rule.RuledOtherwise world facts.now.caller action.now 0) (SameRuling world action.now) }
+    ensures implies { FindingImplies result Rule.RuledOtherwise facts.now action.now }
 {
     match action {
         Action::Rule { ruling, .. } => match &facts.protest {
@@ -248,7 +259,8 @@ fn ruling_finding(facts: &Facts, action: &Action) -> Finding
 }
 
 fn is_at_limit(facts: &Facts, action: &Action) -> bool
-    ensures { (world : World) → Tells Rule.LimitReached facts.now world action.now → (IsTrue result ↔ IsAtLimit world facts.now.caller action.now) }
+    ensures tells { (world : World) → Tells Rule.LimitReached facts.now world action.now → (IsTrue result ↔ IsAtLimit world facts.now.caller action.now) }
+    ensures below { result ≡ false → IsSome facts.now.caller → IsBelowLimit facts.now action.now }
 {
     match action {
         Action::Submit { .. } => facts.caller.is_some() && facts.count >= 50,
@@ -260,7 +272,7 @@ fn is_at_limit(facts: &Facts, action: &Action) -> bool
 
 fn check_rule(rule: Rule, facts: &Facts, action: &Action, t: Moment) -> Finding
     ensures tells { (world : World) → Tells rule facts.now world action.now → IsFinding result (Sentence rule world facts.now.caller action.now t) (SameBefore rule world facts.now.caller action.now) }
-    ensures repeats { result ≡ Finding.Repeats → (rule ≡ Rule.TokenTaken) ⊎ (rule ≡ Rule.RuledOtherwise) }
+    ensures implies { FindingImplies result rule facts.now action.now }
 {
     match rule {
         Rule::UnknownKey => finding_of(facts.caller.is_none()),
@@ -288,7 +300,10 @@ fn check_rule(rule: Rule, facts: &Facts, action: &Action, t: Moment) -> Finding
 
 /// The first rule that forbids or repeats, of those asked of the action.
 pub fn decide(facts: &Facts, action: &Action, t: Moment) -> Decision
-    ensures { (world : World) → TrueUpTo (deciding action.now result) facts.now world action.now → First world facts.now.caller action.now t result }
+    ensures first { (world : World) → TrueUpTo (deciding action.now result) facts.now world action.now → First world facts.now.caller action.now t result }
+    ensures passes { (n : ℕ) → n < deciding action.now result → PassesUpTo n facts.now action.now t }
+    ensures implies { Implies result facts.now action.now }
+    ensures decided { (world : World) → TrueUpTo 20 facts.now world action.now → IsDecided world facts.now action.now t result }
 {
     for rule in rules_asked(action) {
         match check_rule(*rule, facts, action, t) {
@@ -298,4 +313,30 @@ pub fn decide(facts: &Facts, action: &Action, t: Moment) -> Decision
         }
     }
     Decision::Allow
+}
+
+/// The decision where a rule up to `most` makes it; facts that later rules read may be anything.
+pub fn decide_up_to(facts: &Facts, action: &Action, t: Moment, most: Rule) -> Option<Decision>
+    ensures some { IfSome result (λ decision. (world : World) → TrueUpTo (number_of most) facts.now world action.now → IsDecided world facts.now action.now t decision) }
+    ensures none { IfNone result (PassesUpTo (number_of most) facts.now action.now t) }
+    ensures whole { IfNone result (number_of most < 20) }
+{
+    let decision = decide(facts, action, t);
+    if deciding(action, decision) <= most.number() {
+        Some(decision)
+    } else {
+        None
+    }
+}
+
+/// The number of the rule that makes the decision; 20, the greatest, where all let it pass.
+fn deciding(action: &Action, decision: Decision) -> u8
+    ensures { result ≡ deciding action.now decision }
+{
+    match (decision, action) {
+        (Decision::Deny(rule), _) => rule,
+        (Decision::Repeat, Action::Rule { .. }) => 18,
+        (Decision::Repeat, _) => 6,
+        (Decision::Allow, _) => 20,
+    }
 }

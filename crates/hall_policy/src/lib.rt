@@ -11,7 +11,7 @@ mod request;
 mod rule;
 mod text;
 
-pub use decision::decide;
+pub use decision::{decide, decide_up_to};
 pub use facts::Facts;
 pub use list::{Entries, People};
 pub use number::{
