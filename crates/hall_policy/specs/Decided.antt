@@ -14,6 +14,11 @@ pub record IsDecided (world : World) (facts : Facts) (action : Action) (t : ℕ)
   pub told : TrueUpTo (deciding action decision) facts world action
   pub implied : Implies decision facts action
 
+-- the decision stands in each world of which the facts up to the rule of number n are true
+abbrev pub IsDecidedUpTo : ℕ → Facts → Action → ℕ → Decision → Type 0
+IsDecidedUpTo n facts action t decision =
+    (world : World) → TrueUpTo n facts world action → IsDecided world facts action t decision
+
 -- no rule up to number n forbids or repeats, in each world of which the facts up to there are true
 abbrev pub PassesUpTo : ℕ → Facts → Action → ℕ → Type 0
 PassesUpTo n facts action t =

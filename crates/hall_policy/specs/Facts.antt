@@ -4,7 +4,7 @@ use Rattle.std.specs.FinMap.{get}
 use Rattle.std.specs.List.{AllByRecursion}
 use Rattle.hall_policy.specs.World.{World, IsRoundAt, entry_at}
 use Rattle.hall_policy.specs.Actions.{number_of, rules_asked, round_named, finds_drafts}
-use Rattle.hall_policy.specs.Rules.{is_director, IsInReleasedRound, IsUncertified, HasOpenProtest, IsInvolved, HasConflict, answers_given, protests_made, puzzles_put}
+use Rattle.hall_policy.specs.Rules.{is_director, ListsAuthor, IsInReleasedRound, IsUncertified, HasOpenProtest, IsInvolved, HasConflict, answers_given, protests_made, puzzles_put}
 use Rattle.hall_policy.specs.declared.record.Person.{Person}
 use Rattle.hall_policy.specs.declared.record.Entry.{Entry}
 use Rattle.hall_policy.specs.declared.record.RoundRow.{RoundRow}
@@ -99,3 +99,13 @@ HidesRound facts action = (row : RoundRow) → facts.round ≡ Some row → (row
 -- no round was found, or one without a puzzle of this number
 abbrev pub LacksNumber : Facts → ℕ → Type 0
 LacksNumber facts number = (row : RoundRow) → facts.round ≡ Some row → entry_at row.puzzles number ≡ None
+
+-- one of the puzzles is by the author
+abbrev pub HasEntryBy : List Entry → List ℕ → Type 0
+HasEntryBy entries author = (entry : Entry) × Contains entries entry × (entry.puzzle.author ≡ author)
+
+-- the test tells whether the round that is named has a puzzle by the author, in each world that has the round as it was found
+abbrev pub TellsAuthor : Facts → List ℕ → Bool → Type 0
+TellsAuthor facts author test =
+    (world : World) (named : Option (List ℕ)) → IsRoundFound world named facts.round →
+    (IsTrue test ↔ ListsAuthor world named author)

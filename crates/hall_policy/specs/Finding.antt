@@ -1,5 +1,8 @@
 -- What the facts say of one rule: it passes, forbids, or repeats what was done before.
-use Rattle.std.specs.Prelude.{◌≡◌, ◌⊎◌, Bool, true, false}
+use Rattle.std.specs.Prelude.{◌≡◌, ◌⊎◌, ◌↔◌, ℕ, Bool, true, false, IsTrue}
+use Rattle.hall_policy.specs.World.{World}
+use Rattle.hall_policy.specs.First.{Sentence, SameBefore}
+use Rattle.hall_policy.specs.Facts.{Tells}
 use Rattle.hall_policy.specs.Implies.{IsSame, PassImplies}
 use Rattle.hall_policy.specs.declared.request.Action.{Action}
 use Rattle.hall_policy.specs.declared.rule.Rule.{Rule}
@@ -29,3 +32,14 @@ abbrev pub FindingImplies : Finding → Rule → Facts → Action → Type 0
 FindingImplies Passes rule facts action = PassImplies rule facts action
 FindingImplies Forbids rule facts action = Unit {0}
 FindingImplies Repeats rule facts action = ((rule ≡ TokenTaken) ⊎ (rule ≡ RuledOtherwise)) × IsSame facts action
+
+-- the test tells whether the rule forbids, in each world of which the facts that it reads are true
+abbrev pub IsTestOf : Rule → Facts → Action → ℕ → Bool → Type 0
+IsTestOf rule facts action t test =
+    (world : World) → Tells rule facts world action → (IsTrue test ↔ Sentence rule world facts.caller action t)
+
+-- the finding tells what the rule does, in each world of which the facts that it reads are true
+abbrev pub IsFindingOf : Rule → Facts → Action → ℕ → Finding → Type 0
+IsFindingOf rule facts action t finding =
+    (world : World) → Tells rule facts world action →
+    IsFinding finding (Sentence rule world facts.caller action t) (SameBefore rule world facts.caller action)

@@ -1,14 +1,12 @@
 //! Which rule decides a request.
-ghost use Rattle.std.specs.Prelude.{◌≡◌, ◌↔◌, ◌⊎◌, IsTrue, Contains, Any, option_copied, IsSome, IfSome, IfNone, Option, List, ℕ, ◌<◌, false};
-ghost use Rattle.hall_policy.specs.World.{World, entry_at};
-ghost use Rattle.hall_policy.specs.Rules.{KeyIsUnknown, LacksRole, NamesOtherAuthor, IsMissing, IsOwnPuzzle, SameContent, IsBeforeStart, IsAfterEnd, IsBeforeEnd, IsAfterClose, IsNoDraft, IsAfterStart, IsPublished, SameRuling, IsAtLimit, ListsAuthor, is_director};
-ghost use Rattle.hall_policy.specs.First.{Sentence, SameBefore, First};
+ghost use Rattle.std.specs.Prelude.{◌≡◌, ◌↔◌, ◌<◌, ℕ, IsTrue, IsSome, IfSome, IfNone, option_copied, false};
+ghost use Rattle.hall_policy.specs.World.{entry_at};
 ghost use Rattle.hall_policy.specs.Actions.{number_of};
-ghost use Rattle.hall_policy.specs.Facts.{Tells, TrueUpTo, deciding, HidesRound, LacksNumber, IsRoundFound};
-ghost use Rattle.hall_policy.specs.Finding.{IsFinding, FindingImplies, finding_of, standing};
+ghost use Rattle.hall_policy.specs.Rules.{LacksRole, NamesOtherAuthor, is_director};
+ghost use Rattle.hall_policy.specs.Facts.{HidesRound, LacksNumber, HasEntryBy, TellsAuthor, deciding};
+ghost use Rattle.hall_policy.specs.Finding.{IsTestOf, IsFindingOf, FindingImplies, finding_of, standing};
 ghost use Rattle.hall_policy.specs.Implies.{Implies, ObjectIsThere, RoundIsThere, EntryIsThere, RoundIsDraft, IsBelowLimit};
-ghost use Rattle.hall_policy.specs.Decided.{IsDecided, PassesUpTo};
-ghost use Rattle.hall_policy.specs.declared.record.Entry.{Entry as declared_Entry};
+ghost use Rattle.hall_policy.specs.Decided.{IsDecidedUpTo, PassesUpTo};
 ghost use Rattle.hall_policy.specs.declared.record.RoundRow.{RoundRow};
 
 use crate::asked::{finds_drafts, may, puzzle_named, rules_asked};
@@ -47,7 +45,7 @@ fn names_other_author(facts: &Facts, action: &Action) -> bool
 }
 
 fn is_before_start(facts: &Facts, action: &Action, t: Moment) -> bool
-    ensures { (world : World) → Tells Rule.NotStarted facts.now world action.now → (IsTrue result ↔ IsBeforeStart world facts.now.caller action.now t) }
+    ensures { IsTestOf Rule.NotStarted facts.now action.now t result }
 {
     match &facts.round {
         Some(row) => !is_director(facts) && t.get() < row.round.start.get(),
@@ -56,7 +54,7 @@ fn is_before_start(facts: &Facts, action: &Action, t: Moment) -> bool
 }
 
 fn is_after_end(facts: &Facts, action: &Action, t: Moment) -> bool
-    ensures { (world : World) → Tells Rule.Ended facts.now world action.now → (IsTrue result ↔ IsAfterEnd world action.now t) }
+    ensures { IsTestOf Rule.Ended facts.now action.now t result }
 {
     match &facts.round {
         Some(row) => row.round.end() <= t.get(),
@@ -65,7 +63,7 @@ fn is_after_end(facts: &Facts, action: &Action, t: Moment) -> bool
 }
 
 fn is_before_end(facts: &Facts, action: &Action, t: Moment) -> bool
-    ensures { (world : World) → Tells Rule.NotEnded facts.now world action.now → (IsTrue result ↔ IsBeforeEnd world action.now t) }
+    ensures { IsTestOf Rule.NotEnded facts.now action.now t result }
 {
     match (&facts.round, action) {
         (Some(row), Action::Publish { .. }) => t.get() < row.round.close(),
@@ -75,7 +73,7 @@ fn is_before_end(facts: &Facts, action: &Action, t: Moment) -> bool
 }
 
 fn is_after_close(facts: &Facts, action: &Action, t: Moment) -> bool
-    ensures { (world : World) → Tells Rule.Closed facts.now world action.now → (IsTrue result ↔ IsAfterClose world action.now t) }
+    ensures { IsTestOf Rule.Closed facts.now action.now t result }
 {
     match &facts.round {
         Some(row) => row.round.close() <= t.get(),
@@ -84,7 +82,7 @@ fn is_after_close(facts: &Facts, action: &Action, t: Moment) -> bool
 }
 
 fn is_after_start(facts: &Facts, action: &Action, t: Moment) -> bool
-    ensures { (world : World) → Tells Rule.Started facts.now world action.now → (IsTrue result ↔ IsAfterStart world action.now t) }
+    ensures { IsTestOf Rule.Started facts.now action.now t result }
 {
     match &facts.round {
         Some(row) => row.round.start.get() <= t.get(),
@@ -93,7 +91,7 @@ fn is_after_start(facts: &Facts, action: &Action, t: Moment) -> bool
 }
 
 fn is_no_draft(facts: &Facts, action: &Action) -> bool
-    ensures tells { (world : World) → Tells Rule.NoDraft facts.now world action.now → (IsTrue result ↔ IsNoDraft world action.now) }
+    ensures tells { IsTestOf Rule.NoDraft facts.now action.now 0 result }
     ensures draft { result ≡ false → RoundIsDraft facts.now }
 {
     match &facts.round {
@@ -103,7 +101,7 @@ fn is_no_draft(facts: &Facts, action: &Action) -> bool
 }
 
 fn is_published(facts: &Facts, action: &Action) -> bool
-    ensures { (world : World) → Tells Rule.Published facts.now world action.now → (IsTrue result ↔ IsPublished world action.now) }
+    ensures { IsTestOf Rule.Published facts.now action.now 0 result }
 {
     match (&facts.round, action) {
         (Some(row), Action::Table { .. }) => !row.round.published,
@@ -141,7 +139,7 @@ fn is_beyond(entries: &[Entry], number: PuzzleNumber) -> bool
 }
 
 fn is_missing(facts: &Facts, action: &Action) -> bool
-    ensures tells { (world : World) → Tells Rule.Missing facts.now world action.now → (IsTrue result ↔ IsMissing world facts.now.caller action.now) }
+    ensures tells { IsTestOf Rule.Missing facts.now action.now 0 result }
     ensures there { result ≡ false → ObjectIsThere facts.now action.now }
 {
     match action {
@@ -157,7 +155,7 @@ fn is_missing(facts: &Facts, action: &Action) -> bool
 }
 
 fn is_own_puzzle(facts: &Facts, action: &Action) -> bool
-    ensures { (world : World) → Tells Rule.OwnPuzzle facts.now world action.now → (IsTrue result ↔ IsOwnPuzzle world facts.now.caller action.now) }
+    ensures { IsTestOf Rule.OwnPuzzle facts.now action.now 0 result }
 {
     match &facts.caller {
         Some(person) => person.roles.entrant && lists_author_of(facts, &person.name),
@@ -167,7 +165,7 @@ fn is_own_puzzle(facts: &Facts, action: &Action) -> bool
 
 /// Whether the round that was found has a puzzle by the author.
 fn lists_author_of(facts: &Facts, author: &Name) -> bool
-    ensures { (world : World) (named : Option (List ℕ)) → IsRoundFound world named facts.now.round → (IsTrue result ↔ ListsAuthor world named author.now) }
+    ensures { TellsAuthor facts.now author.now result }
 {
     match &facts.round {
         Some(row) => lists_author(row.puzzles.as_slice(), author),
@@ -177,7 +175,7 @@ fn lists_author_of(facts: &Facts, author: &Name) -> bool
 
 /// Whether one of the puzzles is by the author.
 fn lists_author(entries: &[Entry], author: &Name) -> bool
-    ensures { IsTrue result ↔ ((entry : declared_Entry) × Contains entries.now entry × (entry.puzzle.author ≡ author.now)) }
+    ensures { IsTrue result ↔ HasEntryBy entries.now author.now }
 {
     entries
         .iter()
@@ -214,7 +212,7 @@ fn standing(same: bool) -> Finding
 
 /// What stands under the token.
 fn token_finding(facts: &Facts, action: &Action) -> Finding
-    ensures tells { (world : World) → Tells Rule.TokenTaken facts.now world action.now → IsFinding result (Sentence Rule.TokenTaken world facts.now.caller action.now 0) (SameContent world facts.now.caller action.now) }
+    ensures tells { IsFindingOf Rule.TokenTaken facts.now action.now 0 result }
     ensures implies { FindingImplies result Rule.TokenTaken facts.now action.now }
 {
     match &facts.caller {
@@ -225,7 +223,7 @@ fn token_finding(facts: &Facts, action: &Action) -> Finding
 
 fn token_finding_of_caller(facts: &Facts, action: &Action) -> Finding
     requires { IsSome facts.now.caller }
-    ensures tells { (world : World) → Tells Rule.TokenTaken facts.now world action.now → IsFinding result (Sentence Rule.TokenTaken world facts.now.caller action.now 0) (SameContent world facts.now.caller action.now) }
+    ensures tells { IsFindingOf Rule.TokenTaken facts.now action.now 0 result }
     ensures implies { FindingImplies result Rule.TokenTaken facts.now action.now }
 {
     match action {
@@ -243,7 +241,7 @@ fn token_finding_of_caller(facts: &Facts, action: &Action) -> Finding
 
 /// How the protest was ruled before.
 fn ruling_finding(facts: &Facts, action: &Action) -> Finding
-    ensures tells { (world : World) → Tells Rule.RuledOtherwise facts.now world action.now → IsFinding result (Sentence Rule.RuledOtherwise world facts.now.caller action.now 0) (SameRuling world action.now) }
+    ensures tells { IsFindingOf Rule.RuledOtherwise facts.now action.now 0 result }
     ensures implies { FindingImplies result Rule.RuledOtherwise facts.now action.now }
 {
     match action {
@@ -259,7 +257,7 @@ fn ruling_finding(facts: &Facts, action: &Action) -> Finding
 }
 
 fn is_at_limit(facts: &Facts, action: &Action) -> bool
-    ensures tells { (world : World) → Tells Rule.LimitReached facts.now world action.now → (IsTrue result ↔ IsAtLimit world facts.now.caller action.now) }
+    ensures tells { IsTestOf Rule.LimitReached facts.now action.now 0 result }
     ensures below { result ≡ false → IsSome facts.now.caller → IsBelowLimit facts.now action.now }
 {
     match action {
@@ -271,7 +269,7 @@ fn is_at_limit(facts: &Facts, action: &Action) -> bool
 }
 
 fn check_rule(rule: Rule, facts: &Facts, action: &Action, t: Moment) -> Finding
-    ensures tells { (world : World) → Tells rule facts.now world action.now → IsFinding result (Sentence rule world facts.now.caller action.now t) (SameBefore rule world facts.now.caller action.now) }
+    ensures tells { IsFindingOf rule facts.now action.now t result }
     ensures implies { FindingImplies result rule facts.now action.now }
 {
     match rule {
@@ -300,10 +298,10 @@ fn check_rule(rule: Rule, facts: &Facts, action: &Action, t: Moment) -> Finding
 
 /// The first rule that forbids or repeats, of those asked of the action.
 pub fn decide(facts: &Facts, action: &Action, t: Moment) -> Decision
-    ensures first { (world : World) → TrueUpTo (deciding action.now result) facts.now world action.now → First world facts.now.caller action.now t result }
+    ensures first { IsDecidedUpTo (deciding action.now result) facts.now action.now t result }
+    ensures decided { IsDecidedUpTo 20 facts.now action.now t result }
     ensures passes { (n : ℕ) → n < deciding action.now result → PassesUpTo n facts.now action.now t }
     ensures implies { Implies result facts.now action.now }
-    ensures decided { (world : World) → TrueUpTo 20 facts.now world action.now → IsDecided world facts.now action.now t result }
 {
     for rule in rules_asked(action) {
         match check_rule(*rule, facts, action, t) {
@@ -317,7 +315,7 @@ pub fn decide(facts: &Facts, action: &Action, t: Moment) -> Decision
 
 /// The decision where a rule up to `most` makes it; facts that later rules read may be anything.
 pub fn decide_up_to(facts: &Facts, action: &Action, t: Moment, most: Rule) -> Option<Decision>
-    ensures some { IfSome result (λ decision. (world : World) → TrueUpTo (number_of most) facts.now world action.now → IsDecided world facts.now action.now t decision) }
+    ensures some { IfSome result (λ decision. IsDecidedUpTo (number_of most) facts.now action.now t decision) }
     ensures none { IfNone result (PassesUpTo (number_of most) facts.now action.now t) }
     ensures whole { IfNone result (number_of most < 20) }
 {

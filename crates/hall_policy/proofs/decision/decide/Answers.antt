@@ -1,4 +1,4 @@
-use Rattle.std.proofs.Common.{below_more, subst, ◌≡◌, ◌<◌, ◌≤◌, length, lit≤}
+use Rattle.std.proofs.Common.{below_more, subst, ◌≡◌, ◌<◌, ◌≤◌, length, lit≤, arith}
 use Rattle.std.proofs.lemmas.Option.{get_or_from_slice_get}
 use Rattle.hall_policy.specs.World.{World}
 use Rattle.hall_policy.specs.Actions.{number_of, rules_asked}
@@ -30,7 +30,7 @@ returns-in-Forbids c =
         denied facts action c.args.t c.loop-rule.rule-index c.number.result within number c.loop-rule.invariant (rw c.rules_asked-rule-items.ensures at c.in-Forbids.ensures.tells) in
     let implied : Implies (Deny c.number.result) facts action = denial facts action c.loop-rule.rule-index c.number.result within number in
     record {
-      first = first;
+      first = decided facts action c.args.t c.number.result (Deny c.number.result) (omega arith) first implied;
       passes = passes_before facts action c.args.t c.loop-rule.rule-index c.number.result within number c.loop-rule.invariant;
       implies = implied;
       decided = decided facts action c.args.t 20 (Deny c.number.result) (small_deciding facts action (Deny c.number.result) implied) first implied;
@@ -48,7 +48,7 @@ returns-in-Repeats c =
         repeats facts action c.args.t i within number c.loop-rule.invariant (rw c.rules_asked-rule-items.ensures at c.in-Repeats.ensures.tells) in
     let implied : Implies Repeat facts action = repeated facts action c.args.t i within number c.loop-rule.invariant found.1 in
     record {
-      first = first;
+      first = decided facts action c.args.t (deciding action Repeat) Repeat (omega arith) first implied;
       passes = passes_before facts action c.args.t i (deciding action Repeat) within number c.loop-rule.invariant;
       implies = implied;
       decided = decided facts action c.args.t 20 Repeat (small_deciding facts action Repeat implied) first implied;
@@ -63,7 +63,7 @@ returns c =
     let first : (world : World) → TrueUpTo 20 facts world action → First world facts.caller action c.args.t Allow = all_pass facts action c.args.t i past c.loop-rule.invariant 20 in
     let implied : Implies Allow facts action = allowed facts action c.args.t i past c.loop-rule.invariant in
     record {
-      first = first;
+      first = decided facts action c.args.t 20 Allow (lit≤ tt) first implied;
       passes = λ n less. all_pass facts action c.args.t i past c.loop-rule.invariant n;
       implies = implied;
       decided = decided facts action c.args.t 20 Allow (lit≤ tt) first implied;

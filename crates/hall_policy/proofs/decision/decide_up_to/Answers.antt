@@ -8,7 +8,7 @@ pub returns-then-deciding-number-clause-some : goal.returns-then-deciding-number
 returns-then-deciding-number-clause-some c =
     let d = c.decide-decision in
     let in_time : deciding c.args.action.now d.result ≤ number_of c.args.most = omega (arith, c.if-deciding-number.true, c.deciding.ensures, c.number.ensures) in
-    decided c.args.facts.now c.args.action.now c.args.t (number_of c.args.most) d.result in_time d.ensures.first d.ensures.implies
+    decided c.args.facts.now c.args.action.now c.args.t (number_of c.args.most) d.result in_time (λ world told. (d.ensures.first world told).first) d.ensures.implies
 
 pub returns-else-deciding-number-clause-none : goal.returns-else-deciding-number-clause-none
 returns-else-deciding-number-clause-none c =
