@@ -6,6 +6,7 @@ mod decision;
 mod facts;
 mod list;
 mod number;
+mod ranges;
 mod record;
 mod request;
 mod rule;
