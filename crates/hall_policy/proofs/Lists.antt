@@ -1,5 +1,5 @@
 -- On lists in which no item is like a later one.
-use Rattle.std.proofs.Common.{◌≡◌, ◌≢◌, ◌⊎◌, ◌↔◌, ℕ, ◌+◌, ◌<◌, ◌≤◌, Bool, true, false, not, ◌||◌, IsTrue, List, [], length, take, slice_get, slice_index_or, Some, Any, AllPairs, arith, refl, sym, ◌∙◌, ap, subst, inl, inr, below_more, length-take}
+use Rattle.std.proofs.Common.{◌≡◌, ◌⊎◌, ◌↔◌, ℕ, ◌+◌, ◌<◌, ◌≤◌, Bool, true, false, not, ◌||◌, IsTrue, List, [], length, take, slice_get, slice_index_or, Some, Any, AllPairs, arith, refl, sym, ◌∙◌, ap, subst, inl, inr, below_more, length-take}
 use Rattle.std.proofs.lemmas.List.{get_or-take, get_or_default}
 use Rattle.std.proofs.lemmas.Option.{slice_get-get_or, get_or_from_slice_get}
 use Rattle.std.proofs.lemmas.Bool.{false≢true}
@@ -94,17 +94,17 @@ module _ {X : Type 0} (text : X → List ℕ) where
         | inr old ↦ let b = (seen.texts q).0 old in (b.0, b.1, omega (arith, b.2), b.3, b.4)
       ],
       λ b. too q ∙ below_more (λ (j : ℕ). slice_get xs j ≡ Some b.1 → (is_eq (text_cmp (text x) q) || contains text_cmp before q) ≡ true) i
-        (λ j less at. or_second (is_eq (text_cmp (text x) q)) (contains text_cmp before q) ((seen.texts q).1 (j, b.1, less, at, b.4)))
-        (λ at. let one : x ≡ b.1 = cc in or_first (is_eq (text_cmp (text x) q)) (contains text_cmp before q) (ap is_eq (subst (λ (r : List ℕ). text_cmp (text x) r ≡ Equal) (ap text one ∙ b.4) (tied_itself text_total (text x)))))
-        b.0 b.2 b.3,
+          (λ j less at. or_second (is_eq (text_cmp (text x) q)) (contains text_cmp before q) ((seen.texts q).1 (j, b.1, less, at, b.4)))
+          (λ at. let one : x ≡ b.1 = cc in or_first (is_eq (text_cmp (text x) q)) (contains text_cmp before q) (ap is_eq (subst (λ (r : List ℕ). text_cmp (text x) r ≡ Equal) (ap text one ∙ b.4) (tied_itself text_total (text x)))))
+          b.0 b.2 b.3,
     );
     differ = λ j k a b less last at later.
         below_more (λ (m : ℕ). (n : ℕ) (y : X) → n < m → slice_get xs n ≡ Some y → slice_get xs m ≡ Some b → ¬ (text y ≡ text b)) i
         (λ m lm n y ln e f. seen.differ n m y b ln lm e f)
         (λ n y ln e f same.
-          let one : x ≡ b = cc in
-          let found : contains text_cmp before (text x) ≡ true = (seen.texts (text x)).1 (n, y, ln, e, same ∙ ap text (sym one)) in
-          false≢true (sym (not_false (contains text_cmp before (text x)) new) ∙ found))
+        let one : x ≡ b = cc in
+        let found : contains text_cmp before (text x) ≡ true = (seen.texts (text x)).1 (n, y, ln, e, same ∙ ap text (sym one)) in
+        false≢true (sym (not_false (contains text_cmp before (text x)) new) ∙ found))
         k last j a less at later;
   }
 

@@ -1,5 +1,5 @@
 -- What follows, of the facts alone, where a rule passes, where a request repeats another, and from a decision.
-use Rattle.std.specs.Prelude.{◌≡◌, ◌<◌, ◌||◌, ◌&&◌, ◌⊎◌, ℕ, false, Option, Some, None, IsTrue, IsSome, Contains}
+use Rattle.std.specs.Prelude.{◌≡◌, ◌<◌, ◌||◌, ◌&&◌, ℕ, false, Some, None, IsTrue, IsSome, Contains}
 use Rattle.hall_policy.specs.World.{entry_at}
 use Rattle.hall_policy.specs.Actions.{number_of, rules_asked, may, finds_drafts}
 use Rattle.hall_policy.specs.Rules.{TheCaller, LacksRole, is_director}

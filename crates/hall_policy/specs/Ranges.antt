@@ -1,5 +1,5 @@
 -- The ranges of the types: of which worlds and requests every definition and law speaks.
-use Rattle.std.specs.Prelude.{◌≡◌, ◌≢◌, ◌<◌, ◌≤◌, ◌^◌, ◌≤ℤ◌, ℕ, ℤ, pos, negsuc, List, Option, Some, None, IfSome, All}
+use Rattle.std.specs.Prelude.{◌≡◌, ◌≢◌, ◌<◌, ◌≤◌, ◌^◌, ◌≤ℤ◌, ℕ, pos, negsuc, List, Some, None, IfSome, All}
 use Rattle.std.specs.FinMap.{get}
 use Rattle.hall_grid.specs.Board.{IsBoard}
 use Rattle.hall_policy.specs.Text.{IsOfKind, is_word_byte, is_key_byte, is_printable}

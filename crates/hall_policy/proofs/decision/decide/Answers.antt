@@ -2,8 +2,8 @@ use Rattle.std.proofs.Common.{below_more, subst, ◌≡◌, ◌<◌, ◌≤◌, 
 use Rattle.std.proofs.lemmas.Option.{get_or_from_slice_get}
 use Rattle.hall_policy.specs.World.{World}
 use Rattle.hall_policy.specs.Actions.{number_of, rules_asked}
-use Rattle.hall_policy.specs.Facts.{Tells, TrueUpTo, deciding}
-use Rattle.hall_policy.specs.First.{Sentence, SameBefore, First}
+use Rattle.hall_policy.specs.Facts.{TrueUpTo, deciding}
+use Rattle.hall_policy.specs.First.{First}
 use Rattle.hall_policy.specs.Implies.{Implies, IsSame}
 use Rattle.hall_policy.specs.declared.rule.Rule.{Rule}
 use Rattle.hall_policy.specs.declared.rule.Rule.TheVariants.{UnknownKey}
@@ -27,7 +27,7 @@ returns-in-Forbids c =
     let within : c.loop-rule.rule-index < length (rules_asked action) = rw c.rules_asked-rule-items.ensures at c.loop-rule-test.true in
     let number : c.number.result ≡ number_of (rule_at action c.loop-rule.rule-index) = rw c.rules_asked-rule-items.ensures at c.number.ensures in
     let first : (world : World) → TrueUpTo c.number.result facts world action → First world facts.caller action c.args.t (Deny c.number.result) =
-        denied facts action c.args.t c.loop-rule.rule-index c.number.result within number c.loop-rule.invariant (rw c.rules_asked-rule-items.ensures at c.in-Forbids.ensures.tells) in
+    denied facts action c.args.t c.loop-rule.rule-index c.number.result within number c.loop-rule.invariant (rw c.rules_asked-rule-items.ensures at c.in-Forbids.ensures.tells) in
     let implied : Implies (Deny c.number.result) facts action = denial facts action c.loop-rule.rule-index c.number.result within number in
     record {
       first = decided facts action c.args.t c.number.result (Deny c.number.result) (omega arith) first implied;
@@ -45,7 +45,7 @@ returns-in-Repeats c =
     let found : MayRepeat (rule_at action i) × IsSame facts action = rw c.rules_asked-rule-items.ensures at c.in-Repeats.ensures.implies in
     let number : deciding action Repeat ≡ number_of (rule_at action i) = repeats_at facts action i within found.0 found.1 in
     let first : (world : World) → TrueUpTo (deciding action Repeat) facts world action → First world facts.caller action c.args.t Repeat =
-        repeats facts action c.args.t i within number c.loop-rule.invariant (rw c.rules_asked-rule-items.ensures at c.in-Repeats.ensures.tells) in
+    repeats facts action c.args.t i within number c.loop-rule.invariant (rw c.rules_asked-rule-items.ensures at c.in-Repeats.ensures.tells) in
     let implied : Implies Repeat facts action = repeated facts action c.args.t i within number c.loop-rule.invariant found.1 in
     record {
       first = decided facts action c.args.t (deciding action Repeat) Repeat (omega arith) first implied;

@@ -1,4 +1,4 @@
-use Rattle.std.proofs.Common.{◌≡◌, ◌<◌, ◌≤◌, arith}
+use Rattle.std.proofs.Common.{◌<◌, ◌≤◌, arith}
 use Rattle.hall_policy.specs.Actions.{number_of}
 use Rattle.hall_policy.specs.Facts.{deciding}
 use Rattle.hall_policy.proofs.First.{decided, small_deciding}

@@ -1,4 +1,4 @@
-use Rattle.std.proofs.Common.{◌≡◌, List, ℕ, slice_get, Some, refl, sym, ◌∙◌}
+use Rattle.std.proofs.Common.{refl, sym, ◌∙◌}
 use Rattle.std.proofs.lemmas.Bool.{false≢true}
 use Rattle.hall_policy.specs.declared.record.Person.{Person}
 use Rattle.hall_policy.proofs.Lists.{item_at, one_more, seen_twice, all_differ}
