@@ -1,5 +1,5 @@
 -- On lists in which no item is like a later one.
-use Rattle.std.proofs.Common.{◌≡◌, ◌⊎◌, ◌↔◌, ℕ, ◌+◌, ◌<◌, ◌≤◌, Bool, true, false, not, ◌||◌, IsTrue, List, [], length, take, slice_get, slice_index_or, Some, Any, AllPairs, arith, refl, sym, ◌∙◌, ap, subst, inl, inr, below_more, length-take}
+use Rattle.std.proofs.Common.{◌≡◌, ◌⊎◌, ◌↔◌, ℕ, ◌+◌, ◌<◌, ◌≤◌, Bool, true, false, not, ◌||◌, IsTrue, List, length, take, slice_get, slice_index_or, Some, Any, AllPairs, arith, refl, sym, ◌∙◌, ap, subst, inl, inr, below_more, length-take}
 use Rattle.std.proofs.lemmas.List.{get_or-take, get_or_default}
 use Rattle.std.proofs.lemmas.Option.{slice_get-get_or, get_or_from_slice_get}
 use Rattle.std.proofs.lemmas.Bool.{false≢true}
@@ -9,8 +9,7 @@ use Rattle.std.specs.declared.cmp.Ordering.{Ordering}
 use Rattle.std.specs.declared.cmp.Ordering.TheVariants.{Less, Equal, Greater}
 use Rattle.std.specs.BTreeSet.{BTreeSet, contains}
 use Rattle.hall_policy.specs.Text.{text_cmp}
-use Rattle.hall_policy.specs.Lists.{ArePeopleDifferent, IsSeenToo}
-use Rattle.hall_policy.specs.declared.record.Person.{Person}
+use Rattle.hall_policy.specs.Lists.{IsSeenToo}
 use Rattle.hall_policy.proofs.Orders.{text_total, same_texts}
 
 -- an item that clashes with an earlier one
@@ -75,15 +74,6 @@ module _ {X : Type 0} (text : X → List ℕ) where
     pub texts : (q : List ℕ) → IsTrue (contains text_cmp seen q) ↔ IsBefore xs i q
     pub differ : (j k : ℕ) (a b : X) → j < k → k < i → slice_get xs j ≡ Some a → slice_get xs k ≡ Some b → ¬ (text a ≡ text b)
 
-  pub none_seen : (xs : List X) (seen : BTreeSet (List ℕ)) → seen.keys ≡ [] → AreSeen xs 0 seen
-  none_seen xs seen e = record {
-    texts = λ q. (
-      λ t. absurd (false≢true (sym (ap (λ (keys : List (List ℕ)). contains text_cmp (record { keys = keys }) q) e) ∙ t)),
-      λ b. absurd (omega (arith, b.2)),
-    );
-    differ = λ j k a b before last. absurd (omega arith);
-  }
-
   -- one more text, which is new
   pub one_more : (xs : List X) (i : ℕ) (x : X) (before after : BTreeSet (List ℕ)) → slice_get xs i ≡ Some x → AreSeen xs i before →
       not (contains text_cmp before (text x)) ≡ true → IsSeenToo before after (text x) → AreSeen xs (i + 1) after
@@ -118,10 +108,3 @@ module _ {X : Type 0} (text : X → List ℕ) where
   pub all_differ : (xs : List X) (i : ℕ) (seen : BTreeSet (List ℕ)) → length xs ≤ i → AreSeen xs i seen → AllPairs (λ a b. ¬ (text a ≡ text b)) xs
   all_differ xs i seen whole are j k d less last =
       are.differ j k (slice_index_or xs j d) (slice_index_or xs k d) less (omega (arith, last)) (slice_get-get_or xs j d (omega (arith, less, last))) (slice_get-get_or xs k d last)
-
--- people differ where their names do and their keys do
-pub people_differ : (people : List Person) → AllPairs (λ a b. ¬ (a.name ≡ b.name)) people → AllPairs (λ a b. ¬ (a.key ≡ b.key)) people → ArePeopleDifferent people
-people_differ people names keys j k d less last = λ same. elim same [
-  | inl name ↦ names j k d less last name
-  | inr key ↦ keys j k d less last key
-]
