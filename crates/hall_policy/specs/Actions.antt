@@ -41,10 +41,12 @@ rules_asked (PutRound round sheet) = UnknownKey ∷ NoRole ∷ Missing ∷ NoDra
 rules_asked (Release round) = UnknownKey ∷ NoRole ∷ Missing ∷ InReleasedRound ∷ NotCertified ∷ NoDraft ∷ Started ∷ []
 rules_asked ListRounds = UnknownKey ∷ []
 rules_asked (ReadRound round) = UnknownKey ∷ NoRole ∷ Missing ∷ OwnPuzzle ∷ NotStarted ∷ []
-rules_asked (Submit round number token answer) = UnknownKey ∷ NoRole ∷ Missing ∷ OwnPuzzle ∷ TokenTaken ∷ NotStarted ∷ Ended ∷ Published ∷ LimitReached ∷ []
+rules_asked (Submit round number token answer) =
+    UnknownKey ∷ NoRole ∷ Missing ∷ OwnPuzzle ∷ TokenTaken ∷ NotStarted ∷ Ended ∷ Published ∷ LimitReached ∷ []
 rules_asked (Answers round) = UnknownKey ∷ NoRole ∷ Missing ∷ []
 rules_asked (Solutions round) = UnknownKey ∷ NoRole ∷ Missing ∷ NotEnded ∷ []
-rules_asked (Protest round token number text) = UnknownKey ∷ NoRole ∷ Missing ∷ OwnPuzzle ∷ TokenTaken ∷ NotEnded ∷ Closed ∷ Published ∷ LimitReached ∷ []
+rules_asked (Protest round token number text) =
+    UnknownKey ∷ NoRole ∷ Missing ∷ OwnPuzzle ∷ TokenTaken ∷ NotEnded ∷ Closed ∷ Published ∷ LimitReached ∷ []
 rules_asked (Protests round) = UnknownKey ∷ NoRole ∷ Missing ∷ []
 rules_asked (Rule round entrant token ruling) = UnknownKey ∷ NoRole ∷ Missing ∷ Involved ∷ RuledOtherwise ∷ []
 rules_asked (Publish round) = UnknownKey ∷ NoRole ∷ Missing ∷ NotEnded ∷ Published ∷ OpenProtest ∷ []

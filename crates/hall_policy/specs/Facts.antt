@@ -1,10 +1,10 @@
 -- What the desk found for one request, and of which worlds it is true.
-use Rattle.std.specs.Prelude.{◌≡◌, ◌≤◌, ◌↔◌, ◌&&◌, ℕ, false, List, Option, Some, None, IsTrue, Contains}
+use Rattle.std.specs.Prelude.{◌≡◌, ◌↔◌, ◌&&◌, nat_le, ℕ, Bool, true, false, List, Option, Some, None, IsTrue, Contains}
 use Rattle.std.specs.FinMap.{get}
 use Rattle.std.specs.List.{AllByRecursion}
-use Rattle.hall_policy.specs.World.{World, IsRoundAt, entry_at}
+use Rattle.hall_policy.specs.World.{World, IsRoundAt, entry_at, answer_of, protest_of}
 use Rattle.hall_policy.specs.Actions.{number_of, rules_asked, round_named, finds_drafts}
-use Rattle.hall_policy.specs.Rules.{is_director, IsInReleasedRound, IsUncertified, HasOpenProtest, IsInvolved, HasConflict, answers_given, protests_made, puzzles_put}
+use Rattle.hall_policy.specs.Rules.{is_director, ListsAuthor, IsInReleasedRound, IsUncertified, HasOpenProtest, IsInvolved, HasConflict, answers_given, protests_made, puzzles_put}
 use Rattle.hall_policy.specs.declared.record.Person.{Person}
 use Rattle.hall_policy.specs.declared.record.Entry.{Entry}
 use Rattle.hall_policy.specs.declared.record.RoundRow.{RoundRow}
@@ -26,30 +26,38 @@ IsRoundFound world (Some id) (Some row) = IsRoundAt world id row
 -- the answer found under the caller's token
 abbrev pub IsAnswerFound : Facts → World → Action → Type 0
 IsAnswerFound facts world (Submit round number token answer) =
-    (person : Person) → facts.caller ≡ Some person → facts.answer ≡ get world.answers (record { entrant = person.name; round = round; number = number; token = token })
+    (person : Person) → facts.caller ≡ Some person → facts.answer ≡ answer_of world person.name round number token
 IsAnswerFound facts world _ = Unit {0}
 
 -- the protest found under the token of the caller, or of the entrant who is named
 abbrev pub IsProtestFound : Facts → World → Action → Type 0
 IsProtestFound facts world (Protest round token number text) =
-    (person : Person) → facts.caller ≡ Some person → facts.protest ≡ get world.protests (record { entrant = person.name; round = round; token = token })
-IsProtestFound facts world (Rule round entrant token ruling) = facts.protest ≡ get world.protests (record { entrant = entrant; round = round; token = token })
+    (person : Person) → facts.caller ≡ Some person → facts.protest ≡ protest_of world person.name round token
+IsProtestFound facts world (Rule round entrant token ruling) = facts.protest ≡ protest_of world entrant round token
 IsProtestFound facts world _ = Unit {0}
 
 -- what is needed to tell whether the object is there
 abbrev pub IsObjectFound : Facts → World → Action → Type 0
-IsObjectFound facts world (PutPuzzle key puzzle) = IsTrue facts.author_is_there ↔ ((person : Person) × (get world.people key.author ≡ Some person) × IsTrue person.roles.author)
+IsObjectFound facts world (PutPuzzle key puzzle) =
+    IsTrue facts.author_is_there
+    ↔ ((person : Person) × (get world.people key.author ≡ Some person) × IsTrue person.roles.author)
 IsObjectFound facts world (ReadPuzzle key) = facts.puzzle ≡ get world.puzzles key
 IsObjectFound facts world (Certify key budget) = facts.puzzle ≡ get world.puzzles key
-IsObjectFound facts world (PutRound round sheet) = IsTrue facts.sheet_lacks ↔ ((entry : Entry) × Contains sheet.puzzles entry × (get world.puzzles entry.puzzle ≡ None))
-IsObjectFound facts world (Rule round entrant token ruling) = IsRoundFound world (Some round) facts.round × (facts.protest ≡ get world.protests (record { entrant = entrant; round = round; token = token }))
+IsObjectFound facts world (PutRound round sheet) =
+    IsTrue facts.sheet_lacks
+    ↔ ((entry : Entry) × Contains sheet.puzzles entry × (get world.puzzles entry.puzzle ≡ None))
+IsObjectFound facts world (Rule round entrant token ruling) =
+    IsRoundFound world (Some round) facts.round × (facts.protest ≡ protest_of world entrant round token)
 IsObjectFound facts world action = IsRoundFound world (round_named action) facts.round
 
 -- how much of what is limited there is
 abbrev pub IsCountFound : Facts → World → Action → Type 0
-IsCountFound facts world (Submit round number token answer) = (person : Person) → facts.caller ≡ Some person → facts.count ≡ answers_given world person.name round number
-IsCountFound facts world (Protest round token number text) = (person : Person) → facts.caller ≡ Some person → facts.count ≡ protests_made world person.name round
-IsCountFound facts world (PutPuzzle key puzzle) = (facts.puzzle ≡ get world.puzzles key) × (facts.puzzle ≡ None → facts.count ≡ puzzles_put world key.author)
+IsCountFound facts world (Submit round number token answer) =
+    (person : Person) → facts.caller ≡ Some person → facts.count ≡ answers_given world person.name round number
+IsCountFound facts world (Protest round token number text) =
+    (person : Person) → facts.caller ≡ Some person → facts.count ≡ protests_made world person.name round
+IsCountFound facts world (PutPuzzle key puzzle) =
+    (facts.puzzle ≡ get world.puzzles key) × (facts.puzzle ≡ None → facts.count ≡ puzzles_put world key.author)
 IsCountFound facts world _ = Unit {0}
 
 -- the facts that a rule reads are true of the world
@@ -82,18 +90,33 @@ deciding (Rule round entrant token ruling) Repeat = 18
 deciding action Repeat = 6
 deciding action Allow = 20
 
--- the facts, up to the rule that decides, are true of the world
+-- P, where the test passes
+abbrev pub Where : Bool → Type 0 → Type 0
+Where true P = P
+Where false P = Unit {0}
+
+-- the facts that the asked rules read, up to the one of number n, are true of the world
 abbrev pub TrueUpTo : ℕ → Facts → World → Action → Type 0
-TrueUpTo n facts world action = (r : rule.Rule) → Contains (rules_asked action) r → number_of r ≤ n → Tells r facts world action
+TrueUpTo n facts world action =
+    AllByRecursion (λ r. Where (nat_le (number_of r) n) (Tells r facts world action)) (rules_asked action)
 
 -- no round was found, or a draft that the action doesn't find
 abbrev pub HidesRound : Facts → Action → Type 0
-HidesRound facts action = (row : RoundRow) → facts.round ≡ Some row → (row.round.released ≡ false) × ((is_director facts.caller && finds_drafts action) ≡ false)
+HidesRound facts action =
+    (row : RoundRow) → facts.round ≡ Some row →
+    (row.round.released ≡ false) × ((is_director facts.caller && finds_drafts action) ≡ false)
 
 -- no round was found, or one without a puzzle of this number
 abbrev pub LacksNumber : Facts → ℕ → Type 0
 LacksNumber facts number = (row : RoundRow) → facts.round ≡ Some row → entry_at row.puzzles number ≡ None
 
--- each fact that a rule asked of the action reads is true of the world
-abbrev pub AllTrue : Facts → World → Action → Type 0
-AllTrue facts world action = AllByRecursion (λ r. Tells r facts world action) (rules_asked action)
+-- one of the puzzles is by the author
+abbrev pub HasEntryBy : List Entry → List ℕ → Type 0
+HasEntryBy entries author = (entry : Entry) × Contains entries entry × (entry.puzzle.author ≡ author)
+
+-- the test tells whether the round that is named has a puzzle by the author,
+-- in each world that has the round as it was found
+abbrev pub TellsAuthor : Facts → List ℕ → Bool → Type 0
+TellsAuthor facts author test =
+    (world : World) (named : Option (List ℕ)) → IsRoundFound world named facts.round →
+    (IsTrue test ↔ ListsAuthor world named author)

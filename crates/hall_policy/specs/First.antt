@@ -49,10 +49,14 @@ Repeated rule world caller action = Contains (rules_asked action) rule × SameBe
 
 -- no rule with a number below n forbids or repeats
 abbrev pub NoneBelow : ℕ → World → Option Person → Action → ℕ → Type 0
-NoneBelow n world caller action t = (rule : Rule) → number_of rule < n → ¬ (Forbids rule world caller action t) × ¬ (Repeated rule world caller action)
+NoneBelow n world caller action t =
+    (rule : Rule) → number_of rule < n → ¬ (Forbids rule world caller action t) × ¬ (Repeated rule world caller action)
 
--- the first rule that forbids: of the rules asked, the least that forbids or repeats decides; where there is none, the action is allowed
+-- the first rule that forbids: of the rules asked, the least that forbids or repeats decides;
+-- where there is none, the action is allowed
 abbrev pub First : World → Option Person → Action → ℕ → Decision → Type 0
-First world caller action t (Deny k) = (rule : Rule) × (number_of rule ≡ k) × Forbids rule world caller action t × NoneBelow k world caller action t
-First world caller action t Repeat = (rule : Rule) × Repeated rule world caller action × NoneBelow (number_of rule) world caller action t
+First world caller action t (Deny k) =
+    (rule : Rule) × (number_of rule ≡ k) × Forbids rule world caller action t × NoneBelow k world caller action t
+First world caller action t Repeat =
+    (rule : Rule) × Repeated rule world caller action × NoneBelow (number_of rule) world caller action t
 First world caller action t Allow = NoneBelow 21 world caller action t

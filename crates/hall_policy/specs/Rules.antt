@@ -1,7 +1,7 @@
 -- The twenty rules of the policy, each a sentence over whole maps.
 use Rattle.std.specs.Prelude.{◌≡◌, ◌≢◌, ◌==◌, ◌≤◌, ◌<◌, ◌&&◌, ◌⊎◌, ℕ, Bool, false, List, Option, Some, None, IsTrue, Contains, count_by}
 use Rattle.std.specs.FinMap.{get, values}
-use Rattle.hall_policy.specs.World.{World, end_of, close_of, same_text}
+use Rattle.hall_policy.specs.World.{World, place_of, answer_of, protest_of, end_of, close_of, same_text}
 use Rattle.hall_policy.specs.Actions.{may, puzzle_named, round_named, finds_drafts}
 use Rattle.hall_policy.specs.declared.record.Person.{Person}
 use Rattle.hall_policy.specs.declared.record.PuzzleKey.{PuzzleKey}
@@ -26,19 +26,23 @@ is_director (Some person) = person.roles.director
 
 -- the round that the action names is kept, and has P
 abbrev pub TheRound : World → Action → (Round → Type 0) → Type 0
-TheRound world action P = (id : List ℕ) × (round : Round) × (round_named action ≡ Some id) × (get world.rounds id ≡ Some round) × P round
+TheRound world action P =
+    (id : List ℕ) × (round : Round) × (round_named action ≡ Some id) × (get world.rounds id ≡ Some round) × P round
 
 -- the round has this entry at some number
 abbrev pub Lists : World → List ℕ → Entry → Type 0
-Lists world round entry = (number : ℕ) × (get world.places (record { round = round; number = number }) ≡ Some entry)
+Lists world round entry = (number : ℕ) × (place_of world round number ≡ Some entry)
 
 -- the puzzle stands in that round, which is released
 abbrev pub StandsReleased : World → PuzzleKey → List ℕ → Type 0
-StandsReleased world key id = (round : Round) × (entry : Entry) × (get world.rounds id ≡ Some round) × IsTrue round.released × Lists world id entry × (entry.puzzle ≡ key)
+StandsReleased world key id =
+    (round : Round) × (entry : Entry) × (get world.rounds id ≡ Some round) × IsTrue round.released
+    × Lists world id entry × (entry.puzzle ≡ key)
 
 -- the puzzle is kept in the state one
 abbrev pub IsCertified : World → PuzzleKey → Type 0
-IsCertified world key = (row : PuzzleRow) × (solution : List ℕ) × (get world.puzzles key ≡ Some row) × (row.state ≡ One solution)
+IsCertified world key =
+    (row : PuzzleRow) × (solution : List ℕ) × (get world.puzzles key ≡ Some row) × (row.state ≡ One solution)
 
 -- 1. The key is unknown.
 abbrev pub KeyIsUnknown : Option Person → Type 0
@@ -50,27 +54,38 @@ LacksRole caller action = TheCaller caller (λ person. may person.roles action �
 
 -- 3. A caller who is no director names an author other than the caller; judged by the name alone.
 abbrev pub NamesOtherAuthor : Option Person → Action → Type 0
-NamesOtherAuthor caller action = TheCaller caller (λ person. (person.roles.director ≡ false) × (key : PuzzleKey) × (puzzle_named action ≡ Some key) × (key.author ≢ person.name))
+NamesOtherAuthor caller action =
+    TheCaller caller (λ person. (person.roles.director ≡ false) × (key : PuzzleKey)
+    × (puzzle_named action ≡ Some key) × (key.author ≢ person.name))
 
 -- the round isn't there; a draft is there only for a director's PutRound, Release, ListRounds and ReadRound
 abbrev pub RoundIsMissing : World → Option Person → Action → List ℕ → Type 0
-RoundIsMissing world caller action id = (round : Round) → get world.rounds id ≡ Some round → (round.released ≡ false) × ((is_director caller && finds_drafts action) ≡ false)
+RoundIsMissing world caller action id =
+    (round : Round) → get world.rounds id ≡ Some round → (round.released ≡ false)
+    × ((is_director caller && finds_drafts action) ≡ false)
 
--- 4. The object isn't there: the puzzle; the round; the puzzle's number in the round; the protest. PutPuzzle asks only for a person of the author's name with the role author,
+-- 4. The object isn't there: the puzzle; the round; the puzzle's number in the round; the protest. PutPuzzle
+-- asks only for a person of the author's name with the role author,
 -- PutRound only for each puzzle of the sheet.
 abbrev pub IsMissing : World → Option Person → Action → Type 0
-IsMissing world caller (PutPuzzle key puzzle) = (person : Person) → get world.people key.author ≡ Some person → person.roles.author ≡ false
+IsMissing world caller (PutPuzzle key puzzle) =
+    (person : Person) → get world.people key.author ≡ Some person → person.roles.author ≡ false
 IsMissing world caller (ReadPuzzle key) = get world.puzzles key ≡ None
 IsMissing world caller (Certify key budget) = get world.puzzles key ≡ None
-IsMissing world caller (PutRound round sheet) = (entry : Entry) × Contains sheet.puzzles entry × (get world.puzzles entry.puzzle ≡ None)
+IsMissing world caller (PutRound round sheet) =
+    (entry : Entry) × Contains sheet.puzzles entry × (get world.puzzles entry.puzzle ≡ None)
 IsMissing world caller (Release round) = RoundIsMissing world caller (Release round) round
 IsMissing world caller (ReadRound round) = RoundIsMissing world caller (ReadRound round) round
-IsMissing world caller (Submit round number token answer) = RoundIsMissing world caller (Submit round number token answer) round ⊎ (get world.places (record { round = round; number = number }) ≡ None)
+IsMissing world caller (Submit round number token answer) =
+    RoundIsMissing world caller (Submit round number token answer) round ⊎ (place_of world round number ≡ None)
 IsMissing world caller (Answers round) = RoundIsMissing world caller (Answers round) round
 IsMissing world caller (Solutions round) = RoundIsMissing world caller (Solutions round) round
-IsMissing world caller (Protest round token number text) = RoundIsMissing world caller (Protest round token number text) round ⊎ (get world.places (record { round = round; number = number }) ≡ None)
+IsMissing world caller (Protest round token number text) =
+    RoundIsMissing world caller (Protest round token number text) round ⊎ (place_of world round number ≡ None)
 IsMissing world caller (Protests round) = RoundIsMissing world caller (Protests round) round
-IsMissing world caller (Rule round entrant token ruling) = RoundIsMissing world caller (Rule round entrant token ruling) round ⊎ (get world.protests (record { entrant = entrant; round = round; token = token }) ≡ None)
+IsMissing world caller (Rule round entrant token ruling) =
+    RoundIsMissing world caller (Rule round entrant token ruling) round
+    ⊎ (protest_of world entrant round token ≡ None)
 IsMissing world caller (Publish round) = RoundIsMissing world caller (Publish round) round
 IsMissing world caller (Table round) = RoundIsMissing world caller (Table round) round
 IsMissing world caller (Import people) = ⊥
@@ -79,26 +94,31 @@ IsMissing world caller ListRounds = ⊥
 
 -- the round that is named has a puzzle by the author
 abbrev pub ListsAuthor : World → Option (List ℕ) → List ℕ → Type 0
-ListsAuthor world named author = (id : List ℕ) × (round : Round) × (entry : Entry) × (named ≡ Some id) × (get world.rounds id ≡ Some round) × Lists world id entry × (entry.puzzle.author ≡ author)
+ListsAuthor world named author =
+    (id : List ℕ) × (round : Round) × (entry : Entry) × (named ≡ Some id) × (get world.rounds id ≡ Some round)
+    × Lists world id entry × (entry.puzzle.author ≡ author)
 
 -- 5. The caller is an entrant and author of a puzzle of the round.
 abbrev pub IsOwnPuzzle : World → Option Person → Action → Type 0
-IsOwnPuzzle world caller action = TheCaller caller (λ person. IsTrue person.roles.entrant × ListsAuthor world (round_named action) person.name)
+IsOwnPuzzle world caller action =
+    TheCaller caller (λ person. IsTrue person.roles.entrant × ListsAuthor world (round_named action) person.name)
 
 -- 6. The token of the caller stands; it belongs to the round and, for answers, to the puzzle's number.
 abbrev pub TokenStands : World → Option Person → Action → Type 0
 TokenStands world caller (Submit round number token answer) =
-    TheCaller caller (λ person. (row : AnswerRow) × (get world.answers (record { entrant = person.name; round = round; number = number; token = token }) ≡ Some row))
+    TheCaller caller (λ person. (row : AnswerRow) × (answer_of world person.name round number token ≡ Some row))
 TokenStands world caller (Protest round token number text) =
-    TheCaller caller (λ person. (row : ProtestRow) × (get world.protests (record { entrant = person.name; round = round; token = token }) ≡ Some row))
+    TheCaller caller (λ person. (row : ProtestRow) × (protest_of world person.name round token ≡ Some row))
 TokenStands world caller _ = ⊥
 
 -- 6. The token of the caller stands with the same content: the answer's text, or the protest's number and text.
 abbrev pub SameContent : World → Option Person → Action → Type 0
 SameContent world caller (Submit round number token answer) =
-    TheCaller caller (λ person. (row : AnswerRow) × (get world.answers (record { entrant = person.name; round = round; number = number; token = token }) ≡ Some row) × (row.answer ≡ answer))
+    TheCaller caller (λ person. (row : AnswerRow) × (answer_of world person.name round number token ≡ Some row)
+    × (row.answer ≡ answer))
 SameContent world caller (Protest round token number text) =
-    TheCaller caller (λ person. (row : ProtestRow) × (get world.protests (record { entrant = person.name; round = round; token = token }) ≡ Some row) × (row.number ≡ number) × (row.text ≡ text))
+    TheCaller caller (λ person. (row : ProtestRow) × (protest_of world person.name round token ≡ Some row)
+    × (row.number ≡ number) × (row.text ≡ text))
 SameContent world caller _ = ⊥
 
 -- 7. Before the start of the round that is named. Not asked of a director.
@@ -124,13 +144,17 @@ IsAfterStart world action t = TheRound world action (λ round. round.start ≤ t
 
 -- 11. The puzzle stands in a released round; for Release, a puzzle of the round stands in another released round.
 abbrev pub IsInReleasedRound : World → Action → Type 0
-IsInReleasedRound world (Release id) = (entry : Entry) × (other : List ℕ) × Lists world id entry × (other ≢ id) × StandsReleased world entry.puzzle other
+IsInReleasedRound world (Release id) =
+    (entry : Entry) × (other : List ℕ) × Lists world id entry × (other ≢ id)
+    × StandsReleased world entry.puzzle other
 IsInReleasedRound world (PutPuzzle key puzzle) = (id : List ℕ) × StandsReleased world key id
 IsInReleasedRound world _ = ⊥
 
 -- 12. A puzzle of the round isn't in state one; one that isn't kept has none.
 abbrev pub IsUncertified : World → Action → Type 0
-IsUncertified world action = (id : List ℕ) × (entry : Entry) × (round_named action ≡ Some id) × Lists world id entry × ¬ (IsCertified world entry.puzzle)
+IsUncertified world action =
+    (id : List ℕ) × (entry : Entry) × (round_named action ≡ Some id) × Lists world id entry
+    × ¬ (IsCertified world entry.puzzle)
 
 -- 13. The round is there and is no draft.
 abbrev pub IsNoDraft : World → Action → Type 0
@@ -143,52 +167,67 @@ IsPublished world action = TheRound world action (λ round. IsTrue round.publish
 
 -- 16. A protest of the round is open.
 abbrev pub HasOpenProtest : World → Action → Type 0
-HasOpenProtest world action = (id : List ℕ) × (key : ProtestKey) × (row : ProtestRow) × (round_named action ≡ Some id) × (key.round ≡ id) × (get world.protests key ≡ Some row) × (row.ruling ≡ None)
+HasOpenProtest world action =
+    (id : List ℕ) × (key : ProtestKey) × (row : ProtestRow) × (round_named action ≡ Some id) × (key.round ≡ id)
+    × (get world.protests key ≡ Some row) × (row.ruling ≡ None)
 
 -- 17. The caller has an answer in that round or made the protest.
 abbrev pub IsInvolved : World → Option Person → Action → Type 0
 IsInvolved world caller (Rule round entrant token ruling) = TheCaller caller (λ person.
-    ((number : ℕ) × (used : List ℕ) × (row : AnswerRow) × (get world.answers (record { entrant = person.name; round = round; number = number; token = used }) ≡ Some row))
+    ((number : ℕ) × (used : List ℕ) × (row : AnswerRow) × (answer_of world person.name round number used ≡ Some row))
     ⊎ (entrant ≡ person.name))
 IsInvolved world caller _ = ⊥
 
 -- 18. The protest is ruled.
 abbrev pub IsRuled : World → Action → Type 0
-IsRuled world (Rule round entrant token ruling) = (row : ProtestRow) × (get world.protests (record { entrant = entrant; round = round; token = token }) ≡ Some row) × (row.ruling ≢ None)
+IsRuled world (Rule round entrant token ruling) =
+    (row : ProtestRow) × (protest_of world entrant round token ≡ Some row) × (row.ruling ≢ None)
 IsRuled world _ = ⊥
 
 -- 18. The protest is ruled the same way: upheld with the same points, or rejected.
 abbrev pub SameRuling : World → Action → Type 0
-SameRuling world (Rule round entrant token ruling) = (row : ProtestRow) × (get world.protests (record { entrant = entrant; round = round; token = token }) ≡ Some row) × (row.ruling ≡ Some ruling)
+SameRuling world (Rule round entrant token ruling) =
+    (row : ProtestRow) × (protest_of world entrant round token ≡ Some row) × (row.ruling ≡ Some ruling)
 SameRuling world _ = ⊥
 
 -- how many answers of the entrant to the round's puzzle are kept
 abbrev pub answers_given : World → List ℕ → List ℕ → ℕ → ℕ
-answers_given world entrant round number = count_by (λ row. same_text row.key.entrant entrant && (same_text row.key.round round && (row.key.number == number))) (values world.answers)
+answers_given world entrant round number =
+    count_by
+    (λ row. same_text row.key.entrant entrant && (same_text row.key.round round && (row.key.number == number)))
+    (values world.answers)
 
 -- how many protests of the entrant in the round are kept
 abbrev pub protests_made : World → List ℕ → List ℕ → ℕ
-protests_made world entrant round = count_by (λ row. same_text row.key.entrant entrant && same_text row.key.round round) (values world.protests)
+protests_made world entrant round =
+    count_by (λ row. same_text row.key.entrant entrant && same_text row.key.round round) (values world.protests)
 
 -- how many puzzles of the author are kept
 abbrev pub puzzles_put : World → List ℕ → ℕ
 puzzles_put world author = count_by (λ row. same_text row.key.author author) (values world.puzzles)
 
--- 19. The limit: 50 answers of the caller to the puzzle in the round; 5 protests of the caller in the round; 500 puzzles of the named author, where the label is new.
+-- 19. The limit: 50 answers of the caller to the puzzle in the round; 5 protests of the caller in the round;
+-- 500 puzzles of the named author, where the label is new.
 abbrev pub IsAtLimit : World → Option Person → Action → Type 0
-IsAtLimit world caller (Submit round number token answer) = TheCaller caller (λ person. 50 ≤ answers_given world person.name round number)
-IsAtLimit world caller (Protest round token number text) = TheCaller caller (λ person. 5 ≤ protests_made world person.name round)
+IsAtLimit world caller (Submit round number token answer) =
+    TheCaller caller (λ person. 50 ≤ answers_given world person.name round number)
+IsAtLimit world caller (Protest round token number text) =
+    TheCaller caller (λ person. 5 ≤ protests_made world person.name round)
 IsAtLimit world caller (PutPuzzle key puzzle) = (get world.puzzles key ≡ None) × (500 ≤ puzzles_put world key.author)
 IsAtLimit world caller _ = ⊥
 
--- a person of the list has a known name with another key or other roles, or the key of another person, or is director and entrant
+-- a person of the list has a known name with another key or other roles, or the key of another person, or is
+-- director and entrant
 abbrev pub Conflicts : World → Person → Type 0
 Conflicts world person =
-    ((known : Person) × (get world.people person.name ≡ Some known) × ((known.key ≢ person.key) ⊎ (known.roles ≢ person.roles)))
-    ⊎ (((other : List ℕ) × (known : Person) × (get world.people other ≡ Some known) × (other ≢ person.name) × (known.key ≡ person.key))
+    ((known : Person) × (get world.people person.name ≡ Some known)
+    × ((known.key ≢ person.key) ⊎ (known.roles ≢ person.roles)))
+    ⊎ (((other : List ℕ) × (known : Person) × (get world.people other ≡ Some known) × (other ≢ person.name)
+    × (known.key ≡ person.key))
     ⊎ (IsTrue person.roles.director × IsTrue person.roles.entrant))
 
--- 20. The list gives a known name another key or other roles, or gives a key of another person, or joins director and entrant.
+-- 20. The list gives a known name another key or other roles, or gives a key of another person, or joins
+-- director and entrant.
 abbrev pub HasConflict : World → Action → Type 0
 HasConflict world (Import people) = (person : Person) × Contains people person × Conflicts world person
 HasConflict world _ = ⊥

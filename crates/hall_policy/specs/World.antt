@@ -27,13 +27,19 @@ place_cmp a b = ordering_then (text_cmp a.round b.round) (nat_cmp a.number b.num
 
 -- the order of answers' keys: by entrant, round, number, then token
 abbrev pub answer_cmp : AnswerKey → AnswerKey → Ordering
-answer_cmp a b = ordering_then (text_cmp a.entrant b.entrant) (ordering_then (text_cmp a.round b.round) (ordering_then (nat_cmp a.number b.number) (text_cmp a.token b.token)))
+answer_cmp a b =
+    ordering_then (text_cmp a.entrant b.entrant)
+    (ordering_then (text_cmp a.round b.round)
+    (ordering_then (nat_cmp a.number b.number) (text_cmp a.token b.token)))
 
 -- the order of protests' keys: by entrant, round, then token
 abbrev pub protest_cmp : ProtestKey → ProtestKey → Ordering
-protest_cmp a b = ordering_then (text_cmp a.entrant b.entrant) (ordering_then (text_cmp a.round b.round) (text_cmp a.token b.token))
+protest_cmp a b =
+    ordering_then (text_cmp a.entrant b.entrant)
+    (ordering_then (text_cmp a.round b.round) (text_cmp a.token b.token))
 
--- the whole content of the hall: people by name, puzzles by author and label, rounds by id, the puzzles of rounds by round and number,
+-- the whole content of the hall: people by name, puzzles by author and label, rounds by id,
+-- the puzzles of rounds by round and number,
 -- answers by entrant, round, number and token, protests by entrant, round and token
 pub record World : Type 0 where
   pub people : FinMap text_cmp Person
@@ -42,6 +48,19 @@ pub record World : Type 0 where
   pub places : FinMap place_cmp Entry
   pub answers : FinMap answer_cmp AnswerRow
   pub protests : FinMap protest_cmp ProtestRow
+
+-- the round's entry of that number
+abbrev pub place_of : World → List ℕ → ℕ → Option Entry
+place_of world round number = get world.places (record { round = round; number = number })
+
+-- the entrant's answer under the token
+abbrev pub answer_of : World → List ℕ → List ℕ → ℕ → List ℕ → Option AnswerRow
+answer_of world entrant round number token =
+    get world.answers (record { entrant = entrant; round = round; number = number; token = token })
+
+-- the entrant's protest under the token
+abbrev pub protest_of : World → List ℕ → List ℕ → List ℕ → Option ProtestRow
+protest_of world entrant round token = get world.protests (record { entrant = entrant; round = round; token = token })
 
 -- whether two texts are one
 abbrev pub same_text : List ℕ → List ℕ → Bool
@@ -63,4 +82,4 @@ entry_at entries (suc before) = slice_get entries before
 -- the row is what the world keeps of the round: its head, and its whole list
 pub record IsRoundAt (world : World) (id : List ℕ) (row : RoundRow) : Type 0 where
   pub head : get world.rounds id ≡ Some row.round
-  pub list : (number : ℕ) → get world.places (record { round = id; number = number }) ≡ entry_at row.puzzles number
+  pub list : (number : ℕ) → place_of world id number ≡ entry_at row.puzzles number

@@ -1,11 +1,13 @@
 //! Which rule decides a request.
-ghost use Rattle.std.specs.Prelude.{◌≡◌, ◌↔◌, ◌⊎◌, IsTrue, Contains, Any, option_copied, IsSome, Option, List, ℕ};
-ghost use Rattle.hall_policy.specs.World.{World, entry_at};
-ghost use Rattle.hall_policy.specs.Rules.{KeyIsUnknown, LacksRole, NamesOtherAuthor, IsMissing, IsOwnPuzzle, SameContent, IsBeforeStart, IsAfterEnd, IsBeforeEnd, IsAfterClose, IsNoDraft, IsAfterStart, IsPublished, SameRuling, IsAtLimit, ListsAuthor, is_director};
-ghost use Rattle.hall_policy.specs.First.{Sentence, SameBefore, First};
-ghost use Rattle.hall_policy.specs.Facts.{Tells, TrueUpTo, deciding, HidesRound, LacksNumber, IsRoundFound};
-ghost use Rattle.hall_policy.specs.Finding.{IsFinding, finding_of, standing};
-ghost use Rattle.hall_policy.specs.declared.record.Entry.{Entry as declared_Entry};
+ghost use Rattle.std.specs.Prelude.{◌≡◌, ◌↔◌, ◌<◌, ℕ, IsTrue, IsSome, IfSome, IfNone, option_copied, false};
+ghost use Rattle.hall_policy.specs.World.{entry_at};
+ghost use Rattle.hall_policy.specs.Actions.{number_of};
+ghost use Rattle.hall_policy.specs.Rules.{LacksRole, NamesOtherAuthor, is_director};
+ghost use Rattle.hall_policy.specs.Facts.{HidesRound, LacksNumber, HasEntryBy, TellsAuthor, deciding};
+ghost use Rattle.hall_policy.specs.Finding.{IsTestOf, IsFindingOf, FindingImplies, finding_of, standing};
+ghost use Rattle.hall_policy.specs.Implies.{Implies, ObjectIsThere, RoundIsThere, EntryIsThere, RoundIsDraft, IsBelowLimit};
+ghost use Rattle.hall_policy.specs.Decided.{IsDecidedUpTo, PassesUpTo};
+ghost use Rattle.hall_policy.specs.declared.record.RoundRow.{RoundRow};
 
 use crate::asked::{finds_drafts, may, puzzle_named, rules_asked};
 use crate::facts::Facts;
@@ -43,7 +45,7 @@ fn names_other_author(facts: &Facts, action: &Action) -> bool
 }
 
 fn is_before_start(facts: &Facts, action: &Action, t: Moment) -> bool
-    ensures { (world : World) → Tells Rule.NotStarted facts.now world action.now → (IsTrue result ↔ IsBeforeStart world facts.now.caller action.now t) }
+    ensures { IsTestOf Rule.NotStarted facts.now action.now t result }
 {
     match &facts.round {
         Some(row) => !is_director(facts) && t.get() < row.round.start.get(),
@@ -52,7 +54,7 @@ fn is_before_start(facts: &Facts, action: &Action, t: Moment) -> bool
 }
 
 fn is_after_end(facts: &Facts, action: &Action, t: Moment) -> bool
-    ensures { (world : World) → Tells Rule.Ended facts.now world action.now → (IsTrue result ↔ IsAfterEnd world action.now t) }
+    ensures { IsTestOf Rule.Ended facts.now action.now t result }
 {
     match &facts.round {
         Some(row) => row.round.end() <= t.get(),
@@ -61,7 +63,7 @@ fn is_after_end(facts: &Facts, action: &Action, t: Moment) -> bool
 }
 
 fn is_before_end(facts: &Facts, action: &Action, t: Moment) -> bool
-    ensures { (world : World) → Tells Rule.NotEnded facts.now world action.now → (IsTrue result ↔ IsBeforeEnd world action.now t) }
+    ensures { IsTestOf Rule.NotEnded facts.now action.now t result }
 {
     match (&facts.round, action) {
         (Some(row), Action::Publish { .. }) => t.get() < row.round.close(),
@@ -71,7 +73,7 @@ fn is_before_end(facts: &Facts, action: &Action, t: Moment) -> bool
 }
 
 fn is_after_close(facts: &Facts, action: &Action, t: Moment) -> bool
-    ensures { (world : World) → Tells Rule.Closed facts.now world action.now → (IsTrue result ↔ IsAfterClose world action.now t) }
+    ensures { IsTestOf Rule.Closed facts.now action.now t result }
 {
     match &facts.round {
         Some(row) => row.round.close() <= t.get(),
@@ -80,7 +82,7 @@ fn is_after_close(facts: &Facts, action: &Action, t: Moment) -> bool
 }
 
 fn is_after_start(facts: &Facts, action: &Action, t: Moment) -> bool
-    ensures { (world : World) → Tells Rule.Started facts.now world action.now → (IsTrue result ↔ IsAfterStart world action.now t) }
+    ensures { IsTestOf Rule.Started facts.now action.now t result }
 {
     match &facts.round {
         Some(row) => row.round.start.get() <= t.get(),
@@ -89,7 +91,8 @@ fn is_after_start(facts: &Facts, action: &Action, t: Moment) -> bool
 }
 
 fn is_no_draft(facts: &Facts, action: &Action) -> bool
-    ensures { (world : World) → Tells Rule.NoDraft facts.now world action.now → (IsTrue result ↔ IsNoDraft world action.now) }
+    ensures tells { IsTestOf Rule.NoDraft facts.now action.now 0 result }
+    ensures draft { result ≡ false → RoundIsDraft facts.now }
 {
     match &facts.round {
         Some(row) => row.round.released,
@@ -98,7 +101,7 @@ fn is_no_draft(facts: &Facts, action: &Action) -> bool
 }
 
 fn is_published(facts: &Facts, action: &Action) -> bool
-    ensures { (world : World) → Tells Rule.Published facts.now world action.now → (IsTrue result ↔ IsPublished world action.now) }
+    ensures { IsTestOf Rule.Published facts.now action.now 0 result }
 {
     match (&facts.round, action) {
         (Some(row), Action::Table { .. }) => !row.round.published,
@@ -109,7 +112,8 @@ fn is_published(facts: &Facts, action: &Action) -> bool
 
 /// Whether the round that was found can't be seen.
 fn hides_round(facts: &Facts, action: &Action) -> bool
-    ensures { IsTrue result ↔ HidesRound facts.now action.now }
+    ensures tells { IsTrue result ↔ HidesRound facts.now action.now }
+    ensures there { result ≡ false → RoundIsThere facts.now action.now }
 {
     match &facts.round {
         Some(row) => !row.round.released && !(is_director(facts) && finds_drafts(action)),
@@ -119,7 +123,8 @@ fn hides_round(facts: &Facts, action: &Action) -> bool
 
 /// Whether the round that was found has no puzzle of this number.
 fn lacks_number(facts: &Facts, number: PuzzleNumber) -> bool
-    ensures { IsTrue result ↔ LacksNumber facts.now number }
+    ensures tells { IsTrue result ↔ LacksNumber facts.now number }
+    ensures there { (row : RoundRow) → facts.now.round ≡ Some row → result ≡ false → EntryIsThere row number }
 {
     match &facts.round {
         Some(row) => is_beyond(row.puzzles.as_slice(), number),
@@ -134,7 +139,8 @@ fn is_beyond(entries: &[Entry], number: PuzzleNumber) -> bool
 }
 
 fn is_missing(facts: &Facts, action: &Action) -> bool
-    ensures { (world : World) → Tells Rule.Missing facts.now world action.now → (IsTrue result ↔ IsMissing world facts.now.caller action.now) }
+    ensures tells { IsTestOf Rule.Missing facts.now action.now 0 result }
+    ensures there { result ≡ false → ObjectIsThere facts.now action.now }
 {
     match action {
         Action::Import { .. } | Action::ListPuzzles | Action::ListRounds => false,
@@ -149,7 +155,7 @@ fn is_missing(facts: &Facts, action: &Action) -> bool
 }
 
 fn is_own_puzzle(facts: &Facts, action: &Action) -> bool
-    ensures { (world : World) → Tells Rule.OwnPuzzle facts.now world action.now → (IsTrue result ↔ IsOwnPuzzle world facts.now.caller action.now) }
+    ensures { IsTestOf Rule.OwnPuzzle facts.now action.now 0 result }
 {
     match &facts.caller {
         Some(person) => person.roles.entrant && lists_author_of(facts, &person.name),
@@ -159,7 +165,7 @@ fn is_own_puzzle(facts: &Facts, action: &Action) -> bool
 
 /// Whether the round that was found has a puzzle by the author.
 fn lists_author_of(facts: &Facts, author: &Name) -> bool
-    ensures { (world : World) (named : Option (List ℕ)) → IsRoundFound world named facts.now.round → (IsTrue result ↔ ListsAuthor world named author.now) }
+    ensures { TellsAuthor facts.now author.now result }
 {
     match &facts.round {
         Some(row) => lists_author(row.puzzles.as_slice(), author),
@@ -169,7 +175,7 @@ fn lists_author_of(facts: &Facts, author: &Name) -> bool
 
 /// Whether one of the puzzles is by the author.
 fn lists_author(entries: &[Entry], author: &Name) -> bool
-    ensures { IsTrue result ↔ ((entry : declared_Entry) × Contains entries.now entry × (entry.puzzle.author ≡ author.now)) }
+    ensures { IsTrue result ↔ HasEntryBy entries.now author.now }
 {
     entries
         .iter()
@@ -206,7 +212,8 @@ fn standing(same: bool) -> Finding
 
 /// What stands under the token.
 fn token_finding(facts: &Facts, action: &Action) -> Finding
-    ensures { (world : World) → Tells Rule.TokenTaken facts.now world action.now → IsFinding result (Sentence Rule.TokenTaken world facts.now.caller action.now 0) (SameContent world facts.now.caller action.now) }
+    ensures tells { IsFindingOf Rule.TokenTaken facts.now action.now 0 result }
+    ensures implies { FindingImplies result Rule.TokenTaken facts.now action.now }
 {
     match &facts.caller {
         Some(_) => token_finding_of_caller(facts, action),
@@ -216,7 +223,8 @@ fn token_finding(facts: &Facts, action: &Action) -> Finding
 
 fn token_finding_of_caller(facts: &Facts, action: &Action) -> Finding
     requires { IsSome facts.now.caller }
-    ensures { (world : World) → Tells Rule.TokenTaken facts.now world action.now → IsFinding result (Sentence Rule.TokenTaken world facts.now.caller action.now 0) (SameContent world facts.now.caller action.now) }
+    ensures tells { IsFindingOf Rule.TokenTaken facts.now action.now 0 result }
+    ensures implies { FindingImplies result Rule.TokenTaken facts.now action.now }
 {
     match action {
         Action::Submit { answer, .. } => match &facts.answer {
@@ -233,7 +241,8 @@ fn token_finding_of_caller(facts: &Facts, action: &Action) -> Finding
 
 /// How the protest was ruled before.
 fn ruling_finding(facts: &Facts, action: &Action) -> Finding
-    ensures { (world : World) → Tells Rule.RuledOtherwise facts.now world action.now → IsFinding result (Sentence Rule.RuledOtherwise world facts.now.caller action.now 0) (SameRuling world action.now) }
+    ensures tells { IsFindingOf Rule.RuledOtherwise facts.now action.now 0 result }
+    ensures implies { FindingImplies result Rule.RuledOtherwise facts.now action.now }
 {
     match action {
         Action::Rule { ruling, .. } => match &facts.protest {
@@ -248,7 +257,8 @@ fn ruling_finding(facts: &Facts, action: &Action) -> Finding
 }
 
 fn is_at_limit(facts: &Facts, action: &Action) -> bool
-    ensures { (world : World) → Tells Rule.LimitReached facts.now world action.now → (IsTrue result ↔ IsAtLimit world facts.now.caller action.now) }
+    ensures tells { IsTestOf Rule.LimitReached facts.now action.now 0 result }
+    ensures below { result ≡ false → IsSome facts.now.caller → IsBelowLimit facts.now action.now }
 {
     match action {
         Action::Submit { .. } => facts.caller.is_some() && facts.count >= 50,
@@ -259,8 +269,8 @@ fn is_at_limit(facts: &Facts, action: &Action) -> bool
 }
 
 fn check_rule(rule: Rule, facts: &Facts, action: &Action, t: Moment) -> Finding
-    ensures tells { (world : World) → Tells rule facts.now world action.now → IsFinding result (Sentence rule world facts.now.caller action.now t) (SameBefore rule world facts.now.caller action.now) }
-    ensures repeats { result ≡ Finding.Repeats → (rule ≡ Rule.TokenTaken) ⊎ (rule ≡ Rule.RuledOtherwise) }
+    ensures tells { IsFindingOf rule facts.now action.now t result }
+    ensures implies { FindingImplies result rule facts.now action.now }
 {
     match rule {
         Rule::UnknownKey => finding_of(facts.caller.is_none()),
@@ -288,7 +298,10 @@ fn check_rule(rule: Rule, facts: &Facts, action: &Action, t: Moment) -> Finding
 
 /// The first rule that forbids or repeats, of those asked of the action.
 pub fn decide(facts: &Facts, action: &Action, t: Moment) -> Decision
-    ensures { (world : World) → TrueUpTo (deciding action.now result) facts.now world action.now → First world facts.now.caller action.now t result }
+    ensures first { IsDecidedUpTo (deciding action.now result) facts.now action.now t result }
+    ensures decided { IsDecidedUpTo 20 facts.now action.now t result }
+    ensures passes { (n : ℕ) → n < deciding action.now result → PassesUpTo n facts.now action.now t }
+    ensures implies { Implies result facts.now action.now }
 {
     for rule in rules_asked(action) {
         match check_rule(*rule, facts, action, t) {
@@ -298,4 +311,30 @@ pub fn decide(facts: &Facts, action: &Action, t: Moment) -> Decision
         }
     }
     Decision::Allow
+}
+
+/// The decision where a rule up to `most` makes it; facts that later rules read may be anything.
+pub fn decide_up_to(facts: &Facts, action: &Action, t: Moment, most: Rule) -> Option<Decision>
+    ensures some { IfSome result (λ decision. IsDecidedUpTo (number_of most) facts.now action.now t decision) }
+    ensures none { IfNone result (PassesUpTo (number_of most) facts.now action.now t) }
+    ensures whole { IfNone result (number_of most < 20) }
+{
+    let decision = decide(facts, action, t);
+    if deciding(action, decision) <= most.number() {
+        Some(decision)
+    } else {
+        None
+    }
+}
+
+/// The number of the rule that makes the decision; 20, the greatest, where all let it pass.
+fn deciding(action: &Action, decision: Decision) -> u8
+    ensures { result ≡ deciding action.now decision }
+{
+    match (decision, action) {
+        (Decision::Deny(rule), _) => rule,
+        (Decision::Repeat, Action::Rule { .. }) => 18,
+        (Decision::Repeat, _) => 6,
+        (Decision::Allow, _) => 20,
+    }
 }

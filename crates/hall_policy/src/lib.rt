@@ -6,12 +6,13 @@ mod decision;
 mod facts;
 mod list;
 mod number;
+mod ranges;
 mod record;
 mod request;
 mod rule;
 mod text;
 
-pub use decision::decide;
+pub use decision::{decide, decide_up_to};
 pub use facts::Facts;
 pub use list::{Entries, People};
 pub use number::{

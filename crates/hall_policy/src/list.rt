@@ -1,56 +1,81 @@
-//! Lists in which no two items clash: a round's puzzles, and people.
-ghost use Rattle.std.specs.Prelude.{◌≡◌, ◌↔◌, ◌⊎◌, IsTrue, IfSome, IfNone, AllPairs, Any};
-ghost use Rattle.hall_policy.specs.Lists.{AreEntries, ArePeople};
+//! Lists in which no two items are alike: a round's puzzles, and people.
+ghost use Rattle.std.specs.Prelude.{◌≡◌, ◌↔◌, not, IsTrue, IfSome, IfNone, IfOk, AllPairs, Any};
+ghost use Rattle.std.specs.BTreeSet.{contains};
+ghost use Rattle.hall_policy.specs.Text.{text_cmp};
+ghost use Rattle.hall_policy.specs.Lists.{AreEntries, ArePeople, ArePeopleDifferent, IsSeenToo};
 
 use crate::record::{Entry, Person};
-use std::alloc::AllocError;
+use crate::text::{Checked, TextKind};
+use std::alloc::{AllocError, Global};
+use std::collections::BTreeSet;
 use std::marker::Model;
 
-/// Items of which two that clash may not stand in one list.
-trait Clash {
-    ghost Clashes: { Self → Self → Type 0 };
-
-    fn clashes(&self, later: &Self) -> bool
-        ensures { IsTrue result ↔ Clashes self.now later.now };
-}
-
-impl Clash for Entry {
-    ghost use Rattle.std.specs.Prelude.{◌≡◌};
-
-    ghost Clashes = { λ a b. a.puzzle ≡ b.puzzle };
-
-    fn clashes(&self, later: &Entry) -> bool {
-        self.puzzle.is_same(&later.puzzle)
-    }
-}
-
-impl Clash for Person {
-    ghost use Rattle.std.specs.Prelude.{◌≡◌, ◌⊎◌};
-
-    ghost Clashes = { λ a b. (a.name ≡ b.name) ⊎ (a.key ≡ b.key) };
-
-    fn clashes(&self, later: &Person) -> bool {
-        self.name.is_same(&later.name) || self.key.is_same(&later.key)
-    }
-}
-
-/// Whether no item clashes with a later one.
-fn none_clash<T: Clash>(items: &[T]) -> bool
-    ensures { IsTrue result ↔ AllPairs (λ a b. ¬ (T.Clashes a b)) items.now }
+/// Whether no puzzle is listed again.
+fn puzzles_differ(entries: &[Entry]) -> bool
+    ensures { IsTrue result ↔ AllPairs (λ a b. ¬ (a.puzzle ≡ b.puzzle)) entries.now }
 {
-    for (i, later) in items.iter().enumerate() {
-        if clashes_with_any(&items[..i], later) {
+    for (i, later) in entries.iter().enumerate() {
+        if is_listed(&entries[..i], later) {
             return false;
         }
     }
     true
 }
 
-/// Whether one of the items clashes with the later one.
-fn clashes_with_any<T: Clash>(items: &[T], later: &T) -> bool
-    ensures { IsTrue result ↔ Any (λ item. T.Clashes item later.now) items.now }
+/// Whether one of the entries is of the same puzzle.
+fn is_listed(entries: &[Entry], later: &Entry) -> bool
+    ensures { IsTrue result ↔ Any (λ entry. entry.puzzle ≡ later.now.puzzle) entries.now }
 {
-    items.iter().any(|item| item.clashes(later))
+    entries
+        .iter()
+        .any(|entry| entry.puzzle.is_same(&later.puzzle))
+}
+
+/// Adds the text to those seen, and tells whether it is new.
+fn is_new<K: TextKind>(
+    seen: &mut BTreeSet<Checked<K>>,
+    text: &Checked<K>,
+) -> Result<bool, AllocError>
+    ensures new { IfOk result (λ new. new ≡ not (contains text_cmp seen.old text.now)) }
+    ensures seen { IfOk result (λ new. IsSeenToo seen.old seen.new text.now) }
+{
+    match seen.insert(text.clone()?) {
+        Ok(new) => Ok(new),
+        Err(_) => Err(AllocError),
+    }
+}
+
+/// Whether no two people have one name.
+fn names_differ(alloc: Global, people: &[Person]) -> Result<bool, AllocError>
+    ensures { IfOk result (λ differ. IsTrue differ ↔ AllPairs (λ a b. ¬ (a.name ≡ b.name)) people.now) }
+{
+    let mut seen = BTreeSet::new(alloc);
+    for person in people {
+        if !is_new(&mut seen, &person.name)? {
+            return Ok(false);
+        }
+    }
+    Ok(true)
+}
+
+/// Whether no two people have one key.
+fn keys_differ(alloc: Global, people: &[Person]) -> Result<bool, AllocError>
+    ensures { IfOk result (λ differ. IsTrue differ ↔ AllPairs (λ a b. ¬ (a.key ≡ b.key)) people.now) }
+{
+    let mut seen = BTreeSet::new(alloc);
+    for person in people {
+        if !is_new(&mut seen, &person.key)? {
+            return Ok(false);
+        }
+    }
+    Ok(true)
+}
+
+/// Whether no two people have one name or one key.
+fn are_different(alloc: Global, people: &[Person]) -> Result<bool, AllocError>
+    ensures { IfOk result (λ differ. IsTrue differ ↔ ArePeopleDifferent people.now) }
+{
+    Ok(names_differ(alloc, people)? && keys_differ(alloc, people)?)
 }
 
 /// The puzzles of a round, 1 to 40, none twice, numbered from 1.
@@ -78,7 +103,7 @@ impl Entries {
         ensures none { IfNone result (¬ (AreEntries list.items)) }
     {
         let count = list.len();
-        if count == 0 || count > 40 || !none_clash(list.as_slice()) {
+        if count == 0 || count > 40 || !puzzles_differ(list.as_slice()) {
             return None;
         }
         Some(Entries { list })
@@ -124,15 +149,15 @@ impl Model for People {
 }
 
 impl People {
-    /// The list, where it has at most 5,000 people and no name or key twice.
-    pub fn new(people: Vec<Person>) -> Option<People>
-        ensures some { IfSome result (λ list. (list ≡ people.items) × ArePeople list) }
-        ensures none { IfNone result (¬ (ArePeople people.items)) }
+    /// The list, where it has at most 5,000 people and no name or key twice; an error is want of memory.
+    pub fn new(alloc: Global, people: Vec<Person>) -> Result<Option<People>, AllocError>
+        ensures some { IfOk result (λ made. IfSome made (λ list. (list ≡ people.items) × ArePeople list)) }
+        ensures none { IfOk result (λ made. IfNone made (¬ (ArePeople people.items))) }
     {
-        if people.len() > 5000 || !none_clash(people.as_slice()) {
-            return None;
+        if people.len() > 5000 || !are_different(alloc, people.as_slice())? {
+            return Ok(None);
         }
-        Some(People { people })
+        Ok(Some(People { people }))
     }
 
     /// The people in their order.

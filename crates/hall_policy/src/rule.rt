@@ -41,9 +41,11 @@ pub enum Rule {
     Involved,
     /// The protest is ruled otherwise already.
     RuledOtherwise,
-    /// 50 answers of the caller to the puzzle in the round; 5 protests of the caller in the round; 500 puzzles of the author.
+    /// 50 answers of the caller to the puzzle in the round; 5 protests of the caller in the round;
+    /// 500 puzzles of the author.
     LimitReached,
-    /// The list gives a known name another key or other roles, or gives a key of another person, or joins director and entrant.
+    /// The list gives a known name another key or other roles, or gives a key of another person,
+    /// or joins director and entrant.
     ListConflict,
 }
 

@@ -48,7 +48,7 @@ impl<K: TextKind> Model for Checked<K> {
 impl<K: TextKind> Checked<K> {
     /// The text, where it is of the kind.
     pub fn new(text: String) -> Option<Checked<K>>
-        ensures some { IfSome result (λ checked. (checked ≡ string_bytes text) × IsOfKind K.LEAST K.MOST K.allows checked) }
+        ensures some { IfSome result (λ made. (made ≡ string_bytes text) × IsOfKind K.LEAST K.MOST K.allows made) }
         ensures none { IfNone result (¬ (IsOfKind K.LEAST K.MOST K.allows (string_bytes text))) }
     {
         if text.len() < K::LEAST || text.len() > K::MOST {

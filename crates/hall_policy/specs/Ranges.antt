@@ -1,0 +1,186 @@
+-- The ranges of the types: of which worlds and requests every definition and law speaks.
+use Rattle.std.specs.Prelude.{◌≡◌, ◌≢◌, ◌<◌, ◌≤◌, ◌^◌, ◌≤ℤ◌, ℕ, pos, negsuc, List, Some, None, IfSome, All}
+use Rattle.std.specs.FinMap.{get}
+use Rattle.hall_grid.specs.Board.{IsBoard}
+use Rattle.hall_policy.specs.Text.{IsOfKind, is_word_byte, is_key_byte, is_printable}
+use Rattle.hall_policy.specs.Lists.{ArePeople, AreEntries}
+use Rattle.hall_policy.specs.World.{World, IsRoundAt}
+use Rattle.hall_policy.specs.declared.record.Person.{Person}
+use Rattle.hall_policy.specs.declared.record.PuzzleKey.{PuzzleKey}
+use Rattle.hall_policy.specs.declared.record.PuzzleState.{PuzzleState}
+use Rattle.hall_policy.specs.declared.record.PuzzleState.TheVariants.{One}
+use Rattle.hall_policy.specs.declared.record.PuzzleRow.{PuzzleRow}
+use Rattle.hall_policy.specs.declared.record.Round.{Round}
+use Rattle.hall_policy.specs.declared.record.Entry.{Entry}
+use Rattle.hall_policy.specs.declared.record.RoundRow.{RoundRow}
+use Rattle.hall_policy.specs.declared.record.PlaceKey.{PlaceKey}
+use Rattle.hall_policy.specs.declared.record.AnswerKey.{AnswerKey}
+use Rattle.hall_policy.specs.declared.record.AnswerRow.{AnswerRow}
+use Rattle.hall_policy.specs.declared.record.ProtestKey.{ProtestKey}
+use Rattle.hall_policy.specs.declared.record.ProtestRow.{ProtestRow}
+use Rattle.hall_policy.specs.declared.record.Ruling.{Ruling}
+use Rattle.hall_policy.specs.declared.record.Ruling.TheVariants.{Upheld, Rejected}
+use Rattle.hall_policy.specs.declared.request.Sheet.{Sheet}
+use Rattle.hall_policy.specs.declared.request.Action.{Action}
+use Rattle.hall_policy.specs.declared.request.Action.TheVariants.{Import, PutPuzzle, ReadPuzzle, ListPuzzles, Certify, PutRound, Release, ListRounds, ReadRound, Submit, Answers, Solutions, Protest, Protests, Rule, Publish, Table}
+use Rattle.hall_policy.specs.declared.request.Request.{Request}
+
+-- the texts
+abbrev pub IsName : List ℕ → Type 0
+IsName = IsOfKind 1 24 is_word_byte
+
+abbrev pub IsLabel : List ℕ → Type 0
+IsLabel = IsOfKind 1 24 is_word_byte
+
+abbrev pub IsRoundId : List ℕ → Type 0
+IsRoundId = IsOfKind 1 24 is_word_byte
+
+abbrev pub IsToken : List ℕ → Type 0
+IsToken = IsOfKind 1 32 is_word_byte
+
+abbrev pub IsKey : List ℕ → Type 0
+IsKey = IsOfKind 8 64 is_key_byte
+
+abbrev pub IsTitle : List ℕ → Type 0
+IsTitle = IsOfKind 1 60 is_printable
+
+abbrev pub IsProtestText : List ℕ → Type 0
+IsProtestText = IsOfKind 1 200 is_printable
+
+abbrev pub IsAnswer : List ℕ → Type 0
+IsAnswer = IsOfKind 0 4000 is_printable
+
+-- a number from the least to the most
+abbrev pub IsWithin : ℕ → ℕ → ℕ → Type 0
+IsWithin least most n = (least ≤ n) × (n ≤ most)
+
+-- the points of a ruling
+abbrev pub IsRuling : Ruling → Type 0
+IsRuling (Upheld points) = (negsuc 999 ≤ℤ points) × (points ≤ℤ pos 1000)
+IsRuling Rejected = Unit {0}
+
+-- the records
+pub record IsPerson (person : Person) : Type 0 where
+  pub name : IsName person.name
+  pub key : IsKey person.key
+
+pub record IsPuzzleKey (key : PuzzleKey) : Type 0 where
+  pub author : IsName key.author
+  pub label : IsLabel key.label
+
+-- a state with a solution has the text of one
+abbrev pub IsState : PuzzleState → Type 0
+IsState (One solution) = IsAnswer solution
+IsState _ = Unit {0}
+
+pub record IsPuzzleRow (row : PuzzleRow) : Type 0 where
+  pub key : IsPuzzleKey row.key
+  pub puzzle : IsBoard row.puzzle
+  pub state : IsState row.state
+
+pub record IsRound (round : Round) : Type 0 where
+  pub id : IsRoundId round.id
+  pub title : IsTitle round.title
+  pub start : IsWithin 0 4102444800 round.start
+  pub minutes : IsWithin 1 1440 round.minutes
+  pub protest_minutes : IsWithin 0 10080 round.protest_minutes
+  pub penalty : IsWithin 0 1000 round.penalty
+  pub bonus : IsWithin 0 1000 round.bonus
+
+pub record IsEntry (entry : Entry) : Type 0 where
+  pub puzzle : IsPuzzleKey entry.puzzle
+  pub points : IsWithin 1 1000 entry.points
+
+-- a round's list, whole
+pub record IsEntryList (entries : List Entry) : Type 0 where
+  pub list : AreEntries entries
+  pub each : All IsEntry entries
+
+pub record IsAnswerKey (key : AnswerKey) : Type 0 where
+  pub entrant : IsName key.entrant
+  pub round : IsRoundId key.round
+  pub number : IsWithin 1 99 key.number
+  pub token : IsToken key.token
+
+pub record IsAnswerRow (row : AnswerRow) : Type 0 where
+  pub key : IsAnswerKey row.key
+  pub n : IsWithin 1 50 row.n
+  pub moment : IsWithin 0 4102444800 row.moment
+  pub answer : IsAnswer row.answer
+  pub verdict : row.verdict < 2 ^ 16
+
+pub record IsProtestKey (key : ProtestKey) : Type 0 where
+  pub entrant : IsName key.entrant
+  pub round : IsRoundId key.round
+  pub token : IsToken key.token
+
+pub record IsProtestRow (row : ProtestRow) : Type 0 where
+  pub key : IsProtestKey row.key
+  pub number : IsWithin 1 99 row.number
+  pub text : IsProtestText row.text
+  pub ruling : IfSome row.ruling IsRuling
+
+-- each row is in the ranges of its type
+pub record AreRowsInRange (world : World) : Type 0 where
+  pub people : (name : List ℕ) (row : Person) → get world.people name ≡ Some row → IsPerson row
+  pub puzzles : (key : PuzzleKey) (row : PuzzleRow) → get world.puzzles key ≡ Some row → IsPuzzleRow row
+  pub rounds : (id : List ℕ) (round : Round) → get world.rounds id ≡ Some round → IsRound round
+  pub places : (key : PlaceKey) (entry : Entry) → get world.places key ≡ Some entry → IsEntry entry
+  pub answers : (key : AnswerKey) (row : AnswerRow) → get world.answers key ≡ Some row → IsAnswerRow row
+  pub protests : (key : ProtestKey) (row : ProtestRow) → get world.protests key ≡ Some row → IsProtestRow row
+
+-- the round's list is whole
+abbrev pub HasWholeList : World → List ℕ → Type 0
+HasWholeList world id = (row : RoundRow) × IsRoundAt world id row × AreEntries row.puzzles
+
+-- a world of the types' values
+pub record IsWorld (world : World) : Type 0 where
+  pub in_range : AreRowsInRange world
+  -- each row stands under its own key
+  pub people : (name : List ℕ) (row : Person) → get world.people name ≡ Some row → row.name ≡ name
+  pub puzzles : (key : PuzzleKey) (row : PuzzleRow) → get world.puzzles key ≡ Some row → row.key ≡ key
+  pub rounds : (id : List ℕ) (round : Round) → get world.rounds id ≡ Some round → round.id ≡ id
+  pub answers : (key : AnswerKey) (row : AnswerRow) → get world.answers key ≡ Some row → row.key ≡ key
+  pub protests : (key : ProtestKey) (row : ProtestRow) → get world.protests key ≡ Some row → row.key ≡ key
+  -- keys of people differ
+  pub keys_differ : (a b : List ℕ) (p q : Person) → get world.people a ≡ Some p → get world.people b ≡ Some q →
+      p.key ≡ q.key → a ≡ b
+  -- a round has 1 to 40 puzzles, numbered from 1, and a place belongs to a round
+  pub lists : (id : List ℕ) (round : Round) → get world.rounds id ≡ Some round → HasWholeList world id
+  pub homes : (key : PlaceKey) (entry : Entry) → get world.places key ≡ Some entry → get world.rounds key.round ≢ None
+
+-- a sheet of the types' values
+pub record IsSheet (sheet : Sheet) : Type 0 where
+  pub title : IsTitle sheet.title
+  pub start : IsWithin 0 4102444800 sheet.start
+  pub minutes : IsWithin 1 1440 sheet.minutes
+  pub protest_minutes : IsWithin 0 10080 sheet.protest_minutes
+  pub penalty : IsWithin 0 1000 sheet.penalty
+  pub bonus : IsWithin 0 1000 sheet.bonus
+  pub puzzles : IsEntryList sheet.puzzles
+
+-- an action of the types' values
+abbrev pub IsAction : Action → Type 0
+IsAction (Import people) = ArePeople people × All IsPerson people
+IsAction (PutPuzzle key puzzle) = IsPuzzleKey key × IsBoard puzzle
+IsAction (ReadPuzzle key) = IsPuzzleKey key
+IsAction ListPuzzles = Unit {0}
+IsAction (Certify key budget) = IsPuzzleKey key × IsWithin 0 1000000 budget
+IsAction (PutRound round sheet) = IsRoundId round × IsSheet sheet
+IsAction (Release round) = IsRoundId round
+IsAction ListRounds = Unit {0}
+IsAction (ReadRound round) = IsRoundId round
+IsAction (Submit round number token answer) = IsRoundId round × IsWithin 1 99 number × IsToken token × IsAnswer answer
+IsAction (Answers round) = IsRoundId round
+IsAction (Solutions round) = IsRoundId round
+IsAction (Protest round token number text) =
+    IsRoundId round × IsToken token × IsWithin 1 99 number × IsProtestText text
+IsAction (Protests round) = IsRoundId round
+IsAction (Rule round entrant token ruling) = IsRoundId round × IsName entrant × IsToken token × IsRuling ruling
+IsAction (Publish round) = IsRoundId round
+IsAction (Table round) = IsRoundId round
+
+-- a request of the types' values
+pub record IsRequest (request : Request) : Type 0 where
+  pub key : IfSome request.key IsKey
+  pub action : IsAction request.action
