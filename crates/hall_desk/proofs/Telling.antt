@@ -2,7 +2,7 @@
 use Rattle.std.proofs.Common.{◌≡◌, ℕ, List, refl, sym, subst}
 use Rattle.hall_grid.specs.Board.{Board}
 use Rattle.hall_policy.specs.World.{World}
-use Rattle.hall_policy.specs.Facts.{AllTrue}
+use Rattle.hall_policy.specs.Facts.{TrueUpTo}
 use Rattle.hall_policy.specs.Rules.{Lists}
 use Rattle.hall_policy.specs.declared.record.PuzzleKey.{PuzzleKey}
 use Rattle.hall_policy.specs.declared.request.Action.{Action}
@@ -15,14 +15,14 @@ pub put_told : (world : World) (request : Request) (key : PuzzleKey) (puzzle : B
     ArePutFacts world request.key key facts → AreFactsOf world request facts
 put_told world request key puzzle facts is found = record {
   caller = found.caller;
-  told = subst (λ (action : Action). AllTrue facts world action) (sym is) (tt, (tt, (tt, (found.author, (found.released, ((found.puzzle, found.count), tt))))));
+  told = subst (λ (action : Action). TrueUpTo 20 facts world action) (sym is) (tt, (tt, (tt, (found.author, (found.released, ((found.puzzle, found.count), tt))))));
 }
 
 pub submit_told : (world : World) (request : Request) (id : List ℕ) (number : ℕ) (token answer : List ℕ) (facts : Facts) → request.action ≡ Submit id number token answer →
     AreSubmitFacts world request.key id number token facts → AreFactsOf world request facts
 submit_told world request id number token answer facts is found = record {
   caller = found.round.caller;
-  told = subst (λ (action : Action). AllTrue facts world action) (sym is)
+  told = subst (λ (action : Action). TrueUpTo 20 facts world action) (sym is)
       (tt, (tt, (found.round.round, (found.round.round, ((found.standing.answer, tt), (found.round.round, (found.round.round, (found.round.round, (found.standing.count, tt)))))))));
 }
 
@@ -30,14 +30,14 @@ pub certify_told : (world : World) (request : Request) (key : PuzzleKey) (budget
     AreCertifyFacts world request.key key facts → AreFactsOf world request facts
 certify_told world request key budget facts is found = record {
   caller = found.caller;
-  told = subst (λ (action : Action). AllTrue facts world action) (sym is) (tt, (tt, (tt, (found.puzzle, tt))));
+  told = subst (λ (action : Action). TrueUpTo 20 facts world action) (sym is) (tt, (tt, (tt, (found.puzzle, tt))));
 }
 
 pub release_told : (world : World) (request : Request) (id : List ℕ) (facts : Facts) → request.action ≡ Release id →
     AreReleaseFacts world request.key id facts → AreFactsOf world request facts
 release_told world request id facts is found = record {
   caller = found.round.caller;
-  told = subst (λ (action : Action). AllTrue facts world action) (sym is) (
+  told = subst (λ (action : Action). TrueUpTo 20 facts world action) (sym is) (
     tt,
     (
       tt,

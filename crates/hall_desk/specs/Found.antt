@@ -2,7 +2,7 @@
 use Rattle.std.specs.Prelude.{◌≡◌, ◌≢◌, ◌↔◌, ℕ, Bool, List, Option, Some, None, IsTrue, IfSome}
 use Rattle.std.specs.FinMap.{get}
 use Rattle.hall_policy.specs.World.{World}
-use Rattle.hall_policy.specs.Facts.{IsRoundFound, AllTrue}
+use Rattle.hall_policy.specs.Facts.{IsRoundFound, TrueUpTo}
 use Rattle.hall_policy.specs.Rules.{answers_given, puzzles_put, Lists, StandsReleased, IsCertified}
 use Rattle.hall_policy.specs.declared.record.Person.{Person}
 use Rattle.hall_policy.specs.declared.record.PuzzleKey.{PuzzleKey}
@@ -23,7 +23,7 @@ pub record IsCaller (world : World) (key : Option (List ℕ)) (person : Option P
 -- the facts tell who calls, and all that the rules asked of the action read
 pub record AreFactsOf (world : World) (request : Request) (facts : Facts) : Type 0 where
   pub caller : IsCaller world request.key facts.caller
-  pub told : AllTrue facts world request.action
+  pub told : TrueUpTo 20 facts world request.action
 
 -- the facts on a request that names a round
 pub record AreRoundFacts (world : World) (key : Option (List ℕ)) (id : List ℕ) (facts : Facts) : Type 0 where

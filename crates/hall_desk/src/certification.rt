@@ -1,7 +1,7 @@
 //! Allowed actions that certify a puzzle or release a round.
 ghost use Rattle.std.specs.Prelude.{◌≡◌, ℕ, IfOk};
 ghost use Rattle.hall_policy.specs.World.{World};
-ghost use Rattle.hall_policy.specs.Facts.{AllTrue};
+ghost use Rattle.hall_policy.specs.Facts.{TrueUpTo};
 ghost use Rattle.hall_policy.specs.declared.request.Action.TheVariants.{Certify, Release};
 ghost use Rattle.hall_grid.specs.Answer.{AnswerText as Says, IsFilling};
 ghost use Rattle.hall_desk.specs.Step.{is_open, IsFound};
@@ -25,7 +25,7 @@ pub(crate) fn certify_puzzle(
     key: &PuzzleKey,
     budget: Budget,
 ) -> Result<Plan, StoreFault>
-    ensures { IfOk result (λ plan. (world : World) → AllTrue facts.now world (Certify key.now budget) → (t : ℕ) → IsMadePlan world facts.now.caller (Certify key.now budget) t plan) }
+    ensures { IfOk result (λ plan. (world : World) → TrueUpTo 20 facts.now world (Certify key.now budget) → (t : ℕ) → IsMadePlan world facts.now.caller (Certify key.now budget) t plan) }
 {
     let Some(row) = &facts.puzzle else {
         return Err(StoreFault::Failed);
@@ -92,7 +92,7 @@ fn solution_text(
 
 /// An allowed Release: the draft is released.
 pub(crate) fn release_round(facts: &Facts, round: &RoundId) -> Result<Plan, StoreFault>
-    ensures { IfOk result (λ plan. (world : World) → AllTrue facts.now world (Release round.now) → (t : ℕ) → IsAllowedPlan world facts.now.caller (Release round.now) t plan) }
+    ensures { IfOk result (λ plan. (world : World) → TrueUpTo 20 facts.now world (Release round.now) → (t : ℕ) → IsAllowedPlan world facts.now.caller (Release round.now) t plan) }
 {
     let Some(_row) = &facts.round else {
         return Err(StoreFault::Failed);

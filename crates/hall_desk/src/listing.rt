@@ -1,7 +1,7 @@
 //! An allowed action that lists answers.
 ghost use Rattle.std.specs.Prelude.{◌≡◌, ◌&&◌, ◌||◌, IfOk, map};
 ghost use Rattle.hall_policy.specs.World.{World, same_text};
-ghost use Rattle.hall_policy.specs.Facts.{AllTrue};
+ghost use Rattle.hall_policy.specs.Facts.{TrueUpTo};
 ghost use Rattle.hall_policy.specs.declared.request.Action.TheVariants.{Answers};
 ghost use Rattle.hall_desk.specs.Store.{Kept, Served, Told, IsListing};
 ghost use Rattle.hall_desk.specs.Shown.{is_sealed, sees_all, shows_verdict, answer_line};
@@ -23,7 +23,7 @@ pub(crate) fn list_answers<S: Store>(
     facts: &Facts,
     round: &RoundId,
 ) -> Result<Plan, StoreFault>
-    requires { S.is_honest store.old → S.serves store.old → AllTrue facts.now (S.world store.old) (Answers round.now) }
+    requires { S.is_honest store.old → S.serves store.old → TrueUpTo 20 facts.now (S.world store.old) (Answers round.now) }
     ensures kept { Kept S.is_honest S.serves S.world store.old store.new }
     ensures told { Told S.is_honest S.serves store.old store.new result (IsAllowedPlan (S.world store.new) facts.now.caller (Answers round.now) t) }
 {
@@ -46,7 +46,7 @@ fn listed(
     _round: &RoundId,
     rows: &[AnswerRow],
 ) -> Result<Plan, StoreFault>
-    ensures { IfOk result (λ plan. (world : World) → AllTrue facts.now world (Answers _round.now) → AreRowsFor world facts.now (Answers _round.now) t rows.now → IsAllowedPlan world facts.now.caller (Answers _round.now) t plan) }
+    ensures { IfOk result (λ plan. (world : World) → TrueUpTo 20 facts.now world (Answers _round.now) → AreRowsFor world facts.now (Answers _round.now) t rows.now → IsAllowedPlan world facts.now.caller (Answers _round.now) t plan) }
 {
     let Some(person) = &facts.caller else {
         return Err(StoreFault::Failed);

@@ -2,7 +2,7 @@
 ghost use Rattle.std.specs.Prelude.{◌≡◌, IfOk, IfSome, Some};
 ghost use Rattle.std.specs.FinMap.{get};
 ghost use Rattle.hall_policy.specs.World.{World};
-ghost use Rattle.hall_policy.specs.Facts.{AllTrue};
+ghost use Rattle.hall_policy.specs.Facts.{TrueUpTo};
 ghost use Rattle.hall_desk.specs.Store.{Kept, Served, Told};
 ghost use Rattle.hall_desk.specs.Found.{AreFactsOf};
 ghost use Rattle.hall_desk.specs.Step.{FirstReply};
@@ -83,7 +83,7 @@ fn answer<S: Store>(
 
 /// The reply that the answer under the token got.
 fn first_reply(facts: &Facts, action: &Action) -> Result<Reply, StoreFault>
-    ensures { IfOk result (λ reply. (world : World) → AllTrue facts.now world action.now → FirstReply world facts.now.caller action.now reply) }
+    ensures { IfOk result (λ reply. (world : World) → TrueUpTo 20 facts.now world action.now → FirstReply world facts.now.caller action.now reply) }
 {
     let (Action::Submit { .. }, Some(_), Some(row), Some(answer)) = (
         action,
@@ -104,7 +104,7 @@ fn allow<S: Store>(
     facts: &Facts,
     action: &Action,
 ) -> Result<Plan, StoreFault>
-    requires told { S.is_honest store.old → S.serves store.old → AllTrue facts.now (S.world store.old) action.now }
+    requires told { S.is_honest store.old → S.serves store.old → TrueUpTo 20 facts.now (S.world store.old) action.now }
     requires there { S.is_honest store.old → S.serves store.old → IfSome facts.now.caller (λ person. get (S.world store.old).people person.name ≡ Some person) }
     ensures kept { Kept S.is_honest S.serves S.world store.old store.new }
     ensures told { Told S.is_honest S.serves store.old store.new result (IsMadePlan (S.world store.new) facts.now.caller action.now t) }

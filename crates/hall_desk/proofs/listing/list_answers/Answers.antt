@@ -1,6 +1,6 @@
 use Rattle.std.proofs.Common.{◌&&◌, ◌||◌, Bool, List, sym, subst}
 use Rattle.hall_policy.specs.World.{World, same_text}
-use Rattle.hall_policy.specs.Facts.{AllTrue}
+use Rattle.hall_policy.specs.Facts.{TrueUpTo}
 use Rattle.hall_policy.specs.declared.record.AnswerRow.{AnswerRow}
 use Rattle.hall_policy.specs.declared.request.Action.TheVariants.{Answers}
 use Rattle.hall_desk.specs.Store.{IsListing}
@@ -18,10 +18,10 @@ returns-clause-told g c =
     let read = c.in_ok-rows.ensures in
     let person = c.in-Some.person in
     pure_told g.S.Store.is_honest g.S.Store.serves c.listed.result
-    (λ plan. (w : World) → AllTrue facts w asked → AreRowsFor w facts asked c.args.t c.as_slice.result.now → IsAllowedPlan w facts.caller asked c.args.t plan)
+    (λ plan. (w : World) → TrueUpTo 20 facts w asked → AreRowsFor w facts asked c.args.t c.as_slice.result.now → IsAllowedPlan w facts.caller asked c.args.t plan)
     (IsAllowedPlan (world new) facts.caller asked c.args.t) old new (λ h s. (read.served h).0)
     (λ plan h s made.
-    made (world new) (carried (λ w. AllTrue facts w asked) old new read.kept c.requires h s) (
+    made (world new) (carried (λ w. TrueUpTo 20 facts w asked) old new read.kept c.requires h s) (
       person,
       c.in-Some-round.row,
       c.in-Some.is,
