@@ -2,6 +2,7 @@
 ghost use Rattle.std.specs.Prelude.{◌≡◌, ℕ, IfOk};
 ghost use Rattle.hall_policy.specs.World.{World};
 ghost use Rattle.hall_policy.specs.Facts.{TrueUpTo};
+ghost use Rattle.hall_policy.specs.Implies.{IsAllowable};
 ghost use Rattle.hall_policy.specs.declared.request.Action.TheVariants.{Certify, Release};
 ghost use Rattle.hall_grid.specs.Answer.{AnswerText as Says, IsFilling};
 ghost use Rattle.hall_desk.specs.Step.{is_open, IsFound};
@@ -25,10 +26,11 @@ pub(crate) fn certify_puzzle(
     key: &PuzzleKey,
     budget: Budget,
 ) -> Result<Plan, StoreFault>
+    requires { IsAllowable facts.now (Certify key.now budget) }
     ensures { IfOk result (λ plan. (world : World) → TrueUpTo 20 facts.now world (Certify key.now budget) → (t : ℕ) → IsMadePlan world facts.now.caller (Certify key.now budget) t plan) }
 {
     let Some(row) = &facts.puzzle else {
-        return Err(StoreFault::Failed);
+        unreachable!()
     };
     if !is_open(&row.state) {
         return Ok(Plan {
@@ -92,10 +94,11 @@ fn solution_text(
 
 /// An allowed Release: the draft is released.
 pub(crate) fn release_round(facts: &Facts, round: &RoundId) -> Result<Plan, StoreFault>
+    requires { IsAllowable facts.now (Release round.now) }
     ensures { IfOk result (λ plan. (world : World) → TrueUpTo 20 facts.now world (Release round.now) → (t : ℕ) → IsAllowedPlan world facts.now.caller (Release round.now) t plan) }
 {
     let Some(_row) = &facts.round else {
-        return Err(StoreFault::Failed);
+        unreachable!()
     };
     let shown = round.clone()?;
     let kept = round.clone()?;

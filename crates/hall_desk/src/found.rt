@@ -5,6 +5,7 @@ ghost use Rattle.hall_policy.specs.World.{same_text};
 ghost use Rattle.hall_policy.specs.Rules.{puzzles_put, StandsReleased};
 ghost use Rattle.hall_policy.specs.Facts.{IsRoundFound};
 ghost use Rattle.hall_desk.specs.Store.{Kept, Served, Told, IsRoundKept};
+ghost use Rattle.hall_desk.specs.Step.{is_served};
 ghost use Rattle.hall_desk.specs.Found.{IsCaller, AreFactsOf, AreRoundFacts, AreAnswerFacts, AreSubmitFacts, HasAuthor, ArePutFacts, AreCertifyFacts, HasFaults, AreReleaseFacts, IsReleasedRound};
 
 use crate::entry_fault::{EntryFault, find_fault};
@@ -23,6 +24,7 @@ pub(crate) fn find_facts<S: Store>(
 ) -> Result<Facts, StoreFault>
     ensures kept { Kept S.is_honest S.serves S.world store.old store.new }
     ensures served { Served S.is_honest S.serves store.new result (AreFactsOf (S.world store.new) request.now) }
+    ensures action { IfOk result (λ _. IsTrue (is_served request.now.action)) }
 {
     match &request.action {
         Action::PutPuzzle { key, .. } => put_facts(alloc, store, &request.key, key),
@@ -37,7 +39,17 @@ pub(crate) fn find_facts<S: Store>(
             token,
             ..
         } => submit_facts(alloc, store, &request.key, round, *number, token),
-        _ => Err(StoreFault::Failed),
+        Action::Import { .. }
+        | Action::ReadPuzzle { .. }
+        | Action::ListPuzzles
+        | Action::PutRound { .. }
+        | Action::ListRounds
+        | Action::Solutions { .. }
+        | Action::Protest { .. }
+        | Action::Protests { .. }
+        | Action::Rule { .. }
+        | Action::Publish { .. }
+        | Action::Table { .. } => Err(StoreFault::Failed),
     }
 }
 

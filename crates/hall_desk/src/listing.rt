@@ -2,6 +2,7 @@
 ghost use Rattle.std.specs.Prelude.{◌≡◌, ◌&&◌, ◌||◌, IfOk, map};
 ghost use Rattle.hall_policy.specs.World.{World, same_text};
 ghost use Rattle.hall_policy.specs.Facts.{TrueUpTo};
+ghost use Rattle.hall_policy.specs.Implies.{IsAllowable};
 ghost use Rattle.hall_policy.specs.declared.request.Action.TheVariants.{Answers};
 ghost use Rattle.hall_desk.specs.Store.{Kept, Served, Told, IsListing};
 ghost use Rattle.hall_desk.specs.Shown.{is_sealed, sees_all, shows_verdict, answer_line};
@@ -23,15 +24,16 @@ pub(crate) fn list_answers<S: Store>(
     facts: &Facts,
     round: &RoundId,
 ) -> Result<Plan, StoreFault>
-    requires { S.is_honest store.old → S.serves store.old → TrueUpTo 20 facts.now (S.world store.old) (Answers round.now) }
+    requires allowed { IsAllowable facts.now (Answers round.now) }
+    requires told { S.is_honest store.old → S.serves store.old → TrueUpTo 20 facts.now (S.world store.old) (Answers round.now) }
     ensures kept { Kept S.is_honest S.serves S.world store.old store.new }
     ensures told { Told S.is_honest S.serves store.old store.new result (IsAllowedPlan (S.world store.new) facts.now.caller (Answers round.now) t) }
 {
     let Some(person) = &facts.caller else {
-        return Err(StoreFault::Failed);
+        unreachable!()
     };
     let Some(row) = &facts.round else {
-        return Err(StoreFault::Failed);
+        unreachable!()
     };
     let all = sees_all(person, &row.round, t);
     let rows = find_answers(alloc, store, round, &person.name, all)?;
@@ -46,13 +48,14 @@ fn listed(
     _round: &RoundId,
     rows: &[AnswerRow],
 ) -> Result<Plan, StoreFault>
+    requires { IsAllowable facts.now (Answers _round.now) }
     ensures { IfOk result (λ plan. (world : World) → TrueUpTo 20 facts.now world (Answers _round.now) → AreRowsFor world facts.now (Answers _round.now) t rows.now → IsAllowedPlan world facts.now.caller (Answers _round.now) t plan) }
 {
     let Some(person) = &facts.caller else {
-        return Err(StoreFault::Failed);
+        unreachable!()
     };
     let Some(row) = &facts.round else {
-        return Err(StoreFault::Failed);
+        unreachable!()
     };
     let lines = show_answers(alloc, rows, shows_verdict(person, &row.round, t))?;
     Ok(Plan {

@@ -1,11 +1,12 @@
 //! What a request will be answered and will change: facts, decision, plan.
-ghost use Rattle.std.specs.Prelude.{◌≡◌, IfOk, IfSome, Some};
+ghost use Rattle.std.specs.Prelude.{◌≡◌, IfSome, IsTrue, Some};
 ghost use Rattle.std.specs.FinMap.{get};
 ghost use Rattle.hall_policy.specs.World.{World};
 ghost use Rattle.hall_policy.specs.Facts.{TrueUpTo};
 ghost use Rattle.hall_desk.specs.Store.{Kept, Served, Told};
 ghost use Rattle.hall_desk.specs.Found.{AreFactsOf};
-ghost use Rattle.hall_desk.specs.Step.{FirstReply};
+ghost use Rattle.hall_policy.specs.Implies.{IsAllowable, IsRepetition};
+ghost use Rattle.hall_desk.specs.Step.{FirstReply, is_served};
 ghost use Rattle.hall_desk.specs.Plans.{IsPlanFor, IsMadePlan};
 
 use crate::certification::{certify_puzzle, release_round};
@@ -61,7 +62,8 @@ fn answer<S: Store>(
     facts: &Facts,
     request: &Request,
 ) -> Result<Plan, StoreFault>
-    requires { S.is_honest store.old → S.serves store.old → AreFactsOf (S.world store.old) request.now facts.now }
+    requires found { S.is_honest store.old → S.serves store.old → AreFactsOf (S.world store.old) request.now facts.now }
+    requires served { IsTrue (is_served request.now.action) }
     ensures kept { Kept S.is_honest S.serves S.world store.old store.new }
     ensures told { Told S.is_honest S.serves store.old store.new result (IsPlanFor (S.world store.new) t request.now) }
 {
@@ -71,9 +73,8 @@ fn answer<S: Store>(
             change: Change::Nothing,
         }),
         Decision::Repeat => {
-            let reply = first_reply(facts, &request.action)?;
             Ok(Plan {
-                reply,
+                reply: first_reply(facts, &request.action),
                 change: Change::Nothing,
             })
         }
@@ -82,18 +83,15 @@ fn answer<S: Store>(
 }
 
 /// The reply that the answer under the token got.
-fn first_reply(facts: &Facts, action: &Action) -> Result<Reply, StoreFault>
-    ensures { IfOk result (λ reply. (world : World) → TrueUpTo 20 facts.now world action.now → FirstReply world facts.now.caller action.now reply) }
+fn first_reply(facts: &Facts, action: &Action) -> Reply
+    requires served { IsTrue (is_served action.now) }
+    requires repeats { IsRepetition facts.now action.now }
+    ensures { (world : World) → TrueUpTo 20 facts.now world action.now → FirstReply world facts.now.caller action.now result }
 {
-    let (Action::Submit { .. }, Some(_), Some(row), Some(answer)) = (
-        action,
-        &facts.caller,
-        &facts.round,
-        &facts.answer,
-    ) else {
-        return Err(StoreFault::Failed);
+    let (Action::Submit { .. }, Some(row), Some(answer)) = (action, &facts.round, &facts.answer) else {
+        unreachable!()
     };
-    Ok(received(&row.round, answer.n, answer.verdict))
+    received(&row.round, answer.n, answer.verdict)
 }
 
 /// The plan of an allowed action.
@@ -104,6 +102,8 @@ fn allow<S: Store>(
     facts: &Facts,
     action: &Action,
 ) -> Result<Plan, StoreFault>
+    requires served { IsTrue (is_served action.now) }
+    requires allowed { IsAllowable facts.now action.now }
     requires told { S.is_honest store.old → S.serves store.old → TrueUpTo 20 facts.now (S.world store.old) action.now }
     requires there { S.is_honest store.old → S.serves store.old → IfSome facts.now.caller (λ person. get (S.world store.old).people person.name ≡ Some person) }
     ensures kept { Kept S.is_honest S.serves S.world store.old store.new }
@@ -129,6 +129,16 @@ fn allow<S: Store>(
             submit(alloc, store, t, facts, &handed)
         }
         Action::Answers { round } => list_answers(alloc, store, t, facts, round),
-        _ => Err(StoreFault::Failed),
+        Action::Import { .. }
+        | Action::ReadPuzzle { .. }
+        | Action::ListPuzzles
+        | Action::PutRound { .. }
+        | Action::ListRounds
+        | Action::Solutions { .. }
+        | Action::Protest { .. }
+        | Action::Protests { .. }
+        | Action::Rule { .. }
+        | Action::Publish { .. }
+        | Action::Table { .. } => unreachable!(),
     }
 }

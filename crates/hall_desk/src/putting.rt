@@ -3,6 +3,7 @@ ghost use Rattle.std.specs.Prelude.{◌≡◌, ℕ, IfOk};
 ghost use Rattle.hall_grid.specs.Canonical.{CanonicalText};
 ghost use Rattle.hall_policy.specs.World.{World};
 ghost use Rattle.hall_policy.specs.Facts.{TrueUpTo};
+ghost use Rattle.hall_policy.specs.Implies.{IsAllowable};
 ghost use Rattle.hall_policy.specs.declared.request.Action.TheVariants.{PutPuzzle};
 ghost use Rattle.hall_desk.specs.Shown.{state_name};
 ghost use Rattle.hall_desk.specs.Plans.{IsAllowedPlan, StandsAs};
@@ -21,11 +22,9 @@ pub(crate) fn put_puzzle(
     key: &PuzzleKey,
     puzzle: &Puzzle,
 ) -> Result<Plan, StoreFault>
+    requires { IsAllowable facts.now (PutPuzzle key.now puzzle.now) }
     ensures { IfOk result (λ plan. (world : World) → TrueUpTo 20 facts.now world (PutPuzzle key.now puzzle.now) → (t : ℕ) → IsAllowedPlan world facts.now.caller (PutPuzzle key.now puzzle.now) t plan) }
 {
-    if !facts.author_is_there {
-        return Err(StoreFault::Failed);
-    }
     let text = text_of(alloc, puzzle)?;
     match standing_state(facts, puzzle) {
         Some(state) => Ok(Plan {

@@ -1,6 +1,7 @@
 //! An allowed action that reads a round.
 ghost use Rattle.std.specs.Prelude.{◌≡◌, ◌+◌, ℕ};
 ghost use Rattle.hall_policy.specs.Facts.{TrueUpTo};
+ghost use Rattle.hall_policy.specs.Implies.{IsAllowable};
 ghost use Rattle.hall_policy.specs.declared.request.Action.TheVariants.{ReadRound};
 ghost use Rattle.hall_desk.specs.Store.{Kept, Told};
 ghost use Rattle.hall_desk.specs.Shown.{ShowsRound, ShowsPuzzles, ShowsPuzzle};
@@ -22,12 +23,13 @@ pub(crate) fn read_round<S: Store>(
     facts: &Facts,
     _round: &RoundId,
 ) -> Result<Plan, StoreFault>
-    requires { S.is_honest store.old → S.serves store.old → TrueUpTo 20 facts.now (S.world store.old) (ReadRound _round.now) }
+    requires allowed { IsAllowable facts.now (ReadRound _round.now) }
+    requires told { S.is_honest store.old → S.serves store.old → TrueUpTo 20 facts.now (S.world store.old) (ReadRound _round.now) }
     ensures kept { Kept S.is_honest S.serves S.world store.old store.new }
     ensures told { Told S.is_honest S.serves store.old store.new result (λ plan. (t : ℕ) → IsAllowedPlan (S.world store.new) facts.now.caller (ReadRound _round.now) t plan) }
 {
     let Some(row) = &facts.round else {
-        return Err(StoreFault::Failed);
+        unreachable!()
     };
     let shown = show_round(alloc, store, row)?;
     Ok(Plan {

@@ -4,6 +4,7 @@ ghost use Rattle.std.specs.FinMap.{get};
 ghost use Rattle.hall_grid.specs.Answer.{Verdict};
 ghost use Rattle.hall_policy.specs.World.{World, entry_at};
 ghost use Rattle.hall_policy.specs.Facts.{TrueUpTo};
+ghost use Rattle.hall_policy.specs.Implies.{IsAllowable};
 ghost use Rattle.hall_desk.specs.Store.{Kept, Served, Told};
 ghost use Rattle.hall_desk.specs.Shown.{told_verdict};
 ghost use Rattle.hall_desk.specs.Handed.{handed_action, handed_key};
@@ -37,13 +38,14 @@ pub(crate) fn submit<S: Store>(
     facts: &Facts,
     handed: &Handed,
 ) -> Result<Plan, StoreFault>
+    requires allowed { IsAllowable facts.now (handed_action handed.now) }
     requires told { S.is_honest store.old → S.serves store.old → TrueUpTo 20 facts.now (S.world store.old) (handed_action handed.now) }
     requires there { S.is_honest store.old → S.serves store.old → IfSome facts.now.caller (λ person. get (S.world store.old).people person.name ≡ Some person) }
     ensures kept { Kept S.is_honest S.serves S.world store.old store.new }
     ensures told { Told S.is_honest S.serves store.old store.new result (IsAllowedPlan (S.world store.new) facts.now.caller (handed_action handed.now) t) }
 {
     let Some(row) = &facts.round else {
-        return Err(StoreFault::Failed);
+        unreachable!()
     };
     let verdict = judge_at(alloc, store, row, handed.number, handed.answer)?;
     submitted(t, facts, handed, verdict)
@@ -51,16 +53,14 @@ pub(crate) fn submit<S: Store>(
 
 /// The plan for an answer with its verdict.
 fn submitted(t: Moment, facts: &Facts, handed: &Handed, verdict: Broken) -> Result<Plan, StoreFault>
+    requires { IsAllowable facts.now (handed_action handed.now) }
     ensures { IfOk result (λ plan. (world : World) → TrueUpTo 20 facts.now world (handed_action handed.now) → IsJudgedFor world facts.now (handed_action handed.now) verdict → IfSome facts.now.caller (λ person. get world.people person.name ≡ Some person) → IsAllowedPlan world facts.now.caller (handed_action handed.now) t plan) }
 {
     let (Some(person), Some(row)) = (&facts.caller, &facts.round) else {
-        return Err(StoreFault::Failed);
+        unreachable!()
     };
-    if facts.answer.is_some() || facts.count >= 50 {
-        return Err(StoreFault::Failed);
-    }
     let Some(n) = AnswerNumber::new(facts.count + 1) else {
-        return Err(StoreFault::Failed);
+        unreachable!()
     };
     let stored = AnswerRow {
         answer: handed.answer.clone()?,

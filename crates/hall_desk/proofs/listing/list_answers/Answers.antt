@@ -21,7 +21,7 @@ returns-clause-told g c =
     (λ plan. (w : World) → TrueUpTo 20 facts w asked → AreRowsFor w facts asked c.args.t c.as_slice.result.now → IsAllowedPlan w facts.caller asked c.args.t plan)
     (IsAllowedPlan (world new) facts.caller asked c.args.t) old new (λ h s. (read.served h).0)
     (λ plan h s made.
-    made (world new) (carried (λ w. TrueUpTo 20 facts w asked) old new read.kept c.requires h s) (
+    made (world new) (carried (λ w. TrueUpTo 20 facts w asked) old new read.kept c.requires.told h s) (
       person,
       c.in-Some-round.row,
       c.in-Some.is,

@@ -13,16 +13,16 @@ pub returns-in-Deny-clause-told : goal.returns-in-Deny-clause-told
 returns-in-Deny-clause-told g c = (
   (λ h s. s),
   (λ h s. planned c.args.facts.now (g.S.Store.world c.args.store.now) c.args.t c.args.request.now (Deny c.in-Deny.rule) (reply.Denied c.in-Deny.rule) change.Nothing
-      (c.requires h s) c.in-Deny.ensures.decided state.GaveUp (refl, refl) tt),
+      (c.requires.found h s) c.in-Deny.ensures.decided state.GaveUp (refl, refl) tt),
 )
 
-pub returns-in_ok-reply-in-Repeat-clause-told : goal.returns-in_ok-reply-in-Repeat-clause-told
-returns-in_ok-reply-in-Repeat-clause-told g c = (
+pub returns-in-Repeat-clause-told : goal.returns-in-Repeat-clause-told
+returns-in-Repeat-clause-told g c = (
   (λ h s. s),
   (λ h s.
       let world = g.S.Store.world c.args.store.now in
-      planned c.args.facts.now world c.args.t c.args.request.now Repeat c.in_ok-reply-in-Repeat.reply change.Nothing
-      (c.requires h s) c.in-Repeat.ensures.decided state.GaveUp (c.in_ok-reply-in-Repeat.ensures world (c.requires h s).told, refl) tt),
+      planned c.args.facts.now world c.args.t c.args.request.now Repeat c.first_reply.result change.Nothing
+      (c.requires.found h s) c.in-Repeat.ensures.decided state.GaveUp (c.first_reply.ensures world (c.requires.found h s).told, refl) tt),
 )
 
 pub returns-in-Allow-clause-told : goal.returns-in-Allow-clause-told
@@ -34,5 +34,5 @@ returns-in-Allow-clause-told g c =
     told_turn g.S.Store.is_honest g.S.Store.serves c.allow.result (IsMadePlan (world new) facts.caller request.action c.args.t) (IsPlanFor (world new) c.args.t request) c.args.store.now new
     (λ plan h s made.
     planned facts (world new) c.args.t request Allow plan.reply plan.change
-    (carried (λ w. AreFactsOf w request facts) c.args.store.now new c.allow.ensures.kept c.requires h s) c.in-Allow.ensures.decided made.found made.allowed made.can)
+    (carried (λ w. AreFactsOf w request facts) c.args.store.now new c.allow.ensures.kept c.requires.found h s) c.in-Allow.ensures.decided made.found made.allowed made.can)
     c.allow.ensures.told
