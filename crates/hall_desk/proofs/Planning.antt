@@ -24,7 +24,7 @@ use Rattle.hall_desk.specs.Change.{changed, CanMake, with_flag}
 use Rattle.hall_desk.specs.Step.{Decided}
 use Rattle.hall_desk.specs.Store.{Told}
 use Rattle.hall_desk.specs.Plans.{IsPlanFor, IsAllowedPlan, IsMadePlan}
-use Rattle.hall_desk.specs.declared.plan.Plan.{Plan}
+use Rattle.hall_desk.specs.declared.planned.Plan.{Plan}
 use Rattle.hall_desk.specs.declared.reply.Reply.{Reply}
 use Rattle.hall_desk.specs.declared.reply.Reply.TheVariants.{PuzzlePut, Released}
 use Rattle.hall_desk.specs.declared.reply.StateName.TheVariants as name

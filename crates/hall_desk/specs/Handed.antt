@@ -3,7 +3,7 @@ use Rattle.hall_policy.specs.declared.request.Action.{Action}
 use Rattle.hall_policy.specs.declared.request.Action.TheVariants.{Submit}
 use Rattle.hall_policy.specs.declared.record.AnswerKey.{AnswerKey}
 use Rattle.hall_policy.specs.declared.record.Person.{Person}
-use Rattle.hall_desk.specs.declared.submitting.Handed.{Handed}
+use Rattle.hall_desk.specs.declared.submit.Handed.{Handed}
 
 -- the action that hands it in
 abbrev pub handed_action : Handed → Action

@@ -23,7 +23,7 @@ use Rattle.hall_desk.specs.Step.{Step, IsAnswered, Allowed}
 use Rattle.hall_desk.specs.Run.{Run}
 use Rattle.hall_desk.specs.declared.reply.Reply.{Reply}
 use Rattle.hall_desk.specs.declared.reply.Reply.TheVariants.{Unavailable}
-use Rattle.hall_desk.specs.declared.plan.Plan.{Plan}
+use Rattle.hall_desk.specs.declared.planned.Plan.{Plan}
 
 -- the plan's reply and change are those of the request as it is decided, for what the search would find, and the change may be made
 pub record IsPlanFor (world : World) (t : ℕ) (request : Request) (plan : Plan) : Type 0 where

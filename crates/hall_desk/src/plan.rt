@@ -1,4 +1,4 @@
-//! What a request will be answered and will change: facts, decision, plan.
+//! From a request to its plan: what the rules read, the decision, and what an allowed action answers and changes.
 ghost use Rattle.std.specs.Prelude.{◌≡◌, IfSome, IsTrue, Some};
 ghost use Rattle.std.specs.FinMap.{get};
 ghost use Rattle.hall_policy.specs.World.{World};
@@ -9,34 +9,18 @@ ghost use Rattle.hall_policy.specs.Implies.{IsAllowable, IsRepetition};
 ghost use Rattle.hall_desk.specs.Step.{FirstReply, is_served};
 ghost use Rattle.hall_desk.specs.Plans.{IsPlanFor, IsMadePlan};
 
-use crate::certification::{certify_puzzle, release_round};
+use crate::certify_puzzle::certify_puzzle;
+use crate::release::release_round;
 use crate::found::find_facts;
-use crate::listing::list_answers;
-use crate::putting::put_puzzle;
-use crate::reading::read_round;
+use crate::answers::list_answers;
+use crate::put_puzzle::put_puzzle;
+use crate::read_round::read_round;
+use crate::planned::Plan;
 use crate::reply::Reply;
-use crate::store::{Change, Store, StoreFault};
-use crate::submitting::{Handed, received, submit};
+use crate::store::{Store, StoreFault};
+use crate::submit::{Handed, received, submit};
 use hall_policy::{Action, Decision, Facts, Moment, Request, decide};
 use std::alloc::Global;
-
-/// What a request will be answered, and what it will change.
-#[derive(Drop)]
-pub struct Plan {
-    pub(crate) reply: Reply,
-    pub(crate) change: Change,
-}
-
-impl Plan {
-    ghost use Rattle.hall_desk.specs.Plan.{planned_reply};
-
-    /// The reply, lent before the change is made.
-    pub fn reply(&self) -> &Reply
-        ensures { result.now ≡ planned_reply self.now }
-    {
-        &self.reply
-    }
-}
 
 /// What the request will be answered, and what it will change. Reads only.
 pub(crate) fn make_plan<S: Store>(
@@ -68,16 +52,8 @@ fn answer<S: Store>(
     ensures told { Told S.is_honest S.serves store.old store.new result (IsPlanFor (S.world store.new) t request.now) }
 {
     match decide(facts, &request.action, t) {
-        Decision::Deny(rule) => Ok(Plan {
-            reply: Reply::Denied(rule),
-            change: Change::Nothing,
-        }),
-        Decision::Repeat => {
-            Ok(Plan {
-                reply: first_reply(facts, &request.action),
-                change: Change::Nothing,
-            })
-        }
+        Decision::Deny(rule) => Ok(Plan::of(Reply::Denied(rule))),
+        Decision::Repeat => Ok(Plan::of(first_reply(facts, &request.action))),
         Decision::Allow => allow(alloc, store, t, facts, &request.action),
     }
 }

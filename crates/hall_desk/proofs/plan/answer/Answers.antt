@@ -1,10 +1,11 @@
-use Rattle.std.proofs.Common.{refl}
+use Rattle.std.proofs.Common.{refl, sym, subst}
 use Rattle.hall_policy.specs.declared.record.PuzzleState.TheVariants as state
 use Rattle.hall_policy.specs.declared.rule.Decision.TheVariants.{Allow, Repeat, Deny}
 use Rattle.hall_desk.specs.declared.reply.Reply.TheVariants as reply
 use Rattle.hall_desk.specs.declared.store.Change.TheVariants as change
 use Rattle.hall_desk.specs.Found.{AreFactsOf}
 use Rattle.hall_desk.specs.Plans.{IsMadePlan, IsPlanFor}
+use Rattle.hall_desk.specs.declared.planned.Plan.{Plan}
 use Rattle.hall_desk.proofs.Knowing.{carried, told_turn}
 use Rattle.hall_desk.proofs.Planning.{planned}
 use Rattle.hall_desk.proofs.plan.answer.Goals as goal
@@ -12,8 +13,11 @@ use Rattle.hall_desk.proofs.plan.answer.Goals as goal
 pub returns-in-Deny-clause-told : goal.returns-in-Deny-clause-told
 returns-in-Deny-clause-told g c = (
   (λ h s. s),
-  (λ h s. planned c.args.facts.now (g.S.Store.world c.args.store.now) c.args.t c.args.request.now (Deny c.in-Deny.rule) (reply.Denied c.in-Deny.rule) change.Nothing
-      (c.requires.found h s) c.in-Deny.ensures.decided state.GaveUp (refl, refl) tt),
+  (λ h s.
+      let world = g.S.Store.world c.args.store.now in
+      subst (λ (plan : Plan). IsPlanFor world c.args.t c.args.request.now plan) (sym c.of.ensures)
+      (planned c.args.facts.now world c.args.t c.args.request.now (Deny c.in-Deny.rule) (reply.Denied c.in-Deny.rule) change.Nothing
+      (c.requires.found h s) c.in-Deny.ensures.decided state.GaveUp (refl, refl) tt)),
 )
 
 pub returns-in-Repeat-clause-told : goal.returns-in-Repeat-clause-told
@@ -21,8 +25,9 @@ returns-in-Repeat-clause-told g c = (
   (λ h s. s),
   (λ h s.
       let world = g.S.Store.world c.args.store.now in
-      planned c.args.facts.now world c.args.t c.args.request.now Repeat c.first_reply.result change.Nothing
-      (c.requires.found h s) c.in-Repeat.ensures.decided state.GaveUp (c.first_reply.ensures world (c.requires.found h s).told, refl) tt),
+      subst (λ (plan : Plan). IsPlanFor world c.args.t c.args.request.now plan) (sym c.of-in-Repeat.ensures)
+      (planned c.args.facts.now world c.args.t c.args.request.now Repeat c.first_reply.result change.Nothing
+      (c.requires.found h s) c.in-Repeat.ensures.decided state.GaveUp (c.first_reply.ensures world (c.requires.found h s).told, refl) tt)),
 )
 
 pub returns-in-Allow-clause-told : goal.returns-in-Allow-clause-told

@@ -1,7 +1,7 @@
 use Rattle.std.proofs.Common.{take}
 use Rattle.hall_desk.specs.Store.{Kept}
 use Rattle.hall_desk.specs.Shown.{ShowsPuzzles}
-use Rattle.hall_desk.proofs.reading.show_puzzles.Given as goal
+use Rattle.hall_desk.proofs.read_round.show_puzzles.Given as goal
 
 -- the world is the one before, and the lines so far show the puzzles so far
 abbrev pub invariant-loop-place : goal.invariant-loop-place

@@ -8,7 +8,7 @@ ghost use Rattle.hall_policy.specs.declared.request.Action.TheVariants.{PutPuzzl
 ghost use Rattle.hall_desk.specs.Shown.{state_name};
 ghost use Rattle.hall_desk.specs.Plans.{IsAllowedPlan, StandsAs};
 
-use crate::plan::Plan;
+use crate::planned::Plan;
 use crate::reply::{Reply, StateName};
 use crate::store::{Change, StoreFault};
 use hall_grid::{Puzzle, write_puzzle};

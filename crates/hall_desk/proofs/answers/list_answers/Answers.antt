@@ -6,7 +6,7 @@ use Rattle.hall_policy.specs.declared.request.Action.TheVariants.{Answers}
 use Rattle.hall_desk.specs.Store.{IsListing}
 use Rattle.hall_desk.specs.Plans.{IsAllowedPlan, AreRowsFor}
 use Rattle.hall_desk.proofs.Knowing.{carried, pure_told}
-use Rattle.hall_desk.proofs.listing.list_answers.Goals as goal
+use Rattle.hall_desk.proofs.answers.list_answers.Goals as goal
 
 pub returns-clause-told : goal.returns-clause-told
 returns-clause-told g c =

@@ -8,7 +8,7 @@ ghost use Rattle.hall_desk.specs.Store.{Kept, Served, Told, IsListing};
 ghost use Rattle.hall_desk.specs.Shown.{is_sealed, sees_all, shows_verdict, answer_line};
 ghost use Rattle.hall_desk.specs.Plans.{IsAllowedPlan, AreRowsFor};
 
-use crate::plan::Plan;
+use crate::planned::Plan;
 use crate::reply::{AnswerLine, Reply};
 use crate::rows::Rows;
 use crate::store::{Change, Store, StoreFault};

@@ -7,8 +7,8 @@ ghost use Rattle.hall_desk.specs.Store.{Kept, Told};
 ghost use Rattle.hall_desk.specs.Shown.{ShowsRound, ShowsPuzzles, ShowsPuzzle};
 ghost use Rattle.hall_desk.specs.Plans.{IsAllowedPlan};
 
-use crate::plan::Plan;
-use crate::putting::text_of;
+use crate::planned::Plan;
+use crate::put_puzzle::text_of;
 use crate::reply::{Reply, ShownPuzzle, ShownRound};
 use crate::rows::Rows;
 use crate::store::{Change, Store, StoreFault};

@@ -1,21 +1,21 @@
-//! Allowed actions that certify a puzzle or release a round.
+//! Certify: a puzzle is searched, and what is found becomes its state.
 ghost use Rattle.std.specs.Prelude.{◌≡◌, ℕ, IfOk};
 ghost use Rattle.hall_policy.specs.World.{World};
 ghost use Rattle.hall_policy.specs.Facts.{TrueUpTo};
 ghost use Rattle.hall_policy.specs.Implies.{IsAllowable};
-ghost use Rattle.hall_policy.specs.declared.request.Action.TheVariants.{Certify, Release};
+ghost use Rattle.hall_policy.specs.declared.request.Action.TheVariants.{Certify};
 ghost use Rattle.hall_grid.specs.Answer.{AnswerText as Says, IsFilling};
 ghost use Rattle.hall_desk.specs.Step.{is_open, IsFound};
-ghost use Rattle.hall_desk.specs.Plans.{IsAllowedPlan, IsMadePlan};
+ghost use Rattle.hall_desk.specs.Plans.{IsMadePlan};
 ghost use Rattle.hall_desk.specs.Shown.{state_name};
 
-use crate::certificate::certify;
-use crate::plan::Plan;
-use crate::putting::state_name;
+use crate::search::certify;
+use crate::planned::Plan;
+use crate::put_puzzle::state_name;
 use crate::reply::Reply;
-use crate::store::{Change, RoundFlag, StoreFault};
+use crate::store::{Change, StoreFault};
 use hall_grid::{Filling, Puzzle, write_answer};
-use hall_policy::{AnswerText, Budget, Facts, PuzzleKey, PuzzleState, RoundId};
+use hall_policy::{AnswerText, Budget, Facts, PuzzleKey, PuzzleState};
 use hall_solve::Outcome;
 use std::alloc::Global;
 
@@ -90,23 +90,4 @@ fn solution_text(
 {
     let text = write_answer(alloc, puzzle, solution)?;
     AnswerText::new(text).ok_or(StoreFault::Failed)
-}
-
-/// An allowed Release: the draft is released.
-pub(crate) fn release_round(facts: &Facts, round: &RoundId) -> Result<Plan, StoreFault>
-    requires { IsAllowable facts.now (Release round.now) }
-    ensures { IfOk result (λ plan. (world : World) → TrueUpTo 20 facts.now world (Release round.now) → (t : ℕ) → IsAllowedPlan world facts.now.caller (Release round.now) t plan) }
-{
-    let Some(_row) = &facts.round else {
-        unreachable!()
-    };
-    let shown = round.clone()?;
-    let kept = round.clone()?;
-    Ok(Plan {
-        reply: Reply::Released(shown),
-        change: Change::SetRoundFlag {
-            round: kept,
-            flag: RoundFlag::Released,
-        },
-    })
 }

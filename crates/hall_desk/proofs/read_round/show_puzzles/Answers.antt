@@ -5,7 +5,7 @@ use Rattle.hall_desk.specs.declared.reply.ShownPuzzle.{ShownPuzzle}
 use Rattle.hall_policy.specs.declared.record.Entry.{Entry}
 use Rattle.hall_desk.proofs.Knowing.{kept_then, carried}
 use Rattle.hall_desk.proofs.Showing.{shows_more}
-use Rattle.hall_desk.proofs.reading.show_puzzles.Goals as goal
+use Rattle.hall_desk.proofs.read_round.show_puzzles.Goals as goal
 
 pub loop-place-preserved : goal.loop-place-preserved
 loop-place-preserved g c =

@@ -10,7 +10,7 @@ ghost use Rattle.hall_desk.specs.Shown.{told_verdict};
 ghost use Rattle.hall_desk.specs.Handed.{handed_action, handed_key};
 ghost use Rattle.hall_desk.specs.Plans.{IsAllowedPlan, IsJudgedAt, IsJudgedFor};
 
-use crate::plan::Plan;
+use crate::planned::Plan;
 use crate::reply::Reply;
 use crate::store::{Change, Store, StoreFault};
 use crate::verdict::judge;

@@ -1,5 +1,5 @@
 use Rattle.hall_desk.proofs.Planning.{put_new}
-use Rattle.hall_desk.proofs.putting.put_puzzle.Goals as goal
+use Rattle.hall_desk.proofs.put_puzzle.put_puzzle.Goals as goal
 
 pub returns-in_ok-clone-in-None-2 : goal.returns-in_ok-clone-in-None-2
 returns-in_ok-clone-in-None-2 c = λ world told t.

@@ -1,5 +1,5 @@
 use Rattle.hall_desk.proofs.Planning.{released}
-use Rattle.hall_desk.proofs.certification.release_round.Goals as goal
+use Rattle.hall_desk.proofs.release.release_round.Goals as goal
 
 pub returns : goal.returns
 returns c = λ world told t.

@@ -5,7 +5,7 @@ use Rattle.hall_policy.specs.Facts.{TrueUpTo}
 use Rattle.hall_policy.specs.declared.request.Action.TheVariants.{Submit}
 use Rattle.hall_desk.specs.Plans.{IsAllowedPlan, IsJudgedFor}
 use Rattle.hall_desk.proofs.Knowing.{carried, pure_told}
-use Rattle.hall_desk.proofs.submitting.submit.Goals as goal
+use Rattle.hall_desk.proofs.submit.submit.Goals as goal
 
 pub returns-clause-told : goal.returns-clause-told
 returns-clause-told g c =
