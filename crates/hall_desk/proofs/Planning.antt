@@ -6,7 +6,7 @@ use Rattle.hall_grid.specs.Canonical.{CanonicalText}
 use Rattle.hall_policy.specs.World.{World, IsRoundAt}
 use Rattle.hall_policy.specs.First.{First}
 use Rattle.hall_policy.specs.Facts.{TrueUpTo, IsRoundFound}
-use Rattle.hall_policy.specs.Decided.{IsDecidedUpTo}
+use Rattle.hall_policy.specs.Decided.{IsDecided}
 use Rattle.hall_policy.specs.declared.rule.Decision.{Decision}
 use Rattle.hall_policy.specs.declared.facts.Facts.{Facts}
 use Rattle.hall_policy.specs.declared.record.Person.{Person}
@@ -19,7 +19,7 @@ use Rattle.hall_policy.specs.declared.request.Request.{Request}
 use Rattle.hall_policy.specs.declared.request.Action.{Action}
 use Rattle.hall_policy.specs.declared.request.Action.TheVariants as action
 use Rattle.hall_desk.specs.Caller.{caller_of}
-use Rattle.hall_desk.specs.Found.{AreFactsOf}
+use Rattle.hall_desk.specs.Found.{IsCaller}
 use Rattle.hall_desk.specs.Change.{changed, CanMake, with_flag}
 use Rattle.hall_desk.specs.Step.{Decided}
 use Rattle.hall_desk.specs.Store.{Told}
@@ -35,18 +35,18 @@ use Rattle.hall_desk.proofs.Knowing.{pure_told, told_turn}
 
 -- a decision, and what it answers and changes, make a plan
 pub planned : (facts : Facts) (world : World) (t : ℕ) (request : Request) (decision : Decision) (given : Reply) (change : Change) →
-    AreFactsOf world request facts → IsDecidedUpTo 20 facts request.action t decision →
+    IsCaller world request.key facts.caller → IsDecided world facts request.action t decision →
     (outcome : PuzzleState) → Decided decision world facts.caller request.action t outcome given (changed change world) → CanMake change world →
     IsPlanFor world t request (record { reply = given; change = change })
-planned facts world t request decision given change found first outcome decided can =
-    let same : facts.caller ≡ caller_of world request.key = found.caller.found in
+planned facts world t request decision given change caller is outcome decided can =
+    let same : facts.caller ≡ caller_of world request.key = caller.found in
     record {
       answered = (
         outcome,
         (
           decision,
-          subst (λ (caller : Option Person). First world caller request.action t decision) same (first world found.told).first,
-          subst (λ (caller : Option Person). Decided decision world caller request.action t outcome given (changed change world)) same decided,
+          subst (λ (who : Option Person). First world who request.action t decision) same is.first,
+          subst (λ (who : Option Person). Decided decision world who request.action t outcome given (changed change world)) same decided,
         ),
       );
       can = can;

@@ -135,26 +135,6 @@ Allowed world caller (Rule id entrant token ruling) t found given new = ⊥
 Allowed world caller (Publish id) t found given new = ⊥
 Allowed world caller (Table id) t found given new = ⊥
 
--- whether the action is served today
-abbrev pub is_served : Action → Bool
-is_served (Import people) = false
-is_served (PutPuzzle key puzzle) = true
-is_served (ReadPuzzle key) = false
-is_served ListPuzzles = false
-is_served (Certify key budget) = true
-is_served (PutRound round sheet) = false
-is_served (Release round) = true
-is_served ListRounds = false
-is_served (ReadRound round) = true
-is_served (Submit round number token answer) = true
-is_served (Answers round) = true
-is_served (Solutions round) = false
-is_served (Protest round token number text) = false
-is_served (Protests round) = false
-is_served (Rule round entrant token ruling) = false
-is_served (Publish round) = false
-is_served (Table round) = false
-
 -- the first reply, from the row that stands
 abbrev pub FirstReply : World → Option Person → Action → Reply → Type 0
 FirstReply world caller (Submit id number token answer) given =

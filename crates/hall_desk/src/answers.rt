@@ -1,4 +1,4 @@
-//! An allowed action that lists answers.
+//! Answers: the answers of a round that the caller sees.
 ghost use Rattle.std.specs.Prelude.{◌≡◌, ◌&&◌, ◌||◌, IfOk, map};
 ghost use Rattle.hall_policy.specs.World.{World, same_text};
 ghost use Rattle.hall_policy.specs.Facts.{TrueUpTo};

@@ -2,22 +2,51 @@
 ghost use Rattle.std.specs.Prelude.{◌≡◌, ℕ, IfOk};
 ghost use Rattle.hall_policy.specs.World.{World};
 ghost use Rattle.hall_policy.specs.Facts.{TrueUpTo};
-ghost use Rattle.hall_policy.specs.Implies.{IsAllowable};
+ghost use Rattle.hall_policy.specs.Implies.{Implies, IsAllowable};
+ghost use Rattle.hall_policy.specs.Decided.{IsDecided};
+ghost use Rattle.hall_desk.specs.Store.{Kept, Told};
 ghost use Rattle.hall_policy.specs.declared.request.Action.TheVariants.{Certify};
 ghost use Rattle.hall_grid.specs.Answer.{AnswerText as Says, IsFilling};
 ghost use Rattle.hall_desk.specs.Step.{is_open, IsFound};
 ghost use Rattle.hall_desk.specs.Plans.{IsMadePlan};
+ghost use Rattle.hall_desk.specs.Handed.{certify_action};
 ghost use Rattle.hall_desk.specs.Shown.{state_name};
 
 use crate::search::certify;
 use crate::planned::Plan;
 use crate::put_puzzle::state_name;
 use crate::reply::Reply;
-use crate::store::{Change, StoreFault};
+use crate::store::{Change, Store, StoreFault};
 use hall_grid::{Filling, Puzzle, write_answer};
-use hall_policy::{AnswerText, Budget, Facts, PuzzleKey, PuzzleState};
+use hall_policy::{Action, AnswerText, Budget, Decision, Facts, Moment, PuzzleKey, PuzzleState, decide};
 use hall_solve::Outcome;
 use std::alloc::Global;
+
+/// What is certified: the puzzle under the key, by a search of at most so many visits.
+#[derive(Clone, Copy)]
+pub(crate) struct Certifying<'a> {
+    pub(crate) key: &'a PuzzleKey,
+    pub(crate) budget: Budget,
+}
+
+/// What is decided of a Certify.
+pub(crate) fn settle<S: Store>(
+    alloc: Global,
+    store: &mut S,
+    t: Moment,
+    action: &Action,
+    certified: &Certifying,
+    facts: &mut Facts,
+) -> Result<Decision, StoreFault>
+    requires { action.now ≡ certify_action certified.now }
+    ensures kept { Kept S.is_honest S.serves S.world store.old store.new }
+    ensures caller { facts.new.caller ≡ facts.old.caller }
+    ensures implied { IfOk result (λ decision. Implies decision facts.new action.now) }
+    ensures told { Told S.is_honest S.serves store.old store.new result (λ decision. IsDecided (S.world store.new) facts.new action.now t decision) }
+{
+    facts.puzzle = store.puzzle(alloc, certified.key)?;
+    Ok(decide(facts, action, t))
+}
 
 /// An allowed Certify: the puzzle is searched where no search of it came to an end yet.
 pub(crate) fn certify_puzzle(

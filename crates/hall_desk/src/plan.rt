@@ -1,28 +1,30 @@
-//! From a request to its plan: what the rules read, the decision, and what an allowed action answers and changes.
-ghost use Rattle.std.specs.Prelude.{◌≡◌, IfSome, IsTrue, Some};
+//! From a request to its plan: the caller, what the rules read, the decision, and what an allowed action answers and changes.
+ghost use Rattle.std.specs.Prelude.{◌≡◌, IfOk, IfSome, Some, None};
 ghost use Rattle.std.specs.FinMap.{get};
 ghost use Rattle.hall_policy.specs.World.{World};
-ghost use Rattle.hall_policy.specs.Facts.{TrueUpTo};
-ghost use Rattle.hall_desk.specs.Store.{Kept, Served, Told};
-ghost use Rattle.hall_desk.specs.Found.{AreFactsOf};
-ghost use Rattle.hall_policy.specs.Implies.{IsAllowable, IsRepetition};
-ghost use Rattle.hall_desk.specs.Step.{FirstReply, is_served};
-ghost use Rattle.hall_desk.specs.Plans.{IsPlanFor, IsMadePlan};
+ghost use Rattle.hall_policy.specs.Facts.{TrueUpTo, deciding};
+ghost use Rattle.hall_policy.specs.Implies.{Implies, IsAllowable, IsRepetition};
+ghost use Rattle.hall_policy.specs.Decided.{IsDecided};
+ghost use Rattle.hall_desk.specs.Store.{Kept, Told};
+ghost use Rattle.hall_desk.specs.Found.{IsCaller};
+ghost use Rattle.hall_desk.specs.Step.{FirstReply};
+ghost use Rattle.hall_desk.specs.Plans.{IsPlanFor, IsMadePlan, Planned};
+ghost use Rattle.hall_desk.specs.declared.store.Change.{Change};
 
-use crate::certify_puzzle::certify_puzzle;
-use crate::release::release_round;
-use crate::found::find_facts;
 use crate::answers::list_answers;
-use crate::put_puzzle::put_puzzle;
-use crate::read_round::read_round;
+use crate::certify_puzzle::{self, Certifying, certify_puzzle};
+use crate::found::settle_by_round;
 use crate::planned::Plan;
+use crate::put_puzzle::{self, Putting, put_puzzle};
+use crate::read_round::read_round;
+use crate::release::{self, release_round};
 use crate::reply::Reply;
 use crate::store::{Store, StoreFault};
-use crate::submit::{Handed, received, submit};
-use hall_policy::{Action, Decision, Facts, Moment, Request, decide};
+use crate::submit::{self, Handed, received, submit};
+use hall_policy::{Action, Decision, Facts, Moment, Request, Rule, decide_up_to};
 use std::alloc::Global;
 
-/// What the request will be answered, and what it will change. Reads only.
+/// What the request will be answered, and what it will change. Reads only, and nothing but what the rules ask up to the one that decides.
 pub(crate) fn make_plan<S: Store>(
     alloc: Global,
     store: &mut S,
@@ -30,44 +32,179 @@ pub(crate) fn make_plan<S: Store>(
     request: &Request,
 ) -> Result<Plan, StoreFault>
     ensures kept { Kept S.is_honest S.serves S.world store.old store.new }
-    ensures served { Served S.is_honest S.serves store.new result (IsPlanFor (S.world store.new) t request.now) }
+    ensures planned { Planned S.is_honest S.serves S.world store.new t request.now result }
 {
-    let facts = find_facts(alloc, store, request)?;
-    let plan = answer(alloc, store, t, &facts, request);
+    let mut facts = no_facts();
+    let plan = plan_with(alloc, store, t, request, &mut facts);
     drop(facts);
     plan
 }
 
-/// The plan, from the facts.
+/// Facts that tell of nothing.
+fn no_facts() -> Facts
+    ensures { result.caller ≡ None }
+{
+    Facts {
+        caller: None,
+        author_is_there: false,
+        puzzle: None,
+        sheet_lacks: false,
+        round: None,
+        answer: None,
+        protest: None,
+        in_released: false,
+        uncertified: false,
+        open_protest: false,
+        involved: false,
+        count: 0,
+        conflict: false,
+    }
+}
+
+/// The plan, with the facts that it rests on.
+fn plan_with<S: Store>(
+    alloc: Global,
+    store: &mut S,
+    t: Moment,
+    request: &Request,
+    facts: &mut Facts,
+) -> Result<Plan, StoreFault>
+    requires { facts.old.caller ≡ None }
+    ensures kept { Kept S.is_honest S.serves S.world store.old store.new }
+    ensures planned { Planned S.is_honest S.serves S.world store.new t request.now result }
+{
+    match &request.key {
+        Some(key) => {
+            facts.caller = store.person_by_key(alloc, key)?;
+            let decision = settle(alloc, store, t, &request.action, facts)?;
+            answer(alloc, store, t, facts, request, decision)
+        }
+        None => plan_without_key(t, request, facts),
+    }
+}
+
+/// The plan for a request without a key, which asks nothing of the store.
+fn plan_without_key(t: Moment, request: &Request, facts: &Facts) -> Result<Plan, StoreFault>
+    requires key { request.now.key ≡ None }
+    requires caller { facts.now.caller ≡ None }
+    ensures nothing { IfOk result (λ plan. plan.change ≡ Change.Nothing) }
+    ensures planned { IfOk result (λ plan. (world : World) → IsPlanFor world t request.now plan) }
+{
+    match decide_up_to(facts, &request.action, t, Rule::OtherAuthor) {
+        Some(Decision::Deny(rule)) => Ok(Plan::of(Reply::Denied(rule))),
+        Some(Decision::Repeat) | Some(Decision::Allow) | None => Err(StoreFault::Failed),
+    }
+}
+
+/// What is decided, and in the facts all that it rests on. The rules that read the caller alone are asked before anything else is read.
+fn settle<S: Store>(
+    alloc: Global,
+    store: &mut S,
+    t: Moment,
+    action: &Action,
+    facts: &mut Facts,
+) -> Result<Decision, StoreFault>
+    ensures kept { Kept S.is_honest S.serves S.world store.old store.new }
+    ensures caller { facts.new.caller ≡ facts.old.caller }
+    ensures implied { IfOk result (λ decision. Implies decision facts.new action.now) }
+    ensures told { Told S.is_honest S.serves store.old store.new result (λ decision. IsDecided (S.world store.new) facts.new action.now t decision) }
+{
+    if let Some(decision) = decide_up_to(facts, action, t, Rule::OtherAuthor) {
+        return Ok(decision);
+    }
+    find_rest(alloc, store, t, action, facts)
+}
+
+/// What is decided where the caller alone doesn't forbid the action.
+fn find_rest<S: Store>(
+    alloc: Global,
+    store: &mut S,
+    t: Moment,
+    action: &Action,
+    facts: &mut Facts,
+) -> Result<Decision, StoreFault>
+    ensures kept { Kept S.is_honest S.serves S.world store.old store.new }
+    ensures caller { facts.new.caller ≡ facts.old.caller }
+    ensures implied { IfOk result (λ decision. Implies decision facts.new action.now) }
+    ensures told { Told S.is_honest S.serves store.old store.new result (λ decision. IsDecided (S.world store.new) facts.new action.now t decision) }
+{
+    match action {
+        Action::PutPuzzle { key, puzzle } => {
+            put_puzzle::settle(alloc, store, t, action, &Putting { key, puzzle }, facts)
+        }
+        Action::Certify { key, budget } => {
+            let certified = Certifying {
+                key,
+                budget: *budget,
+            };
+            certify_puzzle::settle(alloc, store, t, action, &certified, facts)
+        }
+        Action::Release { round } => release::settle(alloc, store, t, action, round, facts),
+        Action::ReadRound { round } | Action::Answers { round } => {
+            settle_by_round(alloc, store, t, action, round, facts)
+        }
+        Action::Submit {
+            round,
+            number,
+            token,
+            answer,
+        } => {
+            let handed = Handed {
+                round,
+                number: *number,
+                token,
+                answer,
+            };
+            submit::settle(alloc, store, t, action, &handed, facts)
+        }
+        Action::Import { .. }
+        | Action::ReadPuzzle { .. }
+        | Action::ListPuzzles
+        | Action::PutRound { .. }
+        | Action::ListRounds
+        | Action::Solutions { .. }
+        | Action::Protest { .. }
+        | Action::Protests { .. }
+        | Action::Rule { .. }
+        | Action::Publish { .. }
+        | Action::Table { .. } => Err(StoreFault::Failed),
+    }
+}
+
+/// The plan that the decision asks for.
 fn answer<S: Store>(
     alloc: Global,
     store: &mut S,
     t: Moment,
     facts: &Facts,
     request: &Request,
+    decision: Decision,
 ) -> Result<Plan, StoreFault>
-    requires found { S.is_honest store.old → S.serves store.old → AreFactsOf (S.world store.old) request.now facts.now }
-    requires served { IsTrue (is_served request.now.action) }
+    requires caller { S.is_honest store.old → S.serves store.old → IsCaller (S.world store.old) request.now.key facts.now.caller }
+    requires implied { Implies decision facts.now request.now.action }
+    requires decided { S.is_honest store.old → S.serves store.old → IsDecided (S.world store.old) facts.now request.now.action t decision }
     ensures kept { Kept S.is_honest S.serves S.world store.old store.new }
     ensures told { Told S.is_honest S.serves store.old store.new result (IsPlanFor (S.world store.new) t request.now) }
 {
-    match decide(facts, &request.action, t) {
+    match decision {
         Decision::Deny(rule) => Ok(Plan::of(Reply::Denied(rule))),
-        Decision::Repeat => Ok(Plan::of(first_reply(facts, &request.action))),
+        Decision::Repeat => Ok(Plan::of(first_reply(facts, &request.action)?)),
         Decision::Allow => allow(alloc, store, t, facts, &request.action),
     }
 }
 
-/// The reply that the answer under the token got.
-fn first_reply(facts: &Facts, action: &Action) -> Reply
-    requires served { IsTrue (is_served action.now) }
-    requires repeats { IsRepetition facts.now action.now }
-    ensures { (world : World) → TrueUpTo 20 facts.now world action.now → FirstReply world facts.now.caller action.now result }
+/// The reply that the answer under the token got. Nothing but an answer is repeated yet.
+fn first_reply(facts: &Facts, action: &Action) -> Result<Reply, StoreFault>
+    requires { IsRepetition facts.now action.now }
+    ensures { IfOk result (λ reply. (world : World) → TrueUpTo (deciding action.now Decision.Repeat) facts.now world action.now → FirstReply world facts.now.caller action.now reply) }
 {
-    let (Action::Submit { .. }, Some(row), Some(answer)) = (action, &facts.round, &facts.answer) else {
+    let Action::Submit { .. } = action else {
+        return Err(StoreFault::Failed);
+    };
+    let (Some(row), Some(answer)) = (&facts.round, &facts.answer) else {
         unreachable!()
     };
-    received(&row.round, answer.n, answer.verdict)
+    Ok(received(&row.round, answer.n, answer.verdict))
 }
 
 /// The plan of an allowed action.
@@ -78,7 +215,6 @@ fn allow<S: Store>(
     facts: &Facts,
     action: &Action,
 ) -> Result<Plan, StoreFault>
-    requires served { IsTrue (is_served action.now) }
     requires allowed { IsAllowable facts.now action.now }
     requires told { S.is_honest store.old → S.serves store.old → TrueUpTo 20 facts.now (S.world store.old) action.now }
     requires there { S.is_honest store.old → S.serves store.old → IfSome facts.now.caller (λ person. get (S.world store.old).people person.name ≡ Some person) }
@@ -115,6 +251,6 @@ fn allow<S: Store>(
         | Action::Protests { .. }
         | Action::Rule { .. }
         | Action::Publish { .. }
-        | Action::Table { .. } => unreachable!(),
+        | Action::Table { .. } => Err(StoreFault::Failed),
     }
 }

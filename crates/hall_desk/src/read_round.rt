@@ -1,4 +1,4 @@
-//! An allowed action that reads a round.
+//! ReadRound: a round with its puzzles' texts.
 ghost use Rattle.std.specs.Prelude.{◌≡◌, ◌+◌, ℕ};
 ghost use Rattle.hall_policy.specs.Facts.{TrueUpTo};
 ghost use Rattle.hall_policy.specs.Implies.{IsAllowable};

@@ -1,23 +1,25 @@
-//! An allowed action that hands in an answer.
+//! Submit: an answer to a puzzle of a round is judged and stored.
 ghost use Rattle.std.specs.Prelude.{◌≡◌, IfOk, IfSome, Some};
 ghost use Rattle.std.specs.FinMap.{get};
 ghost use Rattle.hall_grid.specs.Answer.{Verdict};
 ghost use Rattle.hall_policy.specs.World.{World, entry_at};
 ghost use Rattle.hall_policy.specs.Facts.{TrueUpTo};
-ghost use Rattle.hall_policy.specs.Implies.{IsAllowable};
+ghost use Rattle.hall_policy.specs.Implies.{Implies, IsAllowable};
+ghost use Rattle.hall_policy.specs.Decided.{IsDecided};
 ghost use Rattle.hall_desk.specs.Store.{Kept, Served, Told};
 ghost use Rattle.hall_desk.specs.Shown.{told_verdict};
 ghost use Rattle.hall_desk.specs.Handed.{handed_action, handed_key};
 ghost use Rattle.hall_desk.specs.Plans.{IsAllowedPlan, IsJudgedAt, IsJudgedFor};
 
+use crate::found::find_answer;
 use crate::planned::Plan;
 use crate::reply::Reply;
 use crate::store::{Change, Store, StoreFault};
 use crate::verdict::judge;
 use hall_grid::Broken;
 use hall_policy::{
-    AnswerKey, AnswerNumber, AnswerRow, AnswerText, Entry, Facts, Mode, Moment, Person,
-    PuzzleNumber, PuzzleRow, Round, RoundId, RoundRow, Token,
+    Action, AnswerKey, AnswerNumber, AnswerRow, AnswerText, Decision, Entry, Facts, Mode, Moment, Person,
+    PuzzleNumber, PuzzleRow, Round, RoundId, RoundRow, Rule, Token, decide, decide_up_to,
 };
 use std::alloc::{AllocError, Global};
 
@@ -28,6 +30,31 @@ pub(crate) struct Handed<'a> {
     pub(crate) number: PuzzleNumber,
     pub(crate) token: &'a Token,
     pub(crate) answer: &'a AnswerText,
+}
+
+/// What is decided of a Submit. The caller's answers are read where the round lets the request pass.
+pub(crate) fn settle<S: Store>(
+    alloc: Global,
+    store: &mut S,
+    t: Moment,
+    action: &Action,
+    handed: &Handed,
+    facts: &mut Facts,
+) -> Result<Decision, StoreFault>
+    requires { action.now ≡ handed_action handed.now }
+    ensures kept { Kept S.is_honest S.serves S.world store.old store.new }
+    ensures caller { facts.new.caller ≡ facts.old.caller }
+    ensures implied { IfOk result (λ decision. Implies decision facts.new action.now) }
+    ensures told { Told S.is_honest S.serves store.old store.new result (λ decision. IsDecided (S.world store.new) facts.new action.now t decision) }
+{
+    facts.round = store.round(alloc, handed.round)?;
+    if let Some(decision) = decide_up_to(facts, action, t, Rule::OwnPuzzle) {
+        return Ok(decision);
+    }
+    let (answer, count) = find_answer(alloc, store, &facts.caller, handed.round, handed.number, handed.token)?;
+    facts.answer = answer;
+    facts.count = count;
+    Ok(decide(facts, action, t))
 }
 
 /// An allowed Submit: the answer is judged, and its row is to be stored.
