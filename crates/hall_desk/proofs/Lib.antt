@@ -23,3 +23,4 @@ pub mod Tokens
 pub mod Remaining
 pub mod Retries
 pub mod Answered
+pub mod Stepping

@@ -1,14 +1,12 @@
 -- From facts and a decision to a plan.
 use Rattle.std.proofs.Common.{◌≡◌, ◌≢◌, ◌&&◌, ℕ, zero, suc, Bool, true, false, List, [], ◌∷◌, slice_get, Option, Some, None, IsTrue, Result, IfOk, refl, sym, ◌∙◌, ap, subst, inr, cond}
-use Rattle.std.specs.List.{AllByRecursion, filter}
-use Rattle.std.proofs.lemmas.Option.{slice_get-get_or}
+use Rattle.std.specs.List.{filter}
 use Rattle.hall_grid.specs.Board.{Board}
 use Rattle.hall_grid.specs.Canonical.{CanonicalText}
 use Rattle.hall_policy.specs.World.{World, IsRoundAt}
-use Rattle.hall_policy.specs.Actions.{rules_asked}
 use Rattle.hall_policy.specs.First.{First}
-use Rattle.hall_policy.specs.Facts.{Tells, TrueUpTo, AllTrue, IsRoundFound, deciding}
-use Rattle.hall_policy.specs.declared.rule.Rule.{Rule}
+use Rattle.hall_policy.specs.Facts.{TrueUpTo, IsRoundFound}
+use Rattle.hall_policy.specs.Decided.{IsDecided}
 use Rattle.hall_policy.specs.declared.rule.Decision.{Decision}
 use Rattle.hall_policy.specs.declared.facts.Facts.{Facts}
 use Rattle.hall_policy.specs.declared.record.Person.{Person}
@@ -21,12 +19,12 @@ use Rattle.hall_policy.specs.declared.request.Request.{Request}
 use Rattle.hall_policy.specs.declared.request.Action.{Action}
 use Rattle.hall_policy.specs.declared.request.Action.TheVariants as action
 use Rattle.hall_desk.specs.Caller.{caller_of}
-use Rattle.hall_desk.specs.Found.{AreFactsOf}
+use Rattle.hall_desk.specs.Found.{IsCaller}
 use Rattle.hall_desk.specs.Change.{changed, CanMake, with_flag}
 use Rattle.hall_desk.specs.Step.{Decided}
 use Rattle.hall_desk.specs.Store.{Told}
 use Rattle.hall_desk.specs.Plans.{IsPlanFor, IsAllowedPlan, IsMadePlan}
-use Rattle.hall_desk.specs.declared.plan.Plan.{Plan}
+use Rattle.hall_desk.specs.declared.planned.Plan.{Plan}
 use Rattle.hall_desk.specs.declared.reply.Reply.{Reply}
 use Rattle.hall_desk.specs.declared.reply.Reply.TheVariants.{PuzzlePut, Released}
 use Rattle.hall_desk.specs.declared.reply.StateName.TheVariants as name
@@ -35,31 +33,20 @@ use Rattle.hall_desk.specs.declared.store.Change.TheVariants as change
 use Rattle.hall_desk.specs.declared.store.RoundFlag.TheVariants as flag
 use Rattle.hall_desk.proofs.Knowing.{pure_told, told_turn}
 
-by_index : (P : Rule → Type 0) (rules : List Rule) (k : ℕ) (rule : Rule) → AllByRecursion P rules → slice_get rules k ≡ Some rule → P rule
-by_index P [] k rule h e = absurd (let no : None ≡ Some rule = e in cc)
-by_index P (r ∷ rules) zero rule h e = let same : r ≡ rule = cc in subst P same h.0
-by_index P (r ∷ rules) (suc k) rule h e = by_index P rules k rule h.1 e
-
--- facts that are all true are so up to any rule
-pub told_up_to : (facts : Facts) (world : World) (action : Action) (n : ℕ) → AllTrue facts world action → TrueUpTo n facts world action
-told_up_to facts world action n told rule c small =
-    by_index (λ r. Tells r facts world action) (rules_asked action) c.0 rule told (slice_get-get_or (rules_asked action) c.0 rule c.1 ∙ ap Some c.2)
-
 -- a decision, and what it answers and changes, make a plan
 pub planned : (facts : Facts) (world : World) (t : ℕ) (request : Request) (decision : Decision) (given : Reply) (change : Change) →
-    AreFactsOf world request facts →
-    ((w : World) → TrueUpTo (deciding request.action decision) facts w request.action → First w facts.caller request.action t decision) →
+    IsCaller world request.key facts.caller → IsDecided world facts request.action t decision →
     (outcome : PuzzleState) → Decided decision world facts.caller request.action t outcome given (changed change world) → CanMake change world →
     IsPlanFor world t request (record { reply = given; change = change })
-planned facts world t request decision given change found first outcome decided can =
-    let same : facts.caller ≡ caller_of world request.key = found.caller.found in
+planned facts world t request decision given change caller is outcome decided can =
+    let same : facts.caller ≡ caller_of world request.key = caller.found in
     record {
       answered = (
         outcome,
         (
           decision,
-          subst (λ (caller : Option Person). First world caller request.action t decision) same (first world (told_up_to facts world request.action (deciding request.action decision) found.told)),
-          subst (λ (caller : Option Person). Decided decision world caller request.action t outcome given (changed change world)) same decided,
+          subst (λ (who : Option Person). First world who request.action t decision) same is.first,
+          subst (λ (who : Option Person). Decided decision world who request.action t outcome given (changed change world)) same decided,
         ),
       );
       can = can;
@@ -67,12 +54,12 @@ planned facts world t request decision given change found first outcome decided 
 
 -- the plan of a puzzle that is new, or differs from the one that stands
 pub put_new : (world : World) (facts : Facts) (t : ℕ) (key copied_key : PuzzleKey) (puzzle copied : Board) (text : List ℕ) →
-    copied_key ≡ key → copied ≡ puzzle → CanonicalText text puzzle → AllTrue facts world (action.PutPuzzle key puzzle) → IsTrue facts.author_is_there →
+    copied_key ≡ key → copied ≡ puzzle → CanonicalText text puzzle → TrueUpTo 20 facts world (action.PutPuzzle key puzzle) → IsTrue facts.author_is_there →
     ((row : PuzzleRow) → facts.puzzle ≡ Some row → row.puzzle ≢ puzzle) →
     IsAllowedPlan world facts.caller (action.PutPuzzle key puzzle) t (record { reply = PuzzlePut name.New text; change = change.PutPuzzle (record { key = copied_key; puzzle = copied; state = state.New }) })
 put_new world facts t key copied_key puzzle copied text same_key same_puzzle canonical told there differ =
-    subst (λ (k : PuzzleKey). AllTrue facts world (action.PutPuzzle key puzzle) → IsAllowedPlan world facts.caller (action.PutPuzzle key puzzle) t (record { reply = PuzzlePut name.New text; change = change.PutPuzzle (record { key = k; puzzle = copied; state = state.New }) })) (sym same_key)
-    (subst (λ (p : Board). AllTrue facts world (action.PutPuzzle key puzzle) → IsAllowedPlan world facts.caller (action.PutPuzzle key puzzle) t (record { reply = PuzzlePut name.New text; change = change.PutPuzzle (record { key = key; puzzle = p; state = state.New }) })) (sym same_puzzle)
+    subst (λ (k : PuzzleKey). TrueUpTo 20 facts world (action.PutPuzzle key puzzle) → IsAllowedPlan world facts.caller (action.PutPuzzle key puzzle) t (record { reply = PuzzlePut name.New text; change = change.PutPuzzle (record { key = k; puzzle = copied; state = state.New }) })) (sym same_key)
+    (subst (λ (p : Board). TrueUpTo 20 facts world (action.PutPuzzle key puzzle) → IsAllowedPlan world facts.caller (action.PutPuzzle key puzzle) t (record { reply = PuzzlePut name.New text; change = change.PutPuzzle (record { key = key; puzzle = p; state = state.New }) })) (sym same_puzzle)
     (λ all. record {
       allowed = λ found. (text, canonical, inr ((λ row kept. differ row (all.1.1.1.1.1.0.0 ∙ kept)), refl, refl));
       can = let author = all.1.1.1.0.0 there in (author.0, author.1);
@@ -86,10 +73,10 @@ made_anyhow world caller asked t plan made = record { found = state.New; allowed
 module _ {X E : Type 0} (honest serves : X → Type 0) (world : X → World) (facts : Facts) (asked named : Action) (t : ℕ) (is : asked ≡ named) where
   -- made from the facts alone
   pub made_from_facts : (store : X) (r : Result Plan E) (M : Plan → Type 0) →
-      ((plan : Plan) → M plan → (w : World) → AllTrue facts w named → IsMadePlan w facts.caller named t plan) →
-      (honest store → serves store → AllTrue facts (world store) asked) → IfOk r M → Told honest serves store store r (IsMadePlan (world store) facts.caller asked t)
+      ((plan : Plan) → M plan → (w : World) → TrueUpTo 20 facts w named → IsMadePlan w facts.caller named t plan) →
+      (honest store → serves store → TrueUpTo 20 facts (world store) asked) → IfOk r M → Told honest serves store store r (IsMadePlan (world store) facts.caller asked t)
   made_from_facts store r M turn told made =
-      subst (λ (a : Action). (honest store → serves store → AllTrue facts (world store) a) → Told honest serves store store r (IsMadePlan (world store) facts.caller a t)) (sym is)
+      subst (λ (a : Action). (honest store → serves store → TrueUpTo 20 facts (world store) a) → Told honest serves store store r (IsMadePlan (world store) facts.caller a t)) (sym is)
       (λ all. pure_told honest serves r M (IsMadePlan (world store) facts.caller named t) store store (λ h s. s) (λ plan h s x. turn plan x (world store) (all h s)) made) told
 
   -- made with what the store was asked
@@ -101,11 +88,11 @@ module _ {X E : Type 0} (honest serves : X → Type 0) (world : X → World) (fa
 
 -- the plan of a round that is released
 pub released : (world : World) (facts : Facts) (t : ℕ) (id shown kept : List ℕ) (row : RoundRow) →
-    shown ≡ id → kept ≡ id → AllTrue facts world (action.Release id) → facts.round ≡ Some row →
+    shown ≡ id → kept ≡ id → TrueUpTo 20 facts world (action.Release id) → facts.round ≡ Some row →
     IsAllowedPlan world facts.caller (action.Release id) t (record { reply = Released shown; change = change.SetRoundFlag kept flag.Released })
 released world facts t id shown kept row same_shown same_kept told seen =
-    subst (λ (x : List ℕ). AllTrue facts world (action.Release id) → IsAllowedPlan world facts.caller (action.Release id) t (record { reply = Released x; change = change.SetRoundFlag kept flag.Released })) (sym same_shown)
-    (subst (λ (x : List ℕ). AllTrue facts world (action.Release id) → IsAllowedPlan world facts.caller (action.Release id) t (record { reply = Released id; change = change.SetRoundFlag x flag.Released })) (sym same_kept)
+    subst (λ (x : List ℕ). TrueUpTo 20 facts world (action.Release id) → IsAllowedPlan world facts.caller (action.Release id) t (record { reply = Released x; change = change.SetRoundFlag kept flag.Released })) (sym same_shown)
+    (subst (λ (x : List ℕ). TrueUpTo 20 facts world (action.Release id) → IsAllowedPlan world facts.caller (action.Release id) t (record { reply = Released id; change = change.SetRoundFlag x flag.Released })) (sym same_kept)
     (λ all.
     let at : IsRoundAt world id row = subst (λ (o : Option RoundRow). IsRoundFound world (Some id) o) seen all.1.1.0 in
     record {

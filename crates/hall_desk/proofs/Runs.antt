@@ -22,8 +22,10 @@ pub runs_more : {X : Type 0} (serves : X → Type 0) (world : X → World) (firs
     Runs serves world first (requests ++ asked ∷ []) (replies ++ given ∷ []) new
 runs_more serves world first old new requests replies asked given opened (last, run, own) (inl (none, left)) =
     (last, run_more (world first) requests replies last asked given last run (inl (none, refl)), λ s. left s ∙ own (opened s))
-runs_more serves world first old new requests replies asked given opened (last, run, own) (inr (before, after, step)) =
+runs_more serves world first old new requests replies asked given opened (last, run, own) (inr (inl (before, after, step))) =
     (world new, run_more (world first) requests replies last asked given (world new) run (subst (λ (w : World). Step w asked.0 asked.1 given (world new)) (own before) step), λ s. refl)
+runs_more serves world first old new requests replies asked given opened (last, run, own) (inr (inr (always, left))) =
+    (last, run_more (world first) requests replies last asked given last run (always last), λ s. left s ∙ own (opened s))
 
 -- a prefix that is as long as the list is the list
 pub take_all : {A : Type 0} (xs : List A) (n : ℕ) → length xs ≤ n → take n xs ≡ xs

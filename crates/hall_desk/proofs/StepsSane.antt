@@ -24,7 +24,9 @@ use Rattle.hall_desk.specs.Caller.{caller_of}
 use Rattle.hall_desk.specs.Found.{IsReleasedRound}
 use Rattle.hall_desk.specs.Step.{Step, Allowed, new_row, answer_row}
 use Rattle.hall_desk.specs.Run.{Run}
-use Rattle.hall_desk.specs.Plans.{Steps, Runs}
+use Rattle.hall_desk.specs.Plans.{IsPlanFor, Steps, Runs}
+use Rattle.hall_desk.specs.declared.planned.Plan.{Plan}
+use Rattle.hall_desk.specs.Change.{changed}
 use Rattle.hall_desk.specs.Sane.{Sane}
 use Rattle.hall_desk.specs.declared.reply.Reply.{Reply}
 use Rattle.hall_desk.proofs.Answering.{find-Contains}
@@ -120,7 +122,8 @@ run_sane world (q ∷ requests) (r ∷ replies) last run sane = run_sane run.0 r
 -- a step over a store that is honest and serves
 pub steps_sane : {X : Type 0} (world : X → World) (old new : X) (t : ℕ) (request : Request) (given : Reply) → Steps (λ (x : X). ⊤) world old t request given new → Sane (world old) → Sane (world new)
 steps_sane world old new t request given (inl (none, left)) sane = subst Sane (sym (left tt)) sane
-steps_sane world old new t request given (inr (before, after, step)) sane = step_sane (world old) t request given (world new) step sane
+steps_sane world old new t request given (inr (inl (before, after, step))) sane = step_sane (world old) t request given (world new) step sane
+steps_sane world old new t request given (inr (inr (always, left))) sane = subst Sane (sym (left tt)) sane
 
 -- a run over a store that is honest and serves
 pub runs_sane : {X E : Type 0} (world : X → World) (old new : X) (requests : List (ℕ × Request)) (r : Result (Vec Reply Global) E) →
@@ -129,3 +132,8 @@ runs_sane world old new requests (Ok replies) ok err sane =
     let run = ok tt in
     subst Sane (sym (run.2 tt)) (run_sane (world old) requests replies.items run.0 run.1 sane)
 runs_sane world old new requests (Err e) ok err sane = subst (λ x. Sane (world x)) (sym err) sane
+
+-- a plan's change keeps a sane world
+pub plan_sane : {E : Type 0} (r : Result Plan E) (world : World) (t : ℕ) (request : Request) → IfOk r (IsPlanFor world t request) → IfOk r (λ plan. Sane world → Sane (changed plan.change world))
+plan_sane (Ok plan) world t request made = step_sane world t request plan.reply (changed plan.change world) (inr made.answered)
+plan_sane (Err e) world t request made = tt

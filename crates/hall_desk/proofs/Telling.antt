@@ -1,59 +1,86 @@
--- The facts found tell all that the rules asked of the action read.
-use Rattle.std.proofs.Common.{◌≡◌, ℕ, List, refl, sym, subst}
+-- What was found tells all that the rules asked of the action read, up to a rule.
+use Rattle.std.proofs.Common.{◌≡◌, ◌↔◌, ℕ, List, Option, Some, None, IsTrue, refl, sym, subst}
+use Rattle.std.specs.FinMap.{get}
 use Rattle.hall_grid.specs.Board.{Board}
 use Rattle.hall_policy.specs.World.{World}
-use Rattle.hall_policy.specs.Facts.{AllTrue}
-use Rattle.hall_policy.specs.Rules.{Lists}
+use Rattle.hall_policy.specs.Facts.{TrueUpTo, IsRoundFound}
+use Rattle.hall_policy.specs.Rules.{Lists, StandsReleased, puzzles_put}
 use Rattle.hall_policy.specs.declared.record.PuzzleKey.{PuzzleKey}
 use Rattle.hall_policy.specs.declared.request.Action.{Action}
-use Rattle.hall_policy.specs.declared.request.Action.TheVariants.{PutPuzzle, Certify, Release, Submit}
-use Rattle.hall_policy.specs.declared.request.Request.{Request}
+use Rattle.hall_policy.specs.declared.request.Action.TheVariants.{Import, PutPuzzle, ReadPuzzle, ListPuzzles, Certify, PutRound, Release, ListRounds, ReadRound, Submit, Answers, Solutions, Protest, Protests, Rule, Publish, Table}
 use Rattle.hall_policy.specs.declared.facts.Facts.{Facts}
-use Rattle.hall_desk.specs.Found.{AreFactsOf, ArePutFacts, AreCertifyFacts, AreReleaseFacts, AreSubmitFacts}
+use Rattle.hall_desk.specs.Found.{AreAnswerFacts, HasAuthor, HasFaultyEntry, ToldByRound}
+use Rattle.hall_desk.specs.declared.entry_fault.EntryFault.TheVariants.{Shared, Uncertified}
 
-pub put_told : (world : World) (request : Request) (key : PuzzleKey) (puzzle : Board) (facts : Facts) → request.action ≡ PutPuzzle key puzzle →
-    ArePutFacts world request.key key facts → AreFactsOf world request facts
-put_told world request key puzzle facts is found = record {
-  caller = found.caller;
-  told = subst (λ (action : Action). AllTrue facts world action) (sym is) (tt, (tt, (tt, (found.author, (found.released, ((found.puzzle, found.count), tt))))));
-}
+-- the rules on the caller read nothing else
+pub caller_told : (facts : Facts) (world : World) (action : Action) → TrueUpTo 3 facts world action
+caller_told facts world (Import people) = (tt, (tt, (tt, tt)))
+caller_told facts world (PutPuzzle key puzzle) = (tt, (tt, (tt, (tt, (tt, (tt, tt))))))
+caller_told facts world (ReadPuzzle key) = (tt, (tt, (tt, (tt, tt))))
+caller_told facts world ListPuzzles = (tt, (tt, tt))
+caller_told facts world (Certify key budget) = (tt, (tt, (tt, (tt, tt))))
+caller_told facts world (PutRound round sheet) = (tt, (tt, (tt, (tt, tt))))
+caller_told facts world (Release round) = (tt, (tt, (tt, (tt, (tt, (tt, (tt, tt)))))))
+caller_told facts world ListRounds = (tt, tt)
+caller_told facts world (ReadRound round) = (tt, (tt, (tt, (tt, (tt, tt)))))
+caller_told facts world (Submit round number token answer) = (tt, (tt, (tt, (tt, (tt, (tt, (tt, (tt, (tt, tt)))))))))
+caller_told facts world (Answers round) = (tt, (tt, (tt, tt)))
+caller_told facts world (Solutions round) = (tt, (tt, (tt, (tt, tt))))
+caller_told facts world (Protest round token number text) = (tt, (tt, (tt, (tt, (tt, (tt, (tt, (tt, (tt, tt)))))))))
+caller_told facts world (Protests round) = (tt, (tt, (tt, tt)))
+caller_told facts world (Rule round entrant token ruling) = (tt, (tt, (tt, (tt, (tt, tt)))))
+caller_told facts world (Publish round) = (tt, (tt, (tt, (tt, (tt, (tt, tt))))))
+caller_told facts world (Table round) = (tt, (tt, tt))
 
-pub submit_told : (world : World) (request : Request) (id : List ℕ) (number : ℕ) (token answer : List ℕ) (facts : Facts) → request.action ≡ Submit id number token answer →
-    AreSubmitFacts world request.key id number token facts → AreFactsOf world request facts
-submit_told world request id number token answer facts is found = record {
-  caller = found.round.caller;
-  told = subst (λ (action : Action). AllTrue facts world action) (sym is)
-      (tt, (tt, (found.round.round, (found.round.round, ((found.standing.answer, tt), (found.round.round, (found.round.round, (found.round.round, (found.standing.count, tt)))))))));
-}
+pub read_round_told : (id : List ℕ) → ToldByRound (ReadRound id) id
+read_round_told id world facts found = (tt, (tt, (found, (found, (found, tt)))))
 
-pub certify_told : (world : World) (request : Request) (key : PuzzleKey) (budget : ℕ) (facts : Facts) → request.action ≡ Certify key budget →
-    AreCertifyFacts world request.key key facts → AreFactsOf world request facts
-certify_told world request key budget facts is found = record {
-  caller = found.caller;
-  told = subst (λ (action : Action). AllTrue facts world action) (sym is) (tt, (tt, (tt, (found.puzzle, tt))));
-}
+pub answers_told : (id : List ℕ) → ToldByRound (Answers id) id
+answers_told id world facts found = (tt, (tt, (found, tt)))
 
-pub release_told : (world : World) (request : Request) (id : List ℕ) (facts : Facts) → request.action ≡ Release id →
-    AreReleaseFacts world request.key id facts → AreFactsOf world request facts
-release_told world request id facts is found = record {
-  caller = found.round.caller;
-  told = subst (λ (action : Action). AllTrue facts world action) (sym is) (
-    tt,
-    (
-      tt,
-      (
-        found.round.round,
-        (
-          ((λ t. let f = found.faults.shared.0 t in (f.0, f.2.0, f.1, f.2.1, f.2.2)), (λ f. found.faults.shared.1 (f.0, f.2, (f.1, f.3, f.4)))),
-          (
-            (
-              (λ t. let f = found.faults.uncertified.0 t in (id, f.0, refl, f.1, f.2)),
-              (λ f. let same : id ≡ f.0 = let named = f.2 in cc in found.faults.uncertified.1 (f.1, subst (λ (x : List ℕ). Lists world x f.1) (sym same) f.3, f.4)),
-            ),
-            (found.round.round, (found.round.round, tt)),
-          ),
-        ),
-      ),
-    ),
-  );
-}
+module _ (world : World) (facts : Facts) (action : Action) where
+  -- a puzzle that is put: its author, then its rounds, then how many puzzles there are
+  module _ (key : PuzzleKey) (puzzle : Board) (is : action ≡ PutPuzzle key puzzle) (author : IsTrue facts.author_is_there ↔ HasAuthor world key.author) where
+    pub author_told : TrueUpTo 4 facts world action
+    author_told = subst (λ (a : Action). TrueUpTo 4 facts world a) (sym is) (tt, (tt, (tt, (author, (tt, (tt, tt))))))
+
+    module _ (released : IsTrue facts.in_released ↔ ((id : List ℕ) × StandsReleased world key id)) where
+      pub release_told : TrueUpTo 11 facts world action
+      release_told = subst (λ (a : Action). TrueUpTo 11 facts world a) (sym is) (tt, (tt, (tt, (author, (released, (tt, tt))))))
+
+      pub put_told : facts.puzzle ≡ get world.puzzles key → facts.count ≡ puzzles_put world key.author → TrueUpTo 20 facts world action
+      put_told found count = subst (λ (a : Action). TrueUpTo 20 facts world a) (sym is) (tt, (tt, (tt, (author, (released, ((found, λ none. count), tt))))))
+
+  -- a puzzle that is certified
+  pub certify_told : (key : PuzzleKey) (budget : ℕ) → action ≡ Certify key budget → facts.puzzle ≡ get world.puzzles key → TrueUpTo 20 facts world action
+  certify_told key budget is found = subst (λ (a : Action). TrueUpTo 20 facts world a) (sym is) (tt, (tt, (tt, (found, tt))))
+
+  -- an answer that is handed in: its round, then what the caller gave
+  module _ (id : List ℕ) (number : ℕ) (token answer : List ℕ) (is : action ≡ Submit id number token answer) (round : IsRoundFound world (Some id) facts.round) where
+    pub place_told : TrueUpTo 5 facts world action
+    place_told = subst (λ (a : Action). TrueUpTo 5 facts world a) (sym is) (tt, (tt, (round, (round, (tt, (tt, (tt, (tt, (tt, tt)))))))))
+
+    pub submit_told : AreAnswerFacts world facts.caller id number token facts.answer facts.count → TrueUpTo 20 facts world action
+    submit_told given = subst (λ (a : Action). TrueUpTo 20 facts world a) (sym is)
+        (tt, (tt, (round, (round, ((given.answer, tt), (round, (round, (round, (given.count, tt)))))))))
+
+  -- a round that is released: itself, then its entries' faults
+  module _ (id : List ℕ) (is : action ≡ Release id) (round : IsRoundFound world (Some id) facts.round) where
+    pub draft_told : TrueUpTo 4 facts world action
+    draft_told = subst (λ (a : Action). TrueUpTo 4 facts world a) (sym is) (tt, (tt, (round, (tt, (tt, (tt, (tt, tt)))))))
+
+    module _ (shared : IsTrue facts.in_released ↔ HasFaultyEntry Shared world id) where
+      pub shared_told : TrueUpTo 11 facts world action
+      shared_told = subst (λ (a : Action). TrueUpTo 11 facts world a) (sym is) (
+        tt, (tt, (round,
+          (((λ t. let f = shared.0 t in (f.0, f.2.0, f.1, f.2.1, f.2.2)), (λ f. shared.1 (f.0, f.2, (f.1, f.3, f.4)))), (tt, (tt, (tt, tt))))))
+      )
+
+      pub faults_told : IsTrue facts.uncertified ↔ HasFaultyEntry Uncertified world id → TrueUpTo 20 facts world action
+      faults_told uncertified = subst (λ (a : Action). TrueUpTo 20 facts world a) (sym is) (
+        tt, (tt, (round,
+          (((λ t. let f = shared.0 t in (f.0, f.2.0, f.1, f.2.1, f.2.2)), (λ f. shared.1 (f.0, f.2, (f.1, f.3, f.4)))), (
+            ((λ t. let f = uncertified.0 t in (id, f.0, refl, f.1, f.2)),
+              (λ f. let same : id ≡ f.0 = let named = f.2 in cc in uncertified.1 (f.1, subst (λ (x : List ℕ). Lists world x f.1) (sym same) f.3, f.4))),
+            (round, (round, tt))))))
+      )

@@ -2,14 +2,14 @@
 use Rattle.std.specs.Prelude.{◌≡◌, ◌≢◌, ◌↔◌, ℕ, Bool, List, Option, Some, None, IsTrue, IfSome}
 use Rattle.std.specs.FinMap.{get}
 use Rattle.hall_policy.specs.World.{World}
-use Rattle.hall_policy.specs.Facts.{IsRoundFound, AllTrue}
+use Rattle.hall_policy.specs.Facts.{IsRoundFound, TrueUpTo}
 use Rattle.hall_policy.specs.Rules.{answers_given, puzzles_put, Lists, StandsReleased, IsCertified}
 use Rattle.hall_policy.specs.declared.record.Person.{Person}
 use Rattle.hall_policy.specs.declared.record.PuzzleKey.{PuzzleKey}
 use Rattle.hall_policy.specs.declared.record.Entry.{Entry}
 use Rattle.hall_policy.specs.declared.record.Round.{Round}
 use Rattle.hall_policy.specs.declared.record.AnswerRow.{AnswerRow}
-use Rattle.hall_policy.specs.declared.request.Request.{Request}
+use Rattle.hall_policy.specs.declared.request.Action.{Action}
 use Rattle.hall_policy.specs.declared.facts.Facts.{Facts}
 use Rattle.hall_desk.specs.declared.entry_fault.EntryFault.{EntryFault}
 use Rattle.hall_desk.specs.declared.entry_fault.EntryFault.TheVariants.{Shared, Uncertified}
@@ -20,46 +20,18 @@ pub record IsCaller (world : World) (key : Option (List ℕ)) (person : Option P
   pub found : person ≡ caller_of world key
   pub there : IfSome person (λ p. get world.people p.name ≡ Some p)
 
--- the facts tell who calls, and all that the rules asked of the action read
-pub record AreFactsOf (world : World) (request : Request) (facts : Facts) : Type 0 where
-  pub caller : IsCaller world request.key facts.caller
-  pub told : AllTrue facts world request.action
-
--- the facts on a request that names a round
-pub record AreRoundFacts (world : World) (key : Option (List ℕ)) (id : List ℕ) (facts : Facts) : Type 0 where
-  pub caller : IsCaller world key facts.caller
-  pub round : IsRoundFound world (Some id) facts.round
-
 -- the answer under the caller's token, and how many answers to the puzzle the caller gave
 pub record AreAnswerFacts (world : World) (caller : Option Person) (id : List ℕ) (number : ℕ) (token : List ℕ) (row : Option AnswerRow) (given : ℕ) : Type 0 where
   pub answer : (person : Person) → caller ≡ Some person → row ≡ get world.answers (record { entrant = person.name; round = id; number = number; token = token })
   pub count : (person : Person) → caller ≡ Some person → given ≡ answers_given world person.name id number
 
--- the facts on an answer that is handed in
-pub record AreSubmitFacts (world : World) (key : Option (List ℕ)) (id : List ℕ) (number : ℕ) (token : List ℕ) (facts : Facts) : Type 0 where
-  pub round : AreRoundFacts world key id facts
-  pub standing : AreAnswerFacts world facts.caller id number token facts.answer facts.count
-
 -- a person of the name with the role author is there
 abbrev pub HasAuthor : World → List ℕ → Type 0
 HasAuthor world name = (person : Person) × (get world.people name ≡ Some person) × IsTrue person.roles.author
 
--- the facts on a puzzle that is put
-pub record ArePutFacts (world : World) (caller_key : Option (List ℕ)) (key : PuzzleKey) (facts : Facts) : Type 0 where
-  pub caller : IsCaller world caller_key facts.caller
-  pub author : IsTrue facts.author_is_there ↔ HasAuthor world key.author
-  pub puzzle : facts.puzzle ≡ get world.puzzles key
-  pub released : IsTrue facts.in_released ↔ ((id : List ℕ) × StandsReleased world key id)
-  pub count : facts.puzzle ≡ None → facts.count ≡ puzzles_put world key.author
-
 -- the round is there and released
 abbrev pub IsReleasedRound : World → List ℕ → Type 0
 IsReleasedRound world id = (round : Round) × (get world.rounds id ≡ Some round) × IsTrue round.released
-
--- the facts on a puzzle that is certified
-pub record AreCertifyFacts (world : World) (caller_key : Option (List ℕ)) (key : PuzzleKey) (facts : Facts) : Type 0 where
-  pub caller : IsCaller world caller_key facts.caller
-  pub puzzle : facts.puzzle ≡ get world.puzzles key
 
 -- what keeps the round of the id from its release at one entry: its puzzle stands in another released round, or isn't in state one
 abbrev pub HasFault : EntryFault → World → List ℕ → Entry → Type 0
@@ -70,12 +42,6 @@ HasFault Uncertified world id entry = ¬ (IsCertified world entry.puzzle)
 abbrev pub HasFaultyEntry : EntryFault → World → List ℕ → Type 0
 HasFaultyEntry fault world id = (entry : Entry) × Lists world id entry × HasFault fault world id entry
 
--- what keeps the round of the id from its release
-pub record HasFaults (world : World) (id : List ℕ) (shares lacks : Bool) : Type 0 where
-  pub shared : IsTrue shares ↔ HasFaultyEntry Shared world id
-  pub uncertified : IsTrue lacks ↔ HasFaultyEntry Uncertified world id
-
--- the facts on a round that is released
-pub record AreReleaseFacts (world : World) (caller_key : Option (List ℕ)) (id : List ℕ) (facts : Facts) : Type 0 where
-  pub round : AreRoundFacts world caller_key id facts
-  pub faults : HasFaults world id facts.in_released facts.uncertified
+-- all that the rules of the action read, beside the caller, is its round
+abbrev pub ToldByRound : Action → List ℕ → Type 0
+ToldByRound action id = (world : World) (facts : Facts) → IsRoundFound world (Some id) facts.round → TrueUpTo 20 facts world action

@@ -1,5 +1,6 @@
 -- What a plan promises, and what a step over a store leaves.
-use Rattle.std.specs.Prelude.{◌≡◌, ◌⊎◌, ℕ, List, Option, Some, None, ◌≢◌}
+use Rattle.std.specs.Prelude.{◌≡◌, ◌⊎◌, ℕ, List, Option, Some, None, ◌≢◌, Result, Ok, Err}
+use Rattle.hall_desk.specs.declared.store.Change.TheVariants.{Nothing}
 use Rattle.std.specs.FinMap.{get}
 use Rattle.hall_grid.specs.Answer.{Verdict}
 use Rattle.hall_policy.specs.World.{World, entry_at}
@@ -23,7 +24,7 @@ use Rattle.hall_desk.specs.Step.{Step, IsAnswered, Allowed}
 use Rattle.hall_desk.specs.Run.{Run}
 use Rattle.hall_desk.specs.declared.reply.Reply.{Reply}
 use Rattle.hall_desk.specs.declared.reply.Reply.TheVariants.{Unavailable}
-use Rattle.hall_desk.specs.declared.plan.Plan.{Plan}
+use Rattle.hall_desk.specs.declared.planned.Plan.{Plan}
 
 -- the plan's reply and change are those of the request as it is decided, for what the search would find, and the change may be made
 pub record IsPlanFor (world : World) (t : ℕ) (request : Request) (plan : Plan) : Type 0 where
@@ -41,11 +42,19 @@ pub record IsMadePlan (world : World) (caller : Option Person) (action : Action)
   pub allowed : Allowed world caller action t found plan.reply (changed plan.change world)
   pub can : CanMake plan.change world
 
--- the request was refused and the world left, or the store served before and after, and made a step of the hall
+-- what a plan says holds of the store's world, which still serves, where its device was honest; or, where no store was asked, it changes nothing and holds of every world
+abbrev pub Planned : {X E : Type 0} → (X → Type 0) → (X → Type 0) → (X → World) → X → ℕ → Request → Result Plan E → Type 0
+Planned honest serves world new t request (Ok plan) =
+    (honest new → serves new × IsPlanFor (world new) t request plan) ⊎ ((plan.change ≡ Nothing) × ((w : World) → IsPlanFor w t request plan))
+Planned honest serves world new t request (Err fault) = Unit {0}
+
+-- the request was refused and the world left; or the store served before and after, and made a step of the hall; or it was answered without the store, by what is a step
+-- in every world and leaves it
 abbrev pub Steps : {X : Type 0} → (X → Type 0) → (X → World) → X → ℕ → Request → Reply → X → Type 0
 Steps serves world old t request given new =
     ((given ≡ Unavailable) × (serves new → world new ≡ world old))
-    ⊎ (serves old × serves new × Step (world old) t request given (world new))
+    ⊎ ((serves old × serves new × Step (world old) t request given (world new))
+    ⊎ (((w : World) → Step w t request given w) × (serves new → world new ≡ world old)))
 
 -- the replies are a run of the hall to some world, and where the store still serves, that world is its own
 abbrev pub Runs : {X : Type 0} → (X → Type 0) → (X → World) → X → List (ℕ × Request) → List Reply → X → Type 0

@@ -19,7 +19,8 @@ use Rattle.hall_policy.specs.declared.record.Entry.{Entry}
 use Rattle.hall_policy.specs.declared.record.RoundRow.{RoundRow}
 use Rattle.hall_policy.specs.declared.record.AnswerRow.{AnswerRow}
 use Rattle.hall_policy.specs.declared.request.Action.{Action}
-use Rattle.hall_policy.specs.declared.request.Action.TheVariants.{PutPuzzle, Certify, Release, ReadRound, Submit, Answers}
+use Rattle.hall_policy.specs.declared.request.Action.TheVariants.{Import, PutPuzzle, ReadPuzzle, ListPuzzles, Certify, PutRound, Release, ListRounds, ReadRound}
+use Rattle.hall_policy.specs.declared.request.Action.TheVariants.{Submit, Answers, Solutions, Protest, Protests, Rule, Publish, Table}
 use Rattle.hall_policy.specs.declared.request.Request.{Request}
 use Rattle.hall_policy.specs.declared.rule.Decision.{Decision}
 use Rattle.hall_policy.specs.declared.rule.Decision.TheVariants.{Allow, Repeat, Deny}
@@ -122,7 +123,17 @@ Allowed world caller (Submit id number token answer) t found given new =
     TheCaller caller (λ person. IsSubmitted world person id number token answer t given new)
 Allowed world caller (Answers id) t found given new =
     TheCaller caller (λ person. IsListed world person id t given × (new ≡ world))
-Allowed world caller _ t found given new = ⊥
+Allowed world caller (Import people) t found given new = ⊥
+Allowed world caller (ReadPuzzle key) t found given new = ⊥
+Allowed world caller ListPuzzles t found given new = ⊥
+Allowed world caller (PutRound id sheet) t found given new = ⊥
+Allowed world caller ListRounds t found given new = ⊥
+Allowed world caller (Solutions id) t found given new = ⊥
+Allowed world caller (Protest id token number text) t found given new = ⊥
+Allowed world caller (Protests id) t found given new = ⊥
+Allowed world caller (Rule id entrant token ruling) t found given new = ⊥
+Allowed world caller (Publish id) t found given new = ⊥
+Allowed world caller (Table id) t found given new = ⊥
 
 -- the first reply, from the row that stands
 abbrev pub FirstReply : World → Option Person → Action → Reply → Type 0

@@ -11,7 +11,8 @@ ghost use Rattle.hall_desk.specs.Plans.{IsPlanFor};
 
 use crate::map_store::MapStore;
 use crate::opening::opening;
-use crate::plan::{Plan, make_plan};
+use crate::plan::make_plan;
+use crate::planned::Plan;
 use crate::reply::Reply;
 use crate::step::{commit, run, step};
 use crate::store::StoreFault;

@@ -1,67 +1,20 @@
 //! What the rules read, found in a store.
 ghost use Rattle.std.specs.Prelude.{◌≡◌, ◌↔◌, ◌==◌, ◌&&◌, ℕ, List, IsTrue, IfOk, Option, Some, None, Contains, find, count_by, option_copied};
-ghost use Rattle.std.specs.FinMap.{get};
 ghost use Rattle.hall_policy.specs.World.{same_text};
 ghost use Rattle.hall_policy.specs.Rules.{puzzles_put, StandsReleased};
-ghost use Rattle.hall_policy.specs.Facts.{IsRoundFound};
-ghost use Rattle.hall_desk.specs.Store.{Kept, Served, Told, IsRoundKept};
-ghost use Rattle.hall_desk.specs.Found.{IsCaller, AreFactsOf, AreRoundFacts, AreAnswerFacts, AreSubmitFacts, HasAuthor, ArePutFacts, AreCertifyFacts, HasFaults, AreReleaseFacts, IsReleasedRound};
+ghost use Rattle.hall_policy.specs.Implies.{Implies};
+ghost use Rattle.hall_policy.specs.Decided.{IsDecided};
+ghost use Rattle.hall_desk.specs.Store.{Kept, Told};
+ghost use Rattle.hall_desk.specs.Found.{IsCaller, AreAnswerFacts, HasAuthor, IsReleasedRound, ToldByRound};
 
-use crate::entry_fault::{EntryFault, find_fault};
 use crate::store::{Store, StoreFault};
 use hall_policy::{
-    Action, AnswerRow, Facts, Key, Name, Person, PuzzleKey, PuzzleNumber, Request, RoundId,
-    RoundRow, Token,
+    Action, AnswerRow, Decision, Facts, Key, Moment, Name, Person, PuzzleKey, PuzzleNumber, RoundId, Token, decide,
 };
 use std::alloc::{AllocError, Global};
 
-/// All that the rules asked of the request's action read.
-pub(crate) fn find_facts<S: Store>(
-    alloc: Global,
-    store: &mut S,
-    request: &Request,
-) -> Result<Facts, StoreFault>
-    ensures kept { Kept S.is_honest S.serves S.world store.old store.new }
-    ensures served { Served S.is_honest S.serves store.new result (AreFactsOf (S.world store.new) request.now) }
-{
-    match &request.action {
-        Action::PutPuzzle { key, .. } => put_facts(alloc, store, &request.key, key),
-        Action::Certify { key, .. } => certify_facts(alloc, store, &request.key, key),
-        Action::Release { round } => release_facts(alloc, store, &request.key, round),
-        Action::ReadRound { round } | Action::Answers { round } => {
-            round_facts(alloc, store, &request.key, round)
-        }
-        Action::Submit {
-            round,
-            number,
-            token,
-            ..
-        } => submit_facts(alloc, store, &request.key, round, *number, token),
-        _ => Err(StoreFault::Failed),
-    }
-}
-
-/// Facts that tell of nothing.
-fn no_facts() -> Facts {
-    Facts {
-        caller: None,
-        author_is_there: false,
-        puzzle: None,
-        sheet_lacks: false,
-        round: None,
-        answer: None,
-        protest: None,
-        in_released: false,
-        uncertified: false,
-        open_protest: false,
-        involved: false,
-        count: 0,
-        conflict: false,
-    }
-}
-
 /// The person with the request's key.
-fn find_caller<S: Store>(
+pub(crate) fn find_caller<S: Store>(
     alloc: Global,
     store: &mut S,
     key: &Option<Key>,
@@ -75,53 +28,27 @@ fn find_caller<S: Store>(
     }
 }
 
-/// The facts on a request that names a round.
-fn round_facts<S: Store>(
+/// What is decided of a request whose rules read its round alone, beside its caller.
+pub(crate) fn settle_by_round<S: Store>(
     alloc: Global,
     store: &mut S,
-    key: &Option<Key>,
+    t: Moment,
+    action: &Action,
     id: &RoundId,
-) -> Result<Facts, StoreFault>
+    facts: &mut Facts,
+) -> Result<Decision, StoreFault>
+    requires { ToldByRound action.now id.now }
     ensures kept { Kept S.is_honest S.serves S.world store.old store.new }
-    ensures served { Served S.is_honest S.serves store.new result (AreRoundFacts (S.world store.new) key.now id.now) }
+    ensures caller { facts.new.caller ≡ facts.old.caller }
+    ensures implied { IfOk result (λ decision. Implies decision facts.new action.now) }
+    ensures told { Told S.is_honest S.serves store.old store.new result (λ decision. IsDecided (S.world store.new) facts.new action.now t decision) }
 {
-    let caller = find_caller(alloc, store, key)?;
-    let round = store.round(alloc, id)?;
-    Ok(Facts {
-        caller,
-        round,
-        ..no_facts()
-    })
-}
-
-/// The facts on an answer that is handed in.
-fn submit_facts<S: Store>(
-    alloc: Global,
-    store: &mut S,
-    key: &Option<Key>,
-    id: &RoundId,
-    number: PuzzleNumber,
-    token: &Token,
-) -> Result<Facts, StoreFault>
-    ensures kept { Kept S.is_honest S.serves S.world store.old store.new }
-    ensures served { Served S.is_honest S.serves store.new result (AreSubmitFacts (S.world store.new) key.now id.now number token.now) }
-{
-    let facts = round_facts(alloc, store, key, id)?;
-    match find_answer(alloc, store, &facts.caller, id, number, token) {
-        Ok((answer, count)) => Ok(Facts {
-            answer,
-            count,
-            ..facts
-        }),
-        Err(fault) => {
-            drop(facts);
-            Err(fault)
-        }
-    }
+    facts.round = store.round(alloc, id)?;
+    Ok(decide(facts, action, t))
 }
 
 /// The caller's answer under the token, and how many answers to the puzzle the caller gave.
-fn find_answer<S: Store>(
+pub(crate) fn find_answer<S: Store>(
     alloc: Global,
     store: &mut S,
     caller: &Option<Person>,
@@ -183,96 +110,8 @@ fn is_under(row: &AnswerRow, number: PuzzleNumber, token: &Token) -> bool
     row.key.number.get() == number.get() && row.key.token == *token
 }
 
-/// The facts on a puzzle that is put.
-fn put_facts<S: Store>(
-    alloc: Global,
-    store: &mut S,
-    caller_key: &Option<Key>,
-    key: &PuzzleKey,
-) -> Result<Facts, StoreFault>
-    ensures kept { Kept S.is_honest S.serves S.world store.old store.new }
-    ensures served { Served S.is_honest S.serves store.new result (ArePutFacts (S.world store.new) caller_key.now key.now) }
-{
-    let caller = find_caller(alloc, store, caller_key)?;
-    let author_is_there = find_author(alloc, store, &key.author)?;
-    let in_released = find_release(alloc, store, key)?;
-    let count = count_puzzles(alloc, store, &key.author)?;
-    let puzzle = store.puzzle(alloc, key)?;
-    Ok(Facts {
-        caller,
-        author_is_there,
-        puzzle,
-        in_released,
-        count,
-        ..no_facts()
-    })
-}
-
-/// The facts on a puzzle that is certified.
-fn certify_facts<S: Store>(
-    alloc: Global,
-    store: &mut S,
-    caller_key: &Option<Key>,
-    key: &PuzzleKey,
-) -> Result<Facts, StoreFault>
-    ensures kept { Kept S.is_honest S.serves S.world store.old store.new }
-    ensures served { Served S.is_honest S.serves store.new result (AreCertifyFacts (S.world store.new) caller_key.now key.now) }
-{
-    let caller = find_caller(alloc, store, caller_key)?;
-    let puzzle = store.puzzle(alloc, key)?;
-    Ok(Facts {
-        caller,
-        puzzle,
-        ..no_facts()
-    })
-}
-
-/// The facts on a round that is released.
-fn release_facts<S: Store>(
-    alloc: Global,
-    store: &mut S,
-    key: &Option<Key>,
-    id: &RoundId,
-) -> Result<Facts, StoreFault>
-    ensures kept { Kept S.is_honest S.serves S.world store.old store.new }
-    ensures served { Served S.is_honest S.serves store.new result (AreReleaseFacts (S.world store.new) key.now id.now) }
-{
-    let caller = find_caller(alloc, store, key)?;
-    let round = store.round(alloc, id)?;
-    match find_faults(alloc, store, id, &round) {
-        Ok((in_released, uncertified)) => Ok(Facts {
-            caller,
-            round,
-            in_released,
-            uncertified,
-            ..no_facts()
-        }),
-        Err(fault) => {
-            drop(round);
-            drop(caller);
-            Err(fault)
-        }
-    }
-}
-
-/// Whether an entry of the round stands in another released round, and whether one isn't certified.
-fn find_faults<S: Store>(
-    alloc: Global,
-    store: &mut S,
-    id: &RoundId,
-    round: &Option<RoundRow>,
-) -> Result<(bool, bool), StoreFault>
-    requires { S.is_honest store.old → S.serves store.old → IsRoundKept (S.world store.old) id.now round.now }
-    ensures kept { Kept S.is_honest S.serves S.world store.old store.new }
-    ensures told { Told S.is_honest S.serves store.old store.new result (λ pair. HasFaults (S.world store.new) id.now pair.0 pair.1) }
-{
-    let shared = find_fault(alloc, store, id, round, EntryFault::Shared)?;
-    let uncertified = find_fault(alloc, store, id, round, EntryFault::Uncertified)?;
-    Ok((shared, uncertified))
-}
-
 /// Whether a person of the name with the role author is there.
-fn find_author<S: Store>(alloc: Global, store: &mut S, name: &Name) -> Result<bool, StoreFault>
+pub(crate) fn find_author<S: Store>(alloc: Global, store: &mut S, name: &Name) -> Result<bool, StoreFault>
     ensures kept { Kept S.is_honest S.serves S.world store.old store.new }
     ensures told { Told S.is_honest S.serves store.old store.new result (λ found. IsTrue found ↔ HasAuthor (S.world store.new) name.now) }
 {
@@ -283,7 +122,7 @@ fn find_author<S: Store>(alloc: Global, store: &mut S, name: &Name) -> Result<bo
 }
 
 /// How many puzzles of the author are kept.
-fn count_puzzles<S: Store>(alloc: Global, store: &mut S, author: &Name) -> Result<u64, StoreFault>
+pub(crate) fn count_puzzles<S: Store>(alloc: Global, store: &mut S, author: &Name) -> Result<u64, StoreFault>
     ensures kept { Kept S.is_honest S.serves S.world store.old store.new }
     ensures told { Told S.is_honest S.serves store.old store.new result (λ count. count ≡ puzzles_put (S.world store.new) author.now) }
 {
@@ -292,7 +131,7 @@ fn count_puzzles<S: Store>(alloc: Global, store: &mut S, author: &Name) -> Resul
 }
 
 /// Whether the puzzle stands in a released round.
-fn find_release<S: Store>(alloc: Global, store: &mut S, key: &PuzzleKey) -> Result<bool, StoreFault>
+pub(crate) fn find_release<S: Store>(alloc: Global, store: &mut S, key: &PuzzleKey) -> Result<bool, StoreFault>
     ensures kept { Kept S.is_honest S.serves S.world store.old store.new }
     ensures told { Told S.is_honest S.serves store.old store.new result (λ found. IsTrue found ↔ ((id : List ℕ) × StandsReleased (S.world store.new) key.now id)) }
 {

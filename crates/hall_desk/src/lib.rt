@@ -1,32 +1,34 @@
 //! One request to the hall: what is asked, decided, changed and answered.
 #![tactic(auto)]
 
-mod certificate;
-mod certification;
+mod answers;
+mod certify_puzzle;
 mod desk;
 mod entry_fault;
 mod found;
 mod law;
-mod listing;
 mod map_calls;
 mod map_reads;
 mod map_store;
 mod opening;
 mod plan;
-mod putting;
-mod reading;
+mod planned;
+mod put_puzzle;
+mod read_round;
+mod release;
 mod reply;
 mod rows;
+mod search;
 mod step;
 mod store;
-mod submitting;
+mod submit;
 mod verdict;
 mod writes;
 
-pub use certificate::certify;
+pub use search::certify;
 pub use desk::Desk;
 pub use law::{law_accepted_answers, law_sanity, law_tokens};
-pub use plan::Plan;
+pub use planned::Plan;
 pub use reply::{AnswerLine, Reply, ShownPuzzle, ShownRound, StateName};
 pub use rows::Rows;
 pub use store::StoreFault;

@@ -1,43 +1,30 @@
-//! What a request will be answered and will change: facts, decision, plan.
-ghost use Rattle.std.specs.Prelude.{◌≡◌, IfOk, IfSome, Some};
+//! From a request to its plan: the caller, what the rules read, the decision, and what an allowed action answers and changes.
+ghost use Rattle.std.specs.Prelude.{◌≡◌, IfOk, IfSome, Some, None};
 ghost use Rattle.std.specs.FinMap.{get};
 ghost use Rattle.hall_policy.specs.World.{World};
-ghost use Rattle.hall_policy.specs.Facts.{AllTrue};
-ghost use Rattle.hall_desk.specs.Store.{Kept, Served, Told};
-ghost use Rattle.hall_desk.specs.Found.{AreFactsOf};
+ghost use Rattle.hall_policy.specs.Facts.{TrueUpTo, deciding};
+ghost use Rattle.hall_policy.specs.Implies.{Implies, IsAllowable, IsRepetition};
+ghost use Rattle.hall_policy.specs.Decided.{IsDecided};
+ghost use Rattle.hall_desk.specs.Store.{Kept, Told};
+ghost use Rattle.hall_desk.specs.Found.{IsCaller};
 ghost use Rattle.hall_desk.specs.Step.{FirstReply};
-ghost use Rattle.hall_desk.specs.Plans.{IsPlanFor, IsMadePlan};
+ghost use Rattle.hall_desk.specs.Plans.{IsPlanFor, IsMadePlan, Planned};
+ghost use Rattle.hall_desk.specs.declared.store.Change.{Change};
 
-use crate::certification::{certify_puzzle, release_round};
-use crate::found::find_facts;
-use crate::listing::list_answers;
-use crate::putting::put_puzzle;
-use crate::reading::read_round;
+use crate::answers::list_answers;
+use crate::certify_puzzle::{self, Certifying, certify_puzzle};
+use crate::found::settle_by_round;
+use crate::planned::Plan;
+use crate::put_puzzle::{self, Putting, put_puzzle};
+use crate::read_round::read_round;
+use crate::release::{self, release_round};
 use crate::reply::Reply;
-use crate::store::{Change, Store, StoreFault};
-use crate::submitting::{Handed, received, submit};
-use hall_policy::{Action, Decision, Facts, Moment, Request, decide};
+use crate::store::{Store, StoreFault};
+use crate::submit::{self, Handed, received, submit};
+use hall_policy::{Action, Decision, Facts, Moment, Request, Rule, decide_up_to};
 use std::alloc::Global;
 
-/// What a request will be answered, and what it will change.
-#[derive(Drop)]
-pub struct Plan {
-    pub(crate) reply: Reply,
-    pub(crate) change: Change,
-}
-
-impl Plan {
-    ghost use Rattle.hall_desk.specs.Plan.{planned_reply};
-
-    /// The reply, lent before the change is made.
-    pub fn reply(&self) -> &Reply
-        ensures { result.now ≡ planned_reply self.now }
-    {
-        &self.reply
-    }
-}
-
-/// What the request will be answered, and what it will change. Reads only.
+/// What the request will be answered, and what it will change. Reads only, and nothing but what the rules ask up to the one that decides.
 pub(crate) fn make_plan<S: Store>(
     alloc: Global,
     store: &mut S,
@@ -45,53 +32,177 @@ pub(crate) fn make_plan<S: Store>(
     request: &Request,
 ) -> Result<Plan, StoreFault>
     ensures kept { Kept S.is_honest S.serves S.world store.old store.new }
-    ensures served { Served S.is_honest S.serves store.new result (IsPlanFor (S.world store.new) t request.now) }
+    ensures planned { Planned S.is_honest S.serves S.world store.new t request.now result }
 {
-    let facts = find_facts(alloc, store, request)?;
-    let plan = answer(alloc, store, t, &facts, request);
+    let mut facts = no_facts();
+    let plan = plan_with(alloc, store, t, request, &mut facts);
     drop(facts);
     plan
 }
 
-/// The plan, from the facts.
+/// Facts that tell of nothing.
+fn no_facts() -> Facts
+    ensures { result.caller ≡ None }
+{
+    Facts {
+        caller: None,
+        author_is_there: false,
+        puzzle: None,
+        sheet_lacks: false,
+        round: None,
+        answer: None,
+        protest: None,
+        in_released: false,
+        uncertified: false,
+        open_protest: false,
+        involved: false,
+        count: 0,
+        conflict: false,
+    }
+}
+
+/// The plan, with the facts that it rests on.
+fn plan_with<S: Store>(
+    alloc: Global,
+    store: &mut S,
+    t: Moment,
+    request: &Request,
+    facts: &mut Facts,
+) -> Result<Plan, StoreFault>
+    requires { facts.old.caller ≡ None }
+    ensures kept { Kept S.is_honest S.serves S.world store.old store.new }
+    ensures planned { Planned S.is_honest S.serves S.world store.new t request.now result }
+{
+    match &request.key {
+        Some(key) => {
+            facts.caller = store.person_by_key(alloc, key)?;
+            let decision = settle(alloc, store, t, &request.action, facts)?;
+            answer(alloc, store, t, facts, request, decision)
+        }
+        None => plan_without_key(t, request, facts),
+    }
+}
+
+/// The plan for a request without a key, which asks nothing of the store.
+fn plan_without_key(t: Moment, request: &Request, facts: &Facts) -> Result<Plan, StoreFault>
+    requires key { request.now.key ≡ None }
+    requires caller { facts.now.caller ≡ None }
+    ensures nothing { IfOk result (λ plan. plan.change ≡ Change.Nothing) }
+    ensures planned { IfOk result (λ plan. (world : World) → IsPlanFor world t request.now plan) }
+{
+    match decide_up_to(facts, &request.action, t, Rule::OtherAuthor) {
+        Some(Decision::Deny(rule)) => Ok(Plan::of(Reply::Denied(rule))),
+        Some(Decision::Repeat) | Some(Decision::Allow) | None => Err(StoreFault::Failed),
+    }
+}
+
+/// What is decided, and in the facts all that it rests on. The rules that read the caller alone are asked before anything else is read.
+fn settle<S: Store>(
+    alloc: Global,
+    store: &mut S,
+    t: Moment,
+    action: &Action,
+    facts: &mut Facts,
+) -> Result<Decision, StoreFault>
+    ensures kept { Kept S.is_honest S.serves S.world store.old store.new }
+    ensures caller { facts.new.caller ≡ facts.old.caller }
+    ensures implied { IfOk result (λ decision. Implies decision facts.new action.now) }
+    ensures told { Told S.is_honest S.serves store.old store.new result (λ decision. IsDecided (S.world store.new) facts.new action.now t decision) }
+{
+    if let Some(decision) = decide_up_to(facts, action, t, Rule::OtherAuthor) {
+        return Ok(decision);
+    }
+    find_rest(alloc, store, t, action, facts)
+}
+
+/// What is decided where the caller alone doesn't forbid the action.
+fn find_rest<S: Store>(
+    alloc: Global,
+    store: &mut S,
+    t: Moment,
+    action: &Action,
+    facts: &mut Facts,
+) -> Result<Decision, StoreFault>
+    ensures kept { Kept S.is_honest S.serves S.world store.old store.new }
+    ensures caller { facts.new.caller ≡ facts.old.caller }
+    ensures implied { IfOk result (λ decision. Implies decision facts.new action.now) }
+    ensures told { Told S.is_honest S.serves store.old store.new result (λ decision. IsDecided (S.world store.new) facts.new action.now t decision) }
+{
+    match action {
+        Action::PutPuzzle { key, puzzle } => {
+            put_puzzle::settle(alloc, store, t, action, &Putting { key, puzzle }, facts)
+        }
+        Action::Certify { key, budget } => {
+            let certified = Certifying {
+                key,
+                budget: *budget,
+            };
+            certify_puzzle::settle(alloc, store, t, action, &certified, facts)
+        }
+        Action::Release { round } => release::settle(alloc, store, t, action, round, facts),
+        Action::ReadRound { round } | Action::Answers { round } => {
+            settle_by_round(alloc, store, t, action, round, facts)
+        }
+        Action::Submit {
+            round,
+            number,
+            token,
+            answer,
+        } => {
+            let handed = Handed {
+                round,
+                number: *number,
+                token,
+                answer,
+            };
+            submit::settle(alloc, store, t, action, &handed, facts)
+        }
+        Action::Import { .. }
+        | Action::ReadPuzzle { .. }
+        | Action::ListPuzzles
+        | Action::PutRound { .. }
+        | Action::ListRounds
+        | Action::Solutions { .. }
+        | Action::Protest { .. }
+        | Action::Protests { .. }
+        | Action::Rule { .. }
+        | Action::Publish { .. }
+        | Action::Table { .. } => Err(StoreFault::Failed),
+    }
+}
+
+/// The plan that the decision asks for.
 fn answer<S: Store>(
     alloc: Global,
     store: &mut S,
     t: Moment,
     facts: &Facts,
     request: &Request,
+    decision: Decision,
 ) -> Result<Plan, StoreFault>
-    requires { S.is_honest store.old → S.serves store.old → AreFactsOf (S.world store.old) request.now facts.now }
+    requires caller { S.is_honest store.old → S.serves store.old → IsCaller (S.world store.old) request.now.key facts.now.caller }
+    requires implied { Implies decision facts.now request.now.action }
+    requires decided { S.is_honest store.old → S.serves store.old → IsDecided (S.world store.old) facts.now request.now.action t decision }
     ensures kept { Kept S.is_honest S.serves S.world store.old store.new }
     ensures told { Told S.is_honest S.serves store.old store.new result (IsPlanFor (S.world store.new) t request.now) }
 {
-    match decide(facts, &request.action, t) {
-        Decision::Deny(rule) => Ok(Plan {
-            reply: Reply::Denied(rule),
-            change: Change::Nothing,
-        }),
-        Decision::Repeat => {
-            let reply = first_reply(facts, &request.action)?;
-            Ok(Plan {
-                reply,
-                change: Change::Nothing,
-            })
-        }
+    match decision {
+        Decision::Deny(rule) => Ok(Plan::of(Reply::Denied(rule))),
+        Decision::Repeat => Ok(Plan::of(first_reply(facts, &request.action)?)),
         Decision::Allow => allow(alloc, store, t, facts, &request.action),
     }
 }
 
-/// The reply that the answer under the token got.
+/// The reply that the answer under the token got. Nothing but an answer is repeated yet.
 fn first_reply(facts: &Facts, action: &Action) -> Result<Reply, StoreFault>
-    ensures { IfOk result (λ reply. (world : World) → AllTrue facts.now world action.now → FirstReply world facts.now.caller action.now reply) }
+    requires { IsRepetition facts.now action.now }
+    ensures { IfOk result (λ reply. (world : World) → TrueUpTo (deciding action.now Decision.Repeat) facts.now world action.now → FirstReply world facts.now.caller action.now reply) }
 {
-    let (Action::Submit { .. }, Some(_), Some(row), Some(answer)) = (
-        action,
-        &facts.caller,
-        &facts.round,
-        &facts.answer,
-    ) else {
+    let Action::Submit { .. } = action else {
         return Err(StoreFault::Failed);
+    };
+    let (Some(row), Some(answer)) = (&facts.round, &facts.answer) else {
+        unreachable!()
     };
     Ok(received(&row.round, answer.n, answer.verdict))
 }
@@ -104,7 +215,8 @@ fn allow<S: Store>(
     facts: &Facts,
     action: &Action,
 ) -> Result<Plan, StoreFault>
-    requires told { S.is_honest store.old → S.serves store.old → AllTrue facts.now (S.world store.old) action.now }
+    requires allowed { IsAllowable facts.now action.now }
+    requires told { S.is_honest store.old → S.serves store.old → TrueUpTo 20 facts.now (S.world store.old) action.now }
     requires there { S.is_honest store.old → S.serves store.old → IfSome facts.now.caller (λ person. get (S.world store.old).people person.name ≡ Some person) }
     ensures kept { Kept S.is_honest S.serves S.world store.old store.new }
     ensures told { Told S.is_honest S.serves store.old store.new result (IsMadePlan (S.world store.new) facts.now.caller action.now t) }
@@ -129,6 +241,16 @@ fn allow<S: Store>(
             submit(alloc, store, t, facts, &handed)
         }
         Action::Answers { round } => list_answers(alloc, store, t, facts, round),
-        _ => Err(StoreFault::Failed),
+        Action::Import { .. }
+        | Action::ReadPuzzle { .. }
+        | Action::ListPuzzles
+        | Action::PutRound { .. }
+        | Action::ListRounds
+        | Action::Solutions { .. }
+        | Action::Protest { .. }
+        | Action::Protests { .. }
+        | Action::Rule { .. }
+        | Action::Publish { .. }
+        | Action::Table { .. } => Err(StoreFault::Failed),
     }
 }

@@ -3,7 +3,8 @@ ghost use Rattle.std.specs.Prelude.{◌≡◌, ◌+◌, ◌≤◌, ◌<◌, ◌+
 ghost use Rattle.hall_desk.specs.Change.{changed, CanMake};
 ghost use Rattle.hall_desk.specs.Plans.{Steps, Runs};
 
-use crate::plan::{Plan, make_plan};
+use crate::plan::make_plan;
+use crate::planned::Plan;
 use crate::reply::Reply;
 use crate::store::{Change, Store, StoreFault};
 use hall_policy::{Moment, Request};

@@ -316,6 +316,7 @@ pub fn decide(facts: &Facts, action: &Action, t: Moment) -> Decision
 /// The decision where a rule up to `most` makes it; facts that later rules read may be anything.
 pub fn decide_up_to(facts: &Facts, action: &Action, t: Moment, most: Rule) -> Option<Decision>
     ensures some { IfSome result (λ decision. IsDecidedUpTo (number_of most) facts.now action.now t decision) }
+    ensures implies { IfSome result (λ decision. Implies decision facts.now action.now) }
     ensures none { IfNone result (PassesUpTo (number_of most) facts.now action.now t) }
     ensures whole { IfNone result (number_of most < 20) }
 {

@@ -1,6 +1,6 @@
 use Rattle.std.proofs.Common.{ℕ}
 use Rattle.hall_policy.specs.World.{World}
-use Rattle.hall_policy.specs.Facts.{AllTrue}
+use Rattle.hall_policy.specs.Facts.{TrueUpTo}
 use Rattle.hall_policy.specs.declared.request.Action.TheVariants.{PutPuzzle, Certify, Release, ReadRound, Submit, Answers}
 use Rattle.hall_desk.specs.Plans.{IsAllowedPlan, IsMadePlan}
 use Rattle.hall_desk.proofs.Planning.{made_anyhow, made_from_facts, made_from_store}
@@ -11,7 +11,7 @@ returns-in-PutPuzzle-clause-told g c =
     let facts = c.args.facts.now in
     let named = PutPuzzle c.in-PutPuzzle.key c.in-PutPuzzle.puzzle in
     made_from_facts g.S.Store.is_honest g.S.Store.serves g.S.Store.world facts c.args.action.now named c.args.t c.in-PutPuzzle.is c.args.store.now c.put_puzzle.result
-    (λ plan. (w : World) → AllTrue facts w named → (t : ℕ) → IsAllowedPlan w facts.caller named t plan)
+    (λ plan. (w : World) → TrueUpTo 20 facts w named → (t : ℕ) → IsAllowedPlan w facts.caller named t plan)
     (λ plan made w told. made_anyhow w facts.caller named c.args.t plan (made w told c.args.t)) c.requires.told c.put_puzzle.ensures
 
 pub returns-in-Certify-clause-told : goal.returns-in-Certify-clause-told
@@ -19,7 +19,7 @@ returns-in-Certify-clause-told g c =
     let facts = c.args.facts.now in
     let named = Certify c.in-Certify.key c.in-Certify.budget in
     made_from_facts g.S.Store.is_honest g.S.Store.serves g.S.Store.world facts c.args.action.now named c.args.t c.in-Certify.is c.args.store.now c.certify_puzzle.result
-    (λ plan. (w : World) → AllTrue facts w named → (t : ℕ) → IsMadePlan w facts.caller named t plan)
+    (λ plan. (w : World) → TrueUpTo 20 facts w named → (t : ℕ) → IsMadePlan w facts.caller named t plan)
     (λ plan made w told. made w told c.args.t) c.requires.told c.certify_puzzle.ensures
 
 pub returns-in-Release-clause-told : goal.returns-in-Release-clause-told
@@ -27,7 +27,7 @@ returns-in-Release-clause-told g c =
     let facts = c.args.facts.now in
     let named = Release c.in-Release.round in
     made_from_facts g.S.Store.is_honest g.S.Store.serves g.S.Store.world facts c.args.action.now named c.args.t c.in-Release.is c.args.store.now c.release_round.result
-    (λ plan. (w : World) → AllTrue facts w named → (t : ℕ) → IsAllowedPlan w facts.caller named t plan)
+    (λ plan. (w : World) → TrueUpTo 20 facts w named → (t : ℕ) → IsAllowedPlan w facts.caller named t plan)
     (λ plan made w told. made_anyhow w facts.caller named c.args.t plan (made w told c.args.t)) c.requires.told c.release_round.ensures
 
 pub returns-in-ReadRound-clause-told : goal.returns-in-ReadRound-clause-told

@@ -1,38 +1,25 @@
-use Rattle.std.proofs.Common.{refl}
-use Rattle.hall_policy.specs.declared.record.PuzzleState.TheVariants as state
-use Rattle.hall_policy.specs.declared.rule.Decision.TheVariants.{Allow, Repeat, Deny}
-use Rattle.hall_desk.specs.declared.reply.Reply.TheVariants as reply
-use Rattle.hall_desk.specs.declared.store.Change.TheVariants as change
-use Rattle.hall_desk.specs.Found.{AreFactsOf}
+use Rattle.hall_policy.specs.Decided.{IsDecided}
+use Rattle.hall_policy.specs.declared.rule.Decision.TheVariants.{Allow}
+use Rattle.hall_desk.specs.Found.{IsCaller}
 use Rattle.hall_desk.specs.Plans.{IsMadePlan, IsPlanFor}
+use Rattle.std.proofs.Common.{subst}
+use Rattle.hall_policy.specs.declared.rule.Decision.{Decision}
 use Rattle.hall_desk.proofs.Knowing.{carried, told_turn}
 use Rattle.hall_desk.proofs.Planning.{planned}
 use Rattle.hall_desk.proofs.plan.answer.Goals as goal
-
-pub returns-in-Deny-clause-told : goal.returns-in-Deny-clause-told
-returns-in-Deny-clause-told g c = (
-  (λ h s. s),
-  (λ h s. planned c.args.facts.now (g.S.Store.world c.args.store.now) c.args.t c.args.request.now (Deny c.in-Deny.rule) (reply.Denied c.in-Deny.rule) change.Nothing
-      (c.requires h s) c.in-Deny.ensures state.GaveUp (refl, refl) tt),
-)
-
-pub returns-in_ok-reply-in-Repeat-clause-told : goal.returns-in_ok-reply-in-Repeat-clause-told
-returns-in_ok-reply-in-Repeat-clause-told g c = (
-  (λ h s. s),
-  (λ h s.
-      let world = g.S.Store.world c.args.store.now in
-      planned c.args.facts.now world c.args.t c.args.request.now Repeat c.in_ok-reply-in-Repeat.reply change.Nothing
-      (c.requires h s) c.in-Repeat.ensures state.GaveUp (c.in_ok-reply-in-Repeat.ensures world (c.requires h s).told, refl) tt),
-)
 
 pub returns-in-Allow-clause-told : goal.returns-in-Allow-clause-told
 returns-in-Allow-clause-told g c =
     let world = g.S.Store.world in
     let facts = c.args.facts.now in
     let request = c.args.request.now in
+    let old = c.args.store.now in
     let new = c.allow.new.store in
-    told_turn g.S.Store.is_honest g.S.Store.serves c.allow.result (IsMadePlan (world new) facts.caller request.action c.args.t) (IsPlanFor (world new) c.args.t request) c.args.store.now new
+    told_turn g.S.Store.is_honest g.S.Store.serves c.allow.result (IsMadePlan (world new) facts.caller request.action c.args.t) (IsPlanFor (world new) c.args.t request) old new
     (λ plan h s made.
     planned facts (world new) c.args.t request Allow plan.reply plan.change
-    (carried (λ w. AreFactsOf w request facts) c.args.store.now new c.allow.ensures.kept c.requires h s) c.in-Allow.ensures made.found made.allowed made.can)
+    (carried (λ w. IsCaller w request.key facts.caller) old new c.allow.ensures.kept c.requires.caller h s)
+    (subst (λ (decision : Decision). IsDecided (world new) facts request.action c.args.t decision) c.in-Allow.is
+    (carried (λ w. IsDecided w facts request.action c.args.t c.args.decision) old new c.allow.ensures.kept c.requires.decided h s))
+    made.found made.allowed made.can)
     c.allow.ensures.told

@@ -1,0 +1,122 @@
+//! Certify: a puzzle is searched, and what is found becomes its state.
+ghost use Rattle.std.specs.Prelude.{◌≡◌, ℕ, IfOk};
+ghost use Rattle.hall_policy.specs.World.{World};
+ghost use Rattle.hall_policy.specs.Facts.{TrueUpTo};
+ghost use Rattle.hall_policy.specs.Implies.{Implies, IsAllowable};
+ghost use Rattle.hall_policy.specs.Decided.{IsDecided};
+ghost use Rattle.hall_desk.specs.Store.{Kept, Told};
+ghost use Rattle.hall_policy.specs.declared.request.Action.TheVariants.{Certify};
+ghost use Rattle.hall_grid.specs.Answer.{AnswerText as Says, IsFilling};
+ghost use Rattle.hall_desk.specs.Step.{is_open, IsFound};
+ghost use Rattle.hall_desk.specs.Plans.{IsMadePlan};
+ghost use Rattle.hall_desk.specs.Handed.{certify_action};
+ghost use Rattle.hall_desk.specs.Shown.{state_name};
+
+use crate::search::certify;
+use crate::planned::Plan;
+use crate::put_puzzle::state_name;
+use crate::reply::Reply;
+use crate::store::{Change, Store, StoreFault};
+use hall_grid::{Filling, Puzzle, write_answer};
+use hall_policy::{Action, AnswerText, Budget, Decision, Facts, Moment, PuzzleKey, PuzzleState, decide};
+use hall_solve::Outcome;
+use std::alloc::Global;
+
+/// What is certified: the puzzle under the key, by a search of at most so many visits.
+#[derive(Clone, Copy)]
+pub(crate) struct Certifying<'a> {
+    pub(crate) key: &'a PuzzleKey,
+    pub(crate) budget: Budget,
+}
+
+/// What is decided of a Certify.
+pub(crate) fn settle<S: Store>(
+    alloc: Global,
+    store: &mut S,
+    t: Moment,
+    action: &Action,
+    certified: &Certifying,
+    facts: &mut Facts,
+) -> Result<Decision, StoreFault>
+    requires { action.now ≡ certify_action certified.now }
+    ensures kept { Kept S.is_honest S.serves S.world store.old store.new }
+    ensures caller { facts.new.caller ≡ facts.old.caller }
+    ensures implied { IfOk result (λ decision. Implies decision facts.new action.now) }
+    ensures told { Told S.is_honest S.serves store.old store.new result (λ decision. IsDecided (S.world store.new) facts.new action.now t decision) }
+{
+    facts.puzzle = store.puzzle(alloc, certified.key)?;
+    Ok(decide(facts, action, t))
+}
+
+/// An allowed Certify: the puzzle is searched where no search of it came to an end yet.
+pub(crate) fn certify_puzzle(
+    alloc: Global,
+    facts: &Facts,
+    key: &PuzzleKey,
+    budget: Budget,
+) -> Result<Plan, StoreFault>
+    requires { IsAllowable facts.now (Certify key.now budget) }
+    ensures { IfOk result (λ plan. (world : World) → TrueUpTo 20 facts.now world (Certify key.now budget) → (t : ℕ) → IsMadePlan world facts.now.caller (Certify key.now budget) t plan) }
+{
+    let Some(row) = &facts.puzzle else {
+        unreachable!()
+    };
+    if !is_open(&row.state) {
+        return Ok(Plan {
+            reply: Reply::Certified(state_name(&row.state)),
+            change: Change::Nothing,
+        });
+    }
+    let key = key.clone()?;
+    let state = find_state(alloc, &row.puzzle, budget.get())?;
+    Ok(searched(key, state))
+}
+
+/// The plan that stores what a search found.
+fn searched(key: PuzzleKey, state: PuzzleState) -> Plan
+    ensures reply { result.reply ≡ Reply.Certified (state_name state) }
+    ensures change { result.change ≡ Change.SetState key state }
+{
+    Plan {
+        reply: Reply::Certified(state_name(&state)),
+        change: Change::SetState { key, state },
+    }
+}
+
+/// Whether the puzzle was never searched, or the search came to no end.
+fn is_open(state: &PuzzleState) -> bool
+    ensures { result ≡ is_open state.now }
+{
+    match state {
+        PuzzleState::New => true,
+        PuzzleState::One(_) => false,
+        PuzzleState::NoSolution => false,
+        PuzzleState::More => false,
+        PuzzleState::GaveUp => true,
+    }
+}
+
+/// What the search of the puzzle finds in at most `budget` visits, as a state.
+fn find_state(alloc: Global, puzzle: &Puzzle, budget: u64) -> Result<PuzzleState, StoreFault>
+    ensures { IfOk result (IsFound puzzle.now budget) }
+{
+    match certify(alloc, puzzle, budget)? {
+        Outcome::None => Ok(PuzzleState::NoSolution),
+        Outcome::One(solution) => Ok(PuzzleState::One(solution_text(alloc, puzzle, &solution)?)),
+        Outcome::More(_first, _second) => Ok(PuzzleState::More),
+        Outcome::GaveUp => Ok(PuzzleState::GaveUp),
+    }
+}
+
+/// The solution as an answer text.
+fn solution_text(
+    alloc: Global,
+    puzzle: &Puzzle,
+    solution: &Filling,
+) -> Result<AnswerText, StoreFault>
+    requires { IsFilling puzzle.now solution.now }
+    ensures { IfOk result (λ text. Says puzzle.now text solution.now) }
+{
+    let text = write_answer(alloc, puzzle, solution)?;
+    AnswerText::new(text).ok_or(StoreFault::Failed)
+}
