@@ -118,5 +118,8 @@ fn solution_text(
     ensures { IfOk result (λ text. Says puzzle.now text solution.now) }
 {
     let text = write_answer(alloc, puzzle, solution)?;
-    AnswerText::new(text).ok_or(StoreFault::Failed)
+    match AnswerText::new(text) {
+        Some(text) => Ok(text),
+        None => unreachable!(),
+    }
 }

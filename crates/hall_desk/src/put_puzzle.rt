@@ -106,7 +106,7 @@ pub(crate) fn text_of(alloc: Global, puzzle: &Puzzle) -> Result<PuzzleText, Stor
     let text = write_puzzle(alloc, puzzle)?;
     match PuzzleText::new(text) {
         Some(text) => Ok(text),
-        None => Err(StoreFault::Failed),
+        None => unreachable!(),
     }
 }
 

@@ -306,7 +306,8 @@ fn facts(rt: &(impl AllocGlobal + Abort), row: &Row) -> Facts {
 
 fn people(rt: &(impl AllocGlobal + Abort), name: &str, key: &str) -> Option<People> {
     let list = [person(rt, "ada", "ada-key-1"), person(rt, name, key)];
-    People::new(Vec::from_array(rt.alloc(), list).expect(rt, "memory"))
+    let list = Vec::from_array(rt.alloc(), list).expect(rt, "memory");
+    People::new(rt.alloc(), list).expect(rt, "memory")
 }
 
 fn submit(rt: &(impl AllocGlobal + Abort)) -> Action {
