@@ -72,15 +72,33 @@ module _ (world : World) (facts : Facts) (action : Action) where
     module _ (shared : IsTrue facts.in_released ↔ HasFaultyEntry Shared world id) where
       pub shared_told : TrueUpTo 11 facts world action
       shared_told = subst (λ (a : Action). TrueUpTo 11 facts world a) (sym is) (
-        tt, (tt, (round,
-          (((λ t. let f = shared.0 t in (f.0, f.2.0, f.1, f.2.1, f.2.2)), (λ f. shared.1 (f.0, f.2, (f.1, f.3, f.4)))), (tt, (tt, (tt, tt))))))
+        tt,
+        (
+          tt,
+          (
+            round,
+            (((λ t. let f = shared.0 t in (f.0, f.2.0, f.1, f.2.1, f.2.2)), (λ f. shared.1 (f.0, f.2, (f.1, f.3, f.4)))), (tt, (tt, (tt, tt)))),
+          ),
+        ),
       )
 
       pub faults_told : IsTrue facts.uncertified ↔ HasFaultyEntry Uncertified world id → TrueUpTo 20 facts world action
       faults_told uncertified = subst (λ (a : Action). TrueUpTo 20 facts world a) (sym is) (
-        tt, (tt, (round,
-          (((λ t. let f = shared.0 t in (f.0, f.2.0, f.1, f.2.1, f.2.2)), (λ f. shared.1 (f.0, f.2, (f.1, f.3, f.4)))), (
-            ((λ t. let f = uncertified.0 t in (id, f.0, refl, f.1, f.2)),
-              (λ f. let same : id ≡ f.0 = let named = f.2 in cc in uncertified.1 (f.1, subst (λ (x : List ℕ). Lists world x f.1) (sym same) f.3, f.4))),
-            (round, (round, tt))))))
+        tt,
+        (
+          tt,
+          (
+            round,
+            (
+              ((λ t. let f = shared.0 t in (f.0, f.2.0, f.1, f.2.1, f.2.2)), (λ f. shared.1 (f.0, f.2, (f.1, f.3, f.4)))),
+              (
+                (
+                  (λ t. let f = uncertified.0 t in (id, f.0, refl, f.1, f.2)),
+                  (λ f. let same : id ≡ f.0 = let named = f.2 in cc in uncertified.1 (f.1, subst (λ (x : List ℕ). Lists world x f.1) (sym same) f.3, f.4)),
+                ),
+                (round, (round, tt)),
+              ),
+            ),
+          ),
+        ),
       )

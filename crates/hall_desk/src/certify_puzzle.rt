@@ -12,13 +12,15 @@ ghost use Rattle.hall_desk.specs.Plans.{IsMadePlan};
 ghost use Rattle.hall_desk.specs.Handed.{certify_action};
 ghost use Rattle.hall_desk.specs.Shown.{state_name};
 
-use crate::search::certify;
 use crate::planned::Plan;
 use crate::put_puzzle::state_name;
 use crate::reply::Reply;
+use crate::search::certify;
 use crate::store::{Change, Store, StoreFault};
 use hall_grid::{Filling, Puzzle, write_answer};
-use hall_policy::{Action, AnswerText, Budget, Decision, Facts, Moment, PuzzleKey, PuzzleState, decide};
+use hall_policy::{
+    Action, AnswerText, Budget, Decision, Facts, Moment, PuzzleKey, PuzzleState, decide,
+};
 use hall_solve::Outcome;
 use std::alloc::Global;
 

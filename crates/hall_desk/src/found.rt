@@ -5,28 +5,14 @@ ghost use Rattle.hall_policy.specs.Rules.{puzzles_put, StandsReleased};
 ghost use Rattle.hall_policy.specs.Implies.{Implies};
 ghost use Rattle.hall_policy.specs.Decided.{IsDecided};
 ghost use Rattle.hall_desk.specs.Store.{Kept, Told};
-ghost use Rattle.hall_desk.specs.Found.{IsCaller, AreAnswerFacts, HasAuthor, IsReleasedRound, ToldByRound};
+ghost use Rattle.hall_desk.specs.Found.{AreAnswerFacts, HasAuthor, IsReleasedRound, ToldByRound};
 
 use crate::store::{Store, StoreFault};
 use hall_policy::{
-    Action, AnswerRow, Decision, Facts, Key, Moment, Name, Person, PuzzleKey, PuzzleNumber, RoundId, Token, decide,
+    Action, AnswerRow, Decision, Facts, Moment, Name, Person, PuzzleKey, PuzzleNumber, RoundId,
+    Token, decide,
 };
 use std::alloc::{AllocError, Global};
-
-/// The person with the request's key.
-pub(crate) fn find_caller<S: Store>(
-    alloc: Global,
-    store: &mut S,
-    key: &Option<Key>,
-) -> Result<Option<Person>, StoreFault>
-    ensures kept { Kept S.is_honest S.serves S.world store.old store.new }
-    ensures told { Told S.is_honest S.serves store.old store.new result (IsCaller (S.world store.new) key.now) }
-{
-    match key {
-        Some(key) => store.person_by_key(alloc, key),
-        None => Ok(None),
-    }
-}
 
 /// What is decided of a request whose rules read its round alone, beside its caller.
 pub(crate) fn settle_by_round<S: Store>(
@@ -111,7 +97,11 @@ fn is_under(row: &AnswerRow, number: PuzzleNumber, token: &Token) -> bool
 }
 
 /// Whether a person of the name with the role author is there.
-pub(crate) fn find_author<S: Store>(alloc: Global, store: &mut S, name: &Name) -> Result<bool, StoreFault>
+pub(crate) fn find_author<S: Store>(
+    alloc: Global,
+    store: &mut S,
+    name: &Name,
+) -> Result<bool, StoreFault>
     ensures kept { Kept S.is_honest S.serves S.world store.old store.new }
     ensures told { Told S.is_honest S.serves store.old store.new result (λ found. IsTrue found ↔ HasAuthor (S.world store.new) name.now) }
 {
@@ -122,7 +112,11 @@ pub(crate) fn find_author<S: Store>(alloc: Global, store: &mut S, name: &Name) -
 }
 
 /// How many puzzles of the author are kept.
-pub(crate) fn count_puzzles<S: Store>(alloc: Global, store: &mut S, author: &Name) -> Result<u64, StoreFault>
+pub(crate) fn count_puzzles<S: Store>(
+    alloc: Global,
+    store: &mut S,
+    author: &Name,
+) -> Result<u64, StoreFault>
     ensures kept { Kept S.is_honest S.serves S.world store.old store.new }
     ensures told { Told S.is_honest S.serves store.old store.new result (λ count. count ≡ puzzles_put (S.world store.new) author.now) }
 {
@@ -131,7 +125,11 @@ pub(crate) fn count_puzzles<S: Store>(alloc: Global, store: &mut S, author: &Nam
 }
 
 /// Whether the puzzle stands in a released round.
-pub(crate) fn find_release<S: Store>(alloc: Global, store: &mut S, key: &PuzzleKey) -> Result<bool, StoreFault>
+pub(crate) fn find_release<S: Store>(
+    alloc: Global,
+    store: &mut S,
+    key: &PuzzleKey,
+) -> Result<bool, StoreFault>
     ensures kept { Kept S.is_honest S.serves S.world store.old store.new }
     ensures told { Told S.is_honest S.serves store.old store.new result (λ found. IsTrue found ↔ ((id : List ℕ) × StandsReleased (S.world store.new) key.now id)) }
 {

@@ -25,11 +25,11 @@ mod submit;
 mod verdict;
 mod writes;
 
-pub use search::certify;
 pub use desk::Desk;
 pub use law::{law_accepted_answers, law_sanity, law_tokens};
 pub use planned::Plan;
 pub use reply::{AnswerLine, Reply, ShownPuzzle, ShownRound, StateName};
 pub use rows::Rows;
+pub use search::certify;
 pub use store::StoreFault;
 pub use verdict::judge;

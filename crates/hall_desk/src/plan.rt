@@ -24,7 +24,7 @@ use crate::submit::{self, Handed, received, submit};
 use hall_policy::{Action, Decision, Facts, Moment, Request, Rule, decide_up_to};
 use std::alloc::Global;
 
-/// What the request will be answered, and what it will change. Reads only, and nothing but what the rules ask up to the one that decides.
+/// What the request will be answered, and what it will change. Reads only, and for a denial nothing that a later rule asks.
 pub(crate) fn make_plan<S: Store>(
     alloc: Global,
     store: &mut S,

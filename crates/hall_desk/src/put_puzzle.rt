@@ -17,7 +17,8 @@ use crate::reply::{Reply, StateName};
 use crate::store::{Change, Store, StoreFault};
 use hall_grid::{Puzzle, write_puzzle};
 use hall_policy::{
-    Action, Decision, Facts, Moment, PuzzleKey, PuzzleRow, PuzzleState, PuzzleText, Rule, decide, decide_up_to,
+    Action, Decision, Facts, Moment, PuzzleKey, PuzzleRow, PuzzleState, PuzzleText, Rule, decide,
+    decide_up_to,
 };
 use std::alloc::Global;
 

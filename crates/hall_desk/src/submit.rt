@@ -18,8 +18,8 @@ use crate::store::{Change, Store, StoreFault};
 use crate::verdict::judge;
 use hall_grid::Broken;
 use hall_policy::{
-    Action, AnswerKey, AnswerNumber, AnswerRow, AnswerText, Decision, Entry, Facts, Mode, Moment, Person,
-    PuzzleNumber, PuzzleRow, Round, RoundId, RoundRow, Rule, Token, decide, decide_up_to,
+    Action, AnswerKey, AnswerNumber, AnswerRow, AnswerText, Decision, Entry, Facts, Mode, Moment,
+    Person, PuzzleNumber, PuzzleRow, Round, RoundId, RoundRow, Rule, Token, decide, decide_up_to,
 };
 use std::alloc::{AllocError, Global};
 
@@ -51,7 +51,14 @@ pub(crate) fn settle<S: Store>(
     if let Some(decision) = decide_up_to(facts, action, t, Rule::OwnPuzzle) {
         return Ok(decision);
     }
-    let (answer, count) = find_answer(alloc, store, &facts.caller, handed.round, handed.number, handed.token)?;
+    let (answer, count) = find_answer(
+        alloc,
+        store,
+        &facts.caller,
+        handed.round,
+        handed.number,
+        handed.token,
+    )?;
     facts.answer = answer;
     facts.count = count;
     Ok(decide(facts, action, t))

@@ -1,5 +1,5 @@
 //! Which rule decides a request.
-ghost use Rattle.std.specs.Prelude.{◌≡◌, ◌↔◌, ◌<◌, ℕ, IsTrue, IsSome, IfSome, IfNone, option_copied, false};
+ghost use Rattle.std.specs.Prelude.{◌≤◌, ◌≡◌, ◌↔◌, ◌<◌, ℕ, IsTrue, IsSome, IfSome, IfNone, option_copied, false};
 ghost use Rattle.hall_policy.specs.World.{entry_at};
 ghost use Rattle.hall_policy.specs.Actions.{number_of};
 ghost use Rattle.hall_policy.specs.Rules.{LacksRole, NamesOtherAuthor, is_director};
@@ -318,6 +318,7 @@ pub fn decide_up_to(facts: &Facts, action: &Action, t: Moment, most: Rule) -> Op
     ensures some { IfSome result (λ decision. IsDecidedUpTo (number_of most) facts.now action.now t decision) }
     ensures implies { IfSome result (λ decision. Implies decision facts.now action.now) }
     ensures none { IfNone result (PassesUpTo (number_of most) facts.now action.now t) }
+    ensures within { IfSome result (λ decision. deciding action.now decision ≤ number_of most) }
     ensures whole { IfNone result (number_of most < 20) }
 {
     let decision = decide(facts, action, t);
