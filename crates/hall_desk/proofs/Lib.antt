@@ -1,6 +1,3 @@
-pub mod MapWorlds
-pub mod AnswerRange
-pub mod RoundWorlds
 pub mod Knowing
 pub mod Answering
 pub mod Releases
@@ -8,15 +5,11 @@ pub mod Telling
 pub mod Runs
 pub mod Showing
 pub mod Planning
-pub mod Sorting
-pub mod UsingRounds
 pub mod Inserts
 pub mod Truths
 pub mod Saneness
 pub mod CertifySane
 pub mod ReleaseSane
-pub mod OpeningSane
-pub mod Drafts
 pub mod StepsSane
 pub mod Promises
 pub mod Tokens

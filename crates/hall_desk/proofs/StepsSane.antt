@@ -20,13 +20,13 @@ use Rattle.hall_policy.specs.declared.request.Request.{Request}
 use Rattle.hall_grid.specs.Board.{Board}
 use Rattle.hall_policy.proofs.Maps.{get_of_value}
 use Rattle.hall_policy.proofs.Orders.{text_total}
-use Rattle.hall_desk.specs.Caller.{caller_of}
+use Rattle.hall_store.specs.Caller.{caller_of}
 use Rattle.hall_desk.specs.Found.{IsReleasedRound}
 use Rattle.hall_desk.specs.Step.{Step, Allowed, new_row, answer_row}
 use Rattle.hall_desk.specs.Run.{Run}
 use Rattle.hall_desk.specs.Plans.{IsPlanFor, Steps, Runs}
 use Rattle.hall_desk.specs.declared.planned.Plan.{Plan}
-use Rattle.hall_desk.specs.Change.{changed}
+use Rattle.hall_store.specs.Change.{changed}
 use Rattle.hall_desk.specs.Sane.{Sane}
 use Rattle.hall_desk.specs.declared.reply.Reply.{Reply}
 use Rattle.hall_desk.proofs.Answering.{find-Contains}

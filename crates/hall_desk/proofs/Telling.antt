@@ -4,12 +4,13 @@ use Rattle.std.specs.FinMap.{get}
 use Rattle.hall_grid.specs.Board.{Board}
 use Rattle.hall_policy.specs.World.{World}
 use Rattle.hall_policy.specs.Facts.{TrueUpTo, IsRoundFound}
-use Rattle.hall_policy.specs.Rules.{Lists, StandsReleased, puzzles_put}
+use Rattle.hall_policy.specs.Rules.{Lists, StandsReleased, puzzles_put, answers_given}
+use Rattle.hall_policy.specs.declared.record.Person.{Person}
 use Rattle.hall_policy.specs.declared.record.PuzzleKey.{PuzzleKey}
 use Rattle.hall_policy.specs.declared.request.Action.{Action}
 use Rattle.hall_policy.specs.declared.request.Action.TheVariants.{Import, PutPuzzle, ReadPuzzle, ListPuzzles, Certify, PutRound, Release, ListRounds, ReadRound, Submit, Answers, Solutions, Protest, Protests, Rule, Publish, Table}
 use Rattle.hall_policy.specs.declared.facts.Facts.{Facts}
-use Rattle.hall_desk.specs.Found.{AreAnswerFacts, HasAuthor, HasFaultyEntry, ToldByRound}
+use Rattle.hall_desk.specs.Found.{HasAuthor, HasFaultyEntry, ToldByRound}
 use Rattle.hall_desk.specs.declared.entry_fault.EntryFault.TheVariants.{Shared, Uncertified}
 
 -- the rules on the caller read nothing else
@@ -60,9 +61,14 @@ module _ (world : World) (facts : Facts) (action : Action) where
     pub place_told : TrueUpTo 5 facts world action
     place_told = subst (λ (a : Action). TrueUpTo 5 facts world a) (sym is) (tt, (tt, (round, (round, (tt, (tt, (tt, (tt, (tt, tt)))))))))
 
-    pub submit_told : AreAnswerFacts world facts.caller id number token facts.answer facts.count → TrueUpTo 20 facts world action
-    submit_told given = subst (λ (a : Action). TrueUpTo 20 facts world a) (sym is)
-        (tt, (tt, (round, (round, ((given.answer, tt), (round, (round, (round, (given.count, tt)))))))))
+    module _ (standing : (person : Person) → facts.caller ≡ Some person → facts.answer ≡ get world.answers (record { entrant = person.name; round = id; number = number; token = token })) where
+      pub token_told : TrueUpTo 15 facts world action
+      token_told = subst (λ (a : Action). TrueUpTo 15 facts world a) (sym is)
+          (tt, (tt, (round, (round, ((standing, tt), (round, (round, (round, (tt, tt)))))))))
+
+      pub submit_told : ((person : Person) → facts.caller ≡ Some person → facts.count ≡ answers_given world person.name id number) → TrueUpTo 20 facts world action
+      submit_told given = subst (λ (a : Action). TrueUpTo 20 facts world a) (sym is)
+          (tt, (tt, (round, (round, ((standing, tt), (round, (round, (round, (given, tt)))))))))
 
   -- a round that is released: itself, then its entries' faults
   module _ (id : List ℕ) (is : action ≡ Release id) (round : IsRoundFound world (Some id) facts.round) where

@@ -8,22 +8,16 @@ use Rattle.hall_policy.specs.declared.record.Person.{Person}
 use Rattle.hall_policy.specs.declared.record.PuzzleKey.{PuzzleKey}
 use Rattle.hall_policy.specs.declared.record.Entry.{Entry}
 use Rattle.hall_policy.specs.declared.record.Round.{Round}
-use Rattle.hall_policy.specs.declared.record.AnswerRow.{AnswerRow}
 use Rattle.hall_policy.specs.declared.request.Action.{Action}
 use Rattle.hall_policy.specs.declared.facts.Facts.{Facts}
 use Rattle.hall_desk.specs.declared.entry_fault.EntryFault.{EntryFault}
 use Rattle.hall_desk.specs.declared.entry_fault.EntryFault.TheVariants.{Shared, Uncertified}
-use Rattle.hall_desk.specs.Caller.{caller_of}
+use Rattle.hall_store.specs.Caller.{caller_of}
 
 -- the caller found is the person with the key, who is there
 pub record IsCaller (world : World) (key : Option (List ℕ)) (person : Option Person) : Type 0 where
   pub found : person ≡ caller_of world key
   pub there : IfSome person (λ p. get world.people p.name ≡ Some p)
-
--- the answer under the caller's token, and how many answers to the puzzle the caller gave
-pub record AreAnswerFacts (world : World) (caller : Option Person) (id : List ℕ) (number : ℕ) (token : List ℕ) (row : Option AnswerRow) (given : ℕ) : Type 0 where
-  pub answer : (person : Person) → caller ≡ Some person → row ≡ get world.answers (record { entrant = person.name; round = id; number = number; token = token })
-  pub count : (person : Person) → caller ≡ Some person → given ≡ answers_given world person.name id number
 
 -- a person of the name with the role author is there
 abbrev pub HasAuthor : World → List ℕ → Type 0

@@ -1,9 +1,4 @@
-pub mod Store
-pub mod Caller
-pub mod Change
 pub mod Found
-pub mod Keyed
-pub mod Maps
 pub mod Shown
 pub mod Step
 pub mod Run
@@ -12,4 +7,3 @@ pub mod Promises
 pub mod Plan
 pub mod Handed
 pub mod Plans
-pub mod Desk

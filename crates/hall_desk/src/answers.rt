@@ -4,14 +4,14 @@ ghost use Rattle.hall_policy.specs.World.{World, same_text};
 ghost use Rattle.hall_policy.specs.Facts.{TrueUpTo};
 ghost use Rattle.hall_policy.specs.Implies.{IsAllowable};
 ghost use Rattle.hall_policy.specs.declared.request.Action.TheVariants.{Answers};
-ghost use Rattle.hall_desk.specs.Store.{Kept, Served, Told, IsListing};
+ghost use Rattle.hall_store.specs.Store.{Asks, Kept, Served, Told, IsListing};
 ghost use Rattle.hall_desk.specs.Shown.{is_sealed, sees_all, shows_verdict, answer_line};
 ghost use Rattle.hall_desk.specs.Plans.{IsAllowedPlan, AreRowsFor};
 
 use crate::planned::Plan;
 use crate::reply::{AnswerLine, Reply};
 use crate::rows::Rows;
-use crate::store::{Change, Store, StoreFault};
+use hall_store::{Change, Store, StoreFault};
 use crate::writes::push;
 use hall_policy::{AnswerRow, Facts, Mode, Moment, Name, Person, Round, RoundId};
 use std::alloc::{AllocError, Global};
@@ -25,9 +25,9 @@ pub(crate) fn list_answers<S: Store>(
     round: &RoundId,
 ) -> Result<Plan, StoreFault>
     requires allowed { IsAllowable facts.now (Answers round.now) }
-    requires told { S.is_honest store.old → S.serves store.old → TrueUpTo 20 facts.now (S.world store.old) (Answers round.now) }
-    ensures kept { Kept S.is_honest S.serves S.world store.old store.new }
-    ensures told { Told S.is_honest S.serves store.old store.new result (IsAllowedPlan (S.world store.new) facts.now.caller (Answers round.now) t) }
+    requires told { Asks (S.content store.old) (λ world. TrueUpTo 20 facts.now world (Answers round.now)) }
+    ensures kept { Kept (S.content store.old) (S.content store.new) }
+    ensures told { Told (S.content store.old) (S.content store.new) result (λ world found. IsAllowedPlan world facts.now.caller (Answers round.now) t found) }
 {
     let Some(person) = &facts.caller else {
         unreachable!()
@@ -96,8 +96,8 @@ fn find_answers<S: Store>(
     name: &Name,
     all: bool,
 ) -> Result<Vec<AnswerRow>, StoreFault>
-    ensures kept { Kept S.is_honest S.serves S.world store.old store.new }
-    ensures served { Served S.is_honest S.serves store.new result (λ rows. IsListing (S.world store.new) (λ row. same_text row.key.round round.now && (all || same_text row.key.entrant name.now)) rows.items) }
+    ensures kept { Kept (S.content store.old) (S.content store.new) }
+    ensures served { Served (S.content store.new) result (λ world rows. IsListing world (λ row. same_text row.key.round round.now && (all || same_text row.key.entrant name.now)) rows.items) }
 {
     if all {
         store.answers_in(alloc, round)

@@ -4,7 +4,7 @@ ghost use Rattle.hall_policy.specs.World.{World};
 ghost use Rattle.hall_policy.specs.Facts.{TrueUpTo};
 ghost use Rattle.hall_policy.specs.Implies.{Implies, IsAllowable};
 ghost use Rattle.hall_policy.specs.Decided.{IsDecided};
-ghost use Rattle.hall_desk.specs.Store.{Kept, Told};
+ghost use Rattle.hall_store.specs.Store.{Kept, Told};
 ghost use Rattle.hall_policy.specs.declared.request.Action.TheVariants.{Certify};
 ghost use Rattle.hall_grid.specs.Answer.{AnswerText as Says, IsFilling};
 ghost use Rattle.hall_desk.specs.Step.{is_open, IsFound};
@@ -16,7 +16,7 @@ use crate::search::certify;
 use crate::planned::Plan;
 use crate::put_puzzle::state_name;
 use crate::reply::Reply;
-use crate::store::{Change, Store, StoreFault};
+use hall_store::{Change, Store, StoreFault};
 use hall_grid::{Filling, Puzzle, write_answer};
 use hall_policy::{Action, AnswerText, Budget, Decision, Facts, Moment, PuzzleKey, PuzzleState, decide};
 use hall_solve::Outcome;
@@ -39,10 +39,10 @@ pub(crate) fn settle<S: Store>(
     facts: &mut Facts,
 ) -> Result<Decision, StoreFault>
     requires { action.now ≡ certify_action certified.now }
-    ensures kept { Kept S.is_honest S.serves S.world store.old store.new }
+    ensures kept { Kept (S.content store.old) (S.content store.new) }
     ensures caller { facts.new.caller ≡ facts.old.caller }
     ensures implied { IfOk result (λ decision. Implies decision facts.new action.now) }
-    ensures told { Told S.is_honest S.serves store.old store.new result (λ decision. IsDecided (S.world store.new) facts.new action.now t decision) }
+    ensures told { Told (S.content store.old) (S.content store.new) result (λ world decision. IsDecided world facts.new action.now t decision) }
 {
     facts.puzzle = store.puzzle(alloc, certified.key)?;
     Ok(decide(facts, action, t))

@@ -3,14 +3,9 @@
 
 mod answers;
 mod certify_puzzle;
-mod desk;
 mod entry_fault;
 mod found;
 mod law;
-mod map_calls;
-mod map_reads;
-mod map_store;
-mod opening;
 mod plan;
 mod planned;
 mod put_puzzle;
@@ -20,16 +15,13 @@ mod reply;
 mod rows;
 mod search;
 mod step;
-mod store;
 mod submit;
 mod verdict;
 mod writes;
 
 pub use search::certify;
-pub use desk::Desk;
 pub use law::{law_accepted_answers, law_sanity, law_tokens};
 pub use planned::Plan;
 pub use reply::{AnswerLine, Reply, ShownPuzzle, ShownRound, StateName};
 pub use rows::Rows;
-pub use store::StoreFault;
 pub use verdict::judge;

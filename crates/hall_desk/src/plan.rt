@@ -5,11 +5,11 @@ ghost use Rattle.hall_policy.specs.World.{World};
 ghost use Rattle.hall_policy.specs.Facts.{TrueUpTo, deciding};
 ghost use Rattle.hall_policy.specs.Implies.{Implies, IsAllowable, IsRepetition};
 ghost use Rattle.hall_policy.specs.Decided.{IsDecided};
-ghost use Rattle.hall_desk.specs.Store.{Kept, Told};
+ghost use Rattle.hall_store.specs.Store.{Asks, Kept, Told};
 ghost use Rattle.hall_desk.specs.Found.{IsCaller};
 ghost use Rattle.hall_desk.specs.Step.{FirstReply};
 ghost use Rattle.hall_desk.specs.Plans.{IsPlanFor, IsMadePlan, Planned};
-ghost use Rattle.hall_desk.specs.declared.store.Change.{Change};
+ghost use Rattle.hall_store.specs.declared.change.Change.{Change};
 
 use crate::answers::list_answers;
 use crate::certify_puzzle::{self, Certifying, certify_puzzle};
@@ -19,7 +19,7 @@ use crate::put_puzzle::{self, Putting, put_puzzle};
 use crate::read_round::read_round;
 use crate::release::{self, release_round};
 use crate::reply::Reply;
-use crate::store::{Store, StoreFault};
+use hall_store::{Store, StoreFault};
 use crate::submit::{self, Handed, received, submit};
 use hall_policy::{Action, Decision, Facts, Moment, Request, Rule, decide_up_to};
 use std::alloc::Global;
@@ -31,8 +31,8 @@ pub(crate) fn make_plan<S: Store>(
     t: Moment,
     request: &Request,
 ) -> Result<Plan, StoreFault>
-    ensures kept { Kept S.is_honest S.serves S.world store.old store.new }
-    ensures planned { Planned S.is_honest S.serves S.world store.new t request.now result }
+    ensures kept { Kept (S.content store.old) (S.content store.new) }
+    ensures planned { Planned (S.content store.new) t request.now result }
 {
     let mut facts = no_facts();
     let plan = plan_with(alloc, store, t, request, &mut facts);
@@ -70,8 +70,8 @@ fn plan_with<S: Store>(
     facts: &mut Facts,
 ) -> Result<Plan, StoreFault>
     requires { facts.old.caller ≡ None }
-    ensures kept { Kept S.is_honest S.serves S.world store.old store.new }
-    ensures planned { Planned S.is_honest S.serves S.world store.new t request.now result }
+    ensures kept { Kept (S.content store.old) (S.content store.new) }
+    ensures planned { Planned (S.content store.new) t request.now result }
 {
     match &request.key {
         Some(key) => {
@@ -104,10 +104,10 @@ fn settle<S: Store>(
     action: &Action,
     facts: &mut Facts,
 ) -> Result<Decision, StoreFault>
-    ensures kept { Kept S.is_honest S.serves S.world store.old store.new }
+    ensures kept { Kept (S.content store.old) (S.content store.new) }
     ensures caller { facts.new.caller ≡ facts.old.caller }
     ensures implied { IfOk result (λ decision. Implies decision facts.new action.now) }
-    ensures told { Told S.is_honest S.serves store.old store.new result (λ decision. IsDecided (S.world store.new) facts.new action.now t decision) }
+    ensures told { Told (S.content store.old) (S.content store.new) result (λ world decision. IsDecided world facts.new action.now t decision) }
 {
     if let Some(decision) = decide_up_to(facts, action, t, Rule::OtherAuthor) {
         return Ok(decision);
@@ -123,10 +123,10 @@ fn find_rest<S: Store>(
     action: &Action,
     facts: &mut Facts,
 ) -> Result<Decision, StoreFault>
-    ensures kept { Kept S.is_honest S.serves S.world store.old store.new }
+    ensures kept { Kept (S.content store.old) (S.content store.new) }
     ensures caller { facts.new.caller ≡ facts.old.caller }
     ensures implied { IfOk result (λ decision. Implies decision facts.new action.now) }
-    ensures told { Told S.is_honest S.serves store.old store.new result (λ decision. IsDecided (S.world store.new) facts.new action.now t decision) }
+    ensures told { Told (S.content store.old) (S.content store.new) result (λ world decision. IsDecided world facts.new action.now t decision) }
 {
     match action {
         Action::PutPuzzle { key, puzzle } => {
@@ -180,11 +180,11 @@ fn answer<S: Store>(
     request: &Request,
     decision: Decision,
 ) -> Result<Plan, StoreFault>
-    requires caller { S.is_honest store.old → S.serves store.old → IsCaller (S.world store.old) request.now.key facts.now.caller }
+    requires caller { Asks (S.content store.old) (λ world. IsCaller world request.now.key facts.now.caller) }
     requires implied { Implies decision facts.now request.now.action }
-    requires decided { S.is_honest store.old → S.serves store.old → IsDecided (S.world store.old) facts.now request.now.action t decision }
-    ensures kept { Kept S.is_honest S.serves S.world store.old store.new }
-    ensures told { Told S.is_honest S.serves store.old store.new result (IsPlanFor (S.world store.new) t request.now) }
+    requires decided { Asks (S.content store.old) (λ world. IsDecided world facts.now request.now.action t decision) }
+    ensures kept { Kept (S.content store.old) (S.content store.new) }
+    ensures told { Told (S.content store.old) (S.content store.new) result (λ world found. IsPlanFor world t request.now found) }
 {
     match decision {
         Decision::Deny(rule) => Ok(Plan::of(Reply::Denied(rule))),
@@ -216,10 +216,10 @@ fn allow<S: Store>(
     action: &Action,
 ) -> Result<Plan, StoreFault>
     requires allowed { IsAllowable facts.now action.now }
-    requires told { S.is_honest store.old → S.serves store.old → TrueUpTo 20 facts.now (S.world store.old) action.now }
-    requires there { S.is_honest store.old → S.serves store.old → IfSome facts.now.caller (λ person. get (S.world store.old).people person.name ≡ Some person) }
-    ensures kept { Kept S.is_honest S.serves S.world store.old store.new }
-    ensures told { Told S.is_honest S.serves store.old store.new result (IsMadePlan (S.world store.new) facts.now.caller action.now t) }
+    requires told { Asks (S.content store.old) (λ world. TrueUpTo 20 facts.now world action.now) }
+    requires there { Asks (S.content store.old) (λ world. IfSome facts.now.caller (λ person. get world.people person.name ≡ Some person)) }
+    ensures kept { Kept (S.content store.old) (S.content store.new) }
+    ensures told { Told (S.content store.old) (S.content store.new) result (λ world found. IsMadePlan world facts.now.caller action.now t found) }
 {
     match action {
         Action::PutPuzzle { key, puzzle } => put_puzzle(alloc, facts, key, puzzle),

@@ -5,16 +5,16 @@ ghost use Rattle.hall_policy.specs.World.{World};
 ghost use Rattle.hall_policy.specs.Facts.{TrueUpTo};
 ghost use Rattle.hall_policy.specs.Implies.{Implies, IsAllowable};
 ghost use Rattle.hall_policy.specs.Decided.{IsDecided};
-ghost use Rattle.hall_desk.specs.Store.{Kept, Told};
+ghost use Rattle.hall_store.specs.Store.{Kept, Told};
 ghost use Rattle.hall_policy.specs.declared.request.Action.TheVariants.{PutPuzzle};
 ghost use Rattle.hall_desk.specs.Handed.{put_action};
 ghost use Rattle.hall_desk.specs.Shown.{state_name};
 ghost use Rattle.hall_desk.specs.Plans.{IsAllowedPlan, StandsAs};
 
-use crate::found::{count_puzzles, find_author, find_release};
+use crate::found::{find_author, find_release};
 use crate::planned::Plan;
 use crate::reply::{Reply, StateName};
-use crate::store::{Change, Store, StoreFault};
+use hall_store::{Change, Store, StoreFault};
 use hall_grid::{Puzzle, write_puzzle};
 use hall_policy::{
     Action, Decision, Facts, Moment, PuzzleKey, PuzzleRow, PuzzleState, PuzzleText, Rule, decide, decide_up_to,
@@ -38,10 +38,10 @@ pub(crate) fn settle<S: Store>(
     facts: &mut Facts,
 ) -> Result<Decision, StoreFault>
     requires { action.now ≡ put_action put.now }
-    ensures kept { Kept S.is_honest S.serves S.world store.old store.new }
+    ensures kept { Kept (S.content store.old) (S.content store.new) }
     ensures caller { facts.new.caller ≡ facts.old.caller }
     ensures implied { IfOk result (λ decision. Implies decision facts.new action.now) }
-    ensures told { Told S.is_honest S.serves store.old store.new result (λ decision. IsDecided (S.world store.new) facts.new action.now t decision) }
+    ensures told { Told (S.content store.old) (S.content store.new) result (λ world decision. IsDecided world facts.new action.now t decision) }
 {
     facts.author_is_there = find_author(alloc, store, &put.key.author)?;
     if let Some(decision) = decide_up_to(facts, action, t, Rule::Missing) {
@@ -52,7 +52,7 @@ pub(crate) fn settle<S: Store>(
         return Ok(decision);
     }
     facts.puzzle = store.puzzle(alloc, put.key)?;
-    facts.count = count_puzzles(alloc, store, &put.key.author)?;
+    facts.count = store.puzzles_put(alloc, &put.key.author)?;
     Ok(decide(facts, action, t))
 }
 

@@ -3,7 +3,7 @@ ghost use Rattle.std.specs.Prelude.{◌≡◌, ◌+◌, ℕ};
 ghost use Rattle.hall_policy.specs.Facts.{TrueUpTo};
 ghost use Rattle.hall_policy.specs.Implies.{IsAllowable};
 ghost use Rattle.hall_policy.specs.declared.request.Action.TheVariants.{ReadRound};
-ghost use Rattle.hall_desk.specs.Store.{Kept, Told};
+ghost use Rattle.hall_store.specs.Store.{Asks, Kept, Told};
 ghost use Rattle.hall_desk.specs.Shown.{ShowsRound, ShowsPuzzles, ShowsPuzzle};
 ghost use Rattle.hall_desk.specs.Plans.{IsAllowedPlan};
 
@@ -11,7 +11,7 @@ use crate::planned::Plan;
 use crate::put_puzzle::text_of;
 use crate::reply::{Reply, ShownPuzzle, ShownRound};
 use crate::rows::Rows;
-use crate::store::{Change, Store, StoreFault};
+use hall_store::{Change, Store, StoreFault};
 use crate::writes::push;
 use hall_policy::{Entry, Facts, PuzzleNumber, RoundId, RoundRow};
 use std::alloc::Global;
@@ -24,9 +24,9 @@ pub(crate) fn read_round<S: Store>(
     _round: &RoundId,
 ) -> Result<Plan, StoreFault>
     requires allowed { IsAllowable facts.now (ReadRound _round.now) }
-    requires told { S.is_honest store.old → S.serves store.old → TrueUpTo 20 facts.now (S.world store.old) (ReadRound _round.now) }
-    ensures kept { Kept S.is_honest S.serves S.world store.old store.new }
-    ensures told { Told S.is_honest S.serves store.old store.new result (λ plan. (t : ℕ) → IsAllowedPlan (S.world store.new) facts.now.caller (ReadRound _round.now) t plan) }
+    requires told { Asks (S.content store.old) (λ world. TrueUpTo 20 facts.now world (ReadRound _round.now)) }
+    ensures kept { Kept (S.content store.old) (S.content store.new) }
+    ensures told { Told (S.content store.old) (S.content store.new) result (λ world plan. (t : ℕ) → IsAllowedPlan world facts.now.caller (ReadRound _round.now) t plan) }
 {
     let Some(row) = &facts.round else {
         unreachable!()
@@ -44,8 +44,8 @@ fn show_round<S: Store>(
     store: &mut S,
     row: &RoundRow,
 ) -> Result<ShownRound, StoreFault>
-    ensures kept { Kept S.is_honest S.serves S.world store.old store.new }
-    ensures told { Told S.is_honest S.serves store.old store.new result (ShowsRound (S.world store.new) row.now) }
+    ensures kept { Kept (S.content store.old) (S.content store.new) }
+    ensures told { Told (S.content store.old) (S.content store.new) result (λ world found. ShowsRound world row.now found) }
 {
     let id = row.round.id.clone()?;
     let title = row.round.title.clone()?;
@@ -69,8 +69,8 @@ fn show_puzzles<S: Store>(
     store: &mut S,
     entries: &[Entry],
 ) -> Result<Rows<ShownPuzzle>, StoreFault>
-    ensures kept { Kept S.is_honest S.serves S.world store.old store.new }
-    ensures told { Told S.is_honest S.serves store.old store.new result (ShowsPuzzles (S.world store.new) 1 entries.now) }
+    ensures kept { Kept (S.content store.old) (S.content store.new) }
+    ensures told { Told (S.content store.old) (S.content store.new) result (λ world found. ShowsPuzzles world 1 entries.now found) }
 {
     let mut shown = Vec::new(alloc);
     for (place, entry) in entries.iter().enumerate() {
@@ -87,8 +87,8 @@ fn show_puzzle<S: Store>(
     place: usize,
     entry: &Entry,
 ) -> Result<ShownPuzzle, StoreFault>
-    ensures kept { Kept S.is_honest S.serves S.world store.old store.new }
-    ensures told { Told S.is_honest S.serves store.old store.new result (ShowsPuzzle (S.world store.new) (place + 1) entry.now) }
+    ensures kept { Kept (S.content store.old) (S.content store.new) }
+    ensures told { Told (S.content store.old) (S.content store.new) result (λ world found. ShowsPuzzle world (place + 1) entry.now found) }
 {
     if place >= 99 {
         return Err(StoreFault::Failed);

@@ -4,14 +4,14 @@ ghost use Rattle.hall_policy.specs.World.{World};
 ghost use Rattle.hall_policy.specs.Facts.{TrueUpTo};
 ghost use Rattle.hall_policy.specs.Implies.{Implies, IsAllowable};
 ghost use Rattle.hall_policy.specs.Decided.{IsDecided};
-ghost use Rattle.hall_desk.specs.Store.{Kept, Told};
+ghost use Rattle.hall_store.specs.Store.{Kept, Told};
 ghost use Rattle.hall_policy.specs.declared.request.Action.TheVariants.{Release};
 ghost use Rattle.hall_desk.specs.Plans.{IsAllowedPlan};
 
 use crate::entry_fault::{EntryFault, find_fault};
 use crate::planned::Plan;
 use crate::reply::Reply;
-use crate::store::{Change, RoundFlag, Store, StoreFault};
+use hall_store::{Change, RoundFlag, Store, StoreFault};
 use hall_policy::{Action, Decision, Facts, Moment, RoundId, Rule, decide, decide_up_to};
 use std::alloc::Global;
 
@@ -25,10 +25,10 @@ pub(crate) fn settle<S: Store>(
     facts: &mut Facts,
 ) -> Result<Decision, StoreFault>
     requires { action.now ≡ Release round.now }
-    ensures kept { Kept S.is_honest S.serves S.world store.old store.new }
+    ensures kept { Kept (S.content store.old) (S.content store.new) }
     ensures caller { facts.new.caller ≡ facts.old.caller }
     ensures implied { IfOk result (λ decision. Implies decision facts.new action.now) }
-    ensures told { Told S.is_honest S.serves store.old store.new result (λ decision. IsDecided (S.world store.new) facts.new action.now t decision) }
+    ensures told { Told (S.content store.old) (S.content store.new) result (λ world decision. IsDecided world facts.new action.now t decision) }
 {
     facts.round = store.round(alloc, round)?;
     if let Some(decision) = decide_up_to(facts, action, t, Rule::Missing) {

@@ -4,7 +4,7 @@ use Rattle.hall_policy.specs.World.{IsRoundAt}
 use Rattle.hall_policy.specs.Facts.{IsRoundFound}
 use Rattle.hall_policy.specs.declared.record.Entry.{Entry}
 use Rattle.hall_policy.specs.declared.record.RoundRow.{RoundRow}
-use Rattle.hall_desk.specs.Store.{IsRoundKept}
+use Rattle.hall_store.specs.Store.{IsRoundKept}
 use Rattle.hall_desk.specs.Found.{HasFault, HasFaultyEntry}
 use Rattle.hall_desk.proofs.Knowing.{carried, told_turn}
 use Rattle.hall_desk.proofs.Releases.{faulty_listed, through}
@@ -12,13 +12,13 @@ use Rattle.hall_desk.proofs.entry_fault.find_fault.Goals as goal
 
 pub returns-in-Some-clause-told : goal.returns-in-Some-clause-told
 returns-in-Some-clause-told g c =
-    let old = c.args.store.now in
-    let new = c.any_faulty.new.store in
+    let old = g.S.Store.content c.args.store.now in
+    let new = g.S.Store.content c.any_faulty.new.store in
     let world = g.S.Store.world in
     let id = c.args.id.now in
     let row = c.in-Some.row in
     let fault = c.args.fault in
-    told_turn g.S.Store.is_honest g.S.Store.serves c.any_faulty.result
+    told_turn c.any_faulty.result
     (λ found. IsTrue found ↔ ((entry : Entry) × Contains c.as_slice.result.now entry × HasFault fault (world new) id entry))
     (λ found. IsTrue found ↔ HasFaultyEntry fault (world new) id) old new
     (λ found h s told.

@@ -10,16 +10,15 @@ use Rattle.hall_desk.proofs.plan.answer.Goals as goal
 
 pub returns-in-Allow-clause-told : goal.returns-in-Allow-clause-told
 returns-in-Allow-clause-told g c =
-    let world = g.S.Store.world in
     let facts = c.args.facts.now in
     let request = c.args.request.now in
-    let old = c.args.store.now in
-    let new = c.allow.new.store in
-    told_turn g.S.Store.is_honest g.S.Store.serves c.allow.result (IsMadePlan (world new) facts.caller request.action c.args.t) (IsPlanFor (world new) c.args.t request) old new
+    let old = g.S.Store.content c.args.store.now in
+    let new = g.S.Store.content c.allow.new.store in
+    told_turn c.allow.result (λ w plan. IsMadePlan w facts.caller request.action c.args.t plan) (λ w plan. IsPlanFor w c.args.t request plan) old new
     (λ plan h s made.
-    planned facts (world new) c.args.t request Allow plan.reply plan.change
+    planned facts new.world c.args.t request Allow plan.reply plan.change
     (carried (λ w. IsCaller w request.key facts.caller) old new c.allow.ensures.kept c.requires.caller h s)
-    (subst (λ (decision : Decision). IsDecided (world new) facts request.action c.args.t decision) c.in-Allow.is
+    (subst (λ (decision : Decision). IsDecided new.world facts request.action c.args.t decision) c.in-Allow.is
     (carried (λ w. IsDecided w facts request.action c.args.t c.args.decision) old new c.allow.ensures.kept c.requires.decided h s))
     made.found made.allowed made.can)
     c.allow.ensures.told

@@ -6,11 +6,11 @@ use Rattle.hall_policy.specs.declared.record.Person.{Person}
 use Rattle.hall_policy.specs.declared.record.PuzzleState.TheVariants as state
 use Rattle.hall_policy.specs.declared.rule.Decision.{Decision}
 use Rattle.hall_policy.specs.declared.rule.Decision.TheVariants.{Deny}
-use Rattle.hall_desk.specs.Caller.{caller_of}
+use Rattle.hall_store.specs.Caller.{caller_of}
 use Rattle.hall_desk.specs.Plans.{IsPlanFor}
 use Rattle.hall_desk.specs.declared.planned.Plan.{Plan}
 use Rattle.hall_desk.specs.declared.reply.Reply.TheVariants as reply
-use Rattle.hall_desk.specs.declared.store.Change.TheVariants as change
+use Rattle.hall_store.specs.declared.change.Change.TheVariants as change
 use Rattle.hall_desk.proofs.Planning.{planned}
 use Rattle.hall_desk.proofs.Telling.{caller_told}
 use Rattle.hall_desk.proofs.plan.plan_without_key.Goals as goal

@@ -1,8 +1,7 @@
 -- What one call of the store makes of the world, and what it asks of its caller.
-use Rattle.std.specs.Prelude.{◌≡◌, ◌+◌, ℕ, true, List, Option, Some, None}
+use Rattle.std.specs.Prelude.{◌≡◌, ◌≢◌, ℕ, true, List, Option, Some, None}
 use Rattle.std.specs.FinMap.{get, insert}
 use Rattle.hall_policy.specs.World.{World}
-use Rattle.hall_policy.specs.Rules.{answers_given}
 use Rattle.hall_policy.specs.declared.record.Person.{Person}
 use Rattle.hall_policy.specs.declared.record.Entry.{Entry}
 use Rattle.hall_policy.specs.declared.record.AnswerRow.{AnswerRow}
@@ -10,10 +9,10 @@ use Rattle.hall_policy.specs.declared.record.PuzzleKey.{PuzzleKey}
 use Rattle.hall_policy.specs.declared.record.PuzzleRow.{PuzzleRow}
 use Rattle.hall_policy.specs.declared.record.PuzzleState.{PuzzleState}
 use Rattle.hall_policy.specs.declared.record.Round.{Round}
-use Rattle.hall_desk.specs.declared.store.Change.{Change}
-use Rattle.hall_desk.specs.declared.store.Change.TheVariants.{Nothing, PutPuzzle, SetState, SetRoundFlag, AddAnswer}
-use Rattle.hall_desk.specs.declared.store.RoundFlag.{RoundFlag}
-use Rattle.hall_desk.specs.declared.store.RoundFlag.TheVariants.{Released, Published}
+use Rattle.hall_store.specs.declared.change.Change.{Change}
+use Rattle.hall_store.specs.declared.change.Change.TheVariants.{Nothing, PutPuzzle, SetState, SetRoundFlag, AddAnswer}
+use Rattle.hall_store.specs.declared.change.RoundFlag.{RoundFlag}
+use Rattle.hall_store.specs.declared.change.RoundFlag.TheVariants.{Released, Published}
 
 -- the puzzles, that of the key in this state
 abbrev pub with_state : World → PuzzleKey → PuzzleState → Option PuzzleRow → World
@@ -50,12 +49,13 @@ CanSetState world key = (row : PuzzleRow) × (get world.puzzles key ≡ Some row
 abbrev pub CanSetFlag : World → List ℕ → Type 0
 CanSetFlag world id = (round : Round) × (get world.rounds id ≡ Some round)
 
--- the key is new, what the row refers to is there, and its number is the next
+-- the key is new, what the row refers to is there, and no answer of the entrant to the puzzle in the round has its n
 pub record CanAddAnswer (world : World) (row : AnswerRow) : Type 0 where
   pub fresh : get world.answers row.key ≡ None
   pub entrant : (person : Person) × (get world.people row.key.entrant ≡ Some person)
   pub place : (entry : Entry) × (get world.places (record { round = row.key.round; number = row.key.number }) ≡ Some entry)
-  pub next : row.n ≡ answers_given world row.key.entrant row.key.round row.key.number + 1
+  pub next : (token : List ℕ) (other : AnswerRow) →
+      get world.answers (record { entrant = row.key.entrant; round = row.key.round; number = row.key.number; token = token }) ≡ Some other → other.n ≢ row.n
 
 -- the change may be made
 abbrev pub CanMake : Change → World → Type 0

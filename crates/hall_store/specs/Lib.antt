@@ -1,0 +1,3 @@
+pub mod Change
+pub mod Store
+pub mod Caller
