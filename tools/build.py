@@ -22,15 +22,19 @@ def tell(text):
     print(f"hall: {text}", file=sys.stderr, flush=True)
 
 
-def names():
-    """The crates, in the order of crates.txt: each after those that it stands on."""
+def needed():
+    """The crates that the program stands on, and it, in the order of crates.txt: each after those that it stands on itself, which are its value."""
     with open(f"{ROOT}/crates.txt", encoding="utf-8") as file:
         lines = [line.partition("#")[0].partition(":") for line in file]
-    return [name.split()[0] for name, mark, _ in lines if mark]
+    stands_on = {name.split()[0]: below.split() for name, mark, below in lines if mark}
+    wanted = ["hall"]
+    for name in wanted:
+        wanted += [below for below in stands_on[name] if below in stands_on and below not in wanted]
+    return {name: [below for below in stands_on[name] if below in wanted] for name in stands_on if name in wanted}
 
 
 def at_once():
-    """How many crates to prove side by side."""
+    """How many processors to prove with."""
     with open("/proc/meminfo", encoding="ascii") as file:
         kibibytes = next(int(line.split()[1]) for line in file if line.startswith("MemAvailable"))
     return max(1, min(os.cpu_count() or 1, kibibytes * 1024 // MEMORY_OF_ONE))
@@ -42,63 +46,79 @@ def counted(name):
     return len(glob.glob(f"{kept}.Proof.oantt")), len(glob.glob(f"{kept}.Code.oantt"))
 
 
-def touched(name):
-    """When the prover last kept something of the crate."""
-    return max((os.stat(it).st_mtime for it in glob.glob(f"{ROOT}/crates/{name}/out/incremental/*")), default=0)
-
-
-def is_built(name):
-    return os.path.exists(f"{ROOT}/crates/{name}/out/rlib/stamp")
-
-
 class Progress:
     """A line for each crate that is being proved, now and then, and one when it is built."""
 
-    def __init__(self):
-        self.crates = names()
+    def __init__(self, crates):
+        self.crates = list(crates)
         self.begun = {}
-        self.built = {name for name in self.crates if is_built(name)}
-        self.touched = {name: touched(name) for name in self.crates}
 
     def line(self, name, word):
         proved, functions = counted(name)
-        minutes = (time.time() - self.begun.get(name, time.time())) / 60
+        minutes = (time.time() - self.begun[name]) / 60
         place = f"{self.crates.index(name) + 1} of {len(self.crates)}"
         tell(f"{name:14} {place:>8}  {word:6} {proved:4} of {functions:4} functions {minutes:6.1f} minutes")
 
-    def show(self):
-        for name in self.crates:
-            before, self.touched[name] = self.touched[name], touched(name)
-            if name not in self.built and is_built(name):
-                self.built.add(name)
-                self.line(name, "built")
-            elif self.touched[name] != before:
-                self.begun.setdefault(name, time.time() - EVERY)
-                self.line(name, "so far")
 
+class Build:
+    """Crates proved side by side, each once those that it stands on are built; one that is alone gets all processors."""
 
-def run(words, folder, progress):
-    with open(LOG, "ab") as log:
-        how = {"cwd": folder, "stdin": subprocess.DEVNULL, "stdout": log, "stderr": subprocess.STDOUT}
-        running = subprocess.Popen(words, **how)
-        while running.poll() is None:
-            try:
-                running.wait(EVERY)
-            except subprocess.TimeoutExpired:
-                pass
-            progress.show()
-        return running.returncode
+    def __init__(self, crates, most):
+        self.crates = crates
+        self.most = most
+        self.progress = Progress(crates)
+        self.built = set()
+        self.running = {}
+
+    def ready(self):
+        free = [name for name in self.crates if name not in self.built and name not in self.running]
+        return [name for name in free if self.built.issuperset(self.crates[name])]
+
+    def start(self, log):
+        ready = self.ready()[: self.most - sum(jobs for _, jobs in self.running.values())]
+        share = self.most // max(1, len(ready) + len(self.running))
+        for name in ready:
+            jobs = max(1, share)
+            words = ["rt", "run" if name == "hall" else "lib", "--jobs", str(jobs)]
+            how = {"cwd": f"{ROOT}/crates/{name}", "stdin": subprocess.DEVNULL, "stdout": log, "stderr": subprocess.STDOUT}
+            self.progress.begun[name] = time.time()
+            self.running[name] = subprocess.Popen(words, **how), jobs
+
+    def gather(self):
+        """Takes note of the crates that ended; the first that failed."""
+        for name, (process, _) in list(self.running.items()):
+            if process.poll() is None:
+                continue
+            del self.running[name]
+            if name != "hall" and process.returncode:
+                return name
+            self.built.add(name)
+            self.progress.line(name, "built")
+        return None
+
+    def run(self, log):
+        """Whether all was built."""
+        shown = time.time()
+        while len(self.built) < len(self.crates):
+            self.start(log)
+            time.sleep(1)
+            if self.gather():
+                for process, _ in self.running.values():
+                    process.terminate()
+                return False
+            if time.time() - shown > EVERY:
+                shown = time.time()
+                for name in self.running:
+                    self.progress.line(name, "so far")
+        return True
 
 
 def main():
-    open(LOG, "wb").close()
-    progress, most = Progress(), at_once()
-    tell(f"proving and building {len(progress.crates)} crates, up to {most} at once; build.log has what the prover says")
-    status = run(["rt", "all", "check", "--jobs", str(most)], ROOT, progress)
-    if not status:
-        # (the program's own status says nothing of the build)
-        run(["rt", "run"], f"{ROOT}/crates/hall", progress)
-    if status or not os.access(PROGRAM, os.X_OK):
+    crates, most = needed(), at_once()
+    tell(f"proving and building {len(crates)} crates, with {most} processors; build.log has what the prover says")
+    with open(LOG, "wb") as log:
+        done = Build(crates, most).run(log)
+    if not done or not os.access(PROGRAM, os.X_OK):
         with open(LOG, encoding="utf-8", errors="replace") as log:
             print("".join(log.readlines()[-20:]), file=sys.stderr)
         tell("the program was not built")

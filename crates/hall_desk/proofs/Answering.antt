@@ -1,20 +1,12 @@
--- What the answers of an entrant in a round tell of one token and one number.
+-- What a test leaves of a list, and what is found in one.
 use Rattle.std.proofs.Common.{◌≡◌, ◌==◌, ◌&&◌, ℕ, ◌+◌, zero, suc, Bool, true, false, cond, List, [], ◌∷◌, Option, Some, None, Contains, refl, sym, ap, ◌∙◌, subst, arith, zero-add, slice_get}
 use Rattle.std.specs.List.{filter, find, count_by}
 use Rattle.std.specs.Bool.{Decides}
 use Rattle.std.specs.Cmp.{unsigned_Decides}
 use Rattle.std.specs.Cmp.Lexicographic.{pointwise_decides}
-use Rattle.std.specs.FinMap.{get, values}
-use Rattle.std.proofs.lemmas.List.Sorted.{sum_by-IsPermutation, Contains-permutation, IsPermutation-sym}
 use Rattle.std.proofs.lemmas.List.Sums.{sum_by-cons}
 use Rattle.std.proofs.lemmas.Option.{slice_get_within, slice_get-get_or, get_or_from_slice_get}
-use Rattle.hall_policy.specs.World.{World, same_text}
-use Rattle.hall_policy.specs.Rules.{answers_given}
-use Rattle.hall_policy.specs.declared.record.AnswerKey.{AnswerKey}
-use Rattle.hall_policy.specs.declared.record.AnswerRow.{AnswerRow}
-use Rattle.hall_policy.proofs.Maps.{value_of_get, get_of_value}
-use Rattle.hall_policy.proofs.Orders.{answer_total}
-use Rattle.hall_desk.specs.Store.{IsListing, is_of, HasKeyedAnswers}
+use Rattle.hall_policy.specs.World.{same_text}
 
 -- texts are one exactly where the test passes
 pub text_decides : (a b : List ℕ) → Decides (same_text a b) (a ≡ b)
@@ -95,69 +87,3 @@ contained xs x j e = (j, slice_get_within xs j x e, get_or_from_slice_get xs j x
 
 placed : {X : Type 0} (xs : List X) (x : X) → Contains xs x → (j : ℕ) × (slice_get xs j ≡ Some x)
 placed xs x h = (h.0, slice_get-get_or xs h.0 x h.1 ∙ ap Some h.2)
-
--- ---- the answers of an entrant in a round
--- the key of an answer
-abbrev key_of : List ℕ → List ℕ → ℕ → List ℕ → AnswerKey
-key_of entrant round number token = record { entrant = entrant; round = round; number = number; token = token }
-
--- the answer stands under the token, to the puzzle of this number
-abbrev pub is_under : ℕ → List ℕ → AnswerRow → Bool
-is_under number token row = (row.key.number == number) && same_text row.key.token token
-
-swapped : (a b c : Bool) → ((a && b) && c) ≡ (b && (a && c))
-swapped true true c = refl
-swapped true false c = refl
-swapped false true c = refl
-swapped false false c = refl
-
--- those to one puzzle are as many as the rules count
-pub counts_given : (world : World) (entrant round : List ℕ) (number : ℕ) (rows : List AnswerRow) → IsListing world (is_of entrant round) rows →
-    count_by (λ row. row.key.number == number) rows ≡ answers_given world entrant round number
-counts_given world entrant round number rows listing =
-    sum_by-IsPermutation (λ row. cond (row.key.number == number) 1 0) (filter (is_of entrant round) (values world.answers)) rows listing.whole
-    ∙ count_by-filter (λ row. row.key.number == number) (is_of entrant round) (λ row. same_text row.key.entrant entrant && (same_text row.key.round round && (row.key.number == number)))
-    (λ row. swapped (same_text row.key.round round) (same_text row.key.entrant entrant) (row.key.number == number)) (values world.answers)
-
--- an answer of the listing is what the world has under its key
-pub listed_get : (world : World) (test : AnswerRow → Bool) (rows : List AnswerRow) → HasKeyedAnswers world → IsListing world test rows →
-    (row : AnswerRow) → Contains rows row → (test row ≡ true) × (get world.answers row.key ≡ Some row)
-listed_get world test rows keyed listing row among =
-    let left = placed (filter test (values world.answers)) row (Contains-permutation rows (filter test (values world.answers)) row (IsPermutation-sym (filter test (values world.answers)) rows listing.whole) among) in
-    let kept = filter-Contains test (values world.answers) row left.0 left.1 in
-    let at = get_of_value answer_total world.answers row (contained (values world.answers) row kept.0 kept.1) in
-    let own : row.key ≡ at.0 = keyed at.0 row at.1 in
-    (kept.2, subst (λ (k : AnswerKey). get world.answers k ≡ Some row) (sym own) at.1)
-
--- what the world has under a key that passes is in the listing
-pub get_listed : (world : World) (test : AnswerRow → Bool) (rows : List AnswerRow) → IsListing world test rows →
-    (key : AnswerKey) (row : AnswerRow) → get world.answers key ≡ Some row → test row ≡ true → Contains rows row
-get_listed world test rows listing key row found passes =
-    let left = Contains-filter test (values world.answers) row (value_of_get world.answers key row found) passes in
-    Contains-permutation (filter test (values world.answers)) rows row listing.whole (contained (filter test (values world.answers)) row left.0 left.1)
-
--- the first under the token is what the world has under it
-pub found_under : (world : World) (entrant round : List ℕ) (number : ℕ) (token : List ℕ) (rows : List AnswerRow) → HasKeyedAnswers world → IsListing world (is_of entrant round) rows →
-    find (is_under number token) rows ≡ get world.answers (key_of entrant round number token)
-found_under world entrant round number token rows keyed listing =
-    elim (find (is_under number token) rows) as (λ (o : Option AnswerRow). find (is_under number token) rows ≡ o → o ≡ get world.answers (key_of entrant round number token)) [
-      | None ↦ λ none. elim (get world.answers (key_of entrant round number token)) as (λ (o : Option AnswerRow). get world.answers (key_of entrant round number token) ≡ o → None ≡ o) [
-        | None ↦ λ _. refl
-        | Some row ↦ λ found.
-            let own : row.key ≡ key_of entrant round number token = keyed (key_of entrant round number token) row found in
-            let right : is_of entrant round row ≡ true = and_both (same_text row.key.round round) (same_text row.key.entrant entrant) ((text_decides row.key.round round).1 (ap (λ k. k.round) own)) ((text_decides row.key.entrant entrant).1 (ap (λ k. k.entrant) own)) in
-            let under : is_under number token row ≡ true = and_both (row.key.number == number) (same_text row.key.token token) ((unsigned_Decides row.key.number number).1 (ap (λ k. k.number) own)) ((text_decides row.key.token token).1 (ap (λ k. k.token) own)) in
-            let at = placed rows row (get_listed world (is_of entrant round) rows listing (key_of entrant round number token) row found right) in
-            let not_under : is_under number token row ≡ false = find-None (is_under number token) rows none row at.0 at.1 in
-            absurd (let no : true ≡ false = sym under ∙ not_under in cc)
-      ] refl
-      | Some row ↦ λ found.
-          let at = find-Contains (is_under number token) rows row found in
-          let told = listed_get world (is_of entrant round) rows keyed listing row (contained rows row at.0 at.1) in
-          let entrant_same : row.key.entrant ≡ entrant = (text_decides row.key.entrant entrant).0 (and_second (same_text row.key.round round) (same_text row.key.entrant entrant) told.0) in
-          let round_same : row.key.round ≡ round = (text_decides row.key.round round).0 (and_first (same_text row.key.round round) (same_text row.key.entrant entrant) told.0) in
-          let number_same : row.key.number ≡ number = (unsigned_Decides row.key.number number).0 (and_first (row.key.number == number) (same_text row.key.token token) at.2) in
-          let token_same : row.key.token ≡ token = (text_decides row.key.token token).0 (and_second (row.key.number == number) (same_text row.key.token token) at.2) in
-          let own : row.key ≡ key_of entrant round number token = λ i. record { entrant = entrant_same i; round = round_same i; number = number_same i; token = token_same i } in
-          sym (subst (λ (k : AnswerKey). get world.answers k ≡ Some row) own told.1)
-    ] refl

@@ -1,22 +1,17 @@
-pub mod MapWorlds
-pub mod AnswerRange
-pub mod RoundWorlds
 pub mod Knowing
 pub mod Answering
 pub mod Releases
 pub mod Telling
 pub mod Runs
 pub mod Showing
-pub mod Planning
-pub mod Sorting
-pub mod UsingRounds
+pub mod Submitting
+pub mod OpeningSane
+mod Planning
 pub mod Inserts
 pub mod Truths
 pub mod Saneness
 pub mod CertifySane
 pub mod ReleaseSane
-pub mod OpeningSane
-pub mod Drafts
 pub mod StepsSane
 pub mod Promises
 pub mod Tokens

@@ -1,5 +1,5 @@
 -- The empty world is sane, and stays so as people and drafts are added.
-use Rattle.std.proofs.Common.{◌≡◌, ◌≢◌, ◌==◌, ◌&&◌, ◌⊎◌, inl, inr, ℕ, zero, suc, Bool, true, false, List, [], map, Some, None, Contains, IsTrue, sym, ap, ◌∙◌, subst, arith}
+use Rattle.std.proofs.Common.{◌≡◌, ◌≢◌, ◌==◌, ◌&&◌, ◌⊎◌, inl, inr, ℕ, zero, suc, Bool, true, false, List, [], map, Some, None, Contains, IsTrue, refl, sym, ap, ◌∙◌, subst, arith}
 use Rattle.std.specs.List.{count_by}
 use Rattle.std.specs.List.Sorted.{IsStrictlySortedBy}
 use Rattle.std.specs.FinMap.{FinMap, IsAntisymmetric, get, insert, values, from_entries}
@@ -20,9 +20,10 @@ use Rattle.hall_policy.specs.declared.record.RoundRow.{RoundRow}
 use Rattle.hall_policy.specs.declared.record.Entry.{Entry}
 use Rattle.hall_policy.specs.declared.record.PlaceKey.{PlaceKey}
 use Rattle.hall_policy.proofs.Orders.{text_total, same_texts, puzzle_total, place_total, answer_total, protest_total, same_puzzle_keys, same_answer_keys, same_protest_keys}
+use Rattle.hall_store.specs.Maps.{empty_world, PersonAdded, DraftAdded}
 use Rattle.hall_desk.specs.Found.{IsReleasedRound}
 use Rattle.hall_desk.specs.Sane.{Sane, IsKeyed}
-use Rattle.hall_desk.proofs.MapWorlds.{get_found, entries_made}
+use Rattle.hall_store.proofs.MapWorlds.{get_found, entries_made}
 use Rattle.hall_desk.proofs.Inserts.{keys_apart, found_after, others_stay, inserted_there, still_there}
 
 -- ---- nothing
@@ -37,7 +38,7 @@ module _ {K : Type 0} {R : K → K → Ordering} (o : IsTotalOrder R) (X : Type 
   none_counts same p = ap (λ (es : List (K × X)). count_by p (map (λ e. e.1) es)) (entries_made o same [] tt)
 
 -- the empty world is sane: nothing stands anywhere, and nothing counts
-pub empty_sane : Sane (record { people = from_entries []; puzzles = from_entries []; rounds = from_entries []; places = from_entries []; answers = from_entries []; protests = from_entries [] })
+pub empty_sane : Sane empty_world
 empty_sane = record {
   keyed = record {
     people = λ name row found. absurd (nowhere text_total Person name row found);
@@ -266,3 +267,15 @@ pub draft_sane : (world : World) (id : List ℕ) (row : RoundRow) (places : FinM
     ((number : ℕ) → get places (record { round = id; number = number }) ≡ entry_at row.puzzles number) →
     ((key : PlaceKey) → key.round ≢ id → get places key ≡ get world.places key) → Sane (record world { rounds = insert world.rounds id row.round; places = places })
 draft_sane world id row places sane fresh own draft secret entries there at_own at_other = draft_added world id row places sane fresh at_own at_other own entries there draft secret
+
+-- what a store says that added a person keeps its world sane
+pub added_person_sane : (old new : World) (person : Person) (added : Bool) → PersonAdded old new person added → Sane old →
+    (IsTrue person.roles.director → IsTrue person.roles.entrant → ⊥) → Sane new
+added_person_sane old new person true adds sane one_role = subst Sane (sym adds.world) (person_sane old person sane adds.name adds.key one_role)
+added_person_sane old new person false none sane one_role = subst Sane (sym none.1) sane
+
+-- what a store says that added a draft keeps its world sane
+pub added_draft_sane : (old new : World) (row : RoundRow) (added : Bool) → DraftAdded old new row added → Sane old → AreEntries row.puzzles → Sane new
+added_draft_sane old new row true adds sane entries =
+    subst Sane (sym adds.world) (draft_sane old row.round.id row new.places sane adds.free refl adds.unreleased adds.unpublished entries adds.kept adds.own_places adds.other_places)
+added_draft_sane old new row false none sane entries = subst Sane (sym none.1) sane

@@ -18,19 +18,19 @@ use Rattle.hall_policy.specs.declared.record.PuzzleState.TheVariants as state
 use Rattle.hall_policy.specs.declared.request.Request.{Request}
 use Rattle.hall_policy.specs.declared.request.Action.{Action}
 use Rattle.hall_policy.specs.declared.request.Action.TheVariants as action
-use Rattle.hall_desk.specs.Caller.{caller_of}
+use Rattle.hall_store.specs.Caller.{caller_of}
 use Rattle.hall_desk.specs.Found.{IsCaller}
-use Rattle.hall_desk.specs.Change.{changed, CanMake, with_flag}
+use Rattle.hall_store.specs.Change.{changed, CanMake, with_flag}
 use Rattle.hall_desk.specs.Step.{Decided}
-use Rattle.hall_desk.specs.Store.{Told}
+use Rattle.hall_store.specs.Store.{Content, Told, Asks}
 use Rattle.hall_desk.specs.Plans.{IsPlanFor, IsAllowedPlan, IsMadePlan}
 use Rattle.hall_desk.specs.declared.planned.Plan.{Plan}
 use Rattle.hall_desk.specs.declared.reply.Reply.{Reply}
 use Rattle.hall_desk.specs.declared.reply.Reply.TheVariants.{PuzzlePut, Released}
 use Rattle.hall_desk.specs.declared.reply.StateName.TheVariants as name
-use Rattle.hall_desk.specs.declared.store.Change.{Change}
-use Rattle.hall_desk.specs.declared.store.Change.TheVariants as change
-use Rattle.hall_desk.specs.declared.store.RoundFlag.TheVariants as flag
+use Rattle.hall_store.specs.declared.change.Change.{Change}
+use Rattle.hall_store.specs.declared.change.Change.TheVariants as change
+use Rattle.hall_store.specs.declared.change.RoundFlag.TheVariants as flag
 use Rattle.hall_desk.proofs.Knowing.{pure_told, told_turn}
 
 -- a decision, and what it answers and changes, make a plan
@@ -70,21 +70,21 @@ pub made_anyhow : (world : World) (caller : Option Person) (asked : Action) (t :
 made_anyhow world caller asked t plan made = record { found = state.New; allowed = made.allowed state.New; can = made.can }
 
 -- the plan that is made for an action, told of what was asked, which is that action
-module _ {X E : Type 0} (honest serves : X → Type 0) (world : X → World) (facts : Facts) (asked named : Action) (t : ℕ) (is : asked ≡ named) where
+module _ {E : Type 0} (facts : Facts) (asked named : Action) (t : ℕ) (is : asked ≡ named) where
   -- made from the facts alone
-  pub made_from_facts : (store : X) (r : Result Plan E) (M : Plan → Type 0) →
+  pub made_from_facts : (store : Content) (r : Result Plan E) (M : Plan → Type 0) →
       ((plan : Plan) → M plan → (w : World) → TrueUpTo 20 facts w named → IsMadePlan w facts.caller named t plan) →
-      (honest store → serves store → TrueUpTo 20 facts (world store) asked) → IfOk r M → Told honest serves store store r (IsMadePlan (world store) facts.caller asked t)
+      Asks store (λ w. TrueUpTo 20 facts w asked) → IfOk r M → Told store store r (λ w plan. IsMadePlan w facts.caller asked t plan)
   made_from_facts store r M turn told made =
-      subst (λ (a : Action). (honest store → serves store → TrueUpTo 20 facts (world store) a) → Told honest serves store store r (IsMadePlan (world store) facts.caller a t)) (sym is)
-      (λ all. pure_told honest serves r M (IsMadePlan (world store) facts.caller named t) store store (λ h s. s) (λ plan h s x. turn plan x (world store) (all h s)) made) told
+      subst (λ (a : Action). Asks store (λ w. TrueUpTo 20 facts w a) → Told store store r (λ w plan. IsMadePlan w facts.caller a t plan)) (sym is)
+      (λ all. pure_told r M (λ w plan. IsMadePlan w facts.caller named t plan) store store (λ h s. s) (λ plan h s x. turn plan x store.world (all h s)) made) told
 
   -- made with what the store was asked
-  pub made_from_store : (old new : X) (r : Result Plan E) (M : Plan → Type 0) → ((plan : Plan) → M plan → IsMadePlan (world new) facts.caller named t plan) →
-      Told honest serves old new r M → Told honest serves old new r (IsMadePlan (world new) facts.caller asked t)
+  pub made_from_store : (old new : Content) (r : Result Plan E) (M : World → Plan → Type 0) → ((plan : Plan) → M new.world plan → IsMadePlan new.world facts.caller named t plan) →
+      Told old new r M → Told old new r (λ w plan. IsMadePlan w facts.caller asked t plan)
   made_from_store old new r M turn told =
-      subst (λ (a : Action). Told honest serves old new r (IsMadePlan (world new) facts.caller a t)) (sym is)
-      (told_turn honest serves r M (IsMadePlan (world new) facts.caller named t) old new (λ plan h s x. turn plan x) told)
+      subst (λ (a : Action). Told old new r (λ w plan. IsMadePlan w facts.caller a t plan)) (sym is)
+      (told_turn r M (λ w plan. IsMadePlan w facts.caller named t plan) old new (λ plan h s x. turn plan x) told)
 
 -- the plan of a round that is released
 pub released : (world : World) (facts : Facts) (t : ℕ) (id shown kept : List ℕ) (row : RoundRow) →

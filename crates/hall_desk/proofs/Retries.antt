@@ -20,7 +20,7 @@ use Rattle.hall_policy.specs.declared.record.AnswerRow.{AnswerRow}
 use Rattle.hall_policy.specs.declared.request.Action.TheVariants as action
 use Rattle.hall_policy.proofs.Maps.{get-insert_same}
 use Rattle.hall_policy.proofs.Orders.{answer_total}
-use Rattle.hall_desk.specs.Caller.{caller_of}
+use Rattle.hall_store.specs.Caller.{caller_of}
 use Rattle.hall_desk.specs.Shown.{told_verdict, is_sealed}
 use Rattle.hall_desk.specs.Step.{Step, Decided, answer_row}
 use Rattle.hall_desk.specs.Promises.{IsToldAgain, IsRetryOf, AcceptedAnswersStay}

@@ -2,6 +2,7 @@
 use Rattle.std.proofs.Common.{◌≡◌, inl, inr, ℕ, zero, suc, ◌≤◌, length, take, arith, List, [], ◌∷◌, ◌++◌, refl, ◌∙◌, subst}
 use Rattle.hall_policy.specs.World.{World}
 use Rattle.hall_policy.specs.declared.request.Request.{Request}
+use Rattle.hall_store.specs.Store.{Content}
 use Rattle.hall_desk.specs.Step.{Step}
 use Rattle.hall_desk.specs.Run.{Run}
 use Rattle.hall_desk.specs.Plans.{Steps, Runs}
@@ -17,15 +18,12 @@ run_more world (q ∷ requests) (r ∷ replies) mid asked given last run step =
     (run.0, run.1, run_more run.0 requests replies mid asked given last run.2 step)
 
 -- a run over a store and one step more over it
-pub runs_more : {X : Type 0} (serves : X → Type 0) (world : X → World) (first old new : X) (requests : List (ℕ × Request)) (replies : List Reply) (asked : ℕ × Request) (given : Reply) →
-    (serves new → serves old) → Runs serves world first requests replies old → Steps serves world old asked.0 asked.1 given new →
-    Runs serves world first (requests ++ asked ∷ []) (replies ++ given ∷ []) new
-runs_more serves world first old new requests replies asked given opened (last, run, own) (inl (none, left)) =
-    (last, run_more (world first) requests replies last asked given last run (inl (none, refl)), λ s. left s ∙ own (opened s))
-runs_more serves world first old new requests replies asked given opened (last, run, own) (inr (inl (before, after, step))) =
-    (world new, run_more (world first) requests replies last asked given (world new) run (subst (λ (w : World). Step w asked.0 asked.1 given (world new)) (own before) step), λ s. refl)
-runs_more serves world first old new requests replies asked given opened (last, run, own) (inr (inr (always, left))) =
-    (last, run_more (world first) requests replies last asked given last run (always last), λ s. left s ∙ own (opened s))
+pub runs_more : (first old new : Content) (requests : List (ℕ × Request)) (replies : List Reply) (asked : ℕ × Request) (given : Reply) →
+    (new.serves → old.serves) → Runs first requests replies old → Steps old asked.0 asked.1 given new → Runs first (requests ++ asked ∷ []) (replies ++ given ∷ []) new
+runs_more first old new requests replies asked given opened (last, run, own) (inl (always, left)) =
+    (last, run_more first.world requests replies last asked given last run (always last), λ s. left s ∙ own (opened s))
+runs_more first old new requests replies asked given opened (last, run, own) (inr (before, after, step)) =
+    (new.world, run_more first.world requests replies last asked given new.world run (subst (λ (w : World). Step w asked.0 asked.1 given new.world) (own before) step), λ s. refl)
 
 -- a prefix that is as long as the list is the list
 pub take_all : {A : Type 0} (xs : List A) (n : ℕ) → length xs ≤ n → take n xs ≡ xs

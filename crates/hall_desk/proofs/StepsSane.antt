@@ -1,6 +1,5 @@
 -- Each step, and so each run, keeps a sane world.
 use Rattle.std.proofs.Common.{◌≡◌, ◌&&◌, ◌<◌, ◌≤◌, inl, inr, ℕ, Bool, true, false, List, [], ◌∷◌, Option, Some, None, refl, sym, ◌∙◌, subst, arith, lit<, Result, Ok, Err, IfOk, OnErr, Vec, Global}
-use Rattle.std.specs.Bool.{⊤}
 use Rattle.std.proofs.lemmas.Bool.{cases_order}
 use Rattle.std.proofs.lemmas.Option.{slice_get_within, get_or_from_slice_get}
 use Rattle.std.specs.FinMap.{get, values}
@@ -20,13 +19,16 @@ use Rattle.hall_policy.specs.declared.request.Request.{Request}
 use Rattle.hall_grid.specs.Board.{Board}
 use Rattle.hall_policy.proofs.Maps.{get_of_value}
 use Rattle.hall_policy.proofs.Orders.{text_total}
-use Rattle.hall_desk.specs.Caller.{caller_of}
+use Rattle.hall_store.specs.Caller.{caller_of}
 use Rattle.hall_desk.specs.Found.{IsReleasedRound}
 use Rattle.hall_desk.specs.Step.{Step, Allowed, new_row, answer_row}
 use Rattle.hall_desk.specs.Run.{Run}
-use Rattle.hall_desk.specs.Plans.{IsPlanFor, Steps, Runs}
+use Rattle.hall_store.specs.Store.{Content, Asks}
+use Rattle.hall_desk.specs.Plan.{planned_change}
+use Rattle.hall_desk.specs.Desk.{SaneThen}
+use Rattle.hall_desk.specs.Plans.{Planned, Steps, Runs}
 use Rattle.hall_desk.specs.declared.planned.Plan.{Plan}
-use Rattle.hall_desk.specs.Change.{changed}
+use Rattle.hall_store.specs.Change.{changed}
 use Rattle.hall_desk.specs.Sane.{Sane}
 use Rattle.hall_desk.specs.declared.reply.Reply.{Reply}
 use Rattle.hall_desk.proofs.Answering.{find-Contains}
@@ -119,21 +121,22 @@ run_sane world [] (r ∷ replies) last run sane = absurd run
 run_sane world (q ∷ requests) [] last run sane = absurd run
 run_sane world (q ∷ requests) (r ∷ replies) last run sane = run_sane run.0 requests replies last run.2 (step_sane world q.0 q.1 r run.0 run.1 sane)
 
--- a step over a store that is honest and serves
-pub steps_sane : {X : Type 0} (world : X → World) (old new : X) (t : ℕ) (request : Request) (given : Reply) → Steps (λ (x : X). ⊤) world old t request given new → Sane (world old) → Sane (world new)
-steps_sane world old new t request given (inl (none, left)) sane = subst Sane (sym (left tt)) sane
-steps_sane world old new t request given (inr (inl (before, after, step))) sane = step_sane (world old) t request given (world new) step sane
-steps_sane world old new t request given (inr (inr (always, left))) sane = subst Sane (sym (left tt)) sane
+-- a step over a store keeps its world sane
+pub steps_sane : (old new : Content) (t : ℕ) (request : Request) (given : Reply) → new.serves → Steps old t request given new → Sane old.world → Sane new.world
+steps_sane old new t request given s (inl (always, left)) sane = subst Sane (sym (left s)) sane
+steps_sane old new t request given s (inr (before, after, step)) sane = step_sane old.world t request given new.world step sane
 
--- a run over a store that is honest and serves
-pub runs_sane : {X E : Type 0} (world : X → World) (old new : X) (requests : List (ℕ × Request)) (r : Result (Vec Reply Global) E) →
-    IfOk r (λ replies. ⊤ → Runs (λ (x : X). ⊤) world old requests replies.items new) → OnErr r (new ≡ old) → Sane (world old) → Sane (world new)
-runs_sane world old new requests (Ok replies) ok err sane =
-    let run = ok tt in
-    subst Sane (sym (run.2 tt)) (run_sane (world old) requests replies.items run.0 run.1 sane)
-runs_sane world old new requests (Err e) ok err sane = subst (λ x. Sane (world x)) (sym err) sane
+-- a run over a store keeps its world sane, and where room for the replies is refused, nothing is changed
+pub runs_sane : {X E : Type 0} (content : X → Content) (old new : X) (requests : List (ℕ × Request)) (r : Result (Vec Reply Global) E) →
+    IfOk r (λ replies. (content new).honest → Runs (content old) requests replies.items (content new)) → OnErr r (new ≡ old) → SaneThen Sane (content old) (content new)
+runs_sane content old new requests (Ok replies) ok err h s sane =
+    let run = ok h in
+    subst Sane (sym (run.2 s)) (run_sane (content old).world requests replies.items run.0 run.1 sane)
+runs_sane content old new requests (Err e) ok err h s sane = subst (λ x. Sane (content x).world) (sym err) sane
 
 -- a plan's change keeps a sane world
-pub plan_sane : {E : Type 0} (r : Result Plan E) (world : World) (t : ℕ) (request : Request) → IfOk r (IsPlanFor world t request) → IfOk r (λ plan. Sane world → Sane (changed plan.change world))
-plan_sane (Ok plan) world t request made = step_sane world t request plan.reply (changed plan.change world) (inr made.answered)
-plan_sane (Err e) world t request made = tt
+pub plan_sane : {E : Type 0} (r : Result Plan E) (new : Content) (t : ℕ) (request : Request) → Planned new t request r →
+    IfOk r (λ plan. Asks new (λ world. Sane world → Sane (changed (planned_change plan) world)))
+plan_sane (Ok plan) new t request (inl made) = λ h s. step_sane new.world t request plan.reply (changed plan.change new.world) (inr (made h).1.answered)
+plan_sane (Ok plan) new t request (inr made) = λ h s. step_sane new.world t request plan.reply (changed plan.change new.world) (inr (made.1 new.world).answered)
+plan_sane (Err e) new t request made = tt

@@ -1,15 +1,21 @@
 -- What was found tells all that the rules asked of the action read, up to a rule.
-use Rattle.std.proofs.Common.{◌≡◌, ◌↔◌, ℕ, List, Option, Some, None, IsTrue, refl, sym, subst}
+use Rattle.std.proofs.Common.{◌≡◌, ◌↔◌, ℕ, List, Option, Some, None, IsTrue, Contains, refl, sym, subst, lit<}
 use Rattle.std.specs.FinMap.{get}
 use Rattle.hall_grid.specs.Board.{Board}
 use Rattle.hall_policy.specs.World.{World}
 use Rattle.hall_policy.specs.Facts.{TrueUpTo, IsRoundFound}
-use Rattle.hall_policy.specs.Rules.{Lists, StandsReleased, puzzles_put}
+use Rattle.hall_policy.specs.Rules.{Lists, StandsReleased, puzzles_put, answers_given}
+use Rattle.hall_policy.specs.declared.record.Person.{Person}
 use Rattle.hall_policy.specs.declared.record.PuzzleKey.{PuzzleKey}
 use Rattle.hall_policy.specs.declared.request.Action.{Action}
 use Rattle.hall_policy.specs.declared.request.Action.TheVariants.{Import, PutPuzzle, ReadPuzzle, ListPuzzles, Certify, PutRound, Release, ListRounds, ReadRound, Submit, Answers, Solutions, Protest, Protests, Rule, Publish, Table}
 use Rattle.hall_policy.specs.declared.facts.Facts.{Facts}
-use Rattle.hall_desk.specs.Found.{AreAnswerFacts, HasAuthor, HasFaultyEntry, ToldByRound}
+use Rattle.hall_policy.specs.Actions.{rules_asked}
+use Rattle.hall_policy.specs.Decided.{PassesUpTo}
+use Rattle.hall_policy.specs.declared.rule.Rule.TheVariants as rule
+use Rattle.hall_store.specs.Maps.{empty_world}
+use Rattle.hall_desk.specs.Plans.{IsUnserved}
+use Rattle.hall_desk.specs.Found.{HasAuthor, HasFaultyEntry}
 use Rattle.hall_desk.specs.declared.entry_fault.EntryFault.TheVariants.{Shared, Uncertified}
 
 -- the rules on the caller read nothing else
@@ -32,11 +38,29 @@ caller_told facts world (Rule round entrant token ruling) = (tt, (tt, (tt, (tt, 
 caller_told facts world (Publish round) = (tt, (tt, (tt, (tt, (tt, (tt, tt))))))
 caller_told facts world (Table round) = (tt, (tt, tt))
 
-pub read_round_told : (id : List ℕ) → ToldByRound (ReadRound id) id
-read_round_told id world facts found = (tt, (tt, (found, (found, (found, tt)))))
+-- a rule on the caller forbids an action that asks whether the key is known, where there is no caller
+without_caller : (facts : Facts) (action : Action) (t : ℕ) → Contains (rules_asked action) rule.UnknownKey → PassesUpTo 3 facts action t → facts.caller ≡ None → ⊥
+without_caller facts action t asked passes none = (passes empty_world (caller_told facts empty_world action) rule.UnknownKey (lit< tt)).0 (asked, none)
 
-pub answers_told : (id : List ℕ) → ToldByRound (Answers id) id
-answers_told id world facts found = (tt, (tt, (found, tt)))
+-- where there is no caller, and the rules on the caller let the action pass, it isn't served yet
+pub unserved_without_caller : (facts : Facts) (action : Action) (t : ℕ) → PassesUpTo 3 facts action t → facts.caller ≡ None → IsUnserved action
+unserved_without_caller facts (PutPuzzle key puzzle) t passes none = without_caller facts (PutPuzzle key puzzle) t (0, lit< tt, refl) passes none
+unserved_without_caller facts (Certify key budget) t passes none = without_caller facts (Certify key budget) t (0, lit< tt, refl) passes none
+unserved_without_caller facts (Release round) t passes none = without_caller facts (Release round) t (0, lit< tt, refl) passes none
+unserved_without_caller facts (ReadRound round) t passes none = without_caller facts (ReadRound round) t (0, lit< tt, refl) passes none
+unserved_without_caller facts (Submit round number token answer) t passes none = without_caller facts (Submit round number token answer) t (0, lit< tt, refl) passes none
+unserved_without_caller facts (Answers round) t passes none = without_caller facts (Answers round) t (0, lit< tt, refl) passes none
+unserved_without_caller facts (Import people) t passes none = tt
+unserved_without_caller facts (ReadPuzzle key) t passes none = tt
+unserved_without_caller facts ListPuzzles t passes none = tt
+unserved_without_caller facts (PutRound round sheet) t passes none = tt
+unserved_without_caller facts ListRounds t passes none = tt
+unserved_without_caller facts (Solutions round) t passes none = tt
+unserved_without_caller facts (Protest round token number text) t passes none = tt
+unserved_without_caller facts (Protests round) t passes none = tt
+unserved_without_caller facts (Rule round entrant token ruling) t passes none = tt
+unserved_without_caller facts (Publish round) t passes none = tt
+unserved_without_caller facts (Table round) t passes none = tt
 
 module _ (world : World) (facts : Facts) (action : Action) where
   -- a puzzle that is put: its author, then its rounds, then how many puzzles there are
@@ -48,8 +72,8 @@ module _ (world : World) (facts : Facts) (action : Action) where
       pub release_told : TrueUpTo 11 facts world action
       release_told = subst (λ (a : Action). TrueUpTo 11 facts world a) (sym is) (tt, (tt, (tt, (author, (released, (tt, tt))))))
 
-      pub put_told : facts.puzzle ≡ get world.puzzles key → facts.count ≡ puzzles_put world key.author → TrueUpTo 20 facts world action
-      put_told found count = subst (λ (a : Action). TrueUpTo 20 facts world a) (sym is) (tt, (tt, (tt, (author, (released, ((found, λ none. count), tt))))))
+      pub put_told : facts.puzzle ≡ get world.puzzles key → (facts.puzzle ≡ None → facts.count ≡ puzzles_put world key.author) → TrueUpTo 20 facts world action
+      put_told found count = subst (λ (a : Action). TrueUpTo 20 facts world a) (sym is) (tt, (tt, (tt, (author, (released, ((found, count), tt))))))
 
   -- a puzzle that is certified
   pub certify_told : (key : PuzzleKey) (budget : ℕ) → action ≡ Certify key budget → facts.puzzle ≡ get world.puzzles key → TrueUpTo 20 facts world action
@@ -60,9 +84,14 @@ module _ (world : World) (facts : Facts) (action : Action) where
     pub place_told : TrueUpTo 5 facts world action
     place_told = subst (λ (a : Action). TrueUpTo 5 facts world a) (sym is) (tt, (tt, (round, (round, (tt, (tt, (tt, (tt, (tt, tt)))))))))
 
-    pub submit_told : AreAnswerFacts world facts.caller id number token facts.answer facts.count → TrueUpTo 20 facts world action
-    submit_told given = subst (λ (a : Action). TrueUpTo 20 facts world a) (sym is)
-        (tt, (tt, (round, (round, ((given.answer, tt), (round, (round, (round, (given.count, tt)))))))))
+    module _ (standing : (person : Person) → facts.caller ≡ Some person → facts.answer ≡ get world.answers (record { entrant = person.name; round = id; number = number; token = token })) where
+      pub token_told : TrueUpTo 15 facts world action
+      token_told = subst (λ (a : Action). TrueUpTo 15 facts world a) (sym is)
+          (tt, (tt, (round, (round, ((standing, tt), (round, (round, (round, (tt, tt)))))))))
+
+      pub submit_told : ((person : Person) → facts.caller ≡ Some person → facts.count ≡ answers_given world person.name id number) → TrueUpTo 20 facts world action
+      submit_told given = subst (λ (a : Action). TrueUpTo 20 facts world a) (sym is)
+          (tt, (tt, (round, (round, ((standing, tt), (round, (round, (round, (given, tt)))))))))
 
   -- a round that is released: itself, then its entries' faults
   module _ (id : List ℕ) (is : action ≡ Release id) (round : IsRoundFound world (Some id) facts.round) where
@@ -102,3 +131,11 @@ module _ (world : World) (facts : Facts) (action : Action) where
           ),
         ),
       )
+
+  -- a round that is read
+  pub read_told : (id : List ℕ) → action ≡ ReadRound id → IsRoundFound world (Some id) facts.round → TrueUpTo 20 facts world action
+  read_told id is found = subst (λ (a : Action). TrueUpTo 20 facts world a) (sym is) (tt, (tt, (found, (found, (found, tt)))))
+
+  -- a round whose answers are listed
+  pub list_told : (id : List ℕ) → action ≡ Answers id → IsRoundFound world (Some id) facts.round → TrueUpTo 20 facts world action
+  list_told id is found = subst (λ (a : Action). TrueUpTo 20 facts world a) (sym is) (tt, (tt, (found, tt)))

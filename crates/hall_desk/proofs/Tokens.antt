@@ -11,7 +11,7 @@ use Rattle.hall_policy.specs.declared.rule.Decision.TheVariants.{Allow, Repeat, 
 use Rattle.hall_policy.specs.declared.record.Person.{Person}
 use Rattle.hall_policy.specs.declared.record.AnswerRow.{AnswerRow}
 use Rattle.hall_policy.specs.declared.request.Action.TheVariants as action
-use Rattle.hall_desk.specs.Caller.{caller_of}
+use Rattle.hall_store.specs.Caller.{caller_of}
 use Rattle.hall_desk.specs.Shown.{told_verdict}
 use Rattle.hall_desk.specs.Step.{FirstReply}
 use Rattle.hall_desk.specs.Promises.{IsToldAgain, IsRetryAnswered, TokensActOnce}

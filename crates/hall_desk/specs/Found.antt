@@ -2,28 +2,23 @@
 use Rattle.std.specs.Prelude.{◌≡◌, ◌≢◌, ◌↔◌, ℕ, Bool, List, Option, Some, None, IsTrue, IfSome}
 use Rattle.std.specs.FinMap.{get}
 use Rattle.hall_policy.specs.World.{World}
-use Rattle.hall_policy.specs.Facts.{IsRoundFound, TrueUpTo}
 use Rattle.hall_policy.specs.Rules.{answers_given, puzzles_put, Lists, StandsReleased, IsCertified}
 use Rattle.hall_policy.specs.declared.record.Person.{Person}
 use Rattle.hall_policy.specs.declared.record.PuzzleKey.{PuzzleKey}
 use Rattle.hall_policy.specs.declared.record.Entry.{Entry}
 use Rattle.hall_policy.specs.declared.record.Round.{Round}
-use Rattle.hall_policy.specs.declared.record.AnswerRow.{AnswerRow}
-use Rattle.hall_policy.specs.declared.request.Action.{Action}
-use Rattle.hall_policy.specs.declared.facts.Facts.{Facts}
 use Rattle.hall_desk.specs.declared.entry_fault.EntryFault.{EntryFault}
 use Rattle.hall_desk.specs.declared.entry_fault.EntryFault.TheVariants.{Shared, Uncertified}
-use Rattle.hall_desk.specs.Caller.{caller_of}
+use Rattle.hall_store.specs.Caller.{caller_of}
+
+-- the caller, if there is one, is there
+abbrev pub IsThere : World → Option Person → Type 0
+IsThere world caller = IfSome caller (λ person. get world.people person.name ≡ Some person)
 
 -- the caller found is the person with the key, who is there
 pub record IsCaller (world : World) (key : Option (List ℕ)) (person : Option Person) : Type 0 where
   pub found : person ≡ caller_of world key
-  pub there : IfSome person (λ p. get world.people p.name ≡ Some p)
-
--- the answer under the caller's token, and how many answers to the puzzle the caller gave
-pub record AreAnswerFacts (world : World) (caller : Option Person) (id : List ℕ) (number : ℕ) (token : List ℕ) (row : Option AnswerRow) (given : ℕ) : Type 0 where
-  pub answer : (person : Person) → caller ≡ Some person → row ≡ get world.answers (record { entrant = person.name; round = id; number = number; token = token })
-  pub count : (person : Person) → caller ≡ Some person → given ≡ answers_given world person.name id number
+  pub there : IsThere world person
 
 -- a person of the name with the role author is there
 abbrev pub HasAuthor : World → List ℕ → Type 0
@@ -41,7 +36,3 @@ HasFault Uncertified world id entry = ¬ (IsCertified world entry.puzzle)
 -- an entry of the round has the fault
 abbrev pub HasFaultyEntry : EntryFault → World → List ℕ → Type 0
 HasFaultyEntry fault world id = (entry : Entry) × Lists world id entry × HasFault fault world id entry
-
--- all that the rules of the action read, beside the caller, is its round
-abbrev pub ToldByRound : Action → List ℕ → Type 0
-ToldByRound action id = (world : World) (facts : Facts) → IsRoundFound world (Some id) facts.round → TrueUpTo 20 facts world action

@@ -1,15 +1,10 @@
-pub mod Store
-pub mod Caller
-pub mod Change
+pub mod Desk
 pub mod Found
-pub mod Keyed
-pub mod Maps
 pub mod Shown
 pub mod Step
 pub mod Run
 pub mod Sane
 pub mod Promises
 pub mod Plan
-pub mod Handed
+pub mod Handler
 pub mod Plans
-pub mod Desk

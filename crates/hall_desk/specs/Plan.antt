@@ -1,7 +1,7 @@
 -- What a plan holds.
 use Rattle.hall_desk.specs.declared.planned.Plan.{Plan}
 use Rattle.hall_desk.specs.declared.reply.Reply.{Reply}
-use Rattle.hall_desk.specs.declared.store.Change.{Change}
+use Rattle.hall_store.specs.declared.change.Change.{Change}
 
 -- the reply of the plan
 abbrev pub planned_reply : Plan → Reply

@@ -1,6 +1,6 @@
 -- What a plan promises, and what a step over a store leaves.
-use Rattle.std.specs.Prelude.{◌≡◌, ◌⊎◌, ℕ, List, Option, Some, None, ◌≢◌, Result, Ok, Err}
-use Rattle.hall_desk.specs.declared.store.Change.TheVariants.{Nothing}
+use Rattle.std.specs.Prelude.{◌≡◌, ◌⊎◌, ℕ, List, Option, Some, None, ◌≢◌, ⊤, Result, Ok, Err, IfErr, Contains}
+use Rattle.hall_store.specs.declared.change.Change.TheVariants.{Nothing}
 use Rattle.std.specs.FinMap.{get}
 use Rattle.hall_grid.specs.Answer.{Verdict}
 use Rattle.hall_policy.specs.World.{World, entry_at}
@@ -10,20 +10,23 @@ use Rattle.hall_policy.specs.declared.record.PuzzleRow.{PuzzleRow}
 use Rattle.hall_policy.specs.declared.record.RoundRow.{RoundRow}
 use Rattle.hall_policy.specs.declared.record.PuzzleState.{PuzzleState}
 use Rattle.hall_policy.specs.declared.request.Action.{Action}
-use Rattle.hall_policy.specs.declared.request.Action.TheVariants.{Submit, Answers}
+use Rattle.hall_policy.specs.declared.request.Action.TheVariants.{Import, PutPuzzle, ReadPuzzle, ListPuzzles, Certify, PutRound, Release, ListRounds, ReadRound, Submit, Answers, Solutions, Protest, Protests, Rule, Publish, Table}
 use Rattle.hall_policy.specs.declared.facts.Facts.{Facts}
 use Rattle.hall_policy.specs.declared.record.AnswerRow.{AnswerRow}
-use Rattle.hall_desk.specs.Store.{IsListing}
+use Rattle.hall_store.specs.Store.{Content, Over, IsListing}
+use Rattle.hall_store.specs.declared.fault.StoreFault.{StoreFault}
+use Rattle.hall_store.specs.declared.fault.StoreFault.TheVariants.{Failed}
+use Rattle.hall_policy.specs.Facts.{TrueUpTo}
+use Rattle.hall_desk.specs.Sane.{Sane}
 use Rattle.hall_grid.specs.Board.{Board}
 use Rattle.hall_desk.specs.Shown.{sees_answer, state_name}
 use Rattle.hall_desk.specs.declared.reply.StateName.{StateName}
 use Rattle.hall_policy.specs.declared.request.Request.{Request}
-use Rattle.hall_desk.specs.Change.{changed, CanMake}
+use Rattle.hall_store.specs.Change.{changed, CanMake}
 use Rattle.hall_desk.specs.Plan.{planned_reply, planned_change}
 use Rattle.hall_desk.specs.Step.{Step, IsAnswered, Allowed}
 use Rattle.hall_desk.specs.Run.{Run}
 use Rattle.hall_desk.specs.declared.reply.Reply.{Reply}
-use Rattle.hall_desk.specs.declared.reply.Reply.TheVariants.{Unavailable}
 use Rattle.hall_desk.specs.declared.planned.Plan.{Plan}
 
 -- the plan's reply and change are those of the request as it is decided, for what the search would find, and the change may be made
@@ -36,30 +39,61 @@ pub record IsAllowedPlan (world : World) (caller : Option Person) (action : Acti
   pub allowed : (found : PuzzleState) → Allowed world caller action t found plan.reply (changed plan.change world)
   pub can : CanMake plan.change world
 
+-- the plan is that of the allowed action in each world that the facts are true of
+abbrev pub IsPlanOf : Facts → Action → Plan → Type 0
+IsPlanOf facts action plan = (world : World) → TrueUpTo 20 facts world action → (t : ℕ) → IsAllowedPlan world facts.caller action t plan
+
 -- the plan's reply and change are those of the allowed action, with what its search found, and the change may be made
 pub record IsMadePlan (world : World) (caller : Option Person) (action : Action) (t : ℕ) (plan : Plan) : Type 0 where
   pub found : PuzzleState
   pub allowed : Allowed world caller action t found plan.reply (changed plan.change world)
   pub can : CanMake plan.change world
 
--- what a plan says holds of the store's world, which still serves, where its device was honest; or, where no store was asked, it changes nothing and holds of every world
-abbrev pub Planned : {X E : Type 0} → (X → Type 0) → (X → Type 0) → (X → World) → X → ℕ → Request → Result Plan E → Type 0
-Planned honest serves world new t request (Ok plan) =
-    (honest new → serves new × IsPlanFor (world new) t request plan) ⊎ ((plan.change ≡ Nothing) × ((w : World) → IsPlanFor w t request plan))
-Planned honest serves world new t request (Err fault) = Unit {0}
+-- the plan is that of the allowed action, with what its search found, in each world that the facts are true of
+abbrev pub IsSearchPlanOf : Facts → Action → Plan → Type 0
+IsSearchPlanOf facts action plan = (world : World) → TrueUpTo 20 facts world action → (t : ℕ) → IsMadePlan world facts.caller action t plan
 
--- the request was refused and the world left; or the store served before and after, and made a step of the hall; or it was answered without the store, by what is a step
--- in every world and leaves it
-abbrev pub Steps : {X : Type 0} → (X → Type 0) → (X → World) → X → ℕ → Request → Reply → X → Type 0
-Steps serves world old t request given new =
-    ((given ≡ Unavailable) × (serves new → world new ≡ world old))
-    ⊎ ((serves old × serves new × Step (world old) t request given (world new))
-    ⊎ (((w : World) → Step w t request given w) × (serves new → world new ≡ world old)))
+-- the desk doesn't serve the action yet
+abbrev pub IsUnserved : Action → Type 0
+IsUnserved (PutPuzzle key puzzle) = ⊥
+IsUnserved (Certify key budget) = ⊥
+IsUnserved (Release round) = ⊥
+IsUnserved (ReadRound round) = ⊥
+IsUnserved (Submit round number token answer) = ⊥
+IsUnserved (Answers round) = ⊥
+IsUnserved (Import people) = ⊤
+IsUnserved (ReadPuzzle key) = ⊤
+IsUnserved ListPuzzles = ⊤
+IsUnserved (PutRound round sheet) = ⊤
+IsUnserved ListRounds = ⊤
+IsUnserved (Solutions round) = ⊤
+IsUnserved (Protest round token number text) = ⊤
+IsUnserved (Protests round) = ⊤
+IsUnserved (Rule round entrant token ruling) = ⊤
+IsUnserved (Publish round) = ⊤
+IsUnserved (Table round) = ⊤
+
+-- Failed is answered for such a cause alone, or where the store's world isn't sane.
+abbrev pub FailsIn : {R : Type 0} → Type 0 → Content → Result R StoreFault → Type 0
+FailsIn cause new result = IfErr result (λ fault. fault ≡ Failed → cause ⊎ (new.honest → new.serves × ¬ (Sane new.world)))
+
+-- the entries' puzzles are kept
+abbrev pub AreKept : World → List Entry → Type 0
+AreKept world entries = (entry : Entry) → Contains entries entry → get world.puzzles entry.puzzle ≢ None
+
+-- what a plan says holds of the store's world, which still serves, where its device was honest; or, where no store was asked, it changes nothing and holds of every world
+abbrev pub Planned : {E : Type 0} → Content → ℕ → Request → Result Plan E → Type 0
+Planned new t request (Ok plan) =
+    (new.honest → new.serves × IsPlanFor new.world t request plan) ⊎ ((plan.change ≡ Nothing) × ((world : World) → IsPlanFor world t request plan))
+Planned new t request (Err fault) = Unit {0}
+
+-- The request was answered without the store, or refused, by what is a step in every world and leaves it; or the store served before and after, and made a step of the hall.
+abbrev pub Steps : Content → ℕ → Request → Reply → Content → Type 0
+Steps old t request given new = Over (λ before after. Step before t request given after) old new
 
 -- the replies are a run of the hall to some world, and where the store still serves, that world is its own
-abbrev pub Runs : {X : Type 0} → (X → Type 0) → (X → World) → X → List (ℕ × Request) → List Reply → X → Type 0
-Runs serves world old requests replies new =
-    (last : World) × Run (world old) requests replies last × (serves new → world new ≡ last)
+abbrev pub Runs : Content → List (ℕ × Request) → List Reply → Content → Type 0
+Runs old requests replies new = (last : World) × Run old.world requests replies last × (new.serves → new.world ≡ last)
 
 -- the puzzle that was found is this one, and in this state; or it is none or another one
 abbrev pub StandsAs : Option PuzzleRow → Board → Option StateName → Type 0
@@ -70,11 +104,6 @@ StandsAs found puzzle None = (row : PuzzleRow) → found ≡ Some row → row.pu
 abbrev pub IsJudgedAt : World → RoundRow → ℕ → List ℕ → ℕ → Type 0
 IsJudgedAt world row number answer verdict =
     (entry : Entry) × (puzzle : PuzzleRow) × (entry_at row.puzzles number ≡ Some entry) × (get world.puzzles entry.puzzle ≡ Some puzzle) × Verdict puzzle.puzzle answer verdict
-
--- the verdict is that of the answer that is handed in
-abbrev pub IsJudgedFor : World → Facts → Action → ℕ → Type 0
-IsJudgedFor world facts (Submit id number token answer) verdict = (row : RoundRow) × (facts.round ≡ Some row) × IsJudgedAt world row number answer verdict
-IsJudgedFor world facts _ verdict = ⊥
 
 -- the rows are the answers that the caller sees
 abbrev pub AreRowsFor : World → Facts → Action → ℕ → List AnswerRow → Type 0

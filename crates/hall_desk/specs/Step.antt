@@ -24,8 +24,8 @@ use Rattle.hall_policy.specs.declared.request.Action.TheVariants.{Submit, Answer
 use Rattle.hall_policy.specs.declared.request.Request.{Request}
 use Rattle.hall_policy.specs.declared.rule.Decision.{Decision}
 use Rattle.hall_policy.specs.declared.rule.Decision.TheVariants.{Allow, Repeat, Deny}
-use Rattle.hall_desk.specs.Caller.{caller_of}
-use Rattle.hall_desk.specs.Store.{IsListing}
+use Rattle.hall_store.specs.Caller.{caller_of}
+use Rattle.hall_store.specs.Store.{IsListing}
 use Rattle.hall_desk.specs.Shown.{state_name, ShowsRound, sees_answer, shows_verdict, answer_line, told_verdict}
 use Rattle.hall_desk.specs.declared.reply.ShownRound.{ShownRound}
 use Rattle.hall_desk.specs.declared.reply.Reply.{Reply}

@@ -4,40 +4,66 @@ ghost use Rattle.hall_policy.specs.World.{World, same_text};
 ghost use Rattle.hall_policy.specs.Facts.{TrueUpTo};
 ghost use Rattle.hall_policy.specs.Implies.{IsAllowable};
 ghost use Rattle.hall_policy.specs.declared.request.Action.TheVariants.{Answers};
-ghost use Rattle.hall_desk.specs.Store.{Kept, Served, Told, IsListing};
+ghost use Rattle.hall_store.specs.Store.{Kept, Served, Fails, IsListing};
 ghost use Rattle.hall_desk.specs.Shown.{is_sealed, sees_all, shows_verdict, answer_line};
 ghost use Rattle.hall_desk.specs.Plans.{IsAllowedPlan, AreRowsFor};
 
+use crate::handler::Handler;
 use crate::planned::Plan;
 use crate::reply::{AnswerLine, Reply};
 use crate::rows::Rows;
-use crate::store::{Change, Store, StoreFault};
 use crate::writes::push;
-use hall_policy::{AnswerRow, Facts, Mode, Moment, Name, Person, Round, RoundId};
+use hall_policy::{
+    Action, AnswerRow, Decision, Facts, Mode, Moment, Name, Person, Round, RoundId, decide,
+};
+use hall_store::{Store, StoreFault};
 use std::alloc::{AllocError, Global};
 
-/// An allowed Answers: the rows that the caller sees.
-pub(crate) fn list_answers<S: Store>(
-    alloc: Global,
-    store: &mut S,
-    t: Moment,
-    facts: &Facts,
-    round: &RoundId,
-) -> Result<Plan, StoreFault>
-    requires allowed { IsAllowable facts.now (Answers round.now) }
-    requires told { S.is_honest store.old → S.serves store.old → TrueUpTo 20 facts.now (S.world store.old) (Answers round.now) }
-    ensures kept { Kept S.is_honest S.serves S.world store.old store.new }
-    ensures told { Told S.is_honest S.serves store.old store.new result (IsAllowedPlan (S.world store.new) facts.now.caller (Answers round.now) t) }
-{
-    let Some(person) = &facts.caller else {
+/// What is listed: the answers of the round of this id.
+#[derive(Clone, Copy)]
+pub(crate) struct Listing<'a> {
+    pub(crate) round: &'a RoundId,
+}
+
+impl<'a> Handler for Listing<'a> {
+    ghost use Rattle.hall_desk.specs.Handler.{list_action};
+
+    ghost action_of = { list_action };
+
+    fn decision<S: Store>(
+        &self,
+        alloc: Global,
+        store: &mut S,
+        t: Moment,
+        action: &Action,
+        facts: &mut Facts,
+    ) -> Result<Decision, StoreFault> {
+        facts.round = store.round(alloc, self.round)?;
+        Ok(decide(facts, action, t))
+    }
+
+    fn first_reply(&self, _facts: &Facts) -> Reply {
         unreachable!()
-    };
-    let Some(row) = &facts.round else {
-        unreachable!()
-    };
-    let all = sees_all(person, &row.round, t);
-    let rows = find_answers(alloc, store, round, &person.name, all)?;
-    listed(alloc, t, facts, round, rows.as_slice())
+    }
+
+    /// The rows that the caller sees.
+    fn plan<S: Store>(
+        &self,
+        alloc: Global,
+        store: &mut S,
+        t: Moment,
+        facts: &Facts,
+    ) -> Result<Plan, StoreFault> {
+        let Some(person) = &facts.caller else {
+            unreachable!()
+        };
+        let Some(row) = &facts.round else {
+            unreachable!()
+        };
+        let all = sees_all(person, &row.round, t);
+        let rows = find_answers(alloc, store, self.round, &person.name, all)?;
+        Ok(listed(alloc, t, facts, self.round, rows.as_slice())?)
+    }
 }
 
 /// The plan that lists the rows.
@@ -47,9 +73,11 @@ fn listed(
     facts: &Facts,
     _round: &RoundId,
     rows: &[AnswerRow],
-) -> Result<Plan, StoreFault>
+) -> Result<Plan, AllocError>
     requires { IsAllowable facts.now (Answers _round.now) }
-    ensures { IfOk result (λ plan. (world : World) → TrueUpTo 20 facts.now world (Answers _round.now) → AreRowsFor world facts.now (Answers _round.now) t rows.now → IsAllowedPlan world facts.now.caller (Answers _round.now) t plan) }
+    ensures { IfOk result (λ plan. (world : World) → TrueUpTo 20 facts.now world (Answers _round.now) →
+        AreRowsFor world facts.now (Answers _round.now) t rows.now →
+        IsAllowedPlan world facts.now.caller (Answers _round.now) t plan) }
 {
     let Some(person) = &facts.caller else {
         unreachable!()
@@ -58,10 +86,7 @@ fn listed(
         unreachable!()
     };
     let lines = show_answers(alloc, rows, shows_verdict(person, &row.round, t))?;
-    Ok(Plan {
-        reply: Reply::AnswerList(lines),
-        change: Change::Nothing,
-    })
+    Ok(Plan::of(Reply::AnswerList(lines)))
 }
 
 /// Whether the person sees the answers of all entrants.
@@ -96,8 +121,10 @@ fn find_answers<S: Store>(
     name: &Name,
     all: bool,
 ) -> Result<Vec<AnswerRow>, StoreFault>
-    ensures kept { Kept S.is_honest S.serves S.world store.old store.new }
-    ensures served { Served S.is_honest S.serves store.new result (λ rows. IsListing (S.world store.new) (λ row. same_text row.key.round round.now && (all || same_text row.key.entrant name.now)) rows.items) }
+    ensures kept { Kept (S.content store.old) (S.content store.new) }
+    ensures fault { Fails S.can_fail result }
+    ensures served { Served (S.content store.new) result (λ world rows. IsListing world
+        (λ row. same_text row.key.round round.now && (all || same_text row.key.entrant name.now)) rows.items) }
 {
     if all {
         store.answers_in(alloc, round)

@@ -1,28 +1,24 @@
 //! Certify: a puzzle is searched, and what is found becomes its state.
-ghost use Rattle.std.specs.Prelude.{◌≡◌, ℕ, IfOk};
-ghost use Rattle.hall_policy.specs.World.{World};
-ghost use Rattle.hall_policy.specs.Facts.{TrueUpTo};
-ghost use Rattle.hall_policy.specs.Implies.{Implies, IsAllowable};
-ghost use Rattle.hall_policy.specs.Decided.{IsDecided};
-ghost use Rattle.hall_desk.specs.Store.{Kept, Told};
-ghost use Rattle.hall_policy.specs.declared.request.Action.TheVariants.{Certify};
+ghost use Rattle.std.specs.Prelude.{◌≡◌, IfOk};
 ghost use Rattle.hall_grid.specs.Answer.{AnswerText as Says, IsFilling};
+ghost use Rattle.hall_policy.specs.Implies.{IsAllowable};
+ghost use Rattle.hall_policy.specs.declared.request.Action.TheVariants.{Certify};
 ghost use Rattle.hall_desk.specs.Step.{is_open, IsFound};
-ghost use Rattle.hall_desk.specs.Plans.{IsMadePlan};
-ghost use Rattle.hall_desk.specs.Handed.{certify_action};
+ghost use Rattle.hall_desk.specs.Plans.{IsSearchPlanOf};
 ghost use Rattle.hall_desk.specs.Shown.{state_name};
 
+use crate::handler::Handler;
 use crate::planned::Plan;
 use crate::put_puzzle::state_name;
 use crate::reply::Reply;
 use crate::search::certify;
-use crate::store::{Change, Store, StoreFault};
 use hall_grid::{Filling, Puzzle, write_answer};
 use hall_policy::{
     Action, AnswerText, Budget, Decision, Facts, Moment, PuzzleKey, PuzzleState, decide,
 };
 use hall_solve::Outcome;
-use std::alloc::Global;
+use hall_store::{Change, Store, StoreFault};
+use std::alloc::{AllocError, Global};
 
 /// What is certified: the puzzle under the key, by a search of at most so many visits.
 #[derive(Clone, Copy)]
@@ -31,34 +27,48 @@ pub(crate) struct Certifying<'a> {
     pub(crate) budget: Budget,
 }
 
-/// What is decided of a Certify.
-pub(crate) fn settle<S: Store>(
-    alloc: Global,
-    store: &mut S,
-    t: Moment,
-    action: &Action,
-    certified: &Certifying,
-    facts: &mut Facts,
-) -> Result<Decision, StoreFault>
-    requires { action.now ≡ certify_action certified.now }
-    ensures kept { Kept S.is_honest S.serves S.world store.old store.new }
-    ensures caller { facts.new.caller ≡ facts.old.caller }
-    ensures implied { IfOk result (λ decision. Implies decision facts.new action.now) }
-    ensures told { Told S.is_honest S.serves store.old store.new result (λ decision. IsDecided (S.world store.new) facts.new action.now t decision) }
-{
-    facts.puzzle = store.puzzle(alloc, certified.key)?;
-    Ok(decide(facts, action, t))
+impl<'a> Handler for Certifying<'a> {
+    ghost use Rattle.hall_desk.specs.Handler.{certify_action};
+
+    ghost action_of = { certify_action };
+
+    fn decision<S: Store>(
+        &self,
+        alloc: Global,
+        store: &mut S,
+        t: Moment,
+        action: &Action,
+        facts: &mut Facts,
+    ) -> Result<Decision, StoreFault> {
+        facts.puzzle = store.puzzle(alloc, self.key)?;
+        Ok(decide(facts, action, t))
+    }
+
+    fn first_reply(&self, _facts: &Facts) -> Reply {
+        unreachable!()
+    }
+
+    /// The puzzle is searched where no search of it came to an end yet.
+    fn plan<S: Store>(
+        &self,
+        alloc: Global,
+        _store: &mut S,
+        _t: Moment,
+        facts: &Facts,
+    ) -> Result<Plan, StoreFault> {
+        Ok(certify_puzzle(alloc, facts, self.key, self.budget)?)
+    }
 }
 
-/// An allowed Certify: the puzzle is searched where no search of it came to an end yet.
-pub(crate) fn certify_puzzle(
+/// The plan of an allowed Certify.
+fn certify_puzzle(
     alloc: Global,
     facts: &Facts,
     key: &PuzzleKey,
     budget: Budget,
-) -> Result<Plan, StoreFault>
+) -> Result<Plan, AllocError>
     requires { IsAllowable facts.now (Certify key.now budget) }
-    ensures { IfOk result (λ plan. (world : World) → TrueUpTo 20 facts.now world (Certify key.now budget) → (t : ℕ) → IsMadePlan world facts.now.caller (Certify key.now budget) t plan) }
+    ensures { IfOk result (IsSearchPlanOf facts.now (Certify key.now budget)) }
 {
     let Some(row) = &facts.puzzle else {
         unreachable!()
@@ -99,7 +109,7 @@ fn is_open(state: &PuzzleState) -> bool
 }
 
 /// What the search of the puzzle finds in at most `budget` visits, as a state.
-fn find_state(alloc: Global, puzzle: &Puzzle, budget: u64) -> Result<PuzzleState, StoreFault>
+fn find_state(alloc: Global, puzzle: &Puzzle, budget: u64) -> Result<PuzzleState, AllocError>
     ensures { IfOk result (IsFound puzzle.now budget) }
 {
     match certify(alloc, puzzle, budget)? {
@@ -115,7 +125,7 @@ fn solution_text(
     alloc: Global,
     puzzle: &Puzzle,
     solution: &Filling,
-) -> Result<AnswerText, StoreFault>
+) -> Result<AnswerText, AllocError>
     requires { IsFilling puzzle.now solution.now }
     ensures { IfOk result (λ text. Says puzzle.now text solution.now) }
 {

@@ -1,67 +1,65 @@
-//! The desk: requests, answered over the world in ordered maps.
-ghost use Rattle.std.specs.Prelude.{◌≡◌, IfOk, OnOk, OnErr};
-ghost use Rattle.hall_desk.specs.Desk.{world_in};
-ghost use Rattle.hall_desk.specs.Change.{changed, CanMake};
-ghost use Rattle.hall_desk.specs.Step.{Step};
-ghost use Rattle.hall_desk.specs.Run.{Run};
+//! The desk: requests, answered over the world of a store.
+ghost use Rattle.std.specs.Prelude.{◌≡◌, ◌⊎◌, IfOk, OnErr};
+ghost use Rattle.hall_store.specs.Store.{Kept, Leads, Makes, Asks, Fails};
+ghost use Rattle.hall_store.specs.Change.{changed, CanMake};
+ghost use Rattle.hall_desk.specs.Desk.{kept_by, SaneThen};
 ghost use Rattle.hall_desk.specs.Sane.{Sane};
 ghost use Rattle.hall_desk.specs.Promises.{HasUniqueSolutions, RightAnswersAreSolutions};
 ghost use Rattle.hall_desk.specs.Plan.{planned_reply, planned_change};
-ghost use Rattle.hall_desk.specs.Plans.{IsPlanFor};
+ghost use Rattle.hall_desk.specs.Plans.{Planned, Steps, Runs, FailsIn, IsUnserved};
 
-use crate::map_store::MapStore;
-use crate::opening::opening;
 use crate::plan::make_plan;
 use crate::planned::Plan;
 use crate::reply::Reply;
 use crate::step::{commit, run, step};
-use crate::store::StoreFault;
 use hall_policy::{Moment, Request};
+use hall_store::{Store, StoreFault};
 use std::alloc::{AllocError, Global};
 
-/// What answers requests to the hall, one after another.
+/// What answers requests to the hall, one after another, over the world of its store.
 #[derive(Drop)]
-pub struct Desk {
-    pub(crate) store: MapStore,
+pub struct Desk<S: Store> {
+    pub(crate) store: S,
 }
 
-impl Desk {
-    /// A desk over the opening world: six people, three puzzles that nobody certified yet, and three drafts. The world is sane.
-    pub fn new(alloc: Global) -> Result<Desk, StoreFault>
-        ensures sane { IfOk result (λ desk. Sane (world_in desk)) }
-        ensures unique { IfOk result (λ desk. HasUniqueSolutions (world_in desk)) }
-        ensures right { IfOk result (λ desk. RightAnswersAreSolutions (world_in desk)) }
+impl<S: Store> Desk<S> {
+    /// A desk over the store.
+    pub fn new(store: S) -> Desk<S>
+        ensures { kept_by result ≡ store }
     {
-        Ok(Desk {
-            store: opening(alloc)?,
-        })
+        Desk { store }
     }
 
-    /// What the request will be answered, and what it will change. Reads only.
+    /// What the request will be answered, and what it will change. Reads only. It fails only where a call of the store did, where the world isn't sane,
+    /// or where the action isn't served yet.
     pub fn plan(&mut self, alloc: Global, t: Moment, request: &Request) -> Result<Plan, StoreFault>
-        ensures plan { IfOk result (IsPlanFor (world_in self.old) t request.now) }
-        ensures sane { IfOk result (λ plan. Sane (world_in self.old) → Sane (changed (planned_change plan) (world_in self.old))) }
-        ensures same { world_in self.new ≡ world_in self.old }
+        ensures kept { Kept (S.content (kept_by self.old)) (S.content (kept_by self.new)) }
+        ensures fault { FailsIn (S.can_fail ⊎ IsUnserved request.now.action) (S.content (kept_by self.new)) result }
+        ensures planned { Planned (S.content (kept_by self.new)) t request.now result }
+        ensures sane { IfOk result (λ plan. Asks (S.content (kept_by self.new))
+            (λ world. Sane world → Sane (changed (planned_change plan) world))) }
     {
         make_plan(alloc, &mut self.store, t, request)
     }
 
     /// Makes the plan's change, and answers its reply. Refused, it has consumed the plan and left the world.
     pub fn commit(&mut self, alloc: Global, plan: Plan) -> Result<Reply, StoreFault>
-        requires { CanMake (planned_change plan) (world_in self.old) }
+        requires { Asks (S.content (kept_by self.old)) (CanMake (planned_change plan)) }
+        ensures makes { Makes (planned_change plan) (S.content (kept_by self.old)) (S.content (kept_by self.new)) result }
+        ensures fault { Fails S.can_fail result }
         ensures reply { IfOk result (λ reply. reply ≡ planned_reply plan) }
-        ensures made { OnOk result (world_in self.new ≡ changed (planned_change plan) (world_in self.old)) }
-        ensures refused { OnErr result (world_in self.new ≡ world_in self.old) }
     {
         commit(alloc, &mut self.store, plan)
     }
 
     /// Answers one request: a step of the hall. A fault is `Reply::Unavailable`.
     pub fn step(&mut self, alloc: Global, t: Moment, request: &Request) -> Reply
-        ensures step { Step (world_in self.old) t request.now result (world_in self.new) }
-        ensures sane { Sane (world_in self.old) → Sane (world_in self.new) }
-        ensures unique { Sane (world_in self.old) → HasUniqueSolutions (world_in self.new) }
-        ensures right { Sane (world_in self.old) → RightAnswersAreSolutions (world_in self.new) }
+        ensures leads { Leads (S.content (kept_by self.old)) (S.content (kept_by self.new)) }
+        ensures steps { (S.content (kept_by self.new)).honest →
+            Steps (S.content (kept_by self.old)) t request.now result (S.content (kept_by self.new)) }
+        ensures sane { SaneThen Sane (S.content (kept_by self.old)) (S.content (kept_by self.new)) }
+        ensures unique { SaneThen HasUniqueSolutions (S.content (kept_by self.old)) (S.content (kept_by self.new)) }
+        ensures right { SaneThen RightAnswersAreSolutions (S.content (kept_by self.old)) (S.content (kept_by self.new)) }
     {
         step(alloc, &mut self.store, t, request)
     }
@@ -72,11 +70,13 @@ impl Desk {
         alloc: Global,
         requests: &[(Moment, Request)],
     ) -> Result<Vec<Reply>, AllocError>
-        ensures run { IfOk result (λ replies. Run (world_in self.old) requests.now replies.items (world_in self.new)) }
-        ensures sane { Sane (world_in self.old) → Sane (world_in self.new) }
-        ensures unique { Sane (world_in self.old) → HasUniqueSolutions (world_in self.new) }
-        ensures right { Sane (world_in self.old) → RightAnswersAreSolutions (world_in self.new) }
-        ensures refused { OnErr result (world_in self.new ≡ world_in self.old) }
+        ensures leads { Leads (S.content (kept_by self.old)) (S.content (kept_by self.new)) }
+        ensures runs { IfOk result (λ replies. (S.content (kept_by self.new)).honest →
+            Runs (S.content (kept_by self.old)) requests.now replies.items (S.content (kept_by self.new))) }
+        ensures sane { SaneThen Sane (S.content (kept_by self.old)) (S.content (kept_by self.new)) }
+        ensures unique { SaneThen HasUniqueSolutions (S.content (kept_by self.old)) (S.content (kept_by self.new)) }
+        ensures right { SaneThen RightAnswersAreSolutions (S.content (kept_by self.old)) (S.content (kept_by self.new)) }
+        ensures refused { OnErr result (kept_by self.new ≡ kept_by self.old) }
     {
         run(alloc, &mut self.store, requests)
     }

@@ -3,12 +3,12 @@ ghost use Rattle.std.specs.Prelude.{◌≡◌, ◌≢◌, ◌↔◌, ℕ, List, 
 ghost use Rattle.std.specs.List.{filter};
 ghost use Rattle.hall_policy.specs.World.{same_text};
 ghost use Rattle.hall_policy.specs.Rules.{StandsReleased, IsCertified};
-ghost use Rattle.hall_desk.specs.Store.{Kept, Told, IsRoundKept};
+ghost use Rattle.hall_store.specs.Store.{Asks, Kept, Told, Fails, IsRoundKept};
 ghost use Rattle.hall_desk.specs.Found.{HasFault, HasFaultyEntry};
 
 use crate::found::any_released;
-use crate::store::{Store, StoreFault};
 use hall_policy::{Entry, PuzzleKey, PuzzleState, RoundId, RoundRow};
+use hall_store::{Store, StoreFault};
 use std::alloc::Global;
 
 /// What may be wrong with an entry of a round that is to be released.
@@ -28,9 +28,11 @@ pub(crate) fn find_fault<S: Store>(
     round: &Option<RoundRow>,
     fault: EntryFault,
 ) -> Result<bool, StoreFault>
-    requires { S.is_honest store.old → S.serves store.old → IsRoundKept (S.world store.old) id.now round.now }
-    ensures kept { Kept S.is_honest S.serves S.world store.old store.new }
-    ensures told { Told S.is_honest S.serves store.old store.new result (λ found. IsTrue found ↔ HasFaultyEntry fault (S.world store.new) id.now) }
+    requires { Asks (S.content store.old) (λ world. IsRoundKept world id.now round.now) }
+    ensures kept { Kept (S.content store.old) (S.content store.new) }
+    ensures fault { Fails S.can_fail result }
+    ensures told { Told (S.content store.old) (S.content store.new) result
+        (λ world found. IsTrue found ↔ HasFaultyEntry fault world id.now) }
 {
     match round {
         Some(row) => any_faulty(alloc, store, id, row.puzzles.as_slice(), fault),
@@ -46,8 +48,10 @@ fn any_faulty<S: Store>(
     entries: &[Entry],
     fault: EntryFault,
 ) -> Result<bool, StoreFault>
-    ensures kept { Kept S.is_honest S.serves S.world store.old store.new }
-    ensures told { Told S.is_honest S.serves store.old store.new result (λ found. IsTrue found ↔ ((entry : Entry) × Contains entries.now entry × HasFault fault (S.world store.new) id.now entry)) }
+    ensures kept { Kept (S.content store.old) (S.content store.new) }
+    ensures fault { Fails S.can_fail result }
+    ensures told { Told (S.content store.old) (S.content store.new) result
+        (λ world found. IsTrue found ↔ ((entry : Entry) × Contains entries.now entry × HasFault fault world id.now entry)) }
 {
     for entry in entries {
         if has_fault(alloc, store, id, entry, fault)? {
@@ -65,8 +69,10 @@ fn has_fault<S: Store>(
     entry: &Entry,
     fault: EntryFault,
 ) -> Result<bool, StoreFault>
-    ensures kept { Kept S.is_honest S.serves S.world store.old store.new }
-    ensures told { Told S.is_honest S.serves store.old store.new result (λ found. IsTrue found ↔ HasFault fault (S.world store.new) id.now entry.now) }
+    ensures kept { Kept (S.content store.old) (S.content store.new) }
+    ensures fault { Fails S.can_fail result }
+    ensures told { Told (S.content store.old) (S.content store.new) result
+        (λ world found. IsTrue found ↔ HasFault fault world id.now entry.now) }
 {
     match fault {
         EntryFault::Shared => is_shared(alloc, store, id, &entry.puzzle),
@@ -81,8 +87,10 @@ fn is_shared<S: Store>(
     id: &RoundId,
     key: &PuzzleKey,
 ) -> Result<bool, StoreFault>
-    ensures kept { Kept S.is_honest S.serves S.world store.old store.new }
-    ensures told { Told S.is_honest S.serves store.old store.new result (λ found. IsTrue found ↔ ((other : List ℕ) × (other ≢ id.now) × StandsReleased (S.world store.new) key.now other)) }
+    ensures kept { Kept (S.content store.old) (S.content store.new) }
+    ensures fault { Fails S.can_fail result }
+    ensures told { Told (S.content store.old) (S.content store.new) result
+        (λ world found. IsTrue found ↔ ((other : List ℕ) × (other ≢ id.now) × StandsReleased world key.now other)) }
 {
     let mut others = store.rounds_using(alloc, key)?;
     leave_out(&mut others, id);
@@ -102,8 +110,10 @@ fn is_uncertified<S: Store>(
     store: &mut S,
     key: &PuzzleKey,
 ) -> Result<bool, StoreFault>
-    ensures kept { Kept S.is_honest S.serves S.world store.old store.new }
-    ensures told { Told S.is_honest S.serves store.old store.new result (λ found. IsTrue found ↔ ¬ (IsCertified (S.world store.new) key.now)) }
+    ensures kept { Kept (S.content store.old) (S.content store.new) }
+    ensures fault { Fails S.can_fail result }
+    ensures told { Told (S.content store.old) (S.content store.new) result
+        (λ world found. IsTrue found ↔ ¬ (IsCertified world key.now)) }
 {
     match store.puzzle(alloc, key)? {
         Some(row) => Ok(!is_one(&row.state)),

@@ -1,29 +1,21 @@
 //! The world that a hall opens with.
-ghost use Rattle.std.specs.Prelude.{◌≡◌, ◌≢◌, IsTrue, IfOk, OnOk, List, ℕ, None, Some, is_some};
-ghost use Rattle.std.specs.List.{list_all};
-ghost use Rattle.std.specs.BTreeMap as tree;
-ghost use Rattle.hall_policy.specs.World.{puzzle_cmp};
-ghost use Rattle.std.specs.FinMap.{get};
-ghost use Rattle.hall_policy.specs.declared.record.Person.{Person as Known};
-ghost use Rattle.hall_desk.specs.Maps.{world_of};
+ghost use Rattle.std.specs.Prelude.{IfOk, OnOk};
+ghost use Rattle.hall_store.specs.Maps.{world_of};
 ghost use Rattle.hall_desk.specs.Sane.{Sane};
 
-use crate::map_reads::{holder, person_at};
-use crate::map_store::MapStore;
 use crate::reply::Reply;
 use crate::step::step;
-use crate::store::StoreFault;
-use crate::writes::{push, put};
+use crate::writes::push;
 use hall_grid::{Puzzle, parse_puzzle};
 use hall_policy::{
     Action, Bonus, Checked, Entries, Entry, Minutes, Mode, Moment, Penalty, Person, Points,
-    ProtestMinutes, PuzzleKey, PuzzleRow, Request, Roles, Round, RoundRow, TextKind,
+    ProtestMinutes, PuzzleKey, Request, Roles, Round, RoundRow, TextKind,
 };
-use std::alloc::{AllocError, Global};
-use std::collections::BTreeMap;
+use hall_store::{MapStore, StoreFault};
+use std::alloc::Global;
 
-/// Six people, three puzzles that nobody certified yet, and three drafts.
-pub(crate) fn opening(alloc: Global) -> Result<MapStore, StoreFault>
+/// A store of six people, three puzzles that nobody certified yet, and three drafts. Its world is sane.
+pub fn opening_store(alloc: Global) -> Result<MapStore, StoreFault>
     ensures { IfOk result (λ store. Sane (world_of store)) }
 {
     let mut store = empty(alloc);
@@ -37,13 +29,7 @@ pub(crate) fn opening(alloc: Global) -> Result<MapStore, StoreFault>
 fn empty(alloc: Global) -> MapStore
     ensures { Sane (world_of result) }
 {
-    MapStore {
-        people: BTreeMap::new(alloc),
-        puzzles: BTreeMap::new(alloc),
-        rounds: BTreeMap::new(alloc),
-        answers: BTreeMap::new(alloc),
-        protests: BTreeMap::new(alloc),
-    }
+    MapStore::new(alloc)
 }
 
 /// The text, where it is of the kind.
@@ -108,32 +94,19 @@ fn add_person(
     insert_person(store, person)
 }
 
-/// Puts a person whose name and key are free.
+/// Puts a person whose name and key are free, and whose roles may go together.
 fn insert_person(store: &mut MapStore, person: Person) -> Result<(), StoreFault>
     requires { Sane (world_of store.old) }
     ensures { OnOk result (Sane (world_of store.new)) }
 {
-    if !is_free(store, &person)? {
+    if person.roles.director && person.roles.entrant {
         return Err(StoreFault::Failed);
     }
-    let name = person.name.clone()?;
-    put(&mut store.people, name, person)?;
-    Ok(())
-}
-
-/// Whether nobody has the name or the key, and the roles may go together.
-fn is_free(store: &MapStore, person: &Person) -> Result<bool, AllocError>
-    ensures name { IfOk result (λ free. IsTrue free → get (world_of store.now).people person.now.name ≡ None) }
-    ensures key { IfOk result (λ free. IsTrue free → (name : List ℕ) (other : Known) → get (world_of store.now).people name ≡ Some other → other.key ≢ person.now.key) }
-    ensures roles { IfOk result (λ free. IsTrue free → IsTrue person.now.roles.director → IsTrue person.now.roles.entrant → ⊥) }
-{
-    if person.roles.director && person.roles.entrant {
-        return Ok(false);
+    if store.add_person(person)? {
+        Ok(())
+    } else {
+        Err(StoreFault::Failed)
     }
-    Ok(
-        person_at(&store.people, &person.name)?.is_none()
-            && holder(&store.people, &person.key)?.is_none(),
-    )
 }
 
 fn add_puzzles(alloc: Global, store: &mut MapStore) -> Result<(), StoreFault>
@@ -333,30 +306,15 @@ fn entries_of(alloc: Global, entry: Entry) -> Result<Entries, StoreFault> {
 }
 
 /// Puts a draft whose id is free and whose puzzles are there.
-pub(crate) fn insert_draft(store: &mut MapStore, row: RoundRow) -> Result<(), StoreFault>
-    ensures { OnOk result (Sane (world_of store.old) → Sane (world_of store.new)) }
+fn insert_draft(store: &mut MapStore, row: RoundRow) -> Result<(), StoreFault>
+    requires { Sane (world_of store.old) }
+    ensures { OnOk result (Sane (world_of store.new)) }
 {
-    if row.round.released || row.round.published || store.rounds.contains_key(&row.round.id) {
-        return Err(StoreFault::Failed);
+    // They are read for the limits that their type keeps.
+    let _puzzles = row.puzzles.as_slice();
+    if store.add_draft(row)? {
+        Ok(())
+    } else {
+        Err(StoreFault::Failed)
     }
-    if !are_kept(&store.puzzles, row.puzzles.as_slice()) {
-        return Err(StoreFault::Failed);
-    }
-    let id = row.round.id.clone()?;
-    put(&mut store.rounds, id, row)?;
-    Ok(())
-}
-
-/// Whether each entry's puzzle is kept.
-fn are_kept(puzzles: &BTreeMap<PuzzleKey, PuzzleRow>, entries: &[Entry]) -> bool
-    ensures { result ≡ list_all (λ entry. is_some (tree.get puzzle_cmp puzzles.now entry.puzzle)) entries.now }
-{
-    entries.iter().all(|entry| is_kept(puzzles, entry))
-}
-
-/// Whether the entry's puzzle is kept.
-fn is_kept(puzzles: &BTreeMap<PuzzleKey, PuzzleRow>, entry: &Entry) -> bool
-    ensures { result ≡ is_some (tree.get puzzle_cmp puzzles.now entry.now.puzzle) }
-{
-    puzzles.contains_key(&entry.puzzle)
 }

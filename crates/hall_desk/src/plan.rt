@@ -1,27 +1,24 @@
 //! From a request to its plan: the caller, what the rules read, the decision, and what an allowed action answers and changes.
-ghost use Rattle.std.specs.Prelude.{◌≡◌, IfOk, IfSome, Some, None};
-ghost use Rattle.std.specs.FinMap.{get};
+ghost use Rattle.std.specs.Prelude.{◌≡◌, ◌⊎◌, IfOk, OnErr, IfSome, IfNone, None};
 ghost use Rattle.hall_policy.specs.World.{World};
-ghost use Rattle.hall_policy.specs.Facts.{TrueUpTo, deciding};
-ghost use Rattle.hall_policy.specs.Implies.{Implies, IsAllowable, IsRepetition};
-ghost use Rattle.hall_policy.specs.Decided.{IsDecided};
-ghost use Rattle.hall_desk.specs.Store.{Kept, Told};
+ghost use Rattle.hall_policy.specs.Decided.{IsDecidedUpTo, PassesUpTo};
+ghost use Rattle.hall_policy.specs.declared.rule.Decision.TheVariants.{Deny};
+ghost use Rattle.hall_store.specs.Store.{Asks, Kept, Told};
+ghost use Rattle.hall_store.specs.declared.change.Change.{Change};
 ghost use Rattle.hall_desk.specs.Found.{IsCaller};
-ghost use Rattle.hall_desk.specs.Step.{FirstReply};
-ghost use Rattle.hall_desk.specs.Plans.{IsPlanFor, IsMadePlan, Planned};
-ghost use Rattle.hall_desk.specs.declared.store.Change.{Change};
+ghost use Rattle.hall_desk.specs.Plans.{IsPlanFor, Planned, FailsIn, IsUnserved};
 
-use crate::answers::list_answers;
-use crate::certify_puzzle::{self, Certifying, certify_puzzle};
-use crate::found::settle_by_round;
+use crate::answers::Listing;
+use crate::certify_puzzle::Certifying;
+use crate::handler::Handler;
 use crate::planned::Plan;
-use crate::put_puzzle::{self, Putting, put_puzzle};
-use crate::read_round::read_round;
-use crate::release::{self, release_round};
+use crate::put_puzzle::Putting;
+use crate::read_round::Reading;
+use crate::release::Releasing;
 use crate::reply::Reply;
-use crate::store::{Store, StoreFault};
-use crate::submit::{self, Handed, received, submit};
+use crate::submit::Handed;
 use hall_policy::{Action, Decision, Facts, Moment, Request, Rule, decide_up_to};
+use hall_store::{Store, StoreFault};
 use std::alloc::Global;
 
 /// What the request will be answered, and what it will change. Reads only, and for a denial nothing that a later rule asks.
@@ -31,8 +28,9 @@ pub(crate) fn make_plan<S: Store>(
     t: Moment,
     request: &Request,
 ) -> Result<Plan, StoreFault>
-    ensures kept { Kept S.is_honest S.serves S.world store.old store.new }
-    ensures planned { Planned S.is_honest S.serves S.world store.new t request.now result }
+    ensures kept { Kept (S.content store.old) (S.content store.new) }
+    ensures fault { FailsIn (S.can_fail ⊎ IsUnserved request.now.action) (S.content store.new) result }
+    ensures planned { Planned (S.content store.new) t request.now result }
 {
     let mut facts = no_facts();
     let plan = plan_with(alloc, store, t, request, &mut facts);
@@ -70,14 +68,14 @@ fn plan_with<S: Store>(
     facts: &mut Facts,
 ) -> Result<Plan, StoreFault>
     requires { facts.old.caller ≡ None }
-    ensures kept { Kept S.is_honest S.serves S.world store.old store.new }
-    ensures planned { Planned S.is_honest S.serves S.world store.new t request.now result }
+    ensures kept { Kept (S.content store.old) (S.content store.new) }
+    ensures fault { FailsIn (S.can_fail ⊎ IsUnserved request.now.action) (S.content store.new) result }
+    ensures planned { Planned (S.content store.new) t request.now result }
 {
     match &request.key {
         Some(key) => {
             facts.caller = store.person_by_key(alloc, key)?;
-            let decision = settle(alloc, store, t, &request.action, facts)?;
-            answer(alloc, store, t, facts, request, decision)
+            plan_for_caller(alloc, store, t, request, facts)
         }
         None => plan_without_key(t, request, facts),
     }
@@ -88,61 +86,73 @@ fn plan_without_key(t: Moment, request: &Request, facts: &Facts) -> Result<Plan,
     requires key { request.now.key ≡ None }
     requires caller { facts.now.caller ≡ None }
     ensures nothing { IfOk result (λ plan. plan.change ≡ Change.Nothing) }
+    ensures fault { OnErr result (IsUnserved request.now.action) }
     ensures planned { IfOk result (λ plan. (world : World) → IsPlanFor world t request.now plan) }
 {
-    match decide_up_to(facts, &request.action, t, Rule::OtherAuthor) {
-        Some(Decision::Deny(rule)) => Ok(Plan::of(Reply::Denied(rule))),
-        Some(Decision::Repeat) | Some(Decision::Allow) | None => Err(StoreFault::Failed),
+    match caller_rule(facts, &request.action, t) {
+        Some(rule) => Ok(Plan::of(Reply::Denied(rule))),
+        None => Err(StoreFault::Failed),
     }
 }
 
-/// What is decided, and in the facts all that it rests on. The rules that read the caller alone are asked before anything else is read.
-fn settle<S: Store>(
-    alloc: Global,
-    store: &mut S,
-    t: Moment,
-    action: &Action,
-    facts: &mut Facts,
-) -> Result<Decision, StoreFault>
-    ensures kept { Kept S.is_honest S.serves S.world store.old store.new }
-    ensures caller { facts.new.caller ≡ facts.old.caller }
-    ensures implied { IfOk result (λ decision. Implies decision facts.new action.now) }
-    ensures told { Told S.is_honest S.serves store.old store.new result (λ decision. IsDecided (S.world store.new) facts.new action.now t decision) }
+/// The number of the rule on the caller that forbids the action, if one does.
+fn caller_rule(facts: &Facts, action: &Action, t: Moment) -> Option<u8>
+    ensures some { IfSome result (λ rule. IsDecidedUpTo 3 facts.now action.now t (Deny rule)) }
+    ensures none { IfNone result (PassesUpTo 3 facts.now action.now t) }
 {
-    if let Some(decision) = decide_up_to(facts, action, t, Rule::OtherAuthor) {
-        return Ok(decision);
+    match decide_up_to(facts, action, t, Rule::OtherAuthor) {
+        Some(Decision::Deny(rule)) => Some(rule),
+        Some(Decision::Repeat) | Some(Decision::Allow) => unreachable!(),
+        None => None,
     }
-    find_rest(alloc, store, t, action, facts)
 }
 
-/// What is decided where the caller alone doesn't forbid the action.
-fn find_rest<S: Store>(
+/// The plan where the caller is known. The rules on the caller are asked before anything else is read.
+fn plan_for_caller<S: Store>(
     alloc: Global,
     store: &mut S,
     t: Moment,
-    action: &Action,
+    request: &Request,
     facts: &mut Facts,
-) -> Result<Decision, StoreFault>
-    ensures kept { Kept S.is_honest S.serves S.world store.old store.new }
-    ensures caller { facts.new.caller ≡ facts.old.caller }
-    ensures implied { IfOk result (λ decision. Implies decision facts.new action.now) }
-    ensures told { Told S.is_honest S.serves store.old store.new result (λ decision. IsDecided (S.world store.new) facts.new action.now t decision) }
+) -> Result<Plan, StoreFault>
+    requires { Asks (S.content store.old) (λ world. IsCaller world request.now.key facts.old.caller) }
+    ensures kept { Kept (S.content store.old) (S.content store.new) }
+    ensures fault { FailsIn (S.can_fail ⊎ IsUnserved request.now.action) (S.content store.new) result }
+    ensures told { Told (S.content store.old) (S.content store.new) result (λ world plan. IsPlanFor world t request.now plan) }
 {
-    match action {
+    match caller_rule(facts, &request.action, t) {
+        Some(rule) => Ok(Plan::of(Reply::Denied(rule))),
+        None => dispatch(alloc, store, t, request, facts),
+    }
+}
+
+/// The plan of the request's action, by its handler.
+fn dispatch<S: Store>(
+    alloc: Global,
+    store: &mut S,
+    t: Moment,
+    request: &Request,
+    facts: &mut Facts,
+) -> Result<Plan, StoreFault>
+    requires caller { Asks (S.content store.old) (λ world. IsCaller world request.now.key facts.old.caller) }
+    requires passed { PassesUpTo 3 facts.old request.now.action t }
+    ensures kept { Kept (S.content store.old) (S.content store.new) }
+    ensures fault { FailsIn (S.can_fail ⊎ IsUnserved request.now.action) (S.content store.new) result }
+    ensures told { Told (S.content store.old) (S.content store.new) result (λ world plan. IsPlanFor world t request.now plan) }
+{
+    match &request.action {
         Action::PutPuzzle { key, puzzle } => {
-            put_puzzle::settle(alloc, store, t, action, &Putting { key, puzzle }, facts)
+            handle(alloc, store, t, request, &Putting { key, puzzle }, facts)
         }
         Action::Certify { key, budget } => {
             let certified = Certifying {
                 key,
                 budget: *budget,
             };
-            certify_puzzle::settle(alloc, store, t, action, &certified, facts)
+            handle(alloc, store, t, request, &certified, facts)
         }
-        Action::Release { round } => release::settle(alloc, store, t, action, round, facts),
-        Action::ReadRound { round } | Action::Answers { round } => {
-            settle_by_round(alloc, store, t, action, round, facts)
-        }
+        Action::Release { round } => handle(alloc, store, t, request, &Releasing { round }, facts),
+        Action::ReadRound { round } => handle(alloc, store, t, request, &Reading { round }, facts),
         Action::Submit {
             round,
             number,
@@ -155,8 +165,9 @@ fn find_rest<S: Store>(
                 token,
                 answer,
             };
-            submit::settle(alloc, store, t, action, &handed, facts)
+            handle(alloc, store, t, request, &handed, facts)
         }
+        Action::Answers { round } => handle(alloc, store, t, request, &Listing { round }, facts),
         Action::Import { .. }
         | Action::ReadPuzzle { .. }
         | Action::ListPuzzles
@@ -171,86 +182,26 @@ fn find_rest<S: Store>(
     }
 }
 
-/// The plan that the decision asks for.
-fn answer<S: Store>(
+/// The plan by the action's handler: as it decides.
+fn handle<H: Handler, S: Store>(
     alloc: Global,
     store: &mut S,
     t: Moment,
-    facts: &Facts,
     request: &Request,
-    decision: Decision,
+    handler: &H,
+    facts: &mut Facts,
 ) -> Result<Plan, StoreFault>
-    requires caller { S.is_honest store.old → S.serves store.old → IsCaller (S.world store.old) request.now.key facts.now.caller }
-    requires implied { Implies decision facts.now request.now.action }
-    requires decided { S.is_honest store.old → S.serves store.old → IsDecided (S.world store.old) facts.now request.now.action t decision }
-    ensures kept { Kept S.is_honest S.serves S.world store.old store.new }
-    ensures told { Told S.is_honest S.serves store.old store.new result (IsPlanFor (S.world store.new) t request.now) }
+    requires same { request.now.action ≡ H.action_of handler.now }
+    requires caller { Asks (S.content store.old) (λ world. IsCaller world request.now.key facts.old.caller) }
+    requires passed { PassesUpTo 3 facts.old request.now.action t }
+    ensures kept { Kept (S.content store.old) (S.content store.new) }
+    ensures fault { FailsIn (S.can_fail ⊎ IsUnserved request.now.action) (S.content store.new) result }
+    ensures told { Told (S.content store.old) (S.content store.new) result (λ world plan. IsPlanFor world t request.now plan) }
 {
+    let decision = handler.decision(alloc, store, t, &request.action, facts)?;
     match decision {
         Decision::Deny(rule) => Ok(Plan::of(Reply::Denied(rule))),
-        Decision::Repeat => Ok(Plan::of(first_reply(facts, &request.action)?)),
-        Decision::Allow => allow(alloc, store, t, facts, &request.action),
-    }
-}
-
-/// The reply that the answer under the token got. Nothing but an answer is repeated yet.
-fn first_reply(facts: &Facts, action: &Action) -> Result<Reply, StoreFault>
-    requires { IsRepetition facts.now action.now }
-    ensures { IfOk result (λ reply. (world : World) → TrueUpTo (deciding action.now Decision.Repeat) facts.now world action.now → FirstReply world facts.now.caller action.now reply) }
-{
-    let Action::Submit { .. } = action else {
-        return Err(StoreFault::Failed);
-    };
-    let (Some(row), Some(answer)) = (&facts.round, &facts.answer) else {
-        unreachable!()
-    };
-    Ok(received(&row.round, answer.n, answer.verdict))
-}
-
-/// The plan of an allowed action.
-fn allow<S: Store>(
-    alloc: Global,
-    store: &mut S,
-    t: Moment,
-    facts: &Facts,
-    action: &Action,
-) -> Result<Plan, StoreFault>
-    requires allowed { IsAllowable facts.now action.now }
-    requires told { S.is_honest store.old → S.serves store.old → TrueUpTo 20 facts.now (S.world store.old) action.now }
-    requires there { S.is_honest store.old → S.serves store.old → IfSome facts.now.caller (λ person. get (S.world store.old).people person.name ≡ Some person) }
-    ensures kept { Kept S.is_honest S.serves S.world store.old store.new }
-    ensures told { Told S.is_honest S.serves store.old store.new result (IsMadePlan (S.world store.new) facts.now.caller action.now t) }
-{
-    match action {
-        Action::PutPuzzle { key, puzzle } => put_puzzle(alloc, facts, key, puzzle),
-        Action::Certify { key, budget } => certify_puzzle(alloc, facts, key, *budget),
-        Action::Release { round } => release_round(facts, round),
-        Action::ReadRound { round } => read_round(alloc, store, facts, round),
-        Action::Submit {
-            round,
-            number,
-            token,
-            answer,
-        } => {
-            let handed = Handed {
-                round,
-                number: *number,
-                token,
-                answer,
-            };
-            submit(alloc, store, t, facts, &handed)
-        }
-        Action::Answers { round } => list_answers(alloc, store, t, facts, round),
-        Action::Import { .. }
-        | Action::ReadPuzzle { .. }
-        | Action::ListPuzzles
-        | Action::PutRound { .. }
-        | Action::ListRounds
-        | Action::Solutions { .. }
-        | Action::Protest { .. }
-        | Action::Protests { .. }
-        | Action::Rule { .. }
-        | Action::Publish { .. }
-        | Action::Table { .. } => Err(StoreFault::Failed),
+        Decision::Repeat => Ok(Plan::of(handler.first_reply(facts))),
+        Decision::Allow => handler.plan(alloc, store, t, facts),
     }
 }

@@ -3,7 +3,7 @@ ghost use Rattle.std.specs.Prelude.{◌≡◌};
 ghost use Rattle.hall_desk.specs.Plan.{planned_reply};
 
 use crate::reply::Reply;
-use crate::store::Change;
+use hall_store::Change;
 
 /// What a request will be answered, and what it will change.
 #[derive(Drop)]

@@ -1,26 +1,24 @@
 //! PutPuzzle: a puzzle is stored under its author and label.
-ghost use Rattle.std.specs.Prelude.{◌≡◌, ℕ, IfOk};
+ghost use Rattle.std.specs.Prelude.{◌≡◌, IfOk, None};
 ghost use Rattle.hall_grid.specs.Canonical.{CanonicalText};
-ghost use Rattle.hall_policy.specs.World.{World};
-ghost use Rattle.hall_policy.specs.Facts.{TrueUpTo};
-ghost use Rattle.hall_policy.specs.Implies.{Implies, IsAllowable};
-ghost use Rattle.hall_policy.specs.Decided.{IsDecided};
-ghost use Rattle.hall_desk.specs.Store.{Kept, Told};
+ghost use Rattle.hall_policy.specs.Rules.{puzzles_put};
+ghost use Rattle.hall_policy.specs.Implies.{IsAllowable};
 ghost use Rattle.hall_policy.specs.declared.request.Action.TheVariants.{PutPuzzle};
-ghost use Rattle.hall_desk.specs.Handed.{put_action};
+ghost use Rattle.hall_store.specs.Store.{Kept, Told, Fails};
 ghost use Rattle.hall_desk.specs.Shown.{state_name};
-ghost use Rattle.hall_desk.specs.Plans.{IsAllowedPlan, StandsAs};
+ghost use Rattle.hall_desk.specs.Plans.{IsPlanOf, StandsAs};
 
-use crate::found::{count_puzzles, find_author, find_release};
+use crate::found::{find_author, find_release};
+use crate::handler::Handler;
 use crate::planned::Plan;
 use crate::reply::{Reply, StateName};
-use crate::store::{Change, Store, StoreFault};
 use hall_grid::{Puzzle, write_puzzle};
 use hall_policy::{
-    Action, Decision, Facts, Moment, PuzzleKey, PuzzleRow, PuzzleState, PuzzleText, Rule, decide,
-    decide_up_to,
+    Action, Decision, Facts, Moment, Name, PuzzleKey, PuzzleRow, PuzzleState, PuzzleText, Rule,
+    decide, decide_up_to,
 };
-use std::alloc::Global;
+use hall_store::{Change, Store, StoreFault};
+use std::alloc::{AllocError, Global};
 
 /// What is put: a puzzle under its author and label.
 #[derive(Clone, Copy)]
@@ -29,43 +27,76 @@ pub(crate) struct Putting<'a> {
     pub(crate) puzzle: &'a Puzzle,
 }
 
-/// What is decided of a PutPuzzle: the author is looked for, then the rounds that have the puzzle, then how many puzzles there are.
-pub(crate) fn settle<S: Store>(
-    alloc: Global,
-    store: &mut S,
-    t: Moment,
-    action: &Action,
-    put: &Putting,
-    facts: &mut Facts,
-) -> Result<Decision, StoreFault>
-    requires { action.now ≡ put_action put.now }
-    ensures kept { Kept S.is_honest S.serves S.world store.old store.new }
-    ensures caller { facts.new.caller ≡ facts.old.caller }
-    ensures implied { IfOk result (λ decision. Implies decision facts.new action.now) }
-    ensures told { Told S.is_honest S.serves store.old store.new result (λ decision. IsDecided (S.world store.new) facts.new action.now t decision) }
-{
-    facts.author_is_there = find_author(alloc, store, &put.key.author)?;
-    if let Some(decision) = decide_up_to(facts, action, t, Rule::Missing) {
-        return Ok(decision);
+impl<'a> Handler for Putting<'a> {
+    ghost use Rattle.hall_desk.specs.Handler.{put_action};
+
+    ghost action_of = { put_action };
+
+    /// The author is looked for, then the rounds that have the puzzle, then the puzzle; puzzles are counted where it is a new one.
+    fn decision<S: Store>(
+        &self,
+        alloc: Global,
+        store: &mut S,
+        t: Moment,
+        action: &Action,
+        facts: &mut Facts,
+    ) -> Result<Decision, StoreFault> {
+        facts.author_is_there = find_author(alloc, store, &self.key.author)?;
+        if let Some(decision) = decide_up_to(facts, action, t, Rule::Missing) {
+            return Ok(decision);
+        }
+        facts.in_released = find_release(alloc, store, self.key)?;
+        if let Some(decision) = decide_up_to(facts, action, t, Rule::InReleasedRound) {
+            return Ok(decision);
+        }
+        facts.puzzle = store.puzzle(alloc, self.key)?;
+        facts.count = count_puzzles(alloc, store, &self.key.author, &facts.puzzle)?;
+        Ok(decide(facts, action, t))
     }
-    facts.in_released = find_release(alloc, store, put.key)?;
-    if let Some(decision) = decide_up_to(facts, action, t, Rule::InReleasedRound) {
-        return Ok(decision);
+
+    fn first_reply(&self, _facts: &Facts) -> Reply {
+        unreachable!()
     }
-    facts.puzzle = store.puzzle(alloc, put.key)?;
-    facts.count = count_puzzles(alloc, store, &put.key.author)?;
-    Ok(decide(facts, action, t))
+
+    /// The same puzzle again changes nothing, another one is stored as new.
+    fn plan<S: Store>(
+        &self,
+        alloc: Global,
+        _store: &mut S,
+        _t: Moment,
+        facts: &Facts,
+    ) -> Result<Plan, StoreFault> {
+        Ok(put_puzzle(alloc, facts, self.key, self.puzzle)?)
+    }
 }
 
-/// An allowed PutPuzzle: the same puzzle again changes nothing, another one is stored as new.
-pub(crate) fn put_puzzle(
+/// How many puzzles of the author are kept, where none is found under the key.
+fn count_puzzles<S: Store>(
+    alloc: Global,
+    store: &mut S,
+    author: &Name,
+    found: &Option<PuzzleRow>,
+) -> Result<u64, StoreFault>
+    ensures kept { Kept (S.content store.old) (S.content store.new) }
+    ensures fault { Fails S.can_fail result }
+    ensures told { Told (S.content store.old) (S.content store.new) result
+        (λ world count. found.now ≡ None → count ≡ puzzles_put world author.now) }
+{
+    match found {
+        Some(_) => Ok(0),
+        None => store.puzzles_put(alloc, author),
+    }
+}
+
+/// The plan of an allowed PutPuzzle.
+fn put_puzzle(
     alloc: Global,
     facts: &Facts,
     key: &PuzzleKey,
     puzzle: &Puzzle,
-) -> Result<Plan, StoreFault>
+) -> Result<Plan, AllocError>
     requires { IsAllowable facts.now (PutPuzzle key.now puzzle.now) }
-    ensures { IfOk result (λ plan. (world : World) → TrueUpTo 20 facts.now world (PutPuzzle key.now puzzle.now) → (t : ℕ) → IsAllowedPlan world facts.now.caller (PutPuzzle key.now puzzle.now) t plan) }
+    ensures { IfOk result (IsPlanOf facts.now (PutPuzzle key.now puzzle.now)) }
 {
     let text = text_of(alloc, puzzle)?;
     match standing_state(facts, puzzle) {
@@ -101,7 +132,7 @@ fn standing_state(facts: &Facts, puzzle: &Puzzle) -> Option<StateName>
 }
 
 /// The canonical text of a puzzle.
-pub(crate) fn text_of(alloc: Global, puzzle: &Puzzle) -> Result<PuzzleText, StoreFault>
+pub(crate) fn text_of(alloc: Global, puzzle: &Puzzle) -> Result<PuzzleText, AllocError>
     ensures { IfOk result (λ text. CanonicalText text puzzle.now) }
 {
     let text = write_puzzle(alloc, puzzle)?;

@@ -1,41 +1,62 @@
 //! ReadRound: a round with its puzzles' texts.
-ghost use Rattle.std.specs.Prelude.{◌≡◌, ◌+◌, ℕ};
-ghost use Rattle.hall_policy.specs.Facts.{TrueUpTo};
-ghost use Rattle.hall_policy.specs.Implies.{IsAllowable};
-ghost use Rattle.hall_policy.specs.declared.request.Action.TheVariants.{ReadRound};
-ghost use Rattle.hall_desk.specs.Store.{Kept, Told};
+ghost use Rattle.std.specs.Prelude.{◌≡◌, ◌≢◌, ◌≤◌, ◌<◌, ◌+◌, None, length};
+ghost use Rattle.std.specs.FinMap.{get};
+ghost use Rattle.hall_store.specs.Store.{Asks, Kept, Told};
+ghost use Rattle.hall_desk.specs.Sane.{Sane};
 ghost use Rattle.hall_desk.specs.Shown.{ShowsRound, ShowsPuzzles, ShowsPuzzle};
-ghost use Rattle.hall_desk.specs.Plans.{IsAllowedPlan};
+ghost use Rattle.hall_desk.specs.Plans.{FailsIn, AreKept};
 
+use crate::handler::Handler;
 use crate::planned::Plan;
 use crate::put_puzzle::text_of;
 use crate::reply::{Reply, ShownPuzzle, ShownRound};
 use crate::rows::Rows;
-use crate::store::{Change, Store, StoreFault};
 use crate::writes::push;
-use hall_policy::{Entry, Facts, PuzzleNumber, RoundId, RoundRow};
+use hall_policy::{Action, Decision, Entry, Facts, Moment, PuzzleNumber, RoundId, RoundRow, decide};
+use hall_store::{Change, Store, StoreFault};
 use std::alloc::Global;
 
-/// An allowed ReadRound: the round with its puzzles' texts.
-pub(crate) fn read_round<S: Store>(
-    alloc: Global,
-    store: &mut S,
-    facts: &Facts,
-    _round: &RoundId,
-) -> Result<Plan, StoreFault>
-    requires allowed { IsAllowable facts.now (ReadRound _round.now) }
-    requires told { S.is_honest store.old → S.serves store.old → TrueUpTo 20 facts.now (S.world store.old) (ReadRound _round.now) }
-    ensures kept { Kept S.is_honest S.serves S.world store.old store.new }
-    ensures told { Told S.is_honest S.serves store.old store.new result (λ plan. (t : ℕ) → IsAllowedPlan (S.world store.new) facts.now.caller (ReadRound _round.now) t plan) }
-{
-    let Some(row) = &facts.round else {
+/// What is read: the round of this id.
+#[derive(Clone, Copy)]
+pub(crate) struct Reading<'a> {
+    pub(crate) round: &'a RoundId,
+}
+
+impl<'a> Handler for Reading<'a> {
+    ghost use Rattle.hall_desk.specs.Handler.{read_action};
+
+    ghost action_of = { read_action };
+
+    fn decision<S: Store>(
+        &self,
+        alloc: Global,
+        store: &mut S,
+        t: Moment,
+        action: &Action,
+        facts: &mut Facts,
+    ) -> Result<Decision, StoreFault> {
+        facts.round = store.round(alloc, self.round)?;
+        Ok(decide(facts, action, t))
+    }
+
+    fn first_reply(&self, _facts: &Facts) -> Reply {
         unreachable!()
-    };
-    let shown = show_round(alloc, store, row)?;
-    Ok(Plan {
-        reply: Reply::RoundRead(shown),
-        change: Change::Nothing,
-    })
+    }
+
+    /// The round with its puzzles' texts.
+    fn plan<S: Store>(
+        &self,
+        alloc: Global,
+        store: &mut S,
+        _t: Moment,
+        facts: &Facts,
+    ) -> Result<Plan, StoreFault> {
+        let Some(row) = &facts.round else {
+            unreachable!()
+        };
+        let shown = show_round(alloc, store, row)?;
+        Ok(Plan::of(Reply::RoundRead(shown)))
+    }
 }
 
 /// The round as it is read.
@@ -44,8 +65,11 @@ fn show_round<S: Store>(
     store: &mut S,
     row: &RoundRow,
 ) -> Result<ShownRound, StoreFault>
-    ensures kept { Kept S.is_honest S.serves S.world store.old store.new }
-    ensures told { Told S.is_honest S.serves store.old store.new result (ShowsRound (S.world store.new) row.now) }
+    requires { Asks (S.content store.old) (λ world. Sane world → AreKept world row.now.puzzles) }
+    ensures kept { Kept (S.content store.old) (S.content store.new) }
+    ensures fault { FailsIn S.can_fail (S.content store.new) result }
+    ensures told { Told (S.content store.old) (S.content store.new) result
+        (λ world found. ShowsRound world row.now found) }
 {
     let id = row.round.id.clone()?;
     let title = row.round.title.clone()?;
@@ -69,8 +93,12 @@ fn show_puzzles<S: Store>(
     store: &mut S,
     entries: &[Entry],
 ) -> Result<Rows<ShownPuzzle>, StoreFault>
-    ensures kept { Kept S.is_honest S.serves S.world store.old store.new }
-    ensures told { Told S.is_honest S.serves store.old store.new result (ShowsPuzzles (S.world store.new) 1 entries.now) }
+    requires few { length entries.now ≤ 40 }
+    requires listed { Asks (S.content store.old) (λ world. Sane world → AreKept world entries.now) }
+    ensures kept { Kept (S.content store.old) (S.content store.new) }
+    ensures fault { FailsIn S.can_fail (S.content store.new) result }
+    ensures told { Told (S.content store.old) (S.content store.new) result
+        (λ world found. ShowsPuzzles world 1 entries.now found) }
 {
     let mut shown = Vec::new(alloc);
     for (place, entry) in entries.iter().enumerate() {
@@ -87,14 +115,15 @@ fn show_puzzle<S: Store>(
     place: usize,
     entry: &Entry,
 ) -> Result<ShownPuzzle, StoreFault>
-    ensures kept { Kept S.is_honest S.serves S.world store.old store.new }
-    ensures told { Told S.is_honest S.serves store.old store.new result (ShowsPuzzle (S.world store.new) (place + 1) entry.now) }
+    requires few { place < 40 }
+    requires listed { Asks (S.content store.old) (λ world. Sane world → get world.puzzles entry.now.puzzle ≢ None) }
+    ensures kept { Kept (S.content store.old) (S.content store.new) }
+    ensures fault { FailsIn S.can_fail (S.content store.new) result }
+    ensures told { Told (S.content store.old) (S.content store.new) result
+        (λ world found. ShowsPuzzle world (place + 1) entry.now found) }
 {
-    if place >= 99 {
-        return Err(StoreFault::Failed);
-    }
     let Some(number) = PuzzleNumber::new(place as u64 + 1) else {
-        return Err(StoreFault::Failed);
+        unreachable!()
     };
     let Some(row) = store.puzzle(alloc, &entry.puzzle)? else {
         return Err(StoreFault::Failed);

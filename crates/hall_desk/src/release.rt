@@ -1,51 +1,69 @@
 //! Release: a draft is released.
-ghost use Rattle.std.specs.Prelude.{◌≡◌, ℕ, IfOk};
-ghost use Rattle.hall_policy.specs.World.{World};
-ghost use Rattle.hall_policy.specs.Facts.{TrueUpTo};
-ghost use Rattle.hall_policy.specs.Implies.{Implies, IsAllowable};
-ghost use Rattle.hall_policy.specs.Decided.{IsDecided};
-ghost use Rattle.hall_desk.specs.Store.{Kept, Told};
+ghost use Rattle.std.specs.Prelude.{IfOk};
+ghost use Rattle.hall_policy.specs.Implies.{IsAllowable};
 ghost use Rattle.hall_policy.specs.declared.request.Action.TheVariants.{Release};
-ghost use Rattle.hall_desk.specs.Plans.{IsAllowedPlan};
+ghost use Rattle.hall_desk.specs.Plans.{IsPlanOf};
 
 use crate::entry_fault::{EntryFault, find_fault};
+use crate::handler::Handler;
 use crate::planned::Plan;
 use crate::reply::Reply;
-use crate::store::{Change, RoundFlag, Store, StoreFault};
 use hall_policy::{Action, Decision, Facts, Moment, RoundId, Rule, decide, decide_up_to};
-use std::alloc::Global;
+use hall_store::{Change, RoundFlag, Store, StoreFault};
+use std::alloc::{AllocError, Global};
 
-/// What is decided of a Release: each entry of the round is looked at for one fault, then for the other.
-pub(crate) fn settle<S: Store>(
-    alloc: Global,
-    store: &mut S,
-    t: Moment,
-    action: &Action,
-    round: &RoundId,
-    facts: &mut Facts,
-) -> Result<Decision, StoreFault>
-    requires { action.now ≡ Release round.now }
-    ensures kept { Kept S.is_honest S.serves S.world store.old store.new }
-    ensures caller { facts.new.caller ≡ facts.old.caller }
-    ensures implied { IfOk result (λ decision. Implies decision facts.new action.now) }
-    ensures told { Told S.is_honest S.serves store.old store.new result (λ decision. IsDecided (S.world store.new) facts.new action.now t decision) }
-{
-    facts.round = store.round(alloc, round)?;
-    if let Some(decision) = decide_up_to(facts, action, t, Rule::Missing) {
-        return Ok(decision);
-    }
-    facts.in_released = find_fault(alloc, store, round, &facts.round, EntryFault::Shared)?;
-    if let Some(decision) = decide_up_to(facts, action, t, Rule::InReleasedRound) {
-        return Ok(decision);
-    }
-    facts.uncertified = find_fault(alloc, store, round, &facts.round, EntryFault::Uncertified)?;
-    Ok(decide(facts, action, t))
+/// What is released: the round of this id.
+#[derive(Clone, Copy)]
+pub(crate) struct Releasing<'a> {
+    pub(crate) round: &'a RoundId,
 }
 
-/// An allowed Release: the draft is released.
-pub(crate) fn release_round(facts: &Facts, round: &RoundId) -> Result<Plan, StoreFault>
+impl<'a> Handler for Releasing<'a> {
+    ghost use Rattle.hall_desk.specs.Handler.{release_action};
+
+    ghost action_of = { release_action };
+
+    /// Each entry of the round is looked at for one fault, then for the other.
+    fn decision<S: Store>(
+        &self,
+        alloc: Global,
+        store: &mut S,
+        t: Moment,
+        action: &Action,
+        facts: &mut Facts,
+    ) -> Result<Decision, StoreFault> {
+        facts.round = store.round(alloc, self.round)?;
+        if let Some(decision) = decide_up_to(facts, action, t, Rule::Missing) {
+            return Ok(decision);
+        }
+        facts.in_released = find_fault(alloc, store, self.round, &facts.round, EntryFault::Shared)?;
+        if let Some(decision) = decide_up_to(facts, action, t, Rule::InReleasedRound) {
+            return Ok(decision);
+        }
+        facts.uncertified =
+            find_fault(alloc, store, self.round, &facts.round, EntryFault::Uncertified)?;
+        Ok(decide(facts, action, t))
+    }
+
+    fn first_reply(&self, _facts: &Facts) -> Reply {
+        unreachable!()
+    }
+
+    fn plan<S: Store>(
+        &self,
+        _alloc: Global,
+        _store: &mut S,
+        _t: Moment,
+        facts: &Facts,
+    ) -> Result<Plan, StoreFault> {
+        Ok(release_round(facts, self.round)?)
+    }
+}
+
+/// The plan of an allowed Release.
+fn release_round(facts: &Facts, round: &RoundId) -> Result<Plan, AllocError>
     requires { IsAllowable facts.now (Release round.now) }
-    ensures { IfOk result (λ plan. (world : World) → TrueUpTo 20 facts.now world (Release round.now) → (t : ℕ) → IsAllowedPlan world facts.now.caller (Release round.now) t plan) }
+    ensures { IfOk result (IsPlanOf facts.now (Release round.now)) }
 {
     let Some(_row) = &facts.round else {
         unreachable!()

@@ -1,13 +1,14 @@
 //! Plans made and committed, one request after another.
-ghost use Rattle.std.specs.Prelude.{◌≡◌, ◌+◌, ◌≤◌, ◌<◌, ◌++◌, ◌∷◌, [], IfOk, OnOk, OnErr, vec_len, vec_capacity};
-ghost use Rattle.hall_desk.specs.Change.{changed, CanMake};
+ghost use Rattle.std.specs.Prelude.{◌≡◌, ◌+◌, ◌≤◌, ◌<◌, ◌++◌, ◌∷◌, [], IfOk, OnErr, vec_len, vec_capacity};
+ghost use Rattle.hall_store.specs.Store.{Leads, Makes, Asks, Fails};
+ghost use Rattle.hall_store.specs.Change.{CanMake};
 ghost use Rattle.hall_desk.specs.Plans.{Steps, Runs};
 
 use crate::plan::make_plan;
 use crate::planned::Plan;
 use crate::reply::Reply;
-use crate::store::{Change, Store, StoreFault};
 use hall_policy::{Moment, Request};
+use hall_store::{Change, Store, StoreFault};
 use std::alloc::{AllocError, Global};
 
 /// Makes the plan's change, and answers its reply.
@@ -16,12 +17,10 @@ pub(crate) fn commit<S: Store>(
     store: &mut S,
     plan: Plan,
 ) -> Result<Reply, StoreFault>
-    requires { S.is_honest store.old → S.serves store.old → CanMake plan.change (S.world store.old) }
-    ensures honest { S.is_honest store.new → S.is_honest store.old }
-    ensures opened { S.is_honest store.new → S.serves store.new → S.serves store.old }
+    requires { Asks (S.content store.old) (CanMake plan.change) }
+    ensures makes { Makes plan.change (S.content store.old) (S.content store.new) result }
+    ensures fault { Fails S.can_fail result }
     ensures reply { IfOk result (λ reply. reply ≡ plan.reply) }
-    ensures made { OnOk result (S.is_honest store.new → S.serves store.old → S.serves store.new × (S.world store.new ≡ changed plan.change (S.world store.old))) }
-    ensures refused { OnErr result (S.is_honest store.new → S.serves store.new → S.world store.new ≡ S.world store.old) }
 {
     let Plan { reply, change } = plan;
     make(alloc, store, change)?;
@@ -30,11 +29,9 @@ pub(crate) fn commit<S: Store>(
 
 /// Makes the change by its call of the store.
 fn make<S: Store>(alloc: Global, store: &mut S, change: Change) -> Result<(), StoreFault>
-    requires { S.is_honest store.old → S.serves store.old → CanMake change (S.world store.old) }
-    ensures honest { S.is_honest store.new → S.is_honest store.old }
-    ensures opened { S.is_honest store.new → S.serves store.new → S.serves store.old }
-    ensures made { OnOk result (S.is_honest store.new → S.serves store.old → S.serves store.new × (S.world store.new ≡ changed change (S.world store.old))) }
-    ensures refused { OnErr result (S.is_honest store.new → S.serves store.new → S.world store.new ≡ S.world store.old) }
+    requires { Asks (S.content store.old) (CanMake change) }
+    ensures makes { Makes change (S.content store.old) (S.content store.new) result }
+    ensures fault { Fails S.can_fail result }
 {
     match change {
         Change::Nothing => Ok(()),
@@ -47,9 +44,8 @@ fn make<S: Store>(alloc: Global, store: &mut S, change: Change) -> Result<(), St
 
 /// Answers one request.
 pub(crate) fn step<S: Store>(alloc: Global, store: &mut S, t: Moment, request: &Request) -> Reply
-    ensures honest { S.is_honest store.new → S.is_honest store.old }
-    ensures opened { S.is_honest store.new → S.serves store.new → S.serves store.old }
-    ensures steps { S.is_honest store.new → Steps S.serves S.world store.old t request.now result store.new }
+    ensures leads { Leads (S.content store.old) (S.content store.new) }
+    ensures steps { (S.content store.new).honest → Steps (S.content store.old) t request.now result (S.content store.new) }
 {
     match make_plan(alloc, store, t, request) {
         Ok(plan) => match commit(alloc, store, plan) {
@@ -66,9 +62,8 @@ pub(crate) fn run<S: Store>(
     store: &mut S,
     requests: &[(Moment, Request)],
 ) -> Result<Vec<Reply>, AllocError>
-    ensures honest { S.is_honest store.new → S.is_honest store.old }
-    ensures opened { S.is_honest store.new → S.serves store.new → S.serves store.old }
-    ensures runs { IfOk result (λ replies. S.is_honest store.new → Runs S.serves S.world store.old requests.now replies.items store.new) }
+    ensures leads { Leads (S.content store.old) (S.content store.new) }
+    ensures runs { IfOk result (λ replies. (S.content store.new).honest → Runs (S.content store.old) requests.now replies.items (S.content store.new)) }
     ensures refused { OnErr result (store.new ≡ store.old) }
 {
     let mut replies = Vec::with_capacity(alloc, requests.len())?;

@@ -1,26 +1,26 @@
 //! Submit: an answer to a puzzle of a round is judged and stored.
-ghost use Rattle.std.specs.Prelude.{◌≡◌, IfOk, IfSome, Some};
-ghost use Rattle.std.specs.FinMap.{get};
+ghost use Rattle.std.specs.Prelude.{◌≡◌, ◌+◌, ◌<◌, IfOk, Some};
 ghost use Rattle.hall_grid.specs.Answer.{Verdict};
-ghost use Rattle.hall_policy.specs.World.{World, entry_at};
-ghost use Rattle.hall_policy.specs.Facts.{TrueUpTo};
-ghost use Rattle.hall_policy.specs.Implies.{Implies, IsAllowable};
-ghost use Rattle.hall_policy.specs.Decided.{IsDecided};
-ghost use Rattle.hall_desk.specs.Store.{Kept, Served, Told};
+ghost use Rattle.hall_policy.specs.World.{entry_at};
+ghost use Rattle.hall_policy.specs.Implies.{EntryIsThere};
+ghost use Rattle.hall_policy.specs.declared.record.Entry.{Entry};
+ghost use Rattle.hall_store.specs.Store.{Asks, Kept, Served, Told, Fails};
+ghost use Rattle.hall_store.specs.declared.change.Change.{Change};
+ghost use Rattle.hall_desk.specs.Sane.{Sane};
 ghost use Rattle.hall_desk.specs.Shown.{told_verdict};
-ghost use Rattle.hall_desk.specs.Handed.{handed_action, handed_key};
-ghost use Rattle.hall_desk.specs.Plans.{IsAllowedPlan, IsJudgedAt, IsJudgedFor};
+ghost use Rattle.hall_desk.specs.Handler.{handed_key, handed_row, IsAnswerOf, IsCountOf};
+ghost use Rattle.hall_desk.specs.Plans.{IsJudgedAt, FailsIn, AreKept};
 
-use crate::found::find_answer;
+use crate::handler::Handler;
 use crate::planned::Plan;
 use crate::reply::Reply;
-use crate::store::{Change, Store, StoreFault};
 use crate::verdict::judge;
 use hall_grid::Broken;
 use hall_policy::{
     Action, AnswerKey, AnswerNumber, AnswerRow, AnswerText, Decision, Entry, Facts, Mode, Moment,
     Person, PuzzleNumber, PuzzleRow, Round, RoundId, RoundRow, Rule, Token, decide, decide_up_to,
 };
+use hall_store::{Change, Store, StoreFault};
 use std::alloc::{AllocError, Global};
 
 /// What is handed in: an answer to the round's puzzle of that number, under a token.
@@ -32,70 +32,121 @@ pub(crate) struct Handed<'a> {
     pub(crate) answer: &'a AnswerText,
 }
 
-/// What is decided of a Submit. The caller's answers are read where the round lets the request pass.
-pub(crate) fn settle<S: Store>(
-    alloc: Global,
-    store: &mut S,
-    t: Moment,
-    action: &Action,
-    handed: &Handed,
-    facts: &mut Facts,
-) -> Result<Decision, StoreFault>
-    requires { action.now ≡ handed_action handed.now }
-    ensures kept { Kept S.is_honest S.serves S.world store.old store.new }
-    ensures caller { facts.new.caller ≡ facts.old.caller }
-    ensures implied { IfOk result (λ decision. Implies decision facts.new action.now) }
-    ensures told { Told S.is_honest S.serves store.old store.new result (λ decision. IsDecided (S.world store.new) facts.new action.now t decision) }
-{
-    facts.round = store.round(alloc, handed.round)?;
-    if let Some(decision) = decide_up_to(facts, action, t, Rule::OwnPuzzle) {
-        return Ok(decision);
+impl<'a> Handler for Handed<'a> {
+    ghost use Rattle.hall_desk.specs.Handler.{handed_action};
+
+    ghost action_of = { handed_action };
+
+    /// The token is looked up where the round lets the request pass, and answers are counted where nothing else forbids it.
+    fn decision<S: Store>(
+        &self,
+        alloc: Global,
+        store: &mut S,
+        t: Moment,
+        action: &Action,
+        facts: &mut Facts,
+    ) -> Result<Decision, StoreFault> {
+        facts.round = store.round(alloc, self.round)?;
+        if let Some(decision) = decide_up_to(facts, action, t, Rule::OwnPuzzle) {
+            return Ok(decision);
+        }
+        facts.answer = find_answer(alloc, store, facts, self)?;
+        if let Some(decision) = decide_up_to(facts, action, t, Rule::Published) {
+            return Ok(decision);
+        }
+        facts.count = count_answers(alloc, store, facts, self)?;
+        Ok(decide(facts, action, t))
     }
-    let (answer, count) = find_answer(
-        alloc,
-        store,
-        &facts.caller,
-        handed.round,
-        handed.number,
-        handed.token,
-    )?;
-    facts.answer = answer;
-    facts.count = count;
-    Ok(decide(facts, action, t))
+
+    fn first_reply(&self, facts: &Facts) -> Reply {
+        let (Some(row), Some(answer)) = (&facts.round, &facts.answer) else {
+            unreachable!()
+        };
+        received(&row.round, answer.n, answer.verdict)
+    }
+
+    /// The answer is judged, and its row is to be stored. The world isn't sane where its number is taken.
+    fn plan<S: Store>(
+        &self,
+        alloc: Global,
+        store: &mut S,
+        t: Moment,
+        facts: &Facts,
+    ) -> Result<Plan, StoreFault> {
+        let (Some(person), Some(row)) = (&facts.caller, &facts.round) else {
+            unreachable!()
+        };
+        let verdict = judge_at(alloc, store, row, self.number, self.answer)?;
+        let n = number_after(facts.count);
+        if store.is_number_taken(alloc, &person.name, self.round, self.number, n)? {
+            return Err(StoreFault::Failed);
+        }
+        Ok(submitted(t, person, row, self, n, verdict)?)
+    }
 }
 
-/// An allowed Submit: the answer is judged, and its row is to be stored.
-pub(crate) fn submit<S: Store>(
+/// The caller's answer under the token.
+fn find_answer<S: Store>(
     alloc: Global,
     store: &mut S,
-    t: Moment,
     facts: &Facts,
     handed: &Handed,
-) -> Result<Plan, StoreFault>
-    requires allowed { IsAllowable facts.now (handed_action handed.now) }
-    requires told { S.is_honest store.old → S.serves store.old → TrueUpTo 20 facts.now (S.world store.old) (handed_action handed.now) }
-    requires there { S.is_honest store.old → S.serves store.old → IfSome facts.now.caller (λ person. get (S.world store.old).people person.name ≡ Some person) }
-    ensures kept { Kept S.is_honest S.serves S.world store.old store.new }
-    ensures told { Told S.is_honest S.serves store.old store.new result (IsAllowedPlan (S.world store.new) facts.now.caller (handed_action handed.now) t) }
+) -> Result<Option<AnswerRow>, StoreFault>
+    ensures kept { Kept (S.content store.old) (S.content store.new) }
+    ensures fault { Fails S.can_fail result }
+    ensures told { Told (S.content store.old) (S.content store.new) result
+        (λ world found. IsAnswerOf world facts.now.caller handed.now found) }
 {
-    let Some(row) = &facts.round else {
-        unreachable!()
-    };
-    let verdict = judge_at(alloc, store, row, handed.number, handed.answer)?;
-    submitted(t, facts, handed, verdict)
+    match &facts.caller {
+        Some(person) => {
+            let key = key_of(person, handed)?;
+            store.answer(alloc, &key)
+        }
+        None => Ok(None),
+    }
 }
 
-/// The plan for an answer with its verdict.
-fn submitted(t: Moment, facts: &Facts, handed: &Handed, verdict: Broken) -> Result<Plan, StoreFault>
-    requires { IsAllowable facts.now (handed_action handed.now) }
-    ensures { IfOk result (λ plan. (world : World) → TrueUpTo 20 facts.now world (handed_action handed.now) → IsJudgedFor world facts.now (handed_action handed.now) verdict → IfSome facts.now.caller (λ person. get world.people person.name ≡ Some person) → IsAllowedPlan world facts.now.caller (handed_action handed.now) t plan) }
+/// How many answers to the puzzle the caller gave.
+fn count_answers<S: Store>(
+    alloc: Global,
+    store: &mut S,
+    facts: &Facts,
+    handed: &Handed,
+) -> Result<u64, StoreFault>
+    ensures kept { Kept (S.content store.old) (S.content store.new) }
+    ensures fault { Fails S.can_fail result }
+    ensures told { Told (S.content store.old) (S.content store.new) result
+        (λ world count. IsCountOf world facts.now.caller handed.now count) }
 {
-    let (Some(person), Some(row)) = (&facts.caller, &facts.round) else {
+    match &facts.caller {
+        Some(person) => store.answers_given(alloc, &person.name, handed.round, handed.number),
+        None => Ok(0),
+    }
+}
+
+/// The number of the answer after so many.
+fn number_after(count: u64) -> AnswerNumber
+    requires { count < 50 }
+    ensures { result ≡ count + 1 }
+{
+    let Some(n) = AnswerNumber::new(count + 1) else {
         unreachable!()
     };
-    let Some(n) = AnswerNumber::new(facts.count + 1) else {
-        unreachable!()
-    };
+    n
+}
+
+/// The plan for an answer with its number and verdict.
+fn submitted(
+    t: Moment,
+    person: &Person,
+    row: &RoundRow,
+    handed: &Handed,
+    n: AnswerNumber,
+    verdict: Broken,
+) -> Result<Plan, AllocError>
+    ensures reply { IfOk result (λ plan. plan.reply ≡ Reply.Received n (told_verdict row.now.round verdict)) }
+    ensures change { IfOk result (λ plan. plan.change ≡ Change.AddAnswer (handed_row person.now handed.now n t verdict)) }
+{
     let stored = AnswerRow {
         answer: handed.answer.clone()?,
         key: key_of(person, handed)?,
@@ -122,7 +173,7 @@ fn key_of(person: &Person, handed: &Handed) -> Result<AnswerKey, AllocError>
 }
 
 /// What is told of an accepted answer.
-pub(crate) fn received(round: &Round, n: AnswerNumber, verdict: Broken) -> Reply
+fn received(round: &Round, n: AnswerNumber, verdict: Broken) -> Reply
     ensures { result ≡ Reply.Received n (told_verdict round.now verdict) }
 {
     match round.mode {
@@ -134,7 +185,7 @@ pub(crate) fn received(round: &Round, n: AnswerNumber, verdict: Broken) -> Reply
     }
 }
 
-/// The verdict on an answer to the round's puzzle of that number.
+/// The verdict on an answer to the round's puzzle of that number. The world isn't sane where the puzzle isn't kept.
 fn judge_at<S: Store>(
     alloc: Global,
     store: &mut S,
@@ -142,28 +193,34 @@ fn judge_at<S: Store>(
     number: PuzzleNumber,
     answer: &AnswerText,
 ) -> Result<Broken, StoreFault>
-    ensures kept { Kept S.is_honest S.serves S.world store.old store.new }
-    ensures served { Served S.is_honest S.serves store.new result (λ verdict. IsJudgedAt (S.world store.new) row.now number answer.now verdict) }
+    requires there { EntryIsThere row.now number }
+    requires listed { Asks (S.content store.old) (λ world. Sane world → AreKept world row.now.puzzles) }
+    ensures kept { Kept (S.content store.old) (S.content store.new) }
+    ensures fault { FailsIn S.can_fail (S.content store.new) result }
+    ensures served { Served (S.content store.new) result
+        (λ world verdict. IsJudgedAt world row.now number answer.now verdict) }
 {
-    let Some(entry) = entry_of(row.puzzles.as_slice(), number) else {
-        return Err(StoreFault::Failed);
-    };
+    let entry = entry_of(row.puzzles.as_slice(), number);
     let Some(found) = store.puzzle(alloc, &entry.puzzle)? else {
         return Err(StoreFault::Failed);
     };
-    judge_row(alloc, &found, answer)
+    Ok(judge_row(alloc, &found, answer)?)
 }
 
 /// The verdict on an answer to a puzzle.
-fn judge_row(alloc: Global, row: &PuzzleRow, answer: &AnswerText) -> Result<Broken, StoreFault>
+fn judge_row(alloc: Global, row: &PuzzleRow, answer: &AnswerText) -> Result<Broken, AllocError>
     ensures { IfOk result (Verdict row.now.puzzle answer.now) }
 {
-    Ok(judge(alloc, &row.puzzle, answer.as_str().as_bytes())?)
+    judge(alloc, &row.puzzle, answer.as_str().as_bytes())
 }
 
-/// The round's puzzle of that number.
-fn entry_of(entries: &[Entry], number: PuzzleNumber) -> Option<&Entry>
-    ensures { IfSome result (λ entry. entry_at entries.now number ≡ Some entry.now) }
+/// The round's puzzle of that number, which is there.
+fn entry_of(entries: &[Entry], number: PuzzleNumber) -> &Entry
+    requires { (entry : Entry) × (entry_at entries.now number ≡ Some entry) }
+    ensures { entry_at entries.now number ≡ Some result.now }
 {
-    entries.get(number.get() as usize - 1)
+    match entries.get(number.get() as usize - 1) {
+        Some(entry) => entry,
+        None => unreachable!(),
+    }
 }

@@ -1,5 +1,5 @@
 //! Calls of the desk: a plan and its commit, a list of requests, certificates with their budgets, verdicts.
-use hall_desk::{Desk, Reply, StateName, certify, judge};
+use hall_desk::{Desk, Reply, StateName, certify, judge, opening_store};
 use hall_grid::{Puzzle, parse_puzzle};
 use hall_policy::{Action, Checked, Moment, PuzzleKey, Request, TextKind, Within};
 use hall_solve::Outcome;
@@ -78,7 +78,7 @@ fn requests(rt: &(impl AllocGlobal + Abort)) -> Vec<(Moment, Request)> {
 }
 
 /// Certifies the puzzle by a plan and its commit, and says whether both are answered so.
-fn certified(rt: &(impl AllocGlobal + Abort), desk: &mut Desk, t: Moment) -> bool {
+fn certified(rt: &(impl AllocGlobal + Abort), desk: &mut Desk<MapStore>, t: Moment) -> bool {
     let request = certificate(rt);
     let plan = desk.plan(rt.alloc(), t, &request).expect(rt, "plan");
     let is_planned = matches!(plan.reply(), Reply::Certified(StateName::One));
@@ -87,7 +87,7 @@ fn certified(rt: &(impl AllocGlobal + Abort), desk: &mut Desk, t: Moment) -> boo
 }
 
 /// Releases the round by a step, and says whether it is answered so.
-fn released(rt: &(impl AllocGlobal + Abort), desk: &mut Desk, t: Moment) -> bool {
+fn released(rt: &(impl AllocGlobal + Abort), desk: &mut Desk<MapStore>, t: Moment) -> bool {
     let reply = desk.step(rt.alloc(), t, &release(rt));
     matches!(&reply, Reply::Released(_))
 }
@@ -95,7 +95,7 @@ fn released(rt: &(impl AllocGlobal + Abort), desk: &mut Desk, t: Moment) -> bool
 #[test]
 fn plans_are_committed_and_lists_run(rt: HostRuntime) {
     let t = number(&rt, 1_777_712_399);
-    let mut desk = Desk::new(rt.alloc()).expect(&rt, "desk");
+    let mut desk = Desk::new(opening_store(rt.alloc()).expect(&rt, "opening"));
     assert!(rt; certified(&rt, &mut desk, t));
     assert!(rt; released(&rt, &mut desk, t));
     let replies = desk.run(rt.alloc(), &requests(&rt)).expect(&rt, "run");

@@ -1,5 +1,5 @@
 //! The commands: what they write and how they end, over whole inputs and over devices that fail.
-use hall_desk::Desk;
+use hall_desk::{Desk, opening_store};
 use hall_grid::Counted;
 use hall_tool::{ReplayFault, ToolFault, judge_run, replay, solve_run};
 use std::alloc::{AllocGlobal, Global};
@@ -280,7 +280,7 @@ fn replayed<R: Read, W: Write>(
     reader: &mut Counted<R>,
     writer: &mut Counted<W>,
 ) -> Result<(), ReplayFault> {
-    let mut desk = Desk::new(rt.alloc()).expect(rt, "desk");
+    let mut desk = Desk::new(opening_store(rt.alloc()).expect(rt, "opening"));
     replay(rt.alloc(), &mut desk, reader, writer)
 }
 

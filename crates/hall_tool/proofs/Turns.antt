@@ -8,15 +8,19 @@ use Rattle.std.proofs.KnownBytes.{Appends-nil, Appends-trans, Consumes-nil, Cons
 use Rattle.std.specs.Io.KnownBytes.{Appends, Consumes, IsAtEnd}
 use Rattle.hall_grid.specs.Device.{HasFailed}
 use Rattle.std.specs.Prelude.{All}
-use Rattle.std.proofs.lemmas.List.Elements.{All-nil, All-cons}
+use Rattle.std.proofs.lemmas.List.Elements.{All-nil, All-cons, All-append}
 use Rattle.hall_desk.specs.Run.{Run}
+use Rattle.hall_desk.specs.Sane.{Sane}
+use Rattle.hall_desk.specs.Desk.{SaneThen}
+use Rattle.hall_desk.proofs.StepsSane.{run_sane}
 use Rattle.hall_policy.specs.World.{World}
+use Rattle.hall_store.specs.Store.{Content, Leads}
 use Rattle.hall_tool.specs.declared.fault.ReplayFault.{ReplayFault}
 use Rattle.hall_tool.specs.declared.fault.ReplayFault.TheVariants as fault
 use Rattle.hall_tool.specs.Input.{WritesPart}
 use Rattle.hall_tool.specs.Records.{Record, IsRecord, record_bytes, header_of, HasNoRecord, NeverHasRecord, IsCut}
 use Rattle.hall_tool.specs.Records.{bytes_between}
-use Rattle.hall_tool.specs.Replay.{Exchange, Exchanged, Answers, Session, records_of, lines_of, IsRunOver, LacksRecord}
+use Rattle.hall_tool.specs.Replay.{Exchange, Exchanged, Answers, AnswersOver, Session, records_of, lines_of, IsRunOver, RunsOver, LacksRecord}
 use Rattle.hall_tool.specs.Replay.{IsMade, IsReplayed, Ended, ReadsMore}
 
 records_more : (xs : List Exchange) (x : Exchange) → records_of (xs ++ x ∷ []) ≡ records_of xs ++ record_bytes x.asked
@@ -54,11 +58,6 @@ run_over old (x ∷ xs) new (next, (is, inr (other, same)), rest) =
       made = inl (other, run.made);
     }
 
-pub all_records : (old : World) (xs : List Exchange) (new : World) → Session old xs new → All (λ x. IsRecord x.asked) xs
-all_records old [] new same = All-nil (λ x. IsRecord x.asked)
-all_records old (x ∷ xs) new (next, step, rest) =
-    All-cons (λ x. IsRecord x.asked) x xs step.0 (all_records next xs new rest)
-
 -- a whole record is at least a byte
 pub some_record : (bytes : List ℕ) (r : Record) (start end : ℕ) → IsCut bytes r start end → 0 < end
 some_record bytes r start zero h =
@@ -75,26 +74,38 @@ never_nil h =
 pub not_nil : (xs : List ℕ) → 0 < length xs → xs ≢ []
 not_nil xs some e = let z : length xs ≡ 0 = ap length e in omega arith
 
+-- a session over a store, to some world, which is the store's where it still serves
+abbrev pub SessionOver : Content → List Exchange → Content → Type 0
+SessionOver old done new = (last : World) × Session old.world done last × (new.serves → new.world ≡ last)
+
+-- a session over a store is a run over it
+runs_over : (old : Content) (xs : List Exchange) (new : Content) → SessionOver old xs new → RunsOver old xs new
+runs_over old xs new (last, session, own) = (last, run_over old.world xs last session, own)
+
 -- after some turns: the records answered, and what was read after them
-pub record Kept (stream after wrote written : Option (List ℕ)) (old new : World)
+pub record Kept (stream after wrote written : Option (List ℕ)) (old new : Content)
     (inbox : List ℕ) (reads : ℕ) : Type 0 where
   pub done : List Exchange
-  pub session : Session old done new
+  pub whole : All (λ x. IsRecord x.asked) done
+  pub leads : Leads old new
+  pub session : new.honest → SessionOver old done new
   pub consumed : Consumes stream after (records_of done ++ inbox)
   pub pieces : reads ≤ length (records_of done ++ inbox)
   pub replied : Appends wrote written (lines_of done)
 
-pub kept_start : (stream wrote : Option (List ℕ)) (world : World) → Kept stream stream wrote wrote world world [] 0
-kept_start stream wrote world =
+pub kept_start : (stream wrote : Option (List ℕ)) (store : Content) → Kept stream stream wrote wrote store store [] 0
+kept_start stream wrote store =
     record {
       done = [];
-      session = refl;
+      whole = All-nil (λ x. IsRecord x.asked);
+      leads = record { honest = λ h. h; serves = λ h s. s };
+      session = λ h. (store.world, refl, λ s. refl);
       consumed = Consumes-nil stream;
       pieces = omega arith;
       replied = Appends-nil wrote;
     }
 
-module _ (stream after wrote written : Option (List ℕ)) (old new : World) (inbox : List ℕ) (reads : ℕ)
+module _ (stream after wrote written : Option (List ℕ)) (old new : Content) (inbox : List ℕ) (reads : ℕ)
     (kept : Kept stream after wrote written old new inbox reads) where
   pub kept_read : (then : Option (List ℕ)) (piece : List ℕ) → 0 < length piece → Consumes after then piece
       → Kept stream then wrote written old new (inbox ++ piece) (reads + 1)
@@ -103,14 +114,16 @@ module _ (stream after wrote written : Option (List ℕ)) (old new : World) (inb
       sym (append_assoc (records_of kept.done) inbox piece) in
       record {
         done = kept.done;
+        whole = kept.whole;
+        leads = kept.leads;
         session = kept.session;
         consumed = rw all (Consumes-trans stream after then (records_of kept.done ++ inbox) piece kept.consumed more);
         pieces = rw all (omega (arith, kept.pieces, length-append (records_of kept.done ++ inbox) piece));
         replied = kept.replied;
       }
 
-  module _ (r : Record) (start end : ℕ) (line : List ℕ) (next : World) (cut : IsCut inbox r start end)
-      (says : Answers new r.moment (bytes_between inbox start end) line next) where
+  module _ (r : Record) (start end : ℕ) (line : List ℕ) (next : Content) (cut : IsCut inbox r start end)
+      (leads : Leads new next) (says : next.honest → AnswersOver new r.moment (bytes_between inbox start end) line next) where
     abbrev x : Exchange
     x = record { asked = r; line = line }
 
@@ -120,15 +133,41 @@ module _ (stream after wrote written : Option (List ℕ)) (old new : World) (inb
         ∙ append_assoc (records_of kept.done) (take end inbox) (drop end inbox)
         ∙ ap (λ s. records_of kept.done ++ s) (take-append-drop end inbox)
 
-    longer : Session old (kept.done ++ x ∷ []) next
-    longer =
-        session_more old kept.done new x next kept.session
-        (cut.is, subst (λ s. Answers new r.moment s line next) (sym cut.request) says)
+    abbrev all : List Exchange
+    all = kept.done ++ x ∷ []
+
+    exchanged : (before later : World) → Answers before r.moment (bytes_between inbox start end) line later → Exchanged before x later
+    exchanged before later answers = (cut.is, subst (λ s. Answers before r.moment s line later) (sym cut.request) answers)
+
+    more : SessionOver old kept.done new → (next.serves → new.serves) →
+        AnswersOver new r.moment (bytes_between inbox start end) line next → SessionOver old all next
+    more (last, session, own) served (inl (always, left)) =
+        (last, session_more old.world kept.done last x last session (exchanged last last (always last)), λ s. left s ∙ own (served s))
+    more (last, session, own) served (inr (before, later, answers)) = (
+      next.world,
+      session_more old.world kept.done last x next.world session
+          (exchanged last next.world (subst (λ w. Answers w r.moment (bytes_between inbox start end) line next.world) (own before) answers)),
+      λ s. refl,
+    )
+
+    longer : next.honest → SessionOver old all next
+    longer h = more (kept.session (leads.honest h)) (leads.serves h) (says h)
+
+    whole_all : All (λ x. IsRecord x.asked) all
+    whole_all = All-append (λ x. IsRecord x.asked) kept.done (x ∷ []) kept.whole (All-cons (λ x. IsRecord x.asked) x [] cut.is (All-nil (λ x. IsRecord x.asked)))
+
+    led : Leads old next
+    led = record {
+      honest = λ h. kept.leads.honest (leads.honest h);
+      serves = λ h s. kept.leads.serves (leads.honest h) (leads.serves h s);
+    }
 
     pub kept_answered : (then : Option (List ℕ)) → Appends written then line
         → Kept stream after wrote then old next (drop end inbox) reads
     kept_answered then sent = record {
-      done = kept.done ++ x ∷ [];
+      done = all;
+      whole = whole_all;
+      leads = led;
       session = longer;
       consumed = rw same_bytes kept.consumed;
       pieces = rw same_bytes kept.pieces;
@@ -140,10 +179,11 @@ module _ (stream after wrote written : Option (List ℕ)) (old new : World) (inb
     pub unsent : {U : Type 0} (then : Option (List ℕ)) (failed : Type 0) → WritesPart written then line → failed
         → IsReplayed {U = U} stream after wrote then old next failed (Err fault.Device)
     unsent then failed part rose = record {
-      answered = kept.done ++ x ∷ [];
+      answered = all;
       unread = drop end inbox;
-      whole = all_records old (kept.done ++ x ∷ []) next longer;
-      run = run_over old (kept.done ++ x ∷ []) next longer;
+      whole = whole_all;
+      leads = led;
+      run = λ h. runs_over old all next (longer h);
       consumed = rw same_bytes kept.consumed;
       ended = (inr (kept.done, x, written, refl, kept.replied, part), rose);
     }
@@ -161,8 +201,9 @@ module _ (stream after wrote written : Option (List ℕ)) (old new : World) (inb
     ends then end consumed ended = record {
       answered = kept.done;
       unread = inbox;
-      whole = all_records old kept.done new kept.session;
-      run = run_over old kept.done new kept.session;
+      whole = kept.whole;
+      leads = kept.leads;
+      run = λ h. runs_over old kept.done new (kept.session h);
       consumed = consumed;
       ended = ended;
     }
@@ -178,8 +219,9 @@ module _ (stream after wrote written : Option (List ℕ)) (old new : World) (inb
         record {
           answered = kept.done;
           unread = inbox ++ piece;
-          whole = all_records old kept.done new kept.session;
-          run = run_over old kept.done new kept.session;
+          whole = kept.whole;
+          leads = kept.leads;
+          run = λ h. runs_over old kept.done new (kept.session h);
           consumed = subst (λ s. Consumes stream then s) (append_assoc (records_of kept.done) inbox piece) all;
           ended = kept.replied;
         }
@@ -217,3 +259,9 @@ module _ (stream after wrote written : Option (List ℕ)) (old new : World) (inb
         → IsReplayed {U = U} stream after wrote written old new failed (Err fault.Record)
     never_record never =
         no_record after (Consumes-nil after) ((λ e. never_nil (subst NeverHasRecord e never)), inr never)
+
+-- what was replayed keeps a sane world sane
+pub replayed_sane : (old : Content) (xs : List Exchange) (new : Content) → (new.honest → RunsOver old xs new) → SaneThen Sane old new
+replayed_sane old xs new run h s sane =
+    let over = run h in
+    subst Sane (sym (over.2 s)) (run_sane old.world over.1.requests over.1.replies over.0 over.1.run sane)

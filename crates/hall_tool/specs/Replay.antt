@@ -4,6 +4,7 @@ use Rattle.std.specs.Prelude.{Ok, Err, Bool, true, false, codes, string_bytes}
 use Rattle.std.specs.Io.KnownBytes.{Appends, Consumes, IsAtEnd}
 use Rattle.hall_grid.specs.Device.{HasFailed}
 use Rattle.hall_policy.specs.World.{World}
+use Rattle.hall_store.specs.Store.{Content, Leads, Over}
 use Rattle.hall_policy.specs.declared.request.Request.{Request}
 use Rattle.hall_desk.specs.Step.{Step}
 use Rattle.hall_desk.specs.Run.{Run}
@@ -49,6 +50,14 @@ abbrev pub Answers : World → ℕ → List ℕ → List ℕ → World → Type 
 Answers world moment bytes line after =
     IsStep world moment bytes line after ⊎ ((IsRefused bytes line ⊎ BytesOf NotServed line) × (after ≡ world))
 
+-- the bytes are answered over a store
+abbrev pub AnswersOver : Content → ℕ → List ℕ → List ℕ → Content → Type 0
+AnswersOver old moment bytes line new = Over (λ before after. Answers before moment bytes line after) old new
+
+-- the line is the reply of a step of the hall for the request, over a store
+abbrev pub IsStepLineOver : Content → ℕ → Request → List ℕ → Content → Type 0
+IsStepLineOver old moment request line new = Over (λ before after. IsStepLine before moment request line after) old new
+
 -- a record, and the line that answers it
 pub record Exchange : Type 0 where
   pub asked : Record
@@ -88,6 +97,10 @@ pub record IsRunOver (old : World) (xs : List Exchange) (new : World) : Type 0 w
   pub run : Run old requests replies new
   pub made : AreMade xs requests replies
 
+-- over a store, the requests of the records have these replies in a run to some world, which is the store's where it still serves
+abbrev pub RunsOver : Content → List Exchange → Content → Type 0
+RunsOver old xs new = (last : World) × IsRunOver old.world xs last × (new.serves → new.world ≡ last)
+
 -- the bytes of the records, and those of the lines
 abbrev pub records_of : List Exchange → List ℕ
 records_of xs = flat_map (λ x. record_bytes x.asked) xs
@@ -117,12 +130,13 @@ Ended (Err fault.Device) after wrote written xs unread failed = WritesAllButLast
 Ended (Err fault.Memory) after wrote written xs unread failed = Appends wrote written (lines_of xs)
 
 -- the stream was read as these records and then this rest, the records were answered, and the replay ended so
-pub record IsReplayed {U : Type 0} (stream after wrote written : Option (List ℕ)) (old new : World)
+pub record IsReplayed {U : Type 0} (stream after wrote written : Option (List ℕ)) (old new : Content)
     (failed : Type 0) (end : Result U ReplayFault) : Type 0 where
   pub answered : List Exchange
   pub unread : List ℕ
   pub whole : All (λ x. IsRecord x.asked) answered
-  pub run : IsRunOver old answered new
+  pub leads : Leads old new
+  pub run : new.honest → RunsOver old answered new
   pub consumed : Consumes stream after (records_of answered ++ unread)
   pub ended : Ended end after wrote written answered unread failed
 

@@ -2,7 +2,7 @@
 ghost use Rattle.std.specs.Prelude.{◌≡◌, ◌<◌, ◌⊎◌, [], IfErr, OnOk, OnErr, MatchResult, length};
 ghost use Rattle.std.specs.Io.KnownBytes.{Appends};
 ghost use Rattle.hall_grid.specs.Device.{HasFailed};
-ghost use Rattle.hall_desk.specs.Desk.{world_in};
+ghost use Rattle.hall_desk.specs.Desk.{kept_by, SaneThen};
 ghost use Rattle.hall_desk.specs.Sane.{Sane};
 ghost use Rattle.hall_desk.specs.Promises.{HasUniqueSolutions, RightAnswersAreSolutions};
 ghost use Rattle.hall_tool.specs.Input.{WritesPart};
@@ -15,6 +15,7 @@ use crate::inbox::Inbox;
 use crate::record::{Cut, cut_record};
 use hall_desk::Desk;
 use hall_grid::Counted;
+use hall_store::Store;
 use std::alloc::Global;
 use std::io::{Read, Write};
 
@@ -37,31 +38,33 @@ fn send<W: Write>(writer: &mut Counted<W>, line: Line) -> Result<(), ToolFault>
 ///
 /// Ends well where the input held whole records and no more. A device's fault leaves the records handled made, the last
 /// one's line perhaps unsent; any other fault comes after the lines of the records before. A sane world stays sane.
-pub fn replay<R: Read, W: Write>(
+pub fn replay<R: Read, W: Write, S: Store>(
     alloc: Global,
-    desk: &mut Desk,
+    desk: &mut Desk<S>,
     reader: &mut Counted<R>,
     writer: &mut Counted<W>,
 ) -> Result<(), ReplayFault>
     ensures replayed { IsReplayed (R.remaining reader.old.device) (R.remaining reader.new.device)
-        (W.contents writer.old.device) (W.contents writer.new.device) (world_in desk.old) (world_in desk.new)
+        (W.contents writer.old.device) (W.contents writer.new.device)
+        (S.content (kept_by desk.old)) (S.content (kept_by desk.new))
         (HasFailed reader.old.failures reader.new.failures ⊎ HasFailed writer.old.failures writer.new.failures) result }
-    ensures sane { Sane (world_in desk.old) → Sane (world_in desk.new) }
-    ensures unique { Sane (world_in desk.old) → HasUniqueSolutions (world_in desk.new) }
-    ensures right { Sane (world_in desk.old) → RightAnswersAreSolutions (world_in desk.new) }
+    ensures sane { SaneThen Sane (S.content (kept_by desk.old)) (S.content (kept_by desk.new)) }
+    ensures unique { SaneThen HasUniqueSolutions (S.content (kept_by desk.old)) (S.content (kept_by desk.new)) }
+    ensures right { SaneThen RightAnswersAreSolutions (S.content (kept_by desk.old)) (S.content (kept_by desk.new)) }
 {
     answer_records(alloc, desk, reader, writer)
 }
 
 /// Answers the records of the input, and writes their lines.
-fn answer_records<R: Read, W: Write>(
+fn answer_records<R: Read, W: Write, S: Store>(
     alloc: Global,
-    desk: &mut Desk,
+    desk: &mut Desk<S>,
     reader: &mut Counted<R>,
     writer: &mut Counted<W>,
 ) -> Result<(), ReplayFault>
     ensures { IsReplayed (R.remaining reader.old.device) (R.remaining reader.new.device)
-        (W.contents writer.old.device) (W.contents writer.new.device) (world_in desk.old) (world_in desk.new)
+        (W.contents writer.old.device) (W.contents writer.new.device)
+        (S.content (kept_by desk.old)) (S.content (kept_by desk.new))
         (HasFailed reader.old.failures reader.new.failures ⊎ HasFailed writer.old.failures writer.new.failures) result }
 {
     let mut inbox = Inbox::new(alloc)?;

@@ -1,11 +1,11 @@
 use Rattle.std.proofs.Common.{◌↔◌, IsTrue, subst, sym}
-use Rattle.hall_desk.specs.Store.{Told}
+use Rattle.hall_store.specs.Store.{Told}
 use Rattle.hall_desk.specs.Found.{HasFault}
 use Rattle.hall_desk.specs.declared.entry_fault.EntryFault.{EntryFault}
 use Rattle.hall_desk.proofs.entry_fault.has_fault.Goals as goal
 
 pub returns-in-Uncertified-clause-told : goal.returns-in-Uncertified-clause-told
 returns-in-Uncertified-clause-told g c =
-    let new = c.is_uncertified.new.store in
-    subst (λ (fault : EntryFault). Told g.S.Store.is_honest g.S.Store.serves c.args.store.now new c.is_uncertified.result (λ found. IsTrue found ↔ HasFault fault (g.S.Store.world new) c.args.id.now c.args.entry.now))
+    let new = g.S.Store.content c.is_uncertified.new.store in
+    subst (λ (fault : EntryFault). Told (g.S.Store.content c.args.store.now) new c.is_uncertified.result (λ world found. IsTrue found ↔ HasFault fault world c.args.id.now c.args.entry.now))
     (sym c.in-Uncertified.is) c.is_uncertified.ensures.told

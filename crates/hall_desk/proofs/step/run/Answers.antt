@@ -9,13 +9,12 @@ use Rattle.hall_desk.proofs.step.run.Goals as goal
 
 pub loop-asked-init : goal.loop-asked-init
 loop-asked-init g c =
-    let world = g.S.Store.world c.args.store.now in
+    let world = (g.S.Store.content c.args.store.now).world in
     let made = c.in_ok-replies.ensures in
     record {
       count = made.len;
       room = made.capacity;
-      honest = λ h. h;
-      opened = λ h s. s;
+      leads = record { honest = λ h. h; serves = λ h s. s };
       runs = λ h. (world, subst (λ (replies : List Reply). Run world [] replies world) (sym made.items) refl, λ s. refl);
     }
 
@@ -24,8 +23,9 @@ loop-asked-preserved g c =
     let old = c.loop-asked.invariant in
     let step = c.step-reply.ensures in
     let kept = c.keep.ensures in
-    let serves = g.S.Store.serves in
-    let world = g.S.Store.world in
+    let first = g.S.Store.content c.args.store.now in
+    let before = g.S.Store.content c.loop-asked.store in
+    let new = g.S.Store.content c.step-reply.new.store in
     let requests = c.args.requests.now in
     let index = c.loop-asked.asked-index in
     let asked = c.asked-item.result in
@@ -33,16 +33,18 @@ loop-asked-preserved g c =
     record {
       count = omega (arith, kept.len, old.count);
       room = omega (arith, kept.capacity, old.room);
-      honest = λ h. old.honest (step.honest h);
-      opened = λ h s. old.opened (step.honest h) (step.opened h s);
+      leads = record {
+        honest = λ h. old.leads.honest (step.leads.honest h);
+        serves = λ h s. old.leads.serves (step.leads.honest h) (step.leads.serves h s);
+      };
       runs = λ h.
-          subst (λ (list : List (ℕ × Request)). Runs serves world c.args.store.now list c.keep.new.replies.items c.step-reply.new.store) (sym more)
-          (subst (λ (replies : List Reply). Runs serves world c.args.store.now (take index requests ++ asked ∷ []) replies c.step-reply.new.store) (sym kept.items)
-          (runs_more serves world c.args.store.now c.loop-asked.store c.step-reply.new.store (take index requests) c.loop-asked.replies.items asked c.step-reply.result
-          (step.opened h) (old.runs (step.honest h)) (step.steps h)));
+          subst (λ (list : List (ℕ × Request)). Runs first list c.keep.new.replies.items new) (sym more)
+          (subst (λ (replies : List Reply). Runs first (take index requests ++ asked ∷ []) replies new) (sym kept.items)
+          (runs_more first before new (take index requests) c.loop-asked.replies.items asked c.step-reply.result
+          (step.leads.serves h) (old.runs (step.leads.honest h)) (step.steps h)));
     }
 
 pub returns-clause-runs : goal.returns-clause-runs
 returns-clause-runs g c =
     let whole : take c.loop-asked.asked-index c.args.requests.now ≡ c.args.requests.now = take_all c.args.requests.now c.loop-asked.asked-index c.loop-asked-test.false in
-    λ h. subst (λ (list : List (ℕ × Request)). Runs g.S.Store.serves g.S.Store.world c.args.store.now list c.loop-asked.replies.items c.loop-asked.store) whole (c.loop-asked.invariant.runs h)
+    λ h. subst (λ (list : List (ℕ × Request)). Runs (g.S.Store.content c.args.store.now) list c.loop-asked.replies.items (g.S.Store.content c.loop-asked.store)) whole (c.loop-asked.invariant.runs h)

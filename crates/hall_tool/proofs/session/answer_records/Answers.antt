@@ -13,20 +13,20 @@ returns-in_err-inbox g c =
 pub returns-in-Err : goal.returns-in-Err
 returns-in-Err g c =
     let (r, late, whole) = rw c.unread.ensures at c.in-Whole.ensures in
-    let says = rw (c.unread-in-Whole.ensures, ← late) at c.answer_bytes-line.ensures in
-    unsent _ _ _ _ _ _ _ _ c.records.invariant.kept r c.in-Whole.start c.in-Whole.end _ _ whole says _
+    let says = rw (c.unread-in-Whole.ensures, ← late) at c.answer_bytes-line.ensures.answers in
+    unsent _ _ _ _ _ _ _ _ c.records.invariant.kept r c.in-Whole.start c.in-Whole.end _ _ whole c.answer_bytes-line.ensures.leads says _
     _ c.in-Err.ensures.part (inr (rw c.records.invariant.writer at c.in-Err.ensures.device.1))
 
 pub records-preserved-in-Ok : goal.records-preserved-in-Ok
 records-preserved-in-Ok g c =
     let (r, late, whole) = rw c.unread.ensures at c.in-Whole.ensures in
-    let says = rw (c.unread-in-Whole.ensures, ← late) at c.answer_bytes-line.ensures in
+    let says = rw (c.unread-in-Whole.ensures, ← late) at c.answer_bytes-line.ensures.answers in
     record {
       few = c.records.invariant.few;
       reader = c.records.invariant.reader;
       writer = c.in-Ok.ensures.same ∙ c.records.invariant.writer;
       kept = rw c.pass.ensures
-          (kept_answered _ _ _ _ _ _ _ _ c.records.invariant.kept r c.in-Whole.start c.in-Whole.end _ _ whole says
+          (kept_answered _ _ _ _ _ _ _ _ c.records.invariant.kept r c.in-Whole.start c.in-Whole.end _ _ whole c.answer_bytes-line.ensures.leads says
           _ c.in-Ok.ensures.written);
     }
 

@@ -1,5 +1,5 @@
 use Rattle.std.proofs.Common.{◌≡◌, ◌≤◌, ◌+◌, ◌-◌, ◌*◌, length}
-use Rattle.hall_desk.specs.Desk.{world_in}
+use Rattle.hall_desk.specs.Desk.{kept_by}
 use Rattle.hall_tool.proofs.Turns.{Kept}
 use Rattle.hall_tool.proofs.session.answer_records.Given as goal
 
@@ -10,7 +10,7 @@ invariant-records g l = record {
   writer : l.writer.failures ≡ l.fn.writer.failures;
   kept : Kept (g.R.Read.remaining l.fn.reader.device) (g.R.Read.remaining l.reader.device)
       (g.W.Write.contents l.fn.writer.device) (g.W.Write.contents l.writer.device)
-      (world_in l.fn.desk) (world_in l.desk) l.inbox l.reads;
+      (g.S.Store.content (kept_by l.fn.desk)) (g.S.Store.content (kept_by l.desk)) l.inbox l.reads;
 }
 
 abbrev pub decreases-records : goal.decreases-records

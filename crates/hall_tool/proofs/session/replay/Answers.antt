@@ -1,21 +1,15 @@
-use Rattle.hall_desk.specs.Desk.{world_in}
-use Rattle.hall_desk.proofs.StepsSane.{run_sane}
+use Rattle.hall_desk.specs.Desk.{kept_by}
 use Rattle.hall_desk.proofs.Promises.{unique_solutions, right_answers}
+use Rattle.hall_tool.proofs.Turns.{replayed_sane}
 use Rattle.hall_tool.proofs.session.replay.Goals as goal
 
 pub returns-clause-sane : goal.returns-clause-sane
-returns-clause-sane g c = λ sane.
-    let over = c.answer_records.ensures.run in
-    run_sane (world_in c.args.desk.now) over.requests over.replies (world_in c.answer_records.new.desk) over.run sane
+returns-clause-sane g c = replayed_sane _ _ _ c.answer_records.ensures.run
 
 pub returns-clause-unique : goal.returns-clause-unique
-returns-clause-unique g c = λ sane.
-    let over = c.answer_records.ensures.run in
-    unique_solutions (world_in c.answer_records.new.desk)
-    (run_sane (world_in c.args.desk.now) over.requests over.replies (world_in c.answer_records.new.desk) over.run sane)
+returns-clause-unique g c = λ h s sane.
+    unique_solutions (g.S.Store.content (kept_by c.answer_records.new.desk)).world (replayed_sane _ _ _ c.answer_records.ensures.run h s sane)
 
 pub returns-clause-right : goal.returns-clause-right
-returns-clause-right g c = λ sane.
-    let over = c.answer_records.ensures.run in
-    right_answers (world_in c.answer_records.new.desk)
-    (run_sane (world_in c.args.desk.now) over.requests over.replies (world_in c.answer_records.new.desk) over.run sane)
+returns-clause-right g c = λ h s sane.
+    right_answers (g.S.Store.content (kept_by c.answer_records.new.desk)).world (replayed_sane _ _ _ c.answer_records.ensures.run h s sane)

@@ -1,0 +1,38 @@
+use Rattle.std.proofs.Common.{Option, sym, subst}
+use Rattle.hall_policy.specs.Decided.{IsDecided}
+use Rattle.hall_policy.specs.declared.record.Person.{Person}
+use Rattle.hall_policy.specs.declared.request.Action.{Action}
+use Rattle.hall_policy.specs.declared.rule.Decision.{Decision}
+use Rattle.hall_policy.specs.declared.rule.Decision.TheVariants.{Allow}
+use Rattle.hall_store.specs.Store.{Kept}
+use Rattle.hall_store.specs.Change.{changed}
+use Rattle.hall_desk.specs.Found.{IsCaller}
+use Rattle.hall_desk.specs.Step.{Allowed}
+use Rattle.hall_desk.specs.Plans.{IsMadePlan, IsPlanFor, IsUnserved}
+use Rattle.hall_desk.proofs.Knowing.{carried, fails_wider, kept_then, told_through}
+use Rattle.hall_desk.proofs.Planning.{planned}
+use Rattle.hall_desk.proofs.plan.handle.Goals as goal
+
+pub returns-in-Allow-clause-fault : goal.returns-in-Allow-clause-fault
+returns-in-Allow-clause-fault g c =
+    fails_wider c.plan.result g.S.Store.can_fail (IsUnserved c.args.request.now.action) (g.S.Store.content c.plan.new.store) c.plan.ensures.fault
+
+pub returns-in-Allow-clause-told : goal.returns-in-Allow-clause-told
+returns-in-Allow-clause-told g c =
+    let facts = c.decision.new.facts in
+    let request = c.args.request.now in
+    let action = g.H.Handler.action_of c.args.handler.now in
+    let old = g.S.Store.content c.args.store.now in
+    let mid = g.S.Store.content c.decision.new.store in
+    let new = g.S.Store.content c.plan.new.store in
+    let decided = c.in_ok-decision.ensures in
+    let kept : Kept old new = kept_then old mid new decided.kept c.plan.ensures.kept in
+    told_through c.plan.result (λ w plan. IsMadePlan w facts.caller action c.args.t plan) (λ w plan. IsPlanFor w c.args.t request plan) old mid new c.plan.ensures.kept decided.told.0
+    (λ plan h s made.
+    planned facts new.world c.args.t request Allow plan.reply plan.change
+    (subst (λ (who : Option Person). IsCaller new.world request.key who) (sym decided.caller)
+    (carried (λ w. IsCaller w request.key c.args.facts.now.caller) old new kept c.requires.caller h s))
+    (carried (λ w. IsDecided w facts request.action c.args.t Allow) mid new c.plan.ensures.kept
+    (λ h0 s0. subst (λ (decision : Decision). IsDecided mid.world facts request.action c.args.t decision) c.in-Allow.is (decided.told.1 h0 s0)) h s)
+    made.found (subst (λ (a : Action). Allowed new.world facts.caller a c.args.t made.found plan.reply (changed plan.change new.world)) (sym c.requires.same) made.allowed) made.can)
+    c.plan.ensures.told

@@ -1,0 +1,21 @@
+use Rattle.std.proofs.Common.{refl, sym, subst}
+use Rattle.hall_policy.specs.declared.rule.Decision.TheVariants.{Deny}
+use Rattle.hall_policy.specs.declared.record.PuzzleState.TheVariants as state
+use Rattle.hall_store.specs.declared.change.Change.TheVariants as change
+use Rattle.hall_desk.specs.Plans.{IsPlanFor}
+use Rattle.hall_desk.specs.declared.planned.Plan.{Plan}
+use Rattle.hall_desk.specs.declared.reply.Reply.TheVariants as reply
+use Rattle.hall_desk.proofs.Planning.{planned}
+use Rattle.hall_desk.proofs.Telling.{caller_told}
+use Rattle.hall_desk.proofs.plan.plan_for_caller.Goals as goal
+
+pub returns-in-Some-clause-told : goal.returns-in-Some-clause-told
+returns-in-Some-clause-told g c =
+    let facts = c.args.facts.now in
+    let request = c.args.request.now in
+    let world = (g.S.Store.content c.args.store.now).world in (
+      (λ h s. s),
+      (λ h s. subst (λ (plan : Plan). IsPlanFor world c.args.t request plan) (sym c.of.ensures)
+          (planned facts world c.args.t request (Deny c.in-Some.rule) (reply.Denied c.in-Some.rule) change.Nothing (c.requires h s)
+          (c.in-Some.ensures.some world (caller_told facts world request.action)) state.GaveUp (refl, refl) tt)),
+    )

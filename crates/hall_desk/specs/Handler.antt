@@ -1,0 +1,56 @@
+-- The actions of the handlers, and what is found for them.
+use Rattle.std.specs.Prelude.{◌≡◌, ℕ, Option, Some}
+use Rattle.std.specs.FinMap.{get}
+use Rattle.hall_policy.specs.World.{World}
+use Rattle.hall_policy.specs.Rules.{answers_given}
+use Rattle.hall_policy.specs.declared.record.AnswerRow.{AnswerRow}
+use Rattle.hall_policy.specs.declared.request.Action.{Action}
+use Rattle.hall_policy.specs.declared.request.Action.TheVariants.{PutPuzzle, Certify, Release, ReadRound, Submit, Answers}
+use Rattle.hall_policy.specs.declared.record.AnswerKey.{AnswerKey}
+use Rattle.hall_policy.specs.declared.record.Person.{Person}
+use Rattle.hall_desk.specs.declared.submit.Handed.{Handed}
+use Rattle.hall_desk.specs.declared.put_puzzle.Putting.{Putting}
+use Rattle.hall_desk.specs.declared.certify_puzzle.Certifying.{Certifying}
+use Rattle.hall_desk.specs.declared.release.Releasing.{Releasing}
+use Rattle.hall_desk.specs.declared.read_round.Reading.{Reading}
+use Rattle.hall_desk.specs.declared.answers.Listing.{Listing}
+
+-- the action that hands it in
+abbrev pub handed_action : Handed → Action
+handed_action handed = Submit handed.round.now handed.number handed.token.now handed.answer.now
+
+-- where an answer of the person's is kept that hands it in
+abbrev pub handed_key : Person → Handed → AnswerKey
+handed_key person handed = record { entrant = person.name; round = handed.round.now; number = handed.number; token = handed.token.now }
+
+-- the row of the person's answer that is handed in, with its number, moment and verdict
+abbrev pub handed_row : Person → Handed → ℕ → ℕ → ℕ → AnswerRow
+handed_row person handed n t verdict = record { key = handed_key person handed; n = n; moment = t; answer = handed.answer.now; verdict = verdict }
+
+-- the caller's answer under the token of what is handed in
+abbrev pub IsAnswerOf : World → Option Person → Handed → Option AnswerRow → Type 0
+IsAnswerOf world caller handed found = (person : Person) → caller ≡ Some person → found ≡ get world.answers (handed_key person handed)
+
+-- how many answers to the puzzle the caller gave
+abbrev pub IsCountOf : World → Option Person → Handed → ℕ → Type 0
+IsCountOf world caller handed count = (person : Person) → caller ≡ Some person → count ≡ answers_given world person.name handed.round.now handed.number
+
+-- the action that puts the puzzle
+abbrev pub put_action : Putting → Action
+put_action put = PutPuzzle put.key.now put.puzzle.now
+
+-- the action that certifies the puzzle
+abbrev pub certify_action : Certifying → Action
+certify_action certified = Certify certified.key.now certified.budget
+
+-- the action that releases the round
+abbrev pub release_action : Releasing → Action
+release_action released = Release released.round.now
+
+-- the action that reads the round
+abbrev pub read_action : Reading → Action
+read_action read = ReadRound read.round.now
+
+-- the action that lists the round's answers
+abbrev pub list_action : Listing → Action
+list_action listed = Answers listed.round.now

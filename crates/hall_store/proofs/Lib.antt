@@ -1,0 +1,10 @@
+pub mod Tests
+pub mod Ranges
+pub mod Firsts
+pub mod MapWorlds
+pub mod RoundWorlds
+pub mod AnswerWorlds
+pub mod UsingRounds
+pub mod Sorting
+pub mod Inserts
+pub mod Adding

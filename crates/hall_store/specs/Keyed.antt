@@ -1,0 +1,144 @@
+-- What holds of the rows of ordered maps and of their keys, and of the indexes beside them.
+use Rattle.std.specs.Prelude.{◌≡◌, ◌==◌, ◌&&◌, ◌≤◌, ℕ, Bool, false, cond, List, [], ◌∷◌, map, Contains, Option, Some, None}
+use Rattle.std.specs.declared.cmp.Ordering.{Ordering}
+use Rattle.std.specs.Ordering.{nat_cmp, ordering_then}
+use Rattle.std.specs.List.{list_any, filter}
+use Rattle.std.specs.Map.{lookup}
+use Rattle.std.specs.BTreeMap.{is_at}
+use Rattle.hall_policy.specs.Text.{text_cmp, is_word_byte, IsOfKind}
+use Rattle.hall_policy.specs.World.{same_text}
+use Rattle.hall_policy.specs.declared.record.Person.{Person}
+use Rattle.hall_policy.specs.declared.record.PuzzleKey.{PuzzleKey}
+use Rattle.hall_policy.specs.declared.record.PuzzleRow.{PuzzleRow}
+use Rattle.hall_policy.specs.declared.record.Entry.{Entry}
+use Rattle.hall_policy.specs.declared.record.RoundRow.{RoundRow}
+use Rattle.hall_policy.specs.declared.record.AnswerKey.{AnswerKey}
+use Rattle.hall_policy.specs.declared.record.AnswerRow.{AnswerRow}
+use Rattle.hall_store.specs.declared.slot.AnswerSlot.{AnswerSlot}
+use Rattle.hall_store.specs.declared.slot.UseKey.{UseKey}
+use Rattle.hall_store.specs.declared.slot.Part.{Part}
+use Rattle.hall_store.specs.declared.slot.Part.TheVariants.{Round, Entrant, Puzzle}
+
+-- each row and its key have P
+abbrev pub Each : {K X : Type 0} → (K → K → Ordering) → List (K × X) → (K → X → Type 0) → Type 0
+Each {K} {X} R rows P = (key : K) (row : X) → lookup (is_at (R key)) rows ≡ Some row → P key row
+
+-- the least word
+abbrev pub least_word : List ℕ
+least_word = 45 ∷ []
+
+-- ---- people
+-- the person stands under the own name, and the index leads from the person's key to it
+pub record IsPersonIndexed (keys : List (List ℕ × List ℕ)) (name : List ℕ) (person : Person) : Type 0 where
+  pub own : person.name ≡ name
+  pub led : lookup (is_at (text_cmp person.key)) keys ≡ Some name
+
+-- the person, where it has the key
+abbrev pub if_holder : List ℕ → Option Person → Option Person
+if_holder key None = None
+if_holder key (Some person) = cond (same_text person.key key) (Some person) None
+
+-- the person under the name that the index gave, where it has the key
+abbrev pub holder_under : List (List ℕ × Person) → List ℕ → Option (List ℕ) → Option Person
+holder_under people key None = None
+holder_under people key (Some name) = if_holder key (lookup (is_at (text_cmp name)) people)
+
+-- the person with the key, as the index leads to it
+abbrev pub holder_of : List (List ℕ × Person) → List (List ℕ × List ℕ) → List ℕ → Option Person
+holder_of people keys key = holder_under people key (lookup (is_at (text_cmp key)) keys)
+
+-- ---- puzzles
+-- the puzzle stands under its own key, whose label is a word
+pub record IsPuzzleKept (key : PuzzleKey) (row : PuzzleRow) : Type 0 where
+  pub own : row.key ≡ key
+  pub label : IsOfKind 1 24 is_word_byte key.label
+
+-- the least key that a puzzle of the author can have
+abbrev pub first_label : List ℕ → PuzzleKey
+first_label author = record { author = author; label = least_word }
+
+-- ---- rounds and their puzzles
+-- the order of uses: by author, label, then round
+abbrev pub use_cmp : UseKey → UseKey → Ordering
+use_cmp a b =
+    ordering_then (text_cmp a.author b.author) (ordering_then (text_cmp a.label b.label) (text_cmp a.round b.round))
+
+-- that the round may have the puzzle
+abbrev pub use_of : PuzzleKey → List ℕ → UseKey
+use_of key round = record { author = key.author; label = key.label; round = round }
+
+-- the use is of the puzzle
+abbrev pub is_use_of : PuzzleKey → UseKey → Bool
+is_use_of key used = same_text used.author key.author && same_text used.label key.label
+
+-- the use's round is a word
+abbrev pub IsUseKept : UseKey → Unit {0} → Type 0
+IsUseKept used _ = IsOfKind 1 24 is_word_byte used.round
+
+-- the index has each puzzle of the round
+abbrev pub IsRoundIndexed : List (UseKey × Unit {0}) → List ℕ → RoundRow → Type 0
+IsRoundIndexed uses id row =
+    (entry : Entry) → Contains row.puzzles entry → lookup (is_at (use_cmp (use_of entry.puzzle id))) uses ≡ Some tt
+
+-- no use is lost
+abbrev pub UsesStay : List (UseKey × Unit {0}) → List (UseKey × Unit {0}) → Type 0
+UsesStay before after =
+    (used : UseKey) → lookup (is_at (use_cmp used)) before ≡ Some tt → lookup (is_at (use_cmp used)) after ≡ Some tt
+
+-- one of the entries is the puzzle
+abbrev pub has_puzzle : List Entry → PuzzleKey → Bool
+has_puzzle entries key =
+    list_any (λ entry. same_text entry.puzzle.author key.author && same_text entry.puzzle.label key.label) entries
+
+-- the round that was found has the puzzle
+abbrev pub has_puzzle_at : PuzzleKey → Option RoundRow → Bool
+has_puzzle_at key None = false
+has_puzzle_at key (Some row) = has_puzzle row.puzzles key
+
+-- the round of the use has the puzzle that the use is of
+abbrev pub is_use_true : List (List ℕ × RoundRow) → PuzzleKey → UseKey × Unit {0} → Bool
+is_use_true rounds key used = has_puzzle_at key (lookup (is_at (text_cmp used.0.round)) rounds)
+
+-- the rounds of the uses of the puzzle that are true
+abbrev pub ids_using : List (List ℕ × RoundRow) → PuzzleKey → List (UseKey × Unit {0}) → List (List ℕ)
+ids_using rounds key uses =
+    map (λ used. used.0.round) (filter (is_use_true rounds key) (filter (λ used. is_use_of key used.0) uses))
+
+-- ---- answers
+-- the order of slots: by round, entrant, number, then token
+abbrev pub slot_cmp : AnswerSlot → AnswerSlot → Ordering
+slot_cmp a b =
+    ordering_then (text_cmp a.round b.round)
+    (ordering_then (text_cmp a.entrant b.entrant)
+    (ordering_then (nat_cmp a.number b.number) (text_cmp a.token b.token)))
+
+-- the slot of the answer with the key
+abbrev pub slot_of : AnswerKey → AnswerSlot
+slot_of key = record { round = key.round; entrant = key.entrant; number = key.number; token = key.token }
+
+-- the key of the answer in the slot
+abbrev pub key_of : AnswerSlot → AnswerKey
+key_of slot = record { entrant = slot.entrant; round = slot.round; number = slot.number; token = slot.token }
+
+-- the answer stands in its own slot, whose parts are in their limits
+pub record IsAnswerKept (slot : AnswerSlot) (row : AnswerRow) : Type 0 where
+  pub own : slot_of row.key ≡ slot
+  pub entrant : IsOfKind 1 24 is_word_byte slot.entrant
+  pub number : 1 ≤ slot.number
+  pub token : IsOfKind 1 32 is_word_byte slot.token
+
+-- both slots are of one round, of one entrant in it, or of one entrant to one puzzle of it
+abbrev pub agree : Part → AnswerSlot → AnswerSlot → Bool
+agree Round a b = same_text a.round b.round
+agree Entrant a b = same_text a.round b.round && same_text a.entrant b.entrant
+agree Puzzle a b = (same_text a.round b.round && same_text a.entrant b.entrant) && (a.number == b.number)
+
+-- the least slot that an answer of the entrant to the round's puzzle of the number can have
+abbrev pub first_slot : List ℕ → List ℕ → ℕ → AnswerSlot
+first_slot round entrant number = record { round = round; entrant = entrant; number = number; token = least_word }
+
+-- no slot of the part is below this one
+abbrev pub IsFirst : Part → AnswerSlot → Type 0
+IsFirst Round slot = (slot.entrant ≡ least_word) × (slot.number ≡ 1) × (slot.token ≡ least_word)
+IsFirst Entrant slot = (slot.number ≡ 1) × (slot.token ≡ least_word)
+IsFirst Puzzle slot = slot.token ≡ least_word

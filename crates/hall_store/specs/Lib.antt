@@ -1,0 +1,5 @@
+pub mod Change
+pub mod Store
+pub mod Caller
+pub mod Keyed
+pub mod Maps

@@ -1,0 +1,108 @@
+-- What the calls of a store say, where its device was honest and the store still serves.
+use Rattle.std.specs.Prelude.{◌≡◌, ◌↔◌, ◌⊎◌, ◌&&◌, ℕ, Bool, List, Result, Ok, Err, IfErr, Option, Some, None, Contains}
+use Rattle.std.specs.List.{filter}
+use Rattle.std.specs.List.Sorted.{IsSorted, IsPermutation}
+use Rattle.std.specs.Ordering.{nat_cmp, ordering_then}
+use Rattle.std.specs.declared.cmp.Ordering.{Ordering}
+use Rattle.std.specs.FinMap.{get, values}
+use Rattle.hall_policy.specs.Text.{text_cmp}
+use Rattle.hall_policy.specs.World.{World, same_text}
+use Rattle.hall_policy.specs.Rules.{Lists}
+use Rattle.hall_policy.specs.Facts.{IsRoundFound}
+use Rattle.hall_policy.specs.declared.record.PuzzleKey.{PuzzleKey}
+use Rattle.hall_policy.specs.declared.record.PuzzleRow.{PuzzleRow}
+use Rattle.hall_policy.specs.declared.record.Entry.{Entry}
+use Rattle.hall_policy.specs.declared.record.AnswerRow.{AnswerRow}
+use Rattle.hall_policy.specs.declared.record.RoundRow.{RoundRow}
+use Rattle.hall_store.specs.declared.change.Change.{Change}
+use Rattle.hall_store.specs.declared.fault.StoreFault.{StoreFault}
+use Rattle.hall_store.specs.declared.fault.StoreFault.TheVariants.{Failed}
+use Rattle.hall_store.specs.Change.{changed}
+
+-- What a store keeps, and while that can be told: `honest`, so far the device has returned what was written, and no one else has written;
+-- `serves`, no fault of the device has shut the store.
+pub record Content : Type 1 where
+  pub honest : Type 0
+  pub serves : Type 0
+  pub world : World
+
+-- A call leads from one content to another: where the device was honest to the end, it was so before, and where the store then still serves, it served before.
+pub record Leads (old new : Content) : Type 0 where
+  pub honest : new.honest → old.honest
+  pub serves : new.honest → new.serves → old.serves
+
+-- A call leaves the world: it leads on, and the world is the one before.
+pub record Kept (old new : Content) : Type 0 where
+  pub honest : new.honest → old.honest
+  pub serves : new.honest → new.serves → old.serves
+  pub world : new.honest → new.serves → new.world ≡ old.world
+
+-- What a call of the store answers has its meaning, and the store still serves, where the device was honest. Nothing is said of a refusal.
+abbrev pub Served : {R E : Type 0} → Content → Result R E → (World → R → Type 0) → Type 0
+Served new (Ok answer) Means = new.honest → new.serves × Means new.world answer
+Served new (Err fault) Means = Unit {0}
+
+-- What was found has its meaning, where the device was honest and the store still serves; and it does so where it did before.
+abbrev pub Told : {R E : Type 0} → Content → Content → Result R E → (World → R → Type 0) → Type 0
+Told old new (Ok answer) Means = (new.honest → old.serves → new.serves) × (new.honest → new.serves → Means new.world answer)
+Told old new (Err fault) Means = Unit {0}
+
+-- Only a store that can fail answers that it failed.
+abbrev pub Fails : {R : Type 0} → Type 0 → Result R StoreFault → Type 0
+Fails can_fail result = IfErr result (λ fault. fault ≡ Failed → can_fail)
+
+-- What a call asks of the world, where that can be told.
+abbrev pub Asks : Content → (World → Type 0) → Type 0
+Asks content Needs = content.honest → content.serves → Needs content.world
+
+-- A call makes the change, or is refused and leaves the world.
+abbrev pub Made : {R E : Type 0} → Change → Content → Content → Result R E → Type 0
+Made change old new (Ok done) = new.honest → old.serves → new.serves × (new.world ≡ changed change old.world)
+Made change old new (Err fault) = new.honest → new.serves → new.world ≡ old.world
+
+-- A call leads on, and makes the change or leaves the world.
+pub record Makes {R E : Type 0} (change : Change) (old new : Content) (result : Result R E) : Type 0 where
+  pub leads : Leads old new
+  pub made : Made change old new result
+
+-- A relation of the worlds before and after holds over a store: nothing asked of the store made it true, it holds of each world that stays, and the store's world was left;
+-- or the store served before and after, and it holds of its worlds.
+abbrev pub Over : (World → World → Type 0) → Content → Content → Type 0
+Over Relates old new =
+    (((world : World) → Relates world world) × (new.serves → new.world ≡ old.world))
+    ⊎ (old.serves × new.serves × Relates old.world new.world)
+
+-- what is kept of the round: its head and its whole list, or neither
+pub record IsRoundKept (world : World) (id : List ℕ) (found : Option RoundRow) : Type 0 where
+  pub row : IsRoundFound world (Some id) found
+  pub empty : found ≡ None → (entry : Entry) → ¬ (Lists world id entry)
+
+-- the order of listings of answers: by entrant, number, n, then token
+abbrev pub listing_cmp : AnswerRow → AnswerRow → Ordering
+listing_cmp a b = ordering_then (text_cmp a.key.entrant b.key.entrant) (ordering_then (nat_cmp a.key.number b.key.number) (ordering_then (nat_cmp a.n b.n) (text_cmp a.key.token b.key.token)))
+
+-- all answers that pass the test, in the order of listings
+pub record IsListing (world : World) (test : AnswerRow → Bool) (rows : List AnswerRow) : Type 0 where
+  pub whole : IsPermutation (filter test (values world.answers)) rows
+  pub in_order : IsSorted listing_cmp rows
+
+-- the answer belongs to the round
+abbrev pub is_in : List ℕ → AnswerRow → Bool
+is_in round row = same_text row.key.round round
+
+-- the answer is the entrant's, in the round
+abbrev pub is_of : List ℕ → List ℕ → AnswerRow → Bool
+is_of entrant round row = same_text row.key.round round && same_text row.key.entrant entrant
+
+-- the entrant's answer with this n to the round's puzzle of that number is kept
+abbrev pub IsNumberTaken : World → List ℕ → List ℕ → ℕ → ℕ → Type 0
+IsNumberTaken world entrant round number n =
+    (token : List ℕ) × (row : AnswerRow) × (get world.answers (record { entrant = entrant; round = round; number = number; token = token }) ≡ Some row) × (row.n ≡ n)
+
+-- the ids of the rounds that have the puzzle
+abbrev pub AreUsing : World → PuzzleKey → List (List ℕ) → Type 0
+AreUsing world key ids = (id : List ℕ) → Contains ids id ↔ ((entry : Entry) × Lists world id entry × (entry.puzzle ≡ key))
+
+-- the author's puzzles, in the order of their keys
+abbrev pub puzzles_of : World → List ℕ → List PuzzleRow
+puzzles_of world author = filter (λ row. same_text row.key.author author) (values world.puzzles)

@@ -1,0 +1,23 @@
+//! A change of the world.
+use hall_policy::{AnswerRow, PuzzleKey, PuzzleRow, PuzzleState, RoundId};
+
+/// What a director sets on a round, and nobody takes back.
+#[derive(Clone, Copy, Debug, PartialEq, Eq)]
+pub enum RoundFlag {
+    Released,
+    Published,
+}
+
+/// A change of the world, which one call of the store makes.
+#[derive(Drop)]
+pub enum Change {
+    Nothing,
+    /// Stores the puzzle, in the place of the one under its key.
+    PutPuzzle(PuzzleRow),
+    /// Sets the state of the puzzle under the key.
+    SetState { key: PuzzleKey, state: PuzzleState },
+    /// Sets a flag of the round.
+    SetRoundFlag { round: RoundId, flag: RoundFlag },
+    /// Stores one more answer.
+    AddAnswer(AnswerRow),
+}

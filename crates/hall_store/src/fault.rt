@@ -1,0 +1,22 @@
+//! Why a store refuses.
+use std::alloc::AllocError;
+
+/// The store refused, or memory did; the world is as it was.
+#[derive(Clone, Copy, Debug, PartialEq, Eq)]
+pub enum StoreFault {
+    /// No memory was left.
+    Memory,
+    /// The store refused, or what it keeps is no world of the hall.
+    Failed,
+}
+
+impl From<AllocError> for StoreFault {
+    ghost use Rattle.std.specs.Prelude.{◌≡◌};
+    ghost use Rattle.hall_store.specs.declared.fault.StoreFault.TheVariants.{Memory};
+
+    ghost from_gives = { λ _ e. e ≡ Memory };
+
+    fn from(_: AllocError) -> StoreFault {
+        StoreFault::Memory
+    }
+}

@@ -1,0 +1,18 @@
+//! What keeps the hall's world: a trait, and ordered maps.
+#![tactic(auto)]
+
+mod answer_reads;
+mod change;
+mod fault;
+mod map_adds;
+mod map_calls;
+mod map_reads;
+mod map_store;
+mod slot;
+mod store;
+mod writes;
+
+pub use change::{Change, RoundFlag};
+pub use fault::StoreFault;
+pub use map_store::MapStore;
+pub use store::Store;

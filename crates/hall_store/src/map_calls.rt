@@ -1,0 +1,159 @@
+//! The calls of a store over ordered maps.
+ghost use Rattle.std.specs.Prelude.{◌≡◌};
+ghost use Rattle.hall_store.specs.Change.{flagged};
+
+use crate::answer_reads::{
+    answer_at, answer_rows, count_answers, first_in, first_of, first_to, has_number, own_slot,
+    sort_answers,
+};
+use crate::change::RoundFlag;
+use crate::fault::StoreFault;
+use crate::map_reads::{
+    count_puzzles, first_label, holder, ids_using, own_key, person_at, puzzle_at, puzzle_rows,
+    round_at,
+};
+use crate::map_store::MapStore;
+use crate::slot::Part;
+use crate::store::Store;
+use crate::writes::put;
+use hall_policy::{
+    AnswerKey, AnswerNumber, AnswerRow, Key, Name, Person, PuzzleKey, PuzzleNumber, PuzzleRow,
+    PuzzleState, Round, RoundId, RoundRow,
+};
+use std::alloc::Global;
+
+impl Store for MapStore {
+    ghost use Rattle.hall_store.specs.Maps.{content_of};
+
+    ghost content = { content_of };
+
+    ghost can_fail = { ⊥ };
+
+    fn person_by_key(&mut self, _alloc: Global, key: &Key) -> Result<Option<Person>, StoreFault> {
+        Ok(holder(&self.people, &self.keys, key)?)
+    }
+
+    fn person(&mut self, _alloc: Global, name: &Name) -> Result<Option<Person>, StoreFault> {
+        Ok(person_at(&self.people, name)?)
+    }
+
+    fn puzzle(&mut self, _alloc: Global, key: &PuzzleKey) -> Result<Option<PuzzleRow>, StoreFault> {
+        Ok(puzzle_at(&self.puzzles, key)?)
+    }
+
+    fn puzzles_of(&mut self, alloc: Global, author: &Name) -> Result<Vec<PuzzleRow>, StoreFault> {
+        let first = first_label(alloc, author)?;
+        Ok(puzzle_rows(alloc, &self.puzzles, &first)?)
+    }
+
+    fn puzzles_put(&mut self, alloc: Global, author: &Name) -> Result<u64, StoreFault> {
+        let first = first_label(alloc, author)?;
+        Ok(count_puzzles(&self.puzzles, &first))
+    }
+
+    fn put_puzzle(&mut self, _alloc: Global, row: PuzzleRow) -> Result<(), StoreFault> {
+        let key = own_key(&row)?;
+        put(&mut self.puzzles, key, row)?;
+        Ok(())
+    }
+
+    fn set_state(
+        &mut self,
+        _alloc: Global,
+        key: &PuzzleKey,
+        state: PuzzleState,
+    ) -> Result<(), StoreFault> {
+        match self.puzzles.get_mut(key) {
+            Some(row) => {
+                row.state = state;
+                Ok(())
+            }
+            None => unreachable!(),
+        }
+    }
+
+    fn round(&mut self, _alloc: Global, id: &RoundId) -> Result<Option<RoundRow>, StoreFault> {
+        Ok(round_at(&self.rounds, id)?)
+    }
+
+    fn set_round_flag(
+        &mut self,
+        _alloc: Global,
+        id: &RoundId,
+        flag: RoundFlag,
+    ) -> Result<(), StoreFault> {
+        match self.rounds.get_mut(id) {
+            Some(row) => {
+                set_flag(&mut row.round, flag);
+                Ok(())
+            }
+            None => unreachable!(),
+        }
+    }
+
+    fn rounds_using(&mut self, alloc: Global, key: &PuzzleKey) -> Result<Vec<RoundId>, StoreFault> {
+        Ok(ids_using(alloc, &self.rounds, &self.uses, key)?)
+    }
+
+    fn answer(&mut self, _alloc: Global, key: &AnswerKey) -> Result<Option<AnswerRow>, StoreFault> {
+        Ok(answer_at(&self.answers, key)?)
+    }
+
+    fn answers_given(
+        &mut self,
+        alloc: Global,
+        entrant: &Name,
+        round: &RoundId,
+        number: PuzzleNumber,
+    ) -> Result<u64, StoreFault> {
+        let first = first_to(alloc, entrant, round, number)?;
+        Ok(count_answers(&self.answers, &first))
+    }
+
+    fn is_number_taken(
+        &mut self,
+        alloc: Global,
+        entrant: &Name,
+        round: &RoundId,
+        number: PuzzleNumber,
+        n: AnswerNumber,
+    ) -> Result<bool, StoreFault> {
+        let first = first_to(alloc, entrant, round, number)?;
+        Ok(has_number(&self.answers, &first, n))
+    }
+
+    fn answers_of(
+        &mut self,
+        alloc: Global,
+        entrant: &Name,
+        round: &RoundId,
+    ) -> Result<Vec<AnswerRow>, StoreFault> {
+        let first = first_of(alloc, entrant, round)?;
+        let mut rows = answer_rows(alloc, &self.answers, Part::Entrant, &first)?;
+        sort_answers(&mut rows);
+        Ok(rows)
+    }
+
+    fn answers_in(&mut self, alloc: Global, round: &RoundId) -> Result<Vec<AnswerRow>, StoreFault> {
+        let first = first_in(alloc, round)?;
+        let mut rows = answer_rows(alloc, &self.answers, Part::Round, &first)?;
+        sort_answers(&mut rows);
+        Ok(rows)
+    }
+
+    fn add_answer(&mut self, _alloc: Global, row: AnswerRow) -> Result<(), StoreFault> {
+        let slot = own_slot(&row)?;
+        put(&mut self.answers, slot, row)?;
+        Ok(())
+    }
+}
+
+/// Sets the flag of the round.
+fn set_flag(round: &mut Round, flag: RoundFlag)
+    ensures { round.new ≡ flagged flag round.old }
+{
+    match flag {
+        RoundFlag::Released => round.released = true,
+        RoundFlag::Published => round.published = true,
+    }
+}

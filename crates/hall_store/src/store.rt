@@ -1,0 +1,153 @@
+//! What keeps the world.
+use crate::change::RoundFlag;
+use crate::fault::StoreFault;
+use hall_policy::{
+    AnswerKey, AnswerNumber, AnswerRow, Key, Name, Person, PuzzleKey, PuzzleNumber, PuzzleRow,
+    PuzzleState, RoundId, RoundRow,
+};
+use std::alloc::Global;
+
+/// The hall's world, however it is kept.
+///
+/// A read may change what keeps the world, as a connection is, and leaves the world. What a call says of its answer and of what it leaves holds where the device
+/// was honest, and, where the call is refused, while the store still serves: a store that a fault of its device has shut answers nothing more.
+/// A call is refused for want of memory, or as failed, which only a store that can fail does.
+pub trait Store: Drop {
+    ghost use Rattle.std.specs.Prelude.{◌≡◌, ◌↔◌, IsTrue};
+    ghost use Rattle.std.specs.FinMap.{get};
+    ghost use Rattle.hall_policy.specs.Rules.{answers_given, puzzles_put};
+    ghost use Rattle.hall_store.specs.Store.{Content, Kept, Served, Fails, Asks, Makes, IsRoundKept, IsListing, is_in, is_of, AreUsing, IsNumberTaken, puzzles_of};
+    ghost use Rattle.hall_store.specs.Caller.{IsKeyHolder};
+    ghost use Rattle.hall_store.specs.Change.{CanPutPuzzle, CanSetState, CanSetFlag, CanAddAnswer};
+    ghost use Rattle.hall_store.specs.declared.change.Change.TheVariants.{PutPuzzle, SetState, SetRoundFlag, AddAnswer};
+
+    // The world, and while it can be told.
+    ghost content: { Self → Content };
+
+    // Whether a call may be refused for another cause than want of memory.
+    ghost can_fail: { Type 0 };
+
+    /// The person with the key, who stands under the name; nobody else has the key.
+    fn person_by_key(&mut self, alloc: Global, key: &Key) -> Result<Option<Person>, StoreFault>
+        ensures kept { Kept (content self.old) (content self.new) }
+        ensures served { Served (content self.new) result (λ world found. IsKeyHolder world key.now found) }
+        ensures fault { Fails can_fail result };
+
+    /// The person of the name.
+    fn person(&mut self, alloc: Global, name: &Name) -> Result<Option<Person>, StoreFault>
+        ensures kept { Kept (content self.old) (content self.new) }
+        ensures served { Served (content self.new) result (λ world found. found ≡ get world.people name.now) }
+        ensures fault { Fails can_fail result };
+
+    /// The puzzle under the key.
+    fn puzzle(&mut self, alloc: Global, key: &PuzzleKey) -> Result<Option<PuzzleRow>, StoreFault>
+        ensures kept { Kept (content self.old) (content self.new) }
+        ensures served { Served (content self.new) result (λ world found. found ≡ get world.puzzles key.now) }
+        ensures fault { Fails can_fail result };
+
+    /// The author's puzzles, in the order of their labels.
+    fn puzzles_of(&mut self, alloc: Global, author: &Name) -> Result<Vec<PuzzleRow>, StoreFault>
+        ensures kept { Kept (content self.old) (content self.new) }
+        ensures served { Served (content self.new) result (λ world rows. rows.items ≡ puzzles_of world author.now) }
+        ensures fault { Fails can_fail result };
+
+    /// How many puzzles of the author are kept.
+    fn puzzles_put(&mut self, alloc: Global, author: &Name) -> Result<u64, StoreFault>
+        ensures kept { Kept (content self.old) (content self.new) }
+        ensures served { Served (content self.new) result (λ world count. count ≡ puzzles_put world author.now) }
+        ensures fault { Fails can_fail result };
+
+    /// Stores the puzzle, in the place of the one under its key.
+    fn put_puzzle(&mut self, alloc: Global, row: PuzzleRow) -> Result<(), StoreFault>
+        requires { Asks (content self.old) (λ world. CanPutPuzzle world row) }
+        ensures makes { Makes (PutPuzzle row) (content self.old) (content self.new) result }
+        ensures fault { Fails can_fail result };
+
+    /// Sets the state of the puzzle under the key.
+    fn set_state(
+        &mut self,
+        alloc: Global,
+        key: &PuzzleKey,
+        state: PuzzleState,
+    ) -> Result<(), StoreFault>
+        requires { Asks (content self.old) (λ world. CanSetState world key.now) }
+        ensures makes { Makes (SetState key.now state) (content self.old) (content self.new) result }
+        ensures fault { Fails can_fail result };
+
+    /// The round with its list of puzzles; none where neither is kept.
+    fn round(&mut self, alloc: Global, id: &RoundId) -> Result<Option<RoundRow>, StoreFault>
+        ensures kept { Kept (content self.old) (content self.new) }
+        ensures served { Served (content self.new) result (λ world found. IsRoundKept world id.now found) }
+        ensures fault { Fails can_fail result };
+
+    /// Sets a flag of the round.
+    fn set_round_flag(
+        &mut self,
+        alloc: Global,
+        id: &RoundId,
+        flag: RoundFlag,
+    ) -> Result<(), StoreFault>
+        requires { Asks (content self.old) (λ world. CanSetFlag world id.now) }
+        ensures makes { Makes (SetRoundFlag id.now flag) (content self.old) (content self.new) result }
+        ensures fault { Fails can_fail result };
+
+    /// The ids of the rounds that have the puzzle.
+    fn rounds_using(&mut self, alloc: Global, key: &PuzzleKey) -> Result<Vec<RoundId>, StoreFault>
+        ensures kept { Kept (content self.old) (content self.new) }
+        ensures served { Served (content self.new) result (λ world ids. AreUsing world key.now ids.items) }
+        ensures fault { Fails can_fail result };
+
+    /// The answer under the key.
+    fn answer(&mut self, alloc: Global, key: &AnswerKey) -> Result<Option<AnswerRow>, StoreFault>
+        ensures kept { Kept (content self.old) (content self.new) }
+        ensures served { Served (content self.new) result (λ world found. found ≡ get world.answers key.now) }
+        ensures fault { Fails can_fail result };
+
+    /// How many answers the entrant gave to the round's puzzle of that number.
+    fn answers_given(
+        &mut self,
+        alloc: Global,
+        entrant: &Name,
+        round: &RoundId,
+        number: PuzzleNumber,
+    ) -> Result<u64, StoreFault>
+        ensures kept { Kept (content self.old) (content self.new) }
+        ensures served { Served (content self.new) result (λ world count. count ≡ answers_given world entrant.now round.now number) }
+        ensures fault { Fails can_fail result };
+
+    /// Whether an answer of the entrant to the round's puzzle of that number is the n-th.
+    fn is_number_taken(
+        &mut self,
+        alloc: Global,
+        entrant: &Name,
+        round: &RoundId,
+        number: PuzzleNumber,
+        n: AnswerNumber,
+    ) -> Result<bool, StoreFault>
+        ensures kept { Kept (content self.old) (content self.new) }
+        ensures served { Served (content self.new) result (λ world taken. IsTrue taken ↔ IsNumberTaken world entrant.now round.now number n) }
+        ensures fault { Fails can_fail result };
+
+    /// The entrant's answers in the round, by number, then n.
+    fn answers_of(
+        &mut self,
+        alloc: Global,
+        entrant: &Name,
+        round: &RoundId,
+    ) -> Result<Vec<AnswerRow>, StoreFault>
+        ensures kept { Kept (content self.old) (content self.new) }
+        ensures served { Served (content self.new) result (λ world rows. IsListing world (is_of entrant.now round.now) rows.items) }
+        ensures fault { Fails can_fail result };
+
+    /// The answers of the round, by entrant, number, then n.
+    fn answers_in(&mut self, alloc: Global, round: &RoundId) -> Result<Vec<AnswerRow>, StoreFault>
+        ensures kept { Kept (content self.old) (content self.new) }
+        ensures served { Served (content self.new) result (λ world rows. IsListing world (is_in round.now) rows.items) }
+        ensures fault { Fails can_fail result };
+
+    /// Stores one more answer.
+    fn add_answer(&mut self, alloc: Global, row: AnswerRow) -> Result<(), StoreFault>
+        requires { Asks (content self.old) (λ world. CanAddAnswer world row) }
+        ensures makes { Makes (AddAnswer row) (content self.old) (content self.new) result }
+        ensures fault { Fails can_fail result };
+}
