@@ -3,6 +3,7 @@ use hall_desk::{Desk, Reply, StateName, certify, judge, opening_store};
 use hall_grid::{Puzzle, parse_puzzle};
 use hall_policy::{Action, Checked, Moment, PuzzleKey, Request, TextKind, Within};
 use hall_solve::Outcome;
+use hall_store::MapStore;
 use std::alloc::AllocGlobal;
 use std::process::Abort;
 

@@ -1,22 +1,29 @@
-use Rattle.std.proofs.Common.{◌≡◌, inr, sym, ap, ◌∙◌, subst}
-use Rattle.hall_policy.specs.World.{World}
-use Rattle.hall_desk.specs.Change.{changed}
-use Rattle.hall_desk.specs.Desk.{world_in}
-use Rattle.hall_desk.specs.Plan.{planned_reply, planned_change}
+use Rattle.std.proofs.Common.{refl, subst}
+use Rattle.std.specs.String.{string_bytes}
+use Rattle.hall_store.specs.declared.fault.StoreFault.{StoreFault}
+use Rattle.hall_desk.specs.Desk.{kept_by}
+use Rattle.hall_desk.specs.Plan.{planned_reply}
 use Rattle.hall_desk.specs.Step.{Step}
 use Rattle.hall_desk.specs.declared.reply.Reply.{Reply}
-use Rattle.std.specs.String.{string_bytes}
+use Rattle.hall_desk.proofs.Stepping.{planned_steps}
 use Rattle.hall_tool.specs.Reply.{BytesOf}
+use Rattle.hall_tool.specs.Replay.{IsStepLine}
+use Rattle.hall_tool.proofs.Turns.{over_turn}
 use Rattle.hall_tool.proofs.answer.answer_request.Goals as goal
 
 pub returns-clause-ok : goal.returns-clause-ok
-returns-clause-ok c =
+returns-clause-ok g c =
+    let t = c.args.moment in
+    let request = c.args.request.now in
     let plan = c.in_ok-plan.plan in
-    let old = world_in c.args.desk.now in
-    let made : world_in c.commit.new.self ≡ changed (planned_change plan) old =
-    c.in_ok-_reply.ensures.made ∙ ap (changed (planned_change plan)) c.in_ok-plan.ensures.same in (
-      planned_reply plan,
-      subst (λ (w : World). Step old c.args.moment c.args.request.now (planned_reply plan) w) (sym made)
-          (inr c.in_ok-plan.ensures.plan.answered),
-      subst (λ (reply : Reply). BytesOf reply (string_bytes c.in_ok-line.line)) c.reply.ensures c.in_ok-line.ensures,
-    )
+    let given = planned_reply plan in
+    let line = string_bytes c.in_ok-line.line in
+    let planned = c.in_ok-plan.ensures in
+    let made = c.in_ok-_reply.ensures.makes in
+    let old = g.S.Store.content (kept_by c.args.desk.now) in
+    let mid = g.S.Store.content (kept_by c.plan.new.self) in
+    let new = g.S.Store.content (kept_by c.commit.new.self) in
+    let written = subst (λ (reply : Reply). BytesOf reply line) c.reply.ensures c.in_ok-line.ensures in
+    λ h. over_turn (λ before after. Step before t request given after) (λ before after. IsStepLine before t request line after) old new
+    (λ before after step. (given, step, written))
+    (planned_steps t request StoreFault old mid new plan given planned.kept planned.planned made.leads refl made.made h)

@@ -1,9 +1,21 @@
-use Rattle.std.proofs.Common.{◌≡◌, ◌∙◌, inl, inr, rules, arith, Err, []}
+use Rattle.std.proofs.Common.{◌≡◌, ◌∙◌, ℕ, List, inl, inr, refl, sym, subst, rules, arith, Err, []}
+use Rattle.hall_desk.specs.Desk.{kept_by}
 use Rattle.std.proofs.KnownBytes.{Consumes-nil}
 use Rattle.hall_tool.specs.declared.fault.ReplayFault.TheVariants as fault
-use Rattle.hall_tool.proofs.Turns.{kept_start, kept_read, kept_answered, unsent}
+use Rattle.hall_tool.proofs.Turns.{Kept, kept_start, kept_read, kept_answered, unsent}
 use Rattle.hall_tool.proofs.Turns.{no_memory, read_refused, never_record, at_end, too_many}
 use Rattle.hall_tool.proofs.session.answer_records.Goals as goal
+
+pub records-init : goal.records-init
+records-init g c = record {
+  few = omega arith;
+  reader = refl;
+  writer = refl;
+  kept = subst (λ (unread : List ℕ). Kept (g.R.Read.remaining c.args.reader.now.device) (g.R.Read.remaining c.args.reader.now.device)
+      (g.W.Write.contents c.args.writer.now.device) (g.W.Write.contents c.args.writer.now.device)
+      (g.S.Store.content (kept_by c.args.desk.now)) (g.S.Store.content (kept_by c.args.desk.now)) unread 0)
+      (sym c.in_ok-inbox.ensures) (kept_start _ _ (g.S.Store.content (kept_by c.args.desk.now)));
+}
 
 pub returns-in_err-inbox : goal.returns-in_err-inbox
 returns-in_err-inbox g c =
