@@ -1,5 +1,5 @@
 -- What follows, of the facts alone, where a rule passes, where a request repeats another, and from a decision.
-use Rattle.std.specs.Prelude.{◌≡◌, ◌⊎◌, ◌<◌, ◌||◌, ◌&&◌, ℕ, false, Some, None, IsTrue, IsSome, Contains}
+use Rattle.std.specs.Prelude.{◌≡◌, ◌⊎◌, ◌<◌, ◌||◌, ◌&&◌, ℕ, false, List, Some, None, IsTrue, IsSome, Contains}
 use Rattle.hall_policy.specs.World.{entry_at}
 use Rattle.hall_policy.specs.Actions.{number_of, rules_asked, may, finds_drafts, puzzle_named}
 use Rattle.hall_policy.specs.Rules.{TheCaller, LacksRole, is_director}
@@ -12,9 +12,15 @@ use Rattle.hall_policy.specs.declared.record.RoundRow.{RoundRow}
 use Rattle.hall_policy.specs.declared.record.AnswerRow.{AnswerRow}
 use Rattle.hall_policy.specs.declared.record.ProtestRow.{ProtestRow}
 use Rattle.hall_policy.specs.declared.request.Action.{Action}
-use Rattle.hall_policy.specs.declared.request.Action.TheVariants.{Import, PutPuzzle, ReadPuzzle, ListPuzzles, Certify, PutRound, Release, ListRounds, ReadRound, Submit, Answers, Solutions, Protest, Protests, Rule, Publish, Table}
+use Rattle.hall_policy.specs.declared.request.Action.TheVariants.{Import, PutPuzzle, ReadPuzzle, ListPuzzles, Certify}
+use Rattle.hall_policy.specs.declared.request.Action.TheVariants.{PutRound, Release, ListRounds, ReadRound, Submit}
+use Rattle.hall_policy.specs.declared.request.Action.TheVariants.{Answers, Solutions, Protest, Protests}
+use Rattle.hall_policy.specs.declared.request.Action.TheVariants.{Rule, Publish, Table}
 use Rattle.hall_policy.specs.declared.rule.Rule as rule
-use Rattle.hall_policy.specs.declared.rule.Rule.TheVariants.{UnknownKey, NoRole, OtherAuthor, Missing, OwnPuzzle, TokenTaken, InReleasedRound, NotCertified, NoDraft, Published, OpenProtest, Involved, RuledOtherwise, LimitReached, ListConflict}
+use Rattle.hall_policy.specs.declared.rule.Rule.TheVariants.{UnknownKey, NoRole, OtherAuthor, Missing, OwnPuzzle}
+use Rattle.hall_policy.specs.declared.rule.Rule.TheVariants.{TokenTaken, InReleasedRound, NotCertified, NoDraft}
+use Rattle.hall_policy.specs.declared.rule.Rule.TheVariants.{Published, OpenProtest, Involved, RuledOtherwise}
+use Rattle.hall_policy.specs.declared.rule.Rule.TheVariants.{LimitReached, ListConflict}
 use Rattle.hall_policy.specs.declared.rule.Decision.{Decision}
 use Rattle.hall_policy.specs.declared.rule.Decision.TheVariants.{Allow, Repeat, Deny}
 use Rattle.hall_policy.specs.declared.facts.Facts.{Facts}
@@ -75,11 +81,14 @@ ObjectIsThere facts (Rule round entrant token ruling) = ProtestIsThere facts (Ru
 ObjectIsThere facts (Publish round) = RoundIsThere facts (Publish round)
 ObjectIsThere facts (Table round) = RoundIsThere facts (Table round)
 
+-- the round that was found has no puzzle by the author
+abbrev pub RoundHasNoneBy : Facts → List ℕ → Type 0
+RoundHasNoneBy facts author = (row : RoundRow) → facts.round ≡ Some row → ¬ (HasEntryBy row.puzzles author)
+
 -- the caller is no entrant, or author of no puzzle of the round that was found
 abbrev pub RoundIsByOthers : Facts → Type 0
 RoundIsByOthers facts =
-    (person : Person) (row : RoundRow) → facts.caller ≡ Some person → facts.round ≡ Some row →
-    IsTrue person.roles.entrant → ¬ (HasEntryBy row.puzzles person.name)
+    (person : Person) → facts.caller ≡ Some person → IsTrue person.roles.entrant → RoundHasNoneBy facts person.name
 
 -- What an entrant reads, answers or protests about is by others.
 abbrev pub IsByOthers : Facts → Action → Type 0

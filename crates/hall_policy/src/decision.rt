@@ -6,7 +6,7 @@ ghost use Rattle.hall_policy.specs.Rules.{LacksRole, NamesOtherAuthor, is_direct
 ghost use Rattle.hall_policy.specs.Facts.{HidesRound, LacksNumber, HasEntryBy, TellsAuthor, deciding};
 ghost use Rattle.hall_policy.specs.Finding.{IsTestOf, IsFindingOf, FindingImplies, finding_of, standing};
 ghost use Rattle.hall_policy.specs.Implies.{Implies, ObjectIsThere, RoundIsThere, EntryIsThere, RoundIsDraft};
-ghost use Rattle.hall_policy.specs.Implies.{NamesOwnPuzzle, RoundIsByOthers, PublishedPasses, IsBelowLimit};
+ghost use Rattle.hall_policy.specs.Implies.{NamesOwnPuzzle, RoundHasNoneBy, RoundIsByOthers, PublishedPasses, IsBelowLimit};
 ghost use Rattle.hall_policy.specs.Decided.{IsDecidedUpTo, PassesUpTo};
 ghost use Rattle.hall_policy.specs.declared.record.RoundRow.{RoundRow};
 
@@ -170,7 +170,7 @@ fn is_own_puzzle(facts: &Facts, action: &Action) -> bool
 /// Whether the round that was found has a puzzle by the author.
 fn lists_author_of(facts: &Facts, author: &Name) -> bool
     ensures tells { TellsAuthor facts.now author.now result }
-    ensures others { (row : RoundRow) → facts.now.round ≡ Some row → result ≡ false → ¬ (HasEntryBy row.puzzles author.now) }
+    ensures others { result ≡ false → RoundHasNoneBy facts.now author.now }
 {
     match &facts.round {
         Some(row) => lists_author(row.puzzles.as_slice(), author),

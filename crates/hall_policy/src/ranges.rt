@@ -2,7 +2,8 @@
 ghost use Rattle.std.specs.Prelude.{All};
 ghost use Rattle.hall_policy.specs.Ranges.{IsPerson, IsPuzzleKey, IsEntry, IsEntryList, IsSheet, IsRuling};
 ghost use Rattle.hall_policy.specs.Ranges.{IsAction, IsRequest};
-ghost use Rattle.hall_policy.specs.declared.request.Action.TheVariants.{PutPuzzle, Certify, PutRound, Submit, Protest, Rule};
+ghost use Rattle.hall_policy.specs.declared.request.Action.TheVariants.{PutPuzzle, Certify, PutRound, Submit};
+ghost use Rattle.hall_policy.specs.declared.request.Action.TheVariants.{Protest, Rule};
 
 use crate::list::Entries;
 use crate::number::{Budget, PuzzleNumber};
