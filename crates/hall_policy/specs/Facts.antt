@@ -4,14 +4,20 @@ use Rattle.std.specs.FinMap.{get}
 use Rattle.std.specs.List.{AllByRecursion}
 use Rattle.hall_policy.specs.World.{World, IsRoundAt, entry_at, answer_of, protest_of}
 use Rattle.hall_policy.specs.Actions.{number_of, rules_asked, round_named, finds_drafts}
-use Rattle.hall_policy.specs.Rules.{is_director, ListsAuthor, IsInReleasedRound, IsUncertified, HasOpenProtest, IsInvolved, HasConflict, answers_given, protests_made, puzzles_put}
+use Rattle.hall_policy.specs.Rules.{is_director, ListsAuthor, IsInReleasedRound, IsUncertified, HasOpenProtest}
+use Rattle.hall_policy.specs.Rules.{IsInvolved, HasConflict, answers_given, protests_made, puzzles_put}
 use Rattle.hall_policy.specs.declared.record.Person.{Person}
 use Rattle.hall_policy.specs.declared.record.Entry.{Entry}
 use Rattle.hall_policy.specs.declared.record.RoundRow.{RoundRow}
 use Rattle.hall_policy.specs.declared.request.Action.{Action}
-use Rattle.hall_policy.specs.declared.request.Action.TheVariants.{PutPuzzle, ReadPuzzle, Certify, PutRound, Submit, Protest, Rule}
+use Rattle.hall_policy.specs.declared.request.Action.TheVariants.{PutPuzzle, ReadPuzzle, Certify, PutRound}
+use Rattle.hall_policy.specs.declared.request.Action.TheVariants.{Submit, Protest, Rule}
 use Rattle.hall_policy.specs.declared.rule.Rule as rule
-use Rattle.hall_policy.specs.declared.rule.Rule.TheVariants.{UnknownKey, NoRole, OtherAuthor, Missing, OwnPuzzle, TokenTaken, NotStarted, Ended, NotEnded, Closed, InReleasedRound, NotCertified, NoDraft, Started, Published, OpenProtest, Involved, RuledOtherwise, LimitReached, ListConflict}
+use Rattle.hall_policy.specs.declared.rule.Rule.TheVariants.{UnknownKey, NoRole, OtherAuthor, Missing, OwnPuzzle}
+use Rattle.hall_policy.specs.declared.rule.Rule.TheVariants.{TokenTaken, NotStarted, Ended, NotEnded, Closed}
+use Rattle.hall_policy.specs.declared.rule.Rule.TheVariants.{InReleasedRound, NotCertified, NoDraft, Started}
+use Rattle.hall_policy.specs.declared.rule.Rule.TheVariants.{Published, OpenProtest, Involved, RuledOtherwise}
+use Rattle.hall_policy.specs.declared.rule.Rule.TheVariants.{LimitReached, ListConflict}
 use Rattle.hall_policy.specs.declared.rule.Decision.{Decision}
 use Rattle.hall_policy.specs.declared.rule.Decision.TheVariants.{Allow, Repeat, Deny}
 use Rattle.hall_policy.specs.declared.facts.Facts.{Facts}

@@ -2,11 +2,18 @@
 use Rattle.std.specs.Prelude.{◌≡◌, ◌<◌, ℕ, Contains, Option}
 use Rattle.hall_policy.specs.World.{World}
 use Rattle.hall_policy.specs.Actions.{number_of, rules_asked}
-use Rattle.hall_policy.specs.Rules.{KeyIsUnknown, LacksRole, NamesOtherAuthor, IsMissing, IsOwnPuzzle, TokenStands, SameContent, IsBeforeStart, IsAfterEnd, IsBeforeEnd, IsAfterClose, IsInReleasedRound, IsUncertified, IsNoDraft, IsAfterStart, IsPublished, HasOpenProtest, IsInvolved, IsRuled, SameRuling, IsAtLimit, HasConflict}
+use Rattle.hall_policy.specs.Rules.{KeyIsUnknown, LacksRole, NamesOtherAuthor, IsMissing, IsOwnPuzzle, TokenStands}
+use Rattle.hall_policy.specs.Rules.{SameContent, IsBeforeStart, IsAfterEnd, IsBeforeEnd, IsAfterClose}
+use Rattle.hall_policy.specs.Rules.{IsInReleasedRound, IsUncertified, IsNoDraft, IsAfterStart, IsPublished}
+use Rattle.hall_policy.specs.Rules.{HasOpenProtest, IsInvolved, IsRuled, SameRuling, IsAtLimit, HasConflict}
 use Rattle.hall_policy.specs.declared.record.Person.{Person}
 use Rattle.hall_policy.specs.declared.request.Action.{Action}
 use Rattle.hall_policy.specs.declared.rule.Rule.{Rule}
-use Rattle.hall_policy.specs.declared.rule.Rule.TheVariants.{UnknownKey, NoRole, OtherAuthor, Missing, OwnPuzzle, TokenTaken, NotStarted, Ended, NotEnded, Closed, InReleasedRound, NotCertified, NoDraft, Started, Published, OpenProtest, Involved, RuledOtherwise, LimitReached, ListConflict}
+use Rattle.hall_policy.specs.declared.rule.Rule.TheVariants.{UnknownKey, NoRole, OtherAuthor, Missing, OwnPuzzle}
+use Rattle.hall_policy.specs.declared.rule.Rule.TheVariants.{TokenTaken, NotStarted, Ended, NotEnded, Closed}
+use Rattle.hall_policy.specs.declared.rule.Rule.TheVariants.{InReleasedRound, NotCertified, NoDraft, Started}
+use Rattle.hall_policy.specs.declared.rule.Rule.TheVariants.{Published, OpenProtest, Involved, RuledOtherwise}
+use Rattle.hall_policy.specs.declared.rule.Rule.TheVariants.{LimitReached, ListConflict}
 use Rattle.hall_policy.specs.declared.rule.Decision.{Decision}
 use Rattle.hall_policy.specs.declared.rule.Decision.TheVariants.{Allow, Repeat, Deny}
 

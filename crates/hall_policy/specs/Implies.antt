@@ -1,17 +1,26 @@
 -- What follows, of the facts alone, where a rule passes, where a request repeats another, and from a decision.
-use Rattle.std.specs.Prelude.{◌≡◌, ◌<◌, ◌||◌, ◌&&◌, ℕ, false, Some, None, IsTrue, IsSome, Contains}
+use Rattle.std.specs.Prelude.{◌≡◌, ◌⊎◌, ◌<◌, ◌||◌, ◌&&◌, ℕ, false, List, Some, None, IsTrue, IsSome, Contains}
 use Rattle.hall_policy.specs.World.{entry_at}
-use Rattle.hall_policy.specs.Actions.{number_of, rules_asked, may, finds_drafts}
+use Rattle.hall_policy.specs.Actions.{number_of, rules_asked, may, finds_drafts, puzzle_named}
 use Rattle.hall_policy.specs.Rules.{TheCaller, LacksRole, is_director}
+use Rattle.hall_policy.specs.Facts.{HasEntryBy}
+use Rattle.hall_policy.specs.declared.record.Person.{Person}
+use Rattle.hall_policy.specs.declared.record.PuzzleKey.{PuzzleKey}
 use Rattle.hall_policy.specs.declared.record.PuzzleRow.{PuzzleRow}
 use Rattle.hall_policy.specs.declared.record.Entry.{Entry}
 use Rattle.hall_policy.specs.declared.record.RoundRow.{RoundRow}
 use Rattle.hall_policy.specs.declared.record.AnswerRow.{AnswerRow}
 use Rattle.hall_policy.specs.declared.record.ProtestRow.{ProtestRow}
 use Rattle.hall_policy.specs.declared.request.Action.{Action}
-use Rattle.hall_policy.specs.declared.request.Action.TheVariants.{Import, PutPuzzle, ReadPuzzle, ListPuzzles, Certify, PutRound, Release, ListRounds, ReadRound, Submit, Answers, Solutions, Protest, Protests, Rule, Publish, Table}
+use Rattle.hall_policy.specs.declared.request.Action.TheVariants.{Import, PutPuzzle, ReadPuzzle, ListPuzzles, Certify}
+use Rattle.hall_policy.specs.declared.request.Action.TheVariants.{PutRound, Release, ListRounds, ReadRound, Submit}
+use Rattle.hall_policy.specs.declared.request.Action.TheVariants.{Answers, Solutions, Protest, Protests}
+use Rattle.hall_policy.specs.declared.request.Action.TheVariants.{Rule, Publish, Table}
 use Rattle.hall_policy.specs.declared.rule.Rule as rule
-use Rattle.hall_policy.specs.declared.rule.Rule.TheVariants.{UnknownKey, NoRole, Missing, TokenTaken, NoDraft, RuledOtherwise, LimitReached}
+use Rattle.hall_policy.specs.declared.rule.Rule.TheVariants.{UnknownKey, NoRole, OtherAuthor, Missing, OwnPuzzle}
+use Rattle.hall_policy.specs.declared.rule.Rule.TheVariants.{TokenTaken, InReleasedRound, NotCertified, NoDraft}
+use Rattle.hall_policy.specs.declared.rule.Rule.TheVariants.{Published, OpenProtest, Involved, RuledOtherwise}
+use Rattle.hall_policy.specs.declared.rule.Rule.TheVariants.{LimitReached, ListConflict}
 use Rattle.hall_policy.specs.declared.rule.Decision.{Decision}
 use Rattle.hall_policy.specs.declared.rule.Decision.TheVariants.{Allow, Repeat, Deny}
 use Rattle.hall_policy.specs.declared.facts.Facts.{Facts}
@@ -20,6 +29,12 @@ use Rattle.hall_policy.specs.declared.facts.Facts.{Facts}
 abbrev pub CallerMay : Facts → Action → Type 0
 CallerMay facts (Table round) = Unit {0}
 CallerMay facts action = TheCaller facts.caller (λ person. IsTrue (may person.roles action))
+
+-- The caller is a director, or author of the puzzle that is named.
+abbrev pub NamesOwnPuzzle : Facts → Action → Type 0
+NamesOwnPuzzle facts action =
+    (person : Person) (key : PuzzleKey) → facts.caller ≡ Some person → puzzle_named action ≡ Some key →
+    IsTrue person.roles.director ⊎ (key.author ≡ person.name)
 
 -- the puzzle is there
 abbrev pub PuzzleIsThere : Facts → Type 0
@@ -66,6 +81,33 @@ ObjectIsThere facts (Rule round entrant token ruling) = ProtestIsThere facts (Ru
 ObjectIsThere facts (Publish round) = RoundIsThere facts (Publish round)
 ObjectIsThere facts (Table round) = RoundIsThere facts (Table round)
 
+-- the round that was found has no puzzle by the author
+abbrev pub RoundHasNoneBy : Facts → List ℕ → Type 0
+RoundHasNoneBy facts author = (row : RoundRow) → facts.round ≡ Some row → ¬ (HasEntryBy row.puzzles author)
+
+-- the caller is no entrant, or author of no puzzle of the round that was found
+abbrev pub RoundIsByOthers : Facts → Type 0
+RoundIsByOthers facts =
+    (person : Person) → facts.caller ≡ Some person → IsTrue person.roles.entrant → RoundHasNoneBy facts person.name
+
+-- What an entrant reads, answers or protests about is by others.
+abbrev pub IsByOthers : Facts → Action → Type 0
+IsByOthers facts (ReadRound round) = RoundIsByOthers facts
+IsByOthers facts (Submit round number token answer) = RoundIsByOthers facts
+IsByOthers facts (Protest round token number text) = RoundIsByOthers facts
+IsByOthers facts _ = Unit {0}
+
+-- The puzzle that is put stands in no released round; a puzzle of the round that is released stands in no other one.
+abbrev pub StandsInNoReleased : Facts → Action → Type 0
+StandsInNoReleased facts (PutPuzzle key puzzle) = facts.in_released ≡ false
+StandsInNoReleased facts (Release round) = facts.in_released ≡ false
+StandsInNoReleased facts _ = Unit {0}
+
+-- Each puzzle of the round that is released is certified.
+abbrev pub AreCertified : Facts → Action → Type 0
+AreCertified facts (Release round) = facts.uncertified ≡ false
+AreCertified facts _ = Unit {0}
+
 -- the round that was found is a draft
 abbrev pub RoundIsDraft : Facts → Type 0
 RoundIsDraft facts = (row : RoundRow) → facts.round ≡ Some row → row.round.released ≡ false
@@ -75,6 +117,42 @@ abbrev pub IsStillDraft : Facts → Action → Type 0
 IsStillDraft facts (PutRound round sheet) = RoundIsDraft facts
 IsStillDraft facts (Release round) = RoundIsDraft facts
 IsStillDraft facts _ = Unit {0}
+
+-- the round that was found isn't published
+abbrev pub RoundIsUnpublished : Facts → Type 0
+RoundIsUnpublished facts = (row : RoundRow) → facts.round ≡ Some row → row.round.published ≡ false
+
+-- the round that was found is published
+abbrev pub RoundIsPublished : Facts → Type 0
+RoundIsPublished facts = (row : RoundRow) → facts.round ≡ Some row → IsTrue row.round.published
+
+-- what rule 15 implies that passes: published for Table, and else not published
+abbrev pub PublishedPasses : Facts → Action → Type 0
+PublishedPasses facts (Table round) = RoundIsPublished facts
+PublishedPasses facts _ = RoundIsUnpublished facts
+
+-- What is answered, protested about or published isn't published yet, and what a table is read of is.
+abbrev pub IsPublishedAsAsked : Facts → Action → Type 0
+IsPublishedAsAsked facts (Submit round number token answer) = RoundIsUnpublished facts
+IsPublishedAsAsked facts (Protest round token number text) = RoundIsUnpublished facts
+IsPublishedAsAsked facts (Publish round) = RoundIsUnpublished facts
+IsPublishedAsAsked facts (Table round) = RoundIsPublished facts
+IsPublishedAsAsked facts _ = Unit {0}
+
+-- No protest of the round that is published is open.
+abbrev pub AreProtestsRuled : Facts → Action → Type 0
+AreProtestsRuled facts (Publish round) = facts.open_protest ≡ false
+AreProtestsRuled facts _ = Unit {0}
+
+-- Who rules has no answer in the round, and didn't make the protest.
+abbrev pub IsUninvolved : Facts → Action → Type 0
+IsUninvolved facts (Rule round entrant token ruling) = facts.involved ≡ false
+IsUninvolved facts _ = Unit {0}
+
+-- The list of people contradicts nothing that is known.
+abbrev pub HasNoConflict : Facts → Action → Type 0
+HasNoConflict facts (Import people) = facts.conflict ≡ false
+HasNoConflict facts _ = Unit {0}
 
 -- the protest that was found is open
 abbrev pub ProtestIsOpen : Facts → Type 0
@@ -107,7 +185,7 @@ IsSame facts (Rule round entrant token ruling) =
     (row : ProtestRow) × (facts.protest ≡ Some row) × (row.ruling ≡ Some ruling)
 IsSame facts _ = ⊥
 
--- what an allowed request has: all that its body reads of the facts
+-- what an allowed request has: all that the rules without a moment imply of the facts
 pub record IsAllowable (facts : Facts) (action : Action) : Type 0 where
   pub caller : CallerMay facts action
   pub object : ObjectIsThere facts action
@@ -115,6 +193,14 @@ pub record IsAllowable (facts : Facts) (action : Action) : Type 0 where
   pub token : TokenIsNew facts action
   pub ruling : RulingIsNew facts action
   pub below_limit : IsBelowLimit facts action
+  pub author : NamesOwnPuzzle facts action
+  pub by_others : IsByOthers facts action
+  pub no_other_round : StandsInNoReleased facts action
+  pub certified : AreCertified facts action
+  pub published : IsPublishedAsAsked facts action
+  pub protests_ruled : AreProtestsRuled facts action
+  pub uninvolved : IsUninvolved facts action
+  pub no_conflict : HasNoConflict facts action
 
 -- what a request has that repeats another: all that its first reply is read from
 pub record IsRepetition (facts : Facts) (action : Action) : Type 0 where
@@ -132,9 +218,17 @@ Implies (Deny k) facts action = (rule : rule.Rule) × Contains (rules_asked acti
 abbrev pub PassImplies : rule.Rule → Facts → Action → Type 0
 PassImplies UnknownKey facts action = IsSome facts.caller
 PassImplies NoRole facts action = ¬ (LacksRole facts.caller action)
+PassImplies OtherAuthor facts action = NamesOwnPuzzle facts action
 PassImplies Missing facts action = ObjectIsThere facts action
+PassImplies OwnPuzzle facts action = RoundIsByOthers facts
 PassImplies TokenTaken facts action = IsSome facts.caller → TokenIsNew facts action
+PassImplies InReleasedRound facts action = facts.in_released ≡ false
+PassImplies NotCertified facts action = facts.uncertified ≡ false
 PassImplies NoDraft facts action = RoundIsDraft facts
+PassImplies Published facts action = PublishedPasses facts action
+PassImplies OpenProtest facts action = facts.open_protest ≡ false
+PassImplies Involved facts action = facts.involved ≡ false
 PassImplies RuledOtherwise facts action = RulingIsNew facts action
 PassImplies LimitReached facts action = IsSome facts.caller → IsBelowLimit facts action
+PassImplies ListConflict facts action = facts.conflict ≡ false
 PassImplies _ facts action = Unit {0}

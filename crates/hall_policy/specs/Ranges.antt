@@ -22,31 +22,41 @@ use Rattle.hall_policy.specs.declared.record.Ruling.{Ruling}
 use Rattle.hall_policy.specs.declared.record.Ruling.TheVariants.{Upheld, Rejected}
 use Rattle.hall_policy.specs.declared.request.Sheet.{Sheet}
 use Rattle.hall_policy.specs.declared.request.Action.{Action}
-use Rattle.hall_policy.specs.declared.request.Action.TheVariants.{Import, PutPuzzle, ReadPuzzle, ListPuzzles, Certify, PutRound, Release, ListRounds, ReadRound, Submit, Answers, Solutions, Protest, Protests, Rule, Publish, Table}
+use Rattle.hall_policy.specs.declared.request.Action.TheVariants.{Import, PutPuzzle, ReadPuzzle, ListPuzzles, Certify}
+use Rattle.hall_policy.specs.declared.request.Action.TheVariants.{PutRound, Release, ListRounds, ReadRound, Submit}
+use Rattle.hall_policy.specs.declared.request.Action.TheVariants.{Answers, Solutions, Protest, Protests}
+use Rattle.hall_policy.specs.declared.request.Action.TheVariants.{Rule, Publish, Table}
 use Rattle.hall_policy.specs.declared.request.Request.{Request}
 
--- the texts
+-- a person's name
 abbrev pub IsName : List ℕ → Type 0
 IsName = IsOfKind 1 24 is_word_byte
 
+-- an author's label of a puzzle
 abbrev pub IsLabel : List ℕ → Type 0
 IsLabel = IsOfKind 1 24 is_word_byte
 
+-- a round's id
 abbrev pub IsRoundId : List ℕ → Type 0
 IsRoundId = IsOfKind 1 24 is_word_byte
 
+-- what tells a repeated request from a new one
 abbrev pub IsToken : List ℕ → Type 0
 IsToken = IsOfKind 1 32 is_word_byte
 
+-- the secret by which a caller is known
 abbrev pub IsKey : List ℕ → Type 0
 IsKey = IsOfKind 8 64 is_key_byte
 
+-- a round's title
 abbrev pub IsTitle : List ℕ → Type 0
 IsTitle = IsOfKind 1 60 is_printable
 
+-- what an entrant protests
 abbrev pub IsProtestText : List ℕ → Type 0
 IsProtestText = IsOfKind 1 200 is_printable
 
+-- what an entrant hands in
 abbrev pub IsAnswer : List ℕ → Type 0
 IsAnswer = IsOfKind 0 4000 is_printable
 
@@ -54,16 +64,21 @@ IsAnswer = IsOfKind 0 4000 is_printable
 abbrev pub IsWithin : ℕ → ℕ → ℕ → Type 0
 IsWithin least most n = (least ≤ n) × (n ≤ most)
 
--- the points of a ruling
+-- a whole Unix second, from 0 to 4,102,444,800
+abbrev pub IsMoment : ℕ → Type 0
+IsMoment = IsWithin 0 4102444800
+
+-- the points of a ruling, from -1,000 to 1,000
 abbrev pub IsRuling : Ruling → Type 0
 IsRuling (Upheld points) = (negsuc 999 ≤ℤ points) × (points ≤ℤ pos 1000)
 IsRuling Rejected = Unit {0}
 
--- the records
+-- a person; any roles, or none
 pub record IsPerson (person : Person) : Type 0 where
   pub name : IsName person.name
   pub key : IsKey person.key
 
+-- where a puzzle is kept
 pub record IsPuzzleKey (key : PuzzleKey) : Type 0 where
   pub author : IsName key.author
   pub label : IsLabel key.label
@@ -73,20 +88,23 @@ abbrev pub IsState : PuzzleState → Type 0
 IsState (One solution) = IsAnswer solution
 IsState _ = Unit {0}
 
+-- a puzzle of an author
 pub record IsPuzzleRow (row : PuzzleRow) : Type 0 where
   pub key : IsPuzzleKey row.key
   pub puzzle : IsBoard row.puzzle
   pub state : IsState row.state
 
+-- a round without its puzzles
 pub record IsRound (round : Round) : Type 0 where
   pub id : IsRoundId round.id
   pub title : IsTitle round.title
-  pub start : IsWithin 0 4102444800 round.start
+  pub start : IsMoment round.start
   pub minutes : IsWithin 1 1440 round.minutes
   pub protest_minutes : IsWithin 0 10080 round.protest_minutes
   pub penalty : IsWithin 0 1000 round.penalty
   pub bonus : IsWithin 0 1000 round.bonus
 
+-- a puzzle in a round, and the points for it
 pub record IsEntry (entry : Entry) : Type 0 where
   pub puzzle : IsPuzzleKey entry.puzzle
   pub points : IsWithin 1 1000 entry.points
@@ -96,24 +114,28 @@ pub record IsEntryList (entries : List Entry) : Type 0 where
   pub list : AreEntries entries
   pub each : All IsEntry entries
 
+-- where an answer is kept
 pub record IsAnswerKey (key : AnswerKey) : Type 0 where
   pub entrant : IsName key.entrant
   pub round : IsRoundId key.round
   pub number : IsWithin 1 99 key.number
   pub token : IsToken key.token
 
+-- an accepted answer
 pub record IsAnswerRow (row : AnswerRow) : Type 0 where
   pub key : IsAnswerKey row.key
   pub n : IsWithin 1 50 row.n
-  pub moment : IsWithin 0 4102444800 row.moment
+  pub moment : IsMoment row.moment
   pub answer : IsAnswer row.answer
   pub verdict : row.verdict < 2 ^ 16
 
+-- where a protest is kept
 pub record IsProtestKey (key : ProtestKey) : Type 0 where
   pub entrant : IsName key.entrant
   pub round : IsRoundId key.round
   pub token : IsToken key.token
 
+-- a protest of an entrant
 pub record IsProtestRow (row : ProtestRow) : Type 0 where
   pub key : IsProtestKey row.key
   pub number : IsWithin 1 99 row.number
@@ -152,7 +174,7 @@ pub record IsWorld (world : World) : Type 0 where
 -- a sheet of the types' values
 pub record IsSheet (sheet : Sheet) : Type 0 where
   pub title : IsTitle sheet.title
-  pub start : IsWithin 0 4102444800 sheet.start
+  pub start : IsMoment sheet.start
   pub minutes : IsWithin 1 1440 sheet.minutes
   pub protest_minutes : IsWithin 0 10080 sheet.protest_minutes
   pub penalty : IsWithin 0 1000 sheet.penalty

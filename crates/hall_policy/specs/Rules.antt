@@ -1,5 +1,6 @@
 -- The twenty rules of the policy, each a sentence over whole maps.
-use Rattle.std.specs.Prelude.{◌≡◌, ◌≢◌, ◌==◌, ◌≤◌, ◌<◌, ◌&&◌, ◌⊎◌, ℕ, Bool, false, List, Option, Some, None, IsTrue, Contains, count_by}
+use Rattle.std.specs.Prelude.{◌≡◌, ◌≢◌, ◌==◌, ◌≤◌, ◌<◌, ◌&&◌, ◌⊎◌, ℕ, Bool, false, List, Option}
+use Rattle.std.specs.Prelude.{Some, None, IsTrue, Contains, count_by}
 use Rattle.std.specs.FinMap.{get, values}
 use Rattle.hall_policy.specs.World.{World, place_of, answer_of, protest_of, end_of, close_of, same_text}
 use Rattle.hall_policy.specs.Actions.{may, puzzle_named, round_named, finds_drafts}
@@ -13,7 +14,10 @@ use Rattle.hall_policy.specs.declared.record.AnswerRow.{AnswerRow}
 use Rattle.hall_policy.specs.declared.record.ProtestKey.{ProtestKey}
 use Rattle.hall_policy.specs.declared.record.ProtestRow.{ProtestRow}
 use Rattle.hall_policy.specs.declared.request.Action.{Action}
-use Rattle.hall_policy.specs.declared.request.Action.TheVariants.{Import, PutPuzzle, ReadPuzzle, ListPuzzles, Certify, PutRound, Release, ListRounds, ReadRound, Submit, Answers, Solutions, Protest, Protests, Rule, Publish, Table}
+use Rattle.hall_policy.specs.declared.request.Action.TheVariants.{Import, PutPuzzle, ReadPuzzle, ListPuzzles, Certify}
+use Rattle.hall_policy.specs.declared.request.Action.TheVariants.{PutRound, Release, ListRounds, ReadRound, Submit}
+use Rattle.hall_policy.specs.declared.request.Action.TheVariants.{Answers, Solutions, Protest, Protests}
+use Rattle.hall_policy.specs.declared.request.Action.TheVariants.{Rule, Publish, Table}
 
 -- the caller is a person of the hall, and has P
 abbrev pub TheCaller : Option Person → (Person → Type 0) → Type 0

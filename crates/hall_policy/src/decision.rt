@@ -5,7 +5,8 @@ ghost use Rattle.hall_policy.specs.Actions.{number_of};
 ghost use Rattle.hall_policy.specs.Rules.{LacksRole, NamesOtherAuthor, is_director};
 ghost use Rattle.hall_policy.specs.Facts.{HidesRound, LacksNumber, HasEntryBy, TellsAuthor, deciding};
 ghost use Rattle.hall_policy.specs.Finding.{IsTestOf, IsFindingOf, FindingImplies, finding_of, standing};
-ghost use Rattle.hall_policy.specs.Implies.{Implies, ObjectIsThere, RoundIsThere, EntryIsThere, RoundIsDraft, IsBelowLimit};
+ghost use Rattle.hall_policy.specs.Implies.{Implies, ObjectIsThere, RoundIsThere, EntryIsThere, RoundIsDraft};
+ghost use Rattle.hall_policy.specs.Implies.{NamesOwnPuzzle, RoundHasNoneBy, RoundIsByOthers, PublishedPasses, IsBelowLimit};
 ghost use Rattle.hall_policy.specs.Decided.{IsDecidedUpTo, PassesUpTo};
 ghost use Rattle.hall_policy.specs.declared.record.RoundRow.{RoundRow};
 
@@ -36,7 +37,8 @@ fn lacks_role(facts: &Facts, action: &Action) -> bool
 }
 
 fn names_other_author(facts: &Facts, action: &Action) -> bool
-    ensures { IsTrue result ↔ NamesOtherAuthor facts.now.caller action.now }
+    ensures tells { IsTrue result ↔ NamesOtherAuthor facts.now.caller action.now }
+    ensures own { result ≡ false → NamesOwnPuzzle facts.now action.now }
 {
     match (&facts.caller, puzzle_named(action)) {
         (Some(person), Some(key)) => !person.roles.director && !key.author.is_same(&person.name),
@@ -101,7 +103,8 @@ fn is_no_draft(facts: &Facts, action: &Action) -> bool
 }
 
 fn is_published(facts: &Facts, action: &Action) -> bool
-    ensures { IsTestOf Rule.Published facts.now action.now 0 result }
+    ensures tells { IsTestOf Rule.Published facts.now action.now 0 result }
+    ensures passes { result ≡ false → PublishedPasses facts.now action.now }
 {
     match (&facts.round, action) {
         (Some(row), Action::Table { .. }) => !row.round.published,
@@ -155,7 +158,8 @@ fn is_missing(facts: &Facts, action: &Action) -> bool
 }
 
 fn is_own_puzzle(facts: &Facts, action: &Action) -> bool
-    ensures { IsTestOf Rule.OwnPuzzle facts.now action.now 0 result }
+    ensures tells { IsTestOf Rule.OwnPuzzle facts.now action.now 0 result }
+    ensures others { result ≡ false → RoundIsByOthers facts.now }
 {
     match &facts.caller {
         Some(person) => person.roles.entrant && lists_author_of(facts, &person.name),
@@ -165,7 +169,8 @@ fn is_own_puzzle(facts: &Facts, action: &Action) -> bool
 
 /// Whether the round that was found has a puzzle by the author.
 fn lists_author_of(facts: &Facts, author: &Name) -> bool
-    ensures { TellsAuthor facts.now author.now result }
+    ensures tells { TellsAuthor facts.now author.now result }
+    ensures others { result ≡ false → RoundHasNoneBy facts.now author.now }
 {
     match &facts.round {
         Some(row) => lists_author(row.puzzles.as_slice(), author),

@@ -1,5 +1,5 @@
 //! Lists in which no two items are alike: a round's puzzles, and people.
-ghost use Rattle.std.specs.Prelude.{◌≡◌, ◌↔◌, not, IsTrue, IfSome, IfNone, IfOk, AllPairs, Any};
+ghost use Rattle.std.specs.Prelude.{◌≡◌, ◌↔◌, ◌≤◌, not, length, IsTrue, IfSome, IfNone, IfOk, OnErr, AllPairs, Any};
 ghost use Rattle.std.specs.BTreeSet.{contains};
 ghost use Rattle.hall_policy.specs.Text.{text_cmp};
 ghost use Rattle.hall_policy.specs.Lists.{AreEntries, ArePeople, ArePeopleDifferent, IsSeenToo};
@@ -149,10 +149,12 @@ impl Model for People {
 }
 
 impl People {
-    /// The list, where it has at most 5,000 people and no name or key twice; an error is want of memory.
+    /// The list, where it has at most 5,000 people and no name or key twice; an error is want of memory,
+    /// and never the answer to a longer list.
     pub fn new(alloc: Global, people: Vec<Person>) -> Result<Option<People>, AllocError>
         ensures some { IfOk result (λ made. IfSome made (λ list. (list ≡ people.items) × ArePeople list)) }
         ensures none { IfOk result (λ made. IfNone made (¬ (ArePeople people.items))) }
+        ensures err { OnErr result (length people.items ≤ 5000) }
     {
         if people.len() > 5000 || !are_different(alloc, people.as_slice())? {
             return Ok(None);

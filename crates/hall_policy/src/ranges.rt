@@ -1,10 +1,16 @@
 //! That a request lies in the ranges of its types: what is read tells what its type keeps.
 ghost use Rattle.std.specs.Prelude.{All};
-ghost use Rattle.hall_policy.specs.Ranges.{IsPerson, IsPuzzleKey, IsEntry, IsEntryList, IsSheet, IsRuling, IsAction, IsRequest};
+ghost use Rattle.hall_policy.specs.Ranges.{IsPerson, IsPuzzleKey, IsEntry, IsEntryList, IsSheet, IsRuling};
+ghost use Rattle.hall_policy.specs.Ranges.{IsAction, IsRequest};
+ghost use Rattle.hall_policy.specs.declared.request.Action.TheVariants.{PutPuzzle, Certify, PutRound, Submit};
+ghost use Rattle.hall_policy.specs.declared.request.Action.TheVariants.{Protest, Rule};
 
 use crate::list::Entries;
+use crate::number::{Budget, PuzzleNumber};
 use crate::record::{Entry, Person, PuzzleKey, Ruling};
 use crate::request::{Action, Request, Sheet};
+use crate::text::{AnswerText, Name, ProtestText, RoundId, Token};
+use hall_grid::Puzzle;
 
 fn read_person(person: &Person)
     ensures { IsPerson person.now }
@@ -69,57 +75,81 @@ fn read_ruling(ruling: Ruling)
     }
 }
 
+fn read_put_puzzle(key: &PuzzleKey, puzzle: &Puzzle)
+    ensures { IsAction (PutPuzzle key.now puzzle.now) }
+{
+    read_puzzle_key(key);
+    let _kind = puzzle.kind();
+}
+
+fn read_certify(key: &PuzzleKey, budget: Budget)
+    ensures { IsAction (Certify key.now budget) }
+{
+    read_puzzle_key(key);
+    let _budget = budget.get();
+}
+
+fn read_put_round(round: &RoundId, sheet: &Sheet)
+    ensures { IsAction (PutRound round.now sheet.now) }
+{
+    let _round = round.as_str();
+    read_sheet(sheet);
+}
+
+fn read_submit(round: &RoundId, number: PuzzleNumber, token: &Token, answer: &AnswerText)
+    ensures { IsAction (Submit round.now number token.now answer.now) }
+{
+    let _round = round.as_str();
+    let _number = number.get();
+    let _token = token.as_str();
+    let _answer = answer.as_str();
+}
+
+fn read_protest(round: &RoundId, token: &Token, number: PuzzleNumber, text: &ProtestText)
+    ensures { IsAction (Protest round.now token.now number text.now) }
+{
+    let _round = round.as_str();
+    let _token = token.as_str();
+    let _number = number.get();
+    let _text = text.as_str();
+}
+
+fn read_rule(round: &RoundId, entrant: &Name, token: &Token, ruling: Ruling)
+    ensures { IsAction (Rule round.now entrant.now token.now ruling) }
+{
+    let _round = round.as_str();
+    let _entrant = entrant.as_str();
+    let _token = token.as_str();
+    read_ruling(ruling);
+}
+
 fn read_action(action: &Action)
     ensures { IsAction action.now }
 {
     match action {
         Action::Import { people } => read_people(people.as_slice()),
-        Action::PutPuzzle { key, puzzle } => {
-            read_puzzle_key(key);
-            let _kind = puzzle.kind();
-        }
+        Action::PutPuzzle { key, puzzle } => read_put_puzzle(key, puzzle),
         Action::ReadPuzzle { key } => read_puzzle_key(key),
-        Action::Certify { key, budget } => {
-            read_puzzle_key(key);
-            let _budget = budget.get();
-        }
-        Action::PutRound { round, sheet } => {
-            let _round = round.as_str();
-            read_sheet(sheet);
-        }
+        Action::Certify { key, budget } => read_certify(key, *budget),
+        Action::PutRound { round, sheet } => read_put_round(round, sheet),
         Action::Submit {
             round,
             number,
             token,
             answer,
-        } => {
-            let _round = round.as_str();
-            let _number = number.get();
-            let _token = token.as_str();
-            let _answer = answer.as_str();
-        }
+        } => read_submit(round, *number, token, answer),
         Action::Protest {
             round,
             token,
             number,
             text,
-        } => {
-            let _round = round.as_str();
-            let _token = token.as_str();
-            let _number = number.get();
-            let _text = text.as_str();
-        }
+        } => read_protest(round, token, *number, text),
         Action::Rule {
             round,
             entrant,
             token,
             ruling,
-        } => {
-            let _round = round.as_str();
-            let _entrant = entrant.as_str();
-            let _token = token.as_str();
-            read_ruling(*ruling);
-        }
+        } => read_rule(round, entrant, token, *ruling),
         Action::Release { round }
         | Action::ReadRound { round }
         | Action::Answers { round }
