@@ -21,19 +21,23 @@ handed_action handed = Submit handed.round.now handed.number handed.token.now ha
 
 -- where an answer of the person's is kept that hands it in
 abbrev pub handed_key : Person → Handed → AnswerKey
-handed_key person handed = record { entrant = person.name; round = handed.round.now; number = handed.number; token = handed.token.now }
+handed_key person handed =
+    record { entrant = person.name; round = handed.round.now; number = handed.number; token = handed.token.now }
 
 -- the row of the person's answer that is handed in, with its number, moment and verdict
 abbrev pub handed_row : Person → Handed → ℕ → ℕ → ℕ → AnswerRow
-handed_row person handed n t verdict = record { key = handed_key person handed; n = n; moment = t; answer = handed.answer.now; verdict = verdict }
+handed_row person handed n t verdict =
+    record { key = handed_key person handed; n = n; moment = t; answer = handed.answer.now; verdict = verdict }
 
 -- the caller's answer under the token of what is handed in
 abbrev pub IsAnswerOf : World → Option Person → Handed → Option AnswerRow → Type 0
-IsAnswerOf world caller handed found = (person : Person) → caller ≡ Some person → found ≡ get world.answers (handed_key person handed)
+IsAnswerOf world caller handed found =
+    (person : Person) → caller ≡ Some person → found ≡ get world.answers (handed_key person handed)
 
 -- how many answers to the puzzle the caller gave
 abbrev pub IsCountOf : World → Option Person → Handed → ℕ → Type 0
-IsCountOf world caller handed count = (person : Person) → caller ≡ Some person → count ≡ answers_given world person.name handed.round.now handed.number
+IsCountOf world caller handed count =
+    (person : Person) → caller ≡ Some person → count ≡ answers_given world person.name handed.round.now handed.number
 
 -- the action that puts the puzzle
 abbrev pub put_action : Putting → Action

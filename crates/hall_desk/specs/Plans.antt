@@ -31,7 +31,9 @@ use Rattle.hall_desk.specs.declared.planned.Plan.{Plan}
 
 -- the plan's reply and change are those of the request as it is decided, for what the search would find, and the change may be made
 pub record IsPlanFor (world : World) (t : ℕ) (request : Request) (plan : Plan) : Type 0 where
-  pub answered : (found : PuzzleState) × IsAnswered world (record { moment = t; request = request; found = found }) (planned_reply plan) (changed (planned_change plan) world)
+  pub answered : (found : PuzzleState)
+      × IsAnswered world (record { moment = t; request = request; found = found })
+      (planned_reply plan) (changed (planned_change plan) world)
   pub can : CanMake (planned_change plan) world
 
 -- the plan's reply and change are those of the allowed action, whatever the search would find, and the change may be made
@@ -41,7 +43,8 @@ pub record IsAllowedPlan (world : World) (caller : Option Person) (action : Acti
 
 -- the plan is that of the allowed action in each world that the facts are true of
 abbrev pub IsPlanOf : Facts → Action → Plan → Type 0
-IsPlanOf facts action plan = (world : World) → TrueUpTo 20 facts world action → (t : ℕ) → IsAllowedPlan world facts.caller action t plan
+IsPlanOf facts action plan =
+    (world : World) → TrueUpTo 20 facts world action → (t : ℕ) → IsAllowedPlan world facts.caller action t plan
 
 -- the plan's reply and change are those of the allowed action, with what its search found, and the change may be made
 pub record IsMadePlan (world : World) (caller : Option Person) (action : Action) (t : ℕ) (plan : Plan) : Type 0 where
@@ -51,7 +54,8 @@ pub record IsMadePlan (world : World) (caller : Option Person) (action : Action)
 
 -- the plan is that of the allowed action, with what its search found, in each world that the facts are true of
 abbrev pub IsSearchPlanOf : Facts → Action → Plan → Type 0
-IsSearchPlanOf facts action plan = (world : World) → TrueUpTo 20 facts world action → (t : ℕ) → IsMadePlan world facts.caller action t plan
+IsSearchPlanOf facts action plan =
+    (world : World) → TrueUpTo 20 facts world action → (t : ℕ) → IsMadePlan world facts.caller action t plan
 
 -- the desk doesn't serve the action yet
 abbrev pub IsUnserved : Action → Type 0
@@ -75,7 +79,8 @@ IsUnserved (Table round) = ⊤
 
 -- Failed is answered for such a cause alone, or where the store's world isn't sane.
 abbrev pub FailsIn : {R : Type 0} → Type 0 → Content → Result R StoreFault → Type 0
-FailsIn cause new result = IfErr result (λ fault. fault ≡ Failed → cause ⊎ (new.honest → new.serves × ¬ (Sane new.world)))
+FailsIn cause new result =
+    IfErr result (λ fault. fault ≡ Failed → cause ⊎ (new.honest → new.serves × ¬ (Sane new.world)))
 
 -- the entries' puzzles are kept
 abbrev pub AreKept : World → List Entry → Type 0
@@ -84,7 +89,8 @@ AreKept world entries = (entry : Entry) → Contains entries entry → get world
 -- what a plan says holds of the store's world, which still serves, where its device was honest; or, where no store was asked, it changes nothing and holds of every world
 abbrev pub Planned : {E : Type 0} → Content → ℕ → Request → Result Plan E → Type 0
 Planned new t request (Ok plan) =
-    (new.honest → new.serves × IsPlanFor new.world t request plan) ⊎ ((plan.change ≡ Nothing) × ((world : World) → IsPlanFor world t request plan))
+    (new.honest → new.serves × IsPlanFor new.world t request plan)
+    ⊎ ((plan.change ≡ Nothing) × ((world : World) → IsPlanFor world t request plan))
 Planned new t request (Err fault) = Unit {0}
 
 -- The request was answered without the store, or refused, by what is a step in every world and leaves it; or the store served before and after, and made a step of the hall.
@@ -97,16 +103,19 @@ Runs old requests replies new = (last : World) × Run old.world requests replies
 
 -- the puzzle that was found is this one, and in this state; or it is none or another one
 abbrev pub StandsAs : Option PuzzleRow → Board → Option StateName → Type 0
-StandsAs found puzzle (Some state) = (row : PuzzleRow) × (found ≡ Some row) × (row.puzzle ≡ puzzle) × (state ≡ state_name row.state)
+StandsAs found puzzle (Some state) =
+    (row : PuzzleRow) × (found ≡ Some row) × (row.puzzle ≡ puzzle) × (state ≡ state_name row.state)
 StandsAs found puzzle None = (row : PuzzleRow) → found ≡ Some row → row.puzzle ≢ puzzle
 
 -- the verdict is that of the answer to the round's puzzle of that number
 abbrev pub IsJudgedAt : World → RoundRow → ℕ → List ℕ → ℕ → Type 0
 IsJudgedAt world row number answer verdict =
-    (entry : Entry) × (puzzle : PuzzleRow) × (entry_at row.puzzles number ≡ Some entry) × (get world.puzzles entry.puzzle ≡ Some puzzle) × Verdict puzzle.puzzle answer verdict
+    (entry : Entry) × (puzzle : PuzzleRow) × (entry_at row.puzzles number ≡ Some entry)
+    × (get world.puzzles entry.puzzle ≡ Some puzzle) × Verdict puzzle.puzzle answer verdict
 
 -- the rows are the answers that the caller sees
 abbrev pub AreRowsFor : World → Facts → Action → ℕ → List AnswerRow → Type 0
 AreRowsFor world facts (Answers id) t rows =
-    (person : Person) × (row : RoundRow) × (facts.caller ≡ Some person) × (facts.round ≡ Some row) × IsListing world (sees_answer person row.round id t) rows
+    (person : Person) × (row : RoundRow) × (facts.caller ≡ Some person) × (facts.round ≡ Some row)
+    × IsListing world (sees_answer person row.round id t) rows
 AreRowsFor world facts _ t rows = ⊥

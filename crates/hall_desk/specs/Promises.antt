@@ -25,12 +25,14 @@ use Rattle.hall_desk.specs.declared.reply.Reply.TheVariants as reply
 
 -- one filling breaks no rule of the puzzle, and no other does so
 abbrev pub HasOneSolution : Board → Type 0
-HasOneSolution puzzle = (solution : List ℕ) × Solves puzzle solution × ((other : List ℕ) → Solves puzzle other → other ≡ solution)
+HasOneSolution puzzle =
+    (solution : List ℕ) × Solves puzzle solution × ((other : List ℕ) → Solves puzzle other → other ≡ solution)
 
 -- each puzzle of a released round is kept, and has exactly one solution
 abbrev pub HasUniqueSolutions : World → Type 0
 HasUniqueSolutions world =
-    (id : List ℕ) (key : PuzzleKey) → StandsReleased world key id → (row : PuzzleRow) × (get world.puzzles key ≡ Some row) × HasOneSolution row.puzzle
+    (id : List ℕ) (key : PuzzleKey) → StandsReleased world key id → (row : PuzzleRow)
+    × (get world.puzzles key ≡ Some row) × HasOneSolution row.puzzle
 
 -- the verdict names no rule
 abbrev pub NamesNoRule : ℕ → Type 0
@@ -39,15 +41,18 @@ NamesNoRule names = (rule : Broken) → ¬ (Names names rule)
 -- an answer to a certified puzzle is right exactly where it is the text of the stored solution
 abbrev pub RightAnswersAreSolutions : World → Type 0
 RightAnswersAreSolutions world =
-    (key : PuzzleKey) (row : PuzzleRow) (solution answer : List ℕ) (names : ℕ) → get world.puzzles key ≡ Some row → row.state ≡ state.One solution →
+    (key : PuzzleKey) (row : PuzzleRow) (solution answer : List ℕ) (names : ℕ) → get world.puzzles key ≡ Some row →
+    row.state ≡ state.One solution →
     Verdict row.puzzle answer names → NamesNoRule names ↔ (answer ≡ solution)
 
 -- a sane world keeps the promises to directors and entrants, and each step and run of the hall leads from sane worlds to sane ones
 pub record SanityKeepsPromises : Type 0 where
   pub unique : (world : World) → Sane world → HasUniqueSolutions world
   pub right : (world : World) → Sane world → RightAnswersAreSolutions world
-  pub steps : (world new : World) (t : ℕ) (request : Request) (given : Reply) → Sane world → Step world t request given new → Sane new
-  pub runs : (world last : World) (requests : List (ℕ × Request)) (replies : List Reply) → Sane world → Run world requests replies last → Sane last
+  pub steps : (world new : World) (t : ℕ) (request : Request) (given : Reply) → Sane world →
+      Step world t request given new → Sane new
+  pub runs : (world last : World) (requests : List (ℕ × Request)) (replies : List Reply) → Sane world →
+      Run world requests replies last → Sane last
 
 -- the text is that of the answer that stands, and the reply is the one that this answer got
 pub record IsToldAgain (world : World) (id : List ℕ) (row : AnswerRow) (answer : List ℕ) (given : Reply) : Type 0 where
@@ -68,9 +73,12 @@ IsRetryAnswered world id row answer given =
 -- a token whose answer was accepted acts once: an answer that comes under a token that stands changes nothing, at whatever moment it comes
 abbrev pub TokensActOnce : Type 0
 TokensActOnce =
-    (world : World) (t : ℕ) (key : Option (List ℕ)) (person : Person) (id : List ℕ) (number : ℕ) (token answer : List ℕ) (row : AnswerRow) (given : Reply) (new : World) →
-    caller_of world key ≡ Some person → get world.answers (record { entrant = person.name; round = id; number = number; token = token }) ≡ Some row →
-    Step world t (record { key = key; action = Submit id number token answer }) given new → (new ≡ world) × IsRetryAnswered world id row answer given
+    (world : World) (t : ℕ) (key : Option (List ℕ)) (person : Person) (id : List ℕ) (number : ℕ)
+    (token answer : List ℕ) (row : AnswerRow) (given : Reply) (new : World) →
+    caller_of world key ≡ Some person →
+    get world.answers (record { entrant = person.name; round = id; number = number; token = token }) ≡ Some row →
+    Step world t (record { key = key; action = Submit id number token answer }) given new →
+    (new ≡ world) × IsRetryAnswered world id row answer given
 
 -- the reply to the request of an accepted answer when it comes again, or comes with another text: no service; for another text alone, the denial of the token's rule;
 -- for the same text alone, the first reply
@@ -81,7 +89,8 @@ IsRetryOf answer again first given =
 -- an accepted answer stays accepted: whatever requests come between, and at whatever moment its token comes again, the world stays, and the retry is answered as one
 abbrev pub AcceptedAnswersStay : Type 0
 AcceptedAnswersStay =
-    (world kept later new : World) (t u : ℕ) (key : Option (List ℕ)) (id : List ℕ) (number : ℕ) (token answer again : List ℕ) (n : ℕ) (told : Option ℕ)
+    (world kept later new : World) (t u : ℕ) (key : Option (List ℕ)) (id : List ℕ) (number : ℕ)
+    (token answer again : List ℕ) (n : ℕ) (told : Option ℕ)
     (requests : List (ℕ × Request)) (replies : List Reply) (given : Reply) →
     Step world t (record { key = key; action = Submit id number token answer }) (reply.Received n told) kept →
     Run kept requests replies later →
@@ -91,9 +100,12 @@ AcceptedAnswersStay =
 -- an accepted answer's retry has its answer in every later world: the first reply for the same text, the denial of the token's rule for another one, with the world as it is
 abbrev pub RetriesAreAnswered : Type 0
 RetriesAreAnswered =
-    (world kept later : World) (t u : ℕ) (key : Option (List ℕ)) (id : List ℕ) (number : ℕ) (token answer again : List ℕ) (n : ℕ) (told : Option ℕ)
+    (world kept later : World) (t u : ℕ) (key : Option (List ℕ)) (id : List ℕ) (number : ℕ)
+    (token answer again : List ℕ) (n : ℕ) (told : Option ℕ)
     (requests : List (ℕ × Request)) (replies : List Reply) →
     Step world t (record { key = key; action = Submit id number token answer }) (reply.Received n told) kept →
     Run kept requests replies later →
-    (answer ≡ again → Step later u (record { key = key; action = Submit id number token again }) (reply.Received n told) later)
-    × (answer ≢ again → Step later u (record { key = key; action = Submit id number token again }) (reply.Denied 6) later)
+    (answer ≡ again →
+    Step later u (record { key = key; action = Submit id number token again }) (reply.Received n told) later)
+    × (answer ≢ again →
+    Step later u (record { key = key; action = Submit id number token again }) (reply.Denied 6) later)

@@ -8,6 +8,7 @@ use Rattle.hall_desk.specs.declared.reply.Reply.{Reply}
 -- there is a reply to each request, and a world after each, with a step of the hall between neighbours
 abbrev pub Run : World → List (ℕ × Request) → List Reply → World → Type 0
 Run world [] [] last = last ≡ world
-Run world (asked ∷ rest) (given ∷ replies) last = (next : World) × Step world asked.0 asked.1 given next × Run next rest replies last
+Run world (asked ∷ rest) (given ∷ replies) last =
+    (next : World) × Step world asked.0 asked.1 given next × Run next rest replies last
 Run world [] (given ∷ replies) last = ⊥
 Run world (asked ∷ rest) [] last = ⊥

@@ -29,7 +29,9 @@ pub record Solves (puzzle : Board) (f : List ℕ) : Type 0 where
 
 -- what a state says of the puzzle's solutions
 abbrev pub IsTrueState : Board → PuzzleState → Type 0
-IsTrueState puzzle (state.One text) = (solution : List ℕ) × AnswerText puzzle text solution × Solves puzzle solution × ((other : List ℕ) → Solves puzzle other → other ≡ solution)
+IsTrueState puzzle (state.One text) =
+    (solution : List ℕ) × AnswerText puzzle text solution × Solves puzzle solution
+    × ((other : List ℕ) → Solves puzzle other → other ≡ solution)
 IsTrueState puzzle state.NoSolution = (filling : List ℕ) → ¬ (Solves puzzle filling)
 IsTrueState puzzle state.More = (a b : List ℕ) × Solves puzzle a × Solves puzzle b × (a ≢ b)
 IsTrueState puzzle state.GaveUp = Unit {0}
@@ -37,7 +39,8 @@ IsTrueState puzzle state.New = Unit {0}
 
 -- the round's puzzle of that number is there
 abbrev pub HasPlace : World → List ℕ → ℕ → Type 0
-HasPlace world round number = (entry : Entry) × (get world.places (record { round = round; number = number }) ≡ Some entry)
+HasPlace world round number =
+    (entry : Entry) × (get world.places (record { round = round; number = number }) ≡ Some entry)
 
 -- each row stands under its own key, and what it refers to is there
 pub record IsKeyed (world : World) : Type 0 where
@@ -47,17 +50,24 @@ pub record IsKeyed (world : World) : Type 0 where
   pub answers : (key : AnswerKey) (row : AnswerRow) → get world.answers key ≡ Some row → row.key ≡ key
   pub protests : (key : ProtestKey) (row : ProtestRow) → get world.protests key ≡ Some row → row.key ≡ key
   -- a puzzle's author is there
-  pub authors : (key : PuzzleKey) (row : PuzzleRow) → get world.puzzles key ≡ Some row → get world.people key.author ≢ None
+  pub authors : (key : PuzzleKey) (row : PuzzleRow) → get world.puzzles key ≡ Some row →
+      get world.people key.author ≢ None
   -- a round has 1 to 40 puzzles, numbered from 1, and a place belongs to a round
-  pub lists : (id : List ℕ) (round : Round) → get world.rounds id ≡ Some round → (row : RoundRow) × IsRoundAt world id row × AreEntries row.puzzles
+  pub lists : (id : List ℕ) (round : Round) → get world.rounds id ≡ Some round → (row : RoundRow)
+      × IsRoundAt world id row × AreEntries row.puzzles
   pub homes : (key : PlaceKey) (entry : Entry) → get world.places key ≡ Some entry → get world.rounds key.round ≢ None
   -- a round's puzzles are there, a draft's too
-  pub entries : (key : PlaceKey) (entry : Entry) → get world.places key ≡ Some entry → get world.puzzles entry.puzzle ≢ None
+  pub entries : (key : PlaceKey) (entry : Entry) → get world.places key ≡ Some entry →
+      get world.puzzles entry.puzzle ≢ None
   -- an entrant is there, and the place of an answer or protest
-  pub entrants : (key : AnswerKey) (row : AnswerRow) → get world.answers key ≡ Some row → get world.people key.entrant ≢ None
-  pub answered : (key : AnswerKey) (row : AnswerRow) → get world.answers key ≡ Some row → HasPlace world key.round key.number
-  pub protesters : (key : ProtestKey) (row : ProtestRow) → get world.protests key ≡ Some row → get world.people key.entrant ≢ None
-  pub protested : (key : ProtestKey) (row : ProtestRow) → get world.protests key ≡ Some row → HasPlace world key.round row.number
+  pub entrants : (key : AnswerKey) (row : AnswerRow) → get world.answers key ≡ Some row →
+      get world.people key.entrant ≢ None
+  pub answered : (key : AnswerKey) (row : AnswerRow) → get world.answers key ≡ Some row →
+      HasPlace world key.round key.number
+  pub protesters : (key : ProtestKey) (row : ProtestRow) → get world.protests key ≡ Some row →
+      get world.people key.entrant ≢ None
+  pub protested : (key : ProtestKey) (row : ProtestRow) → get world.protests key ≡ Some row →
+      HasPlace world key.round row.number
 
 -- the verdict is that of the answer to the puzzle at the place
 abbrev pub IsVerdictAt : World → List ℕ → ℕ → AnswerRow → Type 0
@@ -71,24 +81,32 @@ pub record Sane (world : World) : Type 0 where
   -- a puzzle's state is true of it
   pub states : (key : PuzzleKey) (row : PuzzleRow) → get world.puzzles key ≡ Some row → IsTrueState row.puzzle row.state
   -- answers and protests belong to released rounds
-  pub answers_released : (key : AnswerKey) (row : AnswerRow) → get world.answers key ≡ Some row → IsReleasedRound world key.round
-  pub protests_released : (key : ProtestKey) (row : ProtestRow) → get world.protests key ≡ Some row → IsReleasedRound world key.round
+  pub answers_released : (key : AnswerKey) (row : AnswerRow) → get world.answers key ≡ Some row →
+      IsReleasedRound world key.round
+  pub protests_released : (key : ProtestKey) (row : ProtestRow) → get world.protests key ≡ Some row →
+      IsReleasedRound world key.round
   -- a stored verdict is that of its answer and its puzzle's text
-  pub verdicts : (key : AnswerKey) (row : AnswerRow) → get world.answers key ≡ Some row → IsVerdictAt world key.round key.number row
+  pub verdicts : (key : AnswerKey) (row : AnswerRow) → get world.answers key ≡ Some row →
+      IsVerdictAt world key.round key.number row
   -- a puzzle of a released round is in state one and in no other released round
   pub certified : (id : List ℕ) (key : PuzzleKey) → StandsReleased world key id → IsCertified world key
   pub in_one_round : (a b : List ℕ) (key : PuzzleKey) → StandsReleased world key a → StandsReleased world key b → a ≡ b
   -- a published round is released and has no open protest
-  pub published : (id : List ℕ) (round : Round) → get world.rounds id ≡ Some round → IsTrue round.published → IsTrue round.released
+  pub published : (id : List ℕ) (round : Round) → get world.rounds id ≡ Some round → IsTrue round.published →
+      IsTrue round.released
   pub ruled : (id : List ℕ) (round : Round) → get world.rounds id ≡ Some round → IsTrue round.published →
       (key : ProtestKey) (row : ProtestRow) → key.round ≡ id → get world.protests key ≡ Some row → row.ruling ≢ None
   -- one entrant's answers to one puzzle of a round are numbered 1 to their count, each number once
-  pub numbered : (key : AnswerKey) (row : AnswerRow) → get world.answers key ≡ Some row → (1 ≤ row.n) × (row.n ≤ answers_given world key.entrant key.round key.number)
-  pub numbered_once : (a b : AnswerKey) (row other : AnswerRow) → get world.answers a ≡ Some row → get world.answers b ≡ Some other →
+  pub numbered : (key : AnswerKey) (row : AnswerRow) → get world.answers key ≡ Some row → (1 ≤ row.n)
+      × (row.n ≤ answers_given world key.entrant key.round key.number)
+  pub numbered_once : (a b : AnswerKey) (row other : AnswerRow) → get world.answers a ≡ Some row →
+      get world.answers b ≡ Some other →
       a.entrant ≡ b.entrant → a.round ≡ b.round → a.number ≡ b.number → row.n ≡ other.n → a ≡ b
   -- keys differ, and nobody is director and entrant
-  pub keys_differ : (a b : List ℕ) (p q : Person) → get world.people a ≡ Some p → get world.people b ≡ Some q → p.key ≡ q.key → a ≡ b
-  pub apart : (name : List ℕ) (person : Person) → get world.people name ≡ Some person → IsTrue person.roles.director → IsTrue person.roles.entrant → ⊥
+  pub keys_differ : (a b : List ℕ) (p q : Person) → get world.people a ≡ Some p → get world.people b ≡ Some q →
+      p.key ≡ q.key → a ≡ b
+  pub apart : (name : List ℕ) (person : Person) → get world.people name ≡ Some person → IsTrue person.roles.director →
+      IsTrue person.roles.entrant → ⊥
   -- the limits
   pub few_answers : (entrant round : List ℕ) (number : ℕ) → answers_given world entrant round number ≤ 50
   pub few_protests : (entrant round : List ℕ) → protests_made world entrant round ≤ 5

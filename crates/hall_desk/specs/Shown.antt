@@ -38,7 +38,8 @@ pub record ShowsPuzzle (world : World) (place : ℕ) (entry : Entry) (shown : Sh
 -- all puzzles of the list are shown, in its order, numbered from the given number on
 abbrev pub ShowsPuzzles : World → ℕ → List Entry → List ShownPuzzle → Type 0
 ShowsPuzzles world number [] [] = Unit {0}
-ShowsPuzzles world number (entry ∷ entries) (line ∷ shown) = ShowsPuzzle world number entry line × ShowsPuzzles world (number + 1) entries shown
+ShowsPuzzles world number (entry ∷ entries) (line ∷ shown) =
+    ShowsPuzzle world number entry line × ShowsPuzzles world (number + 1) entries shown
 ShowsPuzzles world number [] (line ∷ shown) = ⊥
 ShowsPuzzles world number (entry ∷ entries) [] = ⊥
 
@@ -65,7 +66,8 @@ sees_all person round t = person.roles.director || (person.roles.referee && nat_
 
 -- the caller sees the answer: it is one of the round, and the caller's own or the caller sees all
 abbrev pub sees_answer : Person → Round → List ℕ → ℕ → AnswerRow → Bool
-sees_answer person round id t row = same_text row.key.round id && (sees_all person round t || same_text row.key.entrant person.name)
+sees_answer person round id t row =
+    same_text row.key.round id && (sees_all person round t || same_text row.key.entrant person.name)
 
 -- the verdict is left out where the round is sealed, it isn't over and the caller is no director
 abbrev pub shows_verdict : Person → Round → ℕ → Bool

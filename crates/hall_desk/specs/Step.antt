@@ -38,13 +38,15 @@ new_row key puzzle = record { key = key; puzzle = puzzle; state = state.New }
 -- the same puzzle stands under the key already: nothing changes
 abbrev pub StandsAlready : World → PuzzleKey → Board → List ℕ → Reply → World → Type 0
 StandsAlready world key puzzle text given new =
-    (row : PuzzleRow) × (get world.puzzles key ≡ Some row) × (row.puzzle ≡ puzzle) × (given ≡ reply.PuzzlePut (state_name row.state) text) × (new ≡ world)
+    (row : PuzzleRow) × (get world.puzzles key ≡ Some row) × (row.puzzle ≡ puzzle)
+    × (given ≡ reply.PuzzlePut (state_name row.state) text) × (new ≡ world)
 
 -- no puzzle stands under the key, or another one: this one is stored
 abbrev pub IsPut : World → PuzzleKey → Board → List ℕ → Reply → World → Type 0
 IsPut world key puzzle text given new =
     ((row : PuzzleRow) → get world.puzzles key ≡ Some row → row.puzzle ≢ puzzle)
-    × (given ≡ reply.PuzzlePut (state_name state.New) text) × (new ≡ record world { puzzles = insert world.puzzles key (new_row key puzzle) })
+    × (given ≡ reply.PuzzlePut (state_name state.New) text)
+    × (new ≡ record world { puzzles = insert world.puzzles key (new_row key puzzle) })
 
 -- whether the puzzle was never searched, or the search came to no end
 abbrev pub is_open : PuzzleState → Bool
@@ -57,13 +59,15 @@ is_open state.GaveUp = true
 -- what a search of the puzzle within the budget may find, as a state
 abbrev pub IsFound : Board → ℕ → PuzzleState → Type 0
 IsFound puzzle budget state.New = ⊥
-IsFound puzzle budget (state.One text) = (solution : List ℕ) × OutcomeOfPuzzle puzzle budget (outcome.One solution) × AnswerText puzzle text solution
+IsFound puzzle budget (state.One text) =
+    (solution : List ℕ) × OutcomeOfPuzzle puzzle budget (outcome.One solution) × AnswerText puzzle text solution
 IsFound puzzle budget state.NoSolution = OutcomeOfPuzzle puzzle budget outcome.None
 IsFound puzzle budget state.More = (a b : List ℕ) × OutcomeOfPuzzle puzzle budget (outcome.More a b)
 IsFound puzzle budget state.GaveUp = OutcomeOfPuzzle puzzle budget outcome.GaveUp
 
 -- the puzzle is searched, and what is found becomes its state
-pub record IsSearched (world : World) (key : PuzzleKey) (row : PuzzleRow) (budget : ℕ) (found : PuzzleState) (given : Reply) (new : World) : Type 0 where
+pub record IsSearched (world : World) (key : PuzzleKey) (row : PuzzleRow) (budget : ℕ) (found : PuzzleState)
+    (given : Reply) (new : World) : Type 0 where
   pub unsettled : is_open row.state ≡ true
   pub is_found : IsFound row.puzzle budget found
   pub told : given ≡ reply.Certified (state_name found)
@@ -78,7 +82,8 @@ pub record IsSettled (world : World) (row : PuzzleRow) (given : Reply) (new : Wo
 -- the puzzle's state is told; the puzzle is searched before where no search came to an end yet
 abbrev pub IsCertifiedBy : World → PuzzleKey → ℕ → PuzzleState → Reply → World → Type 0
 IsCertifiedBy world key budget found given new =
-    (row : PuzzleRow) × (get world.puzzles key ≡ Some row) × (IsSearched world key row budget found given new ⊎ IsSettled world row given new)
+    (row : PuzzleRow) × (get world.puzzles key ≡ Some row)
+    × (IsSearched world key row budget found given new ⊎ IsSettled world row given new)
 
 -- the draft is released
 abbrev pub IsReleasedBy : World → List ℕ → Reply → World → Type 0
@@ -100,25 +105,30 @@ answer_row world person round number token answer t verdict = record {
 abbrev pub IsSubmitted : World → Person → List ℕ → ℕ → List ℕ → List ℕ → ℕ → Reply → World → Type 0
 IsSubmitted world person id number token answer t given new =
     (round : Round) × (entry : Entry) × (puzzle : PuzzleRow) × (verdict : ℕ)
-    × (get world.rounds id ≡ Some round) × (get world.places (record { round = id; number = number }) ≡ Some entry) × (get world.puzzles entry.puzzle ≡ Some puzzle)
+    × (get world.rounds id ≡ Some round) × (get world.places (record { round = id; number = number }) ≡ Some entry)
+    × (get world.puzzles entry.puzzle ≡ Some puzzle)
     × Verdict puzzle.puzzle answer verdict
     × (let row : AnswerRow = answer_row world person id number token answer t verdict in
-    (given ≡ reply.Received row.n (told_verdict round verdict)) × (new ≡ record world { answers = insert world.answers row.key row }))
+    (given ≡ reply.Received row.n (told_verdict round verdict))
+    × (new ≡ record world { answers = insert world.answers row.key row }))
 
 -- the reply lists all answers that the caller sees, in order, and no other
 abbrev pub IsListed : World → Person → List ℕ → ℕ → Reply → Type 0
 IsListed world person id t given =
-    (round : Round) × (rows : List AnswerRow) × (get world.rounds id ≡ Some round) × IsListing world (sees_answer person round id t) rows
+    (round : Round) × (rows : List AnswerRow) × (get world.rounds id ≡ Some round)
+    × IsListing world (sees_answer person round id t) rows
     × (given ≡ reply.AnswerList (map (answer_line (shows_verdict person round t)) rows))
 
 -- what an allowed action answers and changes; `found` is what the search would find if the action ran it. The other actions aren't served yet
 abbrev pub Allowed : World → Option Person → Action → ℕ → PuzzleState → Reply → World → Type 0
 Allowed world caller (PutPuzzle key puzzle) t found given new =
-    (text : List ℕ) × CanonicalText text puzzle × (StandsAlready world key puzzle text given new ⊎ IsPut world key puzzle text given new)
+    (text : List ℕ) × CanonicalText text puzzle
+    × (StandsAlready world key puzzle text given new ⊎ IsPut world key puzzle text given new)
 Allowed world caller (Certify key budget) t found given new = IsCertifiedBy world key budget found given new
 Allowed world caller (Release id) t found given new = IsReleasedBy world id given new
 Allowed world caller (ReadRound id) t found given new =
-    (row : RoundRow) × (shown : ShownRound) × IsRoundAt world id row × ShowsRound world row shown × (given ≡ reply.RoundRead shown) × (new ≡ world)
+    (row : RoundRow) × (shown : ShownRound) × IsRoundAt world id row × ShowsRound world row shown
+    × (given ≡ reply.RoundRead shown) × (new ≡ world)
 Allowed world caller (Submit id number token answer) t found given new =
     TheCaller caller (λ person. IsSubmitted world person id number token answer t given new)
 Allowed world caller (Answers id) t found given new =
@@ -139,7 +149,8 @@ Allowed world caller (Table id) t found given new = ⊥
 abbrev pub FirstReply : World → Option Person → Action → Reply → Type 0
 FirstReply world caller (Submit id number token answer) given =
     TheCaller caller (λ person. (round : Round) × (row : AnswerRow) × (get world.rounds id ≡ Some round)
-    × (get world.answers (record { entrant = person.name; round = id; number = number; token = token }) ≡ Some row) × (given ≡ reply.Received row.n (told_verdict round row.verdict)))
+    × (get world.answers (record { entrant = person.name; round = id; number = number; token = token }) ≡ Some row)
+    × (given ≡ reply.Received row.n (told_verdict round row.verdict)))
 FirstReply world caller _ given = ⊥
 
 -- what each decision answers and changes: a denial and a repetition leave the world

@@ -45,7 +45,8 @@ impl<S: Store> Desk<S> {
     /// Makes the plan's change, and answers its reply. Refused, it has consumed the plan and left the world.
     pub fn commit(&mut self, alloc: Global, plan: Plan) -> Result<Reply, StoreFault>
         requires { Asks (S.content (kept_by self.old)) (CanMake (planned_change plan)) }
-        ensures makes { Makes (planned_change plan) (S.content (kept_by self.old)) (S.content (kept_by self.new)) result }
+        ensures makes { Makes (planned_change plan) (S.content (kept_by self.old))
+            (S.content (kept_by self.new)) result }
         ensures fault { Fails S.can_fail result }
         ensures reply { IfOk result (λ reply. reply ≡ planned_reply plan) }
     {
@@ -59,7 +60,8 @@ impl<S: Store> Desk<S> {
             Steps (S.content (kept_by self.old)) t request.now result (S.content (kept_by self.new)) }
         ensures sane { SaneThen Sane (S.content (kept_by self.old)) (S.content (kept_by self.new)) }
         ensures unique { SaneThen HasUniqueSolutions (S.content (kept_by self.old)) (S.content (kept_by self.new)) }
-        ensures right { SaneThen RightAnswersAreSolutions (S.content (kept_by self.old)) (S.content (kept_by self.new)) }
+        ensures right { SaneThen RightAnswersAreSolutions (S.content (kept_by self.old))
+            (S.content (kept_by self.new)) }
     {
         step(alloc, &mut self.store, t, request)
     }
@@ -75,7 +77,8 @@ impl<S: Store> Desk<S> {
             Runs (S.content (kept_by self.old)) requests.now replies.items (S.content (kept_by self.new))) }
         ensures sane { SaneThen Sane (S.content (kept_by self.old)) (S.content (kept_by self.new)) }
         ensures unique { SaneThen HasUniqueSolutions (S.content (kept_by self.old)) (S.content (kept_by self.new)) }
-        ensures right { SaneThen RightAnswersAreSolutions (S.content (kept_by self.old)) (S.content (kept_by self.new)) }
+        ensures right { SaneThen RightAnswersAreSolutions (S.content (kept_by self.old))
+            (S.content (kept_by self.new)) }
         ensures refused { OnErr result (kept_by self.new ≡ kept_by self.old) }
     {
         run(alloc, &mut self.store, requests)

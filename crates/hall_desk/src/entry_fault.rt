@@ -51,7 +51,8 @@ fn any_faulty<S: Store>(
     ensures kept { Kept (S.content store.old) (S.content store.new) }
     ensures fault { Fails S.can_fail result }
     ensures told { Told (S.content store.old) (S.content store.new) result
-        (λ world found. IsTrue found ↔ ((entry : Entry) × Contains entries.now entry × HasFault fault world id.now entry)) }
+        (λ world found. IsTrue found ↔
+        ((entry : Entry) × Contains entries.now entry × HasFault fault world id.now entry)) }
 {
     for entry in entries {
         if has_fault(alloc, store, id, entry, fault)? {

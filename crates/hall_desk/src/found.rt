@@ -9,7 +9,11 @@ use hall_store::{Store, StoreFault};
 use std::alloc::Global;
 
 /// Whether a person of the name with the role author is there.
-pub(crate) fn find_author<S: Store>(alloc: Global, store: &mut S, name: &Name) -> Result<bool, StoreFault>
+pub(crate) fn find_author<S: Store>(
+    alloc: Global,
+    store: &mut S,
+    name: &Name,
+) -> Result<bool, StoreFault>
     ensures kept { Kept (S.content store.old) (S.content store.new) }
     ensures fault { Fails S.can_fail result }
     ensures told { Told (S.content store.old) (S.content store.new) result
@@ -22,7 +26,11 @@ pub(crate) fn find_author<S: Store>(alloc: Global, store: &mut S, name: &Name) -
 }
 
 /// Whether the puzzle stands in a released round.
-pub(crate) fn find_release<S: Store>(alloc: Global, store: &mut S, key: &PuzzleKey) -> Result<bool, StoreFault>
+pub(crate) fn find_release<S: Store>(
+    alloc: Global,
+    store: &mut S,
+    key: &PuzzleKey,
+) -> Result<bool, StoreFault>
     ensures kept { Kept (S.content store.old) (S.content store.new) }
     ensures fault { Fails S.can_fail result }
     ensures told { Told (S.content store.old) (S.content store.new) result

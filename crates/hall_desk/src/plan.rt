@@ -118,7 +118,8 @@ fn plan_for_caller<S: Store>(
     requires { Asks (S.content store.old) (λ world. IsCaller world request.now.key facts.old.caller) }
     ensures kept { Kept (S.content store.old) (S.content store.new) }
     ensures fault { FailsIn (S.can_fail ⊎ IsUnserved request.now.action) (S.content store.new) result }
-    ensures told { Told (S.content store.old) (S.content store.new) result (λ world plan. IsPlanFor world t request.now plan) }
+    ensures told { Told (S.content store.old) (S.content store.new) result
+        (λ world plan. IsPlanFor world t request.now plan) }
 {
     match caller_rule(facts, &request.action, t) {
         Some(rule) => Ok(Plan::of(Reply::Denied(rule))),
@@ -138,7 +139,8 @@ fn dispatch<S: Store>(
     requires passed { PassesUpTo 3 facts.old request.now.action t }
     ensures kept { Kept (S.content store.old) (S.content store.new) }
     ensures fault { FailsIn (S.can_fail ⊎ IsUnserved request.now.action) (S.content store.new) result }
-    ensures told { Told (S.content store.old) (S.content store.new) result (λ world plan. IsPlanFor world t request.now plan) }
+    ensures told { Told (S.content store.old) (S.content store.new) result
+        (λ world plan. IsPlanFor world t request.now plan) }
 {
     match &request.action {
         Action::PutPuzzle { key, puzzle } => {
@@ -196,7 +198,8 @@ fn handle<H: Handler, S: Store>(
     requires passed { PassesUpTo 3 facts.old request.now.action t }
     ensures kept { Kept (S.content store.old) (S.content store.new) }
     ensures fault { FailsIn (S.can_fail ⊎ IsUnserved request.now.action) (S.content store.new) result }
-    ensures told { Told (S.content store.old) (S.content store.new) result (λ world plan. IsPlanFor world t request.now plan) }
+    ensures told { Told (S.content store.old) (S.content store.new) result
+        (λ world plan. IsPlanFor world t request.now plan) }
 {
     let decision = handler.decision(alloc, store, t, &request.action, facts)?;
     match decision {

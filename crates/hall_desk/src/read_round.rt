@@ -12,7 +12,9 @@ use crate::put_puzzle::text_of;
 use crate::reply::{Reply, ShownPuzzle, ShownRound};
 use crate::rows::Rows;
 use crate::writes::push;
-use hall_policy::{Action, Decision, Entry, Facts, Moment, PuzzleNumber, RoundId, RoundRow, decide};
+use hall_policy::{
+    Action, Decision, Entry, Facts, Moment, PuzzleNumber, RoundId, RoundRow, decide,
+};
 use hall_store::{Change, Store, StoreFault};
 use std::alloc::Global;
 

@@ -40,8 +40,13 @@ impl<'a> Handler for Releasing<'a> {
         if let Some(decision) = decide_up_to(facts, action, t, Rule::InReleasedRound) {
             return Ok(decision);
         }
-        facts.uncertified =
-            find_fault(alloc, store, self.round, &facts.round, EntryFault::Uncertified)?;
+        facts.uncertified = find_fault(
+            alloc,
+            store,
+            self.round,
+            &facts.round,
+            EntryFault::Uncertified,
+        )?;
         Ok(decide(facts, action, t))
     }
 

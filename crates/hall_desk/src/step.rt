@@ -45,7 +45,8 @@ fn make<S: Store>(alloc: Global, store: &mut S, change: Change) -> Result<(), St
 /// Answers one request.
 pub(crate) fn step<S: Store>(alloc: Global, store: &mut S, t: Moment, request: &Request) -> Reply
     ensures leads { Leads (S.content store.old) (S.content store.new) }
-    ensures steps { (S.content store.new).honest → Steps (S.content store.old) t request.now result (S.content store.new) }
+    ensures steps { (S.content store.new).honest → Steps (S.content store.old) t request.now result
+        (S.content store.new) }
 {
     match make_plan(alloc, store, t, request) {
         Ok(plan) => match commit(alloc, store, plan) {
@@ -63,7 +64,8 @@ pub(crate) fn run<S: Store>(
     requests: &[(Moment, Request)],
 ) -> Result<Vec<Reply>, AllocError>
     ensures leads { Leads (S.content store.old) (S.content store.new) }
-    ensures runs { IfOk result (λ replies. (S.content store.new).honest → Runs (S.content store.old) requests.now replies.items (S.content store.new)) }
+    ensures runs { IfOk result (λ replies. (S.content store.new).honest →
+        Runs (S.content store.old) requests.now replies.items (S.content store.new)) }
     ensures refused { OnErr result (store.new ≡ store.old) }
 {
     let mut replies = Vec::with_capacity(alloc, requests.len())?;

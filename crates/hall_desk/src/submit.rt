@@ -145,7 +145,8 @@ fn submitted(
     verdict: Broken,
 ) -> Result<Plan, AllocError>
     ensures reply { IfOk result (λ plan. plan.reply ≡ Reply.Received n (told_verdict row.now.round verdict)) }
-    ensures change { IfOk result (λ plan. plan.change ≡ Change.AddAnswer (handed_row person.now handed.now n t verdict)) }
+    ensures change { IfOk result
+        (λ plan. plan.change ≡ Change.AddAnswer (handed_row person.now handed.now n t verdict)) }
 {
     let stored = AnswerRow {
         answer: handed.answer.clone()?,

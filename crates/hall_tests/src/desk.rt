@@ -1,9 +1,11 @@
-//! Calls of the desk: a plan and its commit, a list of requests, certificates with their budgets, verdicts.
+//! Calls of the desk: a plan and its commit, a list of requests, what they ask of the store, certificates with their budgets, verdicts.
+use crate::limited::LimitedStore;
 use hall_desk::{Desk, Reply, StateName, certify, judge, opening_store};
-use hall_grid::{Puzzle, parse_puzzle};
+use hall_grid::{Counted, Puzzle, parse_puzzle};
 use hall_policy::{Action, Checked, Moment, PuzzleKey, Request, TextKind, Within};
 use hall_solve::Outcome;
 use hall_store::MapStore;
+use hall_tool::replay;
 use std::alloc::AllocGlobal;
 use std::process::Abort;
 
@@ -103,6 +105,60 @@ fn plans_are_committed_and_lists_run(rt: HostRuntime) {
     assert!(rt; replies.len() == 4);
     for (reply, number) in replies.iter().zip([None, Some(1), Some(2), Some(1)]) {
         assert!(rt; right_number(reply) == number);
+    }
+}
+
+/// Requests to the opening world as records, how many calls of the store each takes, its change among them, and how its line begins.
+const ASKED: [(&[u8], u64, &[u8]); 10] = [
+    (b"@1 17\n- GET /rounds/r1\n", 0, b"403 {\"denied\":1}"),
+    (b"@1 27\nno-such-key GET /rounds/r1\n", 1, b"403 {\"denied\":1}"),
+    (b"@1 34\neve-key-1 POST /rounds/r1/release\n", 1, b"403 {\"denied\":2}"),
+    (
+        b"@1 55\nada-key-1 PUT /puzzles/bob/p9\n{\"puzzle\":\"sudoku/4/4/v\"}",
+        1,
+        b"403 {\"denied\":3}",
+    ),
+    (b"@1 25\neve-key-1 GET /rounds/r9\n", 2, b"404 {\"denied\":4}"),
+    (
+        b"@1 52\neve-key-1 PUT /rounds/r1/answers/1/k1\n{\"answer\":\"1\"}",
+        2,
+        b"404 {\"denied\":4}",
+    ),
+    (b"@1 24\ndora-key GET /rounds/r1\n", 3, b"200 {"),
+    (b"@1 33\ndora-key POST /rounds/r1/release\n", 4, b"403 {\"denied\":12}"),
+    (
+        b"@1 70\nbob-key-1 PUT /puzzles/bob/p1\n{\"puzzle\":\"sudoku/4/4/123434122143432g\"}",
+        5,
+        b"200 {",
+    ),
+    (
+        b"@1 55\nbob-key-1 PUT /puzzles/bob/p9\n{\"puzzle\":\"sudoku/4/4/v\"}",
+        6,
+        b"200 {",
+    ),
+];
+
+const UNAVAILABLE: &[u8] = b"503 {\"fault\":\"hall\"}\n";
+
+/// The line that answers the record over the opening world, where the store answers so many calls.
+fn line_within(rt: &(impl AllocGlobal + Abort), record: &[u8], left: u64) -> Vec<u8> {
+    let store = opening_store(rt.alloc()).expect(rt, "opening");
+    let mut desk = Desk::new(LimitedStore { store, left });
+    let mut writer = Counted::new(Vec::new(rt.alloc()));
+    let ended = replay(rt.alloc(), &mut desk, &mut Counted::new(record), &mut writer);
+    assert!(rt; ended == Ok(()));
+    writer.into_inner()
+}
+
+#[test]
+fn a_request_asks_the_store_for_what_its_rules_read(rt: HostRuntime) {
+    for (place, (record, calls, line)) in ASKED.iter().enumerate() {
+        let given = line_within(&rt, record, *calls);
+        assert!(rt; given.as_slice().starts_with(line), "request {place}");
+        for fewer in 0..*calls {
+            let given = line_within(&rt, record, fewer);
+            assert!(rt; given.as_slice() == UNAVAILABLE, "request {place}");
+        }
     }
 }
 

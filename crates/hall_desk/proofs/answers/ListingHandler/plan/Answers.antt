@@ -15,8 +15,7 @@ returns-clause-told g c =
     let old = g.S.Store.content c.args.store.now in
     let new = g.S.Store.content c.find_answers.new.store in
     let read = c.in_ok-rows.ensures in
-    let person = c.in-Some.person in
-    (
+    let person = c.in-Some.person in (
       (λ h s. (read.served h).0),
       (λ h s. made_anyhow new.world facts.caller asked c.args.t c.in_ok-listed.field-0
           (c.in_ok-listed.ensures new.world (carried (λ w. TrueUpTo 20 facts w asked) old new read.kept c.requires.told h s) (

@@ -1,0 +1,145 @@
+//! A store that fails.
+ghost use Rattle.std.specs.Prelude.{◌≡◌, ⊤};
+
+use hall_policy::{
+    AnswerKey, AnswerNumber, AnswerRow, Key, Name, Person, PuzzleKey, PuzzleNumber, PuzzleRow,
+    PuzzleState, RoundId, RoundRow,
+};
+use hall_store::{MapStore, RoundFlag, Store, StoreFault};
+use std::alloc::Global;
+
+/// A store that answers so many calls, and fails at each further one.
+#[derive(Drop)]
+pub(crate) struct LimitedStore {
+    pub(crate) store: MapStore,
+    pub(crate) left: u64,
+}
+
+impl LimitedStore {
+    /// Takes one of the calls that are left.
+    fn spend(&mut self) -> Result<(), StoreFault>
+        ensures { self.new.store ≡ self.old.store }
+    {
+        if self.left == 0 {
+            return Err(StoreFault::Failed);
+        }
+        self.left -= 1;
+        Ok(())
+    }
+}
+
+impl Store for LimitedStore {
+    ghost use Rattle.hall_store.specs.Maps.{content_of};
+
+    ghost content = { λ limited. content_of limited.store };
+
+    ghost can_fail = { ⊤ };
+
+    fn person_by_key(&mut self, alloc: Global, key: &Key) -> Result<Option<Person>, StoreFault> {
+        self.spend()?;
+        self.store.person_by_key(alloc, key)
+    }
+
+    fn person(&mut self, alloc: Global, name: &Name) -> Result<Option<Person>, StoreFault> {
+        self.spend()?;
+        self.store.person(alloc, name)
+    }
+
+    fn puzzle(&mut self, alloc: Global, key: &PuzzleKey) -> Result<Option<PuzzleRow>, StoreFault> {
+        self.spend()?;
+        self.store.puzzle(alloc, key)
+    }
+
+    fn puzzles_of(&mut self, alloc: Global, author: &Name) -> Result<Vec<PuzzleRow>, StoreFault> {
+        self.spend()?;
+        self.store.puzzles_of(alloc, author)
+    }
+
+    fn puzzles_put(&mut self, alloc: Global, author: &Name) -> Result<u64, StoreFault> {
+        self.spend()?;
+        self.store.puzzles_put(alloc, author)
+    }
+
+    fn put_puzzle(&mut self, alloc: Global, row: PuzzleRow) -> Result<(), StoreFault> {
+        self.spend()?;
+        self.store.put_puzzle(alloc, row)
+    }
+
+    fn set_state(
+        &mut self,
+        alloc: Global,
+        key: &PuzzleKey,
+        state: PuzzleState,
+    ) -> Result<(), StoreFault> {
+        self.spend()?;
+        self.store.set_state(alloc, key, state)
+    }
+
+    fn round(&mut self, alloc: Global, id: &RoundId) -> Result<Option<RoundRow>, StoreFault> {
+        self.spend()?;
+        self.store.round(alloc, id)
+    }
+
+    fn set_round_flag(
+        &mut self,
+        alloc: Global,
+        id: &RoundId,
+        flag: RoundFlag,
+    ) -> Result<(), StoreFault> {
+        self.spend()?;
+        self.store.set_round_flag(alloc, id, flag)
+    }
+
+    fn rounds_using(&mut self, alloc: Global, key: &PuzzleKey) -> Result<Vec<RoundId>, StoreFault> {
+        self.spend()?;
+        self.store.rounds_using(alloc, key)
+    }
+
+    fn answer(&mut self, alloc: Global, key: &AnswerKey) -> Result<Option<AnswerRow>, StoreFault> {
+        self.spend()?;
+        self.store.answer(alloc, key)
+    }
+
+    fn answers_given(
+        &mut self,
+        alloc: Global,
+        entrant: &Name,
+        round: &RoundId,
+        number: PuzzleNumber,
+    ) -> Result<u64, StoreFault> {
+        self.spend()?;
+        self.store.answers_given(alloc, entrant, round, number)
+    }
+
+    fn is_number_taken(
+        &mut self,
+        alloc: Global,
+        entrant: &Name,
+        round: &RoundId,
+        number: PuzzleNumber,
+        n: AnswerNumber,
+    ) -> Result<bool, StoreFault> {
+        self.spend()?;
+        self.store.is_number_taken(alloc, entrant, round, number, n)
+    }
+
+    fn answers_of(
+        &mut self,
+        alloc: Global,
+        entrant: &Name,
+        round: &RoundId,
+    ) -> Result<Vec<AnswerRow>, StoreFault> {
+        self.spend()?;
+        self.store.answers_of(alloc, entrant, round)
+    }
+
+    fn answers_in(&mut self, alloc: Global, round: &RoundId) -> Result<Vec<AnswerRow>, StoreFault> {
+        self.spend()?;
+        self.store.answers_in(alloc, round)
+    }
+
+    fn add_answer(&mut self, alloc: Global, row: AnswerRow) -> Result<(), StoreFault> {
+        self.spend()?;
+        self.store.add_answer(alloc, row)
+    }
+}
