@@ -7,7 +7,6 @@ pub mod Showing
 pub mod Submitting
 pub mod OpeningSane
 mod Planning
-pub mod Inserts
 pub mod Truths
 pub mod Saneness
 pub mod CertifySane

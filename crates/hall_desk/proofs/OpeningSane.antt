@@ -24,7 +24,7 @@ use Rattle.hall_store.specs.Maps.{empty_world, PersonAdded, DraftAdded}
 use Rattle.hall_desk.specs.Found.{IsReleasedRound}
 use Rattle.hall_desk.specs.Sane.{Sane, IsKeyed}
 use Rattle.hall_store.proofs.MapWorlds.{get_found, entries_made}
-use Rattle.hall_desk.proofs.Inserts.{keys_apart, found_after, others_stay, inserted_there, still_there}
+use Rattle.hall_store.proofs.Inserts.{keys_apart, found_after, others_stay, inserted_there, still_there}
 
 -- ---- nothing
 module _ {K : Type 0} {R : K → K → Ordering} (o : IsTotalOrder R) (X : Type 0) where

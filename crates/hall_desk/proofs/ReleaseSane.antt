@@ -21,7 +21,7 @@ use Rattle.hall_desk.specs.Found.{IsReleasedRound}
 use Rattle.hall_desk.specs.Step.{Allowed}
 use Rattle.hall_desk.specs.Sane.{Sane, IsKeyed}
 use Rattle.hall_desk.specs.declared.reply.Reply.{Reply}
-use Rattle.hall_desk.proofs.Inserts.{keys_apart, found_after, others_stay, inserted_there, still_there}
+use Rattle.hall_store.proofs.Inserts.{keys_apart, found_after, others_stay, inserted_there, still_there}
 
 module _ (world : World) (id : List ℕ) (round : Round) (kept : get world.rounds id ≡ Some round) (sane : Sane world) where
   abbrev released_round : Round

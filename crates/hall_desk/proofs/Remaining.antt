@@ -18,7 +18,7 @@ use Rattle.hall_store.specs.Caller.{caller_of}
 use Rattle.hall_desk.specs.Step.{Step, Allowed, IsReleasedBy, answer_row}
 use Rattle.hall_desk.specs.Run.{Run}
 use Rattle.hall_desk.specs.declared.reply.Reply.{Reply}
-use Rattle.hall_desk.proofs.Inserts.{keys_apart, others_stay, inserted_there}
+use Rattle.hall_store.proofs.Inserts.{keys_apart, others_stay, inserted_there}
 use Rattle.hall_desk.proofs.Tokens.{token_decides}
 
 -- people and places are the same; an answer that stands stays; a round stays, in its mode, and released if it was

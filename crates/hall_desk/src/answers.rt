@@ -11,8 +11,7 @@ ghost use Rattle.hall_desk.specs.Plans.{IsAllowedPlan, AreRowsFor};
 use crate::handler::Handler;
 use crate::planned::Plan;
 use crate::reply::{AnswerLine, Reply};
-use crate::rows::Rows;
-use crate::writes::push;
+use crate::rows::{Rows, push};
 use hall_policy::{
     Action, AnswerRow, Decision, Facts, Mode, Moment, Name, Person, Round, RoundId, decide,
 };

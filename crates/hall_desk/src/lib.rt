@@ -20,7 +20,6 @@ mod search;
 mod step;
 mod submit;
 mod verdict;
-mod writes;
 
 pub use desk::Desk;
 pub use law::{law_accepted_answers, law_sanity, law_tokens};

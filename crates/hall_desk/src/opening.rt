@@ -4,8 +4,8 @@ ghost use Rattle.hall_store.specs.Maps.{world_of};
 ghost use Rattle.hall_desk.specs.Sane.{Sane};
 
 use crate::reply::Reply;
+use crate::rows::push;
 use crate::step::step;
-use crate::writes::push;
 use hall_grid::{Puzzle, parse_puzzle};
 use hall_policy::{
     Action, Bonus, Checked, Entries, Entry, Minutes, Mode, Moment, Penalty, Person, Points,

@@ -10,8 +10,7 @@ use crate::handler::Handler;
 use crate::planned::Plan;
 use crate::put_puzzle::text_of;
 use crate::reply::{Reply, ShownPuzzle, ShownRound};
-use crate::rows::Rows;
-use crate::writes::push;
+use crate::rows::{Rows, push};
 use hall_policy::{
     Action, Decision, Entry, Facts, Moment, PuzzleNumber, RoundId, RoundRow, decide,
 };

@@ -1,6 +1,7 @@
 //! Lists in replies.
-ghost use Rattle.std.specs.Prelude.{◌≡◌, List};
+ghost use Rattle.std.specs.Prelude.{◌≡◌, ◌++◌, ◌∷◌, [], List, OnOk};
 
+use std::alloc::AllocError;
 use std::marker::Model;
 
 /// Rows in their order; a contract sees the list.
@@ -34,4 +35,12 @@ impl<T> Rows<T> {
     {
         self.list.as_slice()
     }
+}
+
+/// Puts the item at the end, in a function of its own, so that its callers let go of no value but their own.
+pub(crate) fn push<T: Drop>(items: &mut Vec<T>, item: T) -> Result<(), AllocError>
+    ensures { OnOk result (items.new.items ≡ items.old.items ++ item ∷ []) }
+{
+    items.push(item)?;
+    Ok(())
 }

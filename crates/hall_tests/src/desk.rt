@@ -111,28 +111,44 @@ fn plans_are_committed_and_lists_run(rt: HostRuntime) {
 /// Requests to the opening world as records, how many calls of the store each takes, its change among them, and how its line begins.
 const ASKED: [(&[u8], u64, &[u8]); 10] = [
     (b"@1 17\n- GET /rounds/r1\n", 0, b"403 {\"denied\":1}"),
-    (b"@1 27\nno-such-key GET /rounds/r1\n", 1, b"403 {\"denied\":1}"),
-    (b"@1 34\neve-key-1 POST /rounds/r1/release\n", 1, b"403 {\"denied\":2}"),
     (
-        b"@1 55\nada-key-1 PUT /puzzles/bob/p9\n{\"puzzle\":\"sudoku/4/4/v\"}",
+        b"@1 27\nno-such-key GET /rounds/r1\n",
+        1,
+        b"403 {\"denied\":1}",
+    ),
+    (
+        b"@1 34\neve-key-1 POST /rounds/r1/release\n",
+        1,
+        b"403 {\"denied\":2}",
+    ),
+    (
+        b"@1 53\nada-key-1 PUT /puzzles/bob/p9\n{\"text\":\"sudoku/4/4/v\"}",
         1,
         b"403 {\"denied\":3}",
     ),
-    (b"@1 25\neve-key-1 GET /rounds/r9\n", 2, b"404 {\"denied\":4}"),
+    (
+        b"@1 25\neve-key-1 GET /rounds/r9\n",
+        2,
+        b"404 {\"denied\":4}",
+    ),
     (
         b"@1 52\neve-key-1 PUT /rounds/r1/answers/1/k1\n{\"answer\":\"1\"}",
         2,
         b"404 {\"denied\":4}",
     ),
     (b"@1 24\ndora-key GET /rounds/r1\n", 3, b"200 {"),
-    (b"@1 33\ndora-key POST /rounds/r1/release\n", 4, b"403 {\"denied\":12}"),
     (
-        b"@1 70\nbob-key-1 PUT /puzzles/bob/p1\n{\"puzzle\":\"sudoku/4/4/123434122143432g\"}",
+        b"@1 33\ndora-key POST /rounds/r1/release\n",
+        4,
+        b"403 {\"denied\":12}",
+    ),
+    (
+        b"@1 68\nbob-key-1 PUT /puzzles/bob/p1\n{\"text\":\"sudoku/4/4/123434122143432g\"}",
         5,
         b"200 {",
     ),
     (
-        b"@1 55\nbob-key-1 PUT /puzzles/bob/p9\n{\"puzzle\":\"sudoku/4/4/v\"}",
+        b"@1 53\nbob-key-1 PUT /puzzles/bob/p9\n{\"text\":\"sudoku/4/4/v\"}",
         6,
         b"200 {",
     ),
@@ -145,7 +161,12 @@ fn line_within(rt: &(impl AllocGlobal + Abort), record: &[u8], left: u64) -> Vec
     let store = opening_store(rt.alloc()).expect(rt, "opening");
     let mut desk = Desk::new(LimitedStore { store, left });
     let mut writer = Counted::new(Vec::new(rt.alloc()));
-    let ended = replay(rt.alloc(), &mut desk, &mut Counted::new(record), &mut writer);
+    let ended = replay(
+        rt.alloc(),
+        &mut desk,
+        &mut Counted::new(record),
+        &mut writer,
+    );
     assert!(rt; ended == Ok(()));
     writer.into_inner()
 }
