@@ -1,5 +1,5 @@
 //! The desk: requests, answered over the world of a store.
-ghost use Rattle.std.specs.Prelude.{◌≡◌, ◌⊎◌, IfOk, OnErr};
+ghost use Rattle.std.specs.Prelude.{◌≡◌, ◌⊎◌, IfOk, OnErr, None};
 ghost use Rattle.hall_store.specs.Store.{Kept, Leads, Makes, Asks, Fails};
 ghost use Rattle.hall_store.specs.Change.{changed, CanMake};
 ghost use Rattle.hall_desk.specs.Desk.{kept_by, SaneThen};
@@ -30,10 +30,11 @@ impl<S: Store> Desk<S> {
         Desk { store }
     }
 
-    /// What the request will be answered, and what it will change. Reads only. It fails only where a call of the store did, where the world isn't sane,
+    /// What the request will be answered, and what it will change. Reads only, and of a request without a key not even that. It fails only where a call of the store did, where the world isn't sane,
     /// or where the action isn't served yet.
     pub fn plan(&mut self, alloc: Global, t: Moment, request: &Request) -> Result<Plan, StoreFault>
         ensures kept { Kept (S.content (kept_by self.old)) (S.content (kept_by self.new)) }
+        ensures untouched { request.now.key ≡ None → kept_by self.new ≡ kept_by self.old }
         ensures fault { FailsIn (S.can_fail ⊎ IsUnserved request.now.action) (S.content (kept_by self.new)) result }
         ensures planned { Planned (S.content (kept_by self.new)) t request.now result }
         ensures sane { IfOk result (λ plan. Asks (S.content (kept_by self.new))

@@ -29,6 +29,7 @@ pub(crate) fn make_plan<S: Store>(
     request: &Request,
 ) -> Result<Plan, StoreFault>
     ensures kept { Kept (S.content store.old) (S.content store.new) }
+    ensures untouched { request.now.key ≡ None → store.new ≡ store.old }
     ensures fault { FailsIn (S.can_fail ⊎ IsUnserved request.now.action) (S.content store.new) result }
     ensures planned { Planned (S.content store.new) t request.now result }
 {
@@ -69,6 +70,7 @@ fn plan_with<S: Store>(
 ) -> Result<Plan, StoreFault>
     requires { facts.old.caller ≡ None }
     ensures kept { Kept (S.content store.old) (S.content store.new) }
+    ensures untouched { request.now.key ≡ None → store.new ≡ store.old }
     ensures fault { FailsIn (S.can_fail ⊎ IsUnserved request.now.action) (S.content store.new) result }
     ensures planned { Planned (S.content store.new) t request.now result }
 {
