@@ -11,7 +11,7 @@ use hall_policy::{
     Action, AnswerKey, AnswerNumber, AnswerRow, Bonus, Checked, Decision, Entries, Entry, Facts,
     Key, Minutes, Mode, Moment, Penalty, People, Person, Points, ProtestKey, ProtestMinutes,
     ProtestRow, ProtestText, PuzzleKey, PuzzleNumber, PuzzleRow, PuzzleState, Roles, Round,
-    RoundRow, Ruling, RulingPoints, Sheet, TextKind, Title, Within, decide,
+    RoundRow, Ruling, RulingPoints, Sheet, TextKind, Title, Within, decide, decide_up_to,
 };
 use std::alloc::AllocGlobal;
 use std::process::Abort;
@@ -379,6 +379,16 @@ fn action(rt: &(impl AllocGlobal + Abort), ask: Ask) -> Action {
     }
 }
 
+/// Rules up to which is decided.
+const EARLY: [hall_policy::Rule; 6] = [
+    hall_policy::Rule::UnknownKey,
+    hall_policy::Rule::OtherAuthor,
+    hall_policy::Rule::TokenTaken,
+    hall_policy::Rule::Published,
+    hall_policy::Rule::RuledOtherwise,
+    hall_policy::Rule::ListConflict,
+];
+
 #[test]
 fn decides_by_the_first_rule(rt: HostRuntime) {
     for (place, row) in DECISIONS.iter().enumerate() {
@@ -389,6 +399,30 @@ fn decides_by_the_first_rule(rt: HostRuntime) {
             Decision::Deny(rule) => rule,
         };
         assert_eq!(rt; given, row.7, "row {place}");
+    }
+}
+
+#[test]
+fn decides_early_by_the_rules_so_far(rt: HostRuntime) {
+    for (place, row) in DECISIONS.iter().enumerate() {
+        let (facts, action) = (facts(&rt, row), action(&rt, row.0));
+        let t = number(&rt, row.6);
+        let whole = decide(&facts, &action, t);
+        let by = match (whole, &action) {
+            (Decision::Allow, _) => 20,
+            (Decision::Repeat, Action::Rule { .. }) => 18,
+            (Decision::Repeat, _) => 6,
+            (Decision::Deny(rule), _) => rule,
+        };
+        for most in EARLY {
+            let wanted = if by <= most.number() {
+                Some(whole)
+            } else {
+                None
+            };
+            let given = decide_up_to(&facts, &action, t, most);
+            assert!(rt; given == wanted, "row {place}");
+        }
     }
 }
 
