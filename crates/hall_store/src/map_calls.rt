@@ -9,8 +9,8 @@ use crate::answer_reads::{
 use crate::change::RoundFlag;
 use crate::fault::StoreFault;
 use crate::map_reads::{
-    count_puzzles, first_label, holder, ids_using, own_key, person_at, puzzle_at, puzzle_rows,
-    round_at,
+    count_puzzles, first_label, first_use, holder, ids_using, own_key, person_at, puzzle_at,
+    puzzle_rows, round_at,
 };
 use crate::map_store::MapStore;
 use crate::slot::Part;
@@ -92,7 +92,8 @@ impl Store for MapStore {
     }
 
     fn rounds_using(&mut self, alloc: Global, key: &PuzzleKey) -> Result<Vec<RoundId>, StoreFault> {
-        Ok(ids_using(alloc, &self.rounds, &self.uses, key)?)
+        let first = first_use(alloc, key)?;
+        Ok(ids_using(alloc, &self.rounds, &self.uses, &first, key)?)
     }
 
     fn answer(&mut self, _alloc: Global, key: &AnswerKey) -> Result<Option<AnswerRow>, StoreFault> {

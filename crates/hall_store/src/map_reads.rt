@@ -1,11 +1,11 @@
 //! What the maps of people, puzzles and rounds answer.
-ghost use Rattle.std.specs.Prelude.{◌≡◌, IfOk, count_by, option_copied};
+ghost use Rattle.std.specs.Prelude.{◌≡◌, ◌++◌, ◌∷◌, [], IfOk, OnOk, cond, count_by, option_copied};
 ghost use Rattle.std.specs.List.{filter};
 ghost use Rattle.std.specs.BTreeMap as tree;
 ghost use Rattle.hall_policy.specs.Text.{text_cmp};
 ghost use Rattle.hall_policy.specs.World.{same_text, puzzle_cmp};
 ghost use Rattle.hall_store.specs.Keyed.{Each, IsPuzzleKept, IsUseKept, holder_of, first_label, least_word};
-ghost use Rattle.hall_store.specs.Keyed.{use_of, use_cmp, is_use_of, has_puzzle, has_puzzle_at, ids_using};
+ghost use Rattle.hall_store.specs.Keyed.{use_of, use_cmp, is_use_of, is_use_true, has_puzzle, has_puzzle_at, ids_using};
 
 use crate::slot::UseKey;
 use crate::writes::push;
@@ -160,32 +160,45 @@ pub(crate) fn first_use(alloc: Global, key: &PuzzleKey) -> Result<UseKey, AllocE
     })
 }
 
-/// The ids of the rounds that have the puzzle, as the index leads to them; the rows decide.
+/// The ids of the rounds that have the puzzle, as the index leads to them from the first use on; the rows decide.
 pub(crate) fn ids_using(
     alloc: Global,
     rounds: &BTreeMap<RoundId, RoundRow>,
     uses: &BTreeMap<UseKey, ()>,
+    first: &UseKey,
     key: &PuzzleKey,
 ) -> Result<Vec<RoundId>, AllocError>
     requires kept { Each use_cmp uses.now.entries IsUseKept }
+    requires first { first.now ≡ use_of key.now least_word }
     ensures ids { IfOk result (λ ids. ids.items ≡ ids_using rounds.now.entries key.now uses.now.entries) }
     ensures rounds_ordered { tree.IsOrdered text_cmp rounds.now }
-    ensures uses_ordered { tree.IsOrdered use_cmp uses.now }
 {
-    // The maps' orders are told by any call, and are needed where memory is refused too.
+    // The map's order is told by any call, and is needed where no use is found too.
     let _count = rounds.len();
-    let _uses = uses.len();
-    let first = first_use(alloc, key)?;
     let mut ids = Vec::new(alloc);
-    for (used, _) in uses.range(&first..) {
+    for (used, _) in uses.range(first..) {
         if !is_use_of(key, used) {
             break;
         }
-        if has_puzzle_at(rounds, &used.round, key) {
-            push(&mut ids, used.round.clone()?)?;
-        }
+        push_user(&mut ids, rounds, key, used)?;
     }
     Ok(ids)
+}
+
+/// Puts the use's round at the end, where that round has the puzzle.
+fn push_user(
+    ids: &mut Vec<RoundId>,
+    rounds: &BTreeMap<RoundId, RoundRow>,
+    key: &PuzzleKey,
+    used: &UseKey,
+) -> Result<(), AllocError>
+    ensures { OnOk result (ids.new.items
+        ≡ ids.old.items ++ cond (is_use_true rounds.now.entries key.now (used.now, tt)) (used.now.round ∷ []) []) }
+{
+    if has_puzzle_at(rounds, &used.round, key) {
+        push(ids, used.round.clone()?)?;
+    }
+    Ok(())
 }
 
 /// Whether the use is of the puzzle.

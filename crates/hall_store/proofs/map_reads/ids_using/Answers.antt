@@ -1,4 +1,4 @@
-use Rattle.std.proofs.Common.{◌≡◌, ◌++◌, ◌∷◌, [], ℕ, List, Bool, true, false, cond, map, ap, sym, ◌∙◌, append_assoc, rules}
+use Rattle.std.proofs.Common.{◌≡◌, ◌++◌, ◌∷◌, [], ℕ, List, true, false, cond, map, ap, sym, ◌∙◌, append_assoc, rules}
 use Rattle.std.specs.List.{filter, take_while}
 use Rattle.std.specs.BTreeMap.Range.{entries_between}
 use Rattle.std.specs.declared.ops.Bound.TheVariants.{Included, Unbounded}
@@ -20,13 +20,12 @@ ids_of rounds key uses = map (λ (u : UseKey × Unit {0}). u.0.round) (filter (i
 abbrev ahead : List (List ℕ × RoundRow) → PuzzleKey → List (UseKey × Unit {0}) → List (List ℕ)
 ahead rounds key uses = ids_of rounds key (take_while (λ u. is_use_of key u.0) uses)
 
-one_more : (rounds : List (List ℕ × RoundRow)) (key : PuzzleKey) (used : UseKey × Unit {0}) (uses : List (UseKey × Unit {0})) (b : Bool) → is_use_of key used.0 ≡ true → is_use_true rounds key used ≡ b →
-    ahead rounds key (used ∷ uses) ≡ cond b (used.0.round ∷ ahead rounds key uses) (ahead rounds key uses)
-one_more rounds key used uses b here is =
+one_more : (rounds : List (List ℕ × RoundRow)) (key : PuzzleKey) (used : UseKey × Unit {0}) (uses : List (UseKey × Unit {0})) → is_use_of key used.0 ≡ true →
+    ahead rounds key (used ∷ uses) ≡ cond (is_use_true rounds key used) (used.0.round ∷ []) [] ++ ahead rounds key uses
+one_more rounds key used uses here =
     ap (ids_of rounds key) (taken (λ (u : UseKey × Unit {0}). is_use_of key u.0) used uses here)
-    ∙ ap (λ t. map (λ (u : UseKey × Unit {0}). u.0.round) (cond t (used ∷ filter (is_use_true rounds key) (take_while (λ u. is_use_of key u.0) uses)) (filter (is_use_true rounds key) (take_while (λ u. is_use_of key u.0) uses)))) is
-    ∙ elim b as (λ t. map (λ (u : UseKey × Unit {0}). u.0.round) (cond t (used ∷ filter (is_use_true rounds key) (take_while (λ u. is_use_of key u.0) uses)) (filter (is_use_true rounds key) (take_while (λ u. is_use_of key u.0) uses)))
-    ≡ cond t (used.0.round ∷ ahead rounds key uses) (ahead rounds key uses)) [ true ↦ (λ i. used.0.round ∷ ahead rounds key uses) | false ↦ (λ i. ahead rounds key uses) ]
+    ∙ elim (is_use_true rounds key used) as (λ t. map (λ (u : UseKey × Unit {0}). u.0.round) (cond t (used ∷ filter (is_use_true rounds key) (take_while (λ u. is_use_of key u.0) uses)) (filter (is_use_true rounds key) (take_while (λ u. is_use_of key u.0) uses)))
+    ≡ cond t (used.0.round ∷ []) [] ++ ahead rounds key uses) [ true ↦ (λ i. used.0.round ∷ ahead rounds key uses) | false ↦ (λ i. ahead rounds key uses) ]
 
 ended : {all : List (List ℕ)} (ids : List (List ℕ)) → all ≡ ids ++ [] → ids ≡ all
 ended ids e = sym (e ∙ append-nil ids)
@@ -37,8 +36,8 @@ loop-used-init c =
     let uses : List (UseKey × Unit {0}) = c.args.uses.now.entries in
     let key : PuzzleKey = c.args.key.now in
     let iterator : List (UseKey × Unit {0}) = c.into_iter-used-iterator.result in
-    let given : iterator ≡ entries_between use_cmp (Included c.in_ok-first.first) Unbounded uses = c.into_iter-used-iterator.ensures.into_iter_gives ∙ c.range-used-items.ensures.between tt in
-    let from = given ∙ ap (λ (k : UseKey). entries_between use_cmp (Included k) Unbounded uses) c.in_ok-first.ensures in
+    let given : iterator ≡ entries_between use_cmp (Included c.args.first.now) Unbounded uses = c.into_iter-used-iterator.ensures.into_iter_gives ∙ c.range-used-items.ensures.between tt in
+    let from = given ∙ ap (λ (k : UseKey). entries_between use_cmp (Included k) Unbounded uses) c.requires.first in
     ap (ids_of rounds key) (uses_together key uses c.range-used-items.ensures.ordered c.requires.kept)
     ∙ ap (ahead rounds key) (sym from)
     ∙ ap (λ (ids : List (List ℕ)). ids ++ ahead rounds key iterator) (sym c.new-ids.ensures.items)
@@ -49,23 +48,11 @@ loop-used-preserved c =
     let key : PuzzleKey = c.args.key.now in
     let old : List (List ℕ) = c.loop-used.ids.items in
     let used : UseKey × Unit {0} = (c.in-Some.used.now, c.in-Some.field-0-1.now) in
-    let here : is_use_of key used.0 ≡ true = search rules in
-    let out : is_use_true rounds key used ≡ false = search rules in
-    c.loop-used.invariant ∙ ap (λ (ids : List (List ℕ)). old ++ ids) (ap (ahead rounds key) c.in-Some.ensures.steps ∙ one_more rounds key used c.next.new.self false here out)
-
-pub loop-used-preserved-in_ok-push : goal.loop-used-preserved-in_ok-push
-loop-used-preserved-in_ok-push c =
-    let rounds : List (List ℕ × RoundRow) = c.args.rounds.now.entries in
-    let key : PuzzleKey = c.args.key.now in
-    let old : List (List ℕ) = c.loop-used.ids.items in
-    let used : UseKey × Unit {0} = (c.in-Some.used.now, c.in-Some.field-0-1.now) in
     let rest : List (List ℕ) = ahead rounds key c.next.new.self in
     let here : is_use_of key used.0 ≡ true = search rules in
-    let is : is_use_true rounds key used ≡ true = search rules in
-    let cloned : c.in_ok-clone.field-0 ≡ used.0.round = search rules in
-    c.loop-used.invariant ∙ ap (λ (ids : List (List ℕ)). old ++ ids) (ap (ahead rounds key) c.in-Some.ensures.steps ∙ one_more rounds key used c.next.new.self true here is)
-    ∙ sym (append_assoc old (used.0.round ∷ []) rest)
-    ∙ ap (λ (ids : List (List ℕ)). ids ++ rest) (ap (λ (id : List ℕ). old ++ id ∷ []) (sym cloned) ∙ sym c.in_ok-push.ensures)
+    c.loop-used.invariant ∙ ap (λ (ids : List (List ℕ)). old ++ ids) (ap (ahead rounds key) c.in-Some.ensures.steps ∙ one_more rounds key used c.next.new.self here)
+    ∙ sym (append_assoc old (cond (is_use_true rounds key used) (used.0.round ∷ []) []) rest)
+    ∙ ap (λ (ids : List (List ℕ)). ids ++ rest) (sym c.in_ok-push_user.ensures)
 
 pub returns-clause-ids : goal.returns-clause-ids
 returns-clause-ids c =
