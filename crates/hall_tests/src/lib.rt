@@ -6,4 +6,6 @@ mod desk;
 #[cfg(test)]
 mod policy;
 #[cfg(test)]
+mod store;
+#[cfg(test)]
 mod tool;
