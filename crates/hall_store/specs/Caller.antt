@@ -12,7 +12,8 @@ with_key world key = find (λ person. same_text person.key key) (values world.pe
 pub record IsKeyHolder (world : World) (key : List ℕ) (person : Option Person) : Type 0 where
   pub found : person ≡ with_key world key
   pub there : IfSome person (λ p. get world.people p.name ≡ Some p)
-  pub alone : (name : List ℕ) (other : Person) → get world.people name ≡ Some other → other.key ≡ key → person ≡ Some other
+  pub alone : (name : List ℕ) (other : Person) →
+      get world.people name ≡ Some other → other.key ≡ key → person ≡ Some other
 
 -- the person with the request's key; none where it has none, or where the key is unknown
 abbrev pub caller_of : World → Option (List ℕ) → Option Person

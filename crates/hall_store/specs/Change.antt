@@ -17,7 +17,8 @@ use Rattle.hall_store.specs.declared.change.RoundFlag.TheVariants.{Released, Pub
 -- the puzzles, that of the key in this state
 abbrev pub with_state : World → PuzzleKey → PuzzleState → Option PuzzleRow → World
 with_state world key state None = world
-with_state world key state (Some row) = record world { puzzles = insert world.puzzles key (record row { state = state }) }
+with_state world key state (Some row) =
+    record world { puzzles = insert world.puzzles key (record row { state = state }) }
 
 -- the round with the flag set
 abbrev pub flagged : RoundFlag → Round → Round
@@ -53,9 +54,12 @@ CanSetFlag world id = (round : Round) × (get world.rounds id ≡ Some round)
 pub record CanAddAnswer (world : World) (row : AnswerRow) : Type 0 where
   pub fresh : get world.answers row.key ≡ None
   pub entrant : (person : Person) × (get world.people row.key.entrant ≡ Some person)
-  pub place : (entry : Entry) × (get world.places (record { round = row.key.round; number = row.key.number }) ≡ Some entry)
+  pub place : (entry : Entry)
+      × (get world.places (record { round = row.key.round; number = row.key.number }) ≡ Some entry)
   pub next : (token : List ℕ) (other : AnswerRow) →
-      get world.answers (record { entrant = row.key.entrant; round = row.key.round; number = row.key.number; token = token }) ≡ Some other → other.n ≢ row.n
+      get world.answers
+      (record { entrant = row.key.entrant; round = row.key.round; number = row.key.number; token = token })
+      ≡ Some other → other.n ≢ row.n
 
 -- the change may be made
 abbrev pub CanMake : Change → World → Type 0

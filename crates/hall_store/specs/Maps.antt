@@ -1,5 +1,6 @@
 -- The world that ordered maps keep.
-use Rattle.std.specs.Prelude.{◌≡◌, ◌≢◌, ◌⊎◌, ⊤, ℕ, ◌+◌, Bool, true, false, IsTrue, List, [], ◌∷◌, map, Contains, Some, None}
+use Rattle.std.specs.Prelude.{◌≡◌, ◌≢◌, ◌⊎◌, ⊤, ℕ, ◌+◌, Bool, true, false, IsTrue, List, [], ◌∷◌, map, Contains}
+use Rattle.std.specs.Prelude.{Some, None}
 use Rattle.std.specs.List.{flat_map}
 use Rattle.std.specs.FinMap.{from_entries, empty, get, insert}
 use Rattle.hall_policy.specs.World.{World, entry_at}

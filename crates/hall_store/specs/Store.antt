@@ -19,14 +19,15 @@ use Rattle.hall_store.specs.declared.fault.StoreFault.{StoreFault}
 use Rattle.hall_store.specs.declared.fault.StoreFault.TheVariants.{Failed}
 use Rattle.hall_store.specs.Change.{changed}
 
--- What a store keeps, and while that can be told: `honest`, so far the device has returned what was written, and no one else has written;
--- `serves`, no fault of the device has shut the store.
+-- What a store keeps, and while that can be told: `honest`, so far the device has returned what was written, and no one
+-- else has written; `serves`, no fault of the device has shut the store.
 pub record Content : Type 1 where
   pub honest : Type 0
   pub serves : Type 0
   pub world : World
 
--- A call leads from one content to another: where the device was honest to the end, it was so before, and where the store then still serves, it served before.
+-- A call leads from one content to another: where the device was honest to the end, it was so before, and where the
+-- store then still serves, it served before.
 pub record Leads (old new : Content) : Type 0 where
   pub honest : new.honest → old.honest
   pub serves : new.honest → new.serves → old.serves
@@ -37,14 +38,17 @@ pub record Kept (old new : Content) : Type 0 where
   pub serves : new.honest → new.serves → old.serves
   pub world : new.honest → new.serves → new.world ≡ old.world
 
--- What a call of the store answers has its meaning, and the store still serves, where the device was honest. Nothing is said of a refusal.
+-- What a call of the store answers has its meaning, and the store still serves, where the device was honest. Nothing is
+-- said of a refusal.
 abbrev pub Served : {R E : Type 0} → Content → Result R E → (World → R → Type 0) → Type 0
 Served new (Ok answer) Means = new.honest → new.serves × Means new.world answer
 Served new (Err fault) Means = Unit {0}
 
--- What was found has its meaning, where the device was honest and the store still serves; and it does so where it did before.
+-- What was found has its meaning, where the device was honest and the store still serves; and it does so where it did
+-- before.
 abbrev pub Told : {R E : Type 0} → Content → Content → Result R E → (World → R → Type 0) → Type 0
-Told old new (Ok answer) Means = (new.honest → old.serves → new.serves) × (new.honest → new.serves → Means new.world answer)
+Told old new (Ok answer) Means =
+    (new.honest → old.serves → new.serves) × (new.honest → new.serves → Means new.world answer)
 Told old new (Err fault) Means = Unit {0}
 
 -- Only a store that can fail answers that it failed.
@@ -65,8 +69,9 @@ pub record Makes {R E : Type 0} (change : Change) (old new : Content) (result : 
   pub leads : Leads old new
   pub made : Made change old new result
 
--- A relation of the worlds before and after holds over a store: nothing asked of the store made it true, it holds of each world that stays, and the store's world was left;
--- or the store served before and after, and it holds of its worlds.
+-- A relation of the worlds before and after holds over a store: nothing asked of the store made it true, it holds of
+-- each world that stays, and the store's world was left; or the store served before and after, and it holds of its
+-- worlds.
 abbrev pub Over : (World → World → Type 0) → Content → Content → Type 0
 Over Relates old new =
     (((world : World) → Relates world world) × (new.serves → new.world ≡ old.world))
@@ -79,7 +84,10 @@ pub record IsRoundKept (world : World) (id : List ℕ) (found : Option RoundRow)
 
 -- the order of listings of answers: by entrant, number, n, then token
 abbrev pub listing_cmp : AnswerRow → AnswerRow → Ordering
-listing_cmp a b = ordering_then (text_cmp a.key.entrant b.key.entrant) (ordering_then (nat_cmp a.key.number b.key.number) (ordering_then (nat_cmp a.n b.n) (text_cmp a.key.token b.key.token)))
+listing_cmp a b =
+    ordering_then (text_cmp a.key.entrant b.key.entrant)
+    (ordering_then (nat_cmp a.key.number b.key.number)
+    (ordering_then (nat_cmp a.n b.n) (text_cmp a.key.token b.key.token)))
 
 -- all answers that pass the test, in the order of listings
 pub record IsListing (world : World) (test : AnswerRow → Bool) (rows : List AnswerRow) : Type 0 where
@@ -97,11 +105,14 @@ is_of entrant round row = same_text row.key.round round && same_text row.key.ent
 -- the entrant's answer with this n to the round's puzzle of that number is kept
 abbrev pub IsNumberTaken : World → List ℕ → List ℕ → ℕ → ℕ → Type 0
 IsNumberTaken world entrant round number n =
-    (token : List ℕ) × (row : AnswerRow) × (get world.answers (record { entrant = entrant; round = round; number = number; token = token }) ≡ Some row) × (row.n ≡ n)
+    (token : List ℕ) × (row : AnswerRow)
+    × (get world.answers (record { entrant = entrant; round = round; number = number; token = token }) ≡ Some row)
+    × (row.n ≡ n)
 
 -- the ids of the rounds that have the puzzle
 abbrev pub AreUsing : World → PuzzleKey → List (List ℕ) → Type 0
-AreUsing world key ids = (id : List ℕ) → Contains ids id ↔ ((entry : Entry) × Lists world id entry × (entry.puzzle ≡ key))
+AreUsing world key ids =
+    (id : List ℕ) → Contains ids id ↔ ((entry : Entry) × Lists world id entry × (entry.puzzle ≡ key))
 
 -- the author's puzzles, in the order of their keys
 abbrev pub puzzles_of : World → List ℕ → List PuzzleRow

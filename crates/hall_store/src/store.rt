@@ -9,14 +9,16 @@ use std::alloc::Global;
 
 /// The hall's world, however it is kept.
 ///
-/// A read may change what keeps the world, as a connection is, and leaves the world. What a call says of its answer and of what it leaves holds where the device
-/// was honest, and, where the call is refused, while the store still serves: a store that a fault of its device has shut answers nothing more.
+/// A read may change what keeps the world, as a connection is, and leaves the world. What a call says of its answer and
+/// of what it leaves holds where the device was honest, and, where the call is refused, while the store still serves: a
+/// store that a fault of its device has shut answers nothing more.
 /// A call is refused for want of memory, or as failed, which only a store that can fail does.
 pub trait Store: Drop {
     ghost use Rattle.std.specs.Prelude.{◌≡◌, ◌↔◌, IsTrue};
     ghost use Rattle.std.specs.FinMap.{get};
     ghost use Rattle.hall_policy.specs.Rules.{answers_given, puzzles_put};
-    ghost use Rattle.hall_store.specs.Store.{Content, Kept, Served, Fails, Asks, Makes, IsRoundKept, IsListing, is_in, is_of, AreUsing, IsNumberTaken, puzzles_of};
+    ghost use Rattle.hall_store.specs.Store.{Content, Kept, Served, Fails, Asks, Makes, puzzles_of, IsRoundKept};
+    ghost use Rattle.hall_store.specs.Store.{AreUsing, IsNumberTaken, IsListing, is_of, is_in};
     ghost use Rattle.hall_store.specs.Caller.{IsKeyHolder};
     ghost use Rattle.hall_store.specs.Change.{CanPutPuzzle, CanSetState, CanSetFlag, CanAddAnswer};
     ghost use Rattle.hall_store.specs.declared.change.Change.TheVariants.{PutPuzzle, SetState, SetRoundFlag, AddAnswer};
@@ -112,7 +114,8 @@ pub trait Store: Drop {
         number: PuzzleNumber,
     ) -> Result<u64, StoreFault>
         ensures kept { Kept (content self.old) (content self.new) }
-        ensures served { Served (content self.new) result (λ world count. count ≡ answers_given world entrant.now round.now number) }
+        ensures served { Served (content self.new) result
+            (λ world count. count ≡ answers_given world entrant.now round.now number) }
         ensures fault { Fails can_fail result };
 
     /// Whether an answer of the entrant to the round's puzzle of that number is the n-th.
@@ -125,7 +128,8 @@ pub trait Store: Drop {
         n: AnswerNumber,
     ) -> Result<bool, StoreFault>
         ensures kept { Kept (content self.old) (content self.new) }
-        ensures served { Served (content self.new) result (λ world taken. IsTrue taken ↔ IsNumberTaken world entrant.now round.now number n) }
+        ensures served { Served (content self.new) result
+            (λ world taken. IsTrue taken ↔ IsNumberTaken world entrant.now round.now number n) }
         ensures fault { Fails can_fail result };
 
     /// The entrant's answers in the round, by number, then n.
@@ -136,7 +140,8 @@ pub trait Store: Drop {
         round: &RoundId,
     ) -> Result<Vec<AnswerRow>, StoreFault>
         ensures kept { Kept (content self.old) (content self.new) }
-        ensures served { Served (content self.new) result (λ world rows. IsListing world (is_of entrant.now round.now) rows.items) }
+        ensures served { Served (content self.new) result
+            (λ world rows. IsListing world (is_of entrant.now round.now) rows.items) }
         ensures fault { Fails can_fail result };
 
     /// The answers of the round, by entrant, number, then n.

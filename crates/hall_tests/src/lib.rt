@@ -8,4 +8,6 @@ mod limited;
 #[cfg(test)]
 mod policy;
 #[cfg(test)]
+mod store;
+#[cfg(test)]
 mod tool;

@@ -1,0 +1,554 @@
+//! What a store answers after calls that change it.
+use hall_grid::{Broken, parse_puzzle};
+use hall_policy::{
+    AnswerKey, AnswerRow, Checked, Entries, Entry, Mode, Person, PuzzleKey, PuzzleRow, PuzzleState,
+    Roles, Round, RoundId, RoundRow, TextKind, Within,
+};
+use hall_store::{MapStore, RoundFlag, Store};
+use std::alloc::AllocGlobal;
+use std::process::Abort;
+
+fn text<K: TextKind>(rt: &(impl AllocGlobal + Abort), text: &str) -> Checked<K> {
+    let text = String::from_str(rt.alloc(), text).expect(rt, "memory");
+    Checked::new(text).expect(rt, "text")
+}
+
+fn number<const LEAST: u64, const MOST: u64>(rt: &impl Abort, n: u64) -> Within<LEAST, MOST> {
+    Within::new(n).expect(rt, "number")
+}
+
+fn person(rt: &(impl AllocGlobal + Abort), name: &str, key: &str) -> Person {
+    let roles = Roles {
+        director: false,
+        author: true,
+        referee: false,
+        entrant: true,
+    };
+    Person {
+        name: text(rt, name),
+        key: text(rt, key),
+        roles,
+    }
+}
+
+/// Whom a store is asked to add, by name and key, whether it does, and whether ada and bob are there then.
+const PEOPLE: [(&str, &str, bool, bool, bool); 6] = [
+    ("ada", "ada-key-1", true, true, false),
+    ("bob", "ada-key-1", false, true, false),
+    ("ada", "bob-key-1", false, true, false),
+    ("ada", "ada-key-1", false, true, false),
+    ("bob", "bob-key-1", true, true, true),
+    ("bob", "ada-key-1", false, true, true),
+];
+
+/// Whether it is the person of the name and key that was found, where one is wanted, and else nobody.
+fn is_person(found: &Option<Person>, name: &str, key: &str, is_wanted: bool) -> bool {
+    match found {
+        Some(found) => is_wanted && found.name.as_str() == name && found.key.as_str() == key,
+        None => !is_wanted,
+    }
+}
+
+/// Whether the person is found by name and by key, where one is wanted, and else by neither.
+fn finds(
+    rt: &(impl AllocGlobal + Abort),
+    store: &mut MapStore,
+    name: &str,
+    key: &str,
+    is_wanted: bool,
+) -> bool {
+    let by_key = store.person_by_key(rt.alloc(), &text(rt, key));
+    let by_name = store.person(rt.alloc(), &text(rt, name));
+    is_person(&by_key.expect(rt, "memory"), name, key, is_wanted)
+        && is_person(&by_name.expect(rt, "memory"), name, key, is_wanted)
+}
+
+#[test]
+fn people_have_names_and_keys_of_their_own(rt: HostRuntime) {
+    let mut store = MapStore::new(rt.alloc());
+    for (place, (name, key, is_added, ada, bob)) in PEOPLE.iter().enumerate() {
+        let added = store.add_person(person(&rt, name, key));
+        assert!(rt; added.expect(&rt, "memory") == *is_added, "row {place}");
+        assert!(rt;
+            finds(&rt, &mut store, "ada", "ada-key-1", *ada),
+            "row {place}: ada"
+        );
+        assert!(rt;
+            finds(&rt, &mut store, "bob", "bob-key-1", *bob),
+            "row {place}: bob"
+        );
+        assert!(rt;
+            finds(&rt, &mut store, "al", "key-of-al", false),
+            "row {place}: al"
+        );
+    }
+}
+
+/// A store of people with these names and keys.
+fn store_of(rt: &(impl AllocGlobal + Abort), names: [(&str, &str); 3]) -> MapStore {
+    let mut store = MapStore::new(rt.alloc());
+    for (name, key) in names {
+        assert!(rt; store.add_person(person(rt, name, key)).expect(rt, "memory"));
+    }
+    store
+}
+
+fn puzzle_key(rt: &(impl AllocGlobal + Abort), author: &str, label: &str) -> PuzzleKey {
+    PuzzleKey {
+        author: text(rt, author),
+        label: text(rt, label),
+    }
+}
+
+/// Stores the puzzle, whose author is there.
+fn put(rt: &(impl AllocGlobal + Abort), store: &mut MapStore, row: PuzzleRow) {
+    let author = store.person(rt.alloc(), &row.key.author);
+    author.expect(rt, "memory").expect(rt, "author");
+    store.put_puzzle(rt.alloc(), row).expect(rt, "memory");
+}
+
+/// Sets the state of the puzzle, which is there.
+fn set_state(
+    rt: &(impl AllocGlobal + Abort),
+    store: &mut MapStore,
+    key: &PuzzleKey,
+    state: PuzzleState,
+) {
+    let row = store.puzzle(rt.alloc(), key);
+    row.expect(rt, "memory").expect(rt, "puzzle");
+    store.set_state(rt.alloc(), key, state).expect(rt, "memory");
+}
+
+/// Sets the flag of the round, which is there.
+fn set_flag(rt: &(impl AllocGlobal + Abort), store: &mut MapStore, id: &RoundId, flag: RoundFlag) {
+    let row = store.round(rt.alloc(), id);
+    row.expect(rt, "memory").expect(rt, "round");
+    store
+        .set_round_flag(rt.alloc(), id, flag)
+        .expect(rt, "memory");
+}
+
+const FIRST: &str = "sudoku/4/4/123434122143432g";
+
+const SECOND: &str = "sudoku/4/4/v";
+
+/// Which puzzles are put, by author, label and text, and how many the author then has.
+const PUZZLES: [(&str, &str, &str, u64); 7] = [
+    ("bob", "p2", FIRST, 1),
+    ("bobo", "p0", FIRST, 1),
+    ("bob", "p1", FIRST, 2),
+    ("bo", "p9", FIRST, 1),
+    ("bob", "p2", SECOND, 2),
+    ("bob", "p10", FIRST, 3),
+    ("bob", "p10", FIRST, 3),
+];
+
+fn puzzle_row(rt: &(impl AllocGlobal + Abort), author: &str, label: &str, text: &str) -> PuzzleRow {
+    PuzzleRow {
+        key: puzzle_key(rt, author, label),
+        puzzle: parse_puzzle(rt.alloc(), text.as_bytes()).expect(rt, "puzzle"),
+        state: PuzzleState::New,
+    }
+}
+
+/// Whether the puzzle is kept under the author and label, with this text, and nothing is known of its solutions.
+fn keeps(
+    rt: &(impl AllocGlobal + Abort),
+    store: &mut MapStore,
+    author: &str,
+    label: &str,
+    text: &str,
+) -> bool {
+    let wanted = puzzle_row(rt, author, label, text);
+    match store.puzzle(rt.alloc(), &wanted.key).expect(rt, "memory") {
+        Some(row) => {
+            row.key.is_same(&wanted.key)
+                && row.puzzle.is_same(&wanted.puzzle)
+                && matches!(row.state, PuzzleState::New)
+        }
+        None => false,
+    }
+}
+
+fn add_word(rt: &(impl AllocGlobal + Abort), words: &mut String, word: &str) {
+    if !words.is_empty() {
+        words.push_str(" ").expect(rt, "memory");
+    }
+    words.push_str(word).expect(rt, "memory");
+}
+
+/// The labels of the author's puzzles.
+fn labels_of(rt: &(impl AllocGlobal + Abort), store: &mut MapStore, author: &str) -> String {
+    let rows = store.puzzles_of(rt.alloc(), &text(rt, author));
+    let mut labels = String::new(rt.alloc());
+    for row in rows.expect(rt, "memory").iter() {
+        add_word(rt, &mut labels, row.key.label.as_str());
+    }
+    labels
+}
+
+/// A store of bo, bob and bobo with the puzzles, each of which is asked for as soon as it is put.
+fn store_with_puzzles(rt: &(impl AllocGlobal + Abort)) -> MapStore {
+    let people = [
+        ("bob", "bob-key-1"),
+        ("bo", "bo-key-01"),
+        ("bobo", "bobo-key-1"),
+    ];
+    let mut store = store_of(rt, people);
+    for (place, (author, label, puzzle, count)) in PUZZLES.iter().enumerate() {
+        put(rt, &mut store, puzzle_row(rt, author, label, puzzle));
+        let counted = store.puzzles_put(rt.alloc(), &text(rt, author));
+        assert_eq!(rt; counted.expect(rt, "memory"), *count, "row {place}");
+        assert!(rt; keeps(rt, &mut store, author, label, puzzle), "row {place}");
+    }
+    store
+}
+
+#[test]
+fn puzzles_are_listed_by_label_with_their_last_texts(rt: HostRuntime) {
+    let mut store = store_with_puzzles(&rt);
+    for (author, count, labels) in [
+        ("bob", 3, "p1 p10 p2"),
+        ("bo", 1, "p9"),
+        ("bobo", 1, "p0"),
+        ("boa", 0, ""),
+        ("zoe", 0, ""),
+    ] {
+        let counted = store.puzzles_put(rt.alloc(), &text(&rt, author));
+        assert_eq!(rt; counted.expect(&rt, "memory"), count, "{author}");
+        let listed = labels_of(&rt, &mut store, author);
+        assert_eq!(rt; listed.as_str(), labels, "{author}");
+    }
+    for (author, label, puzzle, is_kept) in [
+        ("bob", "p2", SECOND, true),
+        ("bob", "p2", FIRST, false),
+        ("bob", "p10", FIRST, true),
+        ("bo", "p9", FIRST, true),
+        ("bo", "p2", SECOND, false),
+        ("bob", "p", FIRST, false),
+    ] {
+        assert!(rt;
+            keeps(&rt, &mut store, author, label, puzzle) == is_kept,
+            "{author} {label}"
+        );
+    }
+}
+
+#[test]
+fn a_state_is_set_on_one_puzzle(rt: HostRuntime) {
+    let mut store = store_with_puzzles(&rt);
+    let key = puzzle_key(&rt, "bob", "p1");
+    set_state(&rt, &mut store, &key, PuzzleState::GaveUp);
+    let row = store.puzzle(rt.alloc(), &key).expect(&rt, "memory");
+    let row = row.expect(&rt, "puzzle");
+    assert!(rt; matches!(row.state, PuzzleState::GaveUp));
+    for (label, puzzle, is_new) in [
+        ("p1", FIRST, false),
+        ("p10", FIRST, true),
+        ("p2", SECOND, true),
+    ] {
+        assert!(rt;
+            keeps(&rt, &mut store, "bob", label, puzzle) == is_new,
+            "{label}"
+        );
+    }
+}
+
+fn entry(rt: &(impl AllocGlobal + Abort), label: &str) -> Entry {
+    Entry {
+        puzzle: puzzle_key(rt, "bob", label),
+        points: number(rt, 40),
+    }
+}
+
+/// A round of these two puzzles of bob.
+fn round_row(rt: &(impl AllocGlobal + Abort), id: &str, labels: (&str, &str)) -> RoundRow {
+    let round = Round {
+        id: text(rt, id),
+        title: text(rt, "Morning"),
+        start: number(rt, 1_777_712_400),
+        minutes: number(rt, 60),
+        protest_minutes: number(rt, 30),
+        mode: Mode::Instant,
+        penalty: number(rt, 5),
+        bonus: number(rt, 2),
+        released: false,
+        published: false,
+    };
+    let list = [entry(rt, labels.0), entry(rt, labels.1)];
+    let list = Vec::from_array(rt.alloc(), list).expect(rt, "memory");
+    RoundRow {
+        round,
+        puzzles: Entries::new(list).expect(rt, "entries"),
+    }
+}
+
+/// Which of the rounds r0 to r3 use bob's puzzle.
+fn rounds_using(rt: &(impl AllocGlobal + Abort), store: &mut MapStore, label: &str) -> String {
+    let using = store.rounds_using(rt.alloc(), &puzzle_key(rt, "bob", label));
+    let using = using.expect(rt, "memory");
+    let mut ids = String::new(rt.alloc());
+    for id in ["r0", "r1", "r2", "r3"] {
+        if using.iter().any(|used| used.as_str() == id) {
+            add_word(rt, &mut ids, id);
+        }
+    }
+    ids
+}
+
+/// How far the round is, and the labels of its puzzles in their order; no word where there is no such round.
+fn round_text(rt: &(impl AllocGlobal + Abort), store: &mut MapStore, id: &str) -> String {
+    let row = store.round(rt.alloc(), &text(rt, id));
+    let mut words = String::new(rt.alloc());
+    let Some(row) = row.expect(rt, "memory") else {
+        return words;
+    };
+    let word = match (row.round.released, row.round.published) {
+        (false, false) => "draft",
+        (true, false) => "released",
+        (true, true) => "published",
+        (false, true) => "published only",
+    };
+    add_word(rt, &mut words, word);
+    for entry in row.puzzles.as_slice() {
+        add_word(rt, &mut words, entry.puzzle.label.as_str());
+    }
+    words
+}
+
+/// Which drafts a store is asked to add: the id, two puzzles, whether it is released or published, whether the store
+/// adds it; and which rounds then use p1 and p2.
+const DRAFTS: [(&str, (&str, &str), (bool, bool), bool, &str, &str); 9] = [
+    ("r1", ("p2", "p1"), (true, false), false, "", ""),
+    ("r1", ("p2", "p1"), (false, true), false, "", ""),
+    ("r1", ("p2", "p3"), (false, false), false, "", ""),
+    ("r1", ("p9", "p2"), (false, false), false, "", ""),
+    ("r1", ("p2", "p1"), (false, false), true, "r1", "r1"),
+    ("r1", ("p1", "p10"), (false, false), false, "r1", "r1"),
+    ("r2", ("p2", "p"), (false, false), false, "r1", "r1"),
+    ("r0", ("p10", "p2"), (false, false), true, "r1", "r0 r1"),
+    ("r3", ("p1", "p10"), (false, false), true, "r1 r3", "r0 r1"),
+];
+
+/// A store with the drafts r0, r1 and r3.
+fn store_with_drafts(rt: &(impl AllocGlobal + Abort)) -> MapStore {
+    let mut store = store_with_puzzles(rt);
+    for (place, (id, labels, flags, is_added, p1, p2)) in DRAFTS.iter().enumerate() {
+        let mut row = round_row(rt, id, *labels);
+        row.round.released = flags.0;
+        row.round.published = flags.1;
+        let added = store.add_draft(row).expect(rt, "memory");
+        assert!(rt; added == *is_added, "row {place}");
+        assert_eq!(rt;
+            rounds_using(rt, &mut store, "p1").as_str(),
+            *p1,
+            "row {place}: p1"
+        );
+        assert_eq!(rt;
+            rounds_using(rt, &mut store, "p2").as_str(),
+            *p2,
+            "row {place}: p2"
+        );
+    }
+    store
+}
+
+#[test]
+fn drafts_are_of_puzzles_that_are_kept(rt: HostRuntime) {
+    let mut store = store_with_drafts(&rt);
+    for (id, words) in [
+        ("r0", "draft p10 p2"),
+        ("r1", "draft p2 p1"),
+        ("r2", ""),
+        ("r3", "draft p1 p10"),
+    ] {
+        assert_eq!(rt; round_text(&rt, &mut store, id).as_str(), words, "{id}");
+    }
+    for (label, ids) in [("p10", "r0 r3"), ("p9", ""), ("p3", ""), ("p", "")] {
+        assert_eq!(rt;
+            rounds_using(&rt, &mut store, label).as_str(),
+            ids,
+            "{label}"
+        );
+    }
+}
+
+#[test]
+fn a_flag_is_set_on_one_round(rt: HostRuntime) {
+    let mut store = store_with_drafts(&rt);
+    for (id, flag, r0, r1) in [
+        ("r1", RoundFlag::Released, "draft p10 p2", "released p2 p1"),
+        (
+            "r0",
+            RoundFlag::Released,
+            "released p10 p2",
+            "released p2 p1",
+        ),
+        (
+            "r1",
+            RoundFlag::Published,
+            "released p10 p2",
+            "published p2 p1",
+        ),
+        (
+            "r1",
+            RoundFlag::Released,
+            "released p10 p2",
+            "published p2 p1",
+        ),
+    ] {
+        set_flag(&rt, &mut store, &text(&rt, id), flag);
+        for (id, words) in [("r0", r0), ("r1", r1), ("r3", "draft p1 p10")] {
+            assert_eq!(rt; round_text(&rt, &mut store, id).as_str(), words, "{id}");
+        }
+    }
+}
+
+/// Answers in the order in which they are given: the entrant, round, number, token and n.
+const ANSWERS: [(&str, &str, u64, &str, u64); 8] = [
+    ("bobo", "r1", 1, "e", 1),
+    ("bob", "r1", 2, "d", 1),
+    ("bob", "r1", 1, "c", 1),
+    ("bob", "r1", 1, "b", 2),
+    ("bob", "r0", 1, "b", 1),
+    ("bobo", "r0", 2, "a", 1),
+    ("bob", "r1", 2, "a", 2),
+    ("bo", "r1", 2, "f", 1),
+];
+
+fn answer_key(
+    rt: &(impl AllocGlobal + Abort),
+    entrant: &str,
+    round: &str,
+    n: u64,
+    token: &str,
+) -> AnswerKey {
+    AnswerKey {
+        entrant: text(rt, entrant),
+        round: text(rt, round),
+        number: number(rt, n),
+        token: text(rt, token),
+    }
+}
+
+fn answer_row(rt: &(impl AllocGlobal + Abort), key: AnswerKey, n: u64) -> AnswerRow {
+    AnswerRow {
+        key,
+        n: number(rt, n),
+        moment: number(rt, 1_777_712_400),
+        answer: text(rt, "1234"),
+        verdict: Broken::new(),
+    }
+}
+
+/// Stores the answer, whose entrant and puzzle are there, and whose key and number are free.
+fn give(rt: &(impl AllocGlobal + Abort), store: &mut MapStore, row: AnswerRow) {
+    let key = &row.key;
+    let entrant = store.person(rt.alloc(), &key.entrant);
+    entrant.expect(rt, "memory").expect(rt, "entrant");
+    let round = store.round(rt.alloc(), &key.round);
+    let round = round.expect(rt, "memory").expect(rt, "round");
+    let place = key.number.get() - 1;
+    let entry = round.puzzles.as_slice().get(place as usize);
+    entry.expect(rt, "puzzle");
+    let found = store.answer(rt.alloc(), key).expect(rt, "memory");
+    assert!(rt; found.is_none());
+    let taken = store.is_number_taken(rt.alloc(), &key.entrant, &key.round, key.number, row.n);
+    assert!(rt; !taken.expect(rt, "memory"));
+    store.add_answer(rt.alloc(), row).expect(rt, "memory");
+}
+
+/// A store with the answers.
+fn store_with_answers(rt: &(impl AllocGlobal + Abort)) -> MapStore {
+    let mut store = store_with_drafts(rt);
+    for (entrant, round, number, token, n) in ANSWERS {
+        let key = answer_key(rt, entrant, round, number, token);
+        give(rt, &mut store, answer_row(rt, key, n));
+    }
+    store
+}
+
+#[test]
+fn answers_are_found_by_all_of_their_keys(rt: HostRuntime) {
+    let mut store = store_with_answers(&rt);
+    for (entrant, round, number, token, n) in ANSWERS {
+        let key = answer_key(&rt, entrant, round, number, token);
+        let row = store.answer(rt.alloc(), &key).expect(&rt, "memory");
+        let row = row.expect(&rt, "answer");
+        assert!(rt; row.key == key, "{entrant} {round} {token}");
+        assert_eq!(rt; row.n.get(), n, "{entrant} {round} {token}");
+    }
+    for (entrant, round, number, token) in [
+        ("bobo", "r1", 1, "c"),
+        ("bobo", "r1", 2, "e"),
+        ("bobo", "r0", 1, "e"),
+        ("bob", "r1", 1, "e"),
+        ("bob", "r3", 1, "b"),
+    ] {
+        let key = answer_key(&rt, entrant, round, number, token);
+        let row = store.answer(rt.alloc(), &key).expect(&rt, "memory");
+        assert!(rt; row.is_none(), "{entrant} {round} {token}");
+    }
+}
+
+#[test]
+fn answers_are_counted_for_one_puzzle_of_one_entrant(rt: HostRuntime) {
+    let mut store = store_with_answers(&rt);
+    for (entrant, round, n, count, is_second) in [
+        ("bob", "r1", 1, 2, true),
+        ("bob", "r1", 2, 2, true),
+        ("bob", "r0", 1, 1, false),
+        ("bob", "r0", 2, 0, false),
+        ("bobo", "r1", 1, 1, false),
+        ("bobo", "r1", 2, 0, false),
+        ("bobo", "r0", 1, 0, false),
+        ("bobo", "r0", 2, 1, false),
+        ("bo", "r1", 2, 1, false),
+        ("bob", "r3", 1, 0, false),
+    ] {
+        let (name, id) = (text(&rt, entrant), text(&rt, round));
+        let number = number(&rt, n);
+        let given = store.answers_given(rt.alloc(), &name, &id, number);
+        assert_eq!(rt; given.expect(&rt, "memory"), count, "{entrant} {round} {n}");
+        for (nth, wanted) in [(1, count > 0), (2, is_second), (3, false)] {
+            let nth = Within::new(nth).expect(&rt, "number");
+            let taken = store.is_number_taken(rt.alloc(), &name, &id, number, nth);
+            assert!(rt;
+                taken.expect(&rt, "memory") == wanted,
+                "{entrant} {round} {n}"
+            );
+        }
+    }
+}
+
+/// The tokens of the answers.
+fn tokens(rt: &(impl AllocGlobal + Abort), rows: &[AnswerRow]) -> String {
+    let mut tokens = String::new(rt.alloc());
+    for row in rows {
+        add_word(rt, &mut tokens, row.key.token.as_str());
+    }
+    tokens
+}
+
+#[test]
+fn answers_are_listed_by_entrant_number_and_n(rt: HostRuntime) {
+    let mut store = store_with_answers(&rt);
+    for (round, entrant, wanted) in [
+        ("r1", "bo", "f"),
+        ("r1", "bob", "c b d a"),
+        ("r1", "bobo", "e"),
+        ("r0", "bob", "b"),
+        ("r0", "bobo", "a"),
+        ("r0", "bo", ""),
+        ("r3", "bob", ""),
+    ] {
+        let rows = store.answers_of(rt.alloc(), &text(&rt, entrant), &text(&rt, round));
+        let listed = tokens(&rt, rows.expect(&rt, "memory").as_slice());
+        assert_eq!(rt; listed.as_str(), wanted, "{entrant} {round}");
+    }
+    for (round, wanted) in [("r1", "f c b d a e"), ("r0", "b a"), ("r3", ""), ("r", "")] {
+        let rows = store.answers_in(rt.alloc(), &text(&rt, round));
+        let listed = tokens(&rt, rows.expect(&rt, "memory").as_slice());
+        assert_eq!(rt; listed.as_str(), wanted, "{round}");
+    }
+}
