@@ -1,5 +1,5 @@
 -- From facts and a decision to a plan.
-use Rattle.std.proofs.Common.{◌≡◌, ◌≢◌, ◌&&◌, ℕ, zero, suc, Bool, true, false, List, [], ◌∷◌, slice_get, Option, Some, None, IsTrue, Result, IfOk, refl, sym, ◌∙◌, ap, subst, inr, cond}
+use Rattle.std.proofs.Common.{◌≡◌, ◌≢◌, ◌&&◌, ℕ, zero, suc, Bool, true, false, List, [], ◌∷◌, slice_get, Option, Some, None, IsTrue, Result, Ok, Err, IfOk, inl, refl, sym, ◌∙◌, ap, subst, inr, cond}
 use Rattle.std.specs.List.{filter}
 use Rattle.hall_grid.specs.Board.{Board}
 use Rattle.hall_grid.specs.Canonical.{CanonicalText}
@@ -8,6 +8,8 @@ use Rattle.hall_policy.specs.First.{First}
 use Rattle.hall_policy.specs.Facts.{TrueUpTo, IsRoundFound}
 use Rattle.hall_policy.specs.Decided.{IsDecided}
 use Rattle.hall_policy.specs.declared.rule.Decision.{Decision}
+use Rattle.hall_policy.specs.declared.rule.Decision.TheVariants.{Allow}
+use Rattle.hall_store.specs.declared.change.Change.TheVariants.{Nothing}
 use Rattle.hall_policy.specs.declared.facts.Facts.{Facts}
 use Rattle.hall_policy.specs.declared.record.Person.{Person}
 use Rattle.hall_policy.specs.declared.record.PuzzleKey.{PuzzleKey}
@@ -22,8 +24,8 @@ use Rattle.hall_store.specs.Caller.{caller_of}
 use Rattle.hall_desk.specs.Found.{IsCaller}
 use Rattle.hall_store.specs.Change.{changed, CanMake, with_flag}
 use Rattle.hall_desk.specs.Step.{Decided}
-use Rattle.hall_store.specs.Store.{Content, Told, Asks}
-use Rattle.hall_desk.specs.Plans.{IsPlanFor, IsAllowedPlan, IsMadePlan}
+use Rattle.hall_store.specs.Store.{Content, Kept, Told, Asks}
+use Rattle.hall_desk.specs.Plans.{IsPlanFor, IsAllowedPlan, IsMadePlan, Planned}
 use Rattle.hall_desk.specs.declared.planned.Plan.{Plan}
 use Rattle.hall_desk.specs.declared.reply.Reply.{Reply}
 use Rattle.hall_desk.specs.declared.reply.Reply.TheVariants.{PuzzlePut, Released}
@@ -37,8 +39,8 @@ use Rattle.hall_desk.proofs.Knowing.{pure_told, told_turn}
 pub planned : (facts : Facts) (world : World) (t : ℕ) (request : Request) (decision : Decision) (given : Reply) (change : Change) →
     IsCaller world request.key facts.caller → IsDecided world facts request.action t decision →
     (outcome : PuzzleState) → Decided decision world facts.caller request.action t outcome given (changed change world) → CanMake change world →
-    IsPlanFor world t request (record { reply = given; change = change })
-planned facts world t request decision given change caller is outcome decided can =
+    (decision ≢ Allow → change ≡ Nothing) → IsPlanFor world t request (record { reply = given; change = change })
+planned facts world t request decision given change caller is outcome decided can quiet =
     let same : facts.caller ≡ caller_of world request.key = caller.found in
     record {
       answered = (
@@ -50,6 +52,7 @@ planned facts world t request decision given change caller is outcome decided ca
         ),
       );
       can = can;
+      quiet = quiet;
     }
 
 -- the plan of a puzzle that is new, or differs from the one that stands
@@ -85,6 +88,12 @@ module _ {E : Type 0} (facts : Facts) (asked named : Action) (t : ℕ) (is : ask
   made_from_store old new r M turn told =
       subst (λ (a : Action). Told old new r (λ w plan. IsMadePlan w facts.caller a t plan)) (sym is)
       (told_turn r M (λ w plan. IsMadePlan w facts.caller named t plan) old new (λ plan h s x. turn plan x) told)
+
+-- what was told of a plan over a store that served before it
+pub told_plan : {E : Type 0} (r : Result Plan E) (mid new : Content) (t : ℕ) (request : Request) → Kept mid new → (mid.honest → mid.serves) →
+    Told mid new r (λ world plan. IsPlanFor world t request plan) → Planned new t request r
+told_plan (Ok plan) mid new t request kept served told = inl (λ h. let s = told.0 h (served (kept.honest h)) in (s, told.1 h s))
+told_plan (Err fault) mid new t request kept served told = tt
 
 -- the plan of a round that is released
 pub released : (world : World) (facts : Facts) (t : ℕ) (id shown kept : List ℕ) (row : RoundRow) →

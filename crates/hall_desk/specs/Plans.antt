@@ -22,6 +22,7 @@ use Rattle.hall_grid.specs.Board.{Board}
 use Rattle.hall_desk.specs.Shown.{sees_answer, state_name}
 use Rattle.hall_desk.specs.declared.reply.StateName.{StateName}
 use Rattle.hall_policy.specs.declared.request.Request.{Request}
+use Rattle.hall_policy.specs.declared.rule.Decision.TheVariants.{Allow}
 use Rattle.hall_store.specs.Change.{changed, CanMake}
 use Rattle.hall_desk.specs.Plan.{planned_reply, planned_change}
 use Rattle.hall_desk.specs.Step.{Step, IsAnswered, Allowed}
@@ -35,6 +36,8 @@ pub record IsPlanFor (world : World) (t : ℕ) (request : Request) (plan : Plan)
       × IsAnswered world (record { moment = t; request = request; found = found })
       (planned_reply plan) (changed (planned_change plan) world)
   pub can : CanMake (planned_change plan) world
+  -- a denial or a repetition has nothing to change
+  pub quiet : answered.1.0 ≢ Allow → planned_change plan ≡ Nothing
 
 -- the plan's reply and change are those of the allowed action, whatever the search would find, and the change may be made
 pub record IsAllowedPlan (world : World) (caller : Option Person) (action : Action) (t : ℕ) (plan : Plan) : Type 0 where
@@ -76,6 +79,11 @@ IsUnserved (Protests round) = ⊤
 IsUnserved (Rule round entrant token ruling) = ⊤
 IsUnserved (Publish round) = ⊤
 IsUnserved (Table round) = ⊤
+
+-- The plan for a request without a key changes nothing, and there is one for each action that is served.
+abbrev pub IsKeylessPlan : {E : Type 0} → Action → Result Plan E → Type 0
+IsKeylessPlan action (Ok plan) = plan.change ≡ Nothing
+IsKeylessPlan action (Err fault) = IsUnserved action
 
 -- Failed is answered for such a cause alone, or where the store's world isn't sane.
 abbrev pub FailsIn : {R : Type 0} → Type 0 → Content → Result R StoreFault → Type 0

@@ -1,12 +1,13 @@
 //! The desk: requests, answered over the world of a store.
-ghost use Rattle.std.specs.Prelude.{◌≡◌, ◌⊎◌, IfOk, OnErr, None};
+ghost use Rattle.std.specs.Prelude.{◌≡◌, ◌⊎◌, IfOk, IsOk, OnErr, None};
 ghost use Rattle.hall_store.specs.Store.{Kept, Leads, Makes, Asks, Fails};
 ghost use Rattle.hall_store.specs.Change.{changed, CanMake};
+ghost use Rattle.hall_store.specs.declared.change.Change.{Change};
 ghost use Rattle.hall_desk.specs.Desk.{kept_by, SaneThen};
 ghost use Rattle.hall_desk.specs.Sane.{Sane};
 ghost use Rattle.hall_desk.specs.Promises.{HasUniqueSolutions, RightAnswersAreSolutions};
 ghost use Rattle.hall_desk.specs.Plan.{planned_reply, planned_change};
-ghost use Rattle.hall_desk.specs.Plans.{Planned, Steps, Runs, FailsIn, IsUnserved};
+ghost use Rattle.hall_desk.specs.Plans.{Planned, Steps, Runs, FailsIn, IsUnserved, IsKeylessPlan};
 
 use crate::plan::make_plan;
 use crate::planned::Plan;
@@ -35,6 +36,7 @@ impl<S: Store> Desk<S> {
     pub fn plan(&mut self, alloc: Global, t: Moment, request: &Request) -> Result<Plan, StoreFault>
         ensures kept { Kept (S.content (kept_by self.old)) (S.content (kept_by self.new)) }
         ensures untouched { request.now.key ≡ None → kept_by self.new ≡ kept_by self.old }
+        ensures keyless { request.now.key ≡ None → IsKeylessPlan request.now.action result }
         ensures fault { FailsIn (S.can_fail ⊎ IsUnserved request.now.action) (S.content (kept_by self.new)) result }
         ensures planned { Planned (S.content (kept_by self.new)) t request.now result }
         ensures sane { IfOk result (λ plan. Asks (S.content (kept_by self.new))
@@ -43,12 +45,13 @@ impl<S: Store> Desk<S> {
         make_plan(alloc, &mut self.store, t, request)
     }
 
-    /// Makes the plan's change, and answers its reply. Refused, it has consumed the plan and left the world.
+    /// Makes the plan's change, and answers its reply. Refused, it has consumed the plan and left the world; a plan without a change is never refused.
     pub fn commit(&mut self, alloc: Global, plan: Plan) -> Result<Reply, StoreFault>
         requires { Asks (S.content (kept_by self.old)) (CanMake (planned_change plan)) }
         ensures makes { Makes (planned_change plan) (S.content (kept_by self.old))
             (S.content (kept_by self.new)) result }
         ensures fault { Fails S.can_fail result }
+        ensures nothing { planned_change plan ≡ Change.Nothing → IsOk result × (kept_by self.new ≡ kept_by self.old) }
         ensures reply { IfOk result (λ reply. reply ≡ planned_reply plan) }
     {
         commit(alloc, &mut self.store, plan)

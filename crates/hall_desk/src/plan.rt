@@ -1,12 +1,11 @@
 //! From a request to its plan: the caller, what the rules read, the decision, and what an allowed action answers and changes.
-ghost use Rattle.std.specs.Prelude.{◌≡◌, ◌⊎◌, IfOk, OnErr, IfSome, IfNone, None};
+ghost use Rattle.std.specs.Prelude.{◌≡◌, ◌⊎◌, IfOk, IfSome, IfNone, None};
 ghost use Rattle.hall_policy.specs.World.{World};
 ghost use Rattle.hall_policy.specs.Decided.{IsDecidedUpTo, PassesUpTo};
 ghost use Rattle.hall_policy.specs.declared.rule.Decision.TheVariants.{Deny};
 ghost use Rattle.hall_store.specs.Store.{Asks, Kept, Told};
-ghost use Rattle.hall_store.specs.declared.change.Change.{Change};
 ghost use Rattle.hall_desk.specs.Found.{IsCaller};
-ghost use Rattle.hall_desk.specs.Plans.{IsPlanFor, Planned, FailsIn, IsUnserved};
+ghost use Rattle.hall_desk.specs.Plans.{IsPlanFor, Planned, FailsIn, IsUnserved, IsKeylessPlan};
 
 use crate::answers::Listing;
 use crate::certify_puzzle::Certifying;
@@ -30,6 +29,7 @@ pub(crate) fn make_plan<S: Store>(
 ) -> Result<Plan, StoreFault>
     ensures kept { Kept (S.content store.old) (S.content store.new) }
     ensures untouched { request.now.key ≡ None → store.new ≡ store.old }
+    ensures keyless { request.now.key ≡ None → IsKeylessPlan request.now.action result }
     ensures fault { FailsIn (S.can_fail ⊎ IsUnserved request.now.action) (S.content store.new) result }
     ensures planned { Planned (S.content store.new) t request.now result }
 {
@@ -71,6 +71,7 @@ fn plan_with<S: Store>(
     requires { facts.old.caller ≡ None }
     ensures kept { Kept (S.content store.old) (S.content store.new) }
     ensures untouched { request.now.key ≡ None → store.new ≡ store.old }
+    ensures keyless { request.now.key ≡ None → IsKeylessPlan request.now.action result }
     ensures fault { FailsIn (S.can_fail ⊎ IsUnserved request.now.action) (S.content store.new) result }
     ensures planned { Planned (S.content store.new) t request.now result }
 {
@@ -87,8 +88,7 @@ fn plan_with<S: Store>(
 fn plan_without_key(t: Moment, request: &Request, facts: &Facts) -> Result<Plan, StoreFault>
     requires key { request.now.key ≡ None }
     requires caller { facts.now.caller ≡ None }
-    ensures nothing { IfOk result (λ plan. plan.change ≡ Change.Nothing) }
-    ensures fault { OnErr result (IsUnserved request.now.action) }
+    ensures keyless { IsKeylessPlan request.now.action result }
     ensures planned { IfOk result (λ plan. (world : World) → IsPlanFor world t request.now plan) }
 {
     match caller_rule(facts, &request.action, t) {

@@ -1,7 +1,8 @@
 //! Plans made and committed, one request after another.
-ghost use Rattle.std.specs.Prelude.{◌≡◌, ◌+◌, ◌≤◌, ◌<◌, ◌++◌, ◌∷◌, [], IfOk, OnErr, vec_len, vec_capacity};
+ghost use Rattle.std.specs.Prelude.{◌≡◌, ◌+◌, ◌≤◌, ◌<◌, ◌++◌, ◌∷◌, [], IfOk, IsOk, OnErr, vec_len, vec_capacity};
 ghost use Rattle.hall_store.specs.Store.{Leads, Makes, Asks, Fails};
 ghost use Rattle.hall_store.specs.Change.{CanMake};
+ghost use Rattle.hall_store.specs.declared.change.Change.{Change};
 ghost use Rattle.hall_desk.specs.Plans.{Steps, Runs};
 
 use crate::plan::make_plan;
@@ -20,6 +21,7 @@ pub(crate) fn commit<S: Store>(
     requires { Asks (S.content store.old) (CanMake plan.change) }
     ensures makes { Makes plan.change (S.content store.old) (S.content store.new) result }
     ensures fault { Fails S.can_fail result }
+    ensures nothing { plan.change ≡ Change.Nothing → IsOk result × (store.new ≡ store.old) }
     ensures reply { IfOk result (λ reply. reply ≡ plan.reply) }
 {
     let Plan { reply, change } = plan;
@@ -32,6 +34,7 @@ fn make<S: Store>(alloc: Global, store: &mut S, change: Change) -> Result<(), St
     requires { Asks (S.content store.old) (CanMake change) }
     ensures makes { Makes change (S.content store.old) (S.content store.new) result }
     ensures fault { Fails S.can_fail result }
+    ensures nothing { change ≡ Change.Nothing → IsOk result × (store.new ≡ store.old) }
 {
     match change {
         Change::Nothing => Ok(()),

@@ -156,31 +156,113 @@ const ASKED: [(&[u8], u64, &[u8]); 10] = [
 
 const UNAVAILABLE: &[u8] = b"503 {\"fault\":\"hall\"}\n";
 
-/// The line that answers the record over the opening world, where the store answers so many calls.
-fn line_within(rt: &(impl AllocGlobal + Abort), record: &[u8], left: u64) -> Vec<u8> {
+/// The lines that answer the records over the opening world, where the store answers so many calls.
+fn lines_within(rt: &(impl AllocGlobal + Abort), records: &[u8], left: u64) -> Vec<u8> {
     let store = opening_store(rt.alloc()).expect(rt, "opening");
     let mut desk = Desk::new(LimitedStore { store, left });
     let mut writer = Counted::new(Vec::new(rt.alloc()));
     let ended = replay(
         rt.alloc(),
         &mut desk,
-        &mut Counted::new(record),
+        &mut Counted::new(records),
         &mut writer,
     );
     assert!(rt; ended == Ok(()));
     writer.into_inner()
 }
 
-#[test]
-fn a_request_asks_the_store_for_what_its_rules_read(rt: HostRuntime) {
-    for (place, (record, calls, line)) in ASKED.iter().enumerate() {
-        let given = line_within(&rt, record, *calls);
-        assert!(rt; given.as_slice().starts_with(line), "request {place}");
-        for fewer in 0..*calls {
-            let given = line_within(&rt, record, fewer);
-            assert!(rt; given.as_slice() == UNAVAILABLE, "request {place}");
+/// Records that certify the puzzle of the round r1, release it and answer it, with their lines, and how many calls of the store they take.
+const BEFORE: (&[u8], u64, &[u8]) = (
+    b"@1777700000 60\nbob-key-1 POST /puzzles/bob/p1/certificate\n{\"budget\":200000}@1777700000 33\ndora-key POST /rounds/r1/release\n@1777712400 67\neve-key-1 PUT /rounds/r1/answers/1/k1\n{\"answer\":\"1234341221434321\"}",
+    15,
+    b"200 {\"state\":\"one\"}\n200 {\"released\":\"r1\"}\n200 {\"received\":1,\"verdict\":\"right\"}\n",
+);
+
+/// Requests after those, in the same form.
+const ASKED_LATER: [(&[u8], u64, &[u8]); 11] = [
+    (
+        b"@1777715999 33\neve-key-1 GET /rounds/r1/answers\n",
+        3,
+        b"200 {",
+    ),
+    (
+        b"@1777715999 32\ndora-key GET /rounds/r1/answers\n",
+        3,
+        b"200 {",
+    ),
+    (
+        b"@1777716010 67\neve-key-1 PUT /rounds/r1/answers/1/k1\n{\"answer\":\"1234341221434321\"}",
+        3,
+        b"200 {\"received\":1",
+    ),
+    (
+        b"@1777715999 52\neve-key-1 PUT /rounds/r1/answers/1/k1\n{\"answer\":\"1\"}",
+        3,
+        b"403 {\"denied\":6}",
+    ),
+    (
+        b"@1777712399 52\neve-key-1 PUT /rounds/r1/answers/1/k2\n{\"answer\":\"1\"}",
+        3,
+        b"403 {\"denied\":7}",
+    ),
+    (
+        b"@1777716000 52\neve-key-1 PUT /rounds/r1/answers/1/k2\n{\"answer\":\"1\"}",
+        3,
+        b"403 {\"denied\":8}",
+    ),
+    (
+        b"@1777715999 52\neve-key-1 PUT /rounds/r1/answers/2/k2\n{\"answer\":\"1\"}",
+        2,
+        b"404 {\"denied\":4}",
+    ),
+    (
+        b"@1777715999 52\neve-key-1 PUT /rounds/r1/answers/1/k2\n{\"answer\":\"1\"}",
+        7,
+        b"200 {\"received\":2",
+    ),
+    (
+        b"@1777715999 53\nbob-key-1 PUT /puzzles/bob/p1\n{\"text\":\"sudoku/4/4/v\"}",
+        4,
+        b"403 {\"denied\":11}",
+    ),
+    (
+        b"@1777715999 33\ndora-key POST /rounds/r1/release\n",
+        4,
+        b"403 {\"denied\":13}",
+    ),
+    (
+        b"@1777715999 60\nbob-key-1 POST /puzzles/bob/p1/certificate\n{\"budget\":200000}",
+        2,
+        b"200 {\"state\":\"one\"}",
+    ),
+];
+
+/// Whether each request's line begins so where the store answers so many calls, and is that of a store that failed where it answers fewer.
+fn asks(
+    rt: &(impl AllocGlobal + Abort),
+    before: (&[u8], u64, &[u8]),
+    asked: &[(&[u8], u64, &[u8])],
+) -> bool {
+    let (records, spent, lines) = before;
+    let mut asks = true;
+    for (record, calls, line) in asked {
+        let mut input = Vec::new(rt.alloc());
+        input.extend_from_slice(records).expect(rt, "memory");
+        input.extend_from_slice(record).expect(rt, "memory");
+        for fewer in 0..*calls + 1 {
+            let given = lines_within(rt, input.as_slice(), spent.wrapping_add(fewer));
+            let wanted = if fewer == *calls { line } else { UNAVAILABLE };
+            let rest = given.as_slice().strip_prefix(lines);
+            asks = asks && rest.is_some_and(|rest| rest.starts_with(wanted));
         }
     }
+    asks
+}
+
+#[test]
+fn a_request_asks_the_store_for_what_its_rules_read(rt: HostRuntime) {
+    assert!(rt; asks(&rt, (b"", 0, b""), ASKED.as_slice()));
+    assert!(rt; asks(&rt, BEFORE, ASKED_LATER.as_slice()));
 }
 
 fn puzzle(rt: &(impl AllocGlobal + Abort), text: &str) -> Puzzle {

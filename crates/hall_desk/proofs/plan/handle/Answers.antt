@@ -1,4 +1,4 @@
-use Rattle.std.proofs.Common.{Option, sym, subst}
+use Rattle.std.proofs.Common.{Option, refl, sym, subst}
 use Rattle.hall_policy.specs.Decided.{IsDecided}
 use Rattle.hall_policy.specs.declared.record.Person.{Person}
 use Rattle.hall_policy.specs.declared.request.Action.{Action}
@@ -34,5 +34,5 @@ returns-in-Allow-clause-told g c =
     (carried (λ w. IsCaller w request.key c.args.facts.now.caller) old new kept c.requires.caller h s))
     (carried (λ w. IsDecided w facts request.action c.args.t Allow) mid new c.plan.ensures.kept
     (λ h0 s0. subst (λ (decision : Decision). IsDecided mid.world facts request.action c.args.t decision) c.in-Allow.is (decided.told.1 h0 s0)) h s)
-    made.found (subst (λ (a : Action). Allowed new.world facts.caller a c.args.t made.found plan.reply (changed plan.change new.world)) (sym c.requires.same) made.allowed) made.can)
+    made.found (subst (λ (a : Action). Allowed new.world facts.caller a c.args.t made.found plan.reply (changed plan.change new.world)) (sym c.requires.same) made.allowed) made.can (λ no. absurd (no refl)))
     c.plan.ensures.told

@@ -17,5 +17,5 @@ returns-in-Some-clause-told g c =
       (λ h s. s),
       (λ h s. subst (λ (plan : Plan). IsPlanFor world c.args.t request plan) (sym c.of.ensures)
           (planned facts world c.args.t request (Deny c.in-Some.rule) (reply.Denied c.in-Some.rule) change.Nothing (c.requires h s)
-          (c.in-Some.ensures.some world (caller_told facts world request.action)) state.GaveUp (refl, refl) tt)),
+          (c.in-Some.ensures.some world (caller_told facts world request.action)) state.GaveUp (refl, refl) tt (λ _. refl))),
     )

@@ -23,7 +23,7 @@ returns-in-Some-clause-planned c =
       found = c.requires.caller ∙ sym (ap (caller_of world) c.requires.key);
       there = subst (λ (who : Option Person). IsThere world who) (sym c.requires.caller) tt;
     })
-    (c.in-Some.ensures.some world (caller_told facts world request.action)) state.GaveUp (refl, refl) tt)
+    (c.in-Some.ensures.some world (caller_told facts world request.action)) state.GaveUp (refl, refl) tt (λ _. refl))
 
-pub returns-in-None-clause-fault : goal.returns-in-None-clause-fault
-returns-in-None-clause-fault c = unserved_without_caller c.args.facts.now c.args.request.now.action c.args.t c.in-None.ensures.none c.requires.caller
+pub returns-in-None-clause-keyless : goal.returns-in-None-clause-keyless
+returns-in-None-clause-keyless c = unserved_without_caller c.args.facts.now c.args.request.now.action c.args.t c.in-None.ensures.none c.requires.caller
