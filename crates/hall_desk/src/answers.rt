@@ -41,8 +41,8 @@ impl<'a> Handler for Listing<'a> {
         Ok(decide(facts, action, t))
     }
 
-    fn first_reply(&self, _facts: &Facts) -> Reply {
-        unreachable!()
+    fn first_reply(&self, _facts: &Facts) -> Option<Reply> {
+        None
     }
 
     /// The rows that the caller sees.

@@ -44,8 +44,8 @@ impl<'a> Handler for Certifying<'a> {
         Ok(decide(facts, action, t))
     }
 
-    fn first_reply(&self, _facts: &Facts) -> Reply {
-        unreachable!()
+    fn first_reply(&self, _facts: &Facts) -> Option<Reply> {
+        None
     }
 
     /// The puzzle is searched where no search of it came to an end yet.

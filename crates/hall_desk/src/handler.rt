@@ -7,7 +7,7 @@ use std::alloc::Global;
 
 /// An action with what it names: what its rules read, and what it answers and changes where it is allowed.
 pub(crate) trait Handler {
-    ghost use Rattle.std.specs.Prelude.{◌≡◌, IfOk};
+    ghost use Rattle.std.specs.Prelude.{◌≡◌, IfOk, IfSome, IfNone};
     ghost use Rattle.hall_policy.specs.World.{World};
     ghost use Rattle.hall_policy.specs.Facts.{TrueUpTo, deciding};
     ghost use Rattle.hall_policy.specs.Implies.{Implies, IsAllowable, IsRepetition};
@@ -40,11 +40,12 @@ pub(crate) trait Handler {
         ensures told { Told (S.content store.old) (S.content store.new) result
             (λ world decision. IsDecided world facts.new action.now t decision) };
 
-    /// The reply that the same request got when it was first made.
-    fn first_reply(&self, facts: &Facts) -> Reply
-        requires { IsRepetition facts.now (action_of self.now) }
-        ensures { (world : World) → TrueUpTo (deciding (action_of self.now) Repeat) facts.now world (action_of self.now) →
-            FirstReply world facts.now.caller (action_of self.now) result };
+    /// The reply that the same request got when it was first made; none where it repeats no other.
+    fn first_reply(&self, facts: &Facts) -> Option<Reply>
+        ensures some { IfSome result (λ reply. (world : World) → IsRepetition facts.now (action_of self.now) →
+            TrueUpTo (deciding (action_of self.now) Repeat) facts.now world (action_of self.now) →
+            FirstReply world facts.now.caller (action_of self.now) reply) }
+        ensures none { IfNone result (¬ (IsRepetition facts.now (action_of self.now))) };
 
     /// The plan of the action, which is allowed.
     fn plan<S: Store>(

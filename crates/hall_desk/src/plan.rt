@@ -206,7 +206,10 @@ fn handle<H: Handler, S: Store>(
     let decision = handler.decision(alloc, store, t, &request.action, facts)?;
     match decision {
         Decision::Deny(rule) => Ok(Plan::of(Reply::Denied(rule))),
-        Decision::Repeat => Ok(Plan::of(handler.first_reply(facts))),
+        Decision::Repeat => match handler.first_reply(facts) {
+            Some(reply) => Ok(Plan::of(reply)),
+            None => unreachable!(),
+        },
         Decision::Allow => handler.plan(alloc, store, t, facts),
     }
 }

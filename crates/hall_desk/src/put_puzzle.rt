@@ -54,8 +54,8 @@ impl<'a> Handler for Putting<'a> {
         Ok(decide(facts, action, t))
     }
 
-    fn first_reply(&self, _facts: &Facts) -> Reply {
-        unreachable!()
+    fn first_reply(&self, _facts: &Facts) -> Option<Reply> {
+        None
     }
 
     /// The same puzzle again changes nothing, another one is stored as new.

@@ -40,8 +40,8 @@ impl<'a> Handler for Reading<'a> {
         Ok(decide(facts, action, t))
     }
 
-    fn first_reply(&self, _facts: &Facts) -> Reply {
-        unreachable!()
+    fn first_reply(&self, _facts: &Facts) -> Option<Reply> {
+        None
     }
 
     /// The round with its puzzles' texts.

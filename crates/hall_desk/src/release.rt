@@ -50,8 +50,8 @@ impl<'a> Handler for Releasing<'a> {
         Ok(decide(facts, action, t))
     }
 
-    fn first_reply(&self, _facts: &Facts) -> Reply {
-        unreachable!()
+    fn first_reply(&self, _facts: &Facts) -> Option<Reply> {
+        None
     }
 
     fn plan<S: Store>(

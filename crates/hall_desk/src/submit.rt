@@ -58,11 +58,11 @@ impl<'a> Handler for Handed<'a> {
         Ok(decide(facts, action, t))
     }
 
-    fn first_reply(&self, facts: &Facts) -> Reply {
-        let (Some(row), Some(answer)) = (&facts.round, &facts.answer) else {
-            unreachable!()
-        };
-        received(&row.round, answer.n, answer.verdict)
+    fn first_reply(&self, facts: &Facts) -> Option<Reply> {
+        match (&facts.round, &facts.answer) {
+            (Some(row), Some(answer)) => Some(received(&row.round, answer.n, answer.verdict)),
+            _ => None,
+        }
     }
 
     /// The answer is judged, and its row is to be stored. The world isn't sane where its number is taken.
