@@ -237,6 +237,21 @@ const ASKED_LATER: [(&[u8], u64, &[u8]); 11] = [
     ),
 ];
 
+/// Whether these lines come first where the store answers so many calls, and then one that begins so.
+fn goes_on(
+    rt: &(impl AllocGlobal + Abort),
+    records: &[u8],
+    left: u64,
+    lines: &[u8],
+    line: &[u8],
+) -> bool {
+    let given = lines_within(rt, records, left);
+    match given.as_slice().strip_prefix(lines) {
+        Some(rest) => rest.starts_with(line),
+        None => false,
+    }
+}
+
 /// Whether each request's line begins so where the store answers so many calls, and is that of a store that failed where it answers fewer.
 fn asks(
     rt: &(impl AllocGlobal + Abort),
@@ -249,11 +264,10 @@ fn asks(
         let mut input = Vec::new(rt.alloc());
         input.extend_from_slice(records).expect(rt, "memory");
         input.extend_from_slice(record).expect(rt, "memory");
-        for fewer in 0..*calls + 1 {
-            let given = lines_within(rt, input.as_slice(), spent.wrapping_add(fewer));
-            let wanted = if fewer == *calls { line } else { UNAVAILABLE };
-            let rest = given.as_slice().strip_prefix(lines);
-            asks = asks && rest.is_some_and(|rest| rest.starts_with(wanted));
+        let input = input.as_slice();
+        asks = asks && goes_on(rt, input, spent.wrapping_add(*calls), lines, line);
+        for fewer in 0..*calls {
+            asks = asks && goes_on(rt, input, spent.wrapping_add(fewer), lines, UNAVAILABLE);
         }
     }
     asks
