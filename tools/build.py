@@ -55,6 +55,7 @@ class Progress:
 
     def line(self, name, word):
         proved, functions = counted(name)
+        proved = min(proved, functions)
         minutes = (time.time() - self.begun[name]) / 60
         place = f"{self.crates.index(name) + 1} of {len(self.crates)}"
         tell(f"{name:14} {place:>8}  {word:6} {proved:4} of {functions:4} functions {minutes:6.1f} minutes")
