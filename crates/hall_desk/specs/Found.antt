@@ -28,7 +28,8 @@ HasAuthor world name = (person : Person) × (get world.people name ≡ Some pers
 abbrev pub IsReleasedRound : World → List ℕ → Type 0
 IsReleasedRound world id = (round : Round) × (get world.rounds id ≡ Some round) × IsTrue round.released
 
--- what keeps the round of the id from its release at one entry: its puzzle stands in another released round, or isn't in state one
+-- what keeps the round of the id from its release at one entry: its puzzle stands in another released round, or isn't
+-- in state one
 abbrev pub HasFault : EntryFault → World → List ℕ → Entry → Type 0
 HasFault Shared world id entry = (other : List ℕ) × (other ≢ id) × StandsReleased world entry.puzzle other
 HasFault Uncertified world id entry = ¬ (IsCertified world entry.puzzle)

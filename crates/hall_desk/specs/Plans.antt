@@ -10,7 +10,9 @@ use Rattle.hall_policy.specs.declared.record.PuzzleRow.{PuzzleRow}
 use Rattle.hall_policy.specs.declared.record.RoundRow.{RoundRow}
 use Rattle.hall_policy.specs.declared.record.PuzzleState.{PuzzleState}
 use Rattle.hall_policy.specs.declared.request.Action.{Action}
-use Rattle.hall_policy.specs.declared.request.Action.TheVariants.{Import, PutPuzzle, ReadPuzzle, ListPuzzles, Certify, PutRound, Release, ListRounds, ReadRound, Submit, Answers, Solutions, Protest, Protests, Rule, Publish, Table}
+use Rattle.hall_policy.specs.declared.request.Action.TheVariants.{Import, PutPuzzle, ReadPuzzle, ListPuzzles, Certify}
+use Rattle.hall_policy.specs.declared.request.Action.TheVariants.{PutRound, Release, ListRounds, ReadRound, Submit}
+use Rattle.hall_policy.specs.declared.request.Action.TheVariants.{Answers, Solutions, Protest, Protests, Rule, Publish, Table}
 use Rattle.hall_policy.specs.declared.facts.Facts.{Facts}
 use Rattle.hall_policy.specs.declared.record.AnswerRow.{AnswerRow}
 use Rattle.hall_store.specs.Store.{Content, Over, IsListing}
@@ -30,7 +32,8 @@ use Rattle.hall_desk.specs.Run.{Run}
 use Rattle.hall_desk.specs.declared.reply.Reply.{Reply}
 use Rattle.hall_desk.specs.declared.planned.Plan.{Plan}
 
--- the plan's reply and change are those of the request as it is decided, for what the search would find, and the change may be made
+-- the plan's reply and change are those of the request as it is decided, for what the search would find, and the
+-- change may be made
 pub record IsPlanFor (world : World) (t : ℕ) (request : Request) (plan : Plan) : Type 0 where
   pub answered : (found : PuzzleState)
       × IsAnswered world (record { moment = t; request = request; found = found })
@@ -39,7 +42,8 @@ pub record IsPlanFor (world : World) (t : ℕ) (request : Request) (plan : Plan)
   -- a denial or a repetition has nothing to change
   pub quiet : answered.1.0 ≢ Allow → planned_change plan ≡ Nothing
 
--- the plan's reply and change are those of the allowed action, whatever the search would find, and the change may be made
+-- the plan's reply and change are those of the allowed action, whatever the search would find, and the change may be
+-- made
 pub record IsAllowedPlan (world : World) (caller : Option Person) (action : Action) (t : ℕ) (plan : Plan) : Type 0 where
   pub allowed : (found : PuzzleState) → Allowed world caller action t found plan.reply (changed plan.change world)
   pub can : CanMake plan.change world
@@ -94,14 +98,16 @@ FailsIn cause new result =
 abbrev pub AreKept : World → List Entry → Type 0
 AreKept world entries = (entry : Entry) → Contains entries entry → get world.puzzles entry.puzzle ≢ None
 
--- what a plan says holds of the store's world, which still serves, where its device was honest; or, where no store was asked, it changes nothing and holds of every world
+-- what a plan says holds of the store's world, which still serves, where its device was honest; or, where no store
+-- was asked, it changes nothing and holds of every world
 abbrev pub Planned : {E : Type 0} → Content → ℕ → Request → Result Plan E → Type 0
 Planned new t request (Ok plan) =
     (new.honest → new.serves × IsPlanFor new.world t request plan)
     ⊎ ((plan.change ≡ Nothing) × ((world : World) → IsPlanFor world t request plan))
 Planned new t request (Err fault) = Unit {0}
 
--- The request was answered without the store, or refused, by what is a step in every world and leaves it; or the store served before and after, and made a step of the hall.
+-- The request was answered without the store, or refused, by what is a step in every world and leaves it; or the
+-- store served before and after, and made a step of the hall.
 abbrev pub Steps : Content → ℕ → Request → Reply → Content → Type 0
 Steps old t request given new = Over (λ before after. Step before t request given after) old new
 

@@ -45,7 +45,8 @@ RightAnswersAreSolutions world =
     row.state ≡ state.One solution →
     Verdict row.puzzle answer names → NamesNoRule names ↔ (answer ≡ solution)
 
--- a sane world keeps the promises to directors and entrants, and each step and run of the hall leads from sane worlds to sane ones
+-- a sane world keeps the promises to directors and entrants, and each step and run of the hall leads from sane worlds
+-- to sane ones
 pub record SanityKeepsPromises : Type 0 where
   pub unique : (world : World) → Sane world → HasUniqueSolutions world
   pub right : (world : World) → Sane world → RightAnswersAreSolutions world
@@ -61,8 +62,8 @@ pub record IsToldAgain (world : World) (id : List ℕ) (row : AnswerRow) (answer
   pub same_answer : row.answer ≡ answer
   pub told : given ≡ reply.Received row.n (told_verdict round row.verdict)
 
--- what an answer gets that comes under a token that stands: no service; the denial of a rule before the token's; the denial of the token's rule, which is for another text alone;
--- or the first reply, which is for the same text alone
+-- what an answer gets that comes under a token that stands: no service; the denial of a rule before the token's; the
+-- denial of the token's rule, which is for another text alone; or the first reply, which is for the same text alone
 abbrev pub IsRetryAnswered : World → List ℕ → AnswerRow → List ℕ → Reply → Type 0
 IsRetryAnswered world id row answer given =
     (given ≡ reply.Unavailable)
@@ -70,7 +71,8 @@ IsRetryAnswered world id row answer given =
     ⊎ (((given ≡ reply.Denied 6) × (row.answer ≢ answer))
     ⊎ IsToldAgain world id row answer given))
 
--- a token whose answer was accepted acts once: an answer that comes under a token that stands changes nothing, at whatever moment it comes
+-- a token whose answer was accepted acts once: an answer that comes under a token that stands changes nothing, at
+-- whatever moment it comes
 abbrev pub TokensActOnce : Type 0
 TokensActOnce =
     (world : World) (t : ℕ) (key : Option (List ℕ)) (person : Person) (id : List ℕ) (number : ℕ)
@@ -80,13 +82,14 @@ TokensActOnce =
     Step world t (record { key = key; action = Submit id number token answer }) given new →
     (new ≡ world) × IsRetryAnswered world id row answer given
 
--- the reply to the request of an accepted answer when it comes again, or comes with another text: no service; for another text alone, the denial of the token's rule;
--- for the same text alone, the first reply
+-- the reply to the request of an accepted answer when it comes again, or comes with another text: no service; for
+-- another text alone, the denial of the token's rule; for the same text alone, the first reply
 abbrev pub IsRetryOf : List ℕ → List ℕ → Reply → Reply → Type 0
 IsRetryOf answer again first given =
     (given ≡ reply.Unavailable) ⊎ (((again ≢ answer) × (given ≡ reply.Denied 6)) ⊎ ((again ≡ answer) × (given ≡ first)))
 
--- an accepted answer stays accepted: whatever requests come between, and at whatever moment its token comes again, the world stays, and the retry is answered as one
+-- an accepted answer stays accepted: whatever requests come between, and at whatever moment its token comes again,
+-- the world stays, and the retry is answered as one
 abbrev pub AcceptedAnswersStay : Type 0
 AcceptedAnswersStay =
     (world kept later new : World) (t u : ℕ) (key : Option (List ℕ)) (id : List ℕ) (number : ℕ)
@@ -97,7 +100,8 @@ AcceptedAnswersStay =
     Step later u (record { key = key; action = Submit id number token again }) given new →
     (new ≡ later) × IsRetryOf answer again (reply.Received n told) given
 
--- an accepted answer's retry has its answer in every later world: the first reply for the same text, the denial of the token's rule for another one, with the world as it is
+-- an accepted answer's retry has its answer in every later world: the first reply for the same text, the denial of
+-- the token's rule for another one, with the world as it is
 abbrev pub RetriesAreAnswered : Type 0
 RetriesAreAnswered =
     (world kept later : World) (t u : ℕ) (key : Option (List ℕ)) (id : List ℕ) (number : ℕ)

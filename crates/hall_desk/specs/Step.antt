@@ -101,7 +101,8 @@ answer_row world person round number token answer t verdict = record {
   verdict = verdict;
 }
 
--- the answer is judged by the round's puzzle of that number and stored; the reply tells its number and, in an instant round, its verdict
+-- the answer is judged by the round's puzzle of that number and stored; the reply tells its number and, in an instant
+-- round, its verdict
 abbrev pub IsSubmitted : World → Person → List ℕ → ℕ → List ℕ → List ℕ → ℕ → Reply → World → Type 0
 IsSubmitted world person id number token answer t given new =
     (round : Round) × (entry : Entry) × (puzzle : PuzzleRow) × (verdict : ℕ)
@@ -119,7 +120,8 @@ IsListed world person id t given =
     × IsListing world (sees_answer person round id t) rows
     × (given ≡ reply.AnswerList (map (answer_line (shows_verdict person round t)) rows))
 
--- what an allowed action answers and changes; `found` is what the search would find if the action ran it. The other actions aren't served yet
+-- what an allowed action answers and changes; `found` is what the search would find if the action ran it. The other
+-- actions aren't served yet
 abbrev pub Allowed : World → Option Person → Action → ℕ → PuzzleState → Reply → World → Type 0
 Allowed world caller (PutPuzzle key puzzle) t found given new =
     (text : List ℕ) × CanonicalText text puzzle
@@ -171,7 +173,8 @@ IsAnswered world asked given new =
     (decision : Decision) × First world (caller_of world asked.request.key) asked.request.action asked.moment decision
     × Decided decision world (caller_of world asked.request.key) asked.request.action asked.moment asked.found given new
 
--- a step of the hall: the request is answered as it is decided, or it is Unavailable, leaves the world and counts as not made
+-- a step of the hall: the request is answered as it is decided, or it is Unavailable, leaves the world and counts as
+-- not made
 abbrev pub Step : World → ℕ → Request → Reply → World → Type 0
 Step world t request given new =
     ((given ≡ reply.Unavailable) × (new ≡ world))

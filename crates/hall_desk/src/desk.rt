@@ -31,8 +31,9 @@ impl<S: Store> Desk<S> {
         Desk { store }
     }
 
-    /// What the request will be answered, and what it will change. Reads only, and of a request without a key not even that. It fails only where a call of the store did, where the world isn't sane,
-    /// or where the action isn't served yet.
+    /// What the request will be answered, and what it will change. Reads only, and of a request without a key not
+    /// even that. It fails only where a call of the store did, where the world isn't sane, or where the action isn't
+    /// served yet.
     pub fn plan(&mut self, alloc: Global, t: Moment, request: &Request) -> Result<Plan, StoreFault>
         ensures kept { Kept (S.content (kept_by self.old)) (S.content (kept_by self.new)) }
         ensures untouched { request.now.key ≡ None → kept_by self.new ≡ kept_by self.old }
@@ -45,7 +46,8 @@ impl<S: Store> Desk<S> {
         make_plan(alloc, &mut self.store, t, request)
     }
 
-    /// Makes the plan's change, and answers its reply. Refused, it has consumed the plan and left the world; a plan without a change is never refused.
+    /// Makes the plan's change, and answers its reply. Refused, it has consumed the plan and left the world; a plan
+    /// without a change is never refused.
     pub fn commit(&mut self, alloc: Global, plan: Plan) -> Result<Reply, StoreFault>
         requires { Asks (S.content (kept_by self.old)) (CanMake (planned_change plan)) }
         ensures makes { Makes (planned_change plan) (S.content (kept_by self.old))
@@ -70,7 +72,8 @@ impl<S: Store> Desk<S> {
         step(alloc, &mut self.store, t, request)
     }
 
-    /// Answers the requests one after another: a run of the hall. Room for all replies is made before the first request; refused there, nothing is done.
+    /// Answers the requests one after another: a run of the hall. Room for all replies is made before the first
+    /// request; refused there, nothing is done.
     pub fn run(
         &mut self,
         alloc: Global,

@@ -22,7 +22,8 @@ pub(crate) trait Handler {
     // The action.
     ghost action_of: { Self → Action };
 
-    /// What is decided of the action, which the rules on the caller let pass. Facts are looked up one after another, and none behind a rule that decides.
+    /// What is decided of the action, which the rules on the caller let pass. Facts are looked up one after another,
+    /// and none behind a rule that decides.
     fn decision<S: Store>(
         &self,
         alloc: Global,

@@ -1,4 +1,5 @@
-//! From a request to its plan: the caller, what the rules read, the decision, and what an allowed action answers and changes.
+//! From a request to its plan: the caller, what the rules read, the decision, and what an allowed action answers and
+//! changes.
 ghost use Rattle.std.specs.Prelude.{◌≡◌, ◌⊎◌, IfOk, IfSome, IfNone, None};
 ghost use Rattle.hall_policy.specs.World.{World};
 ghost use Rattle.hall_policy.specs.Decided.{IsDecidedUpTo, PassesUpTo};
@@ -20,7 +21,8 @@ use hall_policy::{Action, Decision, Facts, Moment, Request, Rule, decide_up_to};
 use hall_store::{Store, StoreFault};
 use std::alloc::Global;
 
-/// What the request will be answered, and what it will change. Reads only, and for a denial nothing that a later rule asks.
+/// What the request will be answered, and what it will change. Reads only, and for a denial nothing that a later rule
+/// asks.
 pub(crate) fn make_plan<S: Store>(
     alloc: Global,
     store: &mut S,

@@ -32,7 +32,8 @@ impl<'a> Handler for Putting<'a> {
 
     ghost action_of = { put_action };
 
-    /// The author is looked for, then the rounds that have the puzzle, then the puzzle; puzzles are counted where it is a new one.
+    /// The author is looked for, then the rounds that have the puzzle, then the puzzle; puzzles are counted where it
+    /// is a new one.
     fn decision<S: Store>(
         &self,
         alloc: Global,

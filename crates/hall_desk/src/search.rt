@@ -10,7 +10,8 @@ use hall_solve::{Outcome, Partial, search};
 use hall_sudoku::SudokuRules;
 use std::alloc::{AllocError, Global};
 
-/// What the search of the puzzle finds in at most `budget` visits: no solution, one and no other, two different ones, or that it gave up.
+/// What the search of the puzzle finds in at most `budget` visits: no solution, one and no other, two different ones,
+/// or that it gave up.
 pub fn certify(alloc: Global, puzzle: &Puzzle, budget: u64) -> Result<Outcome, AllocError>
     ensures { IfOk result (OutcomeOfPuzzle puzzle.now budget) }
 {

@@ -37,7 +37,8 @@ impl<'a> Handler for Handed<'a> {
 
     ghost action_of = { handed_action };
 
-    /// The token is looked up where the round lets the request pass, and answers are counted where nothing else forbids it.
+    /// The token is looked up where the round lets the request pass, and answers are counted where nothing else
+    /// forbids it.
     fn decision<S: Store>(
         &self,
         alloc: Global,

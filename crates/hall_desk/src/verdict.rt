@@ -5,7 +5,8 @@ ghost use Rattle.hall_grid.specs.Answer.{Verdict, IsNoForm, IsFilling, AreBroken
 use hall_grid::{Broken, Filling, Kind, Puzzle, Rule, parse_answer};
 use std::alloc::{AllocError, Global};
 
-/// The names for an answer text: the rules that its filling breaks, or A0 alone where no filling has this text. The answer is right where there is none.
+/// The names for an answer text: the rules that its filling breaks, or A0 alone where no filling has this text. The
+/// answer is right where there is none.
 pub fn judge(alloc: Global, puzzle: &Puzzle, text: &[u8]) -> Result<Broken, AllocError>
     ensures { IfOk result (Verdict puzzle.now text.now) }
 {

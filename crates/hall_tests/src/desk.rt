@@ -1,4 +1,5 @@
-//! Calls of the desk: a plan and its commit, a list of requests, what they ask of the store, certificates with their budgets, verdicts.
+//! Calls of the desk: a plan and its commit, a list of requests, what they ask of the store, certificates with their
+//! budgets, verdicts.
 use crate::limited::LimitedStore;
 use hall_desk::{Desk, Reply, StateName, certify, judge, opening_store};
 use hall_grid::{Counted, Puzzle, parse_puzzle};
@@ -108,7 +109,8 @@ fn plans_are_committed_and_lists_run(rt: HostRuntime) {
     }
 }
 
-/// Requests to the opening world as records, how many calls of the store each takes, its change among them, and how its line begins.
+/// Requests to the opening world as records, how many calls of the store each takes, its change among them, and how
+/// its line begins.
 const ASKED: [(&[u8], u64, &[u8]); 10] = [
     (b"@1 17\n- GET /rounds/r1\n", 0, b"403 {\"denied\":1}"),
     (
@@ -171,7 +173,8 @@ fn lines_within(rt: &(impl AllocGlobal + Abort), records: &[u8], left: u64) -> V
     writer.into_inner()
 }
 
-/// Records that certify the puzzle of the round r1, release it and answer it, with their lines, and how many calls of the store they take.
+/// Records that certify the puzzle of the round r1, release it and answer it, with their lines, and how many calls of
+/// the store they take.
 const BEFORE: (&[u8], u64, &[u8]) = (
     b"@1777700000 60\nbob-key-1 POST /puzzles/bob/p1/certificate\n{\"budget\":200000}@1777700000 33\ndora-key POST /rounds/r1/release\n@1777712400 67\neve-key-1 PUT /rounds/r1/answers/1/k1\n{\"answer\":\"1234341221434321\"}",
     15,
@@ -252,7 +255,8 @@ fn goes_on(
     }
 }
 
-/// Whether each request's line begins so where the store answers so many calls, and is that of a store that failed where it answers fewer.
+/// Whether each request's line begins so where the store answers so many calls, and is that of a store that failed
+/// where it answers fewer.
 fn asks(
     rt: &(impl AllocGlobal + Abort),
     before: (&[u8], u64, &[u8]),

@@ -97,7 +97,8 @@ pub record IsRunOver (old : World) (xs : List Exchange) (new : World) : Type 0 w
   pub run : Run old requests replies new
   pub made : AreMade xs requests replies
 
--- over a store, the requests of the records have these replies in a run to some world, which is the store's where it still serves
+-- over a store, the requests of the records have these replies in a run to some world, which is the store's where it
+-- still serves
 abbrev pub RunsOver : Content → List Exchange → Content → Type 0
 RunsOver old xs new = (last : World) × IsRunOver old.world xs last × (new.serves → new.world ≡ last)
 
