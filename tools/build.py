@@ -46,30 +46,21 @@ def counted(name):
     return len(glob.glob(f"{kept}.Proof.oantt")), len(glob.glob(f"{kept}.Code.oantt"))
 
 
-class Progress:
-    """A line for each crate that is being proved, now and then, and one when it is built."""
-
-    def __init__(self, crates):
-        self.crates = list(crates)
-        self.begun = {}
-
-    def line(self, name, word):
-        proved, functions = counted(name)
-        proved = min(proved, functions)
-        minutes = (time.time() - self.begun[name]) / 60
-        place = f"{self.crates.index(name) + 1} of {len(self.crates)}"
-        tell(f"{name:14} {place:>8}  {word:6} {proved:4} of {functions:4} functions {minutes:6.1f} minutes")
-
-
 class Build:
     """Crates proved side by side, each once those that it stands on are built; one that is alone gets all processors."""
 
     def __init__(self, crates, most):
         self.crates = crates
         self.most = most
-        self.progress = Progress(crates)
         self.built = set()
         self.running = {}
+        self.begun = {}
+
+    def tell_of(self, name, word):
+        proved, functions = counted(name)
+        minutes = (time.time() - self.begun[name]) / 60
+        place = f"{list(self.crates).index(name) + 1} of {len(self.crates)}"
+        tell(f"{name:14} {place:>8}  {word:6} {min(proved, functions):4} of {functions:4} functions {minutes:6.1f} minutes")
 
     def ready(self):
         free = [name for name in self.crates if name not in self.built and name not in self.running]
@@ -82,7 +73,7 @@ class Build:
             jobs = max(1, share)
             words = ["rt", "run" if name == "hall" else "lib", "--jobs", str(jobs)]
             how = {"cwd": f"{ROOT}/crates/{name}", "stdin": subprocess.DEVNULL, "stdout": log, "stderr": subprocess.STDOUT}
-            self.progress.begun[name] = time.time()
+            self.begun[name] = time.time()
             self.running[name] = subprocess.Popen(words, **how), jobs
 
     def gather(self):
@@ -94,7 +85,7 @@ class Build:
             if name != "hall" and process.returncode:
                 return name
             self.built.add(name)
-            self.progress.line(name, "built")
+            self.tell_of(name, "built")
         return None
 
     def run(self, log):
@@ -110,7 +101,7 @@ class Build:
             if time.time() - shown > EVERY:
                 shown = time.time()
                 for name in self.running:
-                    self.progress.line(name, "so far")
+                    self.tell_of(name, "so far")
         return True
 
 

@@ -1,4 +1,3 @@
-pub mod Knowing
 pub mod Answering
 pub mod Releases
 pub mod Telling

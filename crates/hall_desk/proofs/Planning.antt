@@ -1,5 +1,5 @@
 -- From facts and a decision to a plan.
-use Rattle.std.proofs.Common.{◌≡◌, ◌≢◌, ◌&&◌, ℕ, zero, suc, Bool, true, false, List, [], ◌∷◌, slice_get, Option, Some, None, IsTrue, Result, Ok, Err, IfOk, inl, refl, sym, ◌∙◌, ap, subst, inr, cond}
+use Rattle.std.proofs.Common.{◌≡◌, ◌≢◌, ◌⊎◌, ◌&&◌, ℕ, zero, suc, Bool, true, false, List, [], ◌∷◌, slice_get, Option, Some, None, IsTrue, Result, Ok, Err, IfOk, inl, refl, sym, ◌∙◌, ap, subst, inr, cond}
 use Rattle.std.specs.List.{filter}
 use Rattle.hall_grid.specs.Board.{Board}
 use Rattle.hall_grid.specs.Canonical.{CanonicalText}
@@ -21,11 +21,12 @@ use Rattle.hall_policy.specs.declared.request.Request.{Request}
 use Rattle.hall_policy.specs.declared.request.Action.{Action}
 use Rattle.hall_policy.specs.declared.request.Action.TheVariants as action
 use Rattle.hall_store.specs.Caller.{caller_of}
+use Rattle.hall_store.specs.declared.fault.StoreFault.{StoreFault}
 use Rattle.hall_desk.specs.Found.{IsCaller}
 use Rattle.hall_store.specs.Change.{changed, CanMake, with_flag}
 use Rattle.hall_desk.specs.Step.{Decided}
 use Rattle.hall_store.specs.Store.{Content, Kept, Told, Asks}
-use Rattle.hall_desk.specs.Plans.{IsPlanFor, IsAllowedPlan, IsMadePlan, Planned}
+use Rattle.hall_desk.specs.Plans.{IsPlanFor, IsAllowedPlan, IsMadePlan, Planned, FailsIn}
 use Rattle.hall_desk.specs.declared.planned.Plan.{Plan}
 use Rattle.hall_desk.specs.declared.reply.Reply.{Reply}
 use Rattle.hall_desk.specs.declared.reply.Reply.TheVariants.{PuzzlePut, Released}
@@ -33,7 +34,7 @@ use Rattle.hall_desk.specs.declared.reply.StateName.TheVariants as name
 use Rattle.hall_store.specs.declared.change.Change.{Change}
 use Rattle.hall_store.specs.declared.change.Change.TheVariants as change
 use Rattle.hall_store.specs.declared.change.RoundFlag.TheVariants as flag
-use Rattle.hall_desk.proofs.Knowing.{pure_told, told_turn}
+use Rattle.hall_store.proofs.Knowing.{pure_told, told_turn}
 
 -- a decision, and what it answers and changes, make a plan
 pub planned : (facts : Facts) (world : World) (t : ℕ) (request : Request) (decision : Decision) (given : Reply) (change : Change) →
@@ -94,6 +95,14 @@ pub told_plan : {E : Type 0} (r : Result Plan E) (mid new : Content) (t : ℕ) (
     Told mid new r (λ world plan. IsPlanFor world t request plan) → Planned new t request r
 told_plan (Ok plan) mid new t request kept served told = inl (λ h. let s = told.0 h (served (kept.honest h)) in (s, told.1 h s))
 told_plan (Err fault) mid new t request kept served told = tt
+
+-- what fails for one cause alone fails for that or another
+pub fails_wider : {R : Type 0} (r : Result R StoreFault) (cause other : Type 0) (new : Content) → FailsIn cause new r → FailsIn (cause ⊎ other) new r
+fails_wider (Ok x) cause other new fails = tt
+fails_wider (Err e) cause other new fails = λ failed. elim (fails failed) [
+  | inl h ↦ inl (inl h)
+  | inr h ↦ inr h
+]
 
 -- the plan of a round that is released
 pub released : (world : World) (facts : Facts) (t : ℕ) (id shown kept : List ℕ) (row : RoundRow) →

@@ -7,4 +7,5 @@ pub mod AnswerWorlds
 pub mod UsingRounds
 pub mod Sorting
 pub mod Inserts
+pub mod Knowing
 pub mod Adding

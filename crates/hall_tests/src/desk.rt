@@ -1,34 +1,22 @@
 //! Calls of the desk: a plan and its commit, a list of requests, what they ask of the store, certificates with their
 //! budgets, verdicts.
+use crate::fixtures::{number, puzzle, puzzle_key, text};
 use crate::limited::LimitedStore;
 use hall_desk::{Desk, Reply, StateName, certify, judge, opening_store};
-use hall_grid::{Counted, Puzzle, parse_puzzle};
-use hall_policy::{Action, Checked, Moment, PuzzleKey, Request, TextKind, Within};
+use hall_grid::Counted;
+use hall_policy::{Action, Moment, Request};
 use hall_solve::Outcome;
 use hall_store::MapStore;
 use hall_tool::replay;
 use std::alloc::AllocGlobal;
 use std::process::Abort;
 
-fn text<K: TextKind>(rt: &(impl AllocGlobal + Abort), text: &str) -> Checked<K> {
-    let text = String::from_str(rt.alloc(), text).expect(rt, "memory");
-    Checked::new(text).expect(rt, "text")
-}
-
-fn number<const LEAST: u64, const MOST: u64>(rt: &impl Abort, n: u64) -> Within<LEAST, MOST> {
-    Within::new(n).expect(rt, "number")
-}
-
 /// Dora's certificate of bob's puzzle.
 fn certificate(rt: &(impl AllocGlobal + Abort)) -> Request {
-    let key = PuzzleKey {
-        author: text(rt, "bob"),
-        label: text(rt, "p1"),
-    };
     Request {
         key: Some(text(rt, "dora-key")),
         action: Action::Certify {
-            key,
+            key: puzzle_key(rt, "bob", "p1"),
             budget: number(rt, 200_000),
         },
     }
@@ -281,10 +269,6 @@ fn asks(
 fn a_request_asks_the_store_for_what_its_rules_read(rt: HostRuntime) {
     assert!(rt; asks(&rt, (b"", 0, b""), ASKED.as_slice()));
     assert!(rt; asks(&rt, BEFORE, ASKED_LATER.as_slice()));
-}
-
-fn puzzle(rt: &(impl AllocGlobal + Abort), text: &str) -> Puzzle {
-    parse_puzzle(rt.alloc(), text.as_bytes()).expect(rt, "puzzle")
 }
 
 #[test]

@@ -4,6 +4,8 @@
 #[cfg(test)]
 mod desk;
 #[cfg(test)]
+mod fixtures;
+#[cfg(test)]
 mod limited;
 #[cfg(test)]
 mod policy;

@@ -6,15 +6,18 @@ use self::Ask::{
 };
 use self::Held::{Draft, NoRound, Published, Released};
 use self::Under::{Nothing, Open, Same, Stored, Upheld};
-use hall_grid::{Broken, Puzzle, parse_puzzle};
+use crate::fixtures::{draft, entries, entry, number, puzzle, puzzle_key, puzzle_row, text};
+use hall_grid::Broken;
 use hall_policy::{
-    Action, AnswerKey, AnswerNumber, AnswerRow, Bonus, Checked, Decision, Entries, Entry, Facts,
-    Key, Minutes, Mode, Moment, Penalty, People, Person, Points, ProtestKey, ProtestMinutes,
-    ProtestRow, ProtestText, PuzzleKey, PuzzleNumber, PuzzleRow, PuzzleState, Roles, Round,
-    RoundRow, Ruling, RulingPoints, Sheet, TextKind, Title, Within, decide, decide_up_to,
+    Action, AnswerKey, AnswerNumber, AnswerRow, Bonus, Checked, Decision, Entries, Facts, Key,
+    Minutes, Mode, Moment, Penalty, People, Person, Points, ProtestKey, ProtestMinutes, ProtestRow,
+    ProtestText, PuzzleNumber, Roles, RoundRow, Ruling, RulingPoints, Sheet, TextKind, Title,
+    Within, decide, decide_up_to,
 };
 use std::alloc::AllocGlobal;
 use std::process::Abort;
+
+const PUZZLE: &str = "sudoku/4/4/123434122143432g";
 
 const START: u64 = 1_777_712_400;
 
@@ -139,15 +142,6 @@ const DECISIONS: [Row; 68] = [
     (Table, "eve", NoRound, Nothing, 0, 0, CLOSE, 4),
 ];
 
-fn text<K: TextKind>(rt: &(impl AllocGlobal + Abort), text: &str) -> Checked<K> {
-    let text = String::from_str(rt.alloc(), text).expect(rt, "memory");
-    Checked::new(text).expect(rt, "text")
-}
-
-fn number<const LEAST: u64, const MOST: u64>(rt: &impl Abort, n: u64) -> Within<LEAST, MOST> {
-    Within::new(n).expect(rt, "number")
-}
-
 fn person(rt: &(impl AllocGlobal + Abort), name: &str, key: &str) -> Person {
     let roles = Roles {
         director: name == "dora",
@@ -163,45 +157,13 @@ fn person(rt: &(impl AllocGlobal + Abort), name: &str, key: &str) -> Person {
     }
 }
 
-fn puzzle_key(rt: &(impl AllocGlobal + Abort), label: &str) -> PuzzleKey {
-    PuzzleKey {
-        author: text(rt, "bob"),
-        label: text(rt, label),
-    }
-}
-
-fn puzzle(rt: &(impl AllocGlobal + Abort)) -> Puzzle {
-    parse_puzzle(rt.alloc(), b"sudoku/4/4/123434122143432g").expect(rt, "puzzle")
-}
-
-fn entry(rt: &(impl AllocGlobal + Abort), label: &str) -> Entry {
-    Entry {
-        points: number(rt, 40),
-        puzzle: puzzle_key(rt, label),
-    }
-}
-
-fn entries(rt: &(impl AllocGlobal + Abort)) -> Entries {
-    let list = Vec::from_array(rt.alloc(), [entry(rt, "p1")]).expect(rt, "memory");
-    Entries::new(list).expect(rt, "entries")
-}
-
 fn round(rt: &(impl AllocGlobal + Abort), held: Held) -> RoundRow {
-    let round = Round {
-        id: text(rt, "r1"),
-        title: text(rt, "Morning"),
-        start: number(rt, START),
-        minutes: number(rt, 60),
-        protest_minutes: number(rt, 30),
-        mode: Mode::Instant,
-        penalty: number(rt, 5),
-        bonus: number(rt, 2),
-        released: held != Draft,
-        published: held == Published,
-    };
+    let mut round = draft(rt, "r1");
+    round.released = held != Draft;
+    round.published = held == Published;
     RoundRow {
         round,
-        puzzles: entries(rt),
+        puzzles: entries(rt, [entry(rt, "p1")]),
     }
 }
 
@@ -214,15 +176,7 @@ fn sheet(rt: &(impl AllocGlobal + Abort)) -> Sheet {
         mode: Mode::Sealed,
         penalty: number(rt, 0),
         bonus: number(rt, 0),
-        puzzles: entries(rt),
-    }
-}
-
-fn stored(rt: &(impl AllocGlobal + Abort)) -> PuzzleRow {
-    PuzzleRow {
-        key: puzzle_key(rt, "p1"),
-        puzzle: puzzle(rt),
-        state: PuzzleState::New,
+        puzzles: entries(rt, [entry(rt, "p1")]),
     }
 }
 
@@ -268,7 +222,7 @@ fn facts(rt: &(impl AllocGlobal + Abort), row: &Row) -> Facts {
         Some(person(rt, name, "some-key-1"))
     };
     let puzzle = if under == Stored {
-        Some(stored(rt))
+        Some(puzzle_row(rt, "bob", "p1", PUZZLE))
     } else {
         None
     };
@@ -346,11 +300,11 @@ fn action(rt: &(impl AllocGlobal + Abort), ask: Ask) -> Action {
             people: people(rt, "eve", "eve-key-1").expect(rt, "people"),
         },
         PutPuzzle => Action::PutPuzzle {
-            key: puzzle_key(rt, "p1"),
-            puzzle: puzzle(rt),
+            key: puzzle_key(rt, "bob", "p1"),
+            puzzle: puzzle(rt, PUZZLE),
         },
         ReadPuzzle => Action::ReadPuzzle {
-            key: puzzle_key(rt, "p1"),
+            key: puzzle_key(rt, "bob", "p1"),
         },
         ListPuzzles => Action::ListPuzzles,
         PutRound => Action::PutRound {

@@ -1,21 +1,13 @@
 //! What a store answers after calls that change it.
-use hall_grid::{Broken, parse_puzzle};
+use crate::fixtures::{draft, entries, entry, number, puzzle_key, puzzle_row, text};
+use hall_grid::Broken;
 use hall_policy::{
-    AnswerKey, AnswerRow, Checked, Entries, Entry, Mode, Person, PuzzleKey, PuzzleRow, PuzzleState,
-    Roles, Round, RoundId, RoundRow, TextKind, Within,
+    AnswerKey, AnswerRow, Person, PuzzleKey, PuzzleRow, PuzzleState, Roles, RoundId, RoundRow,
+    Within,
 };
 use hall_store::{MapStore, RoundFlag, Store};
 use std::alloc::AllocGlobal;
 use std::process::Abort;
-
-fn text<K: TextKind>(rt: &(impl AllocGlobal + Abort), text: &str) -> Checked<K> {
-    let text = String::from_str(rt.alloc(), text).expect(rt, "memory");
-    Checked::new(text).expect(rt, "text")
-}
-
-fn number<const LEAST: u64, const MOST: u64>(rt: &impl Abort, n: u64) -> Within<LEAST, MOST> {
-    Within::new(n).expect(rt, "number")
-}
 
 fn person(rt: &(impl AllocGlobal + Abort), name: &str, key: &str) -> Person {
     let roles = Roles {
@@ -93,13 +85,6 @@ fn store_of(rt: &(impl AllocGlobal + Abort), names: [(&str, &str); 3]) -> MapSto
     store
 }
 
-fn puzzle_key(rt: &(impl AllocGlobal + Abort), author: &str, label: &str) -> PuzzleKey {
-    PuzzleKey {
-        author: text(rt, author),
-        label: text(rt, label),
-    }
-}
-
 /// Stores the puzzle, whose author is there.
 fn put(rt: &(impl AllocGlobal + Abort), store: &mut MapStore, row: PuzzleRow) {
     let author = store.person(rt.alloc(), &row.key.author);
@@ -142,14 +127,6 @@ const PUZZLES: [(&str, &str, &str, u64); 7] = [
     ("bob", "p10", FIRST, 3),
     ("bob", "p10", FIRST, 3),
 ];
-
-fn puzzle_row(rt: &(impl AllocGlobal + Abort), author: &str, label: &str, text: &str) -> PuzzleRow {
-    PuzzleRow {
-        key: puzzle_key(rt, author, label),
-        puzzle: parse_puzzle(rt.alloc(), text.as_bytes()).expect(rt, "puzzle"),
-        state: PuzzleState::New,
-    }
-}
 
 /// Whether the puzzle is kept under the author and label, with this text, and nothing is known of its solutions.
 fn keeps(
@@ -254,32 +231,11 @@ fn a_state_is_set_on_one_puzzle(rt: HostRuntime) {
     }
 }
 
-fn entry(rt: &(impl AllocGlobal + Abort), label: &str) -> Entry {
-    Entry {
-        puzzle: puzzle_key(rt, "bob", label),
-        points: number(rt, 40),
-    }
-}
-
-/// A round of these two puzzles of bob.
+/// A draft of these two puzzles of bob.
 fn round_row(rt: &(impl AllocGlobal + Abort), id: &str, labels: (&str, &str)) -> RoundRow {
-    let round = Round {
-        id: text(rt, id),
-        title: text(rt, "Morning"),
-        start: number(rt, 1_777_712_400),
-        minutes: number(rt, 60),
-        protest_minutes: number(rt, 30),
-        mode: Mode::Instant,
-        penalty: number(rt, 5),
-        bonus: number(rt, 2),
-        released: false,
-        published: false,
-    };
-    let list = [entry(rt, labels.0), entry(rt, labels.1)];
-    let list = Vec::from_array(rt.alloc(), list).expect(rt, "memory");
     RoundRow {
-        round,
-        puzzles: Entries::new(list).expect(rt, "entries"),
+        round: draft(rt, id),
+        puzzles: entries(rt, [entry(rt, labels.0), entry(rt, labels.1)]),
     }
 }
 

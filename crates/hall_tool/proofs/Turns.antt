@@ -74,11 +74,6 @@ never_nil h =
 pub not_nil : (xs : List ℕ) → 0 < length xs → xs ≢ []
 not_nil xs some e = let z : length xs ≡ 0 = ap length e in omega arith
 
--- what holds over a store, where another relation follows from it
-pub over_turn : (R Q : World → World → Type 0) (old new : Content) → ((before after : World) → R before after → Q before after) → Over R old new → Over Q old new
-over_turn R Q old new turn (inl (always, left)) = inl ((λ world. turn world world (always world)), left)
-over_turn R Q old new turn (inr (before, after, holds)) = inr (before, after, turn old.world new.world holds)
-
 -- a session over a store, to some world, which is the store's where it still serves
 abbrev pub SessionOver : Content → List Exchange → Content → Type 0
 SessionOver old done new = (last : World) × Session old.world done last × (new.serves → new.world ≡ last)

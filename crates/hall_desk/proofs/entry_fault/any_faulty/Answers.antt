@@ -3,7 +3,7 @@ use Rattle.std.proofs.lemmas.Option.{get_or_from_slice_get}
 use Rattle.std.proofs.lemmas.Bool.{false≢true}
 use Rattle.hall_policy.specs.declared.record.Entry.{Entry}
 use Rattle.hall_desk.specs.Found.{HasFault}
-use Rattle.hall_desk.proofs.Knowing.{kept_then, carried}
+use Rattle.hall_store.proofs.Knowing.{kept_then, carried}
 use Rattle.hall_desk.proofs.entry_fault.any_faulty.Goals as goal
 
 pub loop-entry-preserved : goal.loop-entry-preserved

@@ -2,7 +2,7 @@ use Rattle.std.proofs.Common.{◌≡◌, ℕ, List, slice_get, Some, refl, sym, 
 use Rattle.std.proofs.lemmas.Option.{get_or_from_slice_get}
 use Rattle.std.proofs.lemmas.Bool.{false≢true}
 use Rattle.hall_desk.specs.Found.{IsReleasedRound}
-use Rattle.hall_desk.proofs.Knowing.{kept_then, carried}
+use Rattle.hall_store.proofs.Knowing.{kept_then, carried}
 use Rattle.hall_desk.proofs.found.any_released.Goals as goal
 
 pub loop-id-preserved : goal.loop-id-preserved

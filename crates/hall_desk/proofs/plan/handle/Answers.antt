@@ -9,8 +9,8 @@ use Rattle.hall_store.specs.Change.{changed}
 use Rattle.hall_desk.specs.Found.{IsCaller}
 use Rattle.hall_desk.specs.Step.{Allowed}
 use Rattle.hall_desk.specs.Plans.{IsMadePlan, IsPlanFor, IsUnserved}
-use Rattle.hall_desk.proofs.Knowing.{carried, fails_wider, kept_then, told_through}
-use Rattle.hall_desk.proofs.Planning.{planned}
+use Rattle.hall_store.proofs.Knowing.{carried, kept_then, told_through}
+use Rattle.hall_desk.proofs.Planning.{fails_wider, planned}
 use Rattle.hall_desk.proofs.plan.handle.Goals as goal
 
 pub returns-in-Allow-clause-fault : goal.returns-in-Allow-clause-fault

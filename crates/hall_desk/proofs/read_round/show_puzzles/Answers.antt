@@ -3,7 +3,7 @@ use Rattle.std.proofs.lemmas.List.{take_more}
 use Rattle.hall_desk.specs.Shown.{ShowsPuzzle, ShowsPuzzles}
 use Rattle.hall_desk.specs.declared.reply.ShownPuzzle.{ShownPuzzle}
 use Rattle.hall_policy.specs.declared.record.Entry.{Entry}
-use Rattle.hall_desk.proofs.Knowing.{kept_then, carried}
+use Rattle.hall_store.proofs.Knowing.{kept_then, carried}
 use Rattle.hall_desk.proofs.Showing.{shows_more}
 use Rattle.hall_desk.proofs.read_round.show_puzzles.Goals as goal
 

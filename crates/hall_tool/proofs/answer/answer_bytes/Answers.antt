@@ -3,7 +3,7 @@ use Rattle.std.specs.String.{string_bytes}
 use Rattle.hall_desk.specs.Desk.{kept_by}
 use Rattle.hall_tool.specs.Replay.{Answers, IsStepLine}
 use Rattle.hall_tool.proofs.Refusals.{unavailable_line}
-use Rattle.hall_tool.proofs.Turns.{over_turn}
+use Rattle.hall_store.proofs.Knowing.{over_turn}
 use Rattle.hall_tool.proofs.answer.answer_bytes.Goals as goal
 
 pub returns-in-Ok-answer_request-clause-answers : goal.returns-in-Ok-answer_request-clause-answers

@@ -8,7 +8,7 @@ use Rattle.hall_desk.specs.declared.reply.Reply.{Reply}
 use Rattle.hall_desk.proofs.Stepping.{planned_steps}
 use Rattle.hall_tool.specs.Reply.{BytesOf}
 use Rattle.hall_tool.specs.Replay.{IsStepLine}
-use Rattle.hall_tool.proofs.Turns.{over_turn}
+use Rattle.hall_store.proofs.Knowing.{over_turn}
 use Rattle.hall_tool.proofs.answer.answer_request.Goals as goal
 
 pub returns-clause-ok : goal.returns-clause-ok

@@ -4,7 +4,7 @@ use Rattle.hall_policy.specs.Facts.{TrueUpTo}
 use Rattle.hall_policy.specs.declared.record.AnswerRow.{AnswerRow}
 use Rattle.hall_policy.specs.declared.request.Action.TheVariants.{Answers}
 use Rattle.hall_store.specs.Store.{IsListing}
-use Rattle.hall_desk.proofs.Knowing.{carried}
+use Rattle.hall_store.proofs.Knowing.{carried}
 use Rattle.hall_desk.proofs.Planning.{made_anyhow}
 use Rattle.hall_desk.proofs.answers.ListingHandler.plan.Goals as goal
 

@@ -3,7 +3,7 @@ use Rattle.hall_policy.specs.Facts.{IsRoundFound}
 use Rattle.hall_store.specs.Store.{Kept}
 use Rattle.hall_desk.specs.Found.{HasFaultyEntry}
 use Rattle.hall_desk.specs.declared.entry_fault.EntryFault.TheVariants.{Shared}
-use Rattle.hall_desk.proofs.Knowing.{carried, kept_then}
+use Rattle.hall_store.proofs.Knowing.{carried, kept_then}
 use Rattle.hall_desk.proofs.Telling.{draft_told, shared_told, faults_told}
 use Rattle.hall_desk.proofs.release.ReleasingHandler.decision.Goals as goal
 

@@ -2,7 +2,7 @@ use Rattle.std.proofs.Common.{Some}
 use Rattle.hall_policy.specs.Facts.{IsRoundFound}
 use Rattle.hall_store.specs.Store.{Kept}
 use Rattle.hall_desk.specs.Handler.{IsAnswerOf}
-use Rattle.hall_desk.proofs.Knowing.{carried, kept_then}
+use Rattle.hall_store.proofs.Knowing.{carried, kept_then}
 use Rattle.hall_desk.proofs.Telling.{place_told, token_told, submit_told}
 use Rattle.hall_desk.proofs.submit.HandedHandler.decision.Goals as goal
 

@@ -6,7 +6,7 @@ use Rattle.hall_store.specs.Store.{Kept}
 use Rattle.hall_desk.specs.Found.{IsThere}
 use Rattle.hall_desk.specs.Handler.{handed_action}
 use Rattle.hall_desk.specs.Plans.{IsJudgedAt}
-use Rattle.hall_desk.proofs.Knowing.{carried, kept_then}
+use Rattle.hall_store.proofs.Knowing.{carried, kept_then}
 use Rattle.hall_desk.proofs.Showing.{listed_kept}
 use Rattle.hall_desk.proofs.Submitting.{number_free, submitted}
 use Rattle.hall_desk.proofs.submit.HandedHandler.plan.Goals as goal

@@ -1,9 +1,7 @@
 -- What was found stays true over calls that leave the world.
 use Rattle.std.proofs.Common.{◌⊎◌, inl, inr, subst, sym, ◌∙◌, refl, Result, Ok, Err, IfOk}
 use Rattle.hall_policy.specs.World.{World}
-use Rattle.hall_store.specs.Store.{Content, Kept, Told, Served}
-use Rattle.hall_store.specs.declared.fault.StoreFault.{StoreFault}
-use Rattle.hall_desk.specs.Plans.{FailsIn}
+use Rattle.hall_store.specs.Store.{Content, Kept, Told, Served, Over}
 
 -- a call that changes nothing leaves the world
 pub kept_same : (a : Content) → Kept a a
@@ -54,10 +52,7 @@ pub plainly : {R E : Type 0} (r : Result R E) (M N : R → Type 0) (W : World �
 plainly (Ok x) M N W new h s turn served = turn x (served h).1
 plainly (Err e) M N W new h s turn served = tt
 
--- what fails for one cause alone fails for that or another
-pub fails_wider : {R : Type 0} (r : Result R StoreFault) (cause other : Type 0) (new : Content) → FailsIn cause new r → FailsIn (cause ⊎ other) new r
-fails_wider (Ok x) cause other new fails = tt
-fails_wider (Err e) cause other new fails = λ failed. elim (fails failed) [
-  | inl h ↦ inl (inl h)
-  | inr h ↦ inr h
-]
+-- what holds over a store, where another relation follows from it
+pub over_turn : (R Q : World → World → Type 0) (old new : Content) → ((before after : World) → R before after → Q before after) → Over R old new → Over Q old new
+over_turn R Q old new turn (inl (always, left)) = inl ((λ world. turn world world (always world)), left)
+over_turn R Q old new turn (inr (before, after, holds)) = inr (before, after, turn old.world new.world holds)
