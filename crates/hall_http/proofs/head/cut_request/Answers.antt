@@ -1,0 +1,27 @@
+use Rattle.std.proofs.Common.{rules, arith, ◌≡◌, ◌≤◌, ◌-◌, ◌+◌, ◌∙◌, sym, ap, length, take, drop, length-drop, Some, None}
+use Rattle.hall_http.specs.Head.{body_size, headers_of}
+use Rattle.httparse.specs.Grammar.{print_request, HasNoRequest}
+use Rattle.httparse.specs.Spans.{IsRequestOf, IsRequestWithin}
+use Rattle.hall_http.proofs.Heads.{never_without, whole_at, never_past, never_over, size_at}
+use Rattle.hall_http.proofs.head.cut_request.Goals as goal
+
+pub returns-in_default-body_room : goal.returns-in_default-body_room
+returns-in_default-body_room c =
+    let of : IsRequestOf c.args.bytes.now c.parse_request.new.headers c.in-Ok-Complete.head = rw (c.in-Ok-Complete.is, c.in-Ok-Complete.field-0-is) at c.parse_request.ensures.complete in
+    let (h, found) = of in
+    never_without c.args.bytes.now h _ found.reads (sym (size_at _ _ _ h found) ∙ sym c.body_room.ensures ∙ c.in_default-body_room.is)
+
+pub returns-else-bytes-head : goal.returns-else-bytes-head
+returns-else-bytes-head c =
+    let of : IsRequestOf c.args.bytes.now c.parse_request.new.headers c.in-Ok-Complete.head = rw (c.in-Ok-Complete.is, c.in-Ok-Complete.field-0-is) at c.parse_request.ensures.complete in
+    let (h, found) = of in
+    let size : body_size (length (print_request h)) (headers_of h) ≡ Some c.in-Some.room = sym (size_at _ _ _ h found) ∙ sym c.body_room.ensures ∙ c.in-Some.is in
+    let all : IsRequestWithin c.args.bytes.now c.parse_request.new.headers c.in-Ok-Complete.head = rw (c.in-Ok-Complete.is, c.in-Ok-Complete.field-0-is) at c.parse_request.ensures.within in
+    let within = all.section.len_fits in
+    let fits : c.in-Some.room ≤ length (drop c.in-Ok-Complete.head.len c.args.bytes.now) = simp length-drop c.if-bytes-head.false in
+    (omega (arith, within, c.if-bytes-head.false), rw found.len (whole_at c.args.bytes.now h _ c.in-Some.room found.reads size fits))
+
+pub returns-in_default : goal.returns-in_default
+returns-in_default c =
+    let none : HasNoRequest c.args.bytes.now = rw (c.in-Ok-Partial.is, c.in-Ok-Partial.field-0-is) at c.parse_request.ensures.partial in
+    never_past c.args.bytes.now none c.if-bytes-lt-HEAD_LIMIT.false

@@ -1,0 +1,62 @@
+-- What the JSON body of a request spells, or the first thing wrong with it.
+use Rattle.std.specs.Prelude.{ℕ, nat_le, ℤ, pos, negsuc, Bool, true, ◌&&◌, List, [], ◌∷◌, option_and_then, Result, Ok}
+use Rattle.std.specs.Prelude.{Err, codes}
+use Rattle.std.specs.List.{list_any}
+use Rattle.std.specs.Str.{bytes_eq, is_utf8}
+use Rattle.serde_json.specs.Data.{Members, no_members, member}
+use Rattle.serde_json.specs.Read.{read}
+use Rattle.serde_json.specs.Find.{get_member, as_object, as_str, as_number, as_integer}
+use Rattle.hall_policy.specs.Text.{is_printable}
+use Rattle.hall_http.specs.declared.form.Field.{Field}
+use Rattle.hall_http.specs.declared.form.Field.TheVariants as field
+use Rattle.hall_http.specs.declared.form.FormFault.{FormFault}
+use Rattle.hall_http.specs.declared.form.FormFault.TheVariants as fault
+use Rattle.hall_http.specs.Given.{◌>>=◌, or_fault, unless}
+use Rattle.hall_http.specs.Words.{of_kind}
+
+-- each member has one of these names
+abbrev pub only_members : List (List ℕ) → Members → Bool
+only_members names no_members = true
+only_members names (member name d ms) = list_any (λ n. bytes_eq n name) names && only_members names ms
+
+-- the members of the one object that the body is, all of these names
+abbrev pub object_in : List (List ℕ) → List ℕ → Result Members FormFault
+object_in names body =
+    unless fault.Syntax (is_utf8 body)
+    >>= (λ _. or_fault fault.Syntax (option_and_then as_object (read body)))
+    >>= (λ ms. unless fault.Syntax (only_members names ms) >>= (λ _. Ok ms))
+
+-- the text that a member is
+abbrev pub text_at : Field → List ℕ → Members → Result (List ℕ) FormFault
+text_at f name ms = or_fault (fault.Missing f) (option_and_then as_str (get_member name ms))
+
+-- the integer that a member is: a number of 64 bits without fraction or exponent
+abbrev pub integer_at : Field → List ℕ → Members → Result ℤ FormFault
+integer_at f name ms =
+    or_fault (fault.Missing f) (option_and_then as_integer (option_and_then as_number (get_member name ms)))
+
+-- the integer where it is in the range, else the fault
+abbrev pub in_range : FormFault → ℕ → ℕ → ℤ → Result ℕ FormFault
+in_range f least most (pos n) = unless f (nat_le least n && nat_le n most) >>= (λ _. Ok n)
+in_range f least most (negsuc n) = Err f
+
+-- the answer text of a body: 0 to 4,000 printable bytes
+abbrev pub answer_in : List ℕ → Result (List ℕ) FormFault
+answer_in body =
+    object_in (codes "answer" ∷ []) body
+    >>= text_at field.Answer (codes "answer")
+    >>= of_kind (fault.Range field.Answer) 0 4000 is_printable
+
+-- the puzzle text of a body: 1 to 8,000 printable bytes
+abbrev pub text_in : List ℕ → Result (List ℕ) FormFault
+text_in body =
+    object_in (codes "text" ∷ []) body
+    >>= text_at field.Text (codes "text")
+    >>= of_kind (fault.Range field.Text) 1 8000 is_printable
+
+-- the budget of a body: 0 to 1,000,000
+abbrev pub budget_in : List ℕ → Result ℕ FormFault
+budget_in body =
+    object_in (codes "budget" ∷ []) body
+    >>= integer_at field.Budget (codes "budget")
+    >>= in_range (fault.Range field.Budget) 0 1000000

@@ -1,0 +1,96 @@
+-- One request on the wire: a head as httparse's grammar has it, and a body as long as the head says.
+use Rattle.std.specs.Prelude.{◌≡◌, ◌≤◌, ◌<◌, ◌+◌, ◌==◌, ℕ, List, [], ◌∷◌, ◌++◌, length, take, map, filter, Bool, ◌&&◌, if◌then◌else◌, nat_lt, nat_le, Option, Some, None, codes}
+use Rattle.std.specs.List.{list_all}
+use Rattle.std.specs.Char.{is_ascii_digit}
+use Rattle.std.specs.Str.{str_eq_ignore_ascii_case}
+use Rattle.std.specs.Str.Parse.{digits_value}
+use Rattle.httparse.specs.Grammar.{Field, RequestHead, print_request, ReadsRequest}
+use Rattle.httparse.specs.Spans.{name_and_value}
+use Rattle.hall_http.specs.declared.head.Found.{Found}
+use Rattle.hall_http.specs.declared.head.Found.TheVariants as found
+use Rattle.hall_http.specs.declared.head.Cut.{Cut}
+use Rattle.hall_http.specs.declared.head.Cut.TheVariants as cut
+
+-- the most bytes of a head
+abbrev pub head_limit : ℕ
+head_limit = 8192
+
+-- the most headers
+abbrev pub field_limit : ℕ
+field_limit = 32
+
+-- the most bytes of a body
+abbrev pub body_limit : ℕ
+body_limit = 65536
+
+-- a header: its name, and its value without the white space around it
+abbrev pub Header : Type 0
+Header = List ℕ × List ℕ
+
+-- the headers of a head
+abbrev pub headers_of : RequestHead → List Header
+headers_of head = map name_and_value head.fields
+
+-- the headers of this name, in any case of its letters
+abbrev pub named : List ℕ → List Header → List Header
+named name headers = filter (λ h. str_eq_ignore_ascii_case h.0 name) headers
+
+-- one to five digits
+abbrev pub is_length_text : List ℕ → Bool
+is_length_text text = nat_lt 0 (length text) && nat_le (length text) 5 && list_all is_ascii_digit text
+
+-- the number that one to five digits write
+abbrev pub length_of_text : List ℕ → Option ℕ
+length_of_text text = if is_length_text text then Some (digits_value 10 text) else None
+
+-- the length of the body that these Content-Length headers give: none is 0
+abbrev pub length_in : List Header → Option ℕ
+length_in [] = Some 0
+length_in (h ∷ []) = length_of_text h.1
+length_in (h ∷ i ∷ more) = None
+
+-- a head of this size with these headers is one that the hall takes
+abbrev pub is_accepted : ℕ → List Header → Bool
+is_accepted size headers =
+    nat_le size head_limit && nat_le (length headers) field_limit
+    && (length (named (codes "transfer-encoding") headers) == 0)
+    && nat_le (length (named (codes "hall-key") headers)) 1
+
+-- the number, where it is within the limit
+abbrev pub within : ℕ → Option ℕ → Option ℕ
+within limit None = None
+within limit (Some n) = if nat_le n limit then Some n else None
+
+-- how many bytes the body has, where the hall takes the head
+abbrev pub body_size : ℕ → List Header → Option ℕ
+body_size size headers =
+    if is_accepted size headers then within body_limit (length_in (named (codes "content-length") headers)) else None
+
+-- the bytes are this head and this body, and nothing more
+pub record IsRequest (bytes : List ℕ) (head : RequestHead) (body : List ℕ) : Type 0 where
+  pub reads : ReadsRequest bytes head body
+  pub size : body_size (length (print_request head)) (headers_of head) ≡ Some (length body)
+
+-- the bytes are one whole request
+abbrev pub IsWhole : List ℕ → Type 0
+IsWhole bytes = (head : RequestHead) × (body : List ℕ) × IsRequest bytes head body
+
+-- no front of the bytes is a whole request
+abbrev pub HasNone : List ℕ → Type 0
+HasNone bytes = (front rest : List ℕ) → bytes ≡ front ++ rest → ¬ (IsWhole front)
+
+-- however the bytes go on, no front of them is a whole request
+abbrev pub NeverHas : List ℕ → Type 0
+NeverHas bytes = (more : List ℕ) → HasNone (bytes ++ more)
+
+-- the headers of one name are none, one with this value, or many
+abbrev pub Finds : Found → List Header → Type 0
+Finds found.None headers = headers ≡ []
+Finds (found.One value) headers = (name : List ℕ) × (headers ≡ (name, value.now) ∷ [])
+Finds found.Many headers = 1 < length headers
+
+-- the first request ends there; it may become whole with more bytes; or never will
+abbrev pub Cuts : List ℕ → Cut → Type 0
+Cuts bytes (cut.Whole n) = (n ≤ length bytes) × IsWhole (take n bytes)
+Cuts bytes cut.More = HasNone bytes × (length bytes < head_limit + body_limit)
+Cuts bytes cut.Never = NeverHas bytes

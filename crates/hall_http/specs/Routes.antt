@@ -1,0 +1,150 @@
+-- The patterns of the hall, and the route of a path.
+use Rattle.std.specs.Prelude.{◌≡◌, ℕ, List, [], ◌∷◌, Bool, true, false, ◌&&◌, not, Option, Some, None, is_some, Result, Ok, Err, codes, option_map}
+use Rattle.matchit.specs.Rows.{RowsOf}
+use Rattle.matchit.specs.Order.{placed}
+use Rattle.matchit.specs.Router.{RouteOf, route_from, nearest}
+use Rattle.matchit.specs.Route.{Scan, parse_route}
+use Rattle.matchit.specs.Seek.{first}
+use Rattle.matchit.specs.Params.{walk}
+use Rattle.matchit.specs.declared.error.InsertError.{InsertError}
+use Rattle.std.specs.Prelude.{nat_le}
+use Rattle.std.specs.List.{list_all}
+use Rattle.std.specs.Char.{is_ascii}
+use Rattle.std.specs.Str.{bytes_eq}
+use Rattle.hall_policy.specs.Text.{is_word_byte}
+use Rattle.hall_http.specs.Given.{◌>>=◌, or_fault, unless}
+use Rattle.hall_http.specs.Words.{of_kind, number_in}
+use Rattle.hall_http.specs.declared.form.FormFault.{FormFault}
+use Rattle.hall_http.specs.declared.form.FormFault.TheVariants as fault
+use Rattle.hall_http.specs.declared.routes.Route.{Route}
+use Rattle.hall_http.specs.declared.routes.Route.TheVariants as route
+use Rattle.hall_http.specs.declared.routes.Place.{Place}
+use Rattle.hall_http.specs.declared.routes.Place.TheVariants as place
+
+abbrev pub Table : Type 0
+Table = RowsOf (RouteOf Place)
+
+-- the rows with one more pattern, where that is one
+abbrev pub added : Place → Result Scan InsertError → Table → Table
+added value (Ok s) rows = placed (s.pattern, route_from s value) rows
+added value (Err e) rows = rows
+
+-- the rows of these patterns, put in from the first on
+unfoldable pub rows_from : Table → List (List ℕ × Place) → Table
+rows_from rows [] = rows
+rows_from rows ((text, value) ∷ more) = rows_from (added value (parse_route text) rows) more
+
+-- each pattern is one, and none of the rows before it is in conflict with it
+abbrev pub is_free : Place → Result Scan InsertError → Table → Bool
+is_free value (Ok s) rows = not (is_some (nearest s.pattern rows))
+is_free value (Err e) rows = false
+
+unfoldable pub are_free : Table → List (List ℕ × Place) → Bool
+are_free rows [] = true
+are_free rows ((text, value) ∷ more) = is_free value (parse_route text) rows && are_free (added value (parse_route text) rows) more
+
+abbrev pub patterns : List (List ℕ × Place)
+patterns =
+    (codes "/people", place.People)
+    ∷ (codes "/puzzles", place.Puzzles)
+    ∷ (codes "/puzzles/{author}/{label}", place.Puzzle)
+    ∷ (codes "/puzzles/{author}/{label}/certificate", place.Certificate)
+    ∷ (codes "/rounds", place.Rounds)
+    ∷ (codes "/rounds/{round}", place.Round)
+    ∷ (codes "/rounds/{round}/release", place.Release)
+    ∷ (codes "/rounds/{round}/answers", place.Answers)
+    ∷ (codes "/rounds/{round}/answers/{number}/{token}", place.Answer)
+    ∷ (codes "/rounds/{round}/solutions", place.Solutions)
+    ∷ (codes "/rounds/{round}/protests", place.Protests)
+    ∷ (codes "/rounds/{round}/protests/{token}", place.Protest)
+    ∷ (codes "/rounds/{round}/rulings/{entrant}/{token}", place.Ruling)
+    ∷ (codes "/rounds/{round}/publish", place.Publish)
+    ∷ (codes "/rounds/{round}/table", place.Table) ∷ []
+
+abbrev pub routes : Table
+routes = rows_from [] patterns
+
+-- a path parameter that is a name, a label or a round's id
+abbrev pub word_in : List ℕ → Result (List ℕ) FormFault
+word_in text = of_kind fault.NoRoute 1 24 is_word_byte text
+
+-- a path parameter that is a token
+abbrev pub token_in : List ℕ → Result (List ℕ) FormFault
+token_in text = of_kind fault.NoRoute 1 32 is_word_byte text
+
+-- a puzzle's number: 1 to 99 in decimal
+abbrev pub puzzle_number : List ℕ → Result ℕ FormFault
+puzzle_number text =
+    or_fault fault.NoRoute (number_in text) >>= (λ n. unless fault.NoRoute (nat_le 1 n && nat_le n 99) >>= (λ _. Ok n))
+
+-- nothing, where the method is this one
+abbrev pub is_method : List ℕ → List ℕ → Result (Unit {0}) FormFault
+is_method name method = unless fault.NoRoute (bytes_eq method name)
+
+-- what the parameters of a route took of the path, each with its name
+abbrev pub parameters : List ℕ → RouteOf Place → List (List ℕ × List ℕ)
+parameters path route = walk route.pattern route.text path route.names 0 0
+
+-- the first three parameters' texts; the empty text for one that isn't there
+pub record Parts : Type 0 where
+  pub first : List ℕ
+  pub second : List ℕ
+  pub third : List ℕ
+
+-- the text of the parameter that stands first
+abbrev pub part : List (List ℕ × List ℕ) → List ℕ
+part [] = []
+part (p ∷ rest) = p.1
+
+-- the parameters after the first
+abbrev pub parts_after : List (List ℕ × List ℕ) → List (List ℕ × List ℕ)
+parts_after [] = []
+parts_after (p ∷ rest) = rest
+
+-- the texts of the first three parameters
+abbrev pub parts_of : List (List ℕ × List ℕ) → Parts
+parts_of ps = record { first = part ps; second = part (parts_after ps); third = part (parts_after (parts_after ps)) }
+
+-- the place of a path, with its parts
+abbrev pub found : List ℕ → Option (Place × Parts)
+found path = option_map (λ route. (route.value, parts_of (parameters path route))) (first routes path)
+
+-- what the place and its parts name, by the method
+abbrev pub route_at : List ℕ → Place → Parts → Result Route FormFault
+route_at method place.Puzzle p =
+    is_method (codes "PUT") method
+    >>= (λ _. word_in p.first
+    >>= (λ author. word_in p.second
+    >>= (λ label. Ok (route.Puzzle (record { author = author; label = label })))))
+route_at method place.Certificate p =
+    is_method (codes "POST") method
+    >>= (λ _. word_in p.first
+    >>= (λ author. word_in p.second
+    >>= (λ label. Ok (route.Certificate (record { author = author; label = label })))))
+route_at method place.Round p = is_method (codes "GET") method >>= (λ _. word_in p.first >>= (λ id. Ok (route.Round id)))
+route_at method place.Release p =
+    is_method (codes "POST") method >>= (λ _. word_in p.first >>= (λ id. Ok (route.Release id)))
+route_at method place.Answers p =
+    is_method (codes "GET") method >>= (λ _. word_in p.first >>= (λ id. Ok (route.Answers id)))
+route_at method place.Answer p =
+    is_method (codes "PUT") method
+    >>= (λ _. word_in p.first
+    >>= (λ id. puzzle_number p.second
+    >>= (λ number. token_in p.third
+    >>= (λ token. Ok (route.Answer id number token)))))
+route_at method place.People p = Err fault.NoRoute
+route_at method place.Puzzles p = Err fault.NoRoute
+route_at method place.Rounds p = Err fault.NoRoute
+route_at method place.Solutions p = Err fault.NoRoute
+route_at method place.Protests p = Err fault.NoRoute
+route_at method place.Protest p = Err fault.NoRoute
+route_at method place.Ruling p = Err fault.NoRoute
+route_at method place.Publish p = Err fault.NoRoute
+route_at method place.Table p = Err fault.NoRoute
+
+-- what a method and a path name; a path is ASCII
+abbrev pub route_in : List ℕ → List ℕ → Result Route FormFault
+route_in method path =
+    unless fault.NoRoute (list_all is_ascii path)
+    >>= (λ _. or_fault fault.NoRoute (found path)
+    >>= (λ at. route_at method at.0 at.1))

@@ -1,0 +1,139 @@
+//! The JSON bodies of requests.
+ghost use Rattle.std.specs.Prelude.{◌≡◌, map, string_bytes};
+ghost use Rattle.std.specs.List.{list_any, list_all};
+ghost use Rattle.std.specs.Str.{bytes_eq};
+ghost use Rattle.serde_json.specs.Errors.{IsMemory};
+ghost use Rattle.serde_json.specs.View.{members_view};
+ghost use Rattle.hall_http.specs.Given.{Gives};
+ghost use Rattle.hall_http.specs.Body.{object_in, answer_in, text_in, budget_in, text_at, integer_at, in_range};
+
+use crate::form::{Field, FormFault, RequestFault};
+use crate::words::checked;
+use hall_policy::{AnswerText, Budget, PuzzleText, Within};
+use serde_json::{Error, Map, Number, Value};
+use std::alloc::Global;
+
+const SYNTAX: RequestFault = RequestFault::Form(FormFault::Syntax);
+
+/// Whether the name is one of these.
+fn is_listed(names: &[&str], name: &str) -> bool
+    ensures { result ≡ list_any (λ n. bytes_eq n.now name.now) names.now }
+{
+    names.iter().any(|listed| *listed == name)
+}
+
+/// Whether each member has one of these names.
+fn are_listed(members: &Map<String, Value>, names: &[&str]) -> bool
+    ensures { result ≡ list_all
+        (λ k. list_any (λ n. bytes_eq n.now (string_bytes k)) names.now) (map (λ e. e.0) members.now.entries) }
+{
+    members.keys().all(|name| is_listed(names, name.as_str()))
+}
+
+/// Why a text was not read.
+fn read_fault(error: &Error) -> RequestFault
+    ensures memory { IsMemory error.now → result ≡ RequestFault.Memory }
+    ensures form { ¬ (IsMemory error.now) → result ≡ RequestFault.Form FormFault.Syntax }
+{
+    if error.is_memory() {
+        RequestFault::Memory
+    } else {
+        SYNTAX
+    }
+}
+
+/// The members of the object that a body is, which all have one of these names.
+#[tactic(auto, using(crate::proofs::Listed::only_listed))]
+fn read_object(
+    alloc: Global,
+    body: &[u8],
+    names: &[&str],
+) -> Result<Map<String, Value>, RequestFault>
+    ensures { Gives (λ m. members_view m.entries) result (object_in (map (λ n. n.now) names.now) body.now) }
+{
+    let Ok(text) = str::from_utf8(body) else {
+        return Err(SYNTAX);
+    };
+    let value = match Value::from_str(alloc, text) {
+        Ok(value) => value,
+        Err(e) => return Err(read_fault(&e)),
+    };
+    let Value::Object(members) = value else {
+        return Err(SYNTAX);
+    };
+    if !are_listed(&members, names) {
+        return Err(SYNTAX);
+    }
+    Ok(members)
+}
+
+/// The text that a member is.
+fn text_at<'a>(
+    members: &'a Map<String, Value>,
+    name: &str,
+    field: Field,
+) -> Result<&'a str, RequestFault>
+    ensures { Gives (λ t. t.now) result (text_at field name.now (members_view members.now.entries)) }
+{
+    let Some(value) = members.get(name) else {
+        return Err(RequestFault::Form(FormFault::Missing(field)));
+    };
+    match value.as_str() {
+        Some(text) => Ok(text),
+        None => Err(RequestFault::Form(FormFault::Missing(field))),
+    }
+}
+
+/// The integer that a member is.
+fn integer_at(members: &Map<String, Value>, name: &str, field: Field) -> Result<i128, RequestFault>
+    ensures { Gives (λ n. n) result (integer_at field name.now (members_view members.now.entries)) }
+{
+    let Some(value) = members.get(name) else {
+        return Err(RequestFault::Form(FormFault::Missing(field)));
+    };
+    match value.as_number().and_then(Number::as_i128) {
+        Some(integer) => Ok(integer),
+        None => Err(RequestFault::Form(FormFault::Missing(field))),
+    }
+}
+
+/// The number in its range, or the fault where it lies outside.
+fn in_range<const LEAST: u64, const MOST: u64>(
+    integer: i128,
+    fault: FormFault,
+) -> Result<Within<LEAST, MOST>, RequestFault>
+    ensures { Gives (λ n. n) result (in_range fault LEAST MOST integer) }
+{
+    let outside = RequestFault::Form(fault);
+    let Ok(value) = u64::try_from(integer) else {
+        return Err(outside);
+    };
+    Within::new(value).ok_or(outside)
+}
+
+/// The answer that a body spells.
+pub(crate) fn read_answer(alloc: Global, body: &[u8]) -> Result<AnswerText, RequestFault>
+    ensures { Gives (λ t. t) result (answer_in body.now) }
+{
+    let members = read_object(alloc, body, &["answer"])?;
+    let text = text_at(&members, "answer", Field::Answer)?;
+    checked(alloc, text.as_bytes(), FormFault::Range(Field::Answer))
+}
+
+/// The puzzle text that a body spells.
+pub(crate) fn read_text(alloc: Global, body: &[u8]) -> Result<PuzzleText, RequestFault>
+    ensures { Gives (λ t. t) result (text_in body.now) }
+{
+    let members = read_object(alloc, body, &["text"])?;
+    let text = text_at(&members, "text", Field::Text)?;
+    checked(alloc, text.as_bytes(), FormFault::Range(Field::Text))
+}
+
+/// The budget that a body spells.
+pub(crate) fn read_budget(alloc: Global, body: &[u8]) -> Result<Budget, RequestFault>
+    ensures { Gives (λ n. n) result (budget_in body.now) }
+{
+    let members = read_object(alloc, body, &["budget"])?;
+    let budget = integer_at(&members, "budget", Field::Budget)?;
+    in_range(budget, FormFault::Range(Field::Budget))
+}

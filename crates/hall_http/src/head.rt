@@ -1,0 +1,131 @@
+//! One request on the wire: its head, and how long its body is.
+ghost use Rattle.std.specs.Prelude.{◌≡◌, ◌≤◌, ℕ, List, length, map, All, ◌++◌, ◌∷◌, []};
+ghost use Rattle.std.specs.Str.{str_eq_ignore_ascii_case};
+ghost use Rattle.httparse.specs.Spans.{IsHeaderWithin, header_bytes, span_bytes};
+ghost use Rattle.hall_http.specs.Head.{named, Header, Finds, Cuts, length_of_text, body_size};
+
+use httparse::Status;
+use httparse::spans::{EMPTY_HEADER_SPAN, HeaderSpan, parse_request};
+
+/// The most bytes of a head.
+const HEAD_LIMIT: usize = 8192;
+
+/// The most bytes of a body.
+const BODY_LIMIT: usize = 65_536;
+
+/// Where the first request of some bytes ends.
+#[derive(Clone, Copy)]
+pub enum Cut {
+    /// After so many bytes.
+    Whole(usize),
+    /// More bytes can make it whole.
+    More,
+    /// No bytes can.
+    Never,
+}
+
+/// The headers of one name.
+#[derive(Clone, Copy)]
+enum Found<'b> {
+    None,
+    One(&'b [u8]),
+    Many,
+}
+
+impl<'b> Found<'b> {
+    /// The same with one more header.
+    fn and(self, value: &'b [u8]) -> Found<'b>
+        ensures { (headers : List Header) (name : List ℕ) → Finds self.entry headers →
+            Finds result (headers ++ (name, value.entry.now) ∷ []) }
+    {
+        match self {
+            Found::None => Found::One(value),
+            _ => Found::Many,
+        }
+    }
+}
+
+/// Whether the header has this name, in any case of its letters.
+fn has_name(bytes: &[u8], header: &HeaderSpan, name: &[u8]) -> bool
+    requires { IsHeaderWithin (length bytes.now) header.now }
+    ensures { result ≡ str_eq_ignore_ascii_case (span_bytes bytes.now header.now.name) name.now }
+{
+    header.name.of(bytes).eq_ignore_ascii_case(name)
+}
+
+/// The value of the one header of this name.
+fn find_value<'b>(bytes: &'b [u8], headers: &[HeaderSpan], name: &[u8]) -> Found<'b>
+    requires { All (IsHeaderWithin (length bytes.now)) headers.now }
+    ensures { Finds result (named name.now (map (header_bytes bytes.now) headers.now)) }
+{
+    let mut found = Found::None;
+    for header in headers {
+        if has_name(bytes, header, name) {
+            found = found.and(header.value.of(bytes));
+        }
+    }
+    found
+}
+
+/// The number that one to five digits write.
+fn length_text(text: &[u8]) -> Option<usize>
+    ensures { result ≡ length_of_text text.now }
+{
+    if text.is_empty() || text.len() > 5 {
+        return None;
+    }
+    let mut value = 0usize;
+    for b in text {
+        if !b.is_ascii_digit() {
+            return None;
+        }
+        value = value * 10 + (*b - b'0') as usize;
+    }
+    Some(value)
+}
+
+/// How many bytes the body has, where the hall takes a head of this size.
+fn body_room(bytes: &[u8], headers: &[HeaderSpan], size: usize) -> Option<usize>
+    requires within { All (IsHeaderWithin (length bytes.now)) headers.now }
+    requires few { length headers.now ≤ 32 }
+    ensures { result ≡ body_size size (map (header_bytes bytes.now) headers.now) }
+{
+    if size > HEAD_LIMIT {
+        return None;
+    }
+    let Found::None = find_value(bytes, headers, b"transfer-encoding") else {
+        return None;
+    };
+    if let Found::Many = find_value(bytes, headers, b"hall-key") {
+        return None;
+    }
+    let length = match find_value(bytes, headers, b"content-length") {
+        Found::None => 0,
+        Found::One(text) => length_text(text)?,
+        Found::Many => return None,
+    };
+    if length > BODY_LIMIT {
+        return None;
+    }
+    Some(length)
+}
+
+/// Finds the end of the first request of the bytes: a head as `httparse` reads it, of at most 8,192 bytes and 32 headers, and a body as long as the head says.
+pub fn cut_request(bytes: &[u8]) -> Cut
+    ensures { Cuts bytes.now result }
+{
+    let mut headers = [EMPTY_HEADER_SPAN; 32];
+    match parse_request(bytes, &mut headers) {
+        Ok(Status::Complete(head)) => {
+            let Some(room) = body_room(bytes, &headers[..head.headers], head.len) else {
+                return Cut::Never;
+            };
+            if bytes.len() - head.len < room {
+                return Cut::More;
+            }
+            Cut::Whole(head.len + room)
+        }
+        Ok(Status::Partial) if bytes.len() < HEAD_LIMIT => Cut::More,
+        _ => Cut::Never,
+    }
+}

@@ -1,0 +1,59 @@
+//! Texts of bytes, checked, and numbers in decimal.
+ghost use Rattle.std.specs.Prelude.{◌≡◌, ◌<◌, ℕ, IsTrue, Ok};
+ghost use Rattle.std.specs.List.{list_all};
+ghost use Rattle.std.specs.Char.{is_ascii_digit};
+ghost use Rattle.hall_http.specs.Given.{Gives};
+ghost use Rattle.hall_http.specs.Words.{of_kind, is_decimal, number_in};
+
+use crate::form::{FormFault, RequestFault};
+use hall_policy::{Checked, TextKind};
+use std::alloc::Global;
+
+/// Whether each byte is a digit.
+fn are_digits(text: &[u8]) -> bool
+    ensures { result ≡ list_all is_ascii_digit text.now }
+{
+    text.iter().all(|byte| byte.is_ascii_digit())
+}
+
+/// Whether these are digits, with no 0 before another one.
+fn is_decimal(text: &[u8]) -> bool
+    ensures { result ≡ is_decimal text.now }
+{
+    !text.is_empty() && are_digits(text) && (text.len() == 1 || text[0] != b'0')
+}
+
+/// The number that the text writes in decimal, without leading zeros.
+pub(crate) fn read_decimal(text: &[u8]) -> Option<u64>
+    ensures { result ≡ number_in text.now }
+{
+    if !is_decimal(text) {
+        return None;
+    }
+    match str::from_utf8(text) {
+        Ok(digits) => match digits.parse() {
+            Ok(number) => Some(number),
+            Err(_) => None,
+        },
+        Err(_) => None,
+    }
+}
+
+/// The text, or the fault where it isn't of the kind.
+pub(crate) fn checked<K: TextKind>(
+    alloc: Global,
+    text: &[u8],
+    fault: FormFault,
+) -> Result<Checked<K>, RequestFault>
+    requires { (byte : ℕ) → IsTrue (K.allows byte) → byte < 128 }
+    ensures { Gives (λ t. t) result (of_kind fault K.LEAST K.MOST K.allows text.now) }
+{
+    let Ok(text) = str::from_utf8(text) else {
+        return Err(RequestFault::Form(fault));
+    };
+    let owned = String::from_str(alloc, text)?;
+    match Checked::new(owned) {
+        Some(checked) => Ok(checked),
+        None => Err(RequestFault::Form(fault)),
+    }
+}
