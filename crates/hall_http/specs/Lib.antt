@@ -1,7 +1,6 @@
 pub mod Given
 pub mod Words
 pub mod Body
-pub mod Reply
 pub mod Head
 pub mod Routes
-pub mod Found
+pub mod Parts

@@ -12,6 +12,7 @@ use Rattle.std.specs.List.{list_all}
 use Rattle.std.specs.Char.{is_ascii}
 use Rattle.std.specs.Str.{bytes_eq}
 use Rattle.hall_policy.specs.Text.{is_word_byte}
+use Rattle.hall_policy.specs.declared.record.PuzzleKey.{PuzzleKey}
 use Rattle.hall_http.specs.Given.{◌>>=◌, or_fault, unless}
 use Rattle.hall_http.specs.Words.{of_kind, number_in}
 use Rattle.hall_http.specs.declared.form.FormFault.{FormFault}
@@ -109,18 +110,16 @@ parts_of ps = record { first = part ps; second = part (parts_after ps); third = 
 abbrev pub found : List ℕ → Option (Place × Parts)
 found path = option_map (λ route. (route.value, parts_of (parameters path route))) (first routes path)
 
+-- the key of a puzzle: its author and label
+abbrev pub puzzle_key_in : Parts → Result PuzzleKey FormFault
+puzzle_key_in p = word_in p.first >>= (λ author. word_in p.second >>= (λ label. Ok (record { author = author; label = label })))
+
 -- what the place and its parts name, by the method
 abbrev pub route_at : List ℕ → Place → Parts → Result Route FormFault
 route_at method place.Puzzle p =
-    is_method (codes "PUT") method
-    >>= (λ _. word_in p.first
-    >>= (λ author. word_in p.second
-    >>= (λ label. Ok (route.Puzzle (record { author = author; label = label })))))
+    is_method (codes "PUT") method >>= (λ _. puzzle_key_in p >>= (λ key. Ok (route.Puzzle key)))
 route_at method place.Certificate p =
-    is_method (codes "POST") method
-    >>= (λ _. word_in p.first
-    >>= (λ author. word_in p.second
-    >>= (λ label. Ok (route.Certificate (record { author = author; label = label })))))
+    is_method (codes "POST") method >>= (λ _. puzzle_key_in p >>= (λ key. Ok (route.Certificate key)))
 route_at method place.Round p = is_method (codes "GET") method >>= (λ _. word_in p.first >>= (λ id. Ok (route.Round id)))
 route_at method place.Release p =
     is_method (codes "POST") method >>= (λ _. word_in p.first >>= (λ id. Ok (route.Release id)))

@@ -4,9 +4,7 @@
 mod body;
 mod form;
 mod head;
-mod reply;
 mod routes;
-mod status;
 mod words;
 
 pub use head::{Cut, cut_request};

@@ -1,14 +1,22 @@
 //! The routes of the hall: which patterns a path may have, and what each takes of it.
-ghost use Rattle.std.specs.Prelude.{◌≡◌, IfOk, IfErr, OnOk, true, map, option_map};
+ghost use Rattle.std.specs.Prelude.{◌≡◌, ◌<◌, ℕ, IfOk, IfErr, OnOk, IsTrue, true, map, option_map};
 ghost use Rattle.std.specs.List.{list_all};
 ghost use Rattle.std.specs.Char.{is_ascii};
-ghost use Rattle.hall_http.specs.Routes.{routes, found, rows_from, are_free, part, parts_after};
-ghost use Rattle.hall_http.specs.Found.{found_seen, AllAscii};
+ghost use Rattle.matchit.specs.Params.{walk};
+ghost use Rattle.hall_http.specs.Given.{Gives};
+ghost use Rattle.hall_http.specs.Words.{of_kind};
+ghost use Rattle.hall_http.specs.Routes.{routes, found, rows_from, are_free, parts_of, route_at, route_in};
+ghost use Rattle.hall_http.specs.Routes.{puzzle_key_in, puzzle_number, is_method};
+ghost use Rattle.hall_http.specs.Parts.{parts_seen, AllAscii};
 
-use hall_policy::{PuzzleKey, PuzzleNumber, RoundId, Token};
-use matchit::{InsertError, ParamsIter, Router};
+use crate::form::{FormFault, RequestFault};
+use crate::words::{checked, read_decimal};
+use hall_policy::{Checked, PuzzleKey, PuzzleNumber, RoundId, TextKind, Token};
+use matchit::{InsertError, Params, Router};
 use std::alloc::{AllocError, Global};
 use std::marker::Model;
+
+const NO_ROUTE: RequestFault = RequestFault::Form(FormFault::NoRoute);
 
 /// What a method and a path name, where that is served.
 #[derive(Drop)]
@@ -116,46 +124,148 @@ fn new_router(alloc: Global) -> Result<Router<Place>, InsertError>
     Ok(router)
 }
 
-/// The text of the next parameter; the empty text where there is none.
-fn next_part<'p>(parts: &mut ParamsIter<'_, '_, 'p>) -> &'p str
-    requires { AllAscii parts.old }
-    ensures value { result.now ≡ part parts.old }
-    ensures rest { parts.new ≡ parts_after parts.old }
-    ensures ascii { AllAscii parts.new }
-{
-    match parts.next() {
-        Some((_, text)) => text,
-        None => "",
-    }
-}
-
-/// The place of a path, and the texts of its first three parameters.
+/// The texts of a path's first three parameters; the empty text for one that isn't there.
 #[derive(Clone, Copy)]
-struct Found<'p> {
-    place: Place,
+struct Parts<'p> {
     first: &'p str,
     second: &'p str,
     third: &'p str,
 }
 
-/// What the path names.
-fn find<'p>(routes: &Routes, path: &'p str) -> Option<Found<'p>>
+/// What the parameters took of the path. What comes after a missing one isn't told, so each is asked only behind another.
+fn parts_of<'p>(params: &Params<'_, 'p>) -> Parts<'p>
+    requires { AllAscii (walk params.now.pattern.now params.now.text.now params.now.path.now params.now.names.now 0 0) }
+    ensures { parts_seen result ≡ parts_of
+        (walk params.now.pattern.now params.now.text.now params.now.path.now params.now.names.now 0 0) }
+{
+    let mut left = params.iter();
+    let mut parts = Parts {
+        first: "",
+        second: "",
+        third: "",
+    };
+    if let Some((_, first)) = left.next() {
+        parts.first = first;
+        if let Some((_, second)) = left.next() {
+            parts.second = second;
+            if let Some((_, third)) = left.next() {
+                parts.third = third;
+            }
+        }
+    }
+    parts
+}
+
+/// The place of a path, and what its parameters took.
+fn find<'p>(routes: &Routes, path: &'p str) -> Option<(Place, Parts<'p>)>
     requires { list_all is_ascii path.now ≡ true }
-    ensures { option_map found_seen result ≡ found path.now }
+    ensures { option_map (λ at. (at.0, parts_seen at.1)) result ≡ found path.now }
 {
     match routes.router.at(path) {
-        Ok(found) => {
-            let mut parts = found.params.iter();
-            let first = next_part(&mut parts);
-            let second = next_part(&mut parts);
-            let third = next_part(&mut parts);
-            Some(Found {
-                place: *found.value,
-                first,
-                second,
-                third,
-            })
-        }
+        Ok(found) => Some((*found.value, parts_of(&found.params))),
         Err(_) => None,
     }
+}
+
+/// Refuses another method than this one.
+fn expect_method(method: &str, name: &str) -> Result<(), RequestFault>
+    ensures { Gives (λ r. r) result (is_method name.now method.now) }
+{
+    if method == name { Ok(()) } else { Err(NO_ROUTE) }
+}
+
+/// The number of a puzzle in a round.
+fn puzzle_number(text: &str) -> Result<PuzzleNumber, RequestFault>
+    ensures { Gives (λ n. n) result (puzzle_number text.now) }
+{
+    let number = read_decimal(text.as_bytes()).ok_or(NO_ROUTE)?;
+    PuzzleNumber::new(number).ok_or(NO_ROUTE)
+}
+
+/// The parameter that is a text of this kind.
+fn word<K: TextKind>(alloc: Global, text: &str) -> Result<Checked<K>, RequestFault>
+    requires { (byte : ℕ) → IsTrue (K.allows byte) → byte < 128 }
+    ensures { Gives (λ t. t) result (of_kind FormFault.NoRoute K.LEAST K.MOST K.allows text.now) }
+{
+    checked(alloc, text.as_bytes(), FormFault::NoRoute)
+}
+
+fn puzzle_key(alloc: Global, parts: &Parts) -> Result<PuzzleKey, RequestFault>
+    ensures { Gives (λ key. key) result (puzzle_key_in (parts_seen parts.now)) }
+{
+    Ok(PuzzleKey {
+        author: word(alloc, parts.first)?,
+        label: word(alloc, parts.second)?,
+    })
+}
+
+/// What the place and its parts name, by the method.
+fn route_at(alloc: Global, method: &str, place: Place, parts: &Parts) -> Result<Route, RequestFault>
+    ensures { Gives (λ r. r) result (route_at method.now place (parts_seen parts.now)) }
+{
+    match place {
+        Place::Puzzle => {
+            expect_method(method, "PUT")?;
+            Ok(Route::Puzzle(puzzle_key(alloc, parts)?))
+        }
+        Place::Certificate => {
+            expect_method(method, "POST")?;
+            Ok(Route::Certificate(puzzle_key(alloc, parts)?))
+        }
+        Place::Round => {
+            expect_method(method, "GET")?;
+            Ok(Route::Round(word(alloc, parts.first)?))
+        }
+        Place::Release => {
+            expect_method(method, "POST")?;
+            Ok(Route::Release(word(alloc, parts.first)?))
+        }
+        Place::Answers => {
+            expect_method(method, "GET")?;
+            Ok(Route::Answers(word(alloc, parts.first)?))
+        }
+        Place::Answer => answer_route(alloc, method, parts),
+        Place::People
+        | Place::Puzzles
+        | Place::Rounds
+        | Place::Solutions
+        | Place::Protests
+        | Place::Protest
+        | Place::Ruling
+        | Place::Publish
+        | Place::Table => Err(NO_ROUTE),
+    }
+}
+
+fn answer_route(alloc: Global, method: &str, parts: &Parts) -> Result<Route, RequestFault>
+    ensures { Gives (λ r. r) result (route_at method.now Place.Answer (parts_seen parts.now)) }
+{
+    expect_method(method, "PUT")?;
+    let round = word(alloc, parts.first)?;
+    let number = puzzle_number(parts.second)?;
+    let token = word(alloc, parts.third)?;
+    Ok(Route::Answer(round, number, token))
+}
+
+/// Whether each byte is ASCII.
+fn is_ascii(path: &str) -> bool
+    ensures { result ≡ list_all is_ascii path.now }
+{
+    path.as_bytes().iter().all(|byte| byte.is_ascii())
+}
+
+/// What the method and the path name. A path that isn't ASCII names nothing.
+pub(crate) fn route_of(
+    alloc: Global,
+    routes: &Routes,
+    method: &str,
+    path: &str,
+) -> Result<Route, RequestFault>
+    ensures { Gives (λ r. r) result (route_in method.now path.now) }
+{
+    if !is_ascii(path) {
+        return Err(NO_ROUTE);
+    }
+    let (place, parts) = find(routes, path).ok_or(NO_ROUTE)?;
+    route_at(alloc, method, place, &parts)
 }
