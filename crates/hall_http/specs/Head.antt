@@ -1,5 +1,5 @@
 -- One request on the wire: a head as httparse's grammar has it, and a body as long as the head says.
-use Rattle.std.specs.Prelude.{◌≡◌, ◌≤◌, ◌<◌, ◌+◌, ◌==◌, ℕ, List, [], ◌∷◌, ◌++◌, length, take, map, filter, Bool, ◌&&◌, if◌then◌else◌, nat_lt, nat_le, Option, Some, None, codes}
+use Rattle.std.specs.Prelude.{◌≡◌, ◌≤◌, ◌<◌, ◌+◌, ◌==◌, ℕ, List, [], ◌∷◌, ◌++◌, length, take, map, filter, Bool, ◌&&◌, if◌then◌else◌, nat_lt, nat_le, Option, Some, None, option_map, codes}
 use Rattle.std.specs.List.{list_all}
 use Rattle.std.specs.Char.{is_ascii_digit}
 use Rattle.std.specs.Str.{str_eq_ignore_ascii_case}
@@ -9,6 +9,7 @@ use Rattle.httparse.specs.Spans.{name_and_value}
 use Rattle.hall_http.specs.declared.head.Found.{Found}
 use Rattle.hall_http.specs.declared.head.Found.TheVariants as found
 use Rattle.hall_http.specs.declared.head.Cut.{Cut}
+use Rattle.hall_http.specs.declared.head.Whole.{Whole}
 use Rattle.hall_http.specs.declared.head.Cut.TheVariants as cut
 
 -- the most bytes of a head
@@ -82,6 +83,21 @@ HasNone bytes = (front rest : List ℕ) → bytes ≡ front ++ rest → ¬ (IsWh
 -- however the bytes go on, no front of them is a whole request
 abbrev pub NeverHas : List ℕ → Type 0
 NeverHas bytes = (more : List ℕ) → HasNone (bytes ++ more)
+
+-- the value that the first of these headers has
+abbrev pub first_value : List Header → Option (List ℕ)
+first_value [] = None
+first_value (h ∷ more) = Some h.1
+
+-- what the caller shows as the key
+abbrev pub shown_key : RequestHead → Option (List ℕ)
+shown_key head = first_value (named (codes "hall-key") (headers_of head))
+
+-- the parts that the code lends are those of the one request that the bytes are
+abbrev pub IsLentBy : List ℕ → Whole → Type 0
+IsLentBy bytes whole =
+    (head : RequestHead) × IsRequest bytes head whole.body.now × (whole.method.now ≡ head.method)
+    × (whole.path.now ≡ head.target) × (option_map (λ key. key.now) whole.key ≡ shown_key head)
 
 -- the headers of one name are none, one with this value, or many
 abbrev pub Finds : Found → List Header → Type 0

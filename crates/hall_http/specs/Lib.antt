@@ -4,3 +4,4 @@ pub mod Body
 pub mod Head
 pub mod Routes
 pub mod Parts
+pub mod Request

@@ -141,9 +141,11 @@ route_at method place.Ruling p = Err fault.NoRoute
 route_at method place.Publish p = Err fault.NoRoute
 route_at method place.Table p = Err fault.NoRoute
 
--- what a method and a path name; a path is ASCII
+-- the path, where it is ASCII
+abbrev pub ascii_path : List ℕ → Result (List ℕ) FormFault
+ascii_path path = unless fault.NoRoute (list_all is_ascii path) >>= (λ _. Ok path)
+
+-- what a method and a path name; a path that isn't ASCII names nothing
 abbrev pub route_in : List ℕ → List ℕ → Result Route FormFault
 route_in method path =
-    unless fault.NoRoute (list_all is_ascii path)
-    >>= (λ _. or_fault fault.NoRoute (found path)
-    >>= (λ at. route_at method at.0 at.1))
+    ascii_path path >>= (λ text. or_fault fault.NoRoute (found text) >>= (λ at. route_at method at.0 at.1))

@@ -1,8 +1,8 @@
 //! One request on the wire: its head, and how long its body is.
-ghost use Rattle.std.specs.Prelude.{◌≡◌, ◌≤◌, ℕ, List, length, map, All, ◌++◌, ◌∷◌, []};
+ghost use Rattle.std.specs.Prelude.{◌≡◌, ◌≤◌, ℕ, List, length, map, All, ◌++◌, ◌∷◌, [], MatchOption, option_map, codes};
 ghost use Rattle.std.specs.Str.{str_eq_ignore_ascii_case};
 ghost use Rattle.httparse.specs.Spans.{IsHeaderWithin, header_bytes, span_bytes};
-ghost use Rattle.hall_http.specs.Head.{named, Header, Finds, Cuts, length_of_text, body_size};
+ghost use Rattle.hall_http.specs.Head.{named, Header, Finds, Cuts, IsWhole, first_value, IsLentBy, length_of_text, body_size};
 
 use httparse::Status;
 use httparse::spans::{EMPTY_HEADER_SPAN, HeaderSpan, parse_request};
@@ -127,5 +127,47 @@ pub fn cut_request(bytes: &[u8]) -> Cut
         }
         Ok(Status::Partial) if bytes.len() < HEAD_LIMIT => Cut::More,
         _ => Cut::Never,
+    }
+}
+
+/// A whole request: what of its head asks for something, and its body.
+#[derive(Clone, Copy)]
+pub(crate) struct Whole<'b> {
+    pub(crate) method: &'b [u8],
+    pub(crate) path: &'b [u8],
+    pub(crate) key: Option<&'b [u8]>,
+    pub(crate) body: &'b [u8],
+}
+
+/// The request that the bytes are, where they are one and no more.
+pub(crate) fn read_whole(bytes: &[u8]) -> Option<Whole<'_>>
+    ensures { MatchOption result (¬ (IsWhole bytes.now)) (IsLentBy bytes.now) }
+{
+    let mut headers = [EMPTY_HEADER_SPAN; 32];
+    let Ok(Status::Complete(head)) = parse_request(bytes, &mut headers) else {
+        return None;
+    };
+    let fields = &headers[..head.headers];
+    let room = body_room(bytes, fields, head.len)?;
+    if bytes.len() - head.len != room {
+        return None;
+    }
+    Some(Whole {
+        method: head.method.of(bytes),
+        path: head.path.of(bytes),
+        key: key_of(bytes, fields),
+        body: &bytes[head.len..],
+    })
+}
+
+/// The value of the key's header, where there is one.
+fn key_of<'b>(bytes: &'b [u8], headers: &[HeaderSpan]) -> Option<&'b [u8]>
+    requires { All (IsHeaderWithin (length bytes.now)) headers.now }
+    ensures { length (named (codes "hall-key") (map (header_bytes bytes.now) headers.now)) ≤ 1 →
+        option_map (λ value. value.now) result ≡ first_value (named (codes "hall-key") (map (header_bytes bytes.now) headers.now)) }
+{
+    match find_value(bytes, headers, b"hall-key") {
+        Found::One(value) => Some(value),
+        Found::None | Found::Many => None,
     }
 }

@@ -4,6 +4,7 @@
 mod body;
 mod form;
 mod head;
+mod request;
 mod routes;
 mod words;
 

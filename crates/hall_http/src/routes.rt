@@ -6,7 +6,7 @@ ghost use Rattle.matchit.specs.Params.{walk};
 ghost use Rattle.hall_http.specs.Given.{Gives};
 ghost use Rattle.hall_http.specs.Words.{of_kind};
 ghost use Rattle.hall_http.specs.Routes.{routes, found, rows_from, are_free, parts_of, route_at, route_in};
-ghost use Rattle.hall_http.specs.Routes.{puzzle_key_in, puzzle_number, is_method};
+ghost use Rattle.hall_http.specs.Routes.{puzzle_key_in, puzzle_number, is_method, ascii_path};
 ghost use Rattle.hall_http.specs.Parts.{parts_seen, AllAscii};
 
 use crate::form::{FormFault, RequestFault};
@@ -168,7 +168,7 @@ fn find<'p>(routes: &Routes, path: &'p str) -> Option<(Place, Parts<'p>)>
 }
 
 /// Refuses another method than this one.
-fn expect_method(method: &str, name: &str) -> Result<(), RequestFault>
+fn expect_method(method: &[u8], name: &[u8]) -> Result<(), RequestFault>
     ensures { Gives (λ r. r) result (is_method name.now method.now) }
 {
     if method == name { Ok(()) } else { Err(NO_ROUTE) }
@@ -200,28 +200,28 @@ fn puzzle_key(alloc: Global, parts: &Parts) -> Result<PuzzleKey, RequestFault>
 }
 
 /// What the place and its parts name, by the method.
-fn route_at(alloc: Global, method: &str, place: Place, parts: &Parts) -> Result<Route, RequestFault>
+fn route_at(alloc: Global, method: &[u8], place: Place, parts: &Parts) -> Result<Route, RequestFault>
     ensures { Gives (λ r. r) result (route_at method.now place (parts_seen parts.now)) }
 {
     match place {
         Place::Puzzle => {
-            expect_method(method, "PUT")?;
+            expect_method(method, b"PUT")?;
             Ok(Route::Puzzle(puzzle_key(alloc, parts)?))
         }
         Place::Certificate => {
-            expect_method(method, "POST")?;
+            expect_method(method, b"POST")?;
             Ok(Route::Certificate(puzzle_key(alloc, parts)?))
         }
         Place::Round => {
-            expect_method(method, "GET")?;
+            expect_method(method, b"GET")?;
             Ok(Route::Round(word(alloc, parts.first)?))
         }
         Place::Release => {
-            expect_method(method, "POST")?;
+            expect_method(method, b"POST")?;
             Ok(Route::Release(word(alloc, parts.first)?))
         }
         Place::Answers => {
-            expect_method(method, "GET")?;
+            expect_method(method, b"GET")?;
             Ok(Route::Answers(word(alloc, parts.first)?))
         }
         Place::Answer => answer_route(alloc, method, parts),
@@ -237,10 +237,10 @@ fn route_at(alloc: Global, method: &str, place: Place, parts: &Parts) -> Result<
     }
 }
 
-fn answer_route(alloc: Global, method: &str, parts: &Parts) -> Result<Route, RequestFault>
+fn answer_route(alloc: Global, method: &[u8], parts: &Parts) -> Result<Route, RequestFault>
     ensures { Gives (λ r. r) result (route_at method.now Place.Answer (parts_seen parts.now)) }
 {
-    expect_method(method, "PUT")?;
+    expect_method(method, b"PUT")?;
     let round = word(alloc, parts.first)?;
     let number = puzzle_number(parts.second)?;
     let token = word(alloc, parts.third)?;
@@ -248,24 +248,35 @@ fn answer_route(alloc: Global, method: &str, parts: &Parts) -> Result<Route, Req
 }
 
 /// Whether each byte is ASCII.
-fn is_ascii(path: &str) -> bool
+fn is_ascii(path: &[u8]) -> bool
     ensures { result ≡ list_all is_ascii path.now }
 {
-    path.as_bytes().iter().all(|byte| byte.is_ascii())
+    path.iter().all(|byte| byte.is_ascii())
+}
+
+/// The path as a text, where it is ASCII.
+fn path_text(path: &[u8]) -> Result<&str, RequestFault>
+    ensures { Gives (λ text. text.now) result (ascii_path path.now) }
+{
+    if !is_ascii(path) {
+        return Err(NO_ROUTE);
+    }
+    match str::from_utf8(path) {
+        Ok(text) => Ok(text),
+        Err(_) => unreachable!(),
+    }
 }
 
 /// What the method and the path name. A path that isn't ASCII names nothing.
 pub(crate) fn route_of(
     alloc: Global,
     routes: &Routes,
-    method: &str,
-    path: &str,
+    method: &[u8],
+    path: &[u8],
 ) -> Result<Route, RequestFault>
     ensures { Gives (λ r. r) result (route_in method.now path.now) }
 {
-    if !is_ascii(path) {
-        return Err(NO_ROUTE);
-    }
+    let path = path_text(path)?;
     let (place, parts) = find(routes, path).ok_or(NO_ROUTE)?;
     route_at(alloc, method, place, &parts)
 }

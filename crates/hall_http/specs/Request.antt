@@ -1,0 +1,65 @@
+-- What the bytes of one request ask of the hall, or the first fault of their form.
+use Rattle.std.specs.Prelude.{◌≡◌, ◌⊎◌, ℕ, List, if◌then◌else◌, Option, Some, None, option_and_then, Result, Ok, Err}
+use Rattle.httparse.specs.Grammar.{RequestHead}
+use Rattle.hall_grid.specs.declared.fault.TextFault.{TextFault}
+use Rattle.hall_grid.specs.Board.{Board}
+use Rattle.hall_grid.specs.Text.{SpellsText, FaultOf}
+use Rattle.hall_policy.specs.Text.{is_key_byte}
+use Rattle.hall_policy.specs.declared.record.PuzzleKey.{PuzzleKey}
+use Rattle.hall_policy.specs.declared.request.Action.{Action}
+use Rattle.hall_policy.specs.declared.request.Action.TheVariants as action
+use Rattle.hall_policy.specs.declared.request.Request.{Request}
+use Rattle.hall_http.specs.declared.form.FormFault.{FormFault}
+use Rattle.hall_http.specs.declared.form.FormFault.TheVariants as fault
+use Rattle.hall_http.specs.declared.routes.Route.{Route}
+use Rattle.hall_http.specs.declared.routes.Route.TheVariants as route
+use Rattle.hall_http.specs.Given.{◌>>=◌}
+use Rattle.hall_http.specs.Words.{is_kind}
+use Rattle.hall_http.specs.Body.{answer_in, text_in, budget_in}
+use Rattle.hall_http.specs.Head.{IsRequest, IsWhole, shown_key}
+use Rattle.hall_http.specs.Routes.{route_in}
+
+-- the puzzle that a text spells, to be put under the key, or the text's first fault
+abbrev pub PutOf : PuzzleKey → List ℕ → Result Action FormFault → Type 0
+PutOf key text (Ok asked) = (board : Board) × SpellsText text board × (asked ≡ action.PutPuzzle key board)
+PutOf key text (Err found) = (first : TextFault) × FaultOf text first × (found ≡ fault.Puzzle first)
+
+-- the same, where the body has a text, else the body's fault
+abbrev pub PutFrom : PuzzleKey → Result (List ℕ) FormFault → Result Action FormFault → Type 0
+PutFrom key (Err f) outcome = outcome ≡ Err f
+PutFrom key (Ok text) outcome = PutOf key text outcome
+
+-- what a route and a body ask for, or the body's first fault
+abbrev pub ActionOf : Route → List ℕ → Result Action FormFault → Type 0
+ActionOf (route.Puzzle key) body outcome = PutFrom key (text_in body) outcome
+ActionOf (route.Certificate key) body outcome =
+    outcome ≡ (budget_in body >>= (λ budget. Ok (action.Certify key budget)))
+ActionOf (route.Round id) body outcome = outcome ≡ Ok (action.ReadRound id)
+ActionOf (route.Release id) body outcome = outcome ≡ Ok (action.Release id)
+ActionOf (route.Answer id number token) body outcome =
+    outcome ≡ (answer_in body >>= (λ answer. Ok (action.Submit id number token answer)))
+ActionOf (route.Answers id) body outcome = outcome ≡ Ok (action.Answers id)
+
+-- the caller's key: none where the text isn't of a key's form
+abbrev pub key_in : List ℕ → Option (List ℕ)
+key_in text = if is_kind 8 64 is_key_byte text then Some text else None
+
+-- the action under the caller's key
+abbrev pub asked_by : Option (List ℕ) → Result Action FormFault → Result Request FormFault
+asked_by shown outcome = outcome >>= (λ asked. Ok (record { key = option_and_then key_in shown; action = asked }))
+
+-- the route with the body's action, or the route's fault
+abbrev pub RoutedOf : Option (List ℕ) → List ℕ → Result Route FormFault → Result Request FormFault → Type 0
+RoutedOf shown body (Err f) outcome = outcome ≡ Err f
+RoutedOf shown body (Ok found) outcome =
+    (asked : Result Action FormFault) × ActionOf found body asked × (outcome ≡ asked_by shown asked)
+
+-- what a head and a body ask for
+abbrev pub AskedOf : RequestHead → List ℕ → Result Request FormFault → Type 0
+AskedOf head body outcome = RoutedOf (shown_key head) body (route_in head.method head.target) outcome
+
+-- the bytes are one whole request, which asks for this or has this first fault, or they aren't
+abbrev pub RequestOf : List ℕ → Result Request FormFault → Type 0
+RequestOf bytes outcome =
+    (¬ (IsWhole bytes) × (outcome ≡ Err fault.NotWhole))
+    ⊎ ((head : RequestHead) × (body : List ℕ) × IsRequest bytes head body × AskedOf head body outcome)

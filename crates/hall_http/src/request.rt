@@ -1,0 +1,83 @@
+//! The bytes of one request, read as what it asks for.
+ghost use Rattle.std.specs.Prelude.{◌≡◌, IfOk, Ok, option_and_then, option_map};
+ghost use Rattle.hall_http.specs.Given.{Finds};
+ghost use Rattle.hall_http.specs.Request.{key_in, ActionOf, PutOf, RequestOf};
+
+use crate::body::{read_answer, read_budget, read_text};
+use crate::form::{FormFault, RequestFault};
+use crate::head::read_whole;
+use crate::routes::{Route, Routes, route_of};
+use crate::words::checked;
+use hall_grid::{TextFault, parse_puzzle};
+use hall_policy::{Action, Key, PuzzleKey, Request};
+use std::alloc::{AllocError, Global};
+
+const NOT_WHOLE: RequestFault = RequestFault::Form(FormFault::NotWhole);
+
+/// The caller's key; none where none is shown, or what is shown isn't of a key's form.
+fn key_of(alloc: Global, shown: Option<&[u8]>) -> Result<Option<Key>, AllocError>
+    ensures { IfOk result (λ key. key ≡ option_and_then key_in (option_map (λ text. text.now) shown.entry)) }
+{
+    let Some(text) = shown else {
+        return Ok(None);
+    };
+    match checked(alloc, text, FormFault::NotWhole) {
+        Ok(key) => Ok(Some(key)),
+        Err(RequestFault::Form(_)) => Ok(None),
+        Err(RequestFault::Memory) => Err(AllocError),
+    }
+}
+
+/// The puzzle that a text spells, to be put under the key.
+fn put_of(alloc: Global, key: PuzzleKey, text: &[u8]) -> Result<Action, RequestFault>
+    ensures { Finds result (PutOf key text.now) }
+{
+    match parse_puzzle(alloc, text) {
+        Ok(puzzle) => Ok(Action::PutPuzzle { key, puzzle }),
+        Err(TextFault::Memory) => Err(RequestFault::Memory),
+        Err(fault) => Err(RequestFault::Form(FormFault::Puzzle(fault))),
+    }
+}
+
+/// What a route and a body ask for.
+fn action_of(alloc: Global, route: Route, body: &[u8]) -> Result<Action, RequestFault>
+    ensures { Finds result (ActionOf route body.now) }
+{
+    match route {
+        Route::Puzzle(key) => {
+            let text = read_text(alloc, body)?;
+            put_of(alloc, key, text.as_str().as_bytes())
+        }
+        Route::Certificate(key) => {
+            let budget = read_budget(alloc, body)?;
+            Ok(Action::Certify { key, budget })
+        }
+        Route::Round(round) => Ok(Action::ReadRound { round }),
+        Route::Release(round) => Ok(Action::Release { round }),
+        Route::Answer(round, number, token) => {
+            let answer = read_answer(alloc, body)?;
+            Ok(Action::Submit {
+                round,
+                number,
+                token,
+                answer,
+            })
+        }
+        Route::Answers(round) => Ok(Action::Answers { round }),
+    }
+}
+
+/// The request that the bytes are.
+pub(crate) fn request_of(
+    alloc: Global,
+    routes: &Routes,
+    bytes: &[u8],
+) -> Result<Request, RequestFault>
+    ensures { Finds result (RequestOf bytes.now) }
+{
+    let whole = read_whole(bytes).ok_or(NOT_WHOLE)?;
+    let route = route_of(alloc, routes, whole.method, whole.path)?;
+    let action = action_of(alloc, route, whole.body)?;
+    let key = key_of(alloc, whole.key)?;
+    Ok(Request { key, action })
+}
