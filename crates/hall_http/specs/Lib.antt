@@ -1,7 +1,12 @@
 pub mod Given
 pub mod Words
 pub mod Body
+pub mod Reply
 pub mod Head
 pub mod Routes
 pub mod Parts
 pub mod Request
+pub mod Device
+pub mod Answered
+pub mod Records
+pub mod Replay

@@ -1,12 +1,24 @@
 //! HTTP/1.1: bytes in, bytes out.
 #![tactic(auto)]
 
+mod answer;
 mod body;
+mod device;
+mod fault;
 mod form;
 mod head;
+mod inbox;
+mod record;
+mod replay;
+mod reply;
 mod request;
 mod routes;
+mod status;
 mod words;
 
+pub use answer::{Answer, answer_bytes};
+pub use device::write_all;
+pub use fault::{DeviceFault, ReplayFault};
 pub use head::{Cut, cut_request};
+pub use replay::replay;
 pub use routes::Routes;
