@@ -34,7 +34,6 @@ pub refused : (read : Result Scan InsertError) (value : Place) (old new : Table)
 refused (Ok s) value old new e free h = no_conflict s.pattern old e free h.1
 refused (Err x) value old new e free h = cc
 
-
 abbrev pub texts : List (Bor (List ℕ) × Place) → List (List ℕ × Place)
 texts xs = map (λ p. (p.0.now, p.1)) xs
 

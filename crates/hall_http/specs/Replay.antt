@@ -1,6 +1,6 @@
 -- A replay: records of a stream, answered one after another.
 use Rattle.std.specs.Prelude.{◌≡◌, ◌≢◌, ◌<◌, ◌≤◌, ◌⊎◌, ℕ, List, [], ◌∷◌, ◌++◌, length, flat_map, All, Option, Result}
-use Rattle.std.specs.Prelude.{Ok, Err, true, false}
+use Rattle.std.specs.Prelude.{Ok, Err, Bool, true, false}
 use Rattle.std.specs.Io.KnownBytes.{Appends, Consumes, IsAtEnd}
 use Rattle.hall_grid.specs.Device.{HasFailed}
 use Rattle.hall_policy.specs.World.{World}

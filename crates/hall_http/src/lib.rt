@@ -9,10 +9,10 @@ mod form;
 mod head;
 mod inbox;
 mod record;
-mod replay;
 mod reply;
 mod request;
 mod routes;
+mod session;
 mod status;
 mod words;
 
@@ -20,5 +20,5 @@ pub use answer::{Answer, answer_bytes};
 pub use device::write_all;
 pub use fault::{DeviceFault, ReplayFault};
 pub use head::{Cut, cut_request};
-pub use replay::replay;
 pub use routes::Routes;
+pub use session::replay;

@@ -1,7 +1,7 @@
 use Rattle.std.proofs.Common.{◌≡◌, ◌≤◌, ◌+◌, ◌-◌, ◌*◌, length}
 use Rattle.hall_desk.specs.Desk.{kept_by}
 use Rattle.hall_http.proofs.Turns.{Kept}
-use Rattle.hall_http.proofs.replay.answer_records.Given as goal
+use Rattle.hall_http.proofs.session.answer_records.Given as goal
 
 abbrev pub invariant-records : goal.invariant-records
 invariant-records g l = record {
