@@ -7,7 +7,7 @@ use Rattle.hall_policy.specs.World.{World}
 use Rattle.hall_store.specs.Store.{Content, Leads, Over}
 use Rattle.hall_policy.specs.declared.request.Request.{Request}
 use Rattle.hall_desk.specs.Step.{Step}
-use Rattle.hall_desk.specs.Run.{Run}
+use Rattle.hall_desk.specs.Run.{IsTimed, Run}
 use Rattle.hall_desk.specs.declared.reply.Reply.{Reply}
 use Rattle.hall_desk.specs.declared.reply.Reply.TheVariants.{Unavailable as NotServed}
 use Rattle.hall_tool.specs.declared.form.FormFault.{FormFault}
@@ -30,11 +30,12 @@ abbrev pub IsStepLine : World → ℕ → Request → List ℕ → World → Typ
 IsStepLine world moment request line after =
     (reply : Reply) × Step world moment request reply after × BytesOf reply line
 
--- the bytes are a request, and the line is the reply of a step of the hall
+-- the bytes are a request of its type, and the line is the reply of a step of the hall
 pub record IsStep (world : World) (moment : ℕ) (bytes line : List ℕ) (after : World) : Type 0 where
   pub request : Request
   pub reply : Reply
   pub reads : RequestOf bytes (Ok request)
+  pub timed : IsTimed (moment, request)
   pub step : Step world moment request reply after
   pub written : BytesOf reply line
 
@@ -90,10 +91,11 @@ AreMade (x ∷ xs) requests replies =
     ⊎ ((request : ℕ × Request) × (reply : Reply) × (later : List (ℕ × Request)) × (rest : List Reply)
     × (requests ≡ request ∷ later) × (replies ≡ reply ∷ rest) × IsMade x request reply × AreMade xs later rest)
 
--- the requests of the records have these replies in a run of the hall
+-- the requests of the records, each of its type, have these replies in a run of the hall
 pub record IsRunOver (old : World) (xs : List Exchange) (new : World) : Type 0 where
   pub requests : List (ℕ × Request)
   pub replies : List Reply
+  pub timed : All IsTimed requests
   pub run : Run old requests replies new
   pub made : AreMade xs requests replies
 

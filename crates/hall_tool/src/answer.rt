@@ -45,10 +45,15 @@ pub fn answer_bytes<S: Store>(
         AnswersOver (S.content (kept_by desk.old)) moment bytes.now (line_text result) (S.content (kept_by desk.new)) }
 {
     match request_of(alloc, bytes) {
-        Ok(request) => match answer_request(alloc, desk, moment, &request) {
-            Ok(line) => Line::Text(line),
-            Err(_) => Line::Unavailable,
-        },
+        Ok(request) => {
+            // They are read for the ranges that their types keep.
+            let _moment = moment.get();
+            request.in_range();
+            match answer_request(alloc, desk, moment, &request) {
+                Ok(line) => Line::Text(line),
+                Err(_) => Line::Unavailable,
+            }
+        }
         Err(RequestFault::Form(fault)) => match fault_line(alloc, fault) {
             Ok(line) => Line::Text(line),
             Err(_) => Line::Unavailable,
