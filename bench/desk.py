@@ -3,15 +3,17 @@
 
     python3 bench/desk.py [PROGRAM] [--stored N ..]
 
-PROGRAM is built from the sources in bench/desk. Without it, the script builds it in a temporary copy of the crates that
-it stands on, over what was proved of them before (so build the hall first: `./hall judge`), and proves it on the way.
-The sources have an ending of their own, since the gate refuses a `.rt` file that isn't part of it.
+PROGRAM is built from the sources in bench/desk. Without it, the script makes a copy of the crates that it stands on, with
+what was proved of them before (their out/, some 4 GB; so build the hall first), proves and builds it there in some four
+minutes, and leaves it as bench/desk/out/desk_bench. The sources have an ending of their own, since the gate refuses a
+`.rt` file of no crate.
 
-Each measure is made where N answers of others are stored, by default 10, 1,000 and 100,000: 50 by each of them, in all of
-20 rounds, the one of the measured requests among them. The time is the processor time of the requests alone, which are
-made before: the least of five runs. The script checks how many replies are as wanted.
+Each measure is made where N answers of others are stored, by default 10, 1,000 and 100,000: 50 by each of them, over 20
+rounds, the one of the hand-ins among them. The time is the processor time of the requests alone, which are made before:
+the least of ten runs. The script checks that all replies are as wanted.
 """
 import argparse
+import glob
 import os
 import shutil
 import subprocess
@@ -21,8 +23,10 @@ import tempfile
 BENCH = os.path.dirname(os.path.realpath(__file__))
 ROOT = os.path.dirname(BENCH)
 NAME = "desk_bench"
+PROGRAM = f"{BENCH}/desk/out/{NAME}"
+ENDING = ".rattle"
 STANDS_ON = ["hall_grid", "hall_policy", "hall_store", "hall_desk"]
-RUNS = 5
+RUNS = 10
 # What is measured, the word for it, the rows of a listing, and how many requests.
 MEASURES = [
     ("hand-ins", "submit", 0, 10000),
@@ -50,19 +54,21 @@ def build(folder):
     for name in crates:
         subprocess.run(["cp", "-a", "--parents", f"crates/{name}", folder], cwd=ROOT, check=True)
     os.makedirs(f"{folder}/crates/{NAME}/src")
-    for source in os.listdir(f"{BENCH}/desk"):
-        shutil.copy(f"{BENCH}/desk/{source}", f"{folder}/crates/{NAME}/src/{os.path.splitext(source)[0]}.rt")
+    for source in glob.glob(f"{BENCH}/desk/*{ENDING}"):
+        name = os.path.basename(source).removesuffix(ENDING)
+        shutil.copy(source, f"{folder}/crates/{NAME}/src/{name}.rt")
     with open(f"{folder}/crates.txt", "w", encoding="utf-8") as file:
         file.writelines(f"{name}: {' '.join(below)}\n" for name, below in {**crates, NAME: STANDS_ON}.items())
     log = f"{folder}/build.log"
     with open(log, "wb") as file:
         words = ["rt", "run", "--", "submit", "0", "0", "1"]
         subprocess.run(words, cwd=f"{folder}/crates/{NAME}", stdout=file, stderr=subprocess.STDOUT, check=False)
-    program = f"{folder}/crates/{NAME}/out/{NAME}"
-    if not os.access(program, os.X_OK):
+    built = f"{folder}/crates/{NAME}/out/{NAME}"
+    if not os.access(built, os.X_OK):
         with open(log, encoding="utf-8", errors="replace") as file:
             sys.exit("".join(file.readlines()[-40:]) + "the program was not built")
-    return program
+    os.makedirs(os.path.dirname(PROGRAM), exist_ok=True)
+    return shutil.copy(built, PROGRAM)
 
 
 def run(program, word, stored, rows, count):
@@ -78,13 +84,17 @@ def run(program, word, stored, rows, count):
 
 
 def measure_all(program, numbers):
-    print(" " * 25 + "".join(f"{stored:>14,}" for stored in numbers) + "  answers of others", flush=True)
-    for name, word, rows, count in MEASURES:
-        line = f"{name:25}"
-        for stored in numbers:
-            least = min(run(program, word, stored, rows, count) for _ in range(RUNS))
-            line += f"{least / 1000 / count:11.2f} us"
-        print(line, flush=True)
+    """Prints the least times. The runs of a measure stand apart, so that a busy moment doesn't spoil all of them."""
+    cells = [(measure, stored) for measure in MEASURES for stored in numbers]
+    least = {}
+    for _ in range(RUNS):
+        for measure, stored in cells:
+            _, word, rows, count = measure
+            spent = run(program, word, stored, rows, count) / 1000 / count
+            least[measure, stored] = min(spent, least.get((measure, stored), spent))
+    print(" " * 25 + "".join(f"{stored:>14,}" for stored in numbers) + "  answers of others")
+    for measure in MEASURES:
+        print(f"{measure[0]:25}" + "".join(f"{least[measure, stored]:11.2f} us" for stored in numbers))
 
 
 def main():
@@ -92,11 +102,11 @@ def main():
     parser.add_argument("program", nargs="?")
     parser.add_argument("--stored", type=int, nargs="+", default=[10, 1000, 100000], metavar="N")
     args = parser.parse_args()
-    if args.program:
-        measure_all(args.program, args.stored)
-        return
-    with tempfile.TemporaryDirectory(prefix="desk-bench-") as folder:
-        measure_all(build(folder), args.stored)
+    program = args.program
+    if not program:
+        with tempfile.TemporaryDirectory(prefix="desk-bench-") as folder:
+            program = build(folder)
+    measure_all(program, args.stored)
 
 
 main()
