@@ -4,3 +4,5 @@ pub mod Listed
 pub mod Patterns
 pub mod Texts
 pub mod Parts
+pub mod Written
+pub mod Exchanges

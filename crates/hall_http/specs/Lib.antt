@@ -5,3 +5,9 @@ pub mod Head
 pub mod Routes
 pub mod Parts
 pub mod Request
+pub mod Device
+pub mod Inbox
+pub mod Connection
+pub mod Served
+pub mod Turns
+pub mod Handler

@@ -1,0 +1,30 @@
+//! Whole writes.
+ghost use Rattle.std.specs.Prelude.{◌≡◌, OnOk, OnErr};
+ghost use Rattle.std.specs.Io.KnownBytes.{Appends};
+ghost use Rattle.hall_grid.specs.Device.{HasFailed};
+ghost use Rattle.hall_http.specs.Device.{WritesPart};
+
+use hall_grid::Counted;
+use std::io::Write;
+
+/// A read or a write failed.
+#[derive(Clone, Copy, Debug, PartialEq, Eq)]
+pub struct DeviceFault;
+
+/// Writes all the bytes.
+pub fn write_all<W: Write>(writer: &mut Counted<W>, bytes: &[u8]) -> Result<(), DeviceFault>
+    ensures written { OnOk result (Appends (W.contents writer.old.device) (W.contents writer.new.device) bytes.now) }
+    ensures same { OnOk result (writer.new.failures ≡ writer.old.failures) }
+    ensures failed { OnErr result (HasFailed writer.old.failures writer.new.failures) }
+    ensures part { OnErr result (WritesPart (W.contents writer.old.device) (W.contents writer.new.device) bytes.now) }
+{
+    let mut rest = bytes;
+    while !rest.is_empty() {
+        match writer.write(rest) {
+            Ok(0) => return Err(DeviceFault),
+            Ok(n) => rest = &rest[n..],
+            Err(_) => return Err(DeviceFault),
+        }
+    }
+    Ok(())
+}
