@@ -12,8 +12,8 @@ use Rattle.httparse.specs.Grammar.{RequestHead}
 use Rattle.hall_http.specs.Device.{WritesPart}
 use Rattle.hall_http.specs.Inbox.{ReadsMore}
 use Rattle.hall_http.specs.Connection.{Exchange, Exchanged, Session, requests_of, replies_of, AreOpen, IsOpen, IsClosing, closes}
-use Rattle.hall_http.specs.Served.{IsServed, Ended, IsNoRequest, refusal}
-use Rattle.hall_http.specs.Turns.{IsTurn, Sends, Refuses, EndsInput}
+use Rattle.hall_http.specs.Served.{IsHandled, Ended, IsNoRequest, refusal}
+use Rattle.hall_http.specs.Sending.{IsTurn, Sends, Refuses, EndsInput}
 use Rattle.hall_http.specs.declared.connection.ServeEnd.{ServeEnd}
 use Rattle.hall_http.specs.declared.connection.ServeEnd.TheVariants as end
 use Rattle.hall_http.specs.declared.connection.Turn.TheVariants as turn
@@ -126,7 +126,7 @@ module _ {H C : Type 0} (answers : H → Option ℕ → List ℕ → List ℕ �
 
       module _ (read_failed write_failed : Type 0) (room : requests < 1000) (then : Option (List ℕ)) where
         ends_after : (e : ServeEnd) → Ended e after wrote then all (drop size inbox) read_failed write_failed
-            → IsServed answers now_gives stream after wrote then h c i d read_failed write_failed e
+            → IsHandled answers now_gives stream after wrote then h c i d read_failed write_failed e
         ends_after e ended = record {
           exchanges = all;
           unread = drop size inbox;
@@ -137,13 +137,13 @@ module _ {H C : Type 0} (answers : H → Option ℕ → List ℕ → List ℕ �
         }
 
         pub closes_last : IsClosing x.request → Appends written then x.reply
-            → IsServed answers now_gives stream after wrote then h c i d read_failed write_failed end.Closed
+            → IsHandled answers now_gives stream after wrote then h c i d read_failed write_failed end.Closed
         closes_last shut sent =
             ends_after end.Closed (replied_all then sent, inr (kept.done, x, refl, kept.opened, shut))
 
         -- the reply couldn't be written whole
         pub unsent : WritesPart written then x.reply → write_failed
-            → IsServed answers now_gives stream after wrote then h c i d read_failed write_failed end.Device
+            → IsHandled answers now_gives stream after wrote then h c i d read_failed write_failed end.Device
         unsent part rose =
             ends_after end.Device (inr (inl ((kept.done, x, written, refl, kept.opened, kept.replied, part), rose)))
 
@@ -151,7 +151,7 @@ module _ {H C : Type 0} (answers : H → Option ℕ → List ℕ → List ℕ �
     module _ (read_failed write_failed : Type 0) (most : requests ≤ 1000) where
       ends : (then last : Option (List ℕ)) (e : ServeEnd) → Consumes after then []
           → Ended e then wrote last kept.done inbox read_failed write_failed
-          → IsServed answers now_gives stream then wrote last h c m n read_failed write_failed e
+          → IsHandled answers now_gives stream then wrote last h c m n read_failed write_failed e
       ends then last e none ended = record {
         exchanges = kept.done;
         unread = inbox;
@@ -163,12 +163,12 @@ module _ {H C : Type 0} (answers : H → Option ℕ → List ℕ → List ℕ �
       }
 
       pub full : 1000 ≤ requests
-          → IsServed answers now_gives stream after wrote written h c m n read_failed write_failed end.Limit
+          → IsHandled answers now_gives stream after wrote written h c m n read_failed write_failed end.Limit
       full least =
           ends after written end.Limit (Consumes-nil after) (kept.replied, kept.opened, inl (omega (arith, kept.count)))
 
       pub read_out : HasNone inbox → 100000 ≤ reads
-          → IsServed answers now_gives stream after wrote written h c m n read_failed write_failed end.Limit
+          → IsHandled answers now_gives stream after wrote written h c m n read_failed write_failed end.Limit
       read_out none many =
           ends after written end.Limit (Consumes-nil after)
           (kept.replied, kept.opened, inr (none, omega (arith, kept.pieces)))
@@ -177,7 +177,7 @@ module _ {H C : Type 0} (answers : H → Option ℕ → List ℕ → List ℕ �
       pub unread_device : (then : Option (List ℕ)) (now : List ℕ) (failed fails : ℕ) (e : ReadFault)
           → ReadsMore after then inbox now failed fails (Err e) → HasNone inbox → length inbox < 73728
           → (HasFailed failed fails → read_failed)
-          → IsServed answers now_gives stream then wrote written h c m n read_failed write_failed end.Device
+          → IsHandled answers now_gives stream then wrote written h c m n read_failed write_failed end.Device
       unread_device then now failed fails fault.Device (same, taken, rose) none few told =
           ends then written end.Device taken (inl (kept.replied, kept.opened, none, told rose))
       unread_device then now failed fails fault.Memory (many, piece, more, steady) none few told = absurd (omega arith)
@@ -185,7 +185,7 @@ module _ {H C : Type 0} (answers : H → Option ℕ → List ℕ → List ℕ �
       -- the bytes that are left are refused
       pub refuses : (then last : Option (List ℕ)) (failed fails : ℕ) (e : ServeEnd) → Consumes after then []
           → IsNoRequest then inbox → Refuses e written last failed fails → (HasFailed failed fails → write_failed)
-          → IsServed answers now_gives stream then wrote last h c m n read_failed write_failed e
+          → IsHandled answers now_gives stream then wrote last h c m n read_failed write_failed e
       refuses then last failed fails end.BadHead taken none sent told =
           ends then last end.BadHead taken
           (Appends-trans wrote written last (replies_of kept.done) refusal kept.replied sent, kept.opened, none)
@@ -198,7 +198,7 @@ module _ {H C : Type 0} (answers : H → Option ℕ → List ℕ → List ℕ �
       pub at_end : (then last : Option (List ℕ)) (now : List ℕ) (rf rg failed fails : ℕ) (e : ServeEnd)
           → ReadsMore after then inbox now rf rg (Ok false) → HasNone inbox
           → EndsInput now e written last failed fails → (HasFailed failed fails → write_failed)
-          → IsServed answers now_gives stream then wrote last h c m n read_failed write_failed e
+          → IsHandled answers now_gives stream then wrote last h c m n read_failed write_failed e
       at_end then last now rf rg failed fails e (same, taken, over, steady) none (inl (empty, closed, unsaid)) told =
           rw (closed, unsaid) (ends then written end.Closed taken (kept.replied, inl (kept.opened, sym same ∙ empty, over)))
       at_end then last now rf rg failed fails e (same, taken, over, steady) none (inr (some, sent)) told =
@@ -207,6 +207,6 @@ module _ {H C : Type 0} (answers : H → Option ℕ → List ℕ → List ℕ �
 
       pub never_request : (last : Option (List ℕ)) (failed fails : ℕ) (e : ServeEnd) → NeverHas inbox
           → Refuses e written last failed fails → (HasFailed failed fails → write_failed)
-          → IsServed answers now_gives stream after wrote last h c m n read_failed write_failed e
+          → IsHandled answers now_gives stream after wrote last h c m n read_failed write_failed e
       never_request last failed fails e never sent told =
           refuses after last failed fails e (Consumes-nil after) (inr never) sent told

@@ -1,8 +1,15 @@
+pub mod Bytes
 pub mod Digits
+pub mod Floats
 pub mod Heads
 pub mod Listed
+pub mod Parts
 pub mod Patterns
 pub mod Texts
-pub mod Parts
-pub mod Written
+pub mod Splits
+pub mod Headers
+pub mod Cutting
+pub mod Turns
+pub mod Refusals
 pub mod Exchanges
+pub mod Runs

@@ -1,5 +1,5 @@
--- What was written where a device failed.
-use Rattle.std.specs.Prelude.{◌≡◌, ◌++◌, ℕ, ◌<◌, Option, List, length}
+-- What was written of some bytes.
+use Rattle.std.specs.Prelude.{◌≡◌, ◌<◌, ◌++◌, ℕ, Option, List, length}
 use Rattle.std.specs.Io.KnownBytes.{Appends}
 
 -- a first part of the bytes was written, perhaps none of them, and at least the last one wasn't

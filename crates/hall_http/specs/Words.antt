@@ -1,10 +1,18 @@
--- Texts of bytes that are of a kind, and numbers in decimal.
+-- Texts of bytes: cut at a byte, without a front, of a kind, and numbers in decimal.
 use Rattle.std.specs.Prelude.{ℕ, ◌+◌, ◌^◌, ◌==◌, ◌&&◌, ◌||◌, not, Bool, List, length, take, drop, slice_index, nat_eq}
 use Rattle.std.specs.Prelude.{nat_lt, nat_le, if◌then◌else◌, Option, Some, None, option_map, Result, Ok, Err}
 use Rattle.std.specs.List.{list_all, position, starts_with}
 use Rattle.std.specs.Char.{is_ascii_digit}
 use Rattle.std.specs.Str.Parse.{digits_value}
 use Rattle.hall_http.specs.declared.form.FormFault.{FormFault}
+
+-- what stands before the first such byte, and what after it
+abbrev pub cut : ℕ → List ℕ → Option (List ℕ × List ℕ)
+cut mark text = option_map (λ place. (take place text, drop (place + 1) text)) (position (λ byte. byte == mark) text)
+
+-- what follows this front
+abbrev pub after_front : List ℕ → List ℕ → Option (List ℕ)
+after_front front text = if starts_with nat_eq text front then Some (drop (length front) text) else None
 
 -- so many bytes, and each is one that the kind allows
 abbrev pub is_kind : ℕ → ℕ → (ℕ → Bool) → List ℕ → Bool

@@ -2,19 +2,27 @@
 ghost use Rattle.std.specs.Prelude.{◌≡◌, [], ℕ, Option, IfOk, OnOk, OnErr};
 ghost use Rattle.std.specs.Io.KnownBytes.{Appends};
 ghost use Rattle.hall_grid.specs.Device.{HasFailed};
+ghost use Rattle.hall_desk.specs.Desk.{kept_by, SaneThen};
+ghost use Rattle.hall_desk.specs.Sane.{Sane};
+ghost use Rattle.hall_desk.specs.Promises.{HasUniqueSolutions, RightAnswersAreSolutions};
 ghost use Rattle.hall_http.specs.Head.{IsWhole};
-ghost use Rattle.hall_http.specs.Handler.{answer_text};
+ghost use Rattle.hall_http.specs.Answered.{answer_text};
 ghost use Rattle.hall_http.specs.Device.{WritesPart};
-ghost use Rattle.hall_http.specs.Turns.{IsTurn, Refuses, EndsInput};
-ghost use Rattle.hall_http.specs.Served.{IsServed};
+ghost use Rattle.hall_http.specs.Sending.{IsTurn, Refuses, EndsInput};
+ghost use Rattle.hall_http.specs.Served.{IsHandled, IsServed};
 
+use crate::answer::Answer;
 use crate::closing::closes;
-use crate::device::{DeviceFault, write_all};
-use crate::handler::{Answer, Handler};
+use crate::device::write_all;
+use crate::fault::DeviceFault;
+use crate::handler::Handler;
 use crate::head::{Cut, cut_request};
 use crate::inbox::Inbox;
+use crate::routes::Routes;
+use hall_desk::Desk;
 use hall_grid::Counted;
 use hall_policy::Moment;
+use hall_store::Store;
 use std::alloc::{AllocError, Global};
 use std::io::{Read, Write};
 
@@ -25,7 +33,7 @@ const REQUEST_LIMIT: usize = 1000;
 const READ_LIMIT: usize = 100_000;
 
 /// The reply to bytes that are no request. It takes no memory.
-const NOT_WHOLE: &str =
+const REFUSAL: &str =
     "HTTP/1.1 400 Bad Request\r\nContent-Type: application/json\r\nContent-Length: 13\r\n\r\n{\"form\":\"F7\"}";
 
 /// The clock of a connection.
@@ -58,9 +66,59 @@ pub(crate) enum Turn {
     Failed,
 }
 
-/// Answers the requests of a connection, in their order.
-pub(crate) fn serve_with<H: Handler, R: Read, W: Write, C: Clock>(
+/// Serves one connection: reads its requests, answers each by a step of the hall, and writes the replies.
+///
+/// Refused for memory, it has read nothing. A request is answered before the next is looked at, and its reply written
+/// once its change is made. Bytes that are no request are answered by the fault of their form, and end the connection.
+pub fn serve<S: Store, R: Read, W: Write, C: Clock>(
     alloc: Global,
+    desk: &mut Desk<S>,
+    reader: &mut Counted<R>,
+    writer: &mut Counted<W>,
+    clock: &mut C,
+) -> Result<ServeEnd, AllocError>
+    ensures desk { OnErr result (desk.new ≡ desk.old) }
+    ensures clock { OnErr result (clock.new ≡ clock.old) }
+    ensures reader { OnErr result (reader.new ≡ reader.old) }
+    ensures writer { OnErr result (writer.new ≡ writer.old) }
+    ensures served { IfOk result (IsServed C.now_gives
+        (R.remaining reader.old.device) (R.remaining reader.new.device)
+        (W.contents writer.old.device) (W.contents writer.new.device)
+        (S.content (kept_by desk.old)) (S.content (kept_by desk.new)) clock.old clock.new
+        (HasFailed reader.old.failures reader.new.failures) (HasFailed writer.old.failures writer.new.failures)) }
+    ensures sane { SaneThen Sane (S.content (kept_by desk.old)) (S.content (kept_by desk.new)) }
+    ensures unique { SaneThen HasUniqueSolutions (S.content (kept_by desk.old)) (S.content (kept_by desk.new)) }
+    ensures right { SaneThen RightAnswersAreSolutions (S.content (kept_by desk.old)) (S.content (kept_by desk.new)) }
+{
+    serve_desk(alloc, desk, reader, writer, clock)
+}
+
+/// Serves one connection.
+fn serve_desk<S: Store, R: Read, W: Write, C: Clock>(
+    alloc: Global,
+    desk: &mut Desk<S>,
+    reader: &mut Counted<R>,
+    writer: &mut Counted<W>,
+    clock: &mut C,
+) -> Result<ServeEnd, AllocError>
+    ensures desk { OnErr result (desk.new ≡ desk.old) }
+    ensures clock { OnErr result (clock.new ≡ clock.old) }
+    ensures reader { OnErr result (reader.new ≡ reader.old) }
+    ensures writer { OnErr result (writer.new ≡ writer.old) }
+    ensures served { IfOk result (IsServed C.now_gives
+        (R.remaining reader.old.device) (R.remaining reader.new.device)
+        (W.contents writer.old.device) (W.contents writer.new.device)
+        (S.content (kept_by desk.old)) (S.content (kept_by desk.new)) clock.old clock.new
+        (HasFailed reader.old.failures reader.new.failures) (HasFailed writer.old.failures writer.new.failures)) }
+{
+    let routes = Routes::new(alloc)?;
+    serve_with(alloc, &routes, desk, reader, writer, clock)
+}
+
+/// Answers the requests of a connection, in their order.
+fn serve_with<H: Handler, R: Read, W: Write, C: Clock>(
+    alloc: Global,
+    routes: &Routes,
     handler: &mut H,
     reader: &mut Counted<R>,
     writer: &mut Counted<W>,
@@ -70,18 +128,19 @@ pub(crate) fn serve_with<H: Handler, R: Read, W: Write, C: Clock>(
     ensures clock { OnErr result (clock.new ≡ clock.old) }
     ensures reader { OnErr result (reader.new ≡ reader.old) }
     ensures writer { OnErr result (writer.new ≡ writer.old) }
-    ensures served { IfOk result (IsServed H.answers C.now_gives
+    ensures handled { IfOk result (IsHandled H.answers C.now_gives
         (R.remaining reader.old.device) (R.remaining reader.new.device)
         (W.contents writer.old.device) (W.contents writer.new.device) handler.old clock.old handler.new clock.new
         (HasFailed reader.old.failures reader.new.failures) (HasFailed writer.old.failures writer.new.failures)) }
 {
     let inbox = Inbox::new(alloc)?;
-    Ok(serve_requests(alloc, inbox, handler, reader, writer, clock))
+    Ok(serve_requests(alloc, routes, inbox, handler, reader, writer, clock))
 }
 
 /// Answers the requests of a connection, in their order, with an empty inbox.
 fn serve_requests<H: Handler, R: Read, W: Write, C: Clock>(
     alloc: Global,
+    routes: &Routes,
     mut inbox: Inbox,
     handler: &mut H,
     reader: &mut Counted<R>,
@@ -89,7 +148,7 @@ fn serve_requests<H: Handler, R: Read, W: Write, C: Clock>(
     clock: &mut C,
 ) -> ServeEnd
     requires { inbox ≡ [] }
-    ensures { IsServed H.answers C.now_gives
+    ensures { IsHandled H.answers C.now_gives
         (R.remaining reader.old.device) (R.remaining reader.new.device)
         (W.contents writer.old.device) (W.contents writer.new.device) handler.old clock.old handler.new clock.new
         (HasFailed reader.old.failures reader.new.failures) (HasFailed writer.old.failures writer.new.failures) result }
@@ -99,7 +158,7 @@ fn serve_requests<H: Handler, R: Read, W: Write, C: Clock>(
     while requests < REQUEST_LIMIT {
         match cut_request(inbox.unread()) {
             Cut::Whole(size) => {
-                let turn = exchange(alloc, &inbox.unread()[..size], handler, writer, clock);
+                let turn = exchange(alloc, routes, &inbox.unread()[..size], handler, writer, clock);
                 inbox.pass(size);
                 requests += 1;
                 match turn {
@@ -128,6 +187,7 @@ fn serve_requests<H: Handler, R: Read, W: Write, C: Clock>(
 /// Answers a request, and writes the reply.
 fn exchange<H: Handler, W: Write, C: Clock>(
     alloc: Global,
+    routes: &Routes,
     request: &[u8],
     handler: &mut H,
     writer: &mut Counted<W>,
@@ -139,7 +199,7 @@ fn exchange<H: Handler, W: Write, C: Clock>(
 {
     let closing = closes(request);
     let moment = clock.now();
-    let answer = handler.answer(alloc, moment, request);
+    let answer = handler.answer(alloc, routes, moment, request);
     match send(writer, answer) {
         Ok(()) if closing => Turn::Closing,
         Ok(()) => Turn::Open,
@@ -152,7 +212,7 @@ fn send<W: Write>(writer: &mut Counted<W>, answer: Answer) -> Result<(), DeviceF
     ensures written { OnOk result
         (Appends (W.contents writer.old.device) (W.contents writer.new.device) (answer_text answer)) }
     ensures same { OnOk result (writer.new.failures ≡ writer.old.failures) }
-    ensures failed { OnErr result (HasFailed writer.old.failures writer.new.failures) }
+    ensures device { OnErr result (HasFailed writer.old.failures writer.new.failures) }
     ensures part { OnErr result
         (WritesPart (W.contents writer.old.device) (W.contents writer.new.device) (answer_text answer)) }
 {
@@ -175,7 +235,7 @@ fn refuse<W: Write>(writer: &mut Counted<W>) -> ServeEnd
     ensures { Refuses result
         (W.contents writer.old.device) (W.contents writer.new.device) writer.old.failures writer.new.failures }
 {
-    match write_all(writer, NOT_WHOLE.as_bytes()) {
+    match write_all(writer, REFUSAL.as_bytes()) {
         Ok(()) => ServeEnd::BadHead,
         Err(_) => ServeEnd::Device,
     }

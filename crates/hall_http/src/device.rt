@@ -1,21 +1,18 @@
-//! Whole writes.
+//! Whole output.
 ghost use Rattle.std.specs.Prelude.{◌≡◌, OnOk, OnErr};
 ghost use Rattle.std.specs.Io.KnownBytes.{Appends};
 ghost use Rattle.hall_grid.specs.Device.{HasFailed};
 ghost use Rattle.hall_http.specs.Device.{WritesPart};
 
+use crate::fault::DeviceFault;
 use hall_grid::Counted;
 use std::io::Write;
 
-/// A read or a write failed.
-#[derive(Clone, Copy, Debug, PartialEq, Eq)]
-pub struct DeviceFault;
-
-/// Writes all the bytes.
+/// Writes all the bytes. Where that fails, a first part of them was written.
 pub fn write_all<W: Write>(writer: &mut Counted<W>, bytes: &[u8]) -> Result<(), DeviceFault>
     ensures written { OnOk result (Appends (W.contents writer.old.device) (W.contents writer.new.device) bytes.now) }
     ensures same { OnOk result (writer.new.failures ≡ writer.old.failures) }
-    ensures failed { OnErr result (HasFailed writer.old.failures writer.new.failures) }
+    ensures device { OnErr result (HasFailed writer.old.failures writer.new.failures) }
     ensures part { OnErr result (WritesPart (W.contents writer.old.device) (W.contents writer.new.device) bytes.now) }
 {
     let mut rest = bytes;

@@ -1,18 +1,28 @@
 //! HTTP/1.1: bytes in, bytes out.
 #![tactic(auto)]
 
+mod answer;
 mod body;
 mod closing;
 mod connection;
 mod device;
+mod fault;
 mod form;
 mod handler;
 mod head;
 mod inbox;
+mod record;
+mod reply;
 mod request;
 mod routes;
+mod session;
+mod status;
 mod words;
 
-pub use connection::{Clock, ServeEnd};
+pub use answer::{Answer, answer_bytes};
+pub use connection::{Clock, ServeEnd, serve};
+pub use device::write_all;
+pub use fault::{DeviceFault, ReplayFault};
 pub use head::{Cut, cut_request};
+pub use session::replay;
 pub use routes::Routes;

@@ -1,13 +1,41 @@
-//! Texts of bytes, checked, and numbers in decimal.
-ghost use Rattle.std.specs.Prelude.{◌≡◌, ◌<◌, ℕ, IsTrue, Ok};
-ghost use Rattle.std.specs.List.{list_all};
+//! Texts of bytes, cut and checked, and numbers in decimal.
+ghost use Rattle.std.specs.Prelude.{◌≡◌, ◌<◌, ◌==◌, ℕ, IsTrue, Ok, option_map};
+ghost use Rattle.std.specs.List.{list_all, position};
 ghost use Rattle.std.specs.Char.{is_ascii_digit};
 ghost use Rattle.hall_http.specs.Given.{Gives};
-ghost use Rattle.hall_http.specs.Words.{of_kind, is_decimal, number_in};
+ghost use Rattle.hall_http.specs.Words.{cut, after_front, of_kind, is_decimal, number_in};
 
 use crate::form::{FormFault, RequestFault};
 use hall_policy::{Checked, TextKind};
 use std::alloc::Global;
+
+/// Where the first such byte stands.
+pub(crate) fn place_of(text: &[u8], mark: u8) -> Option<usize>
+    ensures { result ≡ position (λ byte. byte == mark) text.now }
+{
+    text.iter().position(|byte| *byte == mark)
+}
+
+/// What stands before the first such byte, and what after it.
+pub(crate) fn cut(text: &[u8], mark: u8) -> Option<(&[u8], &[u8])>
+    ensures { option_map (λ parts. (parts.0.now, parts.1.now)) result ≡ cut mark text.now }
+{
+    match place_of(text, mark) {
+        Some(place) => Some((&text[..place], &text[place + 1..])),
+        None => None,
+    }
+}
+
+/// What follows this front.
+pub(crate) fn after_front<'a>(text: &'a [u8], front: &[u8]) -> Option<&'a [u8]>
+    ensures { option_map (λ rest. rest.now) result ≡ after_front front.now text.now }
+{
+    if text.starts_with(front) {
+        Some(&text[front.len()..])
+    } else {
+        None
+    }
+}
 
 /// Whether each byte is a digit.
 fn are_digits(text: &[u8]) -> bool

@@ -1,7 +1,8 @@
 //! The commands: what they write and how they end, over whole inputs and over devices that fail.
 use hall_desk::{Desk, opening_store};
 use hall_grid::Counted;
-use hall_tool::{ReplayFault, ToolFault, judge_run, replay, solve_run};
+use hall_http::{ReplayFault, replay};
+use hall_tool::{ToolFault, judge_run, solve_run};
 use std::alloc::{AllocGlobal, Global};
 use std::io;
 use std::io::{ErrorKind, Read, Write};
@@ -242,21 +243,23 @@ fn a_command_ends_at_a_device_fault(rt: HostRuntime) {
     }
 }
 
-/// The input, the lines that are written, and how the replay ends.
+/// The input, the replies that are written, and how the replay ends.
 type Replayed = (&'static [u8], &'static [u8], Result<(), ReplayFault>);
 
 const CUT: Result<(), ReplayFault> = Err(ReplayFault::Record);
 
-const NO_ROUTE: &[u8] = b"404 {\"form\":\"F6\"}\n";
+const NO_ROUTE: &[u8] =
+    b"HTTP/1.1 404 Not Found\r\nContent-Type: application/json\r\nContent-Length: 13\r\n\r\n{\"form\":\"F6\"}";
 
-const NOT_WHOLE: &[u8] = b"400 {\"form\":\"F7\"}\n";
+const NOT_WHOLE: &[u8] =
+    b"HTTP/1.1 400 Bad Request\r\nContent-Type: application/json\r\nContent-Length: 13\r\n\r\n{\"form\":\"F7\"}";
 
 const REPLAYS: [Replayed; 20] = [
     (b"", b"", Ok(())),
-    (b"@1 8\n- A /b\n\n", NO_ROUTE, Ok(())),
-    (b"@1 8\n- A /b\n\n@", NO_ROUTE, CUT),
-    (b"@1 8\n- A /b\n\njunk\n@1 0\n", NO_ROUTE, CUT),
-    (b"@1 9\n- A /b\n\n", b"", CUT),
+    (b"@1 17\nA /b HTTP/1.1\r\n\r\n", NO_ROUTE, Ok(())),
+    (b"@1 17\nA /b HTTP/1.1\r\n\r\n@", NO_ROUTE, CUT),
+    (b"@1 17\nA /b HTTP/1.1\r\n\r\njunk\n@1 0\n", NO_ROUTE, CUT),
+    (b"@1 18\nA /b HTTP/1.1\r\n\r\n", b"", CUT),
     (b"@1 5", b"", CUT),
     (b"@1 5\nGET", b"", CUT),
     (b"@1 5\n12345", NOT_WHOLE, Ok(())),
@@ -286,20 +289,20 @@ fn replayed<R: Read, W: Write>(
 
 #[test]
 fn a_replay_ends_with_its_whole_records(rt: HostRuntime) {
-    for (place, (input, lines, end)) in REPLAYS.iter().enumerate() {
+    for (place, (input, replies, end)) in REPLAYS.iter().enumerate() {
         let mut writer = Counted::new(Vec::new(rt.alloc()));
         let ended = replayed(&rt, &mut Counted::new(*input), &mut writer);
         assert!(rt; ended == *end, "replay {place}");
-        assert!(rt; writer.into_inner().as_slice() == *lines, "replay {place}");
+        assert!(rt; writer.into_inner().as_slice() == *replies, "replay {place}");
     }
 }
 
 /// Records that certify the puzzle of round r1, release it, read it too early and answer it.
 const RECORDS: &[u8] =
-    b"@1777700000 60\nbob-key-1 POST /puzzles/bob/p1/certificate\n{\"budget\":200000}@1777700000 33\ndora-key POST /rounds/r1/release\n@1777712399 25\neve-key-1 GET /rounds/r1\n@1777715999 67\neve-key-1 PUT /rounds/r1/answers/1/k1\n{\"answer\":\"1234341221434321\"}";
+    b"@1777700000 103\nPOST /puzzles/bob/p1/certificate HTTP/1.1\r\nHall-Key: bob-key-1\r\nContent-Length: 17\r\n\r\n{\"budget\":200000}@1777700000 56\nPOST /rounds/r1/release HTTP/1.1\r\nHall-Key: dora-key\r\n\r\n@1777712399 48\nGET /rounds/r1 HTTP/1.1\r\nHall-Key: eve-key-1\r\n\r\n@1777715999 110\nPUT /rounds/r1/answers/1/k1 HTTP/1.1\r\nHall-Key: eve-key-1\r\nContent-Length: 29\r\n\r\n{\"answer\":\"1234341221434321\"}";
 
-const LINES: &[u8] =
-    b"200 {\"state\":\"one\"}\n200 {\"released\":\"r1\"}\n403 {\"denied\":7}\n200 {\"received\":1,\"verdict\":\"right\"}\n";
+const REPLIES: &[u8] =
+    b"HTTP/1.1 200 OK\r\nContent-Type: application/json\r\nContent-Length: 15\r\n\r\n{\"state\":\"one\"}HTTP/1.1 200 OK\r\nContent-Type: application/json\r\nContent-Length: 17\r\n\r\n{\"released\":\"r1\"}HTTP/1.1 403 Forbidden\r\nContent-Type: application/json\r\nContent-Length: 12\r\n\r\n{\"denied\":7}HTTP/1.1 200 OK\r\nContent-Type: application/json\r\nContent-Length: 32\r\n\r\n{\"received\":1,\"verdict\":\"right\"}";
 
 #[test]
 fn a_replay_ends_at_a_device_fault(rt: HostRuntime) {
@@ -308,9 +311,9 @@ fn a_replay_ends_at_a_device_fault(rt: HostRuntime) {
         let mut writer = Counted::new(Vec::new(rt.alloc()));
         let ended = replayed(&rt, &mut reader, &mut writer);
         assert!(rt; ended == Err(ReplayFault::Device));
-        assert!(rt; LINES.starts_with(writer.into_inner().as_slice()));
+        assert!(rt; REPLIES.starts_with(writer.into_inner().as_slice()));
     }
-    for fails_at in 0..LINES.len() {
+    for fails_at in 0..REPLIES.len() {
         let mut writer = failing_writer(fails_at, fails_at % 2 == 0);
         let ended = replayed(&rt, &mut Counted::new(RECORDS), &mut writer);
         assert!(rt; ended == Err(ReplayFault::Device));

@@ -1,6 +1,5 @@
 -- The input of the commands judge and solve: lines of at most 8,192 bytes together.
-use Rattle.std.specs.Prelude.{◌≡◌, ◌++◌, ℕ, ◌≤◌, Option, List, [], ◌∷◌, length, take, IfSome}
-use Rattle.std.specs.Io.KnownBytes.{Appends}
+use Rattle.std.specs.Prelude.{◌≡◌, ℕ, ◌≤◌, Option, List, [], ◌∷◌, length, take, IfSome}
 use Rattle.std.specs.Str.Lines.{lines}
 
 -- known input is this up to the limit
@@ -23,7 +22,3 @@ HasOneLine input line = (length input ≤ 8192) × (lines input ≡ line ∷ [])
 -- the input is longer, or has another number of lines than one
 abbrev pub LacksOneLine : List ℕ → Type 0
 LacksOneLine input = (line : List ℕ) → HasOneLine input line → ⊥
-
--- a first part of the bytes was written, perhaps none of them
-abbrev pub WritesPart : Option (List ℕ) → Option (List ℕ) → List ℕ → Type 0
-WritesPart old new bytes = (front rest : List ℕ) × (bytes ≡ front ++ rest) × Appends old new front

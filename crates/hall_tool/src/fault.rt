@@ -1,4 +1,5 @@
 //! Why a command gave up.
+use hall_http::DeviceFault;
 use std::alloc::{AllocError, AllocFailed};
 
 /// Why a command gave up. It then ends with status 3.
@@ -34,24 +35,13 @@ impl<T: Drop> From<AllocFailed<T>> for ToolFault {
     }
 }
 
-/// Why a replay ended before the end of its input.
-#[derive(Clone, Copy, Debug, PartialEq, Eq)]
-pub enum ReplayFault {
-    /// What is left begins with no whole record, or a thousand million reads were made.
-    Record,
-    /// A call of the reader or the writer failed.
-    Device,
-    /// Want of memory of the replay's own.
-    Memory,
-}
-
-impl From<AllocError> for ReplayFault {
+impl From<DeviceFault> for ToolFault {
     ghost use Rattle.std.specs.Prelude.{◌≡◌};
-    ghost use Rattle.hall_tool.specs.declared.fault.ReplayFault.TheVariants.{Memory};
+    ghost use Rattle.hall_tool.specs.declared.fault.ToolFault.TheVariants.{Device};
 
-    ghost from_gives = { λ _ e. e ≡ Memory };
+    ghost from_gives = { λ _ e. e ≡ Device };
 
-    fn from(_e: AllocError) -> ReplayFault {
-        ReplayFault::Memory
+    fn from(_e: DeviceFault) -> ToolFault {
+        ToolFault::Device
     }
 }

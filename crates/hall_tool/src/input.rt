@@ -3,8 +3,6 @@ ghost use Rattle.std.specs.Prelude.{◌≡◌, ◌∷◌, [], MatchOption};
 ghost use Rattle.std.specs.Str.Lines.{lines, strip_carriage_return};
 ghost use Rattle.hall_tool.specs.Input.{HasOneLine, HasTwoLines, LacksOneLine, LacksTwoLines};
 
-use crate::words::place_of;
-
 /// The most bytes that an input has.
 pub const LIMIT: usize = 8192;
 
@@ -25,7 +23,7 @@ fn next_line(bytes: &[u8]) -> Option<(&[u8], &[u8])>
     if bytes.is_empty() {
         return None;
     }
-    match place_of(bytes, b'\n') {
+    match bytes.iter().position(|byte| *byte == b'\n') {
         Some(at) => Some((without_return(&bytes[..at]), &bytes[at + 1..])),
         None => Some((bytes, &[])),
     }

@@ -3,13 +3,14 @@ ghost use Rattle.std.specs.Prelude.{◌≡◌, ◌⊎◌, ℕ, List, IfOk, IfSom
 ghost use Rattle.std.specs.Io.KnownBytes.{Appends};
 ghost use Rattle.hall_grid.specs.Device.{HasFailed};
 ghost use Rattle.hall_tool.specs.JudgeText.{JudgeText, AnswersTexts, IsVerdictLine};
-ghost use Rattle.hall_tool.specs.Input.{WritesPart};
+ghost use Rattle.hall_http.specs.Device.{WritesPart};
 
-use crate::device::{read_input, write_line};
+use crate::device::read_input;
 use crate::ending::{Ending, refused, refused_input};
 use crate::fault::ToolFault;
 use crate::input::{LIMIT, two_lines};
 use hall_desk::judge;
+use hall_http::write_all;
 use hall_grid::{Counted, Puzzle, TextFault, parse_puzzle};
 use std::alloc::{AllocError, Global};
 use std::io::{Read, Write};
@@ -66,6 +67,6 @@ pub fn judge_run<R: Read, W: Write>(
 {
     let input = read_input(alloc, reader, LIMIT + 1)?;
     let ending = answer_input(alloc, &input)?;
-    write_line(writer, ending.line.as_bytes())?;
+    write_all(writer, ending.line.as_bytes())?;
     Ok(ending.status)
 }

@@ -4,13 +4,14 @@ ghost use Rattle.std.specs.Io.KnownBytes.{Appends};
 ghost use Rattle.hall_grid.specs.Device.{HasFailed};
 ghost use Rattle.hall_tool.specs.SolveText.{SolveText, IsSolved, IsOutcomeLine};
 ghost use Rattle.hall_tool.specs.JudgeText.{IsRefused};
-ghost use Rattle.hall_tool.specs.Input.{WritesPart};
+ghost use Rattle.hall_http.specs.Device.{WritesPart};
 
-use crate::device::{read_input, write_line};
+use crate::device::read_input;
 use crate::ending::{Ending, refused, refused_input};
 use crate::fault::ToolFault;
 use crate::input::{LIMIT, one_line};
 use hall_desk::certify;
+use hall_http::write_all;
 use hall_grid::{Counted, Puzzle, TextFault, parse_puzzle, write_answer};
 use hall_solve::Outcome;
 use std::alloc::{AllocError, Global};
@@ -85,6 +86,6 @@ pub fn solve_run<R: Read, W: Write>(
 {
     let input = read_input(alloc, reader, LIMIT + 1)?;
     let ending = answer_input(alloc, &input, budget)?;
-    write_line(writer, ending.line.as_bytes())?;
+    write_all(writer, ending.line.as_bytes())?;
     Ok(ending.status)
 }

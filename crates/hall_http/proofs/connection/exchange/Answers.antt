@@ -1,5 +1,5 @@
 use Rattle.std.proofs.Common.{refl}
-use Rattle.hall_http.specs.Handler.{answer_text}
+use Rattle.hall_http.specs.Answered.{answer_text}
 use Rattle.hall_http.proofs.Exchanges.{closing_request, open_request}
 use Rattle.hall_http.proofs.connection.exchange.Goals as goal
 
@@ -24,5 +24,5 @@ returns-in-Err g c = record {
   exchange = record { request = c.args.request.now; moment = c.now-moment.result; reply = answer_text c.answer-answer.result };
   asked = refl;
   exchanged = (c.requires, c.now-moment.ensures, c.answer-answer.ensures);
-  sent = (c.in-Err.ensures.part, c.in-Err.ensures.failed);
+  sent = (c.in-Err.ensures.part, c.in-Err.ensures.device);
 }

@@ -1,6 +1,6 @@
 use Rattle.std.proofs.Common.{inl, ◌∙◌, arith}
 use Rattle.std.proofs.lemmas.List.{take_rest}
-use Rattle.hall_http.proofs.Written.{HasWritten-more}
+use Rattle.hall_http.proofs.Bytes.{HasWritten-more}
 use Rattle.hall_http.proofs.device.write_all.Goals as goal
 
 pub loop-rest-preserved : goal.loop-rest-preserved

@@ -1,5 +1,5 @@
 use Rattle.std.proofs.Common.{◌≡◌, length}
-use Rattle.hall_http.proofs.Written.{HasWritten}
+use Rattle.hall_http.proofs.Bytes.{HasWritten}
 use Rattle.hall_http.proofs.device.write_all.Given as goal
 
 abbrev pub invariant-loop-rest : goal.invariant-loop-rest

@@ -1,6 +1,6 @@
 use Rattle.std.specs.Io.KnownBytes.{Appends}
 use Rattle.std.proofs.Common.{inr}
-use Rattle.hall_tool.specs.Input.{WritesPart}
+use Rattle.hall_http.specs.Device.{WritesPart}
 use Rattle.hall_tool.specs.JudgeText.{JudgeText}
 use Rattle.hall_tool.proofs.Judging.{judged_by_front, known_decides, known_tells}
 use Rattle.hall_tool.proofs.judge.judge_run.Goals as goal
@@ -8,13 +8,13 @@ use Rattle.hall_tool.proofs.judge.judge_run.Goals as goal
 pub returns-clause-line : goal.returns-clause-line
 returns-clause-line g c =
     known_decides JudgeText judged_by_front _ _ _ _
-    (Appends (g.W.Write.contents c.args.writer.now.device) (g.W.Write.contents c.write_line.new.writer.device))
+    (Appends (g.W.Write.contents c.args.writer.now.device) (g.W.Write.contents c.write_all.new.writer.device))
     c.in_ok-input.ensures.front (rw c.deref.ensures.value at c.in_ok-ending.ensures)
-    (rw c.as_bytes.ensures.value at c.in_ok-write_line.ensures.written)
+    (rw c.as_bytes.ensures.value at c.in_ok-write_all.ensures.written)
 
-pub returns-in_err-write_line-clause-part : goal.returns-in_err-write_line-clause-part
-returns-in_err-write_line-clause-part g c = λ _. inr (
+pub returns-in_err-write_all-clause-part : goal.returns-in_err-write_all-clause-part
+returns-in_err-write_all-clause-part g c = λ _. inr (
     known_tells JudgeText judged_by_front _ _ _ _
-    (WritesPart (g.W.Write.contents c.args.writer.now.device) (g.W.Write.contents c.write_line.new.writer.device))
+    (WritesPart (g.W.Write.contents c.args.writer.now.device) (g.W.Write.contents c.write_all.new.writer.device))
     c.in_ok-input.ensures.front (rw c.deref.ensures.value at c.in_ok-ending.ensures)
-    (rw c.as_bytes.ensures.value at c.in_err-write_line.ensures.part))
+    (rw c.as_bytes.ensures.value at c.in_err-write_all.ensures.part))

@@ -1,0 +1,41 @@
+-- Bytes that were written so far.
+use Rattle.std.proofs.Common.{◌≡◌, ℕ, ◌-◌, ◌^◌, ◌≤◌, ◌++◌, List, [], ◌∷◌, length, take, drop, Option, Some, None, refl}
+use Rattle.std.proofs.Common.{sym, ap, ◌∙◌, subst, inl, inr, arith}
+use Rattle.std.proofs.lemmas.List.{append_assoc, append-nil, take-append-drop, take_all, take_at}
+use Rattle.std.proofs.lemmas.Bool.{cases_lt}
+use Rattle.std.specs.Io.KnownBytes.{Appends, Consumes, IsAtEnd}
+use Rattle.hall_grid.specs.Device.{HasFailed, Rises}
+
+pub has_failed : (old new : ℕ) → Rises old new → HasFailed old new
+has_failed old new r = elim (cases_lt old (2 ^ 64 - 1)) [ inl h ↦ inl (omega arith) | inr h ↦ inr h ]
+
+-- a front of the bytes was written, and the rest is left
+pub record HasWritten (old new : Option (List ℕ)) (bytes rest : List ℕ) : Type 0 where
+  pub front : List ℕ
+  pub split : bytes ≡ front ++ rest
+  pub appends : Appends old new front
+
+pub HasWritten-start : (known : Option (List ℕ)) (bytes : List ℕ) → HasWritten known known bytes bytes
+HasWritten-start None bytes = record { front = []; split = refl; appends = tt }
+HasWritten-start (Some xs) bytes = record { front = []; split = refl; appends = sym (append-nil xs) }
+
+Appends-then : (a b c : Option (List ℕ)) (xs ys : List ℕ) → Appends a b xs → Appends b c ys → Appends a c (xs ++ ys)
+Appends-then None b c xs ys p q = tt
+Appends-then (Some a) None c xs ys p q = absurd p
+Appends-then (Some a) (Some b) None xs ys p q = absurd q
+Appends-then (Some a) (Some b) (Some c) xs ys p q = q ∙ ap (λ s. s ++ ys) p ∙ append_assoc a xs ys
+
+pub HasWritten-more : (old mid new : Option (List ℕ)) (bytes rest : List ℕ) (n : ℕ) → HasWritten old mid bytes rest
+    → Appends mid new (take n rest)
+    → HasWritten old new bytes (drop n rest)
+HasWritten-more old mid new bytes rest n w a = record {
+  front = w.front ++ take n rest;
+  split = w.split ∙ ap (λ s. w.front ++ s) (sym (take-append-drop n rest))
+      ∙ sym (append_assoc w.front (take n rest) (drop n rest));
+  appends = Appends-then old mid new w.front (take n rest) w.appends a;
+}
+
+pub HasWritten-end : (old new : Option (List ℕ)) (bytes rest : List ℕ) → length rest ≡ 0
+    → HasWritten old new bytes rest → Appends old new bytes
+HasWritten-end old new bytes [] e w = subst (λ s. Appends old new s) (sym (w.split ∙ append-nil w.front)) w.appends
+HasWritten-end old new bytes (b ∷ rest) e w = absurd (omega arith)

@@ -1,0 +1,201 @@
+-- The replies of the hall: a status and a JSON body, as bytes.
+use Rattle.std.specs.Prelude.{◌≡◌, ℕ, ◌==◌, ◌++◌, List, map, if◌then◌else◌, Option, Some, None, codes, decimal, length}
+use Rattle.serde_json.specs.Data.{Data, number, string, object, array, unsigned, Members, no_members, member}
+use Rattle.serde_json.specs.View.{items_of}
+use Rattle.serde_json.specs.Written.{compact_text}
+use Rattle.hall_grid.specs.declared.fault.TextFault.{TextFault}
+use Rattle.hall_grid.specs.declared.fault.TextFault.TheVariants as text_fault
+use Rattle.hall_grid.specs.Rule.{verdict_text}
+use Rattle.hall_policy.specs.declared.record.Mode.{Mode}
+use Rattle.hall_policy.specs.declared.record.Mode.TheVariants.{Instant, Sealed}
+use Rattle.hall_desk.specs.declared.reply.StateName.{StateName}
+use Rattle.hall_desk.specs.declared.reply.StateName.TheVariants as state
+use Rattle.hall_desk.specs.declared.reply.ShownPuzzle.{ShownPuzzle}
+use Rattle.hall_desk.specs.declared.reply.ShownRound.{ShownRound}
+use Rattle.hall_desk.specs.declared.reply.AnswerLine.{AnswerLine}
+use Rattle.hall_desk.specs.declared.reply.Reply.{Reply}
+use Rattle.hall_desk.specs.declared.reply.Reply.TheVariants as reply
+use Rattle.hall_http.specs.declared.form.Field.{Field}
+use Rattle.hall_http.specs.declared.form.Field.TheVariants as field
+use Rattle.hall_http.specs.declared.form.FormFault.{FormFault}
+use Rattle.hall_http.specs.declared.form.FormFault.TheVariants as fault
+use Rattle.hall_http.specs.declared.status.Status.{Status}
+use Rattle.hall_http.specs.declared.status.Status.TheVariants as status
+use Rattle.hall_http.specs.declared.status.MediaType.{MediaType}
+use Rattle.hall_http.specs.declared.status.MediaType.TheVariants as media
+
+-- the code of a status, and its reason
+abbrev pub status_words : Status → List ℕ
+status_words status.Ok = codes "200 OK"
+status_words status.BadRequest = codes "400 Bad Request"
+status_words status.Forbidden = codes "403 Forbidden"
+status_words status.NotFound = codes "404 Not Found"
+status_words status.Unavailable = codes "503 Service Unavailable"
+
+-- the name of a type of bodies
+abbrev pub media_words : MediaType → List ℕ
+media_words media.Plain = codes "text/plain"
+media_words media.Json = codes "application/json"
+
+-- the status line, and the type of the body
+abbrev pub head_bytes : Status → MediaType → List ℕ
+head_bytes s m = codes "HTTP/1.1 " ++ (status_words s ++ (codes "\r\nContent-Type: " ++ media_words m))
+
+-- the status line, two header lines, an empty line and the body
+abbrev pub wire_bytes : Status → MediaType → List ℕ → List ℕ
+wire_bytes s m body = head_bytes s m ++ ((codes "\r\nContent-Length: " ++ (decimal (length body) ++ codes "\r\n\r\n")) ++ body)
+
+-- a member that is a text, and one that is a number, before further members
+abbrev pub text_member : List ℕ → List ℕ → Members → Members
+text_member name text more = member name (string text) more
+
+abbrev pub number_member : List ℕ → ℕ → Members → Members
+number_member name n more = member name (number (unsigned n)) more
+
+-- what a puzzle's state is called
+abbrev pub state_text : StateName → List ℕ
+state_text state.New = codes "new"
+state_text state.One = codes "one"
+state_text state.NoSolution = codes "none"
+state_text state.More = codes "more"
+state_text state.GaveUp = codes "gave up"
+
+-- what a round's mode is called
+abbrev pub mode_text : Mode → List ℕ
+mode_text Instant = codes "instant"
+mode_text Sealed = codes "sealed"
+
+-- {"state":S,"text":T}
+abbrev pub put_data : StateName → List ℕ → Data
+put_data s text = object (text_member (codes "state") (state_text s) (text_member (codes "text") text no_members))
+
+-- {"state":S}
+abbrev pub certified_data : StateName → Data
+certified_data s = object (text_member (codes "state") (state_text s) no_members)
+
+-- {"released":R}
+abbrev pub released_data : List ℕ → Data
+released_data id = object (text_member (codes "released") id no_members)
+
+-- {"number":N,"points":N,"text":T}
+abbrev pub puzzle_data : ShownPuzzle → Data
+puzzle_data p =
+    let text = text_member (codes "text") p.text no_members in
+    object (number_member (codes "number") p.number (number_member (codes "points") p.points text))
+
+-- the round's members in the order of their names, the last being its title
+abbrev pub round_data : ShownRound → Data
+round_data r = object (
+    number_member (codes "bonus") r.bonus (
+    text_member (codes "id") r.id (
+    number_member (codes "minutes") r.minutes (
+    text_member (codes "mode") (mode_text r.mode) (
+    number_member (codes "penalty") r.penalty (
+    number_member (codes "protest_minutes") r.protest_minutes (
+    member (codes "puzzles") (array (items_of (map puzzle_data r.puzzles))) (
+    number_member (codes "start") r.start (
+    text_member (codes "title") r.title no_members)))))))))
+
+-- the verdict's member, where a verdict is told
+abbrev pub verdict_member : Option ℕ → Members
+verdict_member None = no_members
+verdict_member (Some names) = text_member (codes "verdict") (verdict_text names) no_members
+
+-- {"received":N,"verdict":V}
+abbrev pub received_data : ℕ → Option ℕ → Data
+received_data n verdict = object (number_member (codes "received") n (verdict_member verdict))
+
+-- an answer's members in the order of their names, the last being its verdict
+abbrev pub answer_data : AnswerLine → Data
+answer_data a = object (
+    text_member (codes "answer") a.answer (
+    text_member (codes "entrant") a.entrant (
+    number_member (codes "moment") a.moment (
+    number_member (codes "n") a.n (
+    number_member (codes "number") a.number (
+    text_member (codes "token") a.token (
+    verdict_member a.verdict)))))))
+
+-- {"answers":[A,..]}
+abbrev pub answers_data : List AnswerLine → Data
+answers_data lines = object (member (codes "answers") (array (items_of (map answer_data lines))) no_members)
+
+-- {"denied":K}
+abbrev pub denied_data : ℕ → Data
+denied_data rule = object (number_member (codes "denied") rule no_members)
+
+-- {"fault":"hall"}
+abbrev pub unavailable_data : Data
+unavailable_data = object (text_member (codes "fault") (codes "hall") no_members)
+
+-- the body of a reply
+abbrev pub reply_data : Reply → Data
+reply_data (reply.Denied rule) = denied_data rule
+reply_data reply.Unavailable = unavailable_data
+reply_data (reply.PuzzlePut s text) = put_data s text
+reply_data (reply.Certified s) = certified_data s
+reply_data (reply.Released id) = released_data id
+reply_data (reply.RoundRead round) = round_data round
+reply_data (reply.Received n verdict) = received_data n verdict
+reply_data (reply.AnswerList lines) = answers_data lines
+
+-- 404 where the object isn't there, 403 for any other denial
+abbrev pub denied_status : ℕ → Status
+denied_status rule = if rule == 4 then status.NotFound else status.Forbidden
+
+-- the status of a reply
+abbrev pub reply_status : Reply → Status
+reply_status (reply.Denied rule) = denied_status rule
+reply_status reply.Unavailable = status.Unavailable
+reply_status _ = status.Ok
+
+-- the member that a fault names
+abbrev pub field_text : Field → List ℕ
+field_text field.Answer = codes "answer"
+field_text field.Text = codes "text"
+field_text field.Budget = codes "budget"
+
+-- {"form":F}
+abbrev pub form_data : List ℕ → Data
+form_data form = object (text_member (codes "form") form no_members)
+
+-- {"field":"text","form":F}
+abbrev pub field_data : Field → List ℕ → Data
+field_data f form = object (text_member (codes "field") (field_text f) (text_member (codes "form") form no_members))
+
+-- {"form":E,"place":N}
+abbrev pub place_data : List ℕ → ℕ → Data
+place_data form place = object (text_member (codes "form") form (number_member (codes "place") place no_members))
+
+-- the body of the reply to a text that is no puzzle
+abbrev pub text_fault_data : TextFault → Data
+text_fault_data text_fault.Memory = form_data (codes "E1")
+text_fault_data text_fault.Kind = form_data (codes "E2")
+text_fault_data text_fault.SizeField = form_data (codes "E3")
+text_fault_data text_fault.SizeLimit = form_data (codes "E4")
+text_fault_data (text_fault.Strange place) = place_data (codes "E5") place
+text_fault_data (text_fault.Cut place) = place_data (codes "E6") place
+text_fault_data (text_fault.Range place) = place_data (codes "E7") place
+text_fault_data (text_fault.After place) = place_data (codes "E8") place
+
+-- the body of the reply to bytes that are no request
+abbrev pub fault_data : FormFault → Data
+fault_data fault.Syntax = form_data (codes "F1")
+fault_data (fault.Missing f) = field_data f (codes "F2")
+fault_data (fault.Range f) = field_data f (codes "F3")
+fault_data (fault.Puzzle found) = text_fault_data found
+fault_data fault.NoRoute = form_data (codes "F6")
+fault_data fault.NotWhole = form_data (codes "F7")
+
+-- 404 where nothing is served, else 400
+abbrev pub fault_status : FormFault → Status
+fault_status fault.NoRoute = status.NotFound
+fault_status _ = status.BadRequest
+
+-- the bytes of a reply
+abbrev pub BytesOf : Reply → List ℕ → Type 0
+BytesOf given bytes = bytes ≡ wire_bytes (reply_status given) media.Json (compact_text (reply_data given))
+
+-- the bytes of the reply to bytes that are no request
+abbrev pub FaultBytesOf : FormFault → List ℕ → Type 0
+FaultBytesOf found bytes = bytes ≡ wire_bytes (fault_status found) media.Json (compact_text (fault_data found))

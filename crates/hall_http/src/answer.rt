@@ -1,0 +1,81 @@
+//! Bytes to bytes: a request is read, a step of the hall made, and its reply written.
+ghost use Rattle.std.specs.Prelude.{◌≡◌, IfOk, OnErr, string_bytes};
+ghost use Rattle.hall_store.specs.Store.{Leads};
+ghost use Rattle.hall_desk.specs.Desk.{kept_by};
+ghost use Rattle.hall_http.specs.Answered.{answer_text, AnswersOver, IsStepReplyOver};
+
+use crate::form::RequestFault;
+use crate::reply::{UNAVAILABLE, fault_bytes, reply_bytes};
+use crate::request::request_of;
+use crate::routes::Routes;
+use hall_desk::Desk;
+use hall_policy::{Moment, Request};
+use hall_store::{Store, StoreFault};
+use std::alloc::Global;
+
+/// The bytes that answer a request.
+#[derive(Drop)]
+pub enum Answer {
+    Text(String),
+    /// 503, which takes no memory.
+    Unavailable,
+}
+
+impl Answer {
+    /// Its bytes.
+    pub fn as_bytes(&self) -> &[u8]
+        ensures { result.now ≡ answer_text self.now }
+    {
+        match self {
+            Answer::Text(text) => text.as_str().as_bytes(),
+            Answer::Unavailable => UNAVAILABLE.as_bytes(),
+        }
+    }
+}
+
+/// Answers the bytes of one request at the moment, and makes its change.
+///
+/// The reply is there before the change: where either is refused, nothing is changed, and the answer is 503. Bytes that
+/// aren't one whole request are answered by the first fault of their form, and no rule is asked.
+pub fn answer_bytes<S: Store>(
+    alloc: Global,
+    routes: &Routes,
+    desk: &mut Desk<S>,
+    moment: Moment,
+    bytes: &[u8],
+) -> Answer
+    ensures leads { Leads (S.content (kept_by desk.old)) (S.content (kept_by desk.new)) }
+    ensures answers { (S.content (kept_by desk.new)).honest →
+        AnswersOver (S.content (kept_by desk.old)) moment bytes.now (answer_text result) (S.content (kept_by desk.new)) }
+{
+    match request_of(alloc, routes, bytes) {
+        Ok(request) => match answer_request(alloc, desk, moment, &request) {
+            Ok(text) => Answer::Text(text),
+            Err(_) => Answer::Unavailable,
+        },
+        Err(RequestFault::Form(fault)) => match fault_bytes(alloc, fault) {
+            Ok(text) => Answer::Text(text),
+            Err(_) => Answer::Unavailable,
+        },
+        Err(RequestFault::Memory) => Answer::Unavailable,
+    }
+}
+
+/// The bytes of a request's reply, once its change is made.
+fn answer_request<S: Store>(
+    alloc: Global,
+    desk: &mut Desk<S>,
+    moment: Moment,
+    request: &Request,
+) -> Result<String, StoreFault>
+    ensures leads { Leads (S.content (kept_by desk.old)) (S.content (kept_by desk.new)) }
+    ensures ok { IfOk result (λ text. (S.content (kept_by desk.new)).honest → IsStepReplyOver
+        (S.content (kept_by desk.old)) moment request.now (string_bytes text) (S.content (kept_by desk.new))) }
+    ensures err { OnErr result ((S.content (kept_by desk.new)).honest → (S.content (kept_by desk.new)).serves →
+        (S.content (kept_by desk.new)).world ≡ (S.content (kept_by desk.old)).world) }
+{
+    let plan = desk.plan(alloc, moment, request)?;
+    let text = reply_bytes(alloc, plan.reply())?;
+    let _reply = desk.commit(alloc, plan)?;
+    Ok(text)
+}

@@ -1,0 +1,338 @@
+//! The bytes of replies.
+ghost use Rattle.std.specs.Prelude.{◌≡◌, ◌++◌, [], false, IfOk, OnOk, map, string_bytes};
+ghost use Rattle.serde_json.specs.View.{view};
+ghost use Rattle.serde_json.specs.Written.{has_float, compact_text};
+ghost use Rattle.hall_http.specs.Reply.{state_text, mode_text, put_data, certified_data, released_data, puzzle_data};
+ghost use Rattle.hall_http.specs.Reply.{round_data, received_data, answer_data, answers_data, denied_data};
+ghost use Rattle.hall_http.specs.Reply.{unavailable_data, reply_data, reply_status, denied_status, field_text};
+ghost use Rattle.hall_http.specs.Reply.{form_data, field_data, place_data, text_fault_data, fault_data, fault_status};
+ghost use Rattle.hall_http.specs.Reply.{head_bytes, wire_bytes, BytesOf, FaultBytesOf};
+
+use crate::form::{Field, FormFault};
+use crate::status::{MediaType, Status};
+use hall_desk::{AnswerLine, Reply, ShownPuzzle, ShownRound, StateName};
+use hall_grid::{Broken, TextFault};
+use hall_policy::{AnswerNumber, Mode};
+use serde_json::{Value, json};
+use std::alloc::{AllocError, Global};
+
+/// The reply for want of memory, of the store or of the clock. It takes no memory.
+pub(crate) const UNAVAILABLE: &str = "HTTP/1.1 503 Service Unavailable\r\nContent-Type: application/json\r\nContent-Length: 16\r\n\r\n{\"fault\":\"hall\"}";
+
+/// The bytes of a reply: the status line, two header lines, an empty line and the body.
+pub(crate) fn reply_bytes(alloc: Global, reply: &Reply) -> Result<String, AllocError>
+    ensures { IfOk result (λ bytes. BytesOf reply.now (string_bytes bytes)) }
+{
+    let body = reply_body(alloc, reply)?;
+    json_bytes(alloc, reply_status(reply), &body)
+}
+
+/// The bytes of the reply to bytes that are no request.
+pub(crate) fn fault_bytes(alloc: Global, fault: FormFault) -> Result<String, AllocError>
+    ensures { IfOk result (λ bytes. FaultBytesOf fault (string_bytes bytes)) }
+{
+    let body = fault_body(alloc, fault)?;
+    json_bytes(alloc, fault_status(fault), &body)
+}
+
+/// A reply with a JSON body.
+fn json_bytes(alloc: Global, status: Status, body: &Value) -> Result<String, AllocError>
+    requires { has_float (view body.now) ≡ false }
+    ensures { IfOk result (λ bytes. string_bytes bytes ≡ wire_bytes status MediaType.Json (compact_text (view body.now))) }
+{
+    let text = body.to_string(alloc)?;
+    write_reply(alloc, status, MediaType::Json, text.as_str())
+}
+
+/// The bytes of a reply.
+fn write_reply(
+    alloc: Global,
+    status: Status,
+    media: MediaType,
+    body: &str,
+) -> Result<String, AllocError>
+    ensures { IfOk result (λ bytes. string_bytes bytes ≡ wire_bytes status media body.now) }
+{
+    let mut bytes = String::new(alloc);
+    push_head(&mut bytes, status, media)?;
+    let size = format!(in alloc; "\r\nContent-Length: {}\r\n\r\n", body.len())?;
+    bytes.push_str(size.as_str())?;
+    bytes.push_str(body)?;
+    Ok(bytes)
+}
+
+/// Writes the status line and the type of the body.
+fn push_head(bytes: &mut String, status: Status, media: MediaType) -> Result<(), AllocError>
+    ensures { OnOk result (string_bytes bytes.new ≡ string_bytes bytes.old ++ head_bytes status media) }
+{
+    bytes.push_str("HTTP/1.1 ")?;
+    bytes.push_str(status.words())?;
+    bytes.push_str("\r\nContent-Type: ")?;
+    bytes.push_str(media.words())
+}
+
+/// The status of a reply.
+fn reply_status(reply: &Reply) -> Status
+    ensures { result ≡ reply_status reply.now }
+{
+    match reply {
+        Reply::Denied(rule) => denied_status(*rule),
+        Reply::Unavailable => Status::Unavailable,
+        Reply::PuzzlePut { .. } => Status::Ok,
+        Reply::Certified(_) => Status::Ok,
+        Reply::Released(_) => Status::Ok,
+        Reply::RoundRead(_) => Status::Ok,
+        Reply::Received { .. } => Status::Ok,
+        Reply::AnswerList(_) => Status::Ok,
+    }
+}
+
+/// The status of a denial by the rule.
+fn denied_status(rule: u8) -> Status
+    ensures { result ≡ denied_status rule }
+{
+    if rule == 4 {
+        Status::NotFound
+    } else {
+        Status::Forbidden
+    }
+}
+
+/// The status for bytes that are no request.
+fn fault_status(fault: FormFault) -> Status
+    ensures { result ≡ fault_status fault }
+{
+    match fault {
+        FormFault::NoRoute => Status::NotFound,
+        FormFault::Syntax => Status::BadRequest,
+        FormFault::Missing(_) => Status::BadRequest,
+        FormFault::Range(_) => Status::BadRequest,
+        FormFault::Puzzle(_) => Status::BadRequest,
+        FormFault::NotWhole => Status::BadRequest,
+    }
+}
+
+/// The body of a reply.
+fn reply_body(alloc: Global, reply: &Reply) -> Result<Value, AllocError>
+    ensures { IfOk result (λ body. view body ≡ reply_data reply.now) }
+{
+    match reply {
+        Reply::Denied(rule) => denied_body(alloc, *rule),
+        Reply::Unavailable => unavailable_body(alloc),
+        Reply::PuzzlePut { state, text } => put_body(alloc, *state, text.as_str()),
+        Reply::Certified(state) => certified_body(alloc, *state),
+        Reply::Released(round) => released_body(alloc, round.as_str()),
+        Reply::RoundRead(round) => round_body(alloc, round),
+        Reply::Received { n, verdict } => received_body(alloc, *n, *verdict),
+        Reply::AnswerList(lines) => answers_body(alloc, lines.as_slice()),
+    }
+}
+
+fn denied_body(alloc: Global, rule: u8) -> Result<Value, AllocError>
+    ensures { IfOk result (λ body. view body ≡ denied_data rule) }
+{
+    json!(in alloc; {"denied": rule})
+}
+
+fn unavailable_body(alloc: Global) -> Result<Value, AllocError>
+    ensures { IfOk result (λ body. view body ≡ unavailable_data) }
+{
+    json!(in alloc; {"fault": "hall"})
+}
+
+/// What a puzzle's state is called.
+fn state_text(state: StateName) -> &'static str
+    ensures { result.now ≡ state_text state }
+{
+    match state {
+        StateName::New => "new",
+        StateName::One => "one",
+        StateName::NoSolution => "none",
+        StateName::More => "more",
+        StateName::GaveUp => "gave up",
+    }
+}
+
+/// What a round's mode is called.
+fn mode_text(mode: Mode) -> &'static str
+    ensures { result.now ≡ mode_text mode }
+{
+    match mode {
+        Mode::Instant => "instant",
+        Mode::Sealed => "sealed",
+    }
+}
+
+fn put_body(alloc: Global, state: StateName, text: &str) -> Result<Value, AllocError>
+    ensures { IfOk result (λ body. view body ≡ put_data state text.now) }
+{
+    json!(in alloc; {"state": (state_text(state)), "text": text})
+}
+
+fn certified_body(alloc: Global, state: StateName) -> Result<Value, AllocError>
+    ensures { IfOk result (λ body. view body ≡ certified_data state) }
+{
+    json!(in alloc; {"state": (state_text(state))})
+}
+
+fn released_body(alloc: Global, round: &str) -> Result<Value, AllocError>
+    ensures { IfOk result (λ body. view body ≡ released_data round.now) }
+{
+    json!(in alloc; {"released": round})
+}
+
+fn puzzle_body(alloc: Global, puzzle: &ShownPuzzle) -> Result<Value, AllocError>
+    ensures { IfOk result (λ body. view body ≡ puzzle_data puzzle.now) }
+{
+    json!(in alloc; {
+        "number": (puzzle.number.get()),
+        "points": (puzzle.points.get()),
+        "text": (puzzle.text.as_str())
+    })
+}
+
+fn puzzle_bodies(alloc: Global, puzzles: &[ShownPuzzle]) -> Result<Vec<Value>, AllocError>
+    ensures { IfOk result (λ bodies. map view bodies.items ≡ map puzzle_data puzzles.now) }
+{
+    let mut bodies = Vec::new(alloc);
+    for puzzle in puzzles {
+        bodies.push(puzzle_body(alloc, puzzle)?)?;
+    }
+    Ok(bodies)
+}
+
+fn round_body(alloc: Global, round: &ShownRound) -> Result<Value, AllocError>
+    ensures { IfOk result (λ body. view body ≡ round_data round.now) }
+{
+    let puzzles = puzzle_bodies(alloc, round.puzzles.as_slice())?;
+    json!(in alloc; {
+        "bonus": (round.bonus.get()),
+        "id": (round.id.as_str()),
+        "minutes": (round.minutes.get()),
+        "mode": (mode_text(round.mode)),
+        "penalty": (round.penalty.get()),
+        "protest_minutes": (round.protest_minutes.get()),
+        "puzzles": puzzles,
+        "start": (round.start.get()),
+        "title": (round.title.as_str())
+    })
+}
+
+fn received_body(
+    alloc: Global,
+    n: AnswerNumber,
+    verdict: Option<Broken>,
+) -> Result<Value, AllocError>
+    ensures { IfOk result (λ body. view body ≡ received_data n verdict) }
+{
+    match verdict {
+        None => json!(in alloc; {"received": (n.get())}),
+        Some(names) => {
+            let verdict = format!(in alloc; "{names}")?;
+            json!(in alloc; {"received": (n.get()), "verdict": verdict})
+        }
+    }
+}
+
+fn answer_body(alloc: Global, line: &AnswerLine) -> Result<Value, AllocError>
+    ensures { IfOk result (λ body. view body ≡ answer_data line.now) }
+{
+    match line.verdict {
+        None => json!(in alloc; {
+            "answer": (line.answer.as_str()),
+            "entrant": (line.entrant.as_str()),
+            "moment": (line.moment.get()),
+            "n": (line.n.get()),
+            "number": (line.number.get()),
+            "token": (line.token.as_str())
+        }),
+        Some(names) => {
+            let verdict = format!(in alloc; "{names}")?;
+            json!(in alloc; {
+                "answer": (line.answer.as_str()),
+                "entrant": (line.entrant.as_str()),
+                "moment": (line.moment.get()),
+                "n": (line.n.get()),
+                "number": (line.number.get()),
+                "token": (line.token.as_str()),
+                "verdict": verdict
+            })
+        }
+    }
+}
+
+fn answer_bodies(alloc: Global, lines: &[AnswerLine]) -> Result<Vec<Value>, AllocError>
+    ensures { IfOk result (λ bodies. map view bodies.items ≡ map answer_data lines.now) }
+{
+    let mut bodies = Vec::new(alloc);
+    for line in lines {
+        bodies.push(answer_body(alloc, line)?)?;
+    }
+    Ok(bodies)
+}
+
+fn answers_body(alloc: Global, lines: &[AnswerLine]) -> Result<Value, AllocError>
+    ensures { IfOk result (λ body. view body ≡ answers_data lines.now) }
+{
+    let answers = answer_bodies(alloc, lines)?;
+    json!(in alloc; {"answers": answers})
+}
+
+/// The member that a fault names.
+fn field_text(field: Field) -> &'static str
+    ensures { result.now ≡ field_text field }
+{
+    match field {
+        Field::Answer => "answer",
+        Field::Text => "text",
+        Field::Budget => "budget",
+    }
+}
+
+fn form_body(alloc: Global, form: &str) -> Result<Value, AllocError>
+    ensures { IfOk result (λ body. view body ≡ form_data form.now) }
+{
+    json!(in alloc; {"form": form})
+}
+
+fn field_body(alloc: Global, field: Field, form: &str) -> Result<Value, AllocError>
+    ensures { IfOk result (λ body. view body ≡ field_data field form.now) }
+{
+    json!(in alloc; {"field": (field_text(field)), "form": form})
+}
+
+fn place_body(alloc: Global, form: &str, place: usize) -> Result<Value, AllocError>
+    ensures { IfOk result (λ body. view body ≡ place_data form.now place) }
+{
+    json!(in alloc; {"form": form, "place": place})
+}
+
+/// The body of the reply to a text that is no puzzle.
+fn text_fault_body(alloc: Global, fault: TextFault) -> Result<Value, AllocError>
+    ensures { IfOk result (λ body. view body ≡ text_fault_data fault) }
+{
+    match fault {
+        TextFault::Memory => form_body(alloc, "E1"),
+        TextFault::Kind => form_body(alloc, "E2"),
+        TextFault::SizeField => form_body(alloc, "E3"),
+        TextFault::SizeLimit => form_body(alloc, "E4"),
+        TextFault::Strange(place) => place_body(alloc, "E5", place),
+        TextFault::Cut(place) => place_body(alloc, "E6", place),
+        TextFault::Range(place) => place_body(alloc, "E7", place),
+        TextFault::After(place) => place_body(alloc, "E8", place),
+    }
+}
+
+/// The body of the reply to bytes that are no request.
+fn fault_body(alloc: Global, fault: FormFault) -> Result<Value, AllocError>
+    ensures { IfOk result (λ body. view body ≡ fault_data fault) }
+{
+    match fault {
+        FormFault::Syntax => form_body(alloc, "F1"),
+        FormFault::Missing(field) => field_body(alloc, field, "F2"),
+        FormFault::Range(field) => field_body(alloc, field, "F3"),
+        FormFault::Puzzle(found) => text_fault_body(alloc, found),
+        FormFault::NoRoute => form_body(alloc, "F6"),
+        FormFault::NotWhole => form_body(alloc, "F7"),
+    }
+}

@@ -1,0 +1,112 @@
+//! A replay: the records of an input, answered one after another.
+ghost use Rattle.std.specs.Prelude.{◌≡◌, ◌<◌, ◌⊎◌, [], IfErr, OnOk, OnErr, MatchResult, length};
+ghost use Rattle.std.specs.Io.KnownBytes.{Appends};
+ghost use Rattle.hall_grid.specs.Device.{HasFailed};
+ghost use Rattle.hall_desk.specs.Desk.{kept_by, SaneThen};
+ghost use Rattle.hall_desk.specs.Sane.{Sane};
+ghost use Rattle.hall_desk.specs.Promises.{HasUniqueSolutions, RightAnswersAreSolutions};
+ghost use Rattle.hall_http.specs.Device.{WritesPart};
+ghost use Rattle.hall_http.specs.Answered.{answer_text};
+ghost use Rattle.hall_http.specs.Replay.{IsReplayed};
+
+use crate::answer::{Answer, answer_bytes};
+use crate::device::write_all;
+use crate::fault::{DeviceFault, ReplayFault};
+use crate::inbox::{Inbox, ReadFault};
+use crate::record::{Cut, cut_record};
+use crate::routes::Routes;
+use hall_desk::Desk;
+use hall_grid::Counted;
+use hall_store::Store;
+use std::alloc::Global;
+use std::io::{Read, Write};
+
+/// The most reads of a replay.
+const READ_LIMIT: u64 = 1_000_000_000;
+
+/// Writes the answer.
+fn send<W: Write>(writer: &mut Counted<W>, answer: Answer) -> Result<(), DeviceFault>
+    ensures written { OnOk result
+        (Appends (W.contents writer.old.device) (W.contents writer.new.device) (answer_text answer)) }
+    ensures same { OnOk result (writer.new.failures ≡ writer.old.failures) }
+    ensures part { OnErr result
+        (WritesPart (W.contents writer.old.device) (W.contents writer.new.device) (answer_text answer)) }
+    ensures device { OnErr result (HasFailed writer.old.failures writer.new.failures) }
+{
+    write_all(writer, answer.as_bytes())
+}
+
+/// Answers the records of the input, and writes the replies.
+///
+/// Ends well where the input held whole records and no more. A device's fault leaves the records handled made, the last
+/// one's reply perhaps unsent; any other fault comes after the replies of the records before. A sane world stays sane.
+pub fn replay<R: Read, W: Write, S: Store>(
+    alloc: Global,
+    desk: &mut Desk<S>,
+    reader: &mut Counted<R>,
+    writer: &mut Counted<W>,
+) -> Result<(), ReplayFault>
+    ensures replayed { IsReplayed (R.remaining reader.old.device) (R.remaining reader.new.device)
+        (W.contents writer.old.device) (W.contents writer.new.device)
+        (S.content (kept_by desk.old)) (S.content (kept_by desk.new))
+        (HasFailed reader.old.failures reader.new.failures ⊎ HasFailed writer.old.failures writer.new.failures) result }
+    ensures sane { SaneThen Sane (S.content (kept_by desk.old)) (S.content (kept_by desk.new)) }
+    ensures unique { SaneThen HasUniqueSolutions (S.content (kept_by desk.old)) (S.content (kept_by desk.new)) }
+    ensures right { SaneThen RightAnswersAreSolutions (S.content (kept_by desk.old)) (S.content (kept_by desk.new)) }
+{
+    let routes = Routes::new(alloc)?;
+    answer_records(alloc, &routes, desk, reader, writer)
+}
+
+/// Answers the records of the input, and writes the replies.
+fn answer_records<R: Read, W: Write, S: Store>(
+    alloc: Global,
+    routes: &Routes,
+    desk: &mut Desk<S>,
+    reader: &mut Counted<R>,
+    writer: &mut Counted<W>,
+) -> Result<(), ReplayFault>
+    ensures { IsReplayed (R.remaining reader.old.device) (R.remaining reader.new.device)
+        (W.contents writer.old.device) (W.contents writer.new.device)
+        (S.content (kept_by desk.old)) (S.content (kept_by desk.new))
+        (HasFailed reader.old.failures reader.new.failures ⊎ HasFailed writer.old.failures writer.new.failures) result }
+{
+    let mut inbox = Inbox::new(alloc)?;
+    let mut reads = 0;
+    'records: loop {
+        match cut_record(inbox.unread()) {
+            Cut::Whole { moment, start, end } => {
+                let answer = answer_bytes(alloc, routes, desk, moment, &inbox.unread()[start..end]);
+                inbox.pass(end);
+                match send(writer, answer) {
+                    Ok(()) => {}
+                    Err(_) => return Err(ReplayFault::Device),
+                }
+            }
+            Cut::More => {
+                if reads == READ_LIMIT {
+                    return Err(ReplayFault::Record);
+                }
+                reads += 1;
+                match inbox.read_more(reader) {
+                    Ok(true) => {}
+                    Ok(false) => return end_of_input(inbox.unread()),
+                    Err(ReadFault::Device) => return Err(ReplayFault::Device),
+                    Err(ReadFault::Memory) => return Err(ReplayFault::Memory),
+                }
+            }
+            Cut::Never => return Err(ReplayFault::Record),
+        }
+    }
+}
+
+/// How a replay ends at the end of its input, with these bytes left.
+fn end_of_input(unread: &[u8]) -> Result<(), ReplayFault>
+    ensures { MatchResult result (λ _. unread.now ≡ []) (λ e. (e ≡ ReplayFault.Record) × (0 < length unread.now)) }
+{
+    if unread.is_empty() {
+        Ok(())
+    } else {
+        Err(ReplayFault::Record)
+    }
+}
