@@ -1,11 +1,11 @@
 -- What the loop of a connection keeps, and how each of its ends follows.
-use Rattle.std.proofs.Common.{◌≡◌, ◌≢◌, ◌∙◌, sym, ap, subst, refl, arith, ℕ, ◌+◌, ◌<◌, ◌≤◌, ◌⊎◌, inl, inr, List, [], ◌∷◌, ◌++◌}
-use Rattle.std.proofs.Common.{length, take, drop, Option, append_assoc, length-append, All}
+use Rattle.std.proofs.Common.{◌≡◌, ◌≢◌, ◌∙◌, sym, ap, subst, refl, arith, ℕ, ◌+◌, ◌<◌, ◌≤◌, inl, inr, List, [], ◌∷◌, ◌++◌}
+use Rattle.std.proofs.Common.{length, take, drop, Option, append_assoc, length-append}
 use Rattle.std.proofs.lemmas.List.{append-nil, take-append-drop}
 use Rattle.std.proofs.lemmas.List.Concat.{flat_map-append}
 use Rattle.std.proofs.lemmas.List.Elements.{All-nil, All-push}
 use Rattle.std.proofs.KnownBytes.{Appends-nil, Appends-trans, Consumes-nil, Consumes-trans}
-use Rattle.std.specs.Io.KnownBytes.{Appends, Consumes, IsAtEnd}
+use Rattle.std.specs.Io.KnownBytes.{Appends, Consumes}
 use Rattle.hall_grid.specs.Device.{HasFailed}
 use Rattle.hall_http.specs.Head.{IsRequest, IsWhole, HasNone, NeverHas}
 use Rattle.httparse.specs.Grammar.{RequestHead}
@@ -13,10 +13,9 @@ use Rattle.hall_http.specs.Device.{WritesPart}
 use Rattle.hall_http.specs.Inbox.{ReadsMore}
 use Rattle.hall_http.specs.Connection.{Exchange, Exchanged, Session, requests_of, replies_of, AreOpen, IsOpen, IsClosing, closes}
 use Rattle.hall_http.specs.Served.{IsHandled, Ended, IsNoRequest, refusal}
-use Rattle.hall_http.specs.Sending.{IsTurn, Sends, Refuses, EndsInput}
+use Rattle.hall_http.specs.Sending.{Refuses, EndsInput}
 use Rattle.hall_http.specs.declared.connection.ServeEnd.{ServeEnd}
 use Rattle.hall_http.specs.declared.connection.ServeEnd.TheVariants as end
-use Rattle.hall_http.specs.declared.connection.Turn.TheVariants as turn
 use Rattle.hall_http.specs.declared.inbox.ReadFault.{ReadFault}
 use Rattle.hall_http.specs.declared.inbox.ReadFault.TheVariants as fault
 use Rattle.std.specs.Prelude.{Ok, Err, Bool, true, false}

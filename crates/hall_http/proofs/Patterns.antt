@@ -1,16 +1,14 @@
 -- The table of patterns goes into a router without a conflict.
-use Rattle.std.proofs.Common.{◌≡◌, ◌∙◌, List, [], ◌∷◌, ℕ, Bool, true, false, refl, sym, Result, Ok, Err, None, Some, ◌&&◌, inl, inr, Option, cond, rules}
+use Rattle.std.proofs.Common.{◌≡◌, ◌∙◌, List, [], ℕ, true, refl, sym, Result, Ok, Err, Some, ◌&&◌, inl, inr}
 use Rattle.std.specs.Prelude.{not, is_some}
-use Rattle.matchit.specs.Router.{RouteOf, route_from, InsertsRead, Inserted, nearest, Refused}
+use Rattle.matchit.specs.Router.{InsertsRead, nearest, Refused}
 use Rattle.matchit.specs.Route.{Scan, parse_route}
-use Rattle.matchit.specs.Rows.{RowsOf}
 use Rattle.matchit.specs.declared.error.InsertError.{InsertError}
 use Rattle.matchit.specs.declared.error.InsertError.TheVariants as error
 use Rattle.matchit.proofs.OnLiterals.{matchit_on_literals}
 use Rattle.hall_http.specs.Routes.{Table, added, is_free, are_free, rows_from, patterns}
 use Rattle.hall_http.specs.declared.routes.Place.{Place}
-use Rattle.std.proofs.Common.{◌<◌, ◌≤◌, ◌+◌, length, drop, get_or, map, Bor}
-use Rattle.std.proofs.lemmas.List.{at_drop_all}
+use Rattle.std.proofs.Common.{◌<◌, ◌+◌, length, drop, get_or, map, Bor}
 use Rattle.std.proofs.lemmas.List.{drop_more}
 use Rattle.std.proofs.lemmas.Bool.{and_parts}
 
@@ -33,7 +31,6 @@ no_conflict p rows error.InvalidCatchAll free h = absurd h
 pub refused : (read : Result Scan InsertError) (value : Place) (old new : Table) (e : InsertError) → is_free value read old ≡ true → InsertsRead read value old new (Err e) → e ≡ error.OutOfMemory
 refused (Ok s) value old new e free h = no_conflict s.pattern old e free h.1
 refused (Err x) value old new e free h = cc
-
 
 abbrev pub texts : List (Bor (List ℕ) × Place) → List (List ℕ × Place)
 texts xs = map (λ p. (p.0.now, p.1)) xs

@@ -1,8 +1,7 @@
 -- A session over a store is a run of the hall over its requests.
-use Rattle.std.proofs.Common.{◌≡◌, ◌∙◌, sym, ap, subst, refl, ℕ, inl, inr, List, [], ◌∷◌, Option, Some, None, All}
+use Rattle.std.proofs.Common.{◌≡◌, ◌∙◌, sym, subst, refl, ℕ, inl, inr, List, [], ◌∷◌, Option, Some, None, All}
 use Rattle.std.proofs.lemmas.List.Elements.{All-nil, All-cons}
 use Rattle.hall_policy.specs.World.{World}
-use Rattle.hall_policy.specs.declared.request.Request.{Request}
 use Rattle.hall_store.specs.Store.{Content, Leads, Over}
 use Rattle.hall_desk.specs.Run.{Run}
 use Rattle.hall_desk.specs.Sane.{Sane}
@@ -13,7 +12,7 @@ use Rattle.hall_http.specs.Connection.{Exchange, Session}
 use Rattle.std.specs.Prelude.{Result, Ok, Err, IfOk, OnErr}
 use Rattle.hall_http.specs.Served.{IsHandled, IsServed}
 use Rattle.hall_http.specs.declared.connection.ServeEnd.{ServeEnd}
-use Rattle.hall_http.specs.Serving.{AnswersAt, IsAnswered, AreMoments, IsMade, IsNotMade, IsRunOver, RunsOver}
+use Rattle.hall_http.specs.Serving.{AnswersAt, IsAnswered, AreMoments, IsNotMade, IsRunOver, RunsOver}
 
 -- the exchanges, one after another, over worlds
 abbrev pub Answering : World → List Exchange → World → Type 0
@@ -31,21 +30,33 @@ not_made w v x xs last same other run = record {
   made = inl (other, run.made);
 }
 
+-- the first exchange is a step of the hall, or none, and the others are a run
+before_run : (world : World) (x : Exchange) (moment : Option ℕ) (next : World) (xs : List Exchange) (last : World)
+    → x.moment ≡ moment → AnswersAt world moment x.request x.reply next → IsRunOver next xs last
+    → IsRunOver world (x ∷ xs) last
+before_run world x (Some t) next xs last at (inl step) run = record {
+  requests = (t, step.request) ∷ run.requests;
+  replies = step.reply ∷ run.replies;
+  run = (next, step.step, run.run);
+  made = inr (
+    (t, step.request),
+    step.reply,
+    run.requests,
+    run.replies,
+    refl,
+    refl,
+    record { moment = at; reads = step.reads; written = step.written },
+    run.made,
+  );
+}
+before_run world x (Some t) next xs last at (inr (other, same)) run = not_made world next x xs last same other run
+before_run world x None next xs last at (unavailable, same) run =
+    not_made world next x xs last same (inr unavailable) run
+
 pub run_over : (world : World) (xs : List Exchange) (last : World) → Answering world xs last → IsRunOver world xs last
 run_over world [] last same = record { requests = []; replies = []; run = same; made = (refl, refl) }
-run_over world (record { request = bytes; moment = Some t; reply = reply } ∷ xs) last (next, inl step, rest) =
-    let run = run_over next xs last rest in
-    record {
-      requests = (t, step.request) ∷ run.requests;
-      replies = step.reply ∷ run.replies;
-      run = (next, step.step, run.run);
-      made = inr ((t, step.request), step.reply, run.requests, run.replies, refl, refl,
-          record { moment = refl; reads = step.reads; written = step.written }, run.made);
-    }
-run_over world (record { request = bytes; moment = Some t; reply = reply } ∷ xs) last (next, inr (other, same), rest) =
-    not_made world next _ xs last same other (run_over next xs last rest)
-run_over world (record { request = bytes; moment = None; reply = reply } ∷ xs) last (next, (unavailable, same), rest) =
-    not_made world next _ xs last same (inr unavailable) (run_over next xs last rest)
+run_over world (x ∷ xs) last (next, step, rest) =
+    before_run world x x.moment next xs last refl step (run_over next xs last rest)
 
 module _ {H C : Type 0} (content : H → Content) (now_gives : C → Option ℕ → C → Type 0) where
   abbrev answers : H → Option ℕ → List ℕ → List ℕ → H → Type 0
@@ -77,26 +88,27 @@ module _ {H C : Type 0} (content : H → Content) (now_gives : C → Option ℕ 
   abbrev Onward : World → List Exchange → Content → Type 0
   Onward world xs new = (last : World) × Answering world xs last × (new.serves → new.world ≡ last)
 
+  -- the first exchange, and then the others from whatever world it leaves
+  further : (old new : Content) (x : Exchange) (xs : List Exchange) (last : Content) (world : World)
+      → (old.serves → old.world ≡ world) → (new.serves → old.serves)
+      → Over (λ before after. AnswersAt before x.moment x.request x.reply after) old new
+      → ((world : World) → (new.serves → new.world ≡ world) → Onward world xs last)
+      → Onward world (x ∷ xs) last
+  further old new x xs last world own served (inl (always, left)) rest =
+      let (end, more, stays) = rest world (λ s. left s ∙ own (served s)) in (end, (world, always world, more), stays)
+  further old new x xs last world own served (inr (before, after, says)) rest =
+      let (end, more, stays) = rest new.world (λ s. refl) in
+      (end, (new.world, subst (λ w. AnswersAt w x.moment x.request x.reply new.world) (own before) says, more), stays)
+
   onward : (h : H) (c : C) (xs : List Exchange) (i : H) (d : C) (world : World)
       → Session answers now_gives h c xs i d → ((content h).serves → (content h).world ≡ world) → (content i).honest
       → Onward world xs (content i)
-  further : (m : H) (n : C) (x : Exchange) (xs : List Exchange) (i : H) (d : C) (old : Content) (world : World)
-      → Session answers now_gives m n xs i d → (old.serves → old.world ≡ world) → (content i).honest
-      → ((content m).serves → old.serves)
-      → Over (λ before after. AnswersAt before x.moment x.request x.reply after) old (content m)
-      → Onward world (x ∷ xs) (content i)
   onward h c [] i d world (same, ends) own honest =
-      (world, refl, λ s. subst (λ (i : H). (content i).serves → (content i).world ≡ world) (sym same) own s)
+      (world, refl, subst (λ (i : H). (content i).serves → (content i).world ≡ world) (sym same) own)
   onward h c (x ∷ xs) i d world (m, n, (whole, time, says), rest) own honest =
       let before = (session_leads m n xs i d rest).honest honest in
-      further m n x xs i d (content h) world rest own honest (says.leads.serves before) (says.answers before)
-  further m n x xs i d old world rest own honest served (inl (always, left)) =
-      let (last, more, stays) = onward m n xs i d world rest (λ s. left s ∙ own (served s)) honest in
-      (last, (world, always world, more), stays)
-  further m n x xs i d old world rest own honest served (inr (before, after, says)) =
-      let (last, more, stays) = onward m n xs i d (content m).world rest (λ s. refl) honest in
-      (last, ((content m).world,
-      subst (λ w. AnswersAt w x.moment x.request x.reply (content m).world) (own before) says, more), stays)
+      further (content h) (content m) x xs (content i) world own (says.leads.serves before) (says.answers before)
+      (λ next is. onward m n xs i d next rest is honest)
 
   pub session_runs : (h : H) (c : C) (xs : List Exchange) (i : H) (d : C) → Session answers now_gives h c xs i d
       → (content i).honest → RunsOver (content h) xs (content i)

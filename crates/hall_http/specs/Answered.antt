@@ -50,4 +50,3 @@ AnswersOver old moment bytes text new = Over (λ before after. Answers before mo
 -- the text is that of the reply of a step of the hall for the request, over a store
 abbrev pub IsStepReplyOver : Content → ℕ → Request → List ℕ → Content → Type 0
 IsStepReplyOver old moment request text new = Over (λ before after. IsStepReply before moment request text after) old new
-

@@ -158,7 +158,14 @@ fn serve_requests<H: Handler, R: Read, W: Write, C: Clock>(
     while requests < REQUEST_LIMIT {
         match cut_request(inbox.unread()) {
             Cut::Whole(size) => {
-                let turn = exchange(alloc, routes, &inbox.unread()[..size], handler, writer, clock);
+                let turn = exchange(
+                    alloc,
+                    routes,
+                    &inbox.unread()[..size],
+                    handler,
+                    writer,
+                    clock,
+                );
                 inbox.pass(size);
                 requests += 1;
                 match turn {

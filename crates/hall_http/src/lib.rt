@@ -24,5 +24,5 @@ pub use connection::{Clock, ServeEnd, serve};
 pub use device::write_all;
 pub use fault::{DeviceFault, ReplayFault};
 pub use head::{Cut, cut_request};
-pub use session::replay;
 pub use routes::Routes;
+pub use session::replay;

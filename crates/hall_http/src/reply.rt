@@ -17,7 +17,8 @@ use serde_json::{Value, json};
 use std::alloc::{AllocError, Global};
 
 /// The reply for want of memory, of the store or of the clock. It takes no memory.
-pub(crate) const UNAVAILABLE: &str = "HTTP/1.1 503 Service Unavailable\r\nContent-Type: application/json\r\nContent-Length: 16\r\n\r\n{\"fault\":\"hall\"}";
+pub(crate) const UNAVAILABLE: &str =
+    "HTTP/1.1 503 Service Unavailable\r\nContent-Type: application/json\r\nContent-Length: 16\r\n\r\n{\"fault\":\"hall\"}";
 
 /// The bytes of a reply: the status line, two header lines, an empty line and the body.
 pub(crate) fn reply_bytes(alloc: Global, reply: &Reply) -> Result<String, AllocError>

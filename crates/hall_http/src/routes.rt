@@ -171,7 +171,11 @@ fn find<'p>(routes: &Routes, path: &'p str) -> Option<(Place, Parts<'p>)>
 fn expect_method(method: &[u8], name: &[u8]) -> Result<(), RequestFault>
     ensures { Gives (λ r. r) result (is_method name.now method.now) }
 {
-    if method == name { Ok(()) } else { Err(NO_ROUTE) }
+    if method == name {
+        Ok(())
+    } else {
+        Err(NO_ROUTE)
+    }
 }
 
 /// The number of a puzzle in a round.
@@ -200,7 +204,12 @@ fn puzzle_key(alloc: Global, parts: &Parts) -> Result<PuzzleKey, RequestFault>
 }
 
 /// What the place and its parts name, by the method.
-fn route_at(alloc: Global, method: &[u8], place: Place, parts: &Parts) -> Result<Route, RequestFault>
+fn route_at(
+    alloc: Global,
+    method: &[u8],
+    place: Place,
+    parts: &Parts,
+) -> Result<Route, RequestFault>
     ensures { Gives (λ r. r) result (route_at method.now place (parts_seen parts.now)) }
 {
     match place {

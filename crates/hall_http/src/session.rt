@@ -54,14 +54,12 @@ pub fn replay<R: Read, W: Write, S: Store>(
     ensures unique { SaneThen HasUniqueSolutions (S.content (kept_by desk.old)) (S.content (kept_by desk.new)) }
     ensures right { SaneThen RightAnswersAreSolutions (S.content (kept_by desk.old)) (S.content (kept_by desk.new)) }
 {
-    let routes = Routes::new(alloc)?;
-    answer_records(alloc, &routes, desk, reader, writer)
+    answer_records(alloc, desk, reader, writer)
 }
 
 /// Answers the records of the input, and writes the replies.
 fn answer_records<R: Read, W: Write, S: Store>(
     alloc: Global,
-    routes: &Routes,
     desk: &mut Desk<S>,
     reader: &mut Counted<R>,
     writer: &mut Counted<W>,
@@ -71,12 +69,19 @@ fn answer_records<R: Read, W: Write, S: Store>(
         (S.content (kept_by desk.old)) (S.content (kept_by desk.new))
         (HasFailed reader.old.failures reader.new.failures ⊎ HasFailed writer.old.failures writer.new.failures) result }
 {
+    let routes = Routes::new(alloc)?;
     let mut inbox = Inbox::new(alloc)?;
     let mut reads = 0;
     'records: loop {
         match cut_record(inbox.unread()) {
             Cut::Whole { moment, start, end } => {
-                let answer = answer_bytes(alloc, routes, desk, moment, &inbox.unread()[start..end]);
+                let answer = answer_bytes(
+                    alloc,
+                    &routes,
+                    desk,
+                    moment,
+                    &inbox.unread()[start..end],
+                );
                 inbox.pass(end);
                 match send(writer, answer) {
                     Ok(()) => {}

@@ -1,5 +1,5 @@
-use Rattle.std.proofs.Common.{◌∙◌, arith, inr}
-use Rattle.hall_http.proofs.Exchanges.{Kept, kept_answered, closes_last, unsent, never_request}
+use Rattle.std.proofs.Common.{◌∙◌, arith}
+use Rattle.hall_http.proofs.Exchanges.{kept_answered, closes_last, unsent, never_request}
 use Rattle.hall_http.proofs.connection.serve_requests.Goals as goal
 
 pub loop-requests-preserved-in-Open : goal.loop-requests-preserved-in-Open

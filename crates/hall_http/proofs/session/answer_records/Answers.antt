@@ -17,9 +17,14 @@ records-init g c = record {
       (sym c.in_ok-inbox.ensures) (kept_start _ _ (g.S.Store.content (kept_by c.args.desk.now)));
 }
 
+pub returns-in_err-routes : goal.returns-in_err-routes
+returns-in_err-routes g c =
+    let ends : c.from_residual.result ≡ Err fault.Memory = search rules in
+    rw ends (no_memory _ _ _ _ _ _ _ _ (kept_start _ _ _) _ _ [] (Consumes-nil _))
+
 pub returns-in_err-inbox : goal.returns-in_err-inbox
 returns-in_err-inbox g c =
-    let ends : c.from_residual.result ≡ Err fault.Memory = search rules in
+    let ends : c.from_residual-in_err-inbox.result ≡ Err fault.Memory = search rules in
     rw ends (no_memory _ _ _ _ _ _ _ _ (kept_start _ _ _) _ _ [] (Consumes-nil _))
 
 pub returns-in-Err : goal.returns-in-Err
@@ -27,7 +32,7 @@ returns-in-Err g c =
     let (r, late, whole) = rw c.unread.ensures at c.in-Whole.ensures in
     let says = rw (c.unread-in-Whole.ensures, ← late) at c.answer_bytes-answer.ensures.answers in
     unsent _ _ _ _ _ _ _ _ c.records.invariant.kept r c.in-Whole.start c.in-Whole.end _ _ whole c.answer_bytes-answer.ensures.leads says _
-    _ c.in-Err.ensures.part (inr (rw c.records.invariant.writer at c.in-Err.ensures.device.1))
+    _ c.in-Err.ensures.part (inr (rw c.records.invariant.writer at c.in-Err.ensures.device))
 
 pub records-preserved-in-Ok : goal.records-preserved-in-Ok
 records-preserved-in-Ok g c =
