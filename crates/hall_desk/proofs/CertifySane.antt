@@ -12,7 +12,7 @@ use Rattle.hall_desk.specs.Step.{Allowed, is_open}
 use Rattle.hall_desk.specs.Sane.{Sane}
 use Rattle.hall_desk.specs.declared.reply.Reply.{Reply}
 use Rattle.hall_desk.proofs.Saneness.{put_sane}
-use Rattle.hall_desk.proofs.Truths.{found_true}
+use Rattle.hall_desk.proofs.Truths.{found_true, found_typed}
 
 -- a puzzle that is open to a search stands in no released round, since it would be in state one there
 unreleased : (world : World) (key : PuzzleKey) (row : PuzzleRow) → Sane world → get world.puzzles key ≡ Some row → is_open row.state ≡ true → (id : List ℕ) → ¬ (StandsReleased world key id)
@@ -23,13 +23,15 @@ unreleased world key row sane kept unsettled id stands =
     let no : true ≡ false = sym unsettled ∙ ap (λ (r : PuzzleRow). is_open r.state) same ∙ ap is_open c.3 in
     cc
 
--- a Certify keeps the world sane: what is found is true, and the key and its author are there already
+-- a Certify keeps the world sane: what is found is true and of its type, and the key and its author are there already
 pub certify_step : (world : World) (caller : Option Person) (key : PuzzleKey) (budget t : ℕ) (found : PuzzleState) (given : Reply) (new : World) → Sane world →
     Allowed world caller (action.Certify key budget) t found given new → Sane new
 certify_step world caller key budget t found given new sane (row, kept, inl h) =
     subst Sane (sym h.stored)
-    (put_sane world key (record row { state = found }) (sane.keyed.puzzles key row kept) (found_true row.puzzle budget found h.is_found) sane
-    (sane.keyed.authors key row kept)
+    (put_sane world key (record row { state = found }) (sane.typed.puzzles key row kept)
+    (let is = sane.typed.in_range.puzzles key row kept in record { key = is.key; puzzle = is.puzzle; state = found_typed row.puzzle budget found is.puzzle h.is_found })
+    (found_true row.puzzle budget found h.is_found) sane
+    (sane.refers.authors key row kept)
     (unreleased world key row sane kept h.unsettled)
     (λ none. absurd (let no : Some row ≡ None = sym kept ∙ none in cc)))
 certify_step world caller key budget t found given new sane (row, kept, inr h) = subst Sane (sym h.same) sane

@@ -1,5 +1,6 @@
 -- The empty world is sane, and stays so as people and drafts are added.
 use Rattle.std.proofs.Common.{◌≡◌, ◌≢◌, ◌==◌, ◌&&◌, ◌⊎◌, inl, inr, ℕ, zero, suc, Bool, true, false, List, [], map, Some, None, Contains, IsTrue, refl, sym, ap, ◌∙◌, subst, arith}
+use Rattle.std.specs.Prelude.{All}
 use Rattle.std.specs.List.{count_by}
 use Rattle.std.specs.List.Sorted.{IsStrictlySortedBy}
 use Rattle.std.specs.FinMap.{FinMap, IsAntisymmetric, get, insert, values, from_entries}
@@ -8,7 +9,7 @@ use Rattle.std.specs.declared.cmp.Ordering.{Ordering}
 use Rattle.std.proofs.lemmas.Option.{slice_get_within, get_or_from_slice_get}
 use Rattle.hall_policy.specs.Text.{text_cmp}
 use Rattle.hall_policy.specs.World.{World, entry_at, same_text, place_cmp}
-use Rattle.hall_policy.specs.Lists.{AreEntries}
+use Rattle.hall_policy.specs.Ranges.{IsPerson, IsRound, IsEntry, IsRoundRow, AreRowsInRange, HasWholeList, IsWorld}
 use Rattle.hall_policy.specs.Rules.{StandsReleased}
 use Rattle.hall_policy.specs.declared.record.Person.{Person}
 use Rattle.hall_policy.specs.declared.record.PuzzleKey.{PuzzleKey}
@@ -22,7 +23,7 @@ use Rattle.hall_policy.specs.declared.record.PlaceKey.{PlaceKey}
 use Rattle.hall_policy.proofs.Orders.{text_total, same_texts, puzzle_total, place_total, answer_total, protest_total, same_puzzle_keys, same_answer_keys, same_protest_keys}
 use Rattle.hall_store.specs.Maps.{empty_world, PersonAdded, DraftAdded}
 use Rattle.hall_desk.specs.Found.{IsReleasedRound}
-use Rattle.hall_desk.specs.Sane.{Sane, IsKeyed}
+use Rattle.hall_desk.specs.Sane.{Sane, RefersToRows}
 use Rattle.hall_store.proofs.MapWorlds.{get_found, entries_made}
 use Rattle.hall_store.proofs.Inserts.{keys_apart, found_after, others_stay, inserted_there, still_there}
 
@@ -40,15 +41,26 @@ module _ {K : Type 0} {R : K → K → Ordering} (o : IsTotalOrder R) (X : Type 
 -- the empty world is sane: nothing stands anywhere, and nothing counts
 pub empty_sane : Sane empty_world
 empty_sane = record {
-  keyed = record {
+  typed = record {
+    in_range = record {
+      people = λ name row found. absurd (nowhere text_total Person name row found);
+      puzzles = λ key row found. absurd (nowhere puzzle_total PuzzleRow key row found);
+      rounds = λ id round found. absurd (nowhere text_total Round id round found);
+      places = λ key entry found. absurd (nowhere place_total Entry key entry found);
+      answers = λ key row found. absurd (nowhere answer_total AnswerRow key row found);
+      protests = λ key row found. absurd (nowhere protest_total ProtestRow key row found);
+    };
     people = λ name row found. absurd (nowhere text_total Person name row found);
     puzzles = λ key row found. absurd (nowhere puzzle_total PuzzleRow key row found);
     rounds = λ id round found. absurd (nowhere text_total Round id round found);
     answers = λ key row found. absurd (nowhere answer_total AnswerRow key row found);
     protests = λ key row found. absurd (nowhere protest_total ProtestRow key row found);
-    authors = λ key row found. absurd (nowhere puzzle_total PuzzleRow key row found);
+    keys_differ = λ a b p q found. absurd (nowhere text_total Person a p found);
     lists = λ id round found. absurd (nowhere text_total Round id round found);
     homes = λ key entry found. absurd (nowhere place_total Entry key entry found);
+  };
+  refers = record {
+    authors = λ key row found. absurd (nowhere puzzle_total PuzzleRow key row found);
     entries = λ key entry found. absurd (nowhere place_total Entry key entry found);
     entrants = λ key row found. absurd (nowhere answer_total AnswerRow key row found);
     answered = λ key row found. absurd (nowhere answer_total AnswerRow key row found);
@@ -65,7 +77,6 @@ empty_sane = record {
   ruled = λ id round found. absurd (nowhere text_total Round id round found);
   numbered = λ key row found. absurd (nowhere answer_total AnswerRow key row found);
   numbered_once = λ a b row other found. absurd (nowhere answer_total AnswerRow a row found);
-  keys_differ = λ a b p q found. absurd (nowhere text_total Person a p found);
   apart = λ name person found. absurd (nowhere text_total Person name person found);
   few_answers = λ entrant round number. omega (arith, none_counts answer_total AnswerRow same_answer_keys (λ row. same_text row.key.entrant entrant && (same_text row.key.round round && (row.key.number == number))));
   few_protests = λ entrant round. omega (arith, none_counts protest_total ProtestRow same_protest_keys (λ row. same_text row.key.entrant entrant && same_text row.key.round round));
@@ -85,31 +96,61 @@ module _ (world : World) (person : Person) (sane : Sane world) where
   stays : (q : List ℕ) → get world.people q ≢ None → get new_people q ≢ None
   stays q there = still_there text_total same_texts world.people person.name person q there
 
-  person_keyed : IsKeyed (record world { people = new_people })
-  person_keyed = record {
-    people = λ q p found. elim (after_person q p found) [
-      | inl h ↦ ap (λ (x : Person). x.name) h.1 ∙ sym h.0
-      | inr h ↦ sane.keyed.people q p h.1
-    ];
-    puzzles = sane.keyed.puzzles;
-    rounds = sane.keyed.rounds;
-    answers = sane.keyed.answers;
-    protests = sane.keyed.protests;
-    authors = λ key row found. stays key.author (sane.keyed.authors key row found);
-    lists = λ id round found. let l = sane.keyed.lists id round found in (l.0, record { head = l.1.head; list = l.1.list }, l.2);
-    homes = sane.keyed.homes;
-    entries = sane.keyed.entries;
-    entrants = λ key row found. stays key.entrant (sane.keyed.entrants key row found);
-    answered = sane.keyed.answered;
-    protesters = λ key row found. stays key.entrant (sane.keyed.protesters key row found);
-    protested = sane.keyed.protested;
+  person_refers : RefersToRows (record world { people = new_people })
+  person_refers = record {
+    authors = λ key row found. stays key.author (sane.refers.authors key row found);
+    entries = sane.refers.entries;
+    entrants = λ key row found. stays key.entrant (sane.refers.entrants key row found);
+    answered = sane.refers.answered;
+    protesters = λ key row found. stays key.entrant (sane.refers.protesters key row found);
+    protested = sane.refers.protested;
   }
 
+  module _ (in_range : IsPerson person) (own_key : (name : List ℕ) (other : Person) → get world.people name ≡ Some other → other.key ≢ person.key) where
+    person_in_range : AreRowsInRange (record world { people = new_people })
+    person_in_range = record {
+      people = λ q p found. elim (after_person q p found) [
+        | inl h ↦ subst IsPerson (sym h.1) in_range
+        | inr h ↦ sane.typed.in_range.people q p h.1
+      ];
+      puzzles = sane.typed.in_range.puzzles;
+      rounds = sane.typed.in_range.rounds;
+      places = sane.typed.in_range.places;
+      answers = sane.typed.in_range.answers;
+      protests = sane.typed.in_range.protests;
+    }
+
+    person_typed : IsWorld (record world { people = new_people })
+    person_typed = record {
+      in_range = person_in_range;
+      people = λ q p found. elim (after_person q p found) [
+        | inl h ↦ ap (λ (x : Person). x.name) h.1 ∙ sym h.0
+        | inr h ↦ sane.typed.people q p h.1
+      ];
+      puzzles = sane.typed.puzzles;
+      rounds = sane.typed.rounds;
+      answers = sane.typed.answers;
+      protests = sane.typed.protests;
+      keys_differ = λ a b p q at_a at_b same. elim (after_person a p at_a) [
+        | inl h ↦ elim (after_person b q at_b) [
+          | inl k ↦ h.0 ∙ sym k.0
+          | inr k ↦ absurd (own_key b q k.1 (sym same ∙ ap (λ (x : Person). x.key) h.1))
+        ]
+        | inr h ↦ elim (after_person b q at_b) [
+          | inl k ↦ absurd (own_key a p h.1 (same ∙ ap (λ (x : Person). x.key) k.1))
+          | inr k ↦ sane.typed.keys_differ a b p q h.1 k.1 same
+        ]
+      ];
+      lists = λ id round found. let l = sane.typed.lists id round found in (l.0, record { head = l.1.head; list = l.1.list }, l.2);
+      homes = sane.typed.homes;
+    }
+
 -- a person with a key of the own who is not director and entrant may be added
-pub person_sane : (world : World) (person : Person) → Sane world → get world.people person.name ≡ None → ((name : List ℕ) (other : Person) → get world.people name ≡ Some other → other.key ≢ person.key) →
+pub person_sane : (world : World) (person : Person) → Sane world → IsPerson person → get world.people person.name ≡ None → ((name : List ℕ) (other : Person) → get world.people name ≡ Some other → other.key ≢ person.key) →
     (IsTrue person.roles.director → IsTrue person.roles.entrant → ⊥) → Sane (record world { people = insert world.people person.name person })
-person_sane world person sane fresh own_key one_role = record {
-  keyed = person_keyed world person sane;
+person_sane world person sane in_range fresh own_key one_role = record {
+  typed = person_typed world person sane in_range own_key;
+  refers = person_refers world person sane;
   states = sane.states;
   answers_released = sane.answers_released;
   protests_released = sane.protests_released;
@@ -120,16 +161,6 @@ person_sane world person sane fresh own_key one_role = record {
   ruled = sane.ruled;
   numbered = sane.numbered;
   numbered_once = sane.numbered_once;
-  keys_differ = λ a b p q at_a at_b same. elim (after_person world person sane a p at_a) [
-    | inl h ↦ elim (after_person world person sane b q at_b) [
-      | inl k ↦ h.0 ∙ sym k.0
-      | inr k ↦ absurd (own_key b q k.1 (sym same ∙ ap (λ (x : Person). x.key) h.1))
-    ]
-    | inr h ↦ elim (after_person world person sane b q at_b) [
-      | inl k ↦ absurd (own_key a p h.1 (same ∙ ap (λ (x : Person). x.key) k.1))
-      | inr k ↦ sane.keys_differ a b p q h.1 k.1 same
-    ]
-  ];
   apart = λ name p found. elim (after_person world person sane name p found) [
     | inl h ↦ λ director entrant. one_role (subst (λ (x : Person). IsTrue x.roles.director) h.1 director) (subst (λ (x : Person). IsTrue x.roles.entrant) h.1 entrant)
     | inr h ↦ sane.apart name p h.1
@@ -144,6 +175,10 @@ person_sane world person sane fresh own_key one_role = record {
 listed : (entries : List Entry) (number : ℕ) (entry : Entry) → entry_at entries number ≡ Some entry → Contains entries entry
 listed entries zero entry h = let no : None ≡ Some entry = h in absurd (cc)
 listed entries (suc before) entry h = (before, slice_get_within entries before entry h, get_or_from_slice_get entries before entry entry h)
+
+-- and so is in the ranges of its type
+entry_in_range : (entries : List Entry) (entry : Entry) → All IsEntry entries → Contains entries entry → IsEntry entry
+entry_in_range entries entry each among = subst IsEntry among.2 (each among.0 entry among.1)
 
 module _ (world : World) (id : List ℕ) (row : RoundRow) (places : FinMap place_cmp Entry) (sane : Sane world) (fresh : get world.rounds id ≡ None)
     (at_own : (number : ℕ) → get places (record { round = id; number = number }) ≡ entry_at row.puzzles number)
@@ -171,56 +206,82 @@ module _ (world : World) (id : List ℕ) (row : RoundRow) (places : FinMap place
 
   -- a place that was there stays: its round was there, and so is not the draft
   place_stays : (key : PlaceKey) (entry : Entry) → get world.places key ≡ Some entry → get places key ≡ Some entry
-  place_stays key entry found = at_other key (another key.round (sane.keyed.homes key entry found)) ∙ found
+  place_stays key entry found = at_other key (another key.round (sane.typed.homes key entry found)) ∙ found
 
   -- a released round stays one, since it is not the draft
   released_stays : (q : List ℕ) → IsReleasedRound world q → IsReleasedRound after q
   released_stays q (r, found, is) =
       (r, others_stay text_total same_texts world.rounds id row.round q r (another q (λ none. let no : Some r ≡ None = sym found ∙ none in cc)) found, is)
 
-  module _ (own : row.round.id ≡ id) (entries : AreEntries row.puzzles) (there : (entry : Entry) → Contains row.puzzles entry → get world.puzzles entry.puzzle ≢ None) where
-    draft_keyed : IsKeyed after
-    draft_keyed = record {
-      people = sane.keyed.people;
-      puzzles = sane.keyed.puzzles;
+  module _ (own : row.round.id ≡ id) (in_range : IsRoundRow row) (there : (entry : Entry) → Contains row.puzzles entry → get world.puzzles entry.puzzle ≢ None) where
+    draft_in_range : AreRowsInRange after
+    draft_in_range = record {
+      people = sane.typed.in_range.people;
+      puzzles = sane.typed.in_range.puzzles;
+      rounds = λ q r found. elim (after_draft q r found) [
+        | inl h ↦ subst IsRound (sym h.1) in_range.round
+        | inr h ↦ sane.typed.in_range.rounds q r h.1
+      ];
+      places = λ key entry found. elim (place_from key entry found) [
+        | inl h ↦ entry_in_range row.puzzles entry in_range.puzzles.each (listed row.puzzles key.number entry h.1)
+        | inr h ↦ sane.typed.in_range.places key entry h.1
+      ];
+      answers = sane.typed.in_range.answers;
+      protests = sane.typed.in_range.protests;
+    }
+
+    -- the draft's list is whole, and each other stays
+    lists_then : (q : List ℕ) (r : Round) → get new_rounds q ≡ Some r → HasWholeList after q
+    lists_then q r found = elim (after_draft q r found) [
+      | inl h ↦ (
+        row,
+        record {
+          head = inserted_there text_total same_texts world.rounds id row.round q h.0;
+          list = λ number. ap (λ (x : List ℕ). get places (record { round = x; number = number })) h.0 ∙ at_own number;
+        },
+        in_range.puzzles.list,
+      )
+      | inr h ↦
+          let l = sane.typed.lists q r h.1 in (
+            l.0,
+            record {
+              head = others_stay text_total same_texts world.rounds id row.round q l.0.round h.0 l.1.head;
+              list = λ number. at_other (record { round = q; number = number }) h.0 ∙ l.1.list number;
+            },
+            l.2,
+          )
+    ]
+
+    draft_typed : IsWorld after
+    draft_typed = record {
+      in_range = draft_in_range;
+      people = sane.typed.people;
+      puzzles = sane.typed.puzzles;
       rounds = λ q r found. elim (after_draft q r found) [
         | inl h ↦ ap (λ (x : Round). x.id) h.1 ∙ own ∙ sym h.0
-        | inr h ↦ sane.keyed.rounds q r h.1
+        | inr h ↦ sane.typed.rounds q r h.1
       ];
-      answers = sane.keyed.answers;
-      protests = sane.keyed.protests;
-      authors = sane.keyed.authors;
-      lists = λ q r found. elim (after_draft q r found) [
-        | inl h ↦ (
-          row,
-          record {
-            head = inserted_there text_total same_texts world.rounds id row.round q h.0;
-            list = λ number. ap (λ (x : List ℕ). get places (record { round = x; number = number })) h.0 ∙ at_own number;
-          },
-          entries,
-        )
-        | inr h ↦
-            let l = sane.keyed.lists q r h.1 in (
-              l.0,
-              record {
-                head = others_stay text_total same_texts world.rounds id row.round q l.0.round h.0 l.1.head;
-                list = λ number. at_other (record { round = q; number = number }) h.0 ∙ l.1.list number;
-              },
-              l.2,
-            )
-      ];
+      answers = sane.typed.answers;
+      protests = sane.typed.protests;
+      keys_differ = sane.typed.keys_differ;
+      lists = lists_then;
       homes = λ key entry found. elim (place_from key entry found) [
         | inl h ↦ λ none. let no : Some row.round ≡ None = sym (inserted_there text_total same_texts world.rounds id row.round key.round h.0) ∙ none in cc
-        | inr h ↦ still_there text_total same_texts world.rounds id row.round key.round (sane.keyed.homes key entry h.1)
+        | inr h ↦ still_there text_total same_texts world.rounds id row.round key.round (sane.typed.homes key entry h.1)
       ];
+    }
+
+    draft_refers : RefersToRows after
+    draft_refers = record {
+      authors = sane.refers.authors;
       entries = λ key entry found. elim (place_from key entry found) [
         | inl h ↦ there entry (listed row.puzzles key.number entry h.1)
-        | inr h ↦ sane.keyed.entries key entry h.1
+        | inr h ↦ sane.refers.entries key entry h.1
       ];
-      entrants = sane.keyed.entrants;
-      answered = λ key answer found. let at = sane.keyed.answered key answer found in (at.0, place_stays (record { round = key.round; number = key.number }) at.0 at.1);
-      protesters = sane.keyed.protesters;
-      protested = λ key protest found. let at = sane.keyed.protested key protest found in (at.0, place_stays (record { round = key.round; number = protest.number }) at.0 at.1);
+      entrants = sane.refers.entrants;
+      answered = λ key answer found. let at = sane.refers.answered key answer found in (at.0, place_stays (record { round = key.round; number = key.number }) at.0 at.1);
+      protesters = sane.refers.protesters;
+      protested = λ key protest found. let at = sane.refers.protested key protest found in (at.0, place_stays (record { round = key.round; number = protest.number }) at.0 at.1);
     }
 
     module _ (draft : row.round.released ≡ false) (secret : row.round.published ≡ false) where
@@ -237,7 +298,8 @@ module _ (world : World) (id : List ℕ) (row : RoundRow) (places : FinMap place
 
       draft_added : Sane after
       draft_added = record {
-        keyed = draft_keyed;
+        typed = draft_typed;
+        refers = draft_refers;
         states = sane.states;
         answers_released = λ key answer found. released_stays key.round (sane.answers_released key answer found);
         protests_released = λ key protest found. released_stays key.round (sane.protests_released key protest found);
@@ -254,7 +316,6 @@ module _ (world : World) (id : List ℕ) (row : RoundRow) (places : FinMap place
         ];
         numbered = sane.numbered;
         numbered_once = sane.numbered_once;
-        keys_differ = sane.keys_differ;
         apart = sane.apart;
         few_answers = sane.few_answers;
         few_protests = sane.few_protests;
@@ -263,19 +324,19 @@ module _ (world : World) (id : List ℕ) (row : RoundRow) (places : FinMap place
 
 -- a draft under a new id may be added, with the places of its puzzles, which are there
 pub draft_sane : (world : World) (id : List ℕ) (row : RoundRow) (places : FinMap place_cmp Entry) → Sane world → get world.rounds id ≡ None → row.round.id ≡ id → row.round.released ≡ false →
-    row.round.published ≡ false → AreEntries row.puzzles → ((entry : Entry) → Contains row.puzzles entry → get world.puzzles entry.puzzle ≢ None) →
+    row.round.published ≡ false → IsRoundRow row → ((entry : Entry) → Contains row.puzzles entry → get world.puzzles entry.puzzle ≢ None) →
     ((number : ℕ) → get places (record { round = id; number = number }) ≡ entry_at row.puzzles number) →
     ((key : PlaceKey) → key.round ≢ id → get places key ≡ get world.places key) → Sane (record world { rounds = insert world.rounds id row.round; places = places })
-draft_sane world id row places sane fresh own draft secret entries there at_own at_other = draft_added world id row places sane fresh at_own at_other own entries there draft secret
+draft_sane world id row places sane fresh own draft secret in_range there at_own at_other = draft_added world id row places sane fresh at_own at_other own in_range there draft secret
 
 -- what a store says that added a person keeps its world sane
-pub added_person_sane : (old new : World) (person : Person) (added : Bool) → PersonAdded old new person added → Sane old →
+pub added_person_sane : (old new : World) (person : Person) (added : Bool) → PersonAdded old new person added → Sane old → IsPerson person →
     (IsTrue person.roles.director → IsTrue person.roles.entrant → ⊥) → Sane new
-added_person_sane old new person true adds sane one_role = subst Sane (sym adds.world) (person_sane old person sane adds.name adds.key one_role)
-added_person_sane old new person false none sane one_role = subst Sane (sym none.1) sane
+added_person_sane old new person true adds sane in_range one_role = subst Sane (sym adds.world) (person_sane old person sane in_range adds.name adds.key one_role)
+added_person_sane old new person false none sane in_range one_role = subst Sane (sym none.1) sane
 
 -- what a store says that added a draft keeps its world sane
-pub added_draft_sane : (old new : World) (row : RoundRow) (added : Bool) → DraftAdded old new row added → Sane old → AreEntries row.puzzles → Sane new
-added_draft_sane old new row true adds sane entries =
-    subst Sane (sym adds.world) (draft_sane old row.round.id row new.places sane adds.free refl adds.unreleased adds.unpublished entries adds.kept adds.own_places adds.other_places)
-added_draft_sane old new row false none sane entries = subst Sane (sym none.1) sane
+pub added_draft_sane : (old new : World) (row : RoundRow) (added : Bool) → DraftAdded old new row added → Sane old → IsRoundRow row → Sane new
+added_draft_sane old new row true adds sane in_range =
+    subst Sane (sym adds.world) (draft_sane old row.round.id row new.places sane adds.free refl adds.unreleased adds.unpublished in_range adds.kept adds.own_places adds.other_places)
+added_draft_sane old new row false none sane in_range = subst Sane (sym none.1) sane

@@ -2,8 +2,8 @@
 use Rattle.std.proofs.Common.{◌≡◌, ◌≢◌, ◌⊎◌, inl, inr, ℕ, true, List, Option, Some, None, IsTrue, refl, sym, ap, ◌∙◌, subst, lit<}
 use Rattle.std.specs.FinMap.{FinMap, get, insert}
 use Rattle.hall_policy.specs.Text.{text_cmp}
-use Rattle.hall_policy.specs.World.{World, IsRoundAt}
-use Rattle.hall_policy.specs.Lists.{AreEntries}
+use Rattle.hall_policy.specs.World.{World}
+use Rattle.hall_policy.specs.Ranges.{IsRound, AreRowsInRange, HasWholeList, IsWorld}
 use Rattle.hall_policy.specs.Rules.{Lists, StandsReleased, IsCertified}
 use Rattle.hall_policy.specs.First.{NoneBelow}
 use Rattle.hall_policy.specs.declared.rule.Rule.TheVariants as rule
@@ -19,7 +19,7 @@ use Rattle.hall_policy.specs.declared.request.Action.TheVariants as action
 use Rattle.hall_policy.proofs.Orders.{text_total, same_texts}
 use Rattle.hall_desk.specs.Found.{IsReleasedRound}
 use Rattle.hall_desk.specs.Step.{Allowed}
-use Rattle.hall_desk.specs.Sane.{Sane, IsKeyed}
+use Rattle.hall_desk.specs.Sane.{Sane, RefersToRows}
 use Rattle.hall_desk.specs.declared.reply.Reply.{Reply}
 use Rattle.hall_store.proofs.Inserts.{keys_apart, found_after, others_stay, inserted_there, still_there}
 
@@ -52,10 +52,10 @@ module _ (world : World) (id : List ℕ) (round : Round) (kept : get world.round
   ]
 
   -- each round keeps its list: no place changes
-  lists_then : (q : List ℕ) (r : Round) → get new_rounds q ≡ Some r → (row : RoundRow) × IsRoundAt after q row × AreEntries row.puzzles
+  lists_then : (q : List ℕ) (r : Round) → get new_rounds q ≡ Some r → HasWholeList after q
   lists_then q r found = elim (after_release q r found) [
     | inl h ↦
-        let l = sane.keyed.lists id round kept in
+        let l = sane.typed.lists id round kept in
         let old : RoundRow = l.0 in (
           record old { round = released_round },
           record {
@@ -64,27 +64,60 @@ module _ (world : World) (id : List ℕ) (round : Round) (kept : get world.round
           },
           l.2,
         )
-    | inr h ↦ let l = sane.keyed.lists q r h.1 in (l.0, record { head = others_stay text_total same_texts world.rounds id released_round q l.0.round h.0 l.1.head; list = l.1.list }, l.2)
+    | inr h ↦ let l = sane.typed.lists q r h.1 in (l.0, record { head = others_stay text_total same_texts world.rounds id released_round q l.0.round h.0 l.1.head; list = l.1.list }, l.2)
   ]
 
-  release_keyed : IsKeyed after
-  release_keyed = record {
-    people = sane.keyed.people;
-    puzzles = sane.keyed.puzzles;
+  -- nothing but a flag of the round changes
+  round_in_range : IsRound released_round
+  round_in_range =
+      let is = sane.typed.in_range.rounds id round kept in
+      record {
+        id = is.id;
+        title = is.title;
+        start = is.start;
+        minutes = is.minutes;
+        protest_minutes = is.protest_minutes;
+        penalty = is.penalty;
+        bonus = is.bonus;
+      }
+
+  release_in_range : AreRowsInRange after
+  release_in_range = record {
+    people = sane.typed.in_range.people;
+    puzzles = sane.typed.in_range.puzzles;
     rounds = λ q r found. elim (after_release q r found) [
-      | inl h ↦ ap (λ (x : Round). x.id) h.1 ∙ sane.keyed.rounds id round kept ∙ sym h.0
-      | inr h ↦ sane.keyed.rounds q r h.1
+      | inl h ↦ subst IsRound (sym h.1) round_in_range
+      | inr h ↦ sane.typed.in_range.rounds q r h.1
     ];
-    answers = sane.keyed.answers;
-    protests = sane.keyed.protests;
-    authors = sane.keyed.authors;
+    places = sane.typed.in_range.places;
+    answers = sane.typed.in_range.answers;
+    protests = sane.typed.in_range.protests;
+  }
+
+  release_typed : IsWorld after
+  release_typed = record {
+    in_range = release_in_range;
+    people = sane.typed.people;
+    puzzles = sane.typed.puzzles;
+    rounds = λ q r found. elim (after_release q r found) [
+      | inl h ↦ ap (λ (x : Round). x.id) h.1 ∙ sane.typed.rounds id round kept ∙ sym h.0
+      | inr h ↦ sane.typed.rounds q r h.1
+    ];
+    answers = sane.typed.answers;
+    protests = sane.typed.protests;
+    keys_differ = sane.typed.keys_differ;
     lists = lists_then;
-    homes = λ key entry found. still_there text_total same_texts world.rounds id released_round key.round (sane.keyed.homes key entry found);
-    entries = sane.keyed.entries;
-    entrants = sane.keyed.entrants;
-    answered = sane.keyed.answered;
-    protesters = sane.keyed.protesters;
-    protested = sane.keyed.protested;
+    homes = λ key entry found. still_there text_total same_texts world.rounds id released_round key.round (sane.typed.homes key entry found);
+  }
+
+  release_refers : RefersToRows after
+  release_refers = record {
+    authors = sane.refers.authors;
+    entries = sane.refers.entries;
+    entrants = sane.refers.entrants;
+    answered = sane.refers.answered;
+    protesters = sane.refers.protesters;
+    protested = sane.refers.protested;
   }
 
   module _ (all_certified : (entry : Entry) → Lists world id entry → IsCertified world entry.puzzle)
@@ -112,7 +145,8 @@ module _ (world : World) (id : List ℕ) (round : Round) (kept : get world.round
     -- a round whose puzzles are certified, and in no other released round, may be released
     pub release_sane : Sane after
     release_sane = record {
-      keyed = release_keyed;
+      typed = release_typed;
+      refers = release_refers;
       states = sane.states;
       answers_released = λ key row found. stays_released key.round (sane.answers_released key row found);
       protests_released = λ key row found. stays_released key.round (sane.protests_released key row found);
@@ -129,7 +163,6 @@ module _ (world : World) (id : List ℕ) (round : Round) (kept : get world.round
       ];
       numbered = sane.numbered;
       numbered_once = sane.numbered_once;
-      keys_differ = sane.keys_differ;
       apart = sane.apart;
       few_answers = sane.few_answers;
       few_protests = sane.few_protests;

@@ -3,6 +3,7 @@ use Rattle.std.proofs.Common.{◌≡◌, ◌≢◌, ◌==◌, ◌+◌, ◌&&◌,
 use Rattle.std.specs.List.{count_by}
 use Rattle.std.specs.FinMap.{FinMap, get, insert, values}
 use Rattle.hall_policy.specs.World.{World, same_text, puzzle_cmp, answer_cmp}
+use Rattle.hall_policy.specs.Ranges.{IsPuzzleRow, IsAnswerRow, AreRowsInRange, IsWorld}
 use Rattle.hall_policy.specs.Rules.{StandsReleased, answers_given, puzzles_put}
 use Rattle.hall_policy.specs.declared.record.PuzzleKey.{PuzzleKey}
 use Rattle.hall_policy.specs.declared.record.PuzzleRow.{PuzzleRow}
@@ -16,7 +17,7 @@ use Rattle.hall_desk.proofs.Answering.{text_decides}
 use Rattle.hall_store.proofs.Inserts.{found_after, others_stay, still_there}
 use Rattle.std.specs.Cmp.{unsigned_Decides}
 use Rattle.hall_desk.specs.Found.{IsReleasedRound}
-use Rattle.hall_desk.specs.Sane.{Sane, IsKeyed, IsTrueState, IsVerdictAt, HasPlace}
+use Rattle.hall_desk.specs.Sane.{Sane, RefersToRows, IsTrueState, IsVerdictAt, HasPlace}
 
 and_all : (a b c : Bool) → a ≡ true → b ≡ true → c ≡ true → (a && (b && c)) ≡ true
 and_all true true true p q r = refl
@@ -38,7 +39,7 @@ module _ (world : World) (key : PuzzleKey) (row : PuzzleRow) where
   after_put : (q : PuzzleKey) (r : PuzzleRow) → get new_puzzles q ≡ Some r → ((q ≡ key) × (r ≡ row)) ⊎ ((q ≢ key) × (get world.puzzles q ≡ Some r))
   after_put q r found = found_after puzzle_total same_puzzle_keys world.puzzles key row q r found
 
-  module _ (own : row.key ≡ key) (true_state : IsTrueState row.puzzle row.state) (sane : Sane world) (there : get world.people key.author ≢ None)
+  module _ (own : row.key ≡ key) (in_range : IsPuzzleRow row) (true_state : IsTrueState row.puzzle row.state) (sane : Sane world) (there : get world.people key.author ≢ None)
       (free : (id : List ℕ) → ¬ (StandsReleased world key id)) (room : get world.puzzles key ≡ None → puzzles_put world key.author < 500) where
     unused : (id : List ℕ) (round : Round) (number : ℕ) (entry : Entry) → get world.rounds id ≡ Some round → IsTrue round.released →
         get world.places (record { round = id; number = number }) ≡ Some entry → entry.puzzle ≢ key
@@ -56,37 +57,57 @@ module _ (world : World) (key : PuzzleKey) (row : PuzzleRow) where
             | false ↦ λ t e. omega (arith, e, sane.few_puzzles author)
           ] refl more
       | Some old ↦ λ kept.
-          let alike = count_by-insert_alike puzzle_total (λ r. same_text r.key.author author) world.puzzles key row old kept (ap (λ (k : PuzzleKey). same_text k.author author) (own ∙ sym (sane.keyed.puzzles key old kept))) in
+          let alike = count_by-insert_alike puzzle_total (λ r. same_text r.key.author author) world.puzzles key row old kept (ap (λ (k : PuzzleKey). same_text k.author author) (own ∙ sym (sane.typed.puzzles key old kept))) in
           subst (λ n. n ≤ 500) (sym alike) (sane.few_puzzles author)
     ] refl
 
-    put_keyed : IsKeyed (record world { puzzles = new_puzzles })
-    put_keyed = record {
-      people = sane.keyed.people;
+    put_in_range : AreRowsInRange (record world { puzzles = new_puzzles })
+    put_in_range = record {
+      people = sane.typed.in_range.people;
+      puzzles = λ q r found. elim (after_put q r found) [
+        | inl h ↦ subst IsPuzzleRow (sym h.1) in_range
+        | inr h ↦ sane.typed.in_range.puzzles q r h.1
+      ];
+      rounds = sane.typed.in_range.rounds;
+      places = sane.typed.in_range.places;
+      answers = sane.typed.in_range.answers;
+      protests = sane.typed.in_range.protests;
+    }
+
+    put_typed : IsWorld (record world { puzzles = new_puzzles })
+    put_typed = record {
+      in_range = put_in_range;
+      people = sane.typed.people;
       puzzles = λ q r found. elim (after_put q r found) [
         | inl h ↦ ap (λ (x : PuzzleRow). x.key) h.1 ∙ own ∙ sym h.0
-        | inr h ↦ sane.keyed.puzzles q r h.1
+        | inr h ↦ sane.typed.puzzles q r h.1
       ];
-      rounds = sane.keyed.rounds;
-      answers = sane.keyed.answers;
-      protests = sane.keyed.protests;
+      rounds = sane.typed.rounds;
+      answers = sane.typed.answers;
+      protests = sane.typed.protests;
+      keys_differ = sane.typed.keys_differ;
+      lists = λ id round found. let l = sane.typed.lists id round found in (l.0, record { head = l.1.head; list = l.1.list }, l.2);
+      homes = sane.typed.homes;
+    }
+
+    put_refers : RefersToRows (record world { puzzles = new_puzzles })
+    put_refers = record {
       authors = λ q r found. elim (after_put q r found) [
         | inl h ↦ λ none. there (ap (λ (k : PuzzleKey). get world.people k.author) (sym h.0) ∙ none)
-        | inr h ↦ sane.keyed.authors q r h.1
+        | inr h ↦ sane.refers.authors q r h.1
       ];
-      lists = λ id round found. let l = sane.keyed.lists id round found in (l.0, record { head = l.1.head; list = l.1.list }, l.2);
-      homes = sane.keyed.homes;
-      entries = λ place entry found. still_there puzzle_total same_puzzle_keys world.puzzles key row entry.puzzle (sane.keyed.entries place entry found);
-      entrants = sane.keyed.entrants;
-      answered = sane.keyed.answered;
-      protesters = sane.keyed.protesters;
-      protested = sane.keyed.protested;
+      entries = λ place entry found. still_there puzzle_total same_puzzle_keys world.puzzles key row entry.puzzle (sane.refers.entries place entry found);
+      entrants = sane.refers.entrants;
+      answered = sane.refers.answered;
+      protesters = sane.refers.protesters;
+      protested = sane.refers.protested;
     }
 
     -- a puzzle that is put, or whose state is put, keeps the world sane: no released round has it
     pub put_sane : Sane (record world { puzzles = new_puzzles })
     put_sane = record {
-      keyed = put_keyed;
+      typed = put_typed;
+      refers = put_refers;
       states = λ q r found. elim (after_put q r found) [
         | inl h ↦ subst (λ (x : PuzzleRow). IsTrueState x.puzzle x.state) (sym h.1) true_state
         | inr h ↦ sane.states q r h.1
@@ -105,7 +126,6 @@ module _ (world : World) (key : PuzzleKey) (row : PuzzleRow) where
       ruled = sane.ruled;
       numbered = sane.numbered;
       numbered_once = sane.numbered_once;
-      keys_differ = sane.keys_differ;
       apart = sane.apart;
       few_answers = sane.few_answers;
       few_protests = sane.few_protests;
@@ -124,7 +144,7 @@ module _ (world : World) (row : AnswerRow) where
   abbrev of_place : List ℕ → List ℕ → ℕ → AnswerRow → Bool
   of_place entrant round number r = same_text r.key.entrant entrant && (same_text r.key.round round && (r.key.number == number))
 
-  module _ (sane : Sane world) (fresh : get world.answers row.key ≡ None) (entrant : get world.people row.key.entrant ≢ None) (released : IsReleasedRound world row.key.round)
+  module _ (sane : Sane world) (in_range : IsAnswerRow row) (fresh : get world.answers row.key ≡ None) (entrant : get world.people row.key.entrant ≢ None) (released : IsReleasedRound world row.key.round)
       (verdict : IsVerdictAt world row.key.round row.key.number row) (next : row.n ≡ answers_given world row.key.entrant row.key.round row.key.number + 1)
       (room : answers_given world row.key.entrant row.key.round row.key.number < 50) where
     counted_more : (e r : List ℕ) (n : ℕ) → count_by (of_place e r n) (values new_answers) ≡ answers_given world e r n + cond (of_place e r n row) 1 0
@@ -159,30 +179,49 @@ module _ (world : World) (row : AnswerRow) where
         subst (λ (m : ℕ). other.n ≤ answers_given world row.key.entrant row.key.round m) n (subst (λ (x : List ℕ). other.n ≤ answers_given world row.key.entrant x q.number) r (subst (λ (x : List ℕ). other.n ≤ answers_given world x q.round q.number) e old)) in
         omega (arith, bound, next, same)
 
-    submit_keyed : IsKeyed (record world { answers = new_answers })
-    submit_keyed = record {
-      people = sane.keyed.people;
-      puzzles = sane.keyed.puzzles;
-      rounds = sane.keyed.rounds;
+    submit_in_range : AreRowsInRange (record world { answers = new_answers })
+    submit_in_range = record {
+      people = sane.typed.in_range.people;
+      puzzles = sane.typed.in_range.puzzles;
+      rounds = sane.typed.in_range.rounds;
+      places = sane.typed.in_range.places;
+      answers = λ q r found. elim (after_submit q r found) [
+        | inl h ↦ subst IsAnswerRow (sym h.1) in_range
+        | inr h ↦ sane.typed.in_range.answers q r h.1
+      ];
+      protests = sane.typed.in_range.protests;
+    }
+
+    submit_typed : IsWorld (record world { answers = new_answers })
+    submit_typed = record {
+      in_range = submit_in_range;
+      people = sane.typed.people;
+      puzzles = sane.typed.puzzles;
+      rounds = sane.typed.rounds;
       answers = λ q r found. elim (after_submit q r found) [
         | inl h ↦ ap (λ (x : AnswerRow). x.key) h.1 ∙ sym h.0
-        | inr h ↦ sane.keyed.answers q r h.1
+        | inr h ↦ sane.typed.answers q r h.1
       ];
-      protests = sane.keyed.protests;
-      authors = sane.keyed.authors;
-      lists = λ id round found. let l = sane.keyed.lists id round found in (l.0, record { head = l.1.head; list = l.1.list }, l.2);
-      homes = sane.keyed.homes;
-      entries = sane.keyed.entries;
+      protests = sane.typed.protests;
+      keys_differ = sane.typed.keys_differ;
+      lists = λ id round found. let l = sane.typed.lists id round found in (l.0, record { head = l.1.head; list = l.1.list }, l.2);
+      homes = sane.typed.homes;
+    }
+
+    submit_refers : RefersToRows (record world { answers = new_answers })
+    submit_refers = record {
+      authors = sane.refers.authors;
+      entries = sane.refers.entries;
       entrants = λ q r found. elim (after_submit q r found) [
         | inl h ↦ λ none. entrant (ap (λ (k : AnswerKey). get world.people k.entrant) (sym h.0) ∙ none)
-        | inr h ↦ sane.keyed.entrants q r h.1
+        | inr h ↦ sane.refers.entrants q r h.1
       ];
       answered = λ q r found. elim (after_submit q r found) [
         | inl h ↦ subst (λ (k : AnswerKey). HasPlace world k.round k.number) (sym h.0) (verdict.0, verdict.2)
-        | inr h ↦ sane.keyed.answered q r h.1
+        | inr h ↦ sane.refers.answered q r h.1
       ];
-      protesters = sane.keyed.protesters;
-      protested = sane.keyed.protested;
+      protesters = sane.refers.protesters;
+      protested = sane.refers.protested;
     }
 
     numbered_then : (q : AnswerKey) (r : AnswerRow) → get new_answers q ≡ Some r → (1 ≤ r.n) × (r.n ≤ count_by (of_place q.entrant q.round q.number) (values new_answers))
@@ -210,7 +249,8 @@ module _ (world : World) (row : AnswerRow) where
     -- an answer that is stored keeps the world sane
     pub submit_sane : Sane (record world { answers = new_answers })
     submit_sane = record {
-      keyed = submit_keyed;
+      typed = submit_typed;
+      refers = submit_refers;
       states = sane.states;
       answers_released = λ q r found. elim (after_submit q r found) [
         | inl h ↦ subst (λ (k : AnswerKey). IsReleasedRound world k.round) (sym h.0) released
@@ -227,7 +267,6 @@ module _ (world : World) (row : AnswerRow) where
       ruled = sane.ruled;
       numbered = numbered_then;
       numbered_once = once_then;
-      keys_differ = sane.keys_differ;
       apart = sane.apart;
       few_answers = few_then;
       few_protests = sane.few_protests;

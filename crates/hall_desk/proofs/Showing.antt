@@ -24,4 +24,4 @@ pub listed_kept : (world : World) (id : List ℕ) (row : RoundRow) → IsRoundAt
 listed_kept world id row at sane entry (place, below, found) =
     let kept : get world.places (record { round = id; number = suc place }) ≡ Some entry =
     at.list (suc place) ∙ (slice_get-get_or row.puzzles place entry below ∙ ap Some found) in
-    sane.keyed.entries (record { round = id; number = suc place }) entry kept
+    sane.refers.entries (record { round = id; number = suc place }) entry kept

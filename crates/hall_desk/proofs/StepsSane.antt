@@ -1,9 +1,12 @@
 -- Each step, and so each run, keeps a sane world.
-use Rattle.std.proofs.Common.{◌≡◌, ◌&&◌, ◌<◌, ◌≤◌, inl, inr, ℕ, Bool, true, false, List, [], ◌∷◌, Option, Some, None, refl, sym, ◌∙◌, subst, arith, lit<, Result, Ok, Err, IfOk, OnErr, Vec, Global}
+use Rattle.std.proofs.Common.{◌≡◌, ◌&&◌, ◌<◌, ◌≤◌, inl, inr, ℕ, Bool, true, false, List, [], ◌∷◌, Option, Some, None, refl, sym, ◌∙◌, subst, arith, lit<, Result, Ok, Err, IfOk}
+use Rattle.std.specs.Prelude.{All}
+use Rattle.std.proofs.lemmas.List.Elements.{All-head, All-tail}
 use Rattle.std.proofs.lemmas.Bool.{cases_order}
 use Rattle.std.proofs.lemmas.Option.{slice_get_within, get_or_from_slice_get}
 use Rattle.std.specs.FinMap.{get, values}
 use Rattle.hall_policy.specs.World.{World, same_text}
+use Rattle.hall_policy.specs.Ranges.{IsMoment, IsAnswerRow, IsAction, IsRequest}
 use Rattle.hall_policy.specs.Rules.{answers_given, puzzles_put}
 use Rattle.hall_policy.specs.First.{NoneBelow}
 use Rattle.hall_policy.specs.declared.rule.Rule.TheVariants as rule
@@ -17,16 +20,17 @@ use Rattle.hall_policy.specs.declared.request.Action.{Action}
 use Rattle.hall_policy.specs.declared.request.Action.TheVariants as action
 use Rattle.hall_policy.specs.declared.request.Request.{Request}
 use Rattle.hall_grid.specs.Board.{Board}
+use Rattle.hall_grid.specs.Rule.{IsNameSet}
+use Rattle.hall_grid.specs.Answer.{Verdict}
 use Rattle.hall_policy.proofs.Maps.{get_of_value}
 use Rattle.hall_policy.proofs.Orders.{text_total}
 use Rattle.hall_store.specs.Caller.{caller_of}
 use Rattle.hall_desk.specs.Found.{IsReleasedRound}
 use Rattle.hall_desk.specs.Step.{Step, Allowed, new_row, answer_row}
-use Rattle.hall_desk.specs.Run.{Run}
+use Rattle.hall_desk.specs.Run.{IsTimed, Run}
 use Rattle.hall_store.specs.Store.{Content, Asks}
 use Rattle.hall_desk.specs.Plan.{planned_change}
-use Rattle.hall_desk.specs.Desk.{SaneThen}
-use Rattle.hall_desk.specs.Plans.{Planned, Steps, Runs}
+use Rattle.hall_desk.specs.Plans.{Planned, Steps}
 use Rattle.hall_desk.specs.declared.planned.Plan.{Plan}
 use Rattle.hall_store.specs.Change.{changed}
 use Rattle.hall_desk.specs.Sane.{Sane}
@@ -42,7 +46,7 @@ caller_there world sane None person e = let no : None ≡ Some person = e in abs
 caller_there world sane (Some key) person e =
     let at = find-Contains (λ p. same_text p.key key) (values world.people) person e in
     let under = get_of_value text_total world.people person (at.0, slice_get_within (values world.people) at.0 person at.1, get_or_from_slice_get (values world.people) at.0 person person at.1) in
-    let own : person.name ≡ under.0 = sane.keyed.people under.0 person under.1 in
+    let own : person.name ≡ under.0 = sane.typed.people under.0 person under.1 in
     subst (λ (name : List ℕ). get world.people name ≡ Some person) (sym own) under.1
 
 below : (m n : ℕ) → ¬ (n ≤ m) → m < n
@@ -57,19 +61,24 @@ and_false true = refl
 and_false false = refl
 
 put_step : (world : World) (caller : Option Person) (key : PuzzleKey) (puzzle : Board) (t : ℕ) (found : PuzzleState) (given : Reply) (new : World) → Sane world →
-    NoneBelow 21 world caller (action.PutPuzzle key puzzle) t → Allowed world caller (action.PutPuzzle key puzzle) t found given new → Sane new
-put_step world caller key puzzle t found given new sane none (text, canonical, inl h) = subst Sane (sym h.4) sane
-put_step world caller key puzzle t found given new sane none (text, canonical, inr h) =
+    IsAction (action.PutPuzzle key puzzle) → NoneBelow 21 world caller (action.PutPuzzle key puzzle) t → Allowed world caller (action.PutPuzzle key puzzle) t found given new → Sane new
+put_step world caller key puzzle t found given new sane is none (text, canonical, inl h) = subst Sane (sym h.4) sane
+put_step world caller key puzzle t found given new sane is none (text, canonical, inr h) =
     subst Sane (sym h.2)
-    (put_sane world key (new_row key puzzle) refl tt sane
+    (put_sane world key (new_row key puzzle) refl (record { key = is.0; puzzle = is.1; state = tt }) tt sane
     (λ gone. (none rule.Missing (lit< tt)).0 ((3, lit< tt, refl), λ person there. absurd (let no : None ≡ Some person = sym gone ∙ there in cc)))
     (λ id stands. (none rule.InReleasedRound (lit< tt)).0 ((4, lit< tt, refl), (id, stands)))
     (λ fresh. below (puzzles_put world key.author) 500 (λ many. (none rule.LimitReached (lit< tt)).0 ((5, lit< tt, refl), (fresh, many)))))
 
+-- a verdict is a set of names of the table
+verdict_set : (board : Board) (text : List ℕ) (names : ℕ) → Verdict board text names → IsNameSet names
+verdict_set board text names (inl (f, says, broken)) = broken.set
+verdict_set board text names (inr (none, no_form)) = no_form.set
+
 submit_step : (world : World) (caller : Option Person) (id : List ℕ) (number : ℕ) (token answer : List ℕ) (t : ℕ) (found : PuzzleState) (given : Reply) (new : World) → Sane world →
-    ((person : Person) → caller ≡ Some person → get world.people person.name ≡ Some person) →
+    ((person : Person) → caller ≡ Some person → get world.people person.name ≡ Some person) → IsMoment t → IsAction (action.Submit id number token answer) →
     NoneBelow 21 world caller (action.Submit id number token answer) t → Allowed world caller (action.Submit id number token answer) t found given new → Sane new
-submit_step world caller id number token answer t found given new sane there none (person, is, (round, entry, puzzle, verdict, kept, place, grid, judged, (reply, made))) =
+submit_step world caller id number token answer t found given new sane there timed asked none (person, is, (round, entry, puzzle, verdict, kept, place, grid, judged, (reply, made))) =
     let row : AnswerRow = answer_row world person id number token answer t verdict in
     let fresh : get world.answers row.key ≡ None = elim (get world.answers row.key) as (λ (o : Option AnswerRow). get world.answers row.key ≡ o → o ≡ None) [
       | None ↦ λ e. refl
@@ -79,64 +88,66 @@ submit_step world caller id number token answer t found given new sane there non
       | true ↦ λ e. (round, kept, e)
       | false ↦ λ e. absurd ((none rule.Missing (lit< tt)).0 ((2, lit< tt, refl), inl (λ r other. let same : round ≡ r = let at : Some round ≡ Some r = sym kept ∙ other in cc in (subst (λ (x : Round). x.released ≡ false) same e, and_false _))))
     ] refl in
+    let room : answers_given world person.name id number < 50 =
+    below (answers_given world person.name id number) 50 (λ many. (none rule.LimitReached (lit< tt)).0 ((8, lit< tt, refl), (person, is, many))) in
+    let in_range : IsAnswerRow row = record {
+      key = record { entrant = (sane.typed.in_range.people person.name person (there person is)).name; round = asked.0; number = asked.1; token = asked.2 };
+      n = (omega arith, omega (arith, room));
+      moment = timed;
+      answer = asked.3;
+      verdict = verdict_set puzzle.puzzle answer verdict judged;
+    } in
     subst Sane (sym made)
-    (submit_sane world row sane fresh
+    (submit_sane world row sane in_range fresh
     (λ gone. let no_one : Some person ≡ None = sym (there person is) ∙ gone in cc)
-    released (entry, puzzle, place, grid, judged) refl
-    (below (answers_given world person.name id number) 50 (λ many. (none rule.LimitReached (lit< tt)).0 ((8, lit< tt, refl), (person, is, many)))))
+    released (entry, puzzle, place, grid, judged) refl room)
 
 allowed_sane : (world : World) (caller : Option Person) (asked : Action) (t : ℕ) (found : PuzzleState) (given : Reply) (new : World) → Sane world →
-    ((person : Person) → caller ≡ Some person → get world.people person.name ≡ Some person) →
+    ((person : Person) → caller ≡ Some person → get world.people person.name ≡ Some person) → IsMoment t → IsAction asked →
     NoneBelow 21 world caller asked t → Allowed world caller asked t found given new → Sane new
-allowed_sane world caller (action.PutPuzzle key puzzle) t found given new sane there none h = put_step world caller key puzzle t found given new sane none h
-allowed_sane world caller (action.Submit id number token answer) t found given new sane there none h = submit_step world caller id number token answer t found given new sane there none h
-allowed_sane world caller (action.ReadRound id) t found given new sane there none h = subst Sane (sym h.5) sane
-allowed_sane world caller (action.Answers id) t found given new sane there none h = subst Sane (sym h.2.1) sane
-allowed_sane world caller (action.Import people) t found given new sane there none h = absurd h
-allowed_sane world caller (action.ReadPuzzle key) t found given new sane there none h = absurd h
-allowed_sane world caller action.ListPuzzles t found given new sane there none h = absurd h
-allowed_sane world caller (action.Certify key budget) t found given new sane there none h = certify_step world caller key budget t found given new sane h
-allowed_sane world caller (action.PutRound id sheet) t found given new sane there none h = absurd h
-allowed_sane world caller (action.Release id) t found given new sane there none h = release_step world caller id t found given new sane none h
-allowed_sane world caller action.ListRounds t found given new sane there none h = absurd h
-allowed_sane world caller (action.Solutions id) t found given new sane there none h = absurd h
-allowed_sane world caller (action.Protest id token number text) t found given new sane there none h = absurd h
-allowed_sane world caller (action.Protests id) t found given new sane there none h = absurd h
-allowed_sane world caller (action.Rule id entrant token ruling) t found given new sane there none h = absurd h
-allowed_sane world caller (action.Publish id) t found given new sane there none h = absurd h
-allowed_sane world caller (action.Table id) t found given new sane there none h = absurd h
+allowed_sane world caller (action.PutPuzzle key puzzle) t found given new sane there timed is none h = put_step world caller key puzzle t found given new sane is none h
+allowed_sane world caller (action.Submit id number token answer) t found given new sane there timed is none h = submit_step world caller id number token answer t found given new sane there timed is none h
+allowed_sane world caller (action.ReadRound id) t found given new sane there timed is none h = subst Sane (sym h.5) sane
+allowed_sane world caller (action.Answers id) t found given new sane there timed is none h = subst Sane (sym h.2.1) sane
+allowed_sane world caller (action.Import people) t found given new sane there timed is none h = absurd h
+allowed_sane world caller (action.ReadPuzzle key) t found given new sane there timed is none h = absurd h
+allowed_sane world caller action.ListPuzzles t found given new sane there timed is none h = absurd h
+allowed_sane world caller (action.Certify key budget) t found given new sane there timed is none h = certify_step world caller key budget t found given new sane h
+allowed_sane world caller (action.PutRound id sheet) t found given new sane there timed is none h = absurd h
+allowed_sane world caller (action.Release id) t found given new sane there timed is none h = release_step world caller id t found given new sane none h
+allowed_sane world caller action.ListRounds t found given new sane there timed is none h = absurd h
+allowed_sane world caller (action.Solutions id) t found given new sane there timed is none h = absurd h
+allowed_sane world caller (action.Protest id token number text) t found given new sane there timed is none h = absurd h
+allowed_sane world caller (action.Protests id) t found given new sane there timed is none h = absurd h
+allowed_sane world caller (action.Rule id entrant token ruling) t found given new sane there timed is none h = absurd h
+allowed_sane world caller (action.Publish id) t found given new sane there timed is none h = absurd h
+allowed_sane world caller (action.Table id) t found given new sane there timed is none h = absurd h
 
 -- a step keeps a sane world
-pub step_sane : (world : World) (t : ℕ) (request : Request) (given : Reply) (new : World) → Step world t request given new → Sane world → Sane new
-step_sane world t request given new (inl h) sane = subst Sane (sym h.1) sane
-step_sane world t request given new (inr (found, (Deny k, first, decided))) sane = subst Sane (sym decided.1) sane
-step_sane world t request given new (inr (found, (Repeat, first, decided))) sane = subst Sane (sym decided.1) sane
-step_sane world t request given new (inr (found, (Allow, first, decided))) sane =
-    allowed_sane world (caller_of world request.key) request.action t found given new sane (caller_there world sane request.key) first decided
+pub step_sane : (world : World) (t : ℕ) (request : Request) (given : Reply) (new : World) → IsMoment t → IsRequest request → Step world t request given new → Sane world → Sane new
+step_sane world t request given new timed is (inl h) sane = subst Sane (sym h.1) sane
+step_sane world t request given new timed is (inr (found, (Deny k, first, decided))) sane = subst Sane (sym decided.1) sane
+step_sane world t request given new timed is (inr (found, (Repeat, first, decided))) sane = subst Sane (sym decided.1) sane
+step_sane world t request given new timed is (inr (found, (Allow, first, decided))) sane =
+    allowed_sane world (caller_of world request.key) request.action t found given new sane (caller_there world sane request.key) timed is.action first decided
 
 -- a run keeps a sane world
-pub run_sane : (world : World) (requests : List (ℕ × Request)) (replies : List Reply) (last : World) → Run world requests replies last → Sane world → Sane last
-run_sane world [] [] last run sane = subst Sane (sym run) sane
-run_sane world [] (r ∷ replies) last run sane = absurd run
-run_sane world (q ∷ requests) [] last run sane = absurd run
-run_sane world (q ∷ requests) (r ∷ replies) last run sane = run_sane run.0 requests replies last run.2 (step_sane world q.0 q.1 r run.0 run.1 sane)
+pub run_sane : (world : World) (requests : List (ℕ × Request)) (replies : List Reply) (last : World) → All IsTimed requests → Run world requests replies last → Sane world → Sane last
+run_sane world [] [] last timed run sane = subst Sane (sym run) sane
+run_sane world [] (r ∷ replies) last timed run sane = absurd run
+run_sane world (q ∷ requests) [] last timed run sane = absurd run
+run_sane world (q ∷ requests) (r ∷ replies) last timed run sane =
+    let is = All-head IsTimed q requests timed in
+    run_sane run.0 requests replies last (All-tail IsTimed q requests timed) run.2 (step_sane world q.0 q.1 r run.0 is.moment is.request run.1 sane)
 
 -- a step over a store keeps its world sane
-pub steps_sane : (old new : Content) (t : ℕ) (request : Request) (given : Reply) → new.serves → Steps old t request given new → Sane old.world → Sane new.world
-steps_sane old new t request given s (inl (always, left)) sane = subst Sane (sym (left s)) sane
-steps_sane old new t request given s (inr (before, after, step)) sane = step_sane old.world t request given new.world step sane
-
--- a run over a store keeps its world sane, and where room for the replies is refused, nothing is changed
-pub runs_sane : {X E : Type 0} (content : X → Content) (old new : X) (requests : List (ℕ × Request)) (r : Result (Vec Reply Global) E) →
-    IfOk r (λ replies. (content new).honest → Runs (content old) requests replies.items (content new)) → OnErr r (new ≡ old) → SaneThen Sane (content old) (content new)
-runs_sane content old new requests (Ok replies) ok err h s sane =
-    let run = ok h in
-    subst Sane (sym (run.2 s)) (run_sane (content old).world requests replies.items run.0 run.1 sane)
-runs_sane content old new requests (Err e) ok err h s sane = subst (λ x. Sane (content x).world) (sym err) sane
+pub steps_sane : (old new : Content) (t : ℕ) (request : Request) (given : Reply) → IsMoment t → IsRequest request → new.serves → Steps old t request given new → Sane old.world → Sane new.world
+steps_sane old new t request given timed is s (inl (always, left)) sane = subst Sane (sym (left s)) sane
+steps_sane old new t request given timed is s (inr (before, after, step)) sane = step_sane old.world t request given new.world timed is step sane
 
 -- a plan's change keeps a sane world
-pub plan_sane : {E : Type 0} (r : Result Plan E) (new : Content) (t : ℕ) (request : Request) → Planned new t request r →
+pub plan_sane : {E : Type 0} (r : Result Plan E) (new : Content) (t : ℕ) (request : Request) → IsMoment t → IsRequest request → Planned new t request r →
     IfOk r (λ plan. Asks new (λ world. Sane world → Sane (changed (planned_change plan) world)))
-plan_sane (Ok plan) new t request (inl made) = λ h s. step_sane new.world t request plan.reply (changed plan.change new.world) (inr (made h).1.answered)
-plan_sane (Ok plan) new t request (inr made) = λ h s. step_sane new.world t request plan.reply (changed plan.change new.world) (inr (made.1 new.world).answered)
-plan_sane (Err e) new t request made = tt
+plan_sane (Ok plan) new t request timed is (inl made) = λ h s. step_sane new.world t request plan.reply (changed plan.change new.world) timed is (inr (made h).1.answered)
+plan_sane (Ok plan) new t request timed is (inr made) = λ h s. step_sane new.world t request plan.reply (changed plan.change new.world) timed is (inr (made.1 new.world).answered)
+plan_sane (Err e) new t request timed is made = tt

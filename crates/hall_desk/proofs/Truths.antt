@@ -9,10 +9,12 @@ use Rattle.hall_grid.specs.declared.board.Size.{Size}
 use Rattle.hall_grid.specs.declared.board.Clue.{Clue}
 use Rattle.hall_grid.specs.declared.board.Clue.TheVariants.{Blank, Unknown, Number}
 use Rattle.hall_grid.specs.declared.rule.Rule.TheVariants.{U4, N1}
-use Rattle.hall_grid.specs.Board.{Board, of_parts, cells}
+use Rattle.hall_grid.specs.Board.{Board, IsBoard, of_parts, cells}
 use Rattle.hall_grid.specs.Answer as grid
+use Rattle.hall_grid.proofs.IsPrintableText.{IsPrintableText-from_AnswerText}
 use Rattle.hall_solve.specs.Question as question
 use Rattle.hall_solve.specs.Puzzle.{question_of, start_of, given_of}
+use Rattle.hall_policy.specs.Ranges.{IsState}
 use Rattle.hall_policy.specs.declared.record.PuzzleState.{PuzzleState}
 use Rattle.hall_policy.specs.declared.record.PuzzleState.TheVariants as state
 use Rattle.hall_desk.specs.Step.{IsFound}
@@ -100,3 +102,13 @@ found_true board budget (state.One text) (solution, outcome, written) =
 found_true board budget state.NoSolution outcome = λ f s. outcome.answer f (search_from_right board f s)
 found_true board budget state.More (a, b, outcome) = (a, b, right_from_search board a outcome.answer.0, right_from_search board b outcome.answer.1, outcome.answer.2)
 found_true board budget state.GaveUp outcome = tt
+
+-- what a search finds is in the ranges of its type: a solution's text is short, in printable ASCII
+pub found_typed : (board : Board) (budget : ℕ) (found : PuzzleState) → IsBoard board → IsFound board budget found → IsState found
+found_typed board budget state.New is h = absurd h
+found_typed board budget (state.One text) is (solution, outcome, written) =
+    let text_is = IsPrintableText-from_AnswerText board text solution is.size written in
+    record { long_enough = omega arith; short_enough = omega (arith, text_is.few); allowed = text_is.printable }
+found_typed board budget state.NoSolution is h = tt
+found_typed board budget state.More is h = tt
+found_typed board budget state.GaveUp is h = tt

@@ -1,11 +1,12 @@
 -- What the hall promises to entrants and directors.
-use Rattle.std.specs.Prelude.{◌≡◌, ◌≢◌, ◌↔◌, ◌⊎◌, ◌≤◌, ℕ, List, Option, Some}
+use Rattle.std.specs.Prelude.{◌≡◌, ◌≢◌, ◌↔◌, ◌⊎◌, ◌≤◌, ℕ, List, Option, Some, All}
 use Rattle.std.specs.FinMap.{get}
 use Rattle.hall_grid.specs.declared.rule.Rule.{Rule as Broken}
 use Rattle.hall_grid.specs.Board.{Board}
 use Rattle.hall_grid.specs.Rule.{Names}
 use Rattle.hall_grid.specs.Answer.{Verdict}
 use Rattle.hall_policy.specs.World.{World}
+use Rattle.hall_policy.specs.Ranges.{IsMoment, IsRequest}
 use Rattle.hall_policy.specs.Rules.{StandsReleased}
 use Rattle.hall_policy.specs.declared.record.AnswerRow.{AnswerRow}
 use Rattle.hall_policy.specs.declared.record.Person.{Person}
@@ -19,7 +20,7 @@ use Rattle.hall_store.specs.Caller.{caller_of}
 use Rattle.hall_desk.specs.Sane.{Sane, Solves}
 use Rattle.hall_desk.specs.Shown.{told_verdict}
 use Rattle.hall_desk.specs.Step.{Step}
-use Rattle.hall_desk.specs.Run.{Run}
+use Rattle.hall_desk.specs.Run.{IsTimed, Run}
 use Rattle.hall_desk.specs.declared.reply.Reply.{Reply}
 use Rattle.hall_desk.specs.declared.reply.Reply.TheVariants as reply
 
@@ -45,15 +46,15 @@ RightAnswersAreSolutions world =
     row.state ≡ state.One solution →
     Verdict row.puzzle answer names → NamesNoRule names ↔ (answer ≡ solution)
 
--- a sane world keeps the promises to directors and entrants, and each step and run of the hall leads from sane worlds
--- to sane ones
+-- a sane world keeps the promises to directors and entrants, and each step and run of the hall, for moments and
+-- requests of their types, leads from sane worlds to sane ones
 pub record SanityKeepsPromises : Type 0 where
   pub unique : (world : World) → Sane world → HasUniqueSolutions world
   pub right : (world : World) → Sane world → RightAnswersAreSolutions world
-  pub steps : (world new : World) (t : ℕ) (request : Request) (given : Reply) → Sane world →
-      Step world t request given new → Sane new
-  pub runs : (world last : World) (requests : List (ℕ × Request)) (replies : List Reply) → Sane world →
-      Run world requests replies last → Sane last
+  pub steps : (world new : World) (t : ℕ) (request : Request) (given : Reply) → IsMoment t → IsRequest request →
+      Sane world → Step world t request given new → Sane new
+  pub runs : (world last : World) (requests : List (ℕ × Request)) (replies : List Reply) → All IsTimed requests →
+      Sane world → Run world requests replies last → Sane last
 
 -- the text is that of the answer that stands, and the reply is the one that this answer got
 pub record IsToldAgain (world : World) (id : List ℕ) (row : AnswerRow) (answer : List ℕ) (given : Reply) : Type 0 where

@@ -4,8 +4,8 @@ use Rattle.std.specs.FinMap.{get}
 use Rattle.hall_grid.specs.Board.{Board}
 use Rattle.hall_grid.specs.Answer.{AnswerText, IsFilling, Verdict}
 use Rattle.hall_solve.specs.Puzzle.{IsRight}
-use Rattle.hall_policy.specs.World.{World, IsRoundAt}
-use Rattle.hall_policy.specs.Lists.{AreEntries}
+use Rattle.hall_policy.specs.World.{World}
+use Rattle.hall_policy.specs.Ranges.{IsWorld}
 use Rattle.hall_policy.specs.Rules.{StandsReleased, IsCertified, answers_given, protests_made, puzzles_put}
 use Rattle.hall_desk.specs.Found.{IsReleasedRound}
 use Rattle.hall_policy.specs.declared.record.Person.{Person}
@@ -14,7 +14,6 @@ use Rattle.hall_policy.specs.declared.record.PuzzleRow.{PuzzleRow}
 use Rattle.hall_policy.specs.declared.record.PuzzleState.{PuzzleState}
 use Rattle.hall_policy.specs.declared.record.PuzzleState.TheVariants as state
 use Rattle.hall_policy.specs.declared.record.Round.{Round}
-use Rattle.hall_policy.specs.declared.record.RoundRow.{RoundRow}
 use Rattle.hall_policy.specs.declared.record.Entry.{Entry}
 use Rattle.hall_policy.specs.declared.record.PlaceKey.{PlaceKey}
 use Rattle.hall_policy.specs.declared.record.AnswerKey.{AnswerKey}
@@ -42,20 +41,11 @@ abbrev pub HasPlace : World → List ℕ → ℕ → Type 0
 HasPlace world round number =
     (entry : Entry) × (get world.places (record { round = round; number = number }) ≡ Some entry)
 
--- each row stands under its own key, and what it refers to is there
-pub record IsKeyed (world : World) : Type 0 where
-  pub people : (name : List ℕ) (row : Person) → get world.people name ≡ Some row → row.name ≡ name
-  pub puzzles : (key : PuzzleKey) (row : PuzzleRow) → get world.puzzles key ≡ Some row → row.key ≡ key
-  pub rounds : (id : List ℕ) (round : Round) → get world.rounds id ≡ Some round → round.id ≡ id
-  pub answers : (key : AnswerKey) (row : AnswerRow) → get world.answers key ≡ Some row → row.key ≡ key
-  pub protests : (key : ProtestKey) (row : ProtestRow) → get world.protests key ≡ Some row → row.key ≡ key
+-- what a row refers to is there
+pub record RefersToRows (world : World) : Type 0 where
   -- a puzzle's author is there
   pub authors : (key : PuzzleKey) (row : PuzzleRow) → get world.puzzles key ≡ Some row →
       get world.people key.author ≢ None
-  -- a round has 1 to 40 puzzles, numbered from 1, and a place belongs to a round
-  pub lists : (id : List ℕ) (round : Round) → get world.rounds id ≡ Some round → (row : RoundRow)
-      × IsRoundAt world id row × AreEntries row.puzzles
-  pub homes : (key : PlaceKey) (entry : Entry) → get world.places key ≡ Some entry → get world.rounds key.round ≢ None
   -- a round's puzzles are there, a draft's too
   pub entries : (key : PlaceKey) (entry : Entry) → get world.places key ≡ Some entry →
       get world.puzzles entry.puzzle ≢ None
@@ -77,7 +67,9 @@ IsVerdictAt world round number row =
 
 -- a sane world: what every step of the hall keeps
 pub record Sane (world : World) : Type 0 where
-  pub keyed : IsKeyed world
+  -- each row is of its type and stands under its own key, and what it refers to is there
+  pub typed : IsWorld world
+  pub refers : RefersToRows world
   -- a puzzle's state is true of it
   pub states : (key : PuzzleKey) (row : PuzzleRow) → get world.puzzles key ≡ Some row → IsTrueState row.puzzle row.state
   -- answers and protests belong to released rounds
@@ -102,9 +94,7 @@ pub record Sane (world : World) : Type 0 where
   pub numbered_once : (a b : AnswerKey) (row other : AnswerRow) → get world.answers a ≡ Some row →
       get world.answers b ≡ Some other →
       a.entrant ≡ b.entrant → a.round ≡ b.round → a.number ≡ b.number → row.n ≡ other.n → a ≡ b
-  -- keys differ, and nobody is director and entrant
-  pub keys_differ : (a b : List ℕ) (p q : Person) → get world.people a ≡ Some p → get world.people b ≡ Some q →
-      p.key ≡ q.key → a ≡ b
+  -- nobody is director and entrant
   pub apart : (name : List ℕ) (person : Person) → get world.people name ≡ Some person → IsTrue person.roles.director →
       IsTrue person.roles.entrant → ⊥
   -- the limits

@@ -43,6 +43,9 @@ impl<S: Store> Desk<S> {
         ensures sane { IfOk result (λ plan. Asks (S.content (kept_by self.new))
             (λ world. Sane world → Sane (changed (planned_change plan) world))) }
     {
+        // They are read for the ranges that their types keep.
+        let _moment = t.get();
+        request.in_range();
         make_plan(alloc, &mut self.store, t, request)
     }
 

@@ -102,6 +102,7 @@ fn insert_person(store: &mut MapStore, person: Person) -> Result<(), StoreFault>
     if person.roles.director && person.roles.entrant {
         return Err(StoreFault::Failed);
     }
+    person.in_range();
     if store.add_person(person)? {
         Ok(())
     } else {
@@ -310,8 +311,7 @@ fn insert_draft(store: &mut MapStore, row: RoundRow) -> Result<(), StoreFault>
     requires { Sane (world_of store.old) }
     ensures { OnOk result (Sane (world_of store.new)) }
 {
-    // They are read for the limits that their type keeps.
-    let _puzzles = row.puzzles.as_slice();
+    row.in_range();
     if store.add_draft(row)? {
         Ok(())
     } else {

@@ -3,6 +3,8 @@ ghost use Rattle.std.specs.Prelude.{◌≡◌, ◌+◌, ◌≤◌, ◌<◌, ◌+
 ghost use Rattle.hall_store.specs.Store.{Leads, Makes, Asks, Fails};
 ghost use Rattle.hall_store.specs.Change.{CanMake};
 ghost use Rattle.hall_store.specs.declared.change.Change.{Change};
+ghost use Rattle.hall_desk.specs.Desk.{SaneThen};
+ghost use Rattle.hall_desk.specs.Sane.{Sane};
 ghost use Rattle.hall_desk.specs.Plans.{Steps, Runs};
 
 use crate::plan::make_plan;
@@ -45,8 +47,20 @@ fn make<S: Store>(alloc: Global, store: &mut S, change: Change) -> Result<(), St
     }
 }
 
-/// Answers one request.
+/// Answers one request. It is read for the ranges that its types keep, and so keeps a sane world.
 pub(crate) fn step<S: Store>(alloc: Global, store: &mut S, t: Moment, request: &Request) -> Reply
+    ensures leads { Leads (S.content store.old) (S.content store.new) }
+    ensures steps { (S.content store.new).honest → Steps (S.content store.old) t request.now result
+        (S.content store.new) }
+    ensures sane { SaneThen Sane (S.content store.old) (S.content store.new) }
+{
+    let _moment = t.get();
+    request.in_range();
+    make_step(alloc, store, t, request)
+}
+
+/// Makes the request's plan, and commits it.
+fn make_step<S: Store>(alloc: Global, store: &mut S, t: Moment, request: &Request) -> Reply
     ensures leads { Leads (S.content store.old) (S.content store.new) }
     ensures steps { (S.content store.new).honest → Steps (S.content store.old) t request.now result
         (S.content store.new) }
@@ -69,6 +83,7 @@ pub(crate) fn run<S: Store>(
     ensures leads { Leads (S.content store.old) (S.content store.new) }
     ensures runs { IfOk result (λ replies. (S.content store.new).honest →
         Runs (S.content store.old) requests.now replies.items (S.content store.new)) }
+    ensures sane { SaneThen Sane (S.content store.old) (S.content store.new) }
     ensures refused { OnErr result (store.new ≡ store.old) }
 {
     let mut replies = Vec::with_capacity(alloc, requests.len())?;

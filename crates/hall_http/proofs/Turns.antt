@@ -8,7 +8,7 @@ use Rattle.std.proofs.KnownBytes.{Appends-nil, Appends-trans, Consumes-nil, Cons
 use Rattle.std.specs.Io.KnownBytes.{Appends, Consumes, IsAtEnd}
 use Rattle.std.specs.Prelude.{All}
 use Rattle.std.proofs.lemmas.List.Elements.{All-nil, All-cons, All-append}
-use Rattle.hall_desk.specs.Run.{Run}
+use Rattle.hall_desk.specs.Run.{IsTimed, Run}
 use Rattle.hall_desk.specs.Sane.{Sane}
 use Rattle.hall_desk.specs.Desk.{SaneThen}
 use Rattle.hall_desk.proofs.StepsSane.{run_sane}
@@ -39,7 +39,7 @@ session_more a (y ∷ ys) b x c (next, first, rest) step = (next, first, session
 
 -- a session is a run of the hall over its requests
 pub run_over : (old : World) (xs : List Exchange) (new : World) → Session old xs new → IsRunOver old xs new
-run_over old [] new same = record { requests = []; replies = []; run = same; made = (refl, refl) }
+run_over old [] new same = record { requests = []; replies = []; timed = All-nil IsTimed; run = same; made = (refl, refl) }
 run_over old (x ∷ xs) new (next, (is, inl step), rest) =
     let run = run_over next xs new rest in
     let made : IsMade x (x.asked.moment, step.request) step.reply =
@@ -47,6 +47,7 @@ run_over old (x ∷ xs) new (next, (is, inl step), rest) =
     record {
       requests = (x.asked.moment, step.request) ∷ run.requests;
       replies = step.reply ∷ run.replies;
+      timed = All-cons IsTimed (x.asked.moment, step.request) run.requests step.timed run.timed;
       run = (next, step.step, run.run);
       made = inr ((x.asked.moment, step.request), step.reply, run.requests, run.replies, refl, refl, made, run.made);
     }
@@ -55,6 +56,7 @@ run_over old (x ∷ xs) new (next, (is, inr (other, same)), rest) =
     record {
       requests = run.requests;
       replies = run.replies;
+      timed = run.timed;
       run = subst (λ w. Run w run.requests run.replies new) same run.run;
       made = inl (other, run.made);
     }
@@ -257,4 +259,4 @@ module _ (stream after wrote written : Option (List ℕ)) (old new : Content) (i
 pub replayed_sane : (old : Content) (xs : List Exchange) (new : Content) → (new.honest → RunsOver old xs new) → SaneThen Sane old new
 replayed_sane old xs new run h s sane =
     let over = run h in
-    subst Sane (sym (over.2 s)) (run_sane old.world over.1.requests over.1.replies over.0 over.1.run sane)
+    subst Sane (sym (over.2 s)) (run_sane old.world over.1.requests over.1.replies over.0 over.1.timed over.1.run sane)

@@ -4,6 +4,7 @@ use Rattle.hall_policy.specs.World.{World}
 use Rattle.hall_policy.specs.declared.request.Request.{Request}
 use Rattle.hall_store.specs.Store.{Content, Over}
 use Rattle.hall_desk.specs.Step.{Step}
+use Rattle.hall_desk.specs.Run.{IsTimed}
 use Rattle.hall_desk.specs.declared.reply.Reply.{Reply}
 use Rattle.hall_desk.specs.declared.reply.Reply.TheVariants.{Unavailable as NotServed}
 use Rattle.hall_http.specs.declared.form.FormFault.{FormFault}
@@ -23,11 +24,12 @@ abbrev pub IsStepReply : World → ℕ → Request → List ℕ → World → Ty
 IsStepReply world moment request text after =
     (reply : Reply) × Step world moment request reply after × BytesOf reply text
 
--- the bytes are a request, and the text is that of the reply of a step of the hall
+-- the bytes are a request of its type, and the text is that of the reply of a step of the hall
 pub record IsStep (world : World) (moment : ℕ) (bytes text : List ℕ) (after : World) : Type 0 where
   pub request : Request
   pub reply : Reply
   pub reads : RequestOf bytes (Ok request)
+  pub timed : IsTimed (moment, request)
   pub step : Step world moment request reply after
   pub written : BytesOf reply text
 

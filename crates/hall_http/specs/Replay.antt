@@ -5,7 +5,7 @@ use Rattle.std.specs.Io.KnownBytes.{Appends, Consumes, IsAtEnd}
 use Rattle.hall_policy.specs.World.{World}
 use Rattle.hall_policy.specs.declared.request.Request.{Request}
 use Rattle.hall_store.specs.Store.{Content, Leads}
-use Rattle.hall_desk.specs.Run.{Run}
+use Rattle.hall_desk.specs.Run.{IsTimed, Run}
 use Rattle.hall_desk.specs.declared.reply.Reply.{Reply}
 use Rattle.hall_desk.specs.declared.reply.Reply.TheVariants.{Unavailable as NotServed}
 use Rattle.hall_http.specs.declared.fault.ReplayFault.{ReplayFault}
@@ -48,10 +48,11 @@ AreMade (x ∷ xs) requests replies =
     ⊎ ((request : ℕ × Request) × (reply : Reply) × (later : List (ℕ × Request)) × (rest : List Reply)
     × (requests ≡ request ∷ later) × (replies ≡ reply ∷ rest) × IsMade x request reply × AreMade xs later rest)
 
--- the requests of the records have these replies in a run of the hall
+-- the requests of the records, each of its type, have these replies in a run of the hall
 pub record IsRunOver (old : World) (xs : List Exchange) (new : World) : Type 0 where
   pub requests : List (ℕ × Request)
   pub replies : List Reply
+  pub timed : All IsTimed requests
   pub run : Run old requests replies new
   pub made : AreMade xs requests replies
 

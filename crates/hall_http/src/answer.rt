@@ -49,10 +49,15 @@ pub fn answer_bytes<S: Store>(
         AnswersOver (S.content (kept_by desk.old)) moment bytes.now (answer_text result) (S.content (kept_by desk.new)) }
 {
     match request_of(alloc, routes, bytes) {
-        Ok(request) => match answer_request(alloc, desk, moment, &request) {
-            Ok(text) => Answer::Text(text),
-            Err(_) => Answer::Unavailable,
-        },
+        Ok(request) => {
+            // They are read for the ranges that their types keep.
+            let _moment = moment.get();
+            request.in_range();
+            match answer_request(alloc, desk, moment, &request) {
+                Ok(text) => Answer::Text(text),
+                Err(_) => Answer::Unavailable,
+            }
+        }
         Err(RequestFault::Form(fault)) => match fault_bytes(alloc, fault) {
             Ok(text) => Answer::Text(text),
             Err(_) => Answer::Unavailable,

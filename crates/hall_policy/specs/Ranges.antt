@@ -114,6 +114,11 @@ pub record IsEntryList (entries : List Entry) : Type 0 where
   pub list : AreEntries entries
   pub each : All IsEntry entries
 
+-- a round with its list, whole
+pub record IsRoundRow (row : RoundRow) : Type 0 where
+  pub round : IsRound row.round
+  pub puzzles : IsEntryList row.puzzles
+
 -- where an answer is kept
 pub record IsAnswerKey (key : AnswerKey) : Type 0 where
   pub entrant : IsName key.entrant

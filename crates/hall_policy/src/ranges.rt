@@ -1,29 +1,32 @@
-//! That a request lies in the ranges of its types: what is read tells what its type keeps.
+//! That a request, a person or a round lies in the ranges of its types: what is read tells what its type keeps.
 ghost use Rattle.std.specs.Prelude.{All};
-ghost use Rattle.hall_policy.specs.Ranges.{IsPerson, IsPuzzleKey, IsEntry, IsEntryList, IsSheet, IsRuling};
-ghost use Rattle.hall_policy.specs.Ranges.{IsAction, IsRequest};
+ghost use Rattle.hall_policy.specs.Ranges.{IsPerson, IsPuzzleKey, IsEntry, IsEntryList, IsRound, IsRoundRow};
+ghost use Rattle.hall_policy.specs.Ranges.{IsSheet, IsRuling, IsAction, IsRequest};
 ghost use Rattle.hall_policy.specs.declared.request.Action.TheVariants.{PutPuzzle, Certify, PutRound, Submit};
 ghost use Rattle.hall_policy.specs.declared.request.Action.TheVariants.{Protest, Rule};
 
 use crate::list::Entries;
 use crate::number::{Budget, PuzzleNumber};
-use crate::record::{Entry, Person, PuzzleKey, Ruling};
+use crate::record::{Entry, Person, PuzzleKey, Round, RoundRow, Ruling};
 use crate::request::{Action, Request, Sheet};
 use crate::text::{AnswerText, Name, ProtestText, RoundId, Token};
 use hall_grid::Puzzle;
 
-fn read_person(person: &Person)
-    ensures { IsPerson person.now }
-{
-    let _name = person.name.as_str();
-    let _key = person.key.as_str();
+impl Person {
+    /// Tells a proof that the person lies in the ranges of its types.
+    pub fn in_range(&self)
+        ensures { IsPerson self.now }
+    {
+        let _name = self.name.as_str();
+        let _key = self.key.as_str();
+    }
 }
 
 fn read_people(people: &[Person])
     ensures { All IsPerson people.now }
 {
     for person in people {
-        read_person(person);
+        person.in_range();
     }
 }
 
@@ -53,6 +56,28 @@ fn read_entries(entries: &Entries)
     ensures { IsEntryList entries.now }
 {
     read_all_entries(entries.as_slice());
+}
+
+fn read_round(round: &Round)
+    ensures { IsRound round.now }
+{
+    let _id = round.id.as_str();
+    let _title = round.title.as_str();
+    let _start = round.start.get();
+    let _minutes = round.minutes.get();
+    let _protest_minutes = round.protest_minutes.get();
+    let _penalty = round.penalty.get();
+    let _bonus = round.bonus.get();
+}
+
+impl RoundRow {
+    /// Tells a proof that the round and its list lie in the ranges of their types.
+    pub fn in_range(&self)
+        ensures { IsRoundRow self.now }
+    {
+        read_round(&self.round);
+        read_entries(&self.puzzles);
+    }
 }
 
 fn read_sheet(sheet: &Sheet)

@@ -1,10 +1,18 @@
 //! Lines of an input.
-ghost use Rattle.std.specs.Prelude.{◌≡◌, ◌∷◌, [], MatchOption};
+ghost use Rattle.std.specs.Prelude.{◌≡◌, ◌==◌, ◌∷◌, [], MatchOption};
+ghost use Rattle.std.specs.List.{position};
 ghost use Rattle.std.specs.Str.Lines.{lines, strip_carriage_return};
 ghost use Rattle.hall_tool.specs.Input.{HasOneLine, HasTwoLines, LacksOneLine, LacksTwoLines};
 
 /// The most bytes that an input has.
 pub const LIMIT: usize = 8192;
+
+/// Where the first line ends.
+fn line_end(bytes: &[u8]) -> Option<usize>
+    ensures { result ≡ position (λ byte. byte == 10) bytes.now }
+{
+    bytes.iter().position(|byte| *byte == b'\n')
+}
 
 /// The line without the one carriage return that it may end in.
 fn without_return(line: &[u8]) -> &[u8]
@@ -23,7 +31,7 @@ fn next_line(bytes: &[u8]) -> Option<(&[u8], &[u8])>
     if bytes.is_empty() {
         return None;
     }
-    match bytes.iter().position(|byte| *byte == b'\n') {
+    match line_end(bytes) {
         Some(at) => Some((without_return(&bytes[..at]), &bytes[at + 1..])),
         None => Some((bytes, &[])),
     }

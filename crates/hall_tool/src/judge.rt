@@ -10,8 +10,8 @@ use crate::ending::{Ending, refused, refused_input};
 use crate::fault::ToolFault;
 use crate::input::{LIMIT, two_lines};
 use hall_desk::judge;
-use hall_http::write_all;
 use hall_grid::{Counted, Puzzle, TextFault, parse_puzzle};
+use hall_http::write_all;
 use std::alloc::{AllocError, Global};
 use std::io::{Read, Write};
 

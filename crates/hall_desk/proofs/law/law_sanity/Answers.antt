@@ -6,6 +6,6 @@ pub returns : goal.returns
 returns c = record {
   unique = unique_solutions;
   right = right_answers;
-  steps = λ world new t request given sane step. step_sane world t request given new step sane;
-  runs = λ world last requests replies sane run. run_sane world requests replies last run sane;
+  steps = λ world new t request given timed is sane step. step_sane world t request given new timed is step sane;
+  runs = λ world last requests replies timed sane run. run_sane world requests replies last timed run sane;
 }

@@ -4,4 +4,4 @@ use Rattle.hall_desk.proofs.opening.insert_draft.Goals as goal
 
 pub returns-then-branch : goal.returns-then-branch
 returns-then-branch c =
-    added_draft_sane (world_of c.args.store.now) (world_of c.add_draft.new.self) c.args.row c.in_ok-add_draft.field-0 c.in_ok-add_draft.ensures.ok c.requires c.as_slice-puzzles.ensures.valid
+    added_draft_sane (world_of c.args.store.now) (world_of c.add_draft.new.self) c.args.row c.in_ok-add_draft.field-0 c.in_ok-add_draft.ensures.ok c.requires c.in_range.ensures

@@ -1,4 +1,4 @@
-use Rattle.std.proofs.Common.{◌≡◌, true, false, IsTrue, sym, ◌∙◌}
+use Rattle.std.proofs.Common.{IsTrue, sym, ◌∙◌}
 use Rattle.std.proofs.lemmas.Bool.{false≢true}
 use Rattle.hall_store.specs.Maps.{world_of}
 use Rattle.hall_desk.proofs.OpeningSane.{added_person_sane}
@@ -11,4 +11,4 @@ returns-then-branch c =
       | else-person-via-then-person+else-person-2 w ↦ λ director entrant. false≢true (sym w.if-person-2.false ∙ entrant)
       | else-person-via-else-person w ↦ λ director entrant. false≢true (sym w.if-person.false ∙ director)
     ] in
-    added_person_sane (world_of c.args.store.now) (world_of c.add_person.new.self) c.args.person c.in_ok-add_person.field-0 c.in_ok-add_person.ensures.ok c.requires one_role
+    added_person_sane (world_of c.args.store.now) (world_of c.add_person.new.self) c.args.person c.in_ok-add_person.field-0 c.in_ok-add_person.ensures.ok c.requires c.in_range.ensures one_role

@@ -16,6 +16,7 @@ loop-asked-init g c =
       room = made.capacity;
       leads = record { honest = λ h. h; serves = λ h s. s };
       runs = λ h. (world, subst (λ (replies : List Reply). Run world [] replies world) (sym made.items) refl, λ s. refl);
+      sane = λ h s world_sane. world_sane;
     }
 
 pub loop-asked-preserved : goal.loop-asked-preserved
@@ -42,6 +43,7 @@ loop-asked-preserved g c =
           (subst (λ (replies : List Reply). Runs first (take index requests ++ asked ∷ []) replies new) (sym kept.items)
           (runs_more first before new (take index requests) c.loop-asked.replies.items asked c.step-reply.result
           (step.leads.serves h) (old.runs (step.leads.honest h)) (step.steps h)));
+      sane = λ h s world_sane. step.sane h s (old.sane (step.leads.honest h) (step.leads.serves h s) world_sane);
     }
 
 pub returns-clause-runs : goal.returns-clause-runs

@@ -1,9 +1,11 @@
 use Rattle.std.proofs.Common.{◌≡◌, ◌≤◌, length, take, vec_len, vec_capacity}
 use Rattle.hall_store.specs.Store.{Leads}
+use Rattle.hall_desk.specs.Desk.{SaneThen}
+use Rattle.hall_desk.specs.Sane.{Sane}
 use Rattle.hall_desk.specs.Plans.{Runs}
 use Rattle.hall_desk.proofs.step.run.Given as goal
 
--- there is room for all replies, and those so far are a run over the requests so far
+-- there is room for all replies, those so far are a run over the requests so far, and the world is sane where it was
 abbrev pub invariant-loop-asked : goal.invariant-loop-asked
 invariant-loop-asked g l =
     let old = g.S.Store.content l.fn.store in
@@ -13,4 +15,5 @@ invariant-loop-asked g l =
       room : length l.requests ≤ vec_capacity l.replies;
       leads : Leads old new;
       runs : new.honest → Runs old (take l.asked-index l.requests) l.replies.items new;
+      sane : SaneThen Sane old new;
     }

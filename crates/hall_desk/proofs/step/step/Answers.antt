@@ -1,9 +1,8 @@
-use Rattle.hall_store.specs.declared.fault.StoreFault.{StoreFault}
-use Rattle.hall_desk.proofs.Stepping.{planned_steps}
+use Rattle.std.proofs.Common.{arith}
+use Rattle.hall_desk.proofs.StepsSane.{steps_sane}
 use Rattle.hall_desk.proofs.step.step.Goals as goal
 
-pub returns-in-Ok-commit-clause-steps : goal.returns-in-Ok-commit-clause-steps
-returns-in-Ok-commit-clause-steps g c =
-    let made = c.in-Ok-commit.ensures in
-    planned_steps c.args.t c.args.request.now StoreFault (g.S.Store.content c.args.store.now) (g.S.Store.content c.make_plan.new.store) (g.S.Store.content c.commit.new.store)
-    c.in-Ok.plan c.in-Ok-commit.reply c.in-Ok.ensures.kept c.in-Ok.ensures.planned made.makes.leads made.reply made.makes.made
+pub returns-clause-sane : goal.returns-clause-sane
+returns-clause-sane g c = λ h s sane.
+    steps_sane (g.S.Store.content c.args.store.now) (g.S.Store.content c.make_step.new.store) c.args.t c.args.request.now c.make_step.result
+    (omega arith, omega (arith, c.get-moment.ensures.value, c.get-moment.ensures.most)) c.in_range.ensures s (c.make_step.ensures.steps h) sane
