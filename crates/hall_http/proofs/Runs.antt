@@ -3,7 +3,7 @@ use Rattle.std.proofs.Common.{◌≡◌, ◌∙◌, sym, subst, refl, ℕ, inl, 
 use Rattle.std.proofs.lemmas.List.Elements.{All-nil, All-cons}
 use Rattle.hall_policy.specs.World.{World}
 use Rattle.hall_store.specs.Store.{Content, Leads, Over}
-use Rattle.hall_desk.specs.Run.{Run}
+use Rattle.hall_desk.specs.Run.{IsTimed, Run}
 use Rattle.hall_desk.specs.Sane.{Sane}
 use Rattle.hall_desk.specs.Desk.{SaneThen}
 use Rattle.hall_desk.proofs.StepsSane.{run_sane}
@@ -26,6 +26,7 @@ not_made : (w v : World) (x : Exchange) (xs : List Exchange) (last : World) → 
 not_made w v x xs last same other run = record {
   requests = run.requests;
   replies = run.replies;
+  timed = run.timed;
   run = subst (λ w. Run w run.requests run.replies last) same run.run;
   made = inl (other, run.made);
 }
@@ -37,6 +38,7 @@ before_run : (world : World) (x : Exchange) (moment : Option ℕ) (next : World)
 before_run world x (Some t) next xs last at (inl step) run = record {
   requests = (t, step.request) ∷ run.requests;
   replies = step.reply ∷ run.replies;
+  timed = All-cons IsTimed (t, step.request) run.requests step.timed run.timed;
   run = (next, step.step, run.run);
   made = inr (
     (t, step.request),
@@ -54,7 +56,7 @@ before_run world x None next xs last at (unavailable, same) run =
     not_made world next x xs last same (inr unavailable) run
 
 pub run_over : (world : World) (xs : List Exchange) (last : World) → Answering world xs last → IsRunOver world xs last
-run_over world [] last same = record { requests = []; replies = []; run = same; made = (refl, refl) }
+run_over world [] last same = record { requests = []; replies = []; timed = All-nil IsTimed; run = same; made = (refl, refl) }
 run_over world (x ∷ xs) last (next, step, rest) =
     before_run world x x.moment next xs last refl step (run_over next xs last rest)
 
@@ -121,7 +123,7 @@ pub runs_sane : (old : Content) (xs : List Exchange) (new : Content) → (new.ho
     → SaneThen Sane old new
 runs_sane old xs new run h s sane =
     let over = run h in
-    subst Sane (sym (over.2 s)) (run_sane old.world over.1.requests over.1.replies over.0 over.1.run sane)
+    subst Sane (sym (over.2 s)) (run_sane old.world over.1.requests over.1.replies over.0 over.1.timed over.1.run sane)
 
 module _ {H C : Type 0} (content : H → Content) (now_gives : C → Option ℕ → C → Type 0)
     (stream after wrote written : Option (List ℕ)) (h : H) (c : C) (i : H) (d : C) (read_failed write_failed : Type 0) where

@@ -1,5 +1,6 @@
 -- The requests of one connection, each with its reply.
-use Rattle.std.specs.Prelude.{◌≡◌, ◌==◌, ℕ, List, [], ◌∷◌, Bool, true, false, ◌&&◌, ◌||◌, flat_map, All, Option, codes}
+use Rattle.std.specs.Prelude.{◌≡◌, ◌==◌, ℕ, List, [], ◌∷◌, Bool, true, false, ◌&&◌, ◌||◌, flat_map, All}
+use Rattle.std.specs.Prelude.{Option, codes}
 use Rattle.std.specs.List.{list_any}
 use Rattle.std.specs.Str.{str_eq_ignore_ascii_case}
 use Rattle.httparse.specs.Grammar.{RequestHead}
@@ -38,7 +39,8 @@ replies_of xs = flat_map (λ x. x.reply) xs
 abbrev pub AreOpen : List Exchange → Type 0
 AreOpen xs = All (λ x. IsOpen x.request) xs
 
-module _ {H C : Type 0} (answers : H → Option ℕ → List ℕ → List ℕ → H → Type 0) (now_gives : C → Option ℕ → C → Type 0) where
+module _ {H C : Type 0} (answers : H → Option ℕ → List ℕ → List ℕ → H → Type 0)
+    (now_gives : C → Option ℕ → C → Type 0) where
   -- a whole request is answered at the moment that the clock gives
   abbrev pub Exchanged : H → C → Exchange → H → C → Type 0
   Exchanged h c x i d = IsWhole x.request × now_gives c x.moment d × answers h x.moment x.request x.reply i

@@ -7,7 +7,8 @@ use Rattle.hall_http.specs.declared.inbox.ReadFault.TheVariants as fault
 
 -- Some bytes were read behind the unread ones, or the input is at its end. A refused read took none. Memory is refused
 -- only where more than 77,824 bytes wait, and some bytes may then be lost.
-abbrev pub ReadsMore : Option (List ℕ) → Option (List ℕ) → List ℕ → List ℕ → ℕ → ℕ → Result Bool ReadFault → Type 0
+abbrev pub ReadsMore : Option (List ℕ) → Option (List ℕ) → List ℕ → List ℕ → ℕ → ℕ
+    → Result Bool ReadFault → Type 0
 ReadsMore stream after old new failed fails (Ok true) =
     (piece : List ℕ) × (0 < length piece) × (length piece ≤ 4096) × (new ≡ old ++ piece)
     × Consumes stream after piece × (fails ≡ failed)

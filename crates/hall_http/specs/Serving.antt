@@ -1,9 +1,9 @@
 -- The requests of one connection, answered over a store at the moments that a clock gives.
-use Rattle.std.specs.Prelude.{◌≡◌, ◌⊎◌, ℕ, List, [], ◌∷◌, Option, Some, None, Ok}
+use Rattle.std.specs.Prelude.{◌≡◌, ◌⊎◌, ℕ, List, [], ◌∷◌, Option, Some, None, Ok, All}
 use Rattle.hall_policy.specs.World.{World}
 use Rattle.hall_policy.specs.declared.request.Request.{Request}
 use Rattle.hall_store.specs.Store.{Content, Leads, Over}
-use Rattle.hall_desk.specs.Run.{Run}
+use Rattle.hall_desk.specs.Run.{IsTimed, Run}
 use Rattle.hall_desk.specs.declared.reply.Reply.{Reply}
 use Rattle.hall_desk.specs.declared.reply.Reply.TheVariants.{Unavailable as NotServed}
 use Rattle.hall_http.specs.Request.{RequestOf}
@@ -24,7 +24,8 @@ pub record IsAnswered (old : Content) (moment : Option ℕ) (request reply : Lis
 -- the clock was asked once for each request, in their order
 abbrev pub AreMoments : {C : Type 0} → (C → Option ℕ → C → Type 0) → C → List Exchange → C → Type 0
 AreMoments now_gives clock [] later = later ≡ clock
-AreMoments {C} now_gives clock (x ∷ xs) later = (next : C) × now_gives clock x.moment next × AreMoments now_gives next xs later
+AreMoments {C} now_gives clock (x ∷ xs) later =
+    (next : C) × now_gives clock x.moment next × AreMoments now_gives next xs later
 
 -- the bytes aren't made into a request of the hall: they are none, or no memory or no moment was there for it
 abbrev pub IsNotMade : Exchange → Type 0
@@ -44,10 +45,11 @@ AreMade (x ∷ xs) requests replies =
     ⊎ ((request : ℕ × Request) × (reply : Reply) × (later : List (ℕ × Request)) × (rest : List Reply)
     × (requests ≡ request ∷ later) × (replies ≡ reply ∷ rest) × IsMade x request reply × AreMade xs later rest)
 
--- the requests of the hall have these replies in a run of the hall
+-- the requests of the hall, each of its type, have these replies in a run of the hall
 pub record IsRunOver (old : World) (xs : List Exchange) (new : World) : Type 0 where
   pub requests : List (ℕ × Request)
   pub replies : List Reply
+  pub timed : All IsTimed requests
   pub run : Run old requests replies new
   pub made : AreMade xs requests replies
 
