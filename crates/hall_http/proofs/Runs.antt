@@ -51,7 +51,10 @@ before_run world x (Some t) next xs last at (inl step) run = record {
     run.made,
   );
 }
-before_run world x (Some t) next xs last at (inr (other, same)) run = not_made world next x xs last same other run
+before_run world x (Some t) next xs last at (inr (inl refused, same)) run =
+    not_made world next x xs last same (inl (t, at, refused)) run
+before_run world x (Some t) next xs last at (inr (inr unavailable, same)) run =
+    not_made world next x xs last same (inr unavailable) run
 before_run world x None next xs last at (unavailable, same) run =
     not_made world next x xs last same (inr unavailable) run
 

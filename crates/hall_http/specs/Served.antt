@@ -55,10 +55,11 @@ Ended end.Device after wrote written xs unread read_failed write_failed =
     ⊎ (BreaksLast wrote written xs × write_failed)
     ⊎ (BreaksRefusal wrote written xs × IsNoRequest after unread × write_failed)
 
--- the stream was read as at most 1,000 requests and then this rest, a handler answered them, and the connection ended so
+-- the stream was read as at most 1,000 requests and then this rest, a handler answered the requests, and the connection
+-- ended so
 pub record IsHandled {H C : Type 0} (answers : H → Option ℕ → List ℕ → List ℕ → H → Type 0)
-    (now_gives : C → Option ℕ → C → Type 0) (stream after wrote written : Option (List ℕ)) (h : H) (c : C) (i : H) (d : C)
-    (read_failed write_failed : Type 0) (end : ServeEnd) : Type 0 where
+    (now_gives : C → Option ℕ → C → Type 0) (stream after wrote written : Option (List ℕ))
+    (h : H) (c : C) (i : H) (d : C) (read_failed write_failed : Type 0) (end : ServeEnd) : Type 0 where
   pub exchanges : List Exchange
   pub unread : List ℕ
   pub session : Session answers now_gives h c exchanges i d

@@ -27,9 +27,10 @@ AreMoments now_gives clock [] later = later ≡ clock
 AreMoments {C} now_gives clock (x ∷ xs) later =
     (next : C) × now_gives clock x.moment next × AreMoments now_gives next xs later
 
--- the bytes aren't made into a request of the hall: they are none, or no memory or no moment was there for it
+-- the bytes aren't made into a request of the hall: they are none, and their reply names the fault; or no memory or no
+-- moment was there for it, and their reply is 503
 abbrev pub IsNotMade : Exchange → Type 0
-IsNotMade x = IsRefused x.request x.reply ⊎ BytesOf NotServed x.reply
+IsNotMade x = ((moment : ℕ) × (x.moment ≡ Some moment) × IsRefused x.request x.reply) ⊎ BytesOf NotServed x.reply
 
 -- the bytes are this request at its moment, and their reply is the step's
 pub record IsMade (x : Exchange) (request : ℕ × Request) (reply : Reply) : Type 0 where
