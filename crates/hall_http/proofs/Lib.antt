@@ -11,3 +11,5 @@ pub mod Headers
 pub mod Cutting
 pub mod Turns
 pub mod Refusals
+pub mod Exchanges
+pub mod Runs

@@ -1,4 +1,4 @@
--- The answer for want of memory.
+-- The answers that take no memory.
 use Rattle.std.proofs.Common.{◌≡◌, ◌++◌, sym, ap, refl, arith, decimal}
 use Rattle.std.specs.Prelude.{codes}
 use Rattle.std.proofs.lemmas.Fmt.{decimal-digits_value}
@@ -8,7 +8,9 @@ use Rattle.hall_desk.specs.declared.reply.Reply.TheVariants.{Unavailable as NotS
 use Rattle.hall_http.specs.declared.answer.Answer.TheVariants.{Unavailable}
 use Rattle.hall_http.specs.declared.status.Status.TheVariants as status
 use Rattle.hall_http.specs.declared.status.MediaType.TheVariants as media
-use Rattle.hall_http.specs.Reply.{BytesOf, head_bytes, unavailable_data}
+use Rattle.hall_http.specs.Reply.{BytesOf, head_bytes, unavailable_data, fault_data}
+use Rattle.hall_http.specs.Served.{refusal}
+use Rattle.hall_http.specs.declared.form.FormFault.TheVariants as fault
 use Rattle.hall_http.specs.Answered.{answer_text}
 use Rattle.hall_http.proofs.Texts.{own}
 
@@ -19,3 +21,11 @@ pub unavailable_reply : BytesOf NotServed (answer_text Unavailable)
 unfolding serde_json_on_literals
 unavailable_reply =
     ap (λ size. head_bytes status.Unavailable media.Json ++ ((codes "\r\nContent-Length: " ++ (size ++ codes "\r\n\r\n")) ++ compact_text unavailable_data)) (sym sixteen)
+
+thirteen : decimal 13 ≡ codes "13"
+thirteen = decimal-digits_value own (codes "13") refl (omega arith) (λ e. omega arith) (omega arith)
+
+pub refusal_text : codes "HTTP/1.1 400 Bad Request\r\nContent-Type: application/json\r\nContent-Length: 13\r\n\r\n{\"form\":\"F7\"}" ≡ refusal
+unfolding serde_json_on_literals
+refusal_text =
+    ap (λ size. head_bytes status.BadRequest media.Json ++ ((codes "\r\nContent-Length: " ++ (size ++ codes "\r\n\r\n")) ++ compact_text (fault_data fault.NotWhole))) (sym thirteen)

@@ -6,7 +6,6 @@ use Rattle.std.proofs.lemmas.List.{append-nil, take-append-drop}
 use Rattle.std.proofs.lemmas.List.Concat.{flat_map-append}
 use Rattle.std.proofs.KnownBytes.{Appends-nil, Appends-trans, Consumes-nil, Consumes-trans}
 use Rattle.std.specs.Io.KnownBytes.{Appends, Consumes, IsAtEnd}
-use Rattle.hall_grid.specs.Device.{HasFailed}
 use Rattle.std.specs.Prelude.{All}
 use Rattle.std.proofs.lemmas.List.Elements.{All-nil, All-cons, All-append}
 use Rattle.hall_desk.specs.Run.{IsTimed, Run}
@@ -14,7 +13,7 @@ use Rattle.hall_desk.specs.Sane.{Sane}
 use Rattle.hall_desk.specs.Desk.{SaneThen}
 use Rattle.hall_desk.proofs.StepsSane.{run_sane}
 use Rattle.hall_policy.specs.World.{World}
-use Rattle.hall_store.specs.Store.{Content, Leads, Over}
+use Rattle.hall_store.specs.Store.{Content, Leads}
 use Rattle.hall_http.specs.declared.fault.ReplayFault.{ReplayFault}
 use Rattle.hall_http.specs.declared.fault.ReplayFault.TheVariants as fault
 use Rattle.hall_http.specs.Device.{WritesPart}
@@ -22,7 +21,8 @@ use Rattle.hall_http.specs.Records.{Record, IsRecord, record_bytes, header_of, H
 use Rattle.hall_http.specs.Records.{bytes_between}
 use Rattle.hall_http.specs.Answered.{Answers, AnswersOver}
 use Rattle.hall_http.specs.Replay.{Exchange, Exchanged, Session, records_of, replies_of, IsRunOver, RunsOver, LacksRecord}
-use Rattle.hall_http.specs.Replay.{IsMade, IsReplayed, Ended, ReadsMore}
+use Rattle.hall_http.specs.Replay.{IsMade, IsReplayed, Ended}
+use Rattle.hall_http.specs.Inbox.{ReadsMore}
 
 records_more : (xs : List Exchange) (x : Exchange) → records_of (xs ++ x ∷ []) ≡ records_of xs ++ record_bytes x.asked
 records_more xs x =
@@ -239,14 +239,6 @@ module _ (stream after wrote written : Option (List ℕ)) (old new : Content) (i
 
     pub too_many : 1000000000 ≤ reads → IsReplayed {U = U} stream after wrote written old new failed (Err fault.Record)
     too_many many = ends after (Err fault.Record) kept.consumed (kept.replied, inr (omega (arith, kept.pieces)))
-
-    -- a read was refused
-    pub read_refused : (then : Option (List ℕ)) (now : List ℕ) (rf rg : ℕ) (e : ReplayFault)
-        → ReadsMore after then inbox now rf rg (Err e) → (HasFailed rf rg → failed)
-        → IsReplayed {U = U} stream then wrote written old new failed (Err e)
-    read_refused then now rf rg fault.Device (none, rose) told = unread_device then none (told rose)
-    read_refused then now rf rg fault.Memory (piece, more) told = no_memory then piece more
-    read_refused then now rf rg fault.Record h told = absurd h
 
     -- the input is at its end
     pub at_end : (result : Result U ReplayFault) (then : Option (List ℕ)) (now : List ℕ) (rf rg : ℕ)

@@ -10,3 +10,8 @@ pub mod Device
 pub mod Answered
 pub mod Records
 pub mod Replay
+pub mod Inbox
+pub mod Connection
+pub mod Serving
+pub mod Served
+pub mod Sending

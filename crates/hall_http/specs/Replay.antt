@@ -1,8 +1,7 @@
 -- A replay: records of a stream, answered one after another.
-use Rattle.std.specs.Prelude.{◌≡◌, ◌≢◌, ◌<◌, ◌≤◌, ◌⊎◌, ℕ, List, [], ◌∷◌, ◌++◌, length, flat_map, All, Option, Result}
-use Rattle.std.specs.Prelude.{Ok, Err, Bool, true, false}
+use Rattle.std.specs.Prelude.{◌≡◌, ◌≢◌, ◌≤◌, ◌⊎◌, ℕ, List, [], ◌∷◌, ◌++◌, length, flat_map, All, Option, Result}
+use Rattle.std.specs.Prelude.{Ok, Err}
 use Rattle.std.specs.Io.KnownBytes.{Appends, Consumes, IsAtEnd}
-use Rattle.hall_grid.specs.Device.{HasFailed}
 use Rattle.hall_policy.specs.World.{World}
 use Rattle.hall_policy.specs.declared.request.Request.{Request}
 use Rattle.hall_store.specs.Store.{Content, Leads}
@@ -100,15 +99,3 @@ pub record IsReplayed {U : Type 0} (stream after wrote written : Option (List �
   pub run : new.honest → RunsOver old answered new
   pub consumed : Consumes stream after (records_of answered ++ unread)
   pub ended : Ended end after wrote written answered unread failed
-
--- some bytes were read behind the unread ones, or the input is at its end;
--- a refused read took none, and where memory is refused some bytes may be lost
-abbrev pub ReadsMore : Option (List ℕ) → Option (List ℕ) → List ℕ → List ℕ → ℕ → ℕ → Result Bool ReplayFault → Type 0
-ReadsMore stream after old new failed fails (Ok true) =
-    (piece : List ℕ) × (0 < length piece) × (length piece ≤ 4096) × (new ≡ old ++ piece)
-    × Consumes stream after piece × (fails ≡ failed)
-ReadsMore stream after old new failed fails (Ok false) =
-    (new ≡ old) × Consumes stream after [] × IsAtEnd after × (fails ≡ failed)
-ReadsMore stream after old new failed fails (Err fault.Device) = Consumes stream after [] × HasFailed failed fails
-ReadsMore stream after old new failed fails (Err fault.Memory) = (piece : List ℕ) × Consumes stream after piece
-ReadsMore stream after old new failed fails (Err fault.Record) = ⊥

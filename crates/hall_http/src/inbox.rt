@@ -1,18 +1,27 @@
-//! What a replay has read and not answered.
-ghost use Rattle.std.specs.Prelude.{◌≡◌, ◌≤◌, [], IfOk, drop, length};
-ghost use Rattle.hall_http.specs.Replay.{ReadsMore};
+//! What was read of a stream and not passed yet.
+ghost use Rattle.std.specs.Prelude.{◌≡◌, ◌≤◌, ◌<◌, ◌+◌, ◌++◌, [], drop, length};
+ghost use Rattle.std.specs.Prelude.{IfOk, OnOk, OnErr, vec_len, vec_capacity};
+ghost use Rattle.hall_http.specs.Inbox.{ReadsMore};
 
-use crate::fault::ReplayFault;
 use hall_grid::Counted;
 use std::alloc::{AllocError, Global};
 use std::io::Read;
 use std::marker::Model;
 
-/// Room for the longest record and one more read.
+/// Room for the longest request or record, and one more read.
 const ROOM: usize = 81_920;
 
 /// The most bytes of one read.
 const CHUNK_SIZE: usize = 4096;
+
+/// Why no more was read.
+#[derive(Clone, Copy, Debug, PartialEq, Eq)]
+pub enum ReadFault {
+    /// The read failed.
+    Device,
+    /// Want of memory, where more bytes wait than there is room for.
+    Memory,
+}
 
 /// The bytes that were read and not passed yet. Those passed stay in front of them until the next read.
 #[derive(Drop)]
@@ -22,13 +31,13 @@ pub struct Inbox {
 }
 
 impl Model for Inbox {
-    ghost use Rattle.std.specs.Prelude.{◌≤◌, List, ℕ, drop, vec_len};
+    ghost use Rattle.std.specs.Prelude.{◌≤◌, List, ℕ, drop, vec_len, vec_capacity};
 
     ghost Value = { List ℕ };
 
     ghost view = { λ inbox. drop inbox.passed inbox.bytes.items };
 
-    ghost invariant = { λ inbox. inbox.passed ≤ vec_len inbox.bytes };
+    ghost invariant = { λ inbox. (inbox.passed ≤ vec_len inbox.bytes) × (81920 ≤ vec_capacity inbox.bytes) };
 }
 
 impl Inbox {
@@ -56,29 +65,42 @@ impl Inbox {
     }
 
     /// Reads some more bytes; false at the end of the input.
-    pub fn read_more<R: Read>(&mut self, reader: &mut Counted<R>) -> Result<bool, ReplayFault>
+    pub fn read_more<R: Read>(&mut self, reader: &mut Counted<R>) -> Result<bool, ReadFault>
         ensures { ReadsMore (R.remaining reader.old.device) (R.remaining reader.new.device)
             self.old self.new reader.old.failures reader.new.failures result }
     {
-        self.move_to_front();
         let mut chunk = [0u8; CHUNK_SIZE];
-        match reader.read(&mut chunk) {
-            Ok(0) => Ok(false),
-            Ok(count) => {
-                self.bytes.extend_from_slice(&chunk[..count])?;
-                Ok(true)
-            }
-            Err(_) => Err(ReplayFault::Device),
+        let count = match reader.read(&mut chunk) {
+            Ok(count) => count,
+            Err(_) => return Err(ReadFault::Device),
+        };
+        if count == 0 {
+            return Ok(false);
+        }
+        match self.add(&chunk[..count]) {
+            Ok(()) => Ok(true),
+            Err(_) => Err(ReadFault::Memory),
         }
     }
 
-    /// Moves the bytes that are left over those that were passed.
-    fn move_to_front(&mut self)
-        ensures { self.new ≡ self.old }
+    /// Puts some more bytes behind those that are left.
+    fn add(&mut self, piece: &[u8]) -> Result<(), AllocError>
+        ensures all { OnOk result (self.new ≡ self.old ++ piece.now) }
+        ensures full { OnErr result (81920 < length self.old + length piece.now) }
     {
-        let left = self.bytes.len() - self.passed;
-        self.bytes.rotate_left(self.passed);
-        self.bytes.truncate(left);
+        take_front(&mut self.bytes, self.passed);
         self.passed = 0;
+        self.bytes.extend_from_slice(piece)
     }
+}
+
+/// Takes so many bytes off the front.
+fn take_front(bytes: &mut Vec<u8>, count: usize)
+    requires { count ≤ vec_len bytes.old }
+    ensures items { bytes.new.items ≡ drop count bytes.old.items }
+    ensures capacity { vec_capacity bytes.new ≡ vec_capacity bytes.old }
+{
+    let left = bytes.len() - count;
+    bytes.rotate_left(count);
+    bytes.truncate(left);
 }

@@ -3,9 +3,12 @@
 
 mod answer;
 mod body;
+mod closing;
+mod connection;
 mod device;
 mod fault;
 mod form;
+mod handler;
 mod head;
 mod inbox;
 mod record;
@@ -17,6 +20,7 @@ mod status;
 mod words;
 
 pub use answer::{Answer, answer_bytes};
+pub use connection::{Clock, ServeEnd, serve};
 pub use device::write_all;
 pub use fault::{DeviceFault, ReplayFault};
 pub use head::{Cut, cut_request};

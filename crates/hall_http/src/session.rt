@@ -12,7 +12,7 @@ ghost use Rattle.hall_http.specs.Replay.{IsReplayed};
 use crate::answer::{Answer, answer_bytes};
 use crate::device::write_all;
 use crate::fault::{DeviceFault, ReplayFault};
-use crate::inbox::Inbox;
+use crate::inbox::{Inbox, ReadFault};
 use crate::record::{Cut, cut_record};
 use crate::routes::Routes;
 use hall_desk::Desk;
@@ -75,7 +75,13 @@ fn answer_records<R: Read, W: Write, S: Store>(
     'records: loop {
         match cut_record(inbox.unread()) {
             Cut::Whole { moment, start, end } => {
-                let answer = answer_bytes(alloc, &routes, desk, moment, &inbox.unread()[start..end]);
+                let answer = answer_bytes(
+                    alloc,
+                    &routes,
+                    desk,
+                    moment,
+                    &inbox.unread()[start..end],
+                );
                 inbox.pass(end);
                 match send(writer, answer) {
                     Ok(()) => {}
@@ -90,7 +96,8 @@ fn answer_records<R: Read, W: Write, S: Store>(
                 match inbox.read_more(reader) {
                     Ok(true) => {}
                     Ok(false) => return end_of_input(inbox.unread()),
-                    Err(fault) => return Err(fault),
+                    Err(ReadFault::Device) => return Err(ReplayFault::Device),
+                    Err(ReadFault::Memory) => return Err(ReplayFault::Memory),
                 }
             }
             Cut::Never => return Err(ReplayFault::Record),

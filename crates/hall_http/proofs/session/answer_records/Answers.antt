@@ -3,7 +3,7 @@ use Rattle.hall_desk.specs.Desk.{kept_by}
 use Rattle.std.proofs.KnownBytes.{Consumes-nil}
 use Rattle.hall_http.specs.declared.fault.ReplayFault.TheVariants as fault
 use Rattle.hall_http.proofs.Turns.{Kept, kept_start, kept_read, kept_answered, unsent}
-use Rattle.hall_http.proofs.Turns.{no_memory, read_refused, never_record, at_end, too_many}
+use Rattle.hall_http.proofs.Turns.{unread_device, no_memory, never_record, at_end, too_many}
 use Rattle.hall_http.proofs.session.answer_records.Goals as goal
 
 pub records-init : goal.records-init
@@ -57,10 +57,15 @@ records-preserved g c =
       kept = rw same (kept_read _ _ _ _ _ _ _ _ c.records.invariant.kept _ piece some more);
     }
 
-pub returns-in-Err-read_more : goal.returns-in-Err-read_more
-returns-in-Err-read_more g c =
-    read_refused _ _ _ _ _ _ _ _ c.records.invariant.kept _ _ c.read_more.new.self _
-    _ c.in-Err-read_more.fault c.in-Err-read_more.ensures (λ rose. inl (rw c.records.invariant.reader at rose))
+pub returns-in-Err-Device : goal.returns-in-Err-Device
+returns-in-Err-Device g c =
+    let (same, none, rose) = rw c.in-Err-Device.field-0-is at c.in-Err-Device.ensures in
+    unread_device _ _ _ _ _ _ _ _ c.records.invariant.kept _ _ none (inl (rw c.records.invariant.reader at rose))
+
+pub returns-in-Err-Memory : goal.returns-in-Err-Memory
+returns-in-Err-Memory g c =
+    let (many, piece, more, steady) = rw c.in-Err-Memory.field-0-is at c.in-Err-Memory.ensures in
+    no_memory _ _ _ _ _ _ _ _ c.records.invariant.kept _ _ piece more
 
 pub returns-in-Never : goal.returns-in-Never
 returns-in-Never g c =

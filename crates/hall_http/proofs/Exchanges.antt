@@ -1,0 +1,211 @@
+-- What the loop of a connection keeps, and how each of its ends follows.
+use Rattle.std.proofs.Common.{◌≡◌, ◌≢◌, ◌∙◌, sym, ap, subst, refl, arith, ℕ, ◌+◌, ◌<◌, ◌≤◌, inl, inr, List, [], ◌∷◌, ◌++◌}
+use Rattle.std.proofs.Common.{length, take, drop, Option, append_assoc, length-append}
+use Rattle.std.proofs.lemmas.List.{append-nil, take-append-drop}
+use Rattle.std.proofs.lemmas.List.Concat.{flat_map-append}
+use Rattle.std.proofs.lemmas.List.Elements.{All-nil, All-push}
+use Rattle.std.proofs.KnownBytes.{Appends-nil, Appends-trans, Consumes-nil, Consumes-trans}
+use Rattle.std.specs.Io.KnownBytes.{Appends, Consumes}
+use Rattle.hall_grid.specs.Device.{HasFailed}
+use Rattle.hall_http.specs.Head.{IsRequest, IsWhole, HasNone, NeverHas}
+use Rattle.httparse.specs.Grammar.{RequestHead}
+use Rattle.hall_http.specs.Device.{WritesPart}
+use Rattle.hall_http.specs.Inbox.{ReadsMore}
+use Rattle.hall_http.specs.Connection.{Exchange, Exchanged, Session, requests_of, replies_of, AreOpen, IsOpen, IsClosing, closes}
+use Rattle.hall_http.specs.Served.{IsHandled, Ended, IsNoRequest, refusal}
+use Rattle.hall_http.specs.Sending.{Refuses, EndsInput}
+use Rattle.hall_http.specs.declared.connection.ServeEnd.{ServeEnd}
+use Rattle.hall_http.specs.declared.connection.ServeEnd.TheVariants as end
+use Rattle.hall_http.specs.declared.inbox.ReadFault.{ReadFault}
+use Rattle.hall_http.specs.declared.inbox.ReadFault.TheVariants as fault
+use Rattle.std.specs.Prelude.{Ok, Err, Bool, true, false}
+
+requests_more : (xs : List Exchange) (x : Exchange) → requests_of (xs ++ x ∷ []) ≡ requests_of xs ++ x.request
+requests_more xs x =
+    flat_map-append (λ x. x.request) xs (x ∷ []) ∙ ap (λ s. requests_of xs ++ s) (append-nil x.request)
+
+replies_more : (xs : List Exchange) (x : Exchange) → replies_of (xs ++ x ∷ []) ≡ replies_of xs ++ x.reply
+replies_more xs x = flat_map-append (λ x. x.reply) xs (x ∷ []) ∙ ap (λ s. replies_of xs ++ s) (append-nil x.reply)
+
+-- what closes the connection after a whole request, and what doesn't
+pub closing_request : (request : List ℕ) (result : Bool) → IsWhole request
+    → ((head : RequestHead) (body : List ℕ) → IsRequest request head body → result ≡ closes head) → result ≡ true
+    → IsClosing request
+closing_request request result (head, body, is) says shut = (head, body, is, sym (says head body is) ∙ shut)
+
+pub open_request : (request : List ℕ) (result : Bool) → IsWhole request
+    → ((head : RequestHead) (body : List ℕ) → IsRequest request head body → result ≡ closes head) → result ≡ false
+    → IsOpen request
+open_request request result (head, body, is) says stays = (head, body, is, sym (says head body is) ∙ stays)
+
+pub not_nil : (xs : List ℕ) → 0 < length xs → xs ≢ []
+not_nil xs some e = let z : length xs ≡ 0 = ap length e in omega arith
+
+module _ {H C : Type 0} (answers : H → Option ℕ → List ℕ → List ℕ → H → Type 0) (now_gives : C → Option ℕ → C → Type 0) where
+  session_more : (h : H) (c : C) (xs : List Exchange) (m : H) (n : C) (x : Exchange) (i : H) (d : C)
+      → Session answers now_gives h c xs m n → Exchanged answers now_gives m n x i d
+      → Session answers now_gives h c (xs ++ x ∷ []) i d
+  session_more h c [] m n x i d (same, clock) step = (i, d, rw (← same, ← clock) step, (refl, refl))
+  session_more h c (y ∷ ys) m n x i d (p, q, first, rest) step =
+      (p, q, first, session_more p q ys m n x i d rest step)
+
+  -- after some turns: the requests answered, and what was read after them
+  pub record Kept (stream after wrote written : Option (List ℕ)) (h : H) (c : C) (i : H) (d : C)
+      (inbox : List ℕ) (requests reads : ℕ) : Type 0 where
+    pub done : List Exchange
+    pub count : length done ≡ requests
+    pub session : Session answers now_gives h c done i d
+    pub consumed : Consumes stream after (requests_of done ++ inbox)
+    pub pieces : reads ≤ length (requests_of done ++ inbox)
+    pub replied : Appends wrote written (replies_of done)
+    pub opened : AreOpen done
+
+  pub kept_start : (stream wrote : Option (List ℕ)) (h : H) (c : C) → Kept stream stream wrote wrote h c h c [] 0 0
+  kept_start stream wrote h c = record {
+    done = [];
+    count = refl;
+    session = (refl, refl);
+    consumed = Consumes-nil stream;
+    pieces = omega arith;
+    replied = Appends-nil wrote;
+    opened = All-nil (λ x. IsOpen x.request);
+  }
+
+  module _ (stream after wrote written : Option (List ℕ)) (h : H) (c : C) (m : H) (n : C) (inbox : List ℕ)
+      (requests reads : ℕ) (kept : Kept stream after wrote written h c m n inbox requests reads) where
+    pub kept_read : (then : Option (List ℕ)) (piece : List ℕ) → 0 < length piece → Consumes after then piece
+        → Kept stream then wrote written h c m n (inbox ++ piece) requests (reads + 1)
+    kept_read then piece some more =
+        let all : requests_of kept.done ++ (inbox ++ piece) ≡ (requests_of kept.done ++ inbox) ++ piece =
+        sym (append_assoc (requests_of kept.done) inbox piece) in
+        record {
+          done = kept.done;
+          count = kept.count;
+          session = kept.session;
+          consumed = rw all (Consumes-trans stream after then (requests_of kept.done ++ inbox) piece kept.consumed more);
+          pieces = rw all (omega (arith, kept.pieces, length-append (requests_of kept.done ++ inbox) piece));
+          replied = kept.replied;
+          opened = kept.opened;
+        }
+
+    -- one more request is answered
+    module _ (x : Exchange) (i : H) (d : C) (size : ℕ) (asked : x.request ≡ take size inbox)
+        (exchanged : Exchanged answers now_gives m n x i d) where
+      abbrev all : List Exchange
+      all = kept.done ++ x ∷ []
+
+      same_bytes : requests_of all ++ drop size inbox ≡ requests_of kept.done ++ inbox
+      same_bytes =
+          ap (λ s. s ++ drop size inbox) (requests_more kept.done x ∙ ap (λ s. requests_of kept.done ++ s) asked)
+          ∙ append_assoc (requests_of kept.done) (take size inbox) (drop size inbox)
+          ∙ ap (λ s. requests_of kept.done ++ s) (take-append-drop size inbox)
+
+      longer : Session answers now_gives h c all i d
+      longer = session_more h c kept.done m n x i d kept.session exchanged
+
+      one_more : length all ≡ requests + 1
+      one_more = length-append kept.done (x ∷ []) ∙ ap (λ k. k + 1) kept.count
+
+      replied_all : (then : Option (List ℕ)) → Appends written then x.reply → Appends wrote then (replies_of all)
+      replied_all then sent =
+          rw (replies_more kept.done x)
+          (Appends-trans wrote written then (replies_of kept.done) x.reply kept.replied sent)
+
+      pub kept_answered : (then : Option (List ℕ)) → IsOpen x.request → Appends written then x.reply
+          → Kept stream after wrote then h c i d (drop size inbox) (requests + 1) reads
+      kept_answered then stays sent = record {
+        done = all;
+        count = one_more;
+        session = longer;
+        consumed = rw same_bytes kept.consumed;
+        pieces = rw same_bytes kept.pieces;
+        replied = replied_all then sent;
+        opened = All-push (λ x. IsOpen x.request) kept.done x kept.opened stays;
+      }
+
+      module _ (read_failed write_failed : Type 0) (room : requests < 1000) (then : Option (List ℕ)) where
+        ends_after : (e : ServeEnd) → Ended e after wrote then all (drop size inbox) read_failed write_failed
+            → IsHandled answers now_gives stream after wrote then h c i d read_failed write_failed e
+        ends_after e ended = record {
+          exchanges = all;
+          unread = drop size inbox;
+          session = longer;
+          few = omega (arith, one_more);
+          consumed = rw same_bytes kept.consumed;
+          ended = ended;
+        }
+
+        pub closes_last : IsClosing x.request → Appends written then x.reply
+            → IsHandled answers now_gives stream after wrote then h c i d read_failed write_failed end.Closed
+        closes_last shut sent =
+            ends_after end.Closed (replied_all then sent, inr (kept.done, x, refl, kept.opened, shut))
+
+        -- the reply couldn't be written whole
+        pub unsent : WritesPart written then x.reply → write_failed
+            → IsHandled answers now_gives stream after wrote then h c i d read_failed write_failed end.Device
+        unsent part rose =
+            ends_after end.Device (inr (inl ((kept.done, x, written, refl, kept.opened, kept.replied, part), rose)))
+
+    -- no further request is answered
+    module _ (read_failed write_failed : Type 0) (most : requests ≤ 1000) where
+      ends : (then last : Option (List ℕ)) (e : ServeEnd) → Consumes after then []
+          → Ended e then wrote last kept.done inbox read_failed write_failed
+          → IsHandled answers now_gives stream then wrote last h c m n read_failed write_failed e
+      ends then last e none ended = record {
+        exchanges = kept.done;
+        unread = inbox;
+        session = kept.session;
+        few = omega (arith, kept.count);
+        consumed = subst (λ s. Consumes stream then s) (append-nil (requests_of kept.done ++ inbox))
+            (Consumes-trans stream after then (requests_of kept.done ++ inbox) [] kept.consumed none);
+        ended = ended;
+      }
+
+      pub full : 1000 ≤ requests
+          → IsHandled answers now_gives stream after wrote written h c m n read_failed write_failed end.Limit
+      full least =
+          ends after written end.Limit (Consumes-nil after) (kept.replied, kept.opened, inl (omega (arith, kept.count)))
+
+      pub read_out : HasNone inbox → 100000 ≤ reads
+          → IsHandled answers now_gives stream after wrote written h c m n read_failed write_failed end.Limit
+      read_out none many =
+          ends after written end.Limit (Consumes-nil after)
+          (kept.replied, kept.opened, inr (none, omega (arith, kept.pieces)))
+
+      -- a read was refused
+      pub unread_device : (then : Option (List ℕ)) (now : List ℕ) (failed fails : ℕ) (e : ReadFault)
+          → ReadsMore after then inbox now failed fails (Err e) → HasNone inbox → length inbox < 73728
+          → (HasFailed failed fails → read_failed)
+          → IsHandled answers now_gives stream then wrote written h c m n read_failed write_failed end.Device
+      unread_device then now failed fails fault.Device (same, taken, rose) none few told =
+          ends then written end.Device taken (inl (kept.replied, kept.opened, none, told rose))
+      unread_device then now failed fails fault.Memory (many, piece, more, steady) none few told = absurd (omega arith)
+
+      -- the bytes that are left are refused
+      pub refuses : (then last : Option (List ℕ)) (failed fails : ℕ) (e : ServeEnd) → Consumes after then []
+          → IsNoRequest then inbox → Refuses e written last failed fails → (HasFailed failed fails → write_failed)
+          → IsHandled answers now_gives stream then wrote last h c m n read_failed write_failed e
+      refuses then last failed fails end.BadHead taken none sent told =
+          ends then last end.BadHead taken
+          (Appends-trans wrote written last (replies_of kept.done) refusal kept.replied sent, kept.opened, none)
+      refuses then last failed fails end.Device taken none (part, rose) told =
+          ends then last end.Device taken (inr (inr ((written, kept.opened, kept.replied, part), none, told rose)))
+      refuses then last failed fails end.Closed taken none sent told = absurd sent
+      refuses then last failed fails end.Limit taken none sent told = absurd sent
+
+      -- the input is at its end
+      pub at_end : (then last : Option (List ℕ)) (now : List ℕ) (rf rg failed fails : ℕ) (e : ServeEnd)
+          → ReadsMore after then inbox now rf rg (Ok false) → HasNone inbox
+          → EndsInput now e written last failed fails → (HasFailed failed fails → write_failed)
+          → IsHandled answers now_gives stream then wrote last h c m n read_failed write_failed e
+      at_end then last now rf rg failed fails e (same, taken, over, steady) none (inl (empty, closed, unsaid)) told =
+          rw (closed, unsaid) (ends then written end.Closed taken (kept.replied, inl (kept.opened, sym same ∙ empty, over)))
+      at_end then last now rf rg failed fails e (same, taken, over, steady) none (inr (some, sent)) told =
+          refuses then last failed fails e taken
+          (inl (not_nil inbox (subst (λ s. 0 < length s) same some), none, over)) sent told
+
+      pub never_request : (last : Option (List ℕ)) (failed fails : ℕ) (e : ServeEnd) → NeverHas inbox
+          → Refuses e written last failed fails → (HasFailed failed fails → write_failed)
+          → IsHandled answers now_gives stream after wrote last h c m n read_failed write_failed e
+      never_request last failed fails e never sent told =
+          refuses after last failed fails e (Consumes-nil after) (inr never) sent told

@@ -1,0 +1,159 @@
+-- A session over a store is a run of the hall over its requests.
+use Rattle.std.proofs.Common.{◌≡◌, ◌∙◌, sym, subst, refl, ℕ, inl, inr, List, [], ◌∷◌, Option, Some, None, All}
+use Rattle.std.proofs.lemmas.List.Elements.{All-nil, All-cons}
+use Rattle.hall_policy.specs.World.{World}
+use Rattle.hall_store.specs.Store.{Content, Leads, Over}
+use Rattle.hall_desk.specs.Run.{IsTimed, Run}
+use Rattle.hall_desk.specs.Sane.{Sane}
+use Rattle.hall_desk.specs.Desk.{SaneThen}
+use Rattle.hall_desk.proofs.StepsSane.{run_sane}
+use Rattle.hall_http.specs.Head.{IsWhole}
+use Rattle.hall_http.specs.Connection.{Exchange, Session}
+use Rattle.std.specs.Prelude.{Result, Ok, Err, IfOk, OnErr}
+use Rattle.hall_http.specs.Served.{IsHandled, IsServed}
+use Rattle.hall_http.specs.declared.connection.ServeEnd.{ServeEnd}
+use Rattle.hall_http.specs.Serving.{AnswersAt, IsAnswered, AreMoments, IsNotMade, IsRunOver, RunsOver}
+
+-- the exchanges, one after another, over worlds
+abbrev pub Answering : World → List Exchange → World → Type 0
+Answering world [] last = last ≡ world
+Answering world (x ∷ xs) last =
+    (next : World) × AnswersAt world x.moment x.request x.reply next × Answering next xs last
+
+-- they are a run of the hall
+not_made : (w v : World) (x : Exchange) (xs : List Exchange) (last : World) → v ≡ w → IsNotMade x → IsRunOver v xs last
+    → IsRunOver w (x ∷ xs) last
+not_made w v x xs last same other run = record {
+  requests = run.requests;
+  replies = run.replies;
+  timed = run.timed;
+  run = subst (λ w. Run w run.requests run.replies last) same run.run;
+  made = inl (other, run.made);
+}
+
+-- the first exchange is a step of the hall, or none, and the others are a run
+before_run : (world : World) (x : Exchange) (moment : Option ℕ) (next : World) (xs : List Exchange) (last : World)
+    → x.moment ≡ moment → AnswersAt world moment x.request x.reply next → IsRunOver next xs last
+    → IsRunOver world (x ∷ xs) last
+before_run world x (Some t) next xs last at (inl step) run = record {
+  requests = (t, step.request) ∷ run.requests;
+  replies = step.reply ∷ run.replies;
+  timed = All-cons IsTimed (t, step.request) run.requests step.timed run.timed;
+  run = (next, step.step, run.run);
+  made = inr (
+    (t, step.request),
+    step.reply,
+    run.requests,
+    run.replies,
+    refl,
+    refl,
+    record { moment = at; reads = step.reads; written = step.written },
+    run.made,
+  );
+}
+before_run world x (Some t) next xs last at (inr (inl refused, same)) run =
+    not_made world next x xs last same (inl (t, at, refused)) run
+before_run world x (Some t) next xs last at (inr (inr unavailable, same)) run =
+    not_made world next x xs last same (inr unavailable) run
+before_run world x None next xs last at (unavailable, same) run =
+    not_made world next x xs last same (inr unavailable) run
+
+pub run_over : (world : World) (xs : List Exchange) (last : World) → Answering world xs last → IsRunOver world xs last
+run_over world [] last same = record { requests = []; replies = []; timed = All-nil IsTimed; run = same; made = (refl, refl) }
+run_over world (x ∷ xs) last (next, step, rest) =
+    before_run world x x.moment next xs last refl step (run_over next xs last rest)
+
+module _ {H C : Type 0} (content : H → Content) (now_gives : C → Option ℕ → C → Type 0) where
+  abbrev answers : H → Option ℕ → List ℕ → List ℕ → H → Type 0
+  answers old moment request reply new = IsAnswered (content old) moment request reply (content new)
+
+  pub session_whole : (h : H) (c : C) (xs : List Exchange) (i : H) (d : C) → Session answers now_gives h c xs i d
+      → All (λ x. IsWhole x.request) xs
+  session_whole h c [] i d ends = All-nil (λ x. IsWhole x.request)
+  session_whole h c (x ∷ xs) i d (m, n, (whole, time, says), rest) =
+      All-cons (λ x. IsWhole x.request) x xs whole (session_whole m n xs i d rest)
+
+  pub session_moments : (h : H) (c : C) (xs : List Exchange) (i : H) (d : C) → Session answers now_gives h c xs i d
+      → AreMoments now_gives c xs d
+  session_moments h c [] i d (same, ends) = ends
+  session_moments h c (x ∷ xs) i d (m, n, (whole, time, says), rest) = (n, time, session_moments m n xs i d rest)
+
+  pub session_leads : (h : H) (c : C) (xs : List Exchange) (i : H) (d : C) → Session answers now_gives h c xs i d
+      → Leads (content h) (content i)
+  session_leads h c [] i d (same, ends) =
+      subst (λ (i : H). Leads (content h) (content i)) (sym same) (record { honest = λ k. k; serves = λ k s. s })
+  session_leads h c (x ∷ xs) i d (m, n, (whole, time, says), rest) =
+      let later = session_leads m n xs i d rest in
+      record {
+        honest = λ k. says.leads.honest (later.honest k);
+        serves = λ k s. says.leads.serves (later.honest k) (later.serves k s);
+      }
+
+  -- the exchanges from a world on, which is the store's where it serves
+  abbrev Onward : World → List Exchange → Content → Type 0
+  Onward world xs new = (last : World) × Answering world xs last × (new.serves → new.world ≡ last)
+
+  -- the first exchange, and then the others from whatever world it leaves
+  further : (old new : Content) (x : Exchange) (xs : List Exchange) (last : Content) (world : World)
+      → (old.serves → old.world ≡ world) → (new.serves → old.serves)
+      → Over (λ before after. AnswersAt before x.moment x.request x.reply after) old new
+      → ((world : World) → (new.serves → new.world ≡ world) → Onward world xs last)
+      → Onward world (x ∷ xs) last
+  further old new x xs last world own served (inl (always, left)) rest =
+      let (end, more, stays) = rest world (λ s. left s ∙ own (served s)) in (end, (world, always world, more), stays)
+  further old new x xs last world own served (inr (before, after, says)) rest =
+      let (end, more, stays) = rest new.world (λ s. refl) in
+      (end, (new.world, subst (λ w. AnswersAt w x.moment x.request x.reply new.world) (own before) says, more), stays)
+
+  onward : (h : H) (c : C) (xs : List Exchange) (i : H) (d : C) (world : World)
+      → Session answers now_gives h c xs i d → ((content h).serves → (content h).world ≡ world) → (content i).honest
+      → Onward world xs (content i)
+  onward h c [] i d world (same, ends) own honest =
+      (world, refl, subst (λ (i : H). (content i).serves → (content i).world ≡ world) (sym same) own)
+  onward h c (x ∷ xs) i d world (m, n, (whole, time, says), rest) own honest =
+      let before = (session_leads m n xs i d rest).honest honest in
+      further (content h) (content m) x xs (content i) world own (says.leads.serves before) (says.answers before)
+      (λ next is. onward m n xs i d next rest is honest)
+
+  pub session_runs : (h : H) (c : C) (xs : List Exchange) (i : H) (d : C) → Session answers now_gives h c xs i d
+      → (content i).honest → RunsOver (content h) xs (content i)
+  session_runs h c xs i d session honest =
+      let (last, more, stays) = onward h c xs i d (content h).world session (λ s. refl) honest in
+      (last, run_over (content h).world xs last more, stays)
+
+-- what was served keeps a sane world sane
+pub runs_sane : (old : Content) (xs : List Exchange) (new : Content) → (new.honest → RunsOver old xs new)
+    → SaneThen Sane old new
+runs_sane old xs new run h s sane =
+    let over = run h in
+    subst Sane (sym (over.2 s)) (run_sane old.world over.1.requests over.1.replies over.0 over.1.timed over.1.run sane)
+
+module _ {H C : Type 0} (content : H → Content) (now_gives : C → Option ℕ → C → Type 0)
+    (stream after wrote written : Option (List ℕ)) (h : H) (c : C) (i : H) (d : C) (read_failed write_failed : Type 0) where
+  handled_served : (e : ServeEnd)
+      → IsHandled (answers content now_gives) now_gives stream after wrote written h c i d read_failed write_failed e
+      → IsServed now_gives stream after wrote written (content h) (content i) c d read_failed write_failed e
+  handled_served e handled = record {
+    exchanges = handled.exchanges;
+    unread = handled.unread;
+    whole = session_whole content now_gives h c handled.exchanges i d handled.session;
+    moments = session_moments content now_gives h c handled.exchanges i d handled.session;
+    leads = session_leads content now_gives h c handled.exchanges i d handled.session;
+    run = session_runs content now_gives h c handled.exchanges i d handled.session;
+    few = handled.few;
+    consumed = handled.consumed;
+    ended = handled.ended;
+  }
+
+  pub all_served : {E : Type 0} (r : Result ServeEnd E)
+      → IfOk r (IsHandled (answers content now_gives) now_gives stream after wrote written h c i d read_failed write_failed)
+      → IfOk r (IsServed now_gives stream after wrote written (content h) (content i) c d read_failed write_failed)
+  all_served (Ok e) handled = handled_served e handled
+  all_served (Err e) handled = handled
+
+  pub served_sane : {E : Type 0} (r : Result ServeEnd E)
+      → IfOk r (IsServed now_gives stream after wrote written (content h) (content i) c d read_failed write_failed)
+      → OnErr r (i ≡ h) → SaneThen Sane (content h) (content i)
+  served_sane (Ok e) served same = runs_sane (content h) served.exchanges (content i) served.run
+  served_sane (Err e) served same =
+      subst (λ (i : H). SaneThen Sane (content h) (content i)) (sym same) (λ k s sane. sane)

@@ -1,0 +1,13 @@
+use Rattle.std.proofs.Common.{refl, inl}
+use Rattle.hall_http.proofs.Refusals.{unavailable_reply}
+use Rattle.hall_http.proofs.handler.DeskHandler.answer.Goals as goal
+
+pub returns-in-Some : goal.returns-in-Some
+returns-in-Some g c =
+    rw c.in-Some.is (record { leads = c.answer_bytes.ensures.leads; answers = c.answer_bytes.ensures.answers })
+
+pub returns-in-None : goal.returns-in-None
+returns-in-None g c = rw c.in-None.is (record {
+  leads = record { honest = λ h. h; serves = λ h s. s };
+  answers = λ h. inl ((λ world. (unavailable_reply, refl)), λ s. refl);
+})

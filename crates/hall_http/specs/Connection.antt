@@ -1,0 +1,51 @@
+-- The requests of one connection, each with its reply.
+use Rattle.std.specs.Prelude.{◌≡◌, ◌==◌, ℕ, List, [], ◌∷◌, Bool, true, false, ◌&&◌, ◌||◌, flat_map, All}
+use Rattle.std.specs.Prelude.{Option, codes}
+use Rattle.std.specs.List.{list_any}
+use Rattle.std.specs.Str.{str_eq_ignore_ascii_case}
+use Rattle.httparse.specs.Grammar.{RequestHead}
+use Rattle.hall_http.specs.Head.{Header, headers_of, IsRequest, IsWhole}
+
+-- the header is Connection: close, in any case of its letters
+abbrev pub says_close : Header → Bool
+says_close h = str_eq_ignore_ascii_case h.0 (codes "connection") && str_eq_ignore_ascii_case h.1 (codes "close")
+
+-- the connection closes after a request with this head: one of HTTP/1.0, or one that says so
+abbrev pub closes : RequestHead → Bool
+closes head = head.minor == 0 || list_any says_close (headers_of head)
+
+-- the bytes are one whole request, after which the connection closes
+abbrev pub IsClosing : List ℕ → Type 0
+IsClosing bytes = (head : RequestHead) × (body : List ℕ) × IsRequest bytes head body × (closes head ≡ true)
+
+-- the bytes are one whole request, after which the connection stays open
+abbrev pub IsOpen : List ℕ → Type 0
+IsOpen bytes = (head : RequestHead) × (body : List ℕ) × IsRequest bytes head body × (closes head ≡ false)
+
+-- a request of the stream, the moment that the clock gave, and the bytes of the reply
+pub record Exchange : Type 0 where
+  pub request : List ℕ
+  pub moment : Option ℕ
+  pub reply : List ℕ
+
+-- the bytes of the requests, and those of the replies
+abbrev pub requests_of : List Exchange → List ℕ
+requests_of xs = flat_map (λ x. x.request) xs
+
+abbrev pub replies_of : List Exchange → List ℕ
+replies_of xs = flat_map (λ x. x.reply) xs
+
+-- the connection stays open after each of these requests
+abbrev pub AreOpen : List Exchange → Type 0
+AreOpen xs = All (λ x. IsOpen x.request) xs
+
+module _ {H C : Type 0} (answers : H → Option ℕ → List ℕ → List ℕ → H → Type 0)
+    (now_gives : C → Option ℕ → C → Type 0) where
+  -- a whole request is answered at the moment that the clock gives
+  abbrev pub Exchanged : H → C → Exchange → H → C → Type 0
+  Exchanged h c x i d = IsWhole x.request × now_gives c x.moment d × answers h x.moment x.request x.reply i
+
+  -- these requests are answered, one after another, at the moments that the clock gives
+  abbrev pub Session : H → C → List Exchange → H → C → Type 0
+  Session h c [] i d = (i ≡ h) × (d ≡ c)
+  Session h c (x ∷ xs) i d = (m : H) × (n : C) × Exchanged h c x m n × Session m n xs i d

@@ -1,0 +1,60 @@
+-- The requests of one connection, answered over a store at the moments that a clock gives.
+use Rattle.std.specs.Prelude.{◌≡◌, ◌⊎◌, ℕ, List, [], ◌∷◌, Option, Some, None, Ok, All}
+use Rattle.hall_policy.specs.World.{World}
+use Rattle.hall_policy.specs.declared.request.Request.{Request}
+use Rattle.hall_store.specs.Store.{Content, Leads, Over}
+use Rattle.hall_desk.specs.Run.{IsTimed, Run}
+use Rattle.hall_desk.specs.declared.reply.Reply.{Reply}
+use Rattle.hall_desk.specs.declared.reply.Reply.TheVariants.{Unavailable as NotServed}
+use Rattle.hall_http.specs.Request.{RequestOf}
+use Rattle.hall_http.specs.Reply.{BytesOf}
+use Rattle.hall_http.specs.Answered.{Answers, IsRefused}
+use Rattle.hall_http.specs.Connection.{Exchange}
+
+-- the request is answered at the moment; where the clock told none, by 503, and the world stays
+abbrev pub AnswersAt : World → Option ℕ → List ℕ → List ℕ → World → Type 0
+AnswersAt world (Some moment) request reply after = Answers world moment request reply after
+AnswersAt world None request reply after = BytesOf NotServed reply × (after ≡ world)
+
+-- the same over a store
+pub record IsAnswered (old : Content) (moment : Option ℕ) (request reply : List ℕ) (new : Content) : Type 0 where
+  pub leads : Leads old new
+  pub answers : new.honest → Over (λ before after. AnswersAt before moment request reply after) old new
+
+-- the clock was asked once for each request, in their order
+abbrev pub AreMoments : {C : Type 0} → (C → Option ℕ → C → Type 0) → C → List Exchange → C → Type 0
+AreMoments now_gives clock [] later = later ≡ clock
+AreMoments {C} now_gives clock (x ∷ xs) later =
+    (next : C) × now_gives clock x.moment next × AreMoments now_gives next xs later
+
+-- the bytes aren't made into a request of the hall: they are none, and their reply names the fault; or no memory or no
+-- moment was there for it, and their reply is 503
+abbrev pub IsNotMade : Exchange → Type 0
+IsNotMade x = ((moment : ℕ) × (x.moment ≡ Some moment) × IsRefused x.request x.reply) ⊎ BytesOf NotServed x.reply
+
+-- the bytes are this request at its moment, and their reply is the step's
+pub record IsMade (x : Exchange) (request : ℕ × Request) (reply : Reply) : Type 0 where
+  pub moment : x.moment ≡ Some request.0
+  pub reads : RequestOf x.request (Ok request.1)
+  pub written : BytesOf reply x.reply
+
+-- the requests of the hall among these, in their order, and the replies to them, in theirs
+abbrev pub AreMade : List Exchange → List (ℕ × Request) → List Reply → Type 0
+AreMade [] requests replies = (requests ≡ []) × (replies ≡ [])
+AreMade (x ∷ xs) requests replies =
+    (IsNotMade x × AreMade xs requests replies)
+    ⊎ ((request : ℕ × Request) × (reply : Reply) × (later : List (ℕ × Request)) × (rest : List Reply)
+    × (requests ≡ request ∷ later) × (replies ≡ reply ∷ rest) × IsMade x request reply × AreMade xs later rest)
+
+-- the requests of the hall, each of its type, have these replies in a run of the hall
+pub record IsRunOver (old : World) (xs : List Exchange) (new : World) : Type 0 where
+  pub requests : List (ℕ × Request)
+  pub replies : List Reply
+  pub timed : All IsTimed requests
+  pub run : Run old requests replies new
+  pub made : AreMade xs requests replies
+
+-- over a store, the requests of the hall have these replies in a run to some world, which is the store's where it still
+-- serves
+abbrev pub RunsOver : Content → List Exchange → Content → Type 0
+RunsOver old xs new = (last : World) × IsRunOver old.world xs last × (new.serves → new.world ≡ last)

@@ -1,0 +1,249 @@
+//! One connection: requests are read, answered and their replies written, one after another.
+ghost use Rattle.std.specs.Prelude.{◌≡◌, [], ℕ, Option, IfOk, OnOk, OnErr};
+ghost use Rattle.std.specs.Io.KnownBytes.{Appends};
+ghost use Rattle.hall_grid.specs.Device.{HasFailed};
+ghost use Rattle.hall_desk.specs.Desk.{kept_by, SaneThen};
+ghost use Rattle.hall_desk.specs.Sane.{Sane};
+ghost use Rattle.hall_desk.specs.Promises.{HasUniqueSolutions, RightAnswersAreSolutions};
+ghost use Rattle.hall_http.specs.Head.{IsWhole};
+ghost use Rattle.hall_http.specs.Answered.{answer_text};
+ghost use Rattle.hall_http.specs.Device.{WritesPart};
+ghost use Rattle.hall_http.specs.Sending.{IsTurn, Refuses, EndsInput};
+ghost use Rattle.hall_http.specs.Served.{IsHandled, IsServed};
+
+use crate::answer::Answer;
+use crate::closing::closes;
+use crate::device::write_all;
+use crate::fault::DeviceFault;
+use crate::handler::Handler;
+use crate::head::{Cut, cut_request};
+use crate::inbox::Inbox;
+use crate::routes::Routes;
+use hall_desk::Desk;
+use hall_grid::Counted;
+use hall_policy::Moment;
+use hall_store::Store;
+use std::alloc::{AllocError, Global};
+use std::io::{Read, Write};
+
+/// The most requests of a connection.
+const REQUEST_LIMIT: usize = 1000;
+
+/// The most reads of a connection.
+const READ_LIMIT: usize = 100_000;
+
+/// The reply to bytes that are no request. It takes no memory.
+const REFUSAL: &str =
+    "HTTP/1.1 400 Bad Request\r\nContent-Type: application/json\r\nContent-Length: 13\r\n\r\n{\"form\":\"F7\"}";
+
+/// The clock of a connection.
+pub trait Clock {
+    ghost now_gives: { Self → Option ℕ → Self → Type 0 };
+
+    /// The moment, where the clock can tell it.
+    fn now(&mut self) -> Option<Moment>
+        ensures { now_gives self.old result self.new };
+}
+
+/// How a connection ended.
+#[derive(Clone, Copy, Debug, PartialEq, Eq)]
+pub enum ServeEnd {
+    /// At the end of the input, or after a request that closes it.
+    Closed,
+    /// After a thousand requests or a hundred thousand reads.
+    Limit,
+    /// At bytes that are no request.
+    BadHead,
+    /// At a read or a write that failed.
+    Device,
+}
+
+/// How a connection stands after a request.
+#[derive(Clone, Copy)]
+pub(crate) enum Turn {
+    Open,
+    Closing,
+    Failed,
+}
+
+/// Serves one connection: reads its requests, answers each by a step of the hall, and writes the replies.
+///
+/// Refused for memory, it has read nothing. A request is answered before the next is looked at, and its reply written
+/// once its change is made. Bytes that are no request are answered by the fault of their form, and end the connection.
+pub fn serve<S: Store, R: Read, W: Write, C: Clock>(
+    alloc: Global,
+    desk: &mut Desk<S>,
+    reader: &mut Counted<R>,
+    writer: &mut Counted<W>,
+    clock: &mut C,
+) -> Result<ServeEnd, AllocError>
+    ensures desk { OnErr result (desk.new ≡ desk.old) }
+    ensures clock { OnErr result (clock.new ≡ clock.old) }
+    ensures reader { OnErr result (reader.new ≡ reader.old) }
+    ensures writer { OnErr result (writer.new ≡ writer.old) }
+    ensures served { IfOk result (IsServed C.now_gives
+        (R.remaining reader.old.device) (R.remaining reader.new.device)
+        (W.contents writer.old.device) (W.contents writer.new.device)
+        (S.content (kept_by desk.old)) (S.content (kept_by desk.new)) clock.old clock.new
+        (HasFailed reader.old.failures reader.new.failures) (HasFailed writer.old.failures writer.new.failures)) }
+    ensures sane { SaneThen Sane (S.content (kept_by desk.old)) (S.content (kept_by desk.new)) }
+    ensures unique { SaneThen HasUniqueSolutions (S.content (kept_by desk.old)) (S.content (kept_by desk.new)) }
+    ensures right { SaneThen RightAnswersAreSolutions (S.content (kept_by desk.old)) (S.content (kept_by desk.new)) }
+{
+    serve_desk(alloc, desk, reader, writer, clock)
+}
+
+/// Serves one connection.
+fn serve_desk<S: Store, R: Read, W: Write, C: Clock>(
+    alloc: Global,
+    desk: &mut Desk<S>,
+    reader: &mut Counted<R>,
+    writer: &mut Counted<W>,
+    clock: &mut C,
+) -> Result<ServeEnd, AllocError>
+    ensures desk { OnErr result (desk.new ≡ desk.old) }
+    ensures clock { OnErr result (clock.new ≡ clock.old) }
+    ensures reader { OnErr result (reader.new ≡ reader.old) }
+    ensures writer { OnErr result (writer.new ≡ writer.old) }
+    ensures served { IfOk result (IsServed C.now_gives
+        (R.remaining reader.old.device) (R.remaining reader.new.device)
+        (W.contents writer.old.device) (W.contents writer.new.device)
+        (S.content (kept_by desk.old)) (S.content (kept_by desk.new)) clock.old clock.new
+        (HasFailed reader.old.failures reader.new.failures) (HasFailed writer.old.failures writer.new.failures)) }
+{
+    let routes = Routes::new(alloc)?;
+    serve_with(alloc, &routes, desk, reader, writer, clock)
+}
+
+/// Answers the requests of a connection, in their order.
+fn serve_with<H: Handler, R: Read, W: Write, C: Clock>(
+    alloc: Global,
+    routes: &Routes,
+    handler: &mut H,
+    reader: &mut Counted<R>,
+    writer: &mut Counted<W>,
+    clock: &mut C,
+) -> Result<ServeEnd, AllocError>
+    ensures handler { OnErr result (handler.new ≡ handler.old) }
+    ensures clock { OnErr result (clock.new ≡ clock.old) }
+    ensures reader { OnErr result (reader.new ≡ reader.old) }
+    ensures writer { OnErr result (writer.new ≡ writer.old) }
+    ensures handled { IfOk result (IsHandled H.answers C.now_gives
+        (R.remaining reader.old.device) (R.remaining reader.new.device)
+        (W.contents writer.old.device) (W.contents writer.new.device) handler.old clock.old handler.new clock.new
+        (HasFailed reader.old.failures reader.new.failures) (HasFailed writer.old.failures writer.new.failures)) }
+{
+    let inbox = Inbox::new(alloc)?;
+    Ok(serve_requests(alloc, routes, inbox, handler, reader, writer, clock))
+}
+
+/// Answers the requests of a connection, in their order, with an empty inbox.
+fn serve_requests<H: Handler, R: Read, W: Write, C: Clock>(
+    alloc: Global,
+    routes: &Routes,
+    mut inbox: Inbox,
+    handler: &mut H,
+    reader: &mut Counted<R>,
+    writer: &mut Counted<W>,
+    clock: &mut C,
+) -> ServeEnd
+    requires { inbox ≡ [] }
+    ensures { IsHandled H.answers C.now_gives
+        (R.remaining reader.old.device) (R.remaining reader.new.device)
+        (W.contents writer.old.device) (W.contents writer.new.device) handler.old clock.old handler.new clock.new
+        (HasFailed reader.old.failures reader.new.failures) (HasFailed writer.old.failures writer.new.failures) result }
+{
+    let mut requests = 0;
+    let mut reads = 0;
+    while requests < REQUEST_LIMIT {
+        match cut_request(inbox.unread()) {
+            Cut::Whole(size) => {
+                let turn = exchange(
+                    alloc,
+                    routes,
+                    &inbox.unread()[..size],
+                    handler,
+                    writer,
+                    clock,
+                );
+                inbox.pass(size);
+                requests += 1;
+                match turn {
+                    Turn::Open => {}
+                    Turn::Closing => return ServeEnd::Closed,
+                    Turn::Failed => return ServeEnd::Device,
+                }
+            }
+            Cut::More => {
+                if reads == READ_LIMIT {
+                    return ServeEnd::Limit;
+                }
+                reads += 1;
+                match inbox.read_more(reader) {
+                    Ok(true) => {}
+                    Ok(false) => return end_of_input(inbox.unread(), writer),
+                    Err(_) => return ServeEnd::Device,
+                }
+            }
+            Cut::Never => return refuse(writer),
+        }
+    }
+    ServeEnd::Limit
+}
+
+/// Answers a request, and writes the reply.
+fn exchange<H: Handler, W: Write, C: Clock>(
+    alloc: Global,
+    routes: &Routes,
+    request: &[u8],
+    handler: &mut H,
+    writer: &mut Counted<W>,
+    clock: &mut C,
+) -> Turn
+    requires { IsWhole request.now }
+    ensures { IsTurn H.answers C.now_gives handler.old clock.old request.now handler.new clock.new
+        (W.contents writer.old.device) (W.contents writer.new.device) writer.old.failures writer.new.failures result }
+{
+    let closing = closes(request);
+    let moment = clock.now();
+    let answer = handler.answer(alloc, routes, moment, request);
+    match send(writer, answer) {
+        Ok(()) if closing => Turn::Closing,
+        Ok(()) => Turn::Open,
+        Err(_) => Turn::Failed,
+    }
+}
+
+/// Writes an answer.
+fn send<W: Write>(writer: &mut Counted<W>, answer: Answer) -> Result<(), DeviceFault>
+    ensures written { OnOk result
+        (Appends (W.contents writer.old.device) (W.contents writer.new.device) (answer_text answer)) }
+    ensures same { OnOk result (writer.new.failures ≡ writer.old.failures) }
+    ensures device { OnErr result (HasFailed writer.old.failures writer.new.failures) }
+    ensures part { OnErr result
+        (WritesPart (W.contents writer.old.device) (W.contents writer.new.device) (answer_text answer)) }
+{
+    write_all(writer, answer.as_bytes())
+}
+
+/// Ends the connection at the end of the input, with these bytes left.
+fn end_of_input<W: Write>(unread: &[u8], writer: &mut Counted<W>) -> ServeEnd
+    ensures { EndsInput unread.now result
+        (W.contents writer.old.device) (W.contents writer.new.device) writer.old.failures writer.new.failures }
+{
+    if unread.is_empty() {
+        return ServeEnd::Closed;
+    }
+    refuse(writer)
+}
+
+/// Writes the reply to bytes that are no request.
+fn refuse<W: Write>(writer: &mut Counted<W>) -> ServeEnd
+    ensures { Refuses result
+        (W.contents writer.old.device) (W.contents writer.new.device) writer.old.failures writer.new.failures }
+{
+    match write_all(writer, REFUSAL.as_bytes()) {
+        Ok(()) => ServeEnd::BadHead,
+        Err(_) => ServeEnd::Device,
+    }
+}

@@ -1,0 +1,45 @@
+//! What answers the requests of a connection.
+ghost use Rattle.std.specs.Prelude.{◌≡◌, ℕ, List, Option};
+ghost use Rattle.hall_desk.specs.Desk.{kept_by};
+ghost use Rattle.hall_http.specs.Answered.{answer_text};
+ghost use Rattle.hall_http.specs.Serving.{IsAnswered};
+
+use crate::answer::{Answer, answer_bytes};
+use crate::routes::Routes;
+use hall_desk::Desk;
+use hall_policy::Moment;
+use hall_store::Store;
+use std::alloc::Global;
+
+/// What answers requests, one after another.
+pub(crate) trait Handler {
+    ghost answers: { Self → Option ℕ → List ℕ → List ℕ → Self → Type 0 };
+
+    /// The answer to a request at a moment, once its change is made.
+    fn answer(
+        &mut self,
+        alloc: Global,
+        routes: &Routes,
+        moment: Option<Moment>,
+        request: &[u8],
+    ) -> Answer
+        ensures { answers self.old moment request.now (answer_text result) self.new };
+}
+
+impl<S: Store> Handler for Desk<S> {
+    ghost answers = { λ old moment request reply new.
+        IsAnswered (S.content (kept_by old)) moment request reply (S.content (kept_by new)) };
+
+    fn answer(
+        &mut self,
+        alloc: Global,
+        routes: &Routes,
+        moment: Option<Moment>,
+        request: &[u8],
+    ) -> Answer {
+        match moment {
+            Some(moment) => answer_bytes(alloc, routes, self, moment, request),
+            None => Answer::Unavailable,
+        }
+    }
+}
