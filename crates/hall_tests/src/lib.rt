@@ -4,7 +4,11 @@
 #[cfg(test)]
 mod desk;
 #[cfg(test)]
+mod devices;
+#[cfg(test)]
 mod fixtures;
+#[cfg(test)]
+mod http;
 #[cfg(test)]
 mod limited;
 #[cfg(test)]

@@ -1,0 +1,283 @@
+//! Bytes to bytes: replays, and connections.
+use crate::devices::{failing_reader, failing_writer};
+use hall_desk::{Desk, opening_store};
+use hall_grid::Counted;
+use hall_http::{Clock, ReplayFault, ServeEnd, replay, serve};
+use hall_policy::Moment;
+use std::alloc::AllocGlobal;
+use std::io;
+use std::io::{ErrorKind, Read, Write};
+use std::net::{Net, Shutdown, TcpListener, TcpStream};
+use std::process::Abort;
+use std::test::Fail;
+
+/// The input, the replies that are written, and how the replay ends.
+type Replayed = (&'static [u8], &'static [u8], Result<(), ReplayFault>);
+
+const CUT: Result<(), ReplayFault> = Err(ReplayFault::Record);
+
+const NO_ROUTE: &[u8] =
+    b"HTTP/1.1 404 Not Found\r\nContent-Type: application/json\r\nContent-Length: 13\r\n\r\n{\"form\":\"F6\"}";
+
+const NOT_WHOLE: &[u8] =
+    b"HTTP/1.1 400 Bad Request\r\nContent-Type: application/json\r\nContent-Length: 13\r\n\r\n{\"form\":\"F7\"}";
+
+const REPLAYS: [Replayed; 20] = [
+    (b"", b"", Ok(())),
+    (b"@1 17\nA /b HTTP/1.1\r\n\r\n", NO_ROUTE, Ok(())),
+    (b"@1 17\nA /b HTTP/1.1\r\n\r\n@", NO_ROUTE, CUT),
+    (b"@1 17\nA /b HTTP/1.1\r\n\r\njunk\n@1 0\n", NO_ROUTE, CUT),
+    (b"@1 18\nA /b HTTP/1.1\r\n\r\n", b"", CUT),
+    (b"@1 5", b"", CUT),
+    (b"@1 5\nGET", b"", CUT),
+    (b"@1 5\n12345", NOT_WHOLE, Ok(())),
+    (b"@1 5\n12345@", NOT_WHOLE, CUT),
+    (b"@0 0\n", NOT_WHOLE, Ok(())),
+    (b"@4102444800 0\n@", NOT_WHOLE, CUT),
+    (b"@4102444801 0\n", b"", CUT),
+    (b"@1 73729\n", b"", CUT),
+    (b"junk\n", b"", CUT),
+    (b"@01 0\n", b"", CUT),
+    (b"@1 00\n", b"", CUT),
+    (b"@1  0\n", b"", CUT),
+    (b"@1 0\r\n", b"", CUT),
+    (b"@+1 0\n", b"", CUT),
+    (b"@11111111111111111", b"", CUT),
+];
+
+/// Replays over the opening world.
+fn replayed<R: Read, W: Write>(
+    rt: &(impl AllocGlobal + Abort),
+    reader: &mut Counted<R>,
+    writer: &mut Counted<W>,
+) -> Result<(), ReplayFault> {
+    let mut desk = Desk::new(opening_store(rt.alloc()).expect(rt, "opening"));
+    replay(rt.alloc(), &mut desk, reader, writer)
+}
+
+#[test]
+fn a_replay_ends_with_its_whole_records(rt: HostRuntime) {
+    for (place, (input, replies, end)) in REPLAYS.iter().enumerate() {
+        let mut writer = Counted::new(Vec::new(rt.alloc()));
+        let ended = replayed(&rt, &mut Counted::new(*input), &mut writer);
+        assert!(rt; ended == *end, "replay {place}");
+        assert!(rt;
+            writer.into_inner().as_slice() == *replies,
+            "replay {place}"
+        );
+    }
+}
+
+/// Records that certify the puzzle of round r1, release it, read it too early and answer it.
+const RECORDS: &[u8] =
+    b"@1777700000 103\nPOST /puzzles/bob/p1/certificate HTTP/1.1\r\nHall-Key: bob-key-1\r\nContent-Length: 17\r\n\r\n{\"budget\":200000}@1777700000 56\nPOST /rounds/r1/release HTTP/1.1\r\nHall-Key: dora-key\r\n\r\n@1777712399 48\nGET /rounds/r1 HTTP/1.1\r\nHall-Key: eve-key-1\r\n\r\n@1777715999 110\nPUT /rounds/r1/answers/1/k1 HTTP/1.1\r\nHall-Key: eve-key-1\r\nContent-Length: 29\r\n\r\n{\"answer\":\"1234341221434321\"}";
+
+const REPLIES: &[u8] =
+    b"HTTP/1.1 200 OK\r\nContent-Type: application/json\r\nContent-Length: 15\r\n\r\n{\"state\":\"one\"}HTTP/1.1 200 OK\r\nContent-Type: application/json\r\nContent-Length: 17\r\n\r\n{\"released\":\"r1\"}HTTP/1.1 403 Forbidden\r\nContent-Type: application/json\r\nContent-Length: 12\r\n\r\n{\"denied\":7}HTTP/1.1 200 OK\r\nContent-Type: application/json\r\nContent-Length: 32\r\n\r\n{\"received\":1,\"verdict\":\"right\"}";
+
+#[test]
+fn a_replay_ends_at_a_device_fault(rt: HostRuntime) {
+    for fails_at in 0..RECORDS.len() + 1 {
+        let mut reader = failing_reader(RECORDS, fails_at, ErrorKind::Interrupted);
+        let mut writer = Counted::new(Vec::new(rt.alloc()));
+        let ended = replayed(&rt, &mut reader, &mut writer);
+        assert!(rt; ended == Err(ReplayFault::Device));
+        assert!(rt; REPLIES.starts_with(writer.into_inner().as_slice()));
+    }
+    for fails_at in 0..REPLIES.len() {
+        let mut writer = failing_writer(fails_at, fails_at % 2 == 0);
+        let ended = replayed(&rt, &mut Counted::new(RECORDS), &mut writer);
+        assert!(rt; ended == Err(ReplayFault::Device));
+        assert!(rt; writer.into_inner().asked == fails_at + 1);
+    }
+}
+
+/// A clock that tells one moment, or none, and counts how often it is asked.
+#[derive(Drop)]
+struct Standing {
+    moment: Option<Moment>,
+    asked: u64,
+}
+
+impl Clock for Standing {
+    ghost now_gives = { λ _ _ _. Unit {0} };
+
+    fn now(&mut self) -> Option<Moment> {
+        self.asked = self.asked.wrapping_add(1);
+        self.moment
+    }
+}
+
+const REQUEST: &[u8] = b"GET /nothing HTTP/1.1\r\n\r\n";
+
+const NO_SERVICE: &[u8] =
+    b"HTTP/1.1 503 Service Unavailable\r\nContent-Type: application/json\r\nContent-Length: 16\r\n\r\n{\"fault\":\"hall\"}";
+
+/// What a client sends, the replies that it gets, and how the connection ends.
+type Served = (&'static [&'static [u8]], &'static [&'static [u8]], ServeEnd);
+
+const SERVED: [Served; 9] = [
+    (&[], &[], ServeEnd::Closed),
+    (&[REQUEST], &[NO_ROUTE], ServeEnd::Closed),
+    (&[REQUEST, REQUEST], &[NO_ROUTE, NO_ROUTE], ServeEnd::Closed),
+    (
+        &[REQUEST, b"GET /noth"],
+        &[NO_ROUTE, NOT_WHOLE],
+        ServeEnd::BadHead,
+    ),
+    (
+        &[b"GET /nothing HTTP/1.0\r\n\r\n", REQUEST],
+        &[NO_ROUTE],
+        ServeEnd::Closed,
+    ),
+    (
+        &[
+            b"GET /nothing HTTP/1.1\r\nConnection: CLOSE\r\n\r\n",
+            REQUEST,
+        ],
+        &[NO_ROUTE],
+        ServeEnd::Closed,
+    ),
+    (
+        &[
+            b"GET /nothing HTTP/1.1\r\nConnection: close, x\r\n\r\n",
+            REQUEST,
+        ],
+        &[NO_ROUTE, NO_ROUTE],
+        ServeEnd::Closed,
+    ),
+    (
+        &[
+            b"POST /nothing HTTP/1.1\r\nContent-Length: 3\r\n\r\nabc",
+            REQUEST,
+        ],
+        &[NO_ROUTE, NO_ROUTE],
+        ServeEnd::Closed,
+    ),
+    (&[b"\0", REQUEST], &[NOT_WHOLE], ServeEnd::BadHead),
+];
+
+fn joined(rt: &(impl AllocGlobal + Abort), parts: &[&[u8]]) -> Vec<u8> {
+    let mut bytes = Vec::new(rt.alloc());
+    for part in parts {
+        bytes.extend_from_slice(part).expect(rt, "memory");
+    }
+    bytes
+}
+
+/// Serves one connection over the opening world.
+fn served<R: Read, W: Write>(
+    rt: &(impl AllocGlobal + Abort),
+    reader: &mut Counted<R>,
+    writer: &mut Counted<W>,
+    clock: &mut Standing,
+) -> ServeEnd {
+    let mut desk = Desk::new(opening_store(rt.alloc()).expect(rt, "opening"));
+    serve(rt.alloc(), &mut desk, reader, writer, clock).expect(rt, "serve")
+}
+
+fn clock_at(moment: u64) -> Standing {
+    Standing {
+        moment: Moment::new(moment),
+        asked: 0,
+    }
+}
+
+#[test]
+fn a_connection_is_served_to_its_end(rt: HostRuntime) {
+    for (place, (sent, replies, end)) in SERVED.iter().enumerate() {
+        let sent = joined(&rt, sent);
+        let replies = joined(&rt, replies);
+        let mut writer = Counted::new(Vec::new(rt.alloc()));
+        let ended = served(
+            &rt,
+            &mut Counted::new(sent.as_slice()),
+            &mut writer,
+            &mut clock_at(1),
+        );
+        assert!(rt; ended == *end, "connection {place}");
+        assert!(rt; writer.into_inner() == replies, "connection {place}");
+        // The same a byte at a time: the reader fails once all are given.
+        let mut dripping = failing_reader(
+            sent.as_slice(),
+            sent.len().wrapping_add(1),
+            ErrorKind::Other,
+        );
+        let mut writer = Counted::new(Vec::new(rt.alloc()));
+        let ended = served(&rt, &mut dripping, &mut writer, &mut clock_at(1));
+        assert!(rt; ended == *end, "connection {place}");
+        assert!(rt; writer.into_inner() == replies, "connection {place}");
+    }
+}
+
+#[test]
+fn a_connection_ends_after_a_thousand_requests(rt: HostRuntime) {
+    let mut sent = Vec::new(rt.alloc());
+    for _ in 0..1001 {
+        sent.extend_from_slice(REQUEST).expect(&rt, "memory");
+    }
+    let mut clock = clock_at(1);
+    let mut writer = Counted::new(Vec::new(rt.alloc()));
+    let ended = served(
+        &rt,
+        &mut Counted::new(sent.as_slice()),
+        &mut writer,
+        &mut clock,
+    );
+    assert!(rt; ended == ServeEnd::Limit && clock.asked == 1000);
+    assert!(rt; writer.into_inner().len() == NO_ROUTE.len().wrapping_mul(1000));
+}
+
+#[test]
+fn a_clock_without_a_moment_is_asked_once_and_gives_503(rt: HostRuntime) {
+    let mut clock = clock_at(u64::MAX);
+    let mut writer = Counted::new(Vec::new(rt.alloc()));
+    let ended = served(&rt, &mut Counted::new(REQUEST), &mut writer, &mut clock);
+    assert!(rt; ended == ServeEnd::Closed && clock.asked == 1);
+    assert!(rt; writer.into_inner().as_slice() == NO_SERVICE);
+}
+
+#[test]
+fn a_connection_ends_at_a_device_fault(rt: HostRuntime) {
+    for fails_at in 0..REQUEST.len() {
+        let mut reader = failing_reader(REQUEST, fails_at, ErrorKind::Interrupted);
+        let mut writer = Counted::new(Vec::new(rt.alloc()));
+        let ended = served(&rt, &mut reader, &mut writer, &mut clock_at(1));
+        assert!(rt; ended == ServeEnd::Device && writer.into_inner().is_empty());
+    }
+    for fails_at in 0..NO_ROUTE.len() {
+        let mut writer = failing_writer(fails_at, fails_at % 2 == 0);
+        let ended = served(
+            &rt,
+            &mut Counted::new(REQUEST),
+            &mut writer,
+            &mut clock_at(1),
+        );
+        assert!(rt; ended == ServeEnd::Device);
+        assert!(rt; writer.into_inner().asked == fails_at + 1);
+    }
+}
+
+#[test]
+fn a_connection_over_a_socket(rt: HostRuntime) -> Result<(), Fail> {
+    let listener = TcpListener::bind(&rt, "127.0.0.1:0")?;
+    let mut client = TcpStream::connect(&rt, listener.local_addr()?)?;
+    client.write_all(REQUEST)?;
+    client.write_all(
+        b"GET /rounds/r1 HTTP/1.1\r\nHall-Key: dora-key\r\nConnection: close\r\n\r\n",
+    )?;
+    client.shutdown(Shutdown::Write)?;
+    let (stream, _) = listener.accept()?;
+    let mut reader = Counted::new(&stream);
+    let mut writer = Counted::new(&stream);
+    let ended = served(&rt, &mut reader, &mut writer, &mut clock_at(1));
+    assert!(rt; ended == ServeEnd::Closed);
+    drop(reader);
+    drop(writer);
+    drop(stream);
+    let text = io::read_to_string(rt.alloc(), client)?;
+    assert!(rt;
+        text.as_bytes().starts_with(NO_ROUTE) && text.as_str().ends_with("\"title\":\"Morning\"}")
+    );
+    Ok(())
+}
