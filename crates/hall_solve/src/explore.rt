@@ -51,7 +51,6 @@ fn explore<R: Rules>(
     requires at_visits { R.asked rules.old ≤ R.visits rules.old }
     ensures explored { IfOk result
         (Explored (R.question rules.old) partial budget (R.visits rules.old) (R.visits rules.new)) }
-    ensures stops { R.visits rules.old ≡ budget → IfOk result (λ o. o ≡ Outcome.GaveUp) }
     ensures within { R.visits rules.new ≤ budget }
     ensures at_visits { R.asked rules.new ≤ R.visits rules.new }
     ensures same { IsSame (R.question rules.old) (R.question rules.new) }

@@ -3,11 +3,10 @@
 use crate::fixtures::{number, puzzle, puzzle_key, text};
 use crate::limited::LimitedStore;
 use hall_desk::{Desk, Reply, StateName, certify, judge, opening_store};
-use hall_grid::Counted;
+use hall_http::{Routes, answer_bytes};
 use hall_policy::{Action, Moment, Request};
 use hall_solve::Outcome;
-use hall_store::MapStore;
-use hall_tool::replay;
+use hall_store::{MapStore, Store};
 use std::alloc::AllocGlobal;
 use std::process::Abort;
 
@@ -97,169 +96,284 @@ fn plans_are_committed_and_lists_run(rt: HostRuntime) {
     }
 }
 
-/// Requests to the opening world as records, how many calls of the store each takes, its change among them, and how
-/// its line begins.
-const ASKED: [(&[u8], u64, &[u8]); 10] = [
-    (b"@1 17\n- GET /rounds/r1\n", 0, b"403 {\"denied\":1}"),
-    (
-        b"@1 27\nno-such-key GET /rounds/r1\n",
-        1,
-        b"403 {\"denied\":1}",
-    ),
-    (
-        b"@1 34\neve-key-1 POST /rounds/r1/release\n",
-        1,
-        b"403 {\"denied\":2}",
-    ),
-    (
-        b"@1 53\nada-key-1 PUT /puzzles/bob/p9\n{\"text\":\"sudoku/4/4/v\"}",
-        1,
-        b"403 {\"denied\":3}",
-    ),
-    (
-        b"@1 25\neve-key-1 GET /rounds/r9\n",
-        2,
-        b"404 {\"denied\":4}",
-    ),
-    (
-        b"@1 52\neve-key-1 PUT /rounds/r1/answers/1/k1\n{\"answer\":\"1\"}",
-        2,
-        b"404 {\"denied\":4}",
-    ),
-    (b"@1 24\ndora-key GET /rounds/r1\n", 3, b"200 {"),
-    (
-        b"@1 33\ndora-key POST /rounds/r1/release\n",
-        4,
-        b"403 {\"denied\":12}",
-    ),
-    (
-        b"@1 68\nbob-key-1 PUT /puzzles/bob/p1\n{\"text\":\"sudoku/4/4/123434122143432g\"}",
-        5,
-        b"200 {",
-    ),
-    (
-        b"@1 53\nbob-key-1 PUT /puzzles/bob/p9\n{\"text\":\"sudoku/4/4/v\"}",
-        6,
-        b"200 {",
-    ),
-];
-
-const UNAVAILABLE: &[u8] = b"503 {\"fault\":\"hall\"}\n";
-
-/// The lines that answer the records over the opening world, where the store answers so many calls.
-fn lines_within(rt: &(impl AllocGlobal + Abort), records: &[u8], left: u64) -> Vec<u8> {
-    let store = opening_store(rt.alloc()).expect(rt, "opening");
-    let mut desk = Desk::new(LimitedStore { store, left });
-    let mut writer = Counted::new(Vec::new(rt.alloc()));
-    let ended = replay(
-        rt.alloc(),
-        &mut desk,
-        &mut Counted::new(records),
-        &mut writer,
-    );
-    assert!(rt; ended == Ok(()));
-    writer.into_inner()
-}
-
-/// Records that certify the puzzle of the round r1, release it and answer it, with their lines, and how many calls of
-/// the store they take.
-const BEFORE: (&[u8], u64, &[u8]) = (
-    b"@1777700000 60\nbob-key-1 POST /puzzles/bob/p1/certificate\n{\"budget\":200000}@1777700000 33\ndora-key POST /rounds/r1/release\n@1777712400 67\neve-key-1 PUT /rounds/r1/answers/1/k1\n{\"answer\":\"1234341221434321\"}",
-    15,
-    b"200 {\"state\":\"one\"}\n200 {\"released\":\"r1\"}\n200 {\"received\":1,\"verdict\":\"right\"}\n",
+/// A request, how many calls of the store it takes, its change among them, and how it is answered: the moment, the key
+/// that is shown, the method and path, the body; the calls; the status, and how the reply's body begins.
+type Asked = (
+    u64,
+    &'static str,
+    &'static str,
+    &'static str,
+    u64,
+    &'static str,
+    &'static str,
 );
 
-/// Requests after those, in the same form.
-const ASKED_LATER: [(&[u8], u64, &[u8]); 11] = [
+/// Requests to the opening world.
+const ASKED: [Asked; 10] = [
+    (1, "", "GET /rounds/r1", "", 0, "403", "{\"denied\":1}"),
     (
-        b"@1777715999 33\neve-key-1 GET /rounds/r1/answers\n",
-        3,
-        b"200 {",
+        1,
+        "no-such-key",
+        "GET /rounds/r1",
+        "",
+        1,
+        "403",
+        "{\"denied\":1}",
     ),
     (
-        b"@1777715999 32\ndora-key GET /rounds/r1/answers\n",
-        3,
-        b"200 {",
+        1,
+        "eve-key-1",
+        "POST /rounds/r1/release",
+        "",
+        1,
+        "403",
+        "{\"denied\":2}",
     ),
     (
-        b"@1777716010 67\neve-key-1 PUT /rounds/r1/answers/1/k1\n{\"answer\":\"1234341221434321\"}",
-        3,
-        b"200 {\"received\":1",
+        1,
+        "ada-key-1",
+        "PUT /puzzles/bob/p9",
+        "{\"text\":\"sudoku/4/4/v\"}",
+        1,
+        "403",
+        "{\"denied\":3}",
     ),
     (
-        b"@1777715999 52\neve-key-1 PUT /rounds/r1/answers/1/k1\n{\"answer\":\"1\"}",
-        3,
-        b"403 {\"denied\":6}",
-    ),
-    (
-        b"@1777712399 52\neve-key-1 PUT /rounds/r1/answers/1/k2\n{\"answer\":\"1\"}",
-        3,
-        b"403 {\"denied\":7}",
-    ),
-    (
-        b"@1777716000 52\neve-key-1 PUT /rounds/r1/answers/1/k2\n{\"answer\":\"1\"}",
-        3,
-        b"403 {\"denied\":8}",
-    ),
-    (
-        b"@1777715999 52\neve-key-1 PUT /rounds/r1/answers/2/k2\n{\"answer\":\"1\"}",
+        1,
+        "eve-key-1",
+        "GET /rounds/r9",
+        "",
         2,
-        b"404 {\"denied\":4}",
+        "404",
+        "{\"denied\":4}",
     ),
     (
-        b"@1777715999 52\neve-key-1 PUT /rounds/r1/answers/1/k2\n{\"answer\":\"1\"}",
-        7,
-        b"200 {\"received\":2",
-    ),
-    (
-        b"@1777715999 53\nbob-key-1 PUT /puzzles/bob/p1\n{\"text\":\"sudoku/4/4/v\"}",
-        4,
-        b"403 {\"denied\":11}",
-    ),
-    (
-        b"@1777715999 33\ndora-key POST /rounds/r1/release\n",
-        4,
-        b"403 {\"denied\":13}",
-    ),
-    (
-        b"@1777715999 60\nbob-key-1 POST /puzzles/bob/p1/certificate\n{\"budget\":200000}",
+        1,
+        "eve-key-1",
+        "PUT /rounds/r1/answers/1/k1",
+        "{\"answer\":\"1\"}",
         2,
-        b"200 {\"state\":\"one\"}",
+        "404",
+        "{\"denied\":4}",
+    ),
+    (1, "dora-key", "GET /rounds/r1", "", 3, "200", "{"),
+    (
+        1,
+        "dora-key",
+        "POST /rounds/r1/release",
+        "",
+        4,
+        "403",
+        "{\"denied\":12}",
+    ),
+    (
+        1,
+        "bob-key-1",
+        "PUT /puzzles/bob/p1",
+        "{\"text\":\"sudoku/4/4/123434122143432g\"}",
+        5,
+        "200",
+        "{",
+    ),
+    (
+        1,
+        "bob-key-1",
+        "PUT /puzzles/bob/p9",
+        "{\"text\":\"sudoku/4/4/v\"}",
+        6,
+        "200",
+        "{",
     ),
 ];
 
-/// Whether these lines come first where the store answers so many calls, and then one that begins so.
-fn goes_on(
+/// Certifies the puzzle of the round r1, releases the round and answers it.
+const BEFORE: [Asked; 3] = [
+    (
+        1_777_700_000,
+        "bob-key-1",
+        "POST /puzzles/bob/p1/certificate",
+        "{\"budget\":200000}",
+        0,
+        "200",
+        "{\"state\":\"one\"}",
+    ),
+    (
+        1_777_700_000,
+        "dora-key",
+        "POST /rounds/r1/release",
+        "",
+        0,
+        "200",
+        "{\"released\":\"r1\"}",
+    ),
+    (
+        1_777_712_400,
+        "eve-key-1",
+        "PUT /rounds/r1/answers/1/k1",
+        "{\"answer\":\"1234341221434321\"}",
+        0,
+        "200",
+        "{\"received\":1,\"verdict\":\"right\"}",
+    ),
+];
+
+/// Requests after those.
+const ASKED_LATER: [Asked; 11] = [
+    (
+        1_777_715_999,
+        "eve-key-1",
+        "GET /rounds/r1/answers",
+        "",
+        3,
+        "200",
+        "{",
+    ),
+    (
+        1_777_715_999,
+        "dora-key",
+        "GET /rounds/r1/answers",
+        "",
+        3,
+        "200",
+        "{",
+    ),
+    (
+        1_777_716_010,
+        "eve-key-1",
+        "PUT /rounds/r1/answers/1/k1",
+        "{\"answer\":\"1234341221434321\"}",
+        3,
+        "200",
+        "{\"received\":1",
+    ),
+    (
+        1_777_715_999,
+        "eve-key-1",
+        "PUT /rounds/r1/answers/1/k1",
+        "{\"answer\":\"1\"}",
+        3,
+        "403",
+        "{\"denied\":6}",
+    ),
+    (
+        1_777_712_399,
+        "eve-key-1",
+        "PUT /rounds/r1/answers/1/k2",
+        "{\"answer\":\"1\"}",
+        3,
+        "403",
+        "{\"denied\":7}",
+    ),
+    (
+        1_777_716_000,
+        "eve-key-1",
+        "PUT /rounds/r1/answers/1/k2",
+        "{\"answer\":\"1\"}",
+        3,
+        "403",
+        "{\"denied\":8}",
+    ),
+    (
+        1_777_715_999,
+        "eve-key-1",
+        "PUT /rounds/r1/answers/2/k2",
+        "{\"answer\":\"1\"}",
+        2,
+        "404",
+        "{\"denied\":4}",
+    ),
+    (
+        1_777_715_999,
+        "eve-key-1",
+        "PUT /rounds/r1/answers/1/k2",
+        "{\"answer\":\"1\"}",
+        7,
+        "200",
+        "{\"received\":2",
+    ),
+    (
+        1_777_715_999,
+        "bob-key-1",
+        "PUT /puzzles/bob/p1",
+        "{\"text\":\"sudoku/4/4/v\"}",
+        4,
+        "403",
+        "{\"denied\":11}",
+    ),
+    (
+        1_777_715_999,
+        "dora-key",
+        "POST /rounds/r1/release",
+        "",
+        4,
+        "403",
+        "{\"denied\":13}",
+    ),
+    (
+        1_777_715_999,
+        "bob-key-1",
+        "POST /puzzles/bob/p1/certificate",
+        "{\"budget\":200000}",
+        2,
+        "200",
+        "{\"state\":\"one\"}",
+    ),
+];
+
+/// Whether the request is answered with this status and a body that begins so.
+fn is_answered<S: Store>(
     rt: &(impl AllocGlobal + Abort),
-    records: &[u8],
-    left: u64,
-    lines: &[u8],
-    line: &[u8],
+    desk: &mut Desk<S>,
+    asked: &Asked,
+    status: &str,
+    reply: &str,
 ) -> bool {
-    let given = lines_within(rt, records, left);
-    match given.as_slice().strip_prefix(lines) {
-        Some(rest) => rest.starts_with(line),
+    let (moment, key, line, body, _, _, _) = asked;
+    let request = format!(in rt.alloc();
+        "{line} HTTP/1.1\r\nHall-Key: {key}\r\nContent-Length: {}\r\n\r\n{body}",
+        body.len()
+    );
+    let request = request.expect(rt, "memory");
+    let routes = Routes::new(rt.alloc()).expect(rt, "memory");
+    let moment = number(rt, *moment);
+    let answer = answer_bytes(rt.alloc(), &routes, desk, moment, request.as_bytes());
+    match str::from_utf8(answer.as_bytes())
+        .expect(rt, "text")
+        .split_once("\r\n\r\n")
+    {
+        Some((head, given)) => head[9..].starts_with(status) && given.starts_with(reply),
         None => false,
     }
 }
 
-/// Whether each request's line begins so where the store answers so many calls, and is that of a store that failed
-/// where it answers fewer.
-fn asks(
+/// Whether these requests are answered so over a store that answers so many calls, and then this one with this status
+/// and a body that begins so.
+fn goes_on(
     rt: &(impl AllocGlobal + Abort),
-    before: (&[u8], u64, &[u8]),
-    asked: &[(&[u8], u64, &[u8])],
+    before: &[Asked],
+    left: u64,
+    asked: &Asked,
+    status: &str,
+    reply: &str,
 ) -> bool {
-    let (records, spent, lines) = before;
+    let store = opening_store(rt.alloc()).expect(rt, "opening");
+    let mut desk = Desk::new(LimitedStore { store, left });
+    let mut goes = true;
+    for earlier in before {
+        goes = goes && is_answered(rt, &mut desk, earlier, earlier.5, earlier.6);
+    }
+    goes && is_answered(rt, &mut desk, asked, status, reply)
+}
+
+/// Whether each request is answered so where the store answers so many calls, and by 503 where it answers fewer.
+fn asks(rt: &(impl AllocGlobal + Abort), before: &[Asked], spent: u64, asked: &[Asked]) -> bool {
     let mut asks = true;
-    for (record, calls, line) in asked {
-        let mut input = Vec::new(rt.alloc());
-        input.extend_from_slice(records).expect(rt, "memory");
-        input.extend_from_slice(record).expect(rt, "memory");
-        let input = input.as_slice();
-        asks = asks && goes_on(rt, input, spent.wrapping_add(*calls), lines, line);
+    for row in asked {
+        let (_, _, _, _, calls, status, reply) = row;
+        asks = asks && goes_on(rt, before, spent.wrapping_add(*calls), row, status, reply);
         for fewer in 0..*calls {
-            asks = asks && goes_on(rt, input, spent.wrapping_add(fewer), lines, UNAVAILABLE);
+            let left = spent.wrapping_add(fewer);
+            asks = asks && goes_on(rt, before, left, row, "503", "{\"fault\":\"hall\"}");
         }
     }
     asks
@@ -267,8 +381,8 @@ fn asks(
 
 #[test]
 fn a_request_asks_the_store_for_what_its_rules_read(rt: HostRuntime) {
-    assert!(rt; asks(&rt, (b"", 0, b""), ASKED.as_slice()));
-    assert!(rt; asks(&rt, BEFORE, ASKED_LATER.as_slice()));
+    assert!(rt; asks(&rt, &[], 0, ASKED.as_slice()));
+    assert!(rt; asks(&rt, BEFORE.as_slice(), 15, ASKED_LATER.as_slice()));
 }
 
 #[test]

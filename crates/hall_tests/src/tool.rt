@@ -293,7 +293,10 @@ fn a_replay_ends_with_its_whole_records(rt: HostRuntime) {
         let mut writer = Counted::new(Vec::new(rt.alloc()));
         let ended = replayed(&rt, &mut Counted::new(*input), &mut writer);
         assert!(rt; ended == *end, "replay {place}");
-        assert!(rt; writer.into_inner().as_slice() == *replies, "replay {place}");
+        assert!(rt;
+            writer.into_inner().as_slice() == *replies,
+            "replay {place}"
+        );
     }
 }
 
