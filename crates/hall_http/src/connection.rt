@@ -62,7 +62,7 @@ pub(crate) enum Turn {
     Failed,
 }
 
-/// Serves one connection: reads its requests, answers each by a step of the hall, and writes the replies.
+/// Serves one connection: reads its requests, answers each in turn, and writes the replies.
 ///
 /// Refused for memory, it has read nothing. A request is answered before the next is looked at, and its reply written
 /// once its change is made. Bytes that are no request are answered by the fault of their form, and end the connection.
