@@ -1,24 +1,20 @@
 //! One connection: requests are read, answered and their replies written, one after another.
-ghost use Rattle.std.specs.Prelude.{◌≡◌, [], ℕ, Option, IfOk, OnOk, OnErr};
-ghost use Rattle.std.specs.Io.KnownBytes.{Appends};
+ghost use Rattle.std.specs.Prelude.{◌≡◌, [], ℕ, Option, IfOk, OnErr};
 ghost use Rattle.hall_grid.specs.Device.{HasFailed};
 ghost use Rattle.hall_desk.specs.Desk.{kept_by, SaneThen};
 ghost use Rattle.hall_desk.specs.Sane.{Sane};
 ghost use Rattle.hall_desk.specs.Promises.{HasUniqueSolutions, RightAnswersAreSolutions};
 ghost use Rattle.hall_http.specs.Head.{IsWhole};
-ghost use Rattle.hall_http.specs.Answered.{answer_text};
-ghost use Rattle.hall_http.specs.Device.{WritesPart};
 ghost use Rattle.hall_http.specs.Sending.{IsTurn, Refuses, EndsInput};
 ghost use Rattle.hall_http.specs.Served.{IsHandled, IsServed};
 
-use crate::answer::Answer;
 use crate::closing::closes;
 use crate::device::write_all;
-use crate::fault::DeviceFault;
 use crate::handler::Handler;
 use crate::head::{Cut, cut_request};
 use crate::inbox::Inbox;
 use crate::routes::Routes;
+use crate::session::send;
 use hall_desk::Desk;
 use hall_grid::Counted;
 use hall_policy::Moment;
@@ -66,7 +62,7 @@ pub(crate) enum Turn {
     Failed,
 }
 
-/// Serves one connection: reads its requests, answers each by a step of the hall, and writes the replies.
+/// Serves one connection: reads its requests, answers each in turn, and writes the replies.
 ///
 /// Refused for memory, it has read nothing. A request is answered before the next is looked at, and its reply written
 /// once its change is made. Bytes that are no request are answered by the fault of their form, and end the connection.
@@ -212,18 +208,6 @@ fn exchange<H: Handler, W: Write, C: Clock>(
         Ok(()) => Turn::Open,
         Err(_) => Turn::Failed,
     }
-}
-
-/// Writes an answer.
-fn send<W: Write>(writer: &mut Counted<W>, answer: Answer) -> Result<(), DeviceFault>
-    ensures written { OnOk result
-        (Appends (W.contents writer.old.device) (W.contents writer.new.device) (answer_text answer)) }
-    ensures same { OnOk result (writer.new.failures ≡ writer.old.failures) }
-    ensures device { OnErr result (HasFailed writer.old.failures writer.new.failures) }
-    ensures part { OnErr result
-        (WritesPart (W.contents writer.old.device) (W.contents writer.new.device) (answer_text answer)) }
-{
-    write_all(writer, answer.as_bytes())
 }
 
 /// Ends the connection at the end of the input, with these bytes left.

@@ -25,7 +25,7 @@ use std::io::{Read, Write};
 const READ_LIMIT: u64 = 1_000_000_000;
 
 /// Writes the answer.
-fn send<W: Write>(writer: &mut Counted<W>, answer: Answer) -> Result<(), DeviceFault>
+pub(crate) fn send<W: Write>(writer: &mut Counted<W>, answer: Answer) -> Result<(), DeviceFault>
     ensures written { OnOk result
         (Appends (W.contents writer.old.device) (W.contents writer.new.device) (answer_text answer)) }
     ensures same { OnOk result (writer.new.failures ≡ writer.old.failures) }
