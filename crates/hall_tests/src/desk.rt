@@ -341,7 +341,10 @@ fn is_answered<S: Store>(
         .expect(rt, "text")
         .split_once("\r\n\r\n")
     {
-        Some((head, given)) => head[9..].starts_with(status) && given.starts_with(reply),
+        Some((head, given)) => match head.strip_prefix("HTTP/1.1 ") {
+            Some(words) => words.starts_with(status) && given.starts_with(reply),
+            None => false,
+        },
         None => false,
     }
 }
