@@ -12,8 +12,10 @@ import subprocess
 import sys
 import tempfile
 
+from wire import replies
+
 HERE = os.path.dirname(os.path.abspath(__file__))
-UNAVAILABLE = b'503 {"fault":"hall"}\n'
+UNAVAILABLE = b'HTTP/1.1 503 Service Unavailable\r\nContent-Type: application/json\r\nContent-Length: 16\r\n\r\n{"fault":"hall"}'
 
 
 def records(text):
@@ -45,8 +47,8 @@ def without(program, words, asked, place):
     """The output of a replay without the record at this place, with 503 in its place."""
     rest = asked[:place] + asked[place + 1 :]
     (output, status), _ = program.run(words, b"".join(rest))
-    lines = output.splitlines(keepends=True)
-    return b"".join(lines[:place] + [UNAVAILABLE] + lines[place:]), status
+    written = replies(output)
+    return b"".join(written[:place] + [UNAVAILABLE] + written[place:]), status
 
 
 def try_example(program, name, words, text, most):
@@ -62,8 +64,8 @@ def try_example(program, name, words, text, most):
         count += 1
         if got in good:
             continue
-        lines = got[0].splitlines(keepends=True)
-        place = lines.index(UNAVAILABLE) if UNAVAILABLE in lines else -1
+        written = replies(got[0])
+        place = written.index(UNAVAILABLE) if UNAVAILABLE in written else -1
         if asked and place >= 0:
             if place not in kept:
                 kept[place] = without(program, words, asked, place)

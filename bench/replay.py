@@ -17,6 +17,8 @@ import resource
 import subprocess
 import sys
 
+from wire import record, replies, request
+
 PROGRAM = os.path.join(os.path.dirname(os.path.abspath(__file__)), "..", "crates", "hall", "out", "hall")
 RUNS = 5
 BEFORE = 1777700000
@@ -30,41 +32,36 @@ PAIRS = [
     ("fay-key-1", "r2", ".###"),
     ("eve-key-1", "r1", "1234341221434321"),
 ]
-RECEIVED, LIMITED = b'200 {"received":', b'403 {"denied":19}'
+RECEIVED, LIMITED, SERVED = b'{"received":', b'{"denied":19}', b"{"
 MOST = LIMIT * len(PAIRS)
-
-
-def record(moment, key, method, path, body=""):
-    request = f"{key} {method} {path}\n{body}"
-    return f"@{moment} {len(request)}\n{request}"
 
 
 def submit(place):
     """The hand-in at this place, by the entrants in turn: its token stands nowhere else."""
     key, round_id, answer = PAIRS[place % len(PAIRS)]
-    return record(DURING, key, "PUT", f"/rounds/{round_id}/answers/1/k{place}", '{"answer":"%s"}' % answer)
+    return record(DURING, request(key, "PUT", f"/rounds/{round_id}/answers/1/k{place}", '{"answer":"%s"}' % answer))
 
 
 def opening(stored):
     """Certifies two puzzles, releases their rounds, and stores so many answers."""
     return [
-        record(BEFORE, "bob-key-1", "POST", "/puzzles/bob/p1/certificate", '{"budget":200000}'),
-        record(BEFORE, "ada-key-1", "POST", "/puzzles/ada/q1/certificate", '{"budget":200000}'),
-        record(BEFORE, "dora-key", "POST", "/rounds/r1/release"),
-        record(BEFORE, "dora-key", "POST", "/rounds/r2/release"),
+        record(BEFORE, request("bob-key-1", "POST", "/puzzles/bob/p1/certificate", '{"budget":200000}')),
+        record(BEFORE, request("ada-key-1", "POST", "/puzzles/ada/q1/certificate", '{"budget":200000}')),
+        record(BEFORE, request("dora-key", "POST", "/rounds/r1/release")),
+        record(BEFORE, request("dora-key", "POST", "/rounds/r2/release")),
         *[submit(place) for place in range(stored)],
     ]
 
 
 def run(program, records):
-    """The lines that are written, and the seconds of processor time."""
+    """The replies that are written, and the seconds of processor time."""
     before = resource.getrusage(resource.RUSAGE_CHILDREN)
     done = subprocess.run([program, "replay"], input="".join(records).encode(), capture_output=True, check=False)
     after = resource.getrusage(resource.RUSAGE_CHILDREN)
     if done.returncode:
         sys.exit(f"the replay ended with status {done.returncode}")
     spent = after.ru_utime + after.ru_stime - before.ru_utime - before.ru_stime
-    return done.stdout.splitlines(), spent
+    return replies(done.stdout), spent
 
 
 def least_time(program, records):
@@ -74,27 +71,27 @@ def least_time(program, records):
 def measure(program, stored, name, requests, begins):
     """Prints the time of a request, and how many replies begin with each of these."""
     records = opening(stored)
-    lines, _ = run(program, records + requests)
-    first, replies = lines[: len(records)], lines[len(records) :]
-    wrong = [line for line in first if not line.startswith(b"200 ")]
-    wrong += [line for line in replies if not line.startswith(tuple(begins))]
-    if wrong or len(replies) != len(requests):
-        sys.exit(f"{name}: {len(replies)} replies to {len(requests)} requests, {len(wrong)} of them wrong: {wrong[:1]}")
+    written, _ = run(program, records + requests)
+    bodies = [reply.partition(b"\r\n\r\n")[2] for reply in written[len(records) :]]
+    wrong = [reply for reply in written[: len(records)] if not reply.startswith(b"HTTP/1.1 200 ")]
+    wrong += [body for body in bodies if not body.startswith(tuple(begins))]
+    if wrong or len(bodies) != len(requests):
+        sys.exit(f"{name}: {len(bodies)} replies to {len(requests)} requests, {len(wrong)} of them wrong: {wrong[:1]}")
     spent = least_time(program, records + requests) - least_time(program, records)
-    counts = ", ".join(f"{sum(line.startswith(it) for line in replies)} {words}" for it, words in begins.items())
+    counts = ", ".join(f"{sum(body.startswith(it) for body in bodies)} {words}" for it, words in begins.items())
     print(f"{stored:4} stored  {name:12} {1e6 * spent / len(requests):9.2f} us a request  {counts}", flush=True)
 
 
 def measure_all(program, stored):
-    taken, limited, served = {RECEIVED: "received"}, {LIMITED: "denied 19"}, {b"200 ": "served"}
+    taken, limited, served = {RECEIVED: "received"}, {LIMITED: "denied 19"}, {SERVED: "served"}
     hand_ins = [submit(stored + place) for place in range(10000)]
     if stored < MOST:
         measure(program, stored, "hand-ins", hand_ins[: MOST - stored], taken)
     measure(program, stored, "hand-ins", hand_ins, taken | limited)
     if stored:
         measure(program, stored, "retries", [submit(place % stored) for place in range(10000)], taken)
-    measure(program, stored, "rounds read", [record(DURING, "eve-key-1", "GET", "/rounds/r1")] * 10000, served)
-    measure(program, stored, "listings", [record(DURING, "dora-key", "GET", "/rounds/r1/answers")] * 1000, served)
+    measure(program, stored, "rounds read", [record(DURING, request("eve-key-1", "GET", "/rounds/r1"))] * 10000, served)
+    measure(program, stored, "listings", [record(DURING, request("dora-key", "GET", "/rounds/r1/answers"))] * 1000, served)
 
 
 def main():

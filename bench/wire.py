@@ -1,0 +1,24 @@
+"""Requests and replies of HTTP/1.1, as the benchmarks send and read them."""
+import re
+
+REPLY = re.compile(rb"HTTP/1\.1 [^\r\n]*\r\nContent-Type: [^\r\n]*\r\nContent-Length: (\d+)\r\n\r\n")
+
+
+def request(key, method, path, body=""):
+    """A request under the key."""
+    return f"{method} {path} HTTP/1.1\r\nHall-Key: {key}\r\nContent-Length: {len(body)}\r\n\r\n{body}"
+
+
+def record(moment, asked):
+    """A record of a replay."""
+    return f"@{moment} {len(asked)}\n{asked}"
+
+
+def replies(written):
+    """The replies that were written one after another, each whole; the last may be cut short."""
+    found = []
+    while head := REPLY.match(written):
+        end = head.end() + int(head[1])
+        found.append(written[:end])
+        written = written[end:]
+    return found + [written] if written else found
