@@ -16,6 +16,8 @@ LOG = f"{ROOT}/build.log"
 PROGRAM = f"{ROOT}/crates/hall/out/hall"
 MEMORY_OF_ONE = 3 << 30
 EVERY = 15
+# A crate has few functions to prove at its end, and the next one then takes the processors.
+SIDE_BY_SIDE = 2
 
 
 def tell(text):
@@ -47,7 +49,7 @@ def counted(name):
 
 
 class Build:
-    """Crates proved side by side, each once those that it stands on are built; one that is alone gets all processors."""
+    """Two crates proved side by side, each once those that it stands on are built."""
 
     def __init__(self, crates, most):
         self.crates = crates
@@ -67,18 +69,15 @@ class Build:
         return [name for name in free if self.built.issuperset(self.crates[name])]
 
     def start(self, log):
-        ready = self.ready()[: self.most - sum(jobs for _, jobs in self.running.values())]
-        share = self.most // max(1, len(ready) + len(self.running))
-        for name in ready:
-            jobs = max(1, share)
-            words = ["rt", "run" if name == "hall" else "lib", "--jobs", str(jobs)]
+        for name in self.ready()[: SIDE_BY_SIDE - len(self.running)]:
+            words = ["rt", "run" if name == "hall" else "lib", "--jobs", str(self.most)]
             how = {"cwd": f"{ROOT}/crates/{name}", "stdin": subprocess.DEVNULL, "stdout": log, "stderr": subprocess.STDOUT}
             self.begun[name] = time.time()
-            self.running[name] = subprocess.Popen(words, **how), jobs
+            self.running[name] = subprocess.Popen(words, **how)
 
     def gather(self):
         """Takes note of the crates that ended; the first that failed."""
-        for name, (process, _) in list(self.running.items()):
+        for name, process in list(self.running.items()):
             if process.poll() is None:
                 continue
             del self.running[name]
@@ -95,7 +94,7 @@ class Build:
             self.start(log)
             time.sleep(1)
             if self.gather():
-                for process, _ in self.running.values():
+                for process in self.running.values():
                     process.terminate()
                 return False
             if time.time() - shown > EVERY:
