@@ -5,7 +5,7 @@ use Rattle.std.specs.List.{position}
 use Rattle.std.proofs.lemmas.List.{append-nil, length-take-le}
 use Rattle.std.proofs.Math.Seq.{take-append-add}
 use Rattle.hall_http.specs.Records.{Record, IsRecord, record_bytes, header_of, header_in, HasNoRecord, NeverHasRecord}
-use Rattle.hall_http.specs.Records.{bytes_between, IsCut}
+use Rattle.hall_http.specs.Records.{bytes_between, IsCut, record_limit}
 use Rattle.hall_http.proofs.Splits.{Free, split_unique, free_front, found_free, found_split, found_none}
 use Rattle.hall_http.proofs.Headers.{header_free, header_short, header_reads, header_writes}
 
@@ -54,6 +54,15 @@ never_header bytes i e bad more r rest is same =
     let line = first_line bytes more i e r rest is same in
     let good = read_line bytes i r is line.0 in
     let clash : None ≡ Some (r.moment, length r.request) = sym bad ∙ good in absurd cc
+
+-- what waits for the rest of a record is shorter than the longest one
+pub short_yet : (bytes : List ℕ) (i m n : ℕ) → position (λ y. y == 10) bytes ≡ Some i
+    → header_in (take i bytes) ≡ Some (m, n) → length bytes - (i + 1) < n → length bytes < record_limit
+short_yet bytes i m n e good few =
+    let (inside, split) = found_split 10 bytes i e in
+    let (line, late, long) = header_writes (take i bytes) m n good in
+    let short = header_short m n late long in
+    omega (arith, ap length line, length-take-le i bytes (omega arith))
 
 abbrev size_in : Option (ℕ × ℕ) → ℕ
 size_in None = 0

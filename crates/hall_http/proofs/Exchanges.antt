@@ -1,6 +1,6 @@
 -- What the loop of a connection keeps, and how each of its ends follows.
 use Rattle.std.proofs.Common.{◌≡◌, ◌≢◌, ◌∙◌, sym, ap, subst, refl, arith, ℕ, ◌+◌, ◌<◌, ◌≤◌, inl, inr, List, [], ◌∷◌, ◌++◌}
-use Rattle.std.proofs.Common.{length, take, drop, Option, append_assoc, length-append}
+use Rattle.std.proofs.Common.{length, take, drop, Option, append_assoc, length-append, length-drop}
 use Rattle.std.proofs.lemmas.List.{append-nil, take-append-drop}
 use Rattle.std.proofs.lemmas.List.Concat.{flat_map-append}
 use Rattle.std.proofs.lemmas.List.Elements.{All-nil, All-push}
@@ -12,7 +12,7 @@ use Rattle.httparse.specs.Grammar.{RequestHead}
 use Rattle.hall_http.specs.Device.{WritesPart}
 use Rattle.hall_http.specs.Inbox.{ReadsMore}
 use Rattle.hall_http.specs.Connection.{Exchange, Exchanged, Session, requests_of, replies_of, AreOpen, IsOpen, IsClosing, closes}
-use Rattle.hall_http.specs.Served.{IsHandled, Ended, IsNoRequest, refusal}
+use Rattle.hall_http.specs.Served.{IsHandled, Ended, IsNoRequest, MayGoOn, refusal}
 use Rattle.hall_http.specs.Sending.{Refuses, EndsInput}
 use Rattle.hall_http.specs.declared.connection.ServeEnd.{ServeEnd}
 use Rattle.hall_http.specs.declared.connection.ServeEnd.TheVariants as end
@@ -24,7 +24,7 @@ requests_more : (xs : List Exchange) (x : Exchange) → requests_of (xs ++ x ∷
 requests_more xs x =
     flat_map-append (λ x. x.request) xs (x ∷ []) ∙ ap (λ s. requests_of xs ++ s) (append-nil x.request)
 
-replies_more : (xs : List Exchange) (x : Exchange) → replies_of (xs ++ x ∷ []) ≡ replies_of xs ++ x.reply
+pub replies_more : (xs : List Exchange) (x : Exchange) → replies_of (xs ++ x ∷ []) ≡ replies_of xs ++ x.reply
 replies_more xs x = flat_map-append (λ x. x.reply) xs (x ∷ []) ∙ ap (λ s. replies_of xs ++ s) (append-nil x.reply)
 
 -- what closes the connection after a whole request, and what doesn't
@@ -59,6 +59,7 @@ module _ {H C : Type 0} (answers : H → Option ℕ → List ℕ → List ℕ �
     pub pieces : reads ≤ length (requests_of done ++ inbox)
     pub replied : Appends wrote written (replies_of done)
     pub opened : AreOpen done
+    pub bounded : length inbox ≤ 81920
 
   pub kept_start : (stream wrote : Option (List ℕ)) (h : H) (c : C) → Kept stream stream wrote wrote h c h c [] 0 0
   kept_start stream wrote h c = record {
@@ -69,13 +70,15 @@ module _ {H C : Type 0} (answers : H → Option ℕ → List ℕ → List ℕ �
     pieces = omega arith;
     replied = Appends-nil wrote;
     opened = All-nil (λ x. IsOpen x.request);
+    bounded = omega arith;
   }
 
   module _ (stream after wrote written : Option (List ℕ)) (h : H) (c : C) (m : H) (n : C) (inbox : List ℕ)
       (requests reads : ℕ) (kept : Kept stream after wrote written h c m n inbox requests reads) where
-    pub kept_read : (then : Option (List ℕ)) (piece : List ℕ) → 0 < length piece → Consumes after then piece
+    pub kept_read : (then : Option (List ℕ)) (piece : List ℕ) → 0 < length piece → length piece ≤ 4096
+        → length inbox < 73728 → Consumes after then piece
         → Kept stream then wrote written h c m n (inbox ++ piece) requests (reads + 1)
-    kept_read then piece some more =
+    kept_read then piece some few room more =
         let all : requests_of kept.done ++ (inbox ++ piece) ≡ (requests_of kept.done ++ inbox) ++ piece =
         sym (append_assoc (requests_of kept.done) inbox piece) in
         record {
@@ -86,7 +89,11 @@ module _ {H C : Type 0} (answers : H → Option ℕ → List ℕ → List ℕ �
           pieces = rw all (omega (arith, kept.pieces, length-append (requests_of kept.done ++ inbox) piece));
           replied = kept.replied;
           opened = kept.opened;
+          bounded = omega (arith, length-append inbox piece);
         }
+
+    shorter : (size : ℕ) → length (drop size inbox) ≤ 81920
+    shorter size = omega (arith, kept.bounded, length-drop size inbox)
 
     -- one more request is answered
     module _ (x : Exchange) (i : H) (d : C) (size : ℕ) (asked : x.request ≡ take size inbox)
@@ -121,6 +128,7 @@ module _ {H C : Type 0} (answers : H → Option ℕ → List ℕ → List ℕ �
         pieces = rw same_bytes kept.pieces;
         replied = replied_all then sent;
         opened = All-push (λ x. IsOpen x.request) kept.done x kept.opened stays;
+        bounded = shorter size;
       }
 
       module _ (read_failed write_failed : Type 0) (room : requests < 1000) (then : Option (List ℕ)) where
@@ -132,6 +140,7 @@ module _ {H C : Type 0} (answers : H → Option ℕ → List ℕ → List ℕ �
           session = longer;
           few = omega (arith, one_more);
           consumed = rw same_bytes kept.consumed;
+          bounded = shorter size;
           ended = ended;
         }
 
@@ -158,6 +167,7 @@ module _ {H C : Type 0} (answers : H → Option ℕ → List ℕ → List ℕ �
         few = omega (arith, kept.count);
         consumed = subst (λ s. Consumes stream then s) (append-nil (requests_of kept.done ++ inbox))
             (Consumes-trans stream after then (requests_of kept.done ++ inbox) [] kept.consumed none);
+        bounded = kept.bounded;
         ended = ended;
       }
 
@@ -172,40 +182,45 @@ module _ {H C : Type 0} (answers : H → Option ℕ → List ℕ → List ℕ �
           ends after written end.Limit (Consumes-nil after)
           (kept.replied, kept.opened, inr (none, omega (arith, kept.pieces)))
 
-      -- a read was refused
-      pub unread_device : (then : Option (List ℕ)) (now : List ℕ) (failed fails : ℕ) (e : ReadFault)
-          → ReadsMore after then inbox now failed fails (Err e) → HasNone inbox → length inbox < 73728
-          → (HasFailed failed fails → read_failed)
-          → IsHandled answers now_gives stream then wrote written h c m n read_failed write_failed end.Device
-      unread_device then now failed fails fault.Device (same, taken, rose) none few told =
-          ends then written end.Device taken (inl (kept.replied, kept.opened, none, told rose))
-      unread_device then now failed fails fault.Memory (many, piece, more, steady) none few told = absurd (omega arith)
+      -- a further request may come
+      module _ (room : requests < 1000) where
+        goes_on : MayGoOn kept.done
+        goes_on = (kept.opened, omega (arith, kept.count))
 
-      -- the bytes that are left are refused
-      pub refuses : (then last : Option (List ℕ)) (failed fails : ℕ) (e : ServeEnd) → Consumes after then []
-          → IsNoRequest then inbox → Refuses e written last failed fails → (HasFailed failed fails → write_failed)
-          → IsHandled answers now_gives stream then wrote last h c m n read_failed write_failed e
-      refuses then last failed fails end.BadHead taken none sent told =
-          ends then last end.BadHead taken
-          (Appends-trans wrote written last (replies_of kept.done) refusal kept.replied sent, kept.opened, none)
-      refuses then last failed fails end.Device taken none (part, rose) told =
-          ends then last end.Device taken (inr (inr ((written, kept.opened, kept.replied, part), none, told rose)))
-      refuses then last failed fails end.Closed taken none sent told = absurd sent
-      refuses then last failed fails end.Limit taken none sent told = absurd sent
+        -- a read was refused
+        pub unread_device : (then : Option (List ℕ)) (now : List ℕ) (failed fails : ℕ) (e : ReadFault)
+            → ReadsMore after then inbox now failed fails (Err e) → HasNone inbox → length inbox < 73728
+            → (HasFailed failed fails → read_failed)
+            → IsHandled answers now_gives stream then wrote written h c m n read_failed write_failed end.Device
+        unread_device then now failed fails fault.Device (same, taken, rose) none few told =
+            ends then written end.Device taken (inl (kept.replied, goes_on, none, told rose))
+        unread_device then now failed fails fault.Memory (many, piece, more, steady) none few told = absurd (omega arith)
 
-      -- the input is at its end
-      pub at_end : (then last : Option (List ℕ)) (now : List ℕ) (rf rg failed fails : ℕ) (e : ServeEnd)
-          → ReadsMore after then inbox now rf rg (Ok false) → HasNone inbox
-          → EndsInput now e written last failed fails → (HasFailed failed fails → write_failed)
-          → IsHandled answers now_gives stream then wrote last h c m n read_failed write_failed e
-      at_end then last now rf rg failed fails e (same, taken, over, steady) none (inl (empty, closed, unsaid)) told =
-          rw (closed, unsaid) (ends then written end.Closed taken (kept.replied, inl (kept.opened, sym same ∙ empty, over)))
-      at_end then last now rf rg failed fails e (same, taken, over, steady) none (inr (some, sent)) told =
-          refuses then last failed fails e taken
-          (inl (not_nil inbox (subst (λ s. 0 < length s) same some), none, over)) sent told
+        -- the bytes that are left are refused
+        pub refuses : (then last : Option (List ℕ)) (failed fails : ℕ) (e : ServeEnd) → Consumes after then []
+            → IsNoRequest then inbox → Refuses e written last failed fails → (HasFailed failed fails → write_failed)
+            → IsHandled answers now_gives stream then wrote last h c m n read_failed write_failed e
+        refuses then last failed fails end.BadHead taken none sent told =
+            ends then last end.BadHead taken
+            (Appends-trans wrote written last (replies_of kept.done) refusal kept.replied sent, goes_on, none)
+        refuses then last failed fails end.Device taken none (part, rose) told =
+            ends then last end.Device taken (inr (inr ((written, goes_on, kept.replied, part), none, told rose)))
+        refuses then last failed fails end.Closed taken none sent told = absurd sent
+        refuses then last failed fails end.Limit taken none sent told = absurd sent
 
-      pub never_request : (last : Option (List ℕ)) (failed fails : ℕ) (e : ServeEnd) → NeverHas inbox
-          → Refuses e written last failed fails → (HasFailed failed fails → write_failed)
-          → IsHandled answers now_gives stream after wrote last h c m n read_failed write_failed e
-      never_request last failed fails e never sent told =
-          refuses after last failed fails e (Consumes-nil after) (inr never) sent told
+        -- the input is at its end
+        pub at_end : (then last : Option (List ℕ)) (now : List ℕ) (rf rg failed fails : ℕ) (e : ServeEnd)
+            → ReadsMore after then inbox now rf rg (Ok false) → HasNone inbox
+            → EndsInput now e written last failed fails → (HasFailed failed fails → write_failed)
+            → IsHandled answers now_gives stream then wrote last h c m n read_failed write_failed e
+        at_end then last now rf rg failed fails e (same, taken, over, steady) none (inl (empty, closed, unsaid)) told =
+            rw (closed, unsaid) (ends then written end.Closed taken (kept.replied, inl (goes_on, sym same ∙ empty, over)))
+        at_end then last now rf rg failed fails e (same, taken, over, steady) none (inr (some, sent)) told =
+            refuses then last failed fails e taken
+            (inl (not_nil inbox (subst (λ s. 0 < length s) same some), none, over)) sent told
+
+        pub never_request : (last : Option (List ℕ)) (failed fails : ℕ) (e : ServeEnd) → NeverHas inbox
+            → Refuses e written last failed fails → (HasFailed failed fails → write_failed)
+            → IsHandled answers now_gives stream after wrote last h c m n read_failed write_failed e
+        never_request last failed fails e never sent told =
+            refuses after last failed fails e (Consumes-nil after) (inr never) sent told

@@ -1,5 +1,5 @@
 -- A session over a store is a run of the hall over its requests.
-use Rattle.std.proofs.Common.{◌≡◌, ◌∙◌, sym, subst, refl, ℕ, inl, inr, List, [], ◌∷◌, Option, Some, None, All}
+use Rattle.std.proofs.Common.{◌≡◌, ◌∙◌, sym, subst, refl, ℕ, inl, inr, List, [], ◌∷◌, ◌++◌, Option, Some, None, All}
 use Rattle.std.proofs.lemmas.List.Elements.{All-nil, All-cons}
 use Rattle.hall_policy.specs.World.{World}
 use Rattle.hall_store.specs.Store.{Content, Leads, Over}
@@ -9,7 +9,6 @@ use Rattle.hall_desk.specs.Desk.{SaneThen}
 use Rattle.hall_desk.proofs.StepsSane.{run_sane}
 use Rattle.hall_http.specs.Head.{IsWhole}
 use Rattle.hall_http.specs.Connection.{Exchange, Session}
-use Rattle.std.specs.Prelude.{Result, Ok, Err, IfOk, OnErr}
 use Rattle.hall_http.specs.Served.{IsHandled, IsServed}
 use Rattle.hall_http.specs.declared.connection.ServeEnd.{ServeEnd}
 use Rattle.hall_http.specs.Serving.{AnswersAt, IsAnswered, AreMoments, IsNotMade, IsRunOver, RunsOver}
@@ -58,10 +57,22 @@ before_run world x (Some t) next xs last at (inr (inr unavailable, same)) run =
 before_run world x None next xs last at (unavailable, same) run =
     not_made world next x xs last same (inr unavailable) run
 
-pub run_over : (world : World) (xs : List Exchange) (last : World) → Answering world xs last → IsRunOver world xs last
+run_over : (world : World) (xs : List Exchange) (last : World) → Answering world xs last → IsRunOver world xs last
 run_over world [] last same = record { requests = []; replies = []; timed = All-nil IsTimed; run = same; made = (refl, refl) }
 run_over world (x ∷ xs) last (next, step, rest) =
     before_run world x x.moment next xs last refl step (run_over next xs last rest)
+
+pub answering_more : (a : World) (xs : List Exchange) (b : World) (x : Exchange) (c : World) → Answering a xs b
+    → AnswersAt b x.moment x.request x.reply c → Answering a (xs ++ x ∷ []) c
+answering_more a [] b x c same step = (c, subst (λ w. AnswersAt w x.moment x.request x.reply c) same step, refl)
+answering_more a (y ∷ ys) b x c (next, first, rest) step = (next, first, answering_more next ys b x c rest step)
+
+-- the exchanges from a world on, which is the store's where it serves
+abbrev pub Onward : World → List Exchange → Content → Type 0
+Onward world xs new = (last : World) × Answering world xs last × (new.serves → new.world ≡ last)
+
+pub onward_runs : (old : Content) (xs : List Exchange) (new : Content) → Onward old.world xs new → RunsOver old xs new
+onward_runs old xs new (last, more, stays) = (last, run_over old.world xs last more, stays)
 
 module _ {H C : Type 0} (content : H → Content) (now_gives : C → Option ℕ → C → Type 0) where
   abbrev answers : H → Option ℕ → List ℕ → List ℕ → H → Type 0
@@ -89,10 +100,6 @@ module _ {H C : Type 0} (content : H → Content) (now_gives : C → Option ℕ 
         serves = λ k s. says.leads.serves (later.honest k) (later.serves k s);
       }
 
-  -- the exchanges from a world on, which is the store's where it serves
-  abbrev Onward : World → List Exchange → Content → Type 0
-  Onward world xs new = (last : World) × Answering world xs last × (new.serves → new.world ≡ last)
-
   -- the first exchange, and then the others from whatever world it leaves
   further : (old new : Content) (x : Exchange) (xs : List Exchange) (last : Content) (world : World)
       → (old.serves → old.world ≡ world) → (new.serves → old.serves)
@@ -118,10 +125,9 @@ module _ {H C : Type 0} (content : H → Content) (now_gives : C → Option ℕ 
   pub session_runs : (h : H) (c : C) (xs : List Exchange) (i : H) (d : C) → Session answers now_gives h c xs i d
       → (content i).honest → RunsOver (content h) xs (content i)
   session_runs h c xs i d session honest =
-      let (last, more, stays) = onward h c xs i d (content h).world session (λ s. refl) honest in
-      (last, run_over (content h).world xs last more, stays)
+      onward_runs (content h) xs (content i) (onward h c xs i d (content h).world session (λ s. refl) honest)
 
--- what was served keeps a sane world sane
+-- what was answered keeps a sane world sane
 pub runs_sane : (old : Content) (xs : List Exchange) (new : Content) → (new.honest → RunsOver old xs new)
     → SaneThen Sane old new
 runs_sane old xs new run h s sane =
@@ -130,7 +136,7 @@ runs_sane old xs new run h s sane =
 
 module _ {H C : Type 0} (content : H → Content) (now_gives : C → Option ℕ → C → Type 0)
     (stream after wrote written : Option (List ℕ)) (h : H) (c : C) (i : H) (d : C) (read_failed write_failed : Type 0) where
-  handled_served : (e : ServeEnd)
+  pub handled_served : (e : ServeEnd)
       → IsHandled (answers content now_gives) now_gives stream after wrote written h c i d read_failed write_failed e
       → IsServed now_gives stream after wrote written (content h) (content i) c d read_failed write_failed e
   handled_served e handled = record {
@@ -142,18 +148,13 @@ module _ {H C : Type 0} (content : H → Content) (now_gives : C → Option ℕ 
     run = session_runs content now_gives h c handled.exchanges i d handled.session;
     few = handled.few;
     consumed = handled.consumed;
+    bounded = handled.bounded;
     ended = handled.ended;
   }
 
-  pub all_served : {E : Type 0} (r : Result ServeEnd E)
-      → IfOk r (IsHandled (answers content now_gives) now_gives stream after wrote written h c i d read_failed write_failed)
-      → IfOk r (IsServed now_gives stream after wrote written (content h) (content i) c d read_failed write_failed)
-  all_served (Ok e) handled = handled_served e handled
-  all_served (Err e) handled = handled
-
-  pub served_sane : {E : Type 0} (r : Result ServeEnd E)
-      → IfOk r (IsServed now_gives stream after wrote written (content h) (content i) c d read_failed write_failed)
-      → OnErr r (i ≡ h) → SaneThen Sane (content h) (content i)
-  served_sane (Ok e) served same = runs_sane (content h) served.exchanges (content i) served.run
-  served_sane (Err e) served same =
-      subst (λ (i : H). SaneThen Sane (content h) (content i)) (sym same) (λ k s sane. sane)
+  pub handled_sane : (e : ServeEnd)
+      → IsHandled (answers content now_gives) now_gives stream after wrote written h c i d read_failed write_failed e
+      → SaneThen Sane (content h) (content i)
+  handled_sane e handled =
+      runs_sane (content h) handled.exchanges (content i)
+      (session_runs content now_gives h c handled.exchanges i d handled.session)

@@ -1,17 +1,12 @@
 -- What the loop of a replay keeps, and how each of its ends follows.
-use Rattle.std.proofs.Common.{◌≡◌, ◌≢◌, ◌∙◌, sym, ap, subst, refl, arith, ℕ, zero, suc, ◌+◌, ◌<◌, ◌≤◌, inl, inr, List}
-use Rattle.std.proofs.Common.{[], ◌∷◌, ◌++◌, length, take, drop, Option, append_assoc, length-append}
-use Rattle.std.specs.Prelude.{Result, Ok, Err, false, MatchResult}
-use Rattle.std.proofs.lemmas.List.{append-nil, take-append-drop}
+use Rattle.std.proofs.Common.{◌≡◌, ◌∙◌, sym, ap, subst, refl, arith, ℕ, zero, suc, ◌+◌, ◌<◌, ◌≤◌, inl, inr, List}
+use Rattle.std.proofs.Common.{[], ◌∷◌, ◌++◌, length, take, drop, Option, append_assoc, length-append, length-drop}
+use Rattle.std.specs.Prelude.{Result, Ok, Err, false, map, All, MatchResult}
+use Rattle.std.proofs.lemmas.List.{append-nil, take-append-drop, map-append}
 use Rattle.std.proofs.lemmas.List.Concat.{flat_map-append}
+use Rattle.std.proofs.lemmas.List.Elements.{All-nil, All-push}
 use Rattle.std.proofs.KnownBytes.{Appends-nil, Appends-trans, Consumes-nil, Consumes-trans}
 use Rattle.std.specs.Io.KnownBytes.{Appends, Consumes, IsAtEnd}
-use Rattle.std.specs.Prelude.{All}
-use Rattle.std.proofs.lemmas.List.Elements.{All-nil, All-cons, All-append}
-use Rattle.hall_desk.specs.Run.{IsTimed, Run}
-use Rattle.hall_desk.specs.Sane.{Sane}
-use Rattle.hall_desk.specs.Desk.{SaneThen}
-use Rattle.hall_desk.proofs.StepsSane.{run_sane}
 use Rattle.hall_policy.specs.World.{World}
 use Rattle.hall_store.specs.Store.{Content, Leads}
 use Rattle.hall_http.specs.declared.fault.ReplayFault.{ReplayFault}
@@ -20,46 +15,23 @@ use Rattle.hall_http.specs.Device.{WritesPart}
 use Rattle.hall_http.specs.Records.{Record, IsRecord, record_bytes, header_of, HasNoRecord, NeverHasRecord, IsCut}
 use Rattle.hall_http.specs.Records.{bytes_between}
 use Rattle.hall_http.specs.Answered.{Answers, AnswersOver}
-use Rattle.hall_http.specs.Replay.{Exchange, Exchanged, Session, records_of, replies_of, IsRunOver, RunsOver, LacksRecord}
-use Rattle.hall_http.specs.Replay.{IsMade, IsReplayed, Ended}
+use Rattle.hall_http.specs.Replay.{AnsweredRecord, exchange_of, exchanges_of, records_of, replies_to, LacksRecord}
+use Rattle.hall_http.specs.Replay.{IsReplayed, Ended}
 use Rattle.hall_http.specs.Inbox.{ReadsMore}
+use Rattle.hall_http.proofs.Exchanges.{not_nil}
+use Rattle.hall_http.proofs.Runs.{Onward, answering_more, onward_runs}
 
-records_more : (xs : List Exchange) (x : Exchange) → records_of (xs ++ x ∷ []) ≡ records_of xs ++ record_bytes x.asked
+records_more : (xs : List AnsweredRecord) (x : AnsweredRecord) → records_of (xs ++ x ∷ []) ≡ records_of xs ++ record_bytes x.asked
 records_more xs x =
     flat_map-append (λ x. record_bytes x.asked) xs (x ∷ [])
     ∙ ap (λ s. records_of xs ++ s) (append-nil (record_bytes x.asked))
 
-replies_more : (xs : List Exchange) (x : Exchange) → replies_of (xs ++ x ∷ []) ≡ replies_of xs ++ x.reply
-replies_more xs x = flat_map-append (λ x. x.reply) xs (x ∷ []) ∙ ap (λ s. replies_of xs ++ s) (append-nil x.reply)
+replies_more : (xs : List AnsweredRecord) (x : AnsweredRecord) → replies_to (xs ++ x ∷ []) ≡ replies_to xs ++ x.reply
+replies_more xs x = flat_map-append (λ x. x.reply) xs (x ∷ []) ∙ ap (λ s. replies_to xs ++ s) (append-nil x.reply)
 
-session_more : (a : World) (xs : List Exchange) (b : World) (x : Exchange) (c : World) → Session a xs b
-    → Exchanged b x c → Session a (xs ++ x ∷ []) c
-session_more a [] b x c same step = (c, subst (λ w. Exchanged w x c) same step, refl)
-session_more a (y ∷ ys) b x c (next, first, rest) step = (next, first, session_more next ys b x c rest step)
-
--- a session is a run of the hall over its requests
-pub run_over : (old : World) (xs : List Exchange) (new : World) → Session old xs new → IsRunOver old xs new
-run_over old [] new same = record { requests = []; replies = []; timed = All-nil IsTimed; run = same; made = (refl, refl) }
-run_over old (x ∷ xs) new (next, (is, inl step), rest) =
-    let run = run_over next xs new rest in
-    let made : IsMade x (x.asked.moment, step.request) step.reply =
-    record { moment = refl; reads = step.reads; written = step.written } in
-    record {
-      requests = (x.asked.moment, step.request) ∷ run.requests;
-      replies = step.reply ∷ run.replies;
-      timed = All-cons IsTimed (x.asked.moment, step.request) run.requests step.timed run.timed;
-      run = (next, step.step, run.run);
-      made = inr ((x.asked.moment, step.request), step.reply, run.requests, run.replies, refl, refl, made, run.made);
-    }
-run_over old (x ∷ xs) new (next, (is, inr (other, same)), rest) =
-    let run = run_over next xs new rest in
-    record {
-      requests = run.requests;
-      replies = run.replies;
-      timed = run.timed;
-      run = subst (λ w. Run w run.requests run.replies new) same run.run;
-      made = inl (other, run.made);
-    }
+exchanges_more : (xs : List AnsweredRecord) (x : AnsweredRecord)
+    → exchanges_of (xs ++ x ∷ []) ≡ exchanges_of xs ++ exchange_of x ∷ []
+exchanges_more xs x = map-append exchange_of xs (x ∷ [])
 
 -- a whole record is at least a byte
 pub some_record : (bytes : List ℕ) (r : Record) (start end : ℕ) → IsCut bytes r start end → 0 < end
@@ -74,27 +46,17 @@ never_nil h =
     let r : Record = record { moment = 0; request = [] } in
     h (record_bytes r) r [] (record { moment = omega arith; size = omega arith }) (sym (append-nil (record_bytes r)))
 
-pub not_nil : (xs : List ℕ) → 0 < length xs → xs ≢ []
-not_nil xs some e = let z : length xs ≡ 0 = ap length e in omega arith
-
--- a session over a store, to some world, which is the store's where it still serves
-abbrev pub SessionOver : Content → List Exchange → Content → Type 0
-SessionOver old done new = (last : World) × Session old.world done last × (new.serves → new.world ≡ last)
-
--- a session over a store is a run over it
-runs_over : (old : Content) (xs : List Exchange) (new : Content) → SessionOver old xs new → RunsOver old xs new
-runs_over old xs new (last, session, own) = (last, run_over old.world xs last session, own)
-
 -- after some turns: the records answered, and what was read after them
 pub record Kept (stream after wrote written : Option (List ℕ)) (old new : Content)
     (inbox : List ℕ) (reads : ℕ) : Type 0 where
-  pub done : List Exchange
+  pub done : List AnsweredRecord
   pub whole : All (λ x. IsRecord x.asked) done
   pub leads : Leads old new
-  pub session : new.honest → SessionOver old done new
+  pub onward : new.honest → Onward old.world (exchanges_of done) new
   pub consumed : Consumes stream after (records_of done ++ inbox)
   pub pieces : reads ≤ length (records_of done ++ inbox)
-  pub replied : Appends wrote written (replies_of done)
+  pub replied : Appends wrote written (replies_to done)
+  pub bounded : length inbox ≤ 81920
 
 pub kept_start : (stream wrote : Option (List ℕ)) (store : Content) → Kept stream stream wrote wrote store store [] 0
 kept_start stream wrote store =
@@ -102,32 +64,38 @@ kept_start stream wrote store =
       done = [];
       whole = All-nil (λ x. IsRecord x.asked);
       leads = record { honest = λ h. h; serves = λ h s. s };
-      session = λ h. (store.world, refl, λ s. refl);
+      onward = λ h. (store.world, refl, λ s. refl);
       consumed = Consumes-nil stream;
       pieces = omega arith;
       replied = Appends-nil wrote;
+      bounded = omega arith;
     }
 
 module _ (stream after wrote written : Option (List ℕ)) (old new : Content) (inbox : List ℕ) (reads : ℕ)
     (kept : Kept stream after wrote written old new inbox reads) where
-  pub kept_read : (then : Option (List ℕ)) (piece : List ℕ) → 0 < length piece → Consumes after then piece
+  pub kept_read : (then : Option (List ℕ)) (piece : List ℕ) → 0 < length piece → length piece ≤ 4096
+      → length inbox < 73746 → Consumes after then piece
       → Kept stream then wrote written old new (inbox ++ piece) (reads + 1)
-  kept_read then piece some more =
+  kept_read then piece some few room more =
       let all : records_of kept.done ++ (inbox ++ piece) ≡ (records_of kept.done ++ inbox) ++ piece =
       sym (append_assoc (records_of kept.done) inbox piece) in
       record {
         done = kept.done;
         whole = kept.whole;
         leads = kept.leads;
-        session = kept.session;
+        onward = kept.onward;
         consumed = rw all (Consumes-trans stream after then (records_of kept.done ++ inbox) piece kept.consumed more);
         pieces = rw all (omega (arith, kept.pieces, length-append (records_of kept.done ++ inbox) piece));
         replied = kept.replied;
+        bounded = omega (arith, length-append inbox piece);
       }
+
+  shorter : (size : ℕ) → length (drop size inbox) ≤ 81920
+  shorter size = omega (arith, kept.bounded, length-drop size inbox)
 
   module _ (r : Record) (start end : ℕ) (text : List ℕ) (next : Content) (cut : IsCut inbox r start end)
       (leads : Leads new next) (says : next.honest → AnswersOver new r.moment (bytes_between inbox start end) text next) where
-    abbrev x : Exchange
+    abbrev x : AnsweredRecord
     x = record { asked = r; reply = text }
 
     same_bytes : records_of (kept.done ++ x ∷ []) ++ drop end inbox ≡ records_of kept.done ++ inbox
@@ -136,28 +104,35 @@ module _ (stream after wrote written : Option (List ℕ)) (old new : Content) (i
         ∙ append_assoc (records_of kept.done) (take end inbox) (drop end inbox)
         ∙ ap (λ s. records_of kept.done ++ s) (take-append-drop end inbox)
 
-    abbrev all : List Exchange
+    abbrev all : List AnsweredRecord
     all = kept.done ++ x ∷ []
 
-    exchanged : (before later : World) → Answers before r.moment (bytes_between inbox start end) text later → Exchanged before x later
-    exchanged before later answers = (cut.is, subst (λ s. Answers before r.moment s text later) (sym cut.request) answers)
+    same_request : bytes_between inbox start end ≡ r.request
+    same_request = sym cut.request
 
-    more : SessionOver old kept.done new → (next.serves → new.serves) →
-        AnswersOver new r.moment (bytes_between inbox start end) text next → SessionOver old all next
-    more (last, session, own) served (inl (always, left)) =
-        (last, session_more old.world kept.done last x last session (exchanged last last (always last)), λ s. left s ∙ own (served s))
-    more (last, session, own) served (inr (before, later, answers)) = (
+    more : Onward old.world (exchanges_of kept.done) new → (next.serves → new.serves)
+        → AnswersOver new r.moment (bytes_between inbox start end) text next → Onward old.world (exchanges_of all) next
+    more (last, onward, own) served (inl (always, left)) = (
+      last,
+      rw (exchanges_more kept.done x)
+          (answering_more old.world (exchanges_of kept.done) last (exchange_of x) last onward
+          (subst (λ s. Answers last r.moment s text last) same_request (always last))),
+      λ s. left s ∙ own (served s),
+    )
+    more (last, onward, own) served (inr (before, later, answers)) = (
       next.world,
-      session_more old.world kept.done last x next.world session
-          (exchanged last next.world (subst (λ w. Answers w r.moment (bytes_between inbox start end) text next.world) (own before) answers)),
+      rw (exchanges_more kept.done x)
+          (answering_more old.world (exchanges_of kept.done) last (exchange_of x) next.world onward
+          (subst (λ w. Answers w r.moment r.request text next.world) (own before)
+          (subst (λ s. Answers new.world r.moment s text next.world) same_request answers))),
       λ s. refl,
     )
 
-    longer : next.honest → SessionOver old all next
-    longer h = more (kept.session (leads.honest h)) (leads.serves h) (says h)
+    longer : next.honest → Onward old.world (exchanges_of all) next
+    longer h = more (kept.onward (leads.honest h)) (leads.serves h) (says h)
 
     whole_all : All (λ x. IsRecord x.asked) all
-    whole_all = All-append (λ x. IsRecord x.asked) kept.done (x ∷ []) kept.whole (All-cons (λ x. IsRecord x.asked) x [] cut.is (All-nil (λ x. IsRecord x.asked)))
+    whole_all = All-push (λ x. IsRecord x.asked) kept.done x kept.whole cut.is
 
     led : Leads old next
     led = record {
@@ -171,92 +146,83 @@ module _ (stream after wrote written : Option (List ℕ)) (old new : Content) (i
       done = all;
       whole = whole_all;
       leads = led;
-      session = longer;
+      onward = longer;
       consumed = rw same_bytes kept.consumed;
       pieces = rw same_bytes kept.pieces;
       replied = rw (replies_more kept.done x)
-          (Appends-trans wrote written then (replies_of kept.done) text kept.replied sent);
+          (Appends-trans wrote written then (replies_to kept.done) text kept.replied sent);
+      bounded = shorter end;
     }
 
     -- the text couldn't be written whole
-    pub unsent : {U : Type 0} (then : Option (List ℕ)) (failed : Type 0) → WritesPart written then text → failed
-        → IsReplayed {U = U} stream after wrote then old next failed (Err fault.Device)
-    unsent then failed part rose = record {
+    pub unsent : {U : Type 0} (then : Option (List ℕ)) (read_failed write_failed : Type 0) → WritesPart written then text
+        → write_failed → IsReplayed {U = U} stream after wrote then old next read_failed write_failed (Err fault.Device)
+    unsent then read_failed write_failed part rose = record {
       answered = all;
       unread = drop end inbox;
       whole = whole_all;
       leads = led;
-      run = λ h. runs_over old all next (longer h);
+      run = λ h. onward_runs old (exchanges_of all) next (longer h);
       consumed = rw same_bytes kept.consumed;
-      ended = (inr (kept.done, x, written, refl, kept.replied, part), rose);
+      bounded = shorter end;
+      ended = inr ((kept.done, x, written, refl, kept.replied, part), rose);
     }
 
-  still : (then : Option (List ℕ)) → Consumes after then [] → Consumes stream then (records_of kept.done ++ inbox)
-  still then none =
-      subst (λ s. Consumes stream then s) (append-nil (records_of kept.done ++ inbox))
-      (Consumes-trans stream after then (records_of kept.done ++ inbox) [] kept.consumed none)
-
-  module _ {U : Type 0} (failed : Type 0) where
+  module _ {U : Type 0} (read_failed write_failed : Type 0) where
     -- how it ends with no further record answered
-    ends : (then : Option (List ℕ)) (end : Result U ReplayFault) → Consumes stream then (records_of kept.done ++ inbox)
-        → Ended end then wrote written kept.done inbox failed
-        → IsReplayed {U = U} stream then wrote written old new failed end
-    ends then end consumed ended = record {
+    ends : (then : Option (List ℕ)) (end : Result U ReplayFault) → Consumes after then []
+        → Ended end then wrote written kept.done inbox read_failed write_failed
+        → IsReplayed {U = U} stream then wrote written old new read_failed write_failed end
+    ends then end none ended = record {
       answered = kept.done;
       unread = inbox;
       whole = kept.whole;
       leads = kept.leads;
-      run = λ h. runs_over old kept.done new (kept.session h);
-      consumed = consumed;
+      run = λ h. onward_runs old (exchanges_of kept.done) new (kept.onward h);
+      consumed = subst (λ s. Consumes stream then s) (append-nil (records_of kept.done ++ inbox))
+          (Consumes-trans stream after then (records_of kept.done ++ inbox) [] kept.consumed none);
+      bounded = kept.bounded;
       ended = ended;
     }
 
-    pub unread_device : (then : Option (List ℕ)) → Consumes after then [] → failed
-        → IsReplayed {U = U} stream then wrote written old new failed (Err fault.Device)
-    unread_device then none rose = ends then (Err fault.Device) (still then none) (inl kept.replied, rose)
+    -- a read was refused
+    pub unread_device : (then : Option (List ℕ)) → Consumes after then [] → HasNoRecord inbox → read_failed
+        → IsReplayed {U = U} stream then wrote written old new read_failed write_failed (Err fault.Device)
+    unread_device then none has rose = ends then (Err fault.Device) none (inl (kept.replied, has, rose))
 
-    pub no_memory : (then : Option (List ℕ)) (piece : List ℕ) → Consumes after then piece
-        → IsReplayed {U = U} stream then wrote written old new failed (Err fault.Memory)
-    no_memory then piece more =
-        let all = Consumes-trans stream after then (records_of kept.done ++ inbox) piece kept.consumed more in
-        record {
-          answered = kept.done;
-          unread = inbox ++ piece;
-          whole = kept.whole;
-          leads = kept.leads;
-          run = λ h. runs_over old kept.done new (kept.session h);
-          consumed = subst (λ s. Consumes stream then s) (append_assoc (records_of kept.done) inbox piece) all;
-          ended = kept.replied;
-        }
-
-    pub finished : (u : U) (then : Option (List ℕ)) → Consumes after then [] → IsAtEnd then → inbox ≡ []
-        → IsReplayed {U = U} stream then wrote written old new failed (Ok u)
-    finished u then none over empty = ends then (Ok u) (still then none) (kept.replied, empty, over)
-
-    pub no_record : (then : Option (List ℕ)) → Consumes after then [] → LacksRecord then inbox
-        → IsReplayed {U = U} stream then wrote written old new failed (Err fault.Record)
-    no_record then none lacks = ends then (Err fault.Record) (still then none) (kept.replied, inl lacks)
-
-    pub too_many : 1000000000 ≤ reads → IsReplayed {U = U} stream after wrote written old new failed (Err fault.Record)
-    too_many many = ends after (Err fault.Record) kept.consumed (kept.replied, inr (omega (arith, kept.pieces)))
+    pub too_many : HasNoRecord inbox → 1000000000 ≤ reads
+        → IsReplayed {U = U} stream after wrote written old new read_failed write_failed (Err fault.Record)
+    too_many has many =
+        ends after (Err fault.Record) (Consumes-nil after) (kept.replied, inr (has, omega (arith, kept.pieces)))
 
     -- the input is at its end
     pub at_end : (result : Result U ReplayFault) (then : Option (List ℕ)) (now : List ℕ) (rf rg : ℕ)
         → ReadsMore after then inbox now rf rg (Ok false) → HasNoRecord inbox
         → MatchResult result (λ _. now ≡ []) (λ e. (e ≡ fault.Record) × (0 < length now))
-        → IsReplayed {U = U} stream then wrote written old new failed result
-    at_end (Ok u) then now rf rg (same, none, over, steady) has empty = finished u then none over (sym same ∙ empty)
+        → IsReplayed {U = U} stream then wrote written old new read_failed write_failed result
+    at_end (Ok u) then now rf rg (same, none, over, steady) has empty =
+        ends then (Ok u) none (kept.replied, sym same ∙ empty, over)
     at_end (Err e) then now rf rg (same, none, over, steady) has (is, some) =
-        rw is (no_record then none (not_nil inbox (subst (λ s. 0 < length s) same some), inl (has, over)))
+        rw is (ends then (Err fault.Record) none
+        (kept.replied, inl (not_nil inbox (subst (λ s. 0 < length s) same some), inl (has, over))))
 
     -- no record begins so
     pub never_record : NeverHasRecord inbox
-        → IsReplayed {U = U} stream after wrote written old new failed (Err fault.Record)
+        → IsReplayed {U = U} stream after wrote written old new read_failed write_failed (Err fault.Record)
     never_record never =
-        no_record after (Consumes-nil after) ((λ e. never_nil (subst NeverHasRecord e never)), inr never)
+        ends after (Err fault.Record) (Consumes-nil after)
+        (kept.replied, inl ((λ e. never_nil (subst NeverHasRecord e never)), inr never))
 
--- what was replayed keeps a sane world sane
-pub replayed_sane : (old : Content) (xs : List Exchange) (new : Content) → (new.honest → RunsOver old xs new) → SaneThen Sane old new
-replayed_sane old xs new run h s sane =
-    let over = run h in
-    subst Sane (sym (over.2 s)) (run_sane old.world over.1.requests over.1.replies over.0 over.1.timed over.1.run sane)
+-- nothing was read for want of memory
+pub unbegun : {U : Type 0} (stream wrote : Option (List ℕ)) (store : Content) (read_failed write_failed : Type 0)
+    → IsReplayed {U = U} stream stream wrote wrote store store read_failed write_failed (Err fault.Memory)
+unbegun stream wrote store read_failed write_failed = record {
+  answered = [];
+  unread = [];
+  whole = All-nil (λ x. IsRecord x.asked);
+  leads = record { honest = λ h. h; serves = λ h s. s };
+  run = λ h. onward_runs store [] store (store.world, refl, λ s. refl);
+  consumed = Consumes-nil stream;
+  bounded = omega arith;
+  ended = (Appends-nil wrote, refl, refl);
+}

@@ -1,5 +1,5 @@
 -- The records of a replay.
-use Rattle.std.specs.Prelude.{◌≡◌, ◌≢◌, ◌≤◌, ◌-◌, ◌&&◌, nat_le, if◌then◌else◌, ℕ, List, ◌∷◌, ◌++◌, length, take, drop}
+use Rattle.std.specs.Prelude.{◌≡◌, ◌≢◌, ◌<◌, ◌≤◌, ◌-◌, ◌&&◌, nat_le, if◌then◌else◌, ℕ, List, ◌∷◌, ◌++◌, length, take, drop}
 use Rattle.std.specs.Prelude.{flat_map, All, Option, Some, None, option_and_then, codes, decimal}
 use Rattle.hall_http.specs.declared.record.Cut.{Cut}
 use Rattle.hall_http.specs.declared.record.Cut.TheVariants.{Whole, More, Never}
@@ -22,6 +22,10 @@ header_of moment size = 64 ∷ (decimal moment ++ 32 ∷ decimal size)
 -- @MOMENT LENGTH, a line feed, and the bytes
 abbrev pub record_bytes : Record → List ℕ
 record_bytes r = header_of r.moment (length r.request) ++ 10 ∷ r.request
+
+-- the most bytes of a record
+abbrev pub record_limit : ℕ
+record_limit = 73746
 
 -- no whole record stands at the front
 abbrev pub HasNoRecord : List ℕ → Type 0
@@ -61,8 +65,8 @@ pub record IsCut (bytes : List ℕ) (r : Record) (start end : ℕ) : Type 0 wher
   pub request : r.request ≡ bytes_between bytes start end
   pub whole : take end bytes ≡ record_bytes r
 
--- what stands at the front: a whole record; none so far; none, however the bytes go on
+-- what stands at the front: a whole record; none so far, in fewer bytes than the longest has; none, however the bytes go on
 abbrev pub Cuts : List ℕ → Cut → Type 0
 Cuts bytes (Whole moment start end) = (r : Record) × (r.moment ≡ moment) × IsCut bytes r start end
-Cuts bytes More = HasNoRecord bytes
+Cuts bytes More = HasNoRecord bytes × (length bytes < record_limit)
 Cuts bytes Never = NeverHasRecord bytes

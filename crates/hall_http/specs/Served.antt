@@ -1,5 +1,5 @@
 -- What serving one connection does.
-use Rattle.std.specs.Prelude.{◌≡◌, ◌≢◌, ◌≤◌, ◌⊎◌, ℕ, List, [], ◌∷◌, ◌++◌, length, Option, All}
+use Rattle.std.specs.Prelude.{◌≡◌, ◌≢◌, ◌<◌, ◌≤◌, ◌⊎◌, ℕ, List, [], ◌∷◌, ◌++◌, length, Option, All}
 use Rattle.std.specs.Io.KnownBytes.{Appends, Consumes, IsAtEnd}
 use Rattle.serde_json.specs.Written.{compact_text}
 use Rattle.hall_store.specs.Store.{Content, Leads}
@@ -21,6 +21,10 @@ refusal = wire_bytes (fault_status fault.NotWhole) media.Json (compact_text (fau
 abbrev pub IsNoRequest : Option (List ℕ) → List ℕ → Type 0
 IsNoRequest after unread = ((unread ≢ []) × HasNone unread × IsAtEnd after) ⊎ NeverHas unread
 
+-- the connection stays open after each of these requests, and a further one may come
+abbrev pub MayGoOn : List Exchange → Type 0
+MayGoOn xs = AreOpen xs × (length xs < 1000)
+
 -- the connection closes after the last request, and after none before it
 abbrev pub ClosesLast : List Exchange → Type 0
 ClosesLast xs =
@@ -35,7 +39,7 @@ BreaksLast wrote written xs =
 -- a part of the reply to bytes that are no request wasn't written
 abbrev pub BreaksRefusal : Option (List ℕ) → Option (List ℕ) → List Exchange → Type 0
 BreaksRefusal wrote written xs =
-    (between : Option (List ℕ)) × AreOpen xs × Appends wrote between (replies_of xs)
+    (between : Option (List ℕ)) × MayGoOn xs × Appends wrote between (replies_of xs)
     × WritesPart between written refusal
 
 -- How the connection ended: what was written, and why it ended. `Closed`: the input is at its end, or the last request
@@ -44,14 +48,14 @@ BreaksRefusal wrote written xs =
 abbrev pub Ended : ServeEnd → Option (List ℕ) → Option (List ℕ) → Option (List ℕ) → List Exchange → List ℕ
     → Type 0 → Type 0 → Type 0
 Ended end.Closed after wrote written xs unread read_failed write_failed =
-    Appends wrote written (replies_of xs) × ((AreOpen xs × (unread ≡ []) × IsAtEnd after) ⊎ ClosesLast xs)
+    Appends wrote written (replies_of xs) × ((MayGoOn xs × (unread ≡ []) × IsAtEnd after) ⊎ ClosesLast xs)
 Ended end.BadHead after wrote written xs unread read_failed write_failed =
-    Appends wrote written (replies_of xs ++ refusal) × AreOpen xs × IsNoRequest after unread
+    Appends wrote written (replies_of xs ++ refusal) × MayGoOn xs × IsNoRequest after unread
 Ended end.Limit after wrote written xs unread read_failed write_failed =
     Appends wrote written (replies_of xs) × AreOpen xs
     × ((length xs ≡ 1000) ⊎ (HasNone unread × (100000 ≤ length (requests_of xs ++ unread))))
 Ended end.Device after wrote written xs unread read_failed write_failed =
-    (Appends wrote written (replies_of xs) × AreOpen xs × HasNone unread × read_failed)
+    (Appends wrote written (replies_of xs) × MayGoOn xs × HasNone unread × read_failed)
     ⊎ (BreaksLast wrote written xs × write_failed)
     ⊎ (BreaksRefusal wrote written xs × IsNoRequest after unread × write_failed)
 
@@ -65,6 +69,7 @@ pub record IsHandled {H C : Type 0} (answers : H → Option ℕ → List ℕ →
   pub session : Session answers now_gives h c exchanges i d
   pub few : length exchanges ≤ 1000
   pub consumed : Consumes stream after (requests_of exchanges ++ unread)
+  pub bounded : length unread ≤ 81920
   pub ended : Ended end after wrote written exchanges unread read_failed write_failed
 
 -- the stream was read as at most 1,000 requests and then this rest, the requests were answered over a store at the
@@ -80,4 +85,5 @@ pub record IsServed {C : Type 0} (now_gives : C → Option ℕ → C → Type 0)
   pub run : new.honest → RunsOver old exchanges new
   pub few : length exchanges ≤ 1000
   pub consumed : Consumes stream after (requests_of exchanges ++ unread)
+  pub bounded : length unread ≤ 81920
   pub ended : Ended end after wrote written exchanges unread read_failed write_failed

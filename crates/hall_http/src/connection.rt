@@ -12,9 +12,9 @@ use crate::closing::closes;
 use crate::device::write_all;
 use crate::handler::Handler;
 use crate::head::{Cut, cut_request};
-use crate::inbox::Inbox;
+use crate::inbox::{Inbox, ReadFault};
 use crate::routes::Routes;
-use crate::session::send;
+use crate::session::{routes_and_inbox, send};
 use hall_desk::Desk;
 use hall_grid::Counted;
 use hall_policy::Moment;
@@ -86,51 +86,8 @@ pub fn serve<S: Store, R: Read, W: Write, C: Clock>(
     ensures unique { SaneThen HasUniqueSolutions (S.content (kept_by desk.old)) (S.content (kept_by desk.new)) }
     ensures right { SaneThen RightAnswersAreSolutions (S.content (kept_by desk.old)) (S.content (kept_by desk.new)) }
 {
-    serve_desk(alloc, desk, reader, writer, clock)
-}
-
-/// Serves one connection.
-fn serve_desk<S: Store, R: Read, W: Write, C: Clock>(
-    alloc: Global,
-    desk: &mut Desk<S>,
-    reader: &mut Counted<R>,
-    writer: &mut Counted<W>,
-    clock: &mut C,
-) -> Result<ServeEnd, AllocError>
-    ensures desk { OnErr result (desk.new ≡ desk.old) }
-    ensures clock { OnErr result (clock.new ≡ clock.old) }
-    ensures reader { OnErr result (reader.new ≡ reader.old) }
-    ensures writer { OnErr result (writer.new ≡ writer.old) }
-    ensures served { IfOk result (IsServed C.now_gives
-        (R.remaining reader.old.device) (R.remaining reader.new.device)
-        (W.contents writer.old.device) (W.contents writer.new.device)
-        (S.content (kept_by desk.old)) (S.content (kept_by desk.new)) clock.old clock.new
-        (HasFailed reader.old.failures reader.new.failures) (HasFailed writer.old.failures writer.new.failures)) }
-{
-    let routes = Routes::new(alloc)?;
-    serve_with(alloc, &routes, desk, reader, writer, clock)
-}
-
-/// Answers the requests of a connection, in their order.
-fn serve_with<H: Handler, R: Read, W: Write, C: Clock>(
-    alloc: Global,
-    routes: &Routes,
-    handler: &mut H,
-    reader: &mut Counted<R>,
-    writer: &mut Counted<W>,
-    clock: &mut C,
-) -> Result<ServeEnd, AllocError>
-    ensures handler { OnErr result (handler.new ≡ handler.old) }
-    ensures clock { OnErr result (clock.new ≡ clock.old) }
-    ensures reader { OnErr result (reader.new ≡ reader.old) }
-    ensures writer { OnErr result (writer.new ≡ writer.old) }
-    ensures handled { IfOk result (IsHandled H.answers C.now_gives
-        (R.remaining reader.old.device) (R.remaining reader.new.device)
-        (W.contents writer.old.device) (W.contents writer.new.device) handler.old clock.old handler.new clock.new
-        (HasFailed reader.old.failures reader.new.failures) (HasFailed writer.old.failures writer.new.failures)) }
-{
-    let inbox = Inbox::new(alloc)?;
-    Ok(serve_requests(alloc, routes, inbox, handler, reader, writer, clock))
+    let (routes, inbox) = routes_and_inbox(alloc)?;
+    Ok(serve_requests(alloc, &routes, inbox, desk, reader, writer, clock))
 }
 
 /// Answers the requests of a connection, in their order, with an empty inbox.
@@ -178,7 +135,8 @@ fn serve_requests<H: Handler, R: Read, W: Write, C: Clock>(
                 match inbox.read_more(reader) {
                     Ok(true) => {}
                     Ok(false) => return end_of_input(inbox.unread(), writer),
-                    Err(_) => return ServeEnd::Device,
+                    Err(ReadFault::Device) => return ServeEnd::Device,
+                    Err(ReadFault::Memory) => unreachable!(),
                 }
             }
             Cut::Never => return refuse(writer),

@@ -1,5 +1,5 @@
 //! A replay: the records of an input, answered one after another.
-ghost use Rattle.std.specs.Prelude.{◌≡◌, ◌<◌, ◌⊎◌, [], IfErr, OnOk, OnErr, MatchResult, length};
+ghost use Rattle.std.specs.Prelude.{◌≡◌, ◌<◌, [], IfOk, OnOk, OnErr, MatchResult, length};
 ghost use Rattle.std.specs.Io.KnownBytes.{Appends};
 ghost use Rattle.hall_grid.specs.Device.{HasFailed};
 ghost use Rattle.hall_desk.specs.Desk.{kept_by, SaneThen};
@@ -18,7 +18,7 @@ use crate::routes::Routes;
 use hall_desk::Desk;
 use hall_grid::Counted;
 use hall_store::Store;
-use std::alloc::Global;
+use std::alloc::{AllocError, Global};
 use std::io::{Read, Write};
 
 /// The most reads of a replay.
@@ -36,10 +36,20 @@ pub(crate) fn send<W: Write>(writer: &mut Counted<W>, answer: Answer) -> Result<
     write_all(writer, answer.as_bytes())
 }
 
+/// The routes, and an inbox without bytes: what a session takes before its first read.
+pub(crate) fn routes_and_inbox(alloc: Global) -> Result<(Routes, Inbox), AllocError>
+    ensures { IfOk result (λ made. made.1 ≡ []) }
+{
+    let routes = Routes::new(alloc)?;
+    let inbox = Inbox::new(alloc)?;
+    Ok((routes, inbox))
+}
+
 /// Answers the records of the input, and writes the replies.
 ///
-/// Ends well where the input held whole records and no more. A device's fault leaves the records handled made, the last
-/// one's reply perhaps unsent; any other fault comes after the replies of the records before. A sane world stays sane.
+/// Ends well where the input held whole records and no more. Refused for memory, it has read nothing. A device's fault
+/// leaves the records handled made, the last one's reply perhaps unsent; any other fault comes after the replies of the
+/// records before. A sane world stays sane.
 pub fn replay<R: Read, W: Write, S: Store>(
     alloc: Global,
     desk: &mut Desk<S>,
@@ -49,35 +59,37 @@ pub fn replay<R: Read, W: Write, S: Store>(
     ensures replayed { IsReplayed (R.remaining reader.old.device) (R.remaining reader.new.device)
         (W.contents writer.old.device) (W.contents writer.new.device)
         (S.content (kept_by desk.old)) (S.content (kept_by desk.new))
-        (HasFailed reader.old.failures reader.new.failures ⊎ HasFailed writer.old.failures writer.new.failures) result }
+        (HasFailed reader.old.failures reader.new.failures) (HasFailed writer.old.failures writer.new.failures) result }
     ensures sane { SaneThen Sane (S.content (kept_by desk.old)) (S.content (kept_by desk.new)) }
     ensures unique { SaneThen HasUniqueSolutions (S.content (kept_by desk.old)) (S.content (kept_by desk.new)) }
     ensures right { SaneThen RightAnswersAreSolutions (S.content (kept_by desk.old)) (S.content (kept_by desk.new)) }
 {
-    answer_records(alloc, desk, reader, writer)
+    let (routes, inbox) = routes_and_inbox(alloc)?;
+    answer_records(alloc, &routes, inbox, desk, reader, writer)
 }
 
-/// Answers the records of the input, and writes the replies.
+/// Answers the records of the input, and writes the replies, with an empty inbox.
 fn answer_records<R: Read, W: Write, S: Store>(
     alloc: Global,
+    routes: &Routes,
+    mut inbox: Inbox,
     desk: &mut Desk<S>,
     reader: &mut Counted<R>,
     writer: &mut Counted<W>,
 ) -> Result<(), ReplayFault>
+    requires { inbox ≡ [] }
     ensures { IsReplayed (R.remaining reader.old.device) (R.remaining reader.new.device)
         (W.contents writer.old.device) (W.contents writer.new.device)
         (S.content (kept_by desk.old)) (S.content (kept_by desk.new))
-        (HasFailed reader.old.failures reader.new.failures ⊎ HasFailed writer.old.failures writer.new.failures) result }
+        (HasFailed reader.old.failures reader.new.failures) (HasFailed writer.old.failures writer.new.failures) result }
 {
-    let routes = Routes::new(alloc)?;
-    let mut inbox = Inbox::new(alloc)?;
     let mut reads = 0;
     'records: loop {
         match cut_record(inbox.unread()) {
             Cut::Whole { moment, start, end } => {
                 let answer = answer_bytes(
                     alloc,
-                    &routes,
+                    routes,
                     desk,
                     moment,
                     &inbox.unread()[start..end],
@@ -97,7 +109,7 @@ fn answer_records<R: Read, W: Write, S: Store>(
                     Ok(true) => {}
                     Ok(false) => return end_of_input(inbox.unread()),
                     Err(ReadFault::Device) => return Err(ReplayFault::Device),
-                    Err(ReadFault::Memory) => return Err(ReplayFault::Memory),
+                    Err(ReadFault::Memory) => unreachable!(),
                 }
             }
             Cut::Never => return Err(ReplayFault::Record),

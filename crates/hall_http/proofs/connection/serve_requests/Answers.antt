@@ -32,5 +32,6 @@ returns-in-Failed g c =
 
 pub returns-in-Never : goal.returns-in-Never
 returns-in-Never g c =
-    never_request _ _ _ _ _ _ _ _ _ _ _ _ _ c.loop-requests.invariant.kept _ _ c.loop-requests.invariant.few _ _ _ _
+    never_request _ _ _ _ _ _ _ _ _ _ _ _ _ c.loop-requests.invariant.kept _ _ c.loop-requests.invariant.few
+    c.loop-requests-test.true _ _ _ _
     (rw c.unread.ensures at c.in-Never.ensures) c.refuse.ensures (λ rose. rw c.loop-requests.invariant.writer at rose)

@@ -1,9 +1,7 @@
-use Rattle.std.proofs.Common.{◌≡◌, ◌∙◌, ℕ, List, inl, inr, refl, sym, subst, rules, arith, Err, []}
+use Rattle.std.proofs.Common.{◌∙◌, ℕ, List, refl, sym, subst, arith}
 use Rattle.hall_desk.specs.Desk.{kept_by}
-use Rattle.std.proofs.KnownBytes.{Consumes-nil}
-use Rattle.hall_http.specs.declared.fault.ReplayFault.TheVariants as fault
 use Rattle.hall_http.proofs.Turns.{Kept, kept_start, kept_read, kept_answered, unsent}
-use Rattle.hall_http.proofs.Turns.{unread_device, no_memory, never_record, at_end, too_many}
+use Rattle.hall_http.proofs.Turns.{unread_device, never_record, at_end, too_many}
 use Rattle.hall_http.proofs.session.answer_records.Goals as goal
 
 pub records-init : goal.records-init
@@ -14,25 +12,15 @@ records-init g c = record {
   kept = subst (λ (unread : List ℕ). Kept (g.R.Read.remaining c.args.reader.now.device) (g.R.Read.remaining c.args.reader.now.device)
       (g.W.Write.contents c.args.writer.now.device) (g.W.Write.contents c.args.writer.now.device)
       (g.S.Store.content (kept_by c.args.desk.now)) (g.S.Store.content (kept_by c.args.desk.now)) unread 0)
-      (sym c.in_ok-inbox.ensures) (kept_start _ _ (g.S.Store.content (kept_by c.args.desk.now)));
+      (sym c.requires) (kept_start _ _ (g.S.Store.content (kept_by c.args.desk.now)));
 }
-
-pub returns-in_err-routes : goal.returns-in_err-routes
-returns-in_err-routes g c =
-    let ends : c.from_residual.result ≡ Err fault.Memory = search rules in
-    rw ends (no_memory _ _ _ _ _ _ _ _ (kept_start _ _ _) _ _ [] (Consumes-nil _))
-
-pub returns-in_err-inbox : goal.returns-in_err-inbox
-returns-in_err-inbox g c =
-    let ends : c.from_residual-in_err-inbox.result ≡ Err fault.Memory = search rules in
-    rw ends (no_memory _ _ _ _ _ _ _ _ (kept_start _ _ _) _ _ [] (Consumes-nil _))
 
 pub returns-in-Err : goal.returns-in-Err
 returns-in-Err g c =
     let (r, late, whole) = rw c.unread.ensures at c.in-Whole.ensures in
     let says = rw (c.unread-in-Whole.ensures, ← late) at c.answer_bytes-answer.ensures.answers in
     unsent _ _ _ _ _ _ _ _ c.records.invariant.kept r c.in-Whole.start c.in-Whole.end _ _ whole c.answer_bytes-answer.ensures.leads says _
-    _ c.in-Err.ensures.part (inr (rw c.records.invariant.writer at c.in-Err.ensures.device))
+    _ _ c.in-Err.ensures.part (rw c.records.invariant.writer at c.in-Err.ensures.device)
 
 pub records-preserved-in-Ok : goal.records-preserved-in-Ok
 records-preserved-in-Ok g c =
@@ -54,29 +42,27 @@ records-preserved g c =
       few = omega (arith, c.records.invariant.few, c.if-reads-eq-READ_LIMIT.false);
       reader = steady ∙ c.records.invariant.reader;
       writer = c.records.invariant.writer;
-      kept = rw same (kept_read _ _ _ _ _ _ _ _ c.records.invariant.kept _ piece some more);
+      kept = rw same (kept_read _ _ _ _ _ _ _ _ c.records.invariant.kept _ piece some few
+          (rw c.unread.ensures at c.in-More.ensures).1 more);
     }
 
 pub returns-in-Err-Device : goal.returns-in-Err-Device
 returns-in-Err-Device g c =
     let (same, none, rose) = rw c.in-Err-Device.field-0-is at c.in-Err-Device.ensures in
-    unread_device _ _ _ _ _ _ _ _ c.records.invariant.kept _ _ none (inl (rw c.records.invariant.reader at rose))
-
-pub returns-in-Err-Memory : goal.returns-in-Err-Memory
-returns-in-Err-Memory g c =
-    let (many, piece, more, steady) = rw c.in-Err-Memory.field-0-is at c.in-Err-Memory.ensures in
-    no_memory _ _ _ _ _ _ _ _ c.records.invariant.kept _ _ piece more
+    unread_device _ _ _ _ _ _ _ _ c.records.invariant.kept _ _ _ none (rw c.unread.ensures at c.in-More.ensures).0
+    (rw c.records.invariant.reader at rose)
 
 pub returns-in-Never : goal.returns-in-Never
 returns-in-Never g c =
-    never_record _ _ _ _ _ _ _ _ c.records.invariant.kept _ (rw c.unread.ensures at c.in-Never.ensures)
+    never_record _ _ _ _ _ _ _ _ c.records.invariant.kept _ _ (rw c.unread.ensures at c.in-Never.ensures)
 
 pub returns-then-reads-eq-READ_LIMIT : goal.returns-then-reads-eq-READ_LIMIT
 returns-then-reads-eq-READ_LIMIT g c =
-    too_many _ _ _ _ _ _ _ _ c.records.invariant.kept _ (omega (arith, c.if-reads-eq-READ_LIMIT.true))
+    too_many _ _ _ _ _ _ _ _ c.records.invariant.kept _ _ (rw c.unread.ensures at c.in-More.ensures).0
+    (omega (arith, c.if-reads-eq-READ_LIMIT.true))
 
 pub returns-in-Ok-false : goal.returns-in-Ok-false
 returns-in-Ok-false g c =
     let ends = rw c.in-Ok-false.field-0-test at c.in-Ok-false.ensures in
-    at_end _ _ _ _ _ _ _ _ c.records.invariant.kept _ c.end_of_input.result _ c.read_more.new.self _ _ ends
-    (rw c.unread.ensures at c.in-More.ensures) (rw c.unread-in-Ok-false.ensures at c.end_of_input.ensures)
+    at_end _ _ _ _ _ _ _ _ c.records.invariant.kept _ _ c.end_of_input.result _ c.read_more.new.self _ _ ends
+    (rw c.unread.ensures at c.in-More.ensures).0 (rw c.unread-in-Ok-false.ensures at c.end_of_input.ensures)
