@@ -11,5 +11,6 @@ pub mod Headers
 pub mod Cutting
 pub mod Turns
 pub mod Refusals
+pub mod Requests
 pub mod Exchanges
 pub mod Runs

@@ -39,6 +39,10 @@ pub record IsRefused (bytes text : List ℕ) : Type 0 where
   pub reads : RequestOf bytes (Err found)
   pub written : FaultBytesOf found text
 
+-- the text names the fault, or for want of memory is 503
+abbrev pub AnswersFault : FormFault → List ℕ → Type 0
+AnswersFault found text = FaultBytesOf found text ⊎ BytesOf NotServed text
+
 -- the bytes are answered: by a step of the hall; or by the fault of their form, or for want of memory by 503,
 -- and the world stays
 abbrev pub Answers : World → ℕ → List ℕ → List ℕ → World → Type 0
@@ -52,3 +56,13 @@ AnswersOver old moment bytes text new = Over (λ before after. Answers before mo
 -- the text is that of the reply of a step of the hall for the request, over a store
 abbrev pub IsStepReplyOver : Content → ℕ → Request → List ℕ → Content → Type 0
 IsStepReplyOver old moment request text new = Over (λ before after. IsStepReply before moment request text after) old new
+
+-- the request is answered: by a step of the hall; or by 503, and the world stays
+abbrev pub AnswersRequest : World → ℕ → Request → List ℕ → World → Type 0
+AnswersRequest world moment request text after =
+    IsStepReply world moment request text after ⊎ (BytesOf NotServed text × (after ≡ world))
+
+-- the same over a store
+abbrev pub AnswersRequestOver : Content → ℕ → Request → List ℕ → Content → Type 0
+AnswersRequestOver old moment request text new =
+    Over (λ before after. AnswersRequest before moment request text after) old new

@@ -63,3 +63,7 @@ abbrev pub RequestOf : List ℕ → Result Request FormFault → Type 0
 RequestOf bytes outcome =
     (¬ (IsWhole bytes) × (outcome ≡ Err fault.NotWhole))
     ⊎ ((head : RequestHead) × (body : List ℕ) × IsRequest bytes head body × AskedOf head body outcome)
+
+-- the bytes are one whole request of the hall
+abbrev pub AsksRequest : List ℕ → Type 0
+AsksRequest bytes = (request : Request) × RequestOf bytes (Ok request)

@@ -1,10 +1,14 @@
 //! Bytes to bytes: a request is read, a step of the hall made, and its reply written.
 ghost use Rattle.std.specs.Prelude.{◌≡◌, IfOk, OnErr, string_bytes};
 ghost use Rattle.hall_store.specs.Store.{Leads};
-ghost use Rattle.hall_desk.specs.Desk.{kept_by};
-ghost use Rattle.hall_http.specs.Answered.{answer_text, AnswersOver, IsStepReplyOver};
+ghost use Rattle.hall_desk.specs.Desk.{kept_by, SaneThen};
+ghost use Rattle.hall_desk.specs.Promises.{HasUniqueSolutions, RightAnswersAreSolutions};
+ghost use Rattle.hall_desk.specs.Run.{IsTimed};
+ghost use Rattle.hall_desk.specs.Sane.{Sane};
+ghost use Rattle.hall_http.specs.Answered.{answer_text, AnswersFault, AnswersOver, AnswersRequestOver, IsStepReplyOver};
+ghost use Rattle.hall_http.specs.Request.{AsksRequest};
 
-use crate::form::RequestFault;
+use crate::form::{FormFault, RequestFault};
 use crate::reply::{UNAVAILABLE, fault_bytes, reply_bytes};
 use crate::request::request_of;
 use crate::routes::Routes;
@@ -36,7 +40,8 @@ impl Answer {
 /// Answers the bytes of one request at the moment, and makes its change.
 ///
 /// The reply is there before the change: where either is refused, nothing is changed, and the answer is 503. Bytes that
-/// aren't one whole request are answered by the first fault of their form, and no rule is asked.
+/// aren't one whole request are answered by the first fault of their form; no rule is asked, and the desk stays as it
+/// was. A sane world stays sane.
 pub fn answer_bytes<S: Store>(
     alloc: Global,
     routes: &Routes,
@@ -47,27 +52,51 @@ pub fn answer_bytes<S: Store>(
     ensures leads { Leads (S.content (kept_by desk.old)) (S.content (kept_by desk.new)) }
     ensures answers { (S.content (kept_by desk.new)).honest →
         AnswersOver (S.content (kept_by desk.old)) moment bytes.now (answer_text result) (S.content (kept_by desk.new)) }
+    ensures untouched { ¬ (AsksRequest bytes.now) → desk.new ≡ desk.old }
+    ensures sane { SaneThen Sane (S.content (kept_by desk.old)) (S.content (kept_by desk.new)) }
+    ensures unique { SaneThen HasUniqueSolutions (S.content (kept_by desk.old)) (S.content (kept_by desk.new)) }
+    ensures right { SaneThen RightAnswersAreSolutions (S.content (kept_by desk.old)) (S.content (kept_by desk.new)) }
 {
     match request_of(alloc, routes, bytes) {
-        Ok(request) => {
-            // They are read for the ranges that their types keep.
-            let _moment = moment.get();
-            request.in_range();
-            match answer_request(alloc, desk, moment, &request) {
-                Ok(text) => Answer::Text(text),
-                Err(_) => Answer::Unavailable,
-            }
-        }
-        Err(RequestFault::Form(fault)) => match fault_bytes(alloc, fault) {
-            Ok(text) => Answer::Text(text),
-            Err(_) => Answer::Unavailable,
-        },
+        Ok(request) => answer_request(alloc, desk, moment, &request),
+        Err(RequestFault::Form(fault)) => answer_fault(alloc, fault),
         Err(RequestFault::Memory) => Answer::Unavailable,
     }
 }
 
-/// The bytes of a request's reply, once its change is made.
+/// The answer to bytes that are no request.
+fn answer_fault(alloc: Global, fault: FormFault) -> Answer
+    ensures { AnswersFault fault (answer_text result) }
+{
+    match fault_bytes(alloc, fault) {
+        Ok(text) => Answer::Text(text),
+        Err(_) => Answer::Unavailable,
+    }
+}
+
+/// The answer to a request, once its change is made.
 fn answer_request<S: Store>(
+    alloc: Global,
+    desk: &mut Desk<S>,
+    moment: Moment,
+    request: &Request,
+) -> Answer
+    ensures leads { Leads (S.content (kept_by desk.old)) (S.content (kept_by desk.new)) }
+    ensures timed { IsTimed (moment, request.now) }
+    ensures answers { (S.content (kept_by desk.new)).honest → AnswersRequestOver (S.content (kept_by desk.old))
+        moment request.now (answer_text result) (S.content (kept_by desk.new)) }
+{
+    // They are read for the ranges that their types keep.
+    let _moment = moment.get();
+    request.in_range();
+    match step_bytes(alloc, desk, moment, request) {
+        Ok(text) => Answer::Text(text),
+        Err(_) => Answer::Unavailable,
+    }
+}
+
+/// The bytes of a request's reply, once its change is made.
+fn step_bytes<S: Store>(
     alloc: Global,
     desk: &mut Desk<S>,
     moment: Moment,

@@ -1,31 +1,50 @@
-use Rattle.std.proofs.Common.{refl, inl, inr, arith}
-use Rattle.std.specs.String.{string_bytes}
+use Rattle.std.proofs.Common.{refl, inl, inr, List, ℕ}
 use Rattle.hall_desk.specs.Desk.{kept_by}
-use Rattle.hall_desk.specs.Run.{IsTimed}
-use Rattle.hall_http.specs.Answered.{Answers, IsStepReply}
+use Rattle.hall_desk.proofs.Promises.{unique_solutions, right_answers}
+use Rattle.hall_http.specs.Answered.{answer_text, Answers, AnswersRequest}
 use Rattle.hall_http.proofs.Refusals.{unavailable_reply}
+use Rattle.hall_http.proofs.Requests.{answers_bytes, request_sane}
 use Rattle.hall_store.proofs.Knowing.{over_turn}
 use Rattle.hall_http.proofs.answer.answer_bytes.Goals as goal
 
-pub returns-in-Ok-answer_request-clause-answers : goal.returns-in-Ok-answer_request-clause-answers
-returns-in-Ok-answer_request-clause-answers g c =
+pub returns-in-Ok-clause-answers : goal.returns-in-Ok-clause-answers
+returns-in-Ok-clause-answers g c =
     let t = c.args.moment in
     let request = c.in-Ok.request in
-    let text = string_bytes c.in-Ok-answer_request.text in
-    let timed : IsTimed (t, request) = record {
-      moment = (omega arith, omega (arith, c.get-moment.ensures.value, c.get-moment.ensures.most));
-      request = c.in_range.ensures;
-    } in
-    λ h. over_turn (λ before after. IsStepReply before t request text after) (λ before after. Answers before t c.args.bytes.now text after)
+    let text : List ℕ = answer_text c.answer_request.result in
+    λ h. over_turn (λ before after. AnswersRequest before t request text after) (λ before after. Answers before t c.args.bytes.now text after)
     (g.S.Store.content (kept_by c.args.desk.now)) (g.S.Store.content (kept_by c.answer_request.new.desk))
-    (λ before after step. inl (record { request = request; reply = step.0; reads = c.in-Ok.ensures; timed = timed; step = step.1; written = step.2 }))
-    (c.in-Ok-answer_request.ensures.ok h)
+    (λ before after says. answers_bytes before t c.args.bytes.now request text after c.in-Ok.ensures c.answer_request.ensures.timed says)
+    (c.answer_request.ensures.answers h)
 
-pub returns-in-Ok-clause-answers : goal.returns-in-Ok-clause-answers
-returns-in-Ok-clause-answers g c = λ h. inl ((λ world. inr (inr unavailable_reply, refl)), λ s. c.in-Err.ensures.err h s)
+pub returns-in-Ok-clause-sane : goal.returns-in-Ok-clause-sane
+returns-in-Ok-clause-sane g c = λ h s sane.
+    request_sane (g.S.Store.content (kept_by c.args.desk.now)) (g.S.Store.content (kept_by c.answer_request.new.desk))
+    c.args.moment c.in-Ok.request _ c.answer_request.ensures.timed (c.answer_request.ensures.answers h) s sane
 
-pub returns-in-Err-Form-clause-answers : goal.returns-in-Err-Form-clause-answers
-returns-in-Err-Form-clause-answers g c = λ h. inl ((λ world. inr (inr unavailable_reply, refl)), λ s. refl)
+pub returns-in-Ok-clause-unique : goal.returns-in-Ok-clause-unique
+returns-in-Ok-clause-unique g c = λ h s sane.
+    unique_solutions (g.S.Store.content (kept_by c.answer_request.new.desk)).world
+    (request_sane (g.S.Store.content (kept_by c.args.desk.now)) (g.S.Store.content (kept_by c.answer_request.new.desk))
+    c.args.moment c.in-Ok.request _ c.answer_request.ensures.timed (c.answer_request.ensures.answers h) s sane)
 
-pub returns-clause-answers : goal.returns-clause-answers
-returns-clause-answers g c = λ h. inl ((λ world. inr (inr unavailable_reply, refl)), λ s. refl)
+pub returns-in-Ok-clause-right : goal.returns-in-Ok-clause-right
+returns-in-Ok-clause-right g c = λ h s sane.
+    right_answers (g.S.Store.content (kept_by c.answer_request.new.desk)).world
+    (request_sane (g.S.Store.content (kept_by c.args.desk.now)) (g.S.Store.content (kept_by c.answer_request.new.desk))
+    c.args.moment c.in-Ok.request _ c.answer_request.ensures.timed (c.answer_request.ensures.answers h) s sane)
+
+pub returns-in-Err-Form-clause-unique : goal.returns-in-Err-Form-clause-unique
+returns-in-Err-Form-clause-unique g c = λ h s sane. unique_solutions (g.S.Store.content (kept_by c.args.desk.now)).world sane
+
+pub returns-in-Err-Form-clause-right : goal.returns-in-Err-Form-clause-right
+returns-in-Err-Form-clause-right g c = λ h s sane. right_answers (g.S.Store.content (kept_by c.args.desk.now)).world sane
+
+pub returns-in-Err-Memory-clause-answers : goal.returns-in-Err-Memory-clause-answers
+returns-in-Err-Memory-clause-answers g c = λ h. inl ((λ world. inr (inr unavailable_reply, refl)), λ s. refl)
+
+pub returns-in-Err-Memory-clause-unique : goal.returns-in-Err-Memory-clause-unique
+returns-in-Err-Memory-clause-unique g c = λ h s sane. unique_solutions (g.S.Store.content (kept_by c.args.desk.now)).world sane
+
+pub returns-in-Err-Memory-clause-right : goal.returns-in-Err-Memory-clause-right
+returns-in-Err-Memory-clause-right g c = λ h s sane. right_answers (g.S.Store.content (kept_by c.args.desk.now)).world sane

@@ -1,29 +1,31 @@
-use Rattle.std.proofs.Common.{refl, subst}
+use Rattle.std.proofs.Common.{refl, inl, inr, arith}
 use Rattle.std.specs.String.{string_bytes}
-use Rattle.hall_store.specs.declared.fault.StoreFault.{StoreFault}
 use Rattle.hall_desk.specs.Desk.{kept_by}
-use Rattle.hall_desk.specs.Plan.{planned_reply}
-use Rattle.hall_desk.specs.Step.{Step}
-use Rattle.hall_desk.specs.declared.reply.Reply.{Reply}
-use Rattle.hall_desk.proofs.Stepping.{planned_steps}
-use Rattle.hall_http.specs.Reply.{BytesOf}
-use Rattle.hall_http.specs.Answered.{IsStepReply}
+use Rattle.hall_http.specs.Answered.{AnswersRequest, IsStepReply}
+use Rattle.hall_http.proofs.Refusals.{unavailable_reply}
 use Rattle.hall_store.proofs.Knowing.{over_turn}
 use Rattle.hall_http.proofs.answer.answer_request.Goals as goal
 
-pub returns-clause-ok : goal.returns-clause-ok
-returns-clause-ok g c =
+pub returns-in-Ok-clause-timed : goal.returns-in-Ok-clause-timed
+returns-in-Ok-clause-timed g c = record {
+  moment = (omega arith, omega (arith, c.get-moment.ensures.value, c.get-moment.ensures.most));
+  request = c.in_range.ensures;
+}
+
+pub returns-in-Err-clause-timed : goal.returns-in-Err-clause-timed
+returns-in-Err-clause-timed g c = record {
+  moment = (omega arith, omega (arith, c.get-moment.ensures.value, c.get-moment.ensures.most));
+  request = c.in_range.ensures;
+}
+
+pub returns-in-Ok-clause-answers : goal.returns-in-Ok-clause-answers
+returns-in-Ok-clause-answers g c =
     let t = c.args.moment in
     let request = c.args.request.now in
-    let plan = c.in_ok-plan.plan in
-    let given = planned_reply plan in
-    let text = string_bytes c.in_ok-text.text in
-    let planned = c.in_ok-plan.ensures in
-    let made = c.in_ok-_reply.ensures.makes in
-    let old = g.S.Store.content (kept_by c.args.desk.now) in
-    let mid = g.S.Store.content (kept_by c.plan.new.self) in
-    let new = g.S.Store.content (kept_by c.commit.new.self) in
-    let written = subst (λ (reply : Reply). BytesOf reply text) c.reply.ensures c.in_ok-text.ensures in
-    λ h. over_turn (λ before after. Step before t request given after) (λ before after. IsStepReply before t request text after) old new
-    (λ before after step. (given, step, written))
-    (planned_steps t request StoreFault old mid new plan given planned.kept planned.planned made.leads refl made.made h)
+    let text = string_bytes c.in-Ok.text in
+    λ h. over_turn (λ before after. IsStepReply before t request text after) (λ before after. AnswersRequest before t request text after)
+    (g.S.Store.content (kept_by c.args.desk.now)) (g.S.Store.content (kept_by c.step_bytes.new.desk))
+    (λ before after step. inl step) (c.in-Ok.ensures.ok h)
+
+pub returns-in-Err-clause-answers : goal.returns-in-Err-clause-answers
+returns-in-Err-clause-answers g c = λ h. inl ((λ world. inr (unavailable_reply, refl)), λ s. c.in-Err.ensures.err h s)
