@@ -1,19 +1,18 @@
 -- The first request of some bytes, by the head at their front.
-use Rattle.std.proofs.Common.{◌≡◌, ◌∙◌, sym, ap, refl, ℕ, ◌+◌, ◌-◌, ◌<◌, ◌≤◌, List, [], ◌∷◌, ◌++◌, length, take, drop, map, arith, append_assoc, length-append, Option, Some, None, true, false, cond, if◌then◌else◌, rules}
+use Rattle.std.proofs.Common.{◌≡◌, ◌∙◌, sym, ap, refl, ℕ, ◌+◌, ◌<◌, ◌≤◌, List, [], ◌++◌, length, take, drop, map, arith, append_assoc, length-append, Option, Some, None, true, false, if◌then◌else◌}
 use Rattle.std.proofs.lemmas.Option.{same_Some}
 use Rattle.std.proofs.lemmas.List.{length-map, length-take-le, append-nil, take-append-le, take-append-drop, take_at}
 use Rattle.std.proofs.Math.Seq.{take-append-add}
-use Rattle.std.proofs.lemmas.Bool.{and_parts, cases_Bool}
+use Rattle.std.proofs.lemmas.Bool.{and_parts}
 use Rattle.std.specs.Prelude.{nat_le, ◌&&◌, Bool}
-use Rattle.hall_http.specs.Head.{named, within, body_limit, length_in, Header, field_limit}
+use Rattle.hall_http.specs.Head.{named, Header, field_limit}
 use Rattle.std.specs.Prelude.{codes, ◌==◌}
-use Rattle.std.proofs.lemmas.Grind.{common_steps}
 use Rattle.httparse.specs.Grammar.{RequestHead, ReadsRequest, HasNoRequest, print_request}
 use Rattle.httparse.specs.Spans.{RequestOverflows, name_and_value, header_bytes, IsRequestAt}
 use Rattle.httparse.specs.declared.spans.HeaderSpan.{HeaderSpan}
 use Rattle.httparse.specs.declared.spans.RequestSpans.{RequestSpans}
 use Rattle.httparse.proofs.GrammarLemmas.{ReadsRequest-append, request_prefix_free}
-use Rattle.hall_http.specs.Head.{body_size, headers_of, IsRequest, IsWhole, HasNone, NeverHas, head_limit, is_accepted}
+use Rattle.hall_http.specs.Head.{body_size, headers_of, IsWhole, HasNone, NeverHas, head_limit, is_accepted}
 
 size_of : RequestHead → Option ℕ
 size_of h = body_size (length (print_request h)) (headers_of h)

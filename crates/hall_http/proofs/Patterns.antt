@@ -1,16 +1,14 @@
 -- The table of patterns goes into a router without a conflict.
-use Rattle.std.proofs.Common.{◌≡◌, ◌∙◌, List, [], ◌∷◌, ℕ, Bool, true, false, refl, sym, Result, Ok, Err, None, Some, ◌&&◌, inl, inr, Option, cond, rules}
+use Rattle.std.proofs.Common.{◌≡◌, ◌∙◌, List, [], ℕ, true, refl, sym, Result, Ok, Err, Some, ◌&&◌, inl, inr}
 use Rattle.std.specs.Prelude.{not, is_some}
-use Rattle.matchit.specs.Router.{RouteOf, route_from, InsertsRead, Inserted, nearest, Refused}
+use Rattle.matchit.specs.Router.{InsertsRead, nearest, Refused}
 use Rattle.matchit.specs.Route.{Scan, parse_route}
-use Rattle.matchit.specs.Rows.{RowsOf}
 use Rattle.matchit.specs.declared.error.InsertError.{InsertError}
 use Rattle.matchit.specs.declared.error.InsertError.TheVariants as error
 use Rattle.matchit.proofs.OnLiterals.{matchit_on_literals}
 use Rattle.hall_http.specs.Routes.{Table, added, is_free, are_free, rows_from, patterns}
 use Rattle.hall_http.specs.declared.routes.Place.{Place}
-use Rattle.std.proofs.Common.{◌<◌, ◌≤◌, ◌+◌, length, drop, get_or, map, Bor}
-use Rattle.std.proofs.lemmas.List.{at_drop_all}
+use Rattle.std.proofs.Common.{◌<◌, ◌+◌, length, drop, get_or, map, Bor}
 use Rattle.std.proofs.lemmas.List.{drop_more}
 use Rattle.std.proofs.lemmas.Bool.{and_parts}
 

@@ -1,5 +1,5 @@
 -- The answer to a request: of the bytes that asked for it, and what it leaves of a sane world.
-use Rattle.std.proofs.Common.{◌≡◌, sym, subst, ℕ, List, inl, inr}
+use Rattle.std.proofs.Common.{sym, subst, ℕ, List, inl, inr}
 use Rattle.hall_policy.specs.World.{World}
 use Rattle.hall_policy.specs.declared.request.Request.{Request}
 use Rattle.hall_store.specs.Store.{Content}

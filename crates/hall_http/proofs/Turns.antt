@@ -1,13 +1,12 @@
 -- What the loop of a replay keeps, and how each of its ends follows.
 use Rattle.std.proofs.Common.{◌≡◌, ◌∙◌, sym, ap, subst, refl, arith, ℕ, zero, suc, ◌+◌, ◌<◌, ◌≤◌, inl, inr, List}
 use Rattle.std.proofs.Common.{[], ◌∷◌, ◌++◌, length, take, drop, Option, append_assoc, length-append, length-drop}
-use Rattle.std.specs.Prelude.{Result, Ok, Err, false, map, All, MatchResult}
+use Rattle.std.specs.Prelude.{Result, Ok, Err, false, All, MatchResult}
 use Rattle.std.proofs.lemmas.List.{append-nil, take-append-drop, map-append}
 use Rattle.std.proofs.lemmas.List.Concat.{flat_map-append}
 use Rattle.std.proofs.lemmas.List.Elements.{All-nil, All-push}
 use Rattle.std.proofs.KnownBytes.{Appends-nil, Appends-trans, Consumes-nil, Consumes-trans}
-use Rattle.std.specs.Io.KnownBytes.{Appends, Consumes, IsAtEnd}
-use Rattle.hall_policy.specs.World.{World}
+use Rattle.std.specs.Io.KnownBytes.{Appends, Consumes}
 use Rattle.hall_store.specs.Store.{Content, Leads}
 use Rattle.hall_http.specs.declared.fault.ReplayFault.{ReplayFault}
 use Rattle.hall_http.specs.declared.fault.ReplayFault.TheVariants as fault
@@ -15,7 +14,7 @@ use Rattle.hall_http.specs.Device.{WritesPart}
 use Rattle.hall_http.specs.Records.{Record, IsRecord, record_bytes, header_of, HasNoRecord, NeverHasRecord, IsCut}
 use Rattle.hall_http.specs.Records.{bytes_between}
 use Rattle.hall_http.specs.Answered.{Answers, AnswersOver}
-use Rattle.hall_http.specs.Replay.{AnsweredRecord, exchange_of, exchanges_of, records_of, replies_to, LacksRecord}
+use Rattle.hall_http.specs.Replay.{AnsweredRecord, exchange_of, exchanges_of, records_of, replies_to}
 use Rattle.hall_http.specs.Replay.{IsReplayed, Ended}
 use Rattle.hall_http.specs.Inbox.{ReadsMore}
 use Rattle.hall_http.proofs.Exchanges.{not_nil}

@@ -55,7 +55,8 @@ AnswersOver old moment bytes text new = Over (λ before after. Answers before mo
 
 -- the text is that of the reply of a step of the hall for the request, over a store
 abbrev pub IsStepReplyOver : Content → ℕ → Request → List ℕ → Content → Type 0
-IsStepReplyOver old moment request text new = Over (λ before after. IsStepReply before moment request text after) old new
+IsStepReplyOver old moment request text new =
+    Over (λ before after. IsStepReply before moment request text after) old new
 
 -- the request is answered: by a step of the hall; or by 503, and the world stays
 abbrev pub AnswersRequest : World → ℕ → Request → List ℕ → World → Type 0

@@ -1,5 +1,6 @@
 -- The records of a replay.
-use Rattle.std.specs.Prelude.{◌≡◌, ◌≢◌, ◌<◌, ◌≤◌, ◌-◌, ◌&&◌, nat_le, if◌then◌else◌, ℕ, List, ◌∷◌, ◌++◌, length, take, drop}
+use Rattle.std.specs.Prelude.{◌≡◌, ◌≢◌, ◌<◌, ◌≤◌, ◌-◌, ◌&&◌, nat_le, if◌then◌else◌, ℕ, List, ◌∷◌, ◌++◌, length}
+use Rattle.std.specs.Prelude.{take, drop}
 use Rattle.std.specs.Prelude.{flat_map, All, Option, Some, None, option_and_then, codes, decimal}
 use Rattle.hall_http.specs.declared.record.Cut.{Cut}
 use Rattle.hall_http.specs.declared.record.Cut.TheVariants.{Whole, More, Never}
@@ -65,7 +66,8 @@ pub record IsCut (bytes : List ℕ) (r : Record) (start end : ℕ) : Type 0 wher
   pub request : r.request ≡ bytes_between bytes start end
   pub whole : take end bytes ≡ record_bytes r
 
--- what stands at the front: a whole record; none so far, in fewer bytes than the longest has; none, however the bytes go on
+-- what stands at the front: a whole record; none so far, in fewer bytes than the longest one has; none, however the
+-- bytes go on
 abbrev pub Cuts : List ℕ → Cut → Type 0
 Cuts bytes (Whole moment start end) = (r : Record) × (r.moment ≡ moment) × IsCut bytes r start end
 Cuts bytes More = HasNoRecord bytes × (length bytes < record_limit)

@@ -43,7 +43,8 @@ head_bytes s m = codes "HTTP/1.1 " ++ (status_words s ++ (codes "\r\nContent-Typ
 
 -- the status line, two header lines, an empty line and the body
 abbrev pub wire_bytes : Status → MediaType → List ℕ → List ℕ
-wire_bytes s m body = head_bytes s m ++ ((codes "\r\nContent-Length: " ++ (decimal (length body) ++ codes "\r\n\r\n")) ++ body)
+wire_bytes s m body =
+    head_bytes s m ++ ((codes "\r\nContent-Length: " ++ (decimal (length body) ++ codes "\r\n\r\n")) ++ body)
 
 -- a member that is a text, and one that is a number, before further members
 abbrev pub text_member : List ℕ → List ℕ → Members → Members

@@ -1,5 +1,6 @@
 -- The patterns of the hall, and the route of a path.
-use Rattle.std.specs.Prelude.{◌≡◌, ℕ, List, [], ◌∷◌, Bool, true, false, ◌&&◌, not, Option, Some, None, is_some, Result, Ok, Err, codes, option_map}
+use Rattle.std.specs.Prelude.{ℕ, List, [], ◌∷◌, Bool, true, false, ◌&&◌, not}
+use Rattle.std.specs.Prelude.{Option, is_some, Result, Ok, Err, codes, option_map}
 use Rattle.matchit.specs.Rows.{RowsOf}
 use Rattle.matchit.specs.Order.{placed}
 use Rattle.matchit.specs.Router.{RouteOf, route_from, nearest}
@@ -42,7 +43,8 @@ is_free value (Err e) rows = false
 
 unfoldable pub are_free : Table → List (List ℕ × Place) → Bool
 are_free rows [] = true
-are_free rows ((text, value) ∷ more) = is_free value (parse_route text) rows && are_free (added value (parse_route text) rows) more
+are_free rows ((text, value) ∷ more) =
+    is_free value (parse_route text) rows && are_free (added value (parse_route text) rows) more
 
 abbrev pub patterns : List (List ℕ × Place)
 patterns =
@@ -112,7 +114,8 @@ found path = option_map (λ route. (route.value, parts_of (parameters path route
 
 -- the key of a puzzle: its author and label
 abbrev pub puzzle_key_in : Parts → Result PuzzleKey FormFault
-puzzle_key_in p = word_in p.first >>= (λ author. word_in p.second >>= (λ label. Ok (record { author = author; label = label })))
+puzzle_key_in p =
+    word_in p.first >>= (λ author. word_in p.second >>= (λ label. Ok (record { author = author; label = label })))
 
 -- what the place and its parts name, by the method
 abbrev pub route_at : List ℕ → Place → Parts → Result Route FormFault
@@ -120,7 +123,8 @@ route_at method place.Puzzle p =
     is_method (codes "PUT") method >>= (λ _. puzzle_key_in p >>= (λ key. Ok (route.Puzzle key)))
 route_at method place.Certificate p =
     is_method (codes "POST") method >>= (λ _. puzzle_key_in p >>= (λ key. Ok (route.Certificate key)))
-route_at method place.Round p = is_method (codes "GET") method >>= (λ _. word_in p.first >>= (λ id. Ok (route.Round id)))
+route_at method place.Round p =
+    is_method (codes "GET") method >>= (λ _. word_in p.first >>= (λ id. Ok (route.Round id)))
 route_at method place.Release p =
     is_method (codes "POST") method >>= (λ _. word_in p.first >>= (λ id. Ok (route.Release id)))
 route_at method place.Answers p =

@@ -50,8 +50,8 @@ pub fn answer_bytes<S: Store>(
     bytes: &[u8],
 ) -> Answer
     ensures leads { Leads (S.content (kept_by desk.old)) (S.content (kept_by desk.new)) }
-    ensures answers { (S.content (kept_by desk.new)).honest →
-        AnswersOver (S.content (kept_by desk.old)) moment bytes.now (answer_text result) (S.content (kept_by desk.new)) }
+    ensures answers { (S.content (kept_by desk.new)).honest → AnswersOver (S.content (kept_by desk.old))
+        moment bytes.now (answer_text result) (S.content (kept_by desk.new)) }
     ensures untouched { ¬ (AsksRequest bytes.now) → desk.new ≡ desk.old }
     ensures sane { SaneThen Sane (S.content (kept_by desk.old)) (S.content (kept_by desk.new)) }
     ensures unique { SaneThen HasUniqueSolutions (S.content (kept_by desk.old)) (S.content (kept_by desk.new)) }

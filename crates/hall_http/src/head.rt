@@ -2,7 +2,8 @@
 ghost use Rattle.std.specs.Prelude.{◌≡◌, ◌≤◌, ℕ, List, length, map, All, ◌++◌, ◌∷◌, [], MatchOption, option_map, codes};
 ghost use Rattle.std.specs.Str.{str_eq_ignore_ascii_case};
 ghost use Rattle.httparse.specs.Spans.{IsHeaderWithin, header_bytes, span_bytes};
-ghost use Rattle.hall_http.specs.Head.{named, Header, Finds, Cuts, IsWhole, first_value, IsLentBy, length_of_text, body_size};
+ghost use Rattle.hall_http.specs.Head.{named, Header, Finds, Cuts, IsWhole, first_value};
+ghost use Rattle.hall_http.specs.Head.{IsLentBy, length_of_text, body_size};
 
 use httparse::Status;
 use httparse::spans::{EMPTY_HEADER_SPAN, HeaderSpan, parse_request};
@@ -110,7 +111,8 @@ fn body_room(bytes: &[u8], headers: &[HeaderSpan], size: usize) -> Option<usize>
     Some(length)
 }
 
-/// Finds the end of the first request of the bytes: a head as `httparse` reads it, of at most 8,192 bytes and 32 headers, and a body as long as the head says.
+/// Finds the end of the first request of the bytes: a head as `httparse` reads it, of at most 8,192 bytes and 32
+/// headers, and a body as long as the head says.
 pub fn cut_request(bytes: &[u8]) -> Cut
     ensures { Cuts bytes.now result }
 {
@@ -164,7 +166,8 @@ pub(crate) fn read_whole(bytes: &[u8]) -> Option<Whole<'_>>
 fn key_of<'b>(bytes: &'b [u8], headers: &[HeaderSpan]) -> Option<&'b [u8]>
     requires { All (IsHeaderWithin (length bytes.now)) headers.now }
     ensures { length (named (codes "hall-key") (map (header_bytes bytes.now) headers.now)) ≤ 1 →
-        option_map (λ value. value.now) result ≡ first_value (named (codes "hall-key") (map (header_bytes bytes.now) headers.now)) }
+        option_map (λ value. value.now) result
+        ≡ first_value (named (codes "hall-key") (map (header_bytes bytes.now) headers.now)) }
 {
     match find_value(bytes, headers, b"hall-key") {
         Found::One(value) => Some(value),

@@ -39,7 +39,8 @@ pub(crate) fn fault_bytes(alloc: Global, fault: FormFault) -> Result<String, All
 /// A reply with a JSON body.
 fn json_bytes(alloc: Global, status: Status, body: &Value) -> Result<String, AllocError>
     requires { has_float (view body.now) ≡ false }
-    ensures { IfOk result (λ bytes. string_bytes bytes ≡ wire_bytes status MediaType.Json (compact_text (view body.now))) }
+    ensures { IfOk result (λ bytes.
+        string_bytes bytes ≡ wire_bytes status MediaType.Json (compact_text (view body.now))) }
 {
     let text = body.to_string(alloc)?;
     write_reply(alloc, status, MediaType::Json, text.as_str())

@@ -132,7 +132,8 @@ struct Parts<'p> {
     third: &'p str,
 }
 
-/// What the parameters took of the path. What comes after a missing one isn't told, so each is asked only behind another.
+/// What the parameters took of the path. What comes after a missing one isn't told, so each is asked only behind
+/// another.
 fn parts_of<'p>(params: &Params<'_, 'p>) -> Parts<'p>
     requires { AllAscii (walk params.now.pattern.now params.now.text.now params.now.path.now params.now.names.now 0 0) }
     ensures { parts_seen result ≡ parts_of

@@ -1,8 +1,8 @@
-use Rattle.std.proofs.Common.{rules, arith, ◌≡◌, ◌≤◌, ◌-◌, ◌+◌, ◌∙◌, sym, ap, length, take, drop, length-drop, Some, None}
+use Rattle.std.proofs.Common.{arith, ◌≡◌, ◌≤◌, ◌∙◌, sym, length, drop, length-drop, Some}
 use Rattle.hall_http.specs.Head.{body_size, headers_of}
 use Rattle.httparse.specs.Grammar.{print_request, HasNoRequest}
 use Rattle.httparse.specs.Spans.{IsRequestOf, IsRequestWithin}
-use Rattle.hall_http.proofs.Heads.{never_without, whole_at, never_past, never_over, size_at}
+use Rattle.hall_http.proofs.Heads.{never_without, whole_at, never_past, size_at}
 use Rattle.hall_http.proofs.head.cut_request.Goals as goal
 
 pub returns-in_default-body_room : goal.returns-in_default-body_room

@@ -1,7 +1,6 @@
-use Rattle.std.proofs.Common.{◌≡◌, ◌<◌, ◌≤◌, ◌-◌, get_or, arith, Fits, w64, ◌∙◌, true, sym}
+use Rattle.std.proofs.Common.{◌≡◌, ◌<◌, get_or, arith, ◌∙◌, true, sym}
 use Rattle.std.specs.Char.{digit_value, is_ascii_digit}
-use Rattle.std.specs.Str.Parse.{digits_value}
-use Rattle.std.proofs.lemmas.Int.Digits.{digits_value_more, digits_more}
+use Rattle.std.proofs.lemmas.Int.Digits.{digits_more}
 use Rattle.std.proofs.lemmas.Grind.{common_steps}
 use Rattle.hall_http.proofs.Digits.{digit_is, value_small, value_more}
 use Rattle.hall_http.proofs.head.length_text.Goals as goal

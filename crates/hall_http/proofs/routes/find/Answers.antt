@@ -1,4 +1,3 @@
-use Rattle.std.proofs.Common.{rules}
 use Rattle.hall_http.proofs.Parts.{all_ascii, IsAscii-from_all}
 use Rattle.hall_http.proofs.routes.find.Goals as goal
 

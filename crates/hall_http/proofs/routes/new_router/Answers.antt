@@ -1,5 +1,3 @@
-use Rattle.std.proofs.Common.{rules}
-use Rattle.hall_http.specs.Routes.{rows_from}
 use Rattle.hall_http.proofs.Patterns.{patterns_free}
 use Rattle.hall_http.proofs.routes.new_router.Goals as goal
 

@@ -1,4 +1,4 @@
-use Rattle.std.proofs.Common.{rules, sym}
+use Rattle.std.proofs.Common.{sym}
 use Rattle.hall_http.proofs.Parts.{one_part, two_parts, three_parts}
 use Rattle.hall_http.proofs.routes.parts_of.Goals as goal
 

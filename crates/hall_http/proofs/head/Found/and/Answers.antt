@@ -1,4 +1,4 @@
-use Rattle.std.proofs.Common.{rules, refl}
+use Rattle.std.proofs.Common.{refl}
 use Rattle.hall_http.proofs.head.Found.and.Goals as goal
 
 pub returns-in-None : goal.returns-in-None
