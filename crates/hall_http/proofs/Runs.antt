@@ -9,7 +9,9 @@ use Rattle.hall_desk.specs.Desk.{SaneThen}
 use Rattle.hall_desk.proofs.StepsSane.{run_sane}
 use Rattle.hall_http.specs.Head.{IsWhole}
 use Rattle.hall_http.specs.Connection.{Exchange, Session}
+use Rattle.std.specs.Prelude.{Result, Ok, Err, IfOk, OnErr}
 use Rattle.hall_http.specs.Served.{IsHandled, IsServed}
+use Rattle.hall_http.specs.Socket.{IsRunThrough}
 use Rattle.hall_http.specs.declared.connection.ServeEnd.{ServeEnd}
 use Rattle.hall_http.specs.Serving.{AnswersAt, IsAnswered, AreMoments, IsNotMade, IsRunOver, RunsOver}
 
@@ -158,3 +160,18 @@ module _ {H C : Type 0} (content : H → Content) (now_gives : C → Option ℕ 
   handled_sane e handled =
       runs_sane (content h) handled.exchanges (content i)
       (session_runs content now_gives h c handled.exchanges i d handled.session)
+
+-- what a connection leaves, however it ended
+pub run_through : {H C E : Type 0} (content : H → Content) (now_gives : C → Option ℕ → C → Type 0)
+    (stream after wrote written : Option (List ℕ)) (h : H) (c : C) (i : H) (d : C) (read_failed write_failed : Type 0)
+    (r : Result ServeEnd E)
+    → IfOk r (IsServed now_gives stream after wrote written (content h) (content i) c d read_failed write_failed)
+    → OnErr r (i ≡ h) → IsRunThrough (content h) (content i)
+run_through content now_gives stream after wrote written h c i d read_failed write_failed (Ok e) served same =
+    record { exchanges = served.exchanges; leads = served.leads; run = served.run }
+run_through content now_gives stream after wrote written h c i d read_failed write_failed (Err e) served same =
+    subst (λ i. IsRunThrough (content h) (content i)) (sym same) (record {
+      exchanges = [];
+      leads = record { honest = λ k. k; serves = λ k s. s };
+      run = λ k. onward_runs (content h) [] (content h) ((content h).world, refl, λ s. refl);
+    })

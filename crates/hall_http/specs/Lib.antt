@@ -13,5 +13,6 @@ pub mod Replay
 pub mod Inbox
 pub mod Connection
 pub mod Serving
+pub mod Socket
 pub mod Served
 pub mod Sending

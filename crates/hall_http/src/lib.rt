@@ -16,6 +16,7 @@ mod reply;
 mod request;
 mod routes;
 mod session;
+mod socket;
 mod status;
 mod words;
 
@@ -26,3 +27,4 @@ pub use fault::{DeviceFault, ReplayFault};
 pub use head::{Cut, cut_request};
 pub use routes::Routes;
 pub use session::replay;
+pub use socket::{SystemClock, serve_socket};
