@@ -27,6 +27,7 @@ const LAST_PATIENCE: u64 = 1;
 const LAST_READS: usize = 64;
 
 /// The system's clock, in whole Unix seconds.
+#[derive(Drop)]
 pub struct SystemClock<'t, T: time::Clock> {
     time: &'t T,
 }

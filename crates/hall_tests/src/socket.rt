@@ -1,0 +1,34 @@
+//! Connections over sockets.
+use hall_desk::{Desk, opening_store};
+use hall_http::{Clock, ServeEnd, SystemClock, serve_socket};
+use std::io;
+use std::io::Write;
+use std::net::{TcpListener, TcpStream};
+use std::test::Fail;
+
+#[test]
+fn the_last_reply_reaches_a_client_that_sends_more(rt: HostRuntime) -> Result<(), Fail> {
+    let listener = TcpListener::bind(&rt, "127.0.0.1:0")?;
+    let mut client = TcpStream::connect(&rt, listener.local_addr()?)?;
+    client.write_all(b"GET /nothing HTTP/1.1\r\n\r\nno request\r\n\r\n")?;
+    client.write_all(&[b'x'; 60_000])?;
+    let (stream, _) = listener.accept()?;
+    let mut desk = Desk::new(opening_store(rt.alloc())?);
+    let mut clock = SystemClock::new(&rt);
+    let ended = serve_socket(rt.alloc(), &mut desk, &stream, &mut clock)?;
+    assert!(rt; ended == ServeEnd::BadHead);
+    drop(stream);
+    let text = io::read_to_string(rt.alloc(), client)?;
+    assert!(rt; text.as_str().starts_with("HTTP/1.1 404 Not Found"));
+    assert!(rt; text.as_str().ends_with("{\"form\":\"F7\"}"));
+    Ok(())
+}
+
+#[test]
+fn the_systems_clock_tells_seconds_of_this_century(rt: HostRuntime) {
+    let Some(now) = SystemClock::new(&rt).now() else {
+        assert!(rt; false);
+        return;
+    };
+    assert!(rt; now.get() > 1_700_000_000);
+}
