@@ -1,1 +1,4 @@
 pub mod Given
+pub mod Words
+pub mod People
+pub mod Entry
