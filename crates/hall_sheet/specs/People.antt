@@ -24,9 +24,13 @@ abbrev pub three_in : List (List ℕ) → Option Fields
 three_in (name ∷ key ∷ roles ∷ []) = Some (record { name = name; key = key; roles = roles })
 three_in _ = None
 
--- the line that a record is: three fields, and each is UTF-8
+-- the fields of a record, each of which is UTF-8
+abbrev pub texts_in : List (List ℕ) → Result (List (List ℕ)) Refusal
+texts_in fields = unless Syntax (list_all is_utf8 fields) >>= (λ _. Ok fields)
+
+-- the line that a record is: three fields of text
 abbrev pub line_in : List (List ℕ) → Result Fields Refusal
-line_in fields = unless Syntax (list_all is_utf8 fields) >>= (λ _. or_refuse Syntax (three_in fields))
+line_in fields = texts_in fields >>= (λ texts. or_refuse Syntax (three_in texts))
 
 -- nothing, where no field of the line is empty
 abbrev pub filled_in : Fields → Result (Unit {0}) Refusal
@@ -81,6 +85,10 @@ spelled_in line =
     >>= (λ key. or_refuse (Range field.Roles) (roles_in line.roles)
     >>= (λ roles. Ok (record { name = name; key = key; roles = roles }))))
 
+-- the person of a record
+abbrev pub person_of : List (List ℕ) → Result Person Refusal
+person_of fields = line_in fields >>= spelled_in
+
 -- the person, where nobody before has the same name or the same key
 abbrev pub new_after : List Person → Person → Result Person Refusal
 new_after before person =
@@ -91,8 +99,7 @@ new_after before person =
 abbrev pub person_in : List Person → List (List ℕ) → Result Person Refusal
 person_in before fields =
     unless (Range field.List) (nat_lt (length before) 5000)
-    >>= (λ _. line_in fields)
-    >>= spelled_in
+    >>= (λ _. person_of fields)
     >>= new_after before
 
 -- these people, and then those of these records
@@ -105,13 +112,14 @@ abbrev pub is_header : Fields → Bool
 is_header line =
     bytes_eq line.name (codes "name") && bytes_eq line.key (codes "key") && bytes_eq line.roles (codes "roles")
 
+-- nothing, where the record is the header
+abbrev pub header_in : List (List ℕ) → Result (Unit {0}) Refusal
+header_in fields = line_in fields >>= (λ line. unless Syntax (is_header line))
+
 -- the people of these records, the first of which is the header
 abbrev pub people_of : List (List (List ℕ)) → Result (List Person) Refusal
 people_of [] = Err Syntax
-people_of (first ∷ more) =
-    line_in first
-    >>= (λ line. unless Syntax (is_header line))
-    >>= (λ _. people_from [] more)
+people_of (first ∷ more) = header_in first >>= (λ _. people_from [] more)
 
 -- the people of a list: its bytes are CSV, without the byte order mark where there is one
 abbrev pub people_in : List ℕ → Result (List Person) Refusal

@@ -1,7 +1,8 @@
 //! One person's line of an entry list.
-ghost use Rattle.std.specs.Prelude.{◌≡◌, option_map};
+ghost use Rattle.std.specs.Prelude.{◌≡◌};
 ghost use Rattle.csv.specs.Records.{fields_of};
-ghost use Rattle.hall_sheet.specs.Given.{Gives};
+ghost use Rattle.hall_sheet.specs.Given.{Gives, or_refuse};
+ghost use Rattle.hall_sheet.specs.declared.fault.Refusal.TheVariants.{Syntax};
 ghost use Rattle.hall_sheet.specs.People.{three_in, filled_in, spelled_in, is_header, roles_in};
 ghost use Rattle.hall_sheet.specs.Entry.{line_seen, with_role};
 
@@ -19,18 +20,14 @@ pub(crate) struct Line<'a> {
     roles: &'a str,
 }
 
-/// The fields of a row, where it has three.
-pub(crate) fn line_of(row: &StringRecord) -> Option<Line<'_>>
-    ensures { option_map line_seen result ≡ three_in (fields_of row.now) }
+/// The fields of a row that has three.
+pub(crate) fn read_line(row: &StringRecord) -> Result<Line<'_>, SheetFault>
+    ensures { Gives line_seen result (or_refuse Syntax (three_in (fields_of row.now))) }
 {
-    if row.len() != 3 {
-        return None;
+    match (row.len(), row.get(0), row.get(1), row.get(2)) {
+        (3, Some(name), Some(key), Some(roles)) => Ok(Line { name, key, roles }),
+        _ => Err(SheetFault::Refused(Refusal::Syntax)),
     }
-    Some(Line {
-        name: row.get(0)?,
-        key: row.get(1)?,
-        roles: row.get(2)?,
-    })
 }
 
 impl Line<'_> {
@@ -82,24 +79,28 @@ const NO_ROLES: Roles = Roles {
 fn with_role(roles: Roles, word: &[u8]) -> Option<Roles>
     ensures { result ≡ with_role roles word.now }
 {
-    match word {
-        b"director" if !roles.director => Some(Roles {
+    if word == b"director".as_slice() && !roles.director {
+        Some(Roles {
             director: true,
             ..roles
-        }),
-        b"author" if !roles.author => Some(Roles {
+        })
+    } else if word == b"author".as_slice() && !roles.author {
+        Some(Roles {
             author: true,
             ..roles
-        }),
-        b"referee" if !roles.referee => Some(Roles {
+        })
+    } else if word == b"referee".as_slice() && !roles.referee {
+        Some(Roles {
             referee: true,
             ..roles
-        }),
-        b"entrant" if !roles.entrant => Some(Roles {
+        })
+    } else if word == b"entrant".as_slice() && !roles.entrant {
+        Some(Roles {
             entrant: true,
             ..roles
-        }),
-        _ => None,
+        })
+    } else {
+        None
     }
 }
 
