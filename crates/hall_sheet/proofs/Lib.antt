@@ -1,3 +1,5 @@
 pub mod Texts
 pub mod Lines
 pub mod HasLeft
+pub mod TakesHeader
+pub mod IsListed

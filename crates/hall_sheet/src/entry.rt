@@ -76,25 +76,25 @@ const NO_ROLES: Roles = Roles {
 };
 
 /// The roles with the one that the word names, where it names one that isn't there yet.
-fn with_role(roles: Roles, word: &[u8]) -> Option<Roles>
+fn with_role(roles: Roles, word: &str) -> Option<Roles>
     ensures { result ≡ with_role roles word.now }
 {
-    if word == b"director".as_slice() && !roles.director {
+    if word == "director" && !roles.director {
         Some(Roles {
             director: true,
             ..roles
         })
-    } else if word == b"author".as_slice() && !roles.author {
+    } else if word == "author" && !roles.author {
         Some(Roles {
             author: true,
             ..roles
         })
-    } else if word == b"referee".as_slice() && !roles.referee {
+    } else if word == "referee" && !roles.referee {
         Some(Roles {
             referee: true,
             ..roles
         })
-    } else if word == b"entrant".as_slice() && !roles.entrant {
+    } else if word == "entrant" && !roles.entrant {
         Some(Roles {
             entrant: true,
             ..roles
@@ -109,8 +109,10 @@ fn read_roles(text: &str) -> Option<Roles>
     ensures { result ≡ roles_in text.now }
 {
     let mut roles = NO_ROLES;
-    for word in text.as_bytes().split(|byte| *byte == b'+') {
+    let mut rest = text;
+    while let Some((word, more)) = rest.split_once('+') {
         roles = with_role(roles, word)?;
+        rest = more;
     }
-    Some(roles)
+    with_role(roles, rest)
 }
