@@ -3,3 +3,4 @@ pub mod Lines
 pub mod HasLeft
 pub mod TakesHeader
 pub mod IsListed
+pub mod RolesIn

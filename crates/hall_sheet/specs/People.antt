@@ -1,7 +1,7 @@
 -- The people that an entry list spells, or the first thing that is wrong with its bytes.
 use Rattle.std.specs.Prelude.{ℕ, ◌==◌, nat_lt, List, [], ◌∷◌, ◌++◌, length, Bool, true, false, ◌&&◌, ◌||◌, not}
 use Rattle.std.specs.Prelude.{if◌then◌else◌, Option, Some, None, Result, Ok, Err, codes}
-use Rattle.std.specs.List.{list_all, list_any}
+use Rattle.std.specs.List.{list_all, list_any, slice_split}
 use Rattle.std.specs.Str.{bytes_eq, is_utf8}
 use Rattle.csv.specs.Reading.{default_config, strip_bom, records}
 use Rattle.hall_policy.specs.Text.{is_word_byte, is_key_byte}
@@ -39,15 +39,9 @@ filled_in line =
     >>= (λ _. unless (Missing field.Key) (nat_lt 0 (length line.key)))
     >>= (λ _. unless (Missing field.Roles) (nat_lt 0 (length line.roles)))
 
--- a list of words with one more byte before the first of them
-abbrev pub begun_by : ℕ → List (List ℕ) → List (List ℕ)
-begun_by b [] = (b ∷ []) ∷ []
-begun_by b (word ∷ words) = (b ∷ word) ∷ words
-
 -- the words that the pluses of a text part
 abbrev pub words_in : List ℕ → List (List ℕ)
-words_in [] = [] ∷ []
-words_in (b ∷ rest) = if b == 43 then [] ∷ words_in rest else begun_by b (words_in rest)
+words_in text = slice_split (λ byte. byte == 43) text
 
 -- director, author, referee or entrant
 abbrev pub is_role : List ℕ → Bool
