@@ -1,10 +1,10 @@
 -- The rows that an iterator has left, as it goes on.
-use Rattle.std.proofs.Common.{◌≡◌, ◌∙◌, ◌≤◌, ◌<◌, ◌==◌, ℕ, zero, suc, ◌+◌, ◌-◌, List, [], ◌∷◌, ◌++◌, length, Bool, true, false}
-use Rattle.std.proofs.Common.{Bor, Some, None, Ok, Err, refl, sym, ap, arith, inl, Option}
+use Rattle.std.proofs.Common.{◌≡◌, ◌∙◌, ◌≤◌, ◌<◌, ◌==◌, ℕ, zero, suc, ◌-◌, List, [], ◌∷◌, ◌++◌, length, Bool, true, false}
+use Rattle.std.proofs.Common.{Bor, Some, None, Ok, refl, sym, arith, inl}
 use Rattle.std.specs.Prelude.{if◌then◌else◌, ◌&&◌}
 use Rattle.csv.specs.Machine.{Read, next_record, step, in_field, start_field, start_record, ends_with, after_end, is_byte, ends_at_end}
 use Rattle.csv.specs.Machine.{is_end, fields_after, field_after, line_feed, carriage_return}
-use Rattle.csv.specs.Reading.{Reached, ReadRecord, RowStep, default_config, records_from, source_of}
+use Rattle.csv.specs.Reading.{Reached, RowStep, default_config, records_from}
 use Rattle.csv.specs.Records.{Row, fields_of}
 use Rattle.csv.specs.declared.parser.Action.{Action}
 use Rattle.csv.specs.declared.parser.Action.TheVariants as act

@@ -4,3 +4,4 @@ pub mod HasLeft
 pub mod TakesHeader
 pub mod IsListed
 pub mod RolesIn
+pub mod PeopleIn

@@ -5,7 +5,7 @@ use Rattle.hall_sheet.specs.declared.fault.Refusal.TheVariants.{Syntax}
 use Rattle.hall_sheet.specs.declared.fault.SheetFault.{SheetFault}
 use Rattle.hall_sheet.specs.declared.fault.SheetFault.TheVariants as fault
 use Rattle.hall_sheet.specs.Given.{Gives}
-use Rattle.hall_sheet.specs.List.{Rows, HasLeft, Takes, TakesHeader}
+use Rattle.hall_sheet.specs.List.{Rows, HasLeft, TakesHeader}
 use Rattle.hall_sheet.specs.People.{header_in, people_of}
 
 taken : (r : Result (Unit {0}) SheetFault) (left more : List (List (List ℕ))) (row : Row) (rows : Rows)

@@ -1,5 +1,5 @@
 -- A line of an entry list, as its reader takes it apart.
-use Rattle.std.specs.Prelude.{ℕ, List, [], ◌∷◌, Bool, true, ◌&&◌, not, if◌then◌else◌, Option, Some, None, codes}
+use Rattle.std.specs.Prelude.{ℕ, List, true, ◌&&◌, not, if◌then◌else◌, Option, Some, None, codes}
 use Rattle.std.specs.Str.{bytes_eq}
 use Rattle.hall_policy.specs.declared.record.Roles.{Roles}
 use Rattle.hall_sheet.specs.declared.entry.Line.{Line}

@@ -1,4 +1,3 @@
-use Rattle.std.proofs.Common.{rules}
 use Rattle.hall_sheet.proofs.HasLeft.{row_taken, none_left}
 use Rattle.hall_sheet.proofs.list.next_row.Goals as goal
 

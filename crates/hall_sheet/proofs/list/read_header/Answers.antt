@@ -1,4 +1,3 @@
-use Rattle.std.proofs.Common.{rules}
 use Rattle.hall_sheet.proofs.TakesHeader.{header_taken, no_header}
 use Rattle.hall_sheet.proofs.list.read_header.Goals as goal
 

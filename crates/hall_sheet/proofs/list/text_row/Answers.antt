@@ -1,4 +1,4 @@
-use Rattle.std.proofs.Common.{◌∙◌, sym}
+use Rattle.csv.specs.Records.{fields_of}
 use Rattle.hall_sheet.proofs.Lines.{texts_are, texts_fail}
 use Rattle.hall_sheet.proofs.list.text_row.Goals as goal
 
@@ -9,4 +9,4 @@ returns-in-Ok c =
     rw (← same) (texts_are _ text)
 
 pub returns : goal.returns
-returns c = texts_fail _ (λ text. cc (rw c.in-Err.is at (c.from_byte_record.ensures.refused text)))
+returns c = texts_fail (fields_of c.args.row) (λ text. cc (rw c.in-Err.is at (c.from_byte_record.ensures.refused text)))

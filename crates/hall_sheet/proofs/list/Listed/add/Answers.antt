@@ -1,5 +1,4 @@
-use Rattle.std.proofs.Common.{rules, sym, ◌∙◌, ◌≡◌, true, ◌++◌, ◌∷◌, []}
-use Rattle.std.specs.Result.{is_ok}
+use Rattle.std.proofs.Common.{sym, ◌∙◌}
 use Rattle.hall_policy.specs.declared.record.Person.{Person}
 use Rattle.hall_sheet.proofs.IsListed.{added, has, name_twice, key_twice}
 use Rattle.hall_sheet.proofs.list.Listed.add.Goals as goal
