@@ -12,6 +12,8 @@ mod http;
 #[cfg(test)]
 mod limited;
 #[cfg(test)]
+mod lists;
+#[cfg(test)]
 mod policy;
 #[cfg(test)]
 mod socket;

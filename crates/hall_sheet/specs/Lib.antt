@@ -1,0 +1,5 @@
+pub mod Given
+pub mod Words
+pub mod People
+pub mod Entry
+pub mod List

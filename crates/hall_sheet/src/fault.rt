@@ -1,0 +1,59 @@
+//! Why bytes are no entry list or round sheet.
+use std::alloc::AllocError;
+
+/// What a refusal names: a column of an entry list, a field of a round sheet, or the list as a whole.
+#[derive(Clone, Copy, Debug, PartialEq, Eq)]
+pub enum Field {
+    /// The list as a whole.
+    List,
+    Name,
+    Key,
+    Roles,
+    Version,
+    Title,
+    Start,
+    Minutes,
+    ProtestMinutes,
+    Mode,
+    Penalty,
+    Bonus,
+    Puzzle,
+    Author,
+    Label,
+    Points,
+}
+
+/// The first thing that keeps bytes from being an entry list or a round sheet.
+#[derive(Clone, Copy, Debug, PartialEq, Eq)]
+pub enum Refusal {
+    /// The bytes are no CSV or TOML of the form: F1.
+    Syntax,
+    /// A field is missing (in a list: empty) or of the wrong type: F2.
+    Missing(Field),
+    /// A value is out of its range or has a strange byte: F3.
+    Range(Field),
+    /// A name or key twice in a list, or a puzzle twice in a sheet: F4.
+    Repeated,
+    /// The start is a text, but no moment's: F5.
+    Start,
+}
+
+/// Why bytes were not read.
+#[derive(Clone, Copy, Debug, PartialEq, Eq)]
+pub enum SheetFault {
+    /// Want of memory.
+    Memory,
+    /// The bytes are no list or sheet.
+    Refused(Refusal),
+}
+
+impl From<AllocError> for SheetFault {
+    ghost use Rattle.std.specs.Prelude.{◌≡◌};
+    ghost use Rattle.hall_sheet.specs.declared.fault.SheetFault.TheVariants.{Memory};
+
+    ghost from_gives = { λ _ e. e ≡ Memory };
+
+    fn from(_e: AllocError) -> SheetFault {
+        SheetFault::Memory
+    }
+}

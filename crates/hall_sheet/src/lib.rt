@@ -1,0 +1,10 @@
+//! Entry lists and round sheets, read from the bytes of a file.
+#![tactic(auto)]
+
+mod entry;
+mod fault;
+mod list;
+mod words;
+
+pub use fault::{Field, Refusal, SheetFault};
+pub use list::read_people;
