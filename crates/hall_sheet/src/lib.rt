@@ -2,5 +2,10 @@
 #![tactic(auto)]
 
 mod fault;
+mod sheet;
+mod start;
+mod table;
+mod words;
 
 pub use fault::{Field, Refusal, SheetFault};
+pub use sheet::read_round;
