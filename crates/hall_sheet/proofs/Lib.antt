@@ -4,3 +4,5 @@ pub mod Fields
 pub mod Digits
 pub mod Dates
 pub mod Moments
+pub mod Documents
+pub mod Entries

@@ -15,7 +15,7 @@ use Rattle.hall_sheet.specs.declared.fault.Field.TheVariants as field
 use Rattle.hall_sheet.specs.declared.fault.Refusal.{Refusal}
 use Rattle.hall_sheet.specs.declared.fault.Refusal.TheVariants as refusal
 use Rattle.hall_sheet.specs.Given.{◌>>=◌, or_refuse, unless}
-use Rattle.hall_sheet.specs.Table.{has_only, text_at, text_in, number_in, tables_at}
+use Rattle.hall_sheet.specs.Table.{has_only, text_at, text_in, number_in, tables_at, tables_in}
 use Rattle.hall_sheet.specs.Start.{start_in}
 
 -- the fields of a sheet
@@ -32,13 +32,10 @@ entry_fields = field.Author ∷ field.Label ∷ field.Points ∷ []
 abbrev pub document_in : List ℕ → Result Members Refusal
 document_in bytes = unless refusal.Syntax (is_utf8 bytes) >>= (λ _. or_refuse refusal.Syntax (parse_document bytes))
 
--- the tables of `puzzle`, where it is an array of tables
-abbrev pub puzzles_at : Members → Option (List Members)
-puzzles_at ms = tables_at field.Puzzle ms
-
--- every key is listed, at the top and in the tables of `puzzle`
-abbrev pub are_listed : Members → Option (List Members) → Bool
-are_listed ms puzzles = has_only sheet_fields ms && list_all (has_only entry_fields) (unwrap_or puzzles [])
+-- every key is listed, at the top and in the tables of `puzzle`, where that is an array of tables
+abbrev pub are_listed : Members → Bool
+are_listed ms =
+    has_only sheet_fields ms && list_all (has_only entry_fields) (unwrap_or (tables_at field.Puzzle ms) [])
 
 -- the moment at which the round starts
 abbrev pub starts_in : Members → Result ℕ Refusal
@@ -76,15 +73,15 @@ entries_in before (ms ∷ more) = do
   entries_in (before ++ entry ∷ []) more
 
 -- the round's list: one to forty puzzles
-unfoldable pub list_in : Option (List Members) → Result (List Entry) Refusal
-list_in puzzles = do
-  tables ← or_refuse (refusal.Missing field.Puzzle) puzzles
+unfoldable pub list_in : Members → Result (List Entry) Refusal
+list_in ms = do
+  tables ← tables_in field.Puzzle ms
   _ ← unless (refusal.Range field.Puzzle) (nat_le 1 (length tables) && nat_le (length tables) 40)
   entries_in [] tables
 
 -- the sheet, field by field
-unfoldable pub fields_in : Members → Option (List Members) → Result Sheet Refusal
-fields_in ms puzzles = do
+unfoldable pub fields_in : Members → Result Sheet Refusal
+fields_in ms = do
   _ ← number_in field.Version 1 1 ms
   title ← text_in field.Title 1 60 is_printable ms
   start ← starts_in ms
@@ -93,7 +90,7 @@ fields_in ms puzzles = do
   mode ← mode_in ms
   penalty ← number_in field.Penalty 0 1000 ms
   bonus ← number_in field.Bonus 0 1000 ms
-  list ← list_in puzzles
+  puzzles ← list_in ms
   Ok (record {
     title = title;
     start = start;
@@ -102,12 +99,12 @@ fields_in ms puzzles = do
     mode = mode;
     penalty = penalty;
     bonus = bonus;
-    puzzles = list;
+    puzzles = puzzles;
   })
 
--- the sheet: a document of TOML in which every key is listed, and then its fields
+-- the sheet that the bytes spell: a document of TOML in which every key is listed, and then its fields
 abbrev pub sheet_in : List ℕ → Result Sheet Refusal
 sheet_in bytes = do
   ms ← document_in bytes
-  _ ← unless refusal.Syntax (are_listed ms (puzzles_at ms))
-  fields_in ms (puzzles_at ms)
+  _ ← unless refusal.Syntax (are_listed ms)
+  fields_in ms

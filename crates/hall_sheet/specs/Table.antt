@@ -50,3 +50,7 @@ tables_of (item d ds) = option_and_then (λ ms. option_map (λ more. ms ∷ more
 -- the tables that a field is, where it is an array of tables
 abbrev pub tables_at : Field → Members → Option (List Members)
 tables_at f ms = option_and_then tables_of (option_and_then as_array (value_at f ms))
+
+-- a field that is an array of tables
+abbrev pub tables_in : Field → Members → Result (List Members) Refusal
+tables_in f ms = or_refuse (refusal.Missing f) (tables_at f ms)

@@ -1,5 +1,5 @@
 //! Round sheets.
-ghost use Rattle.std.specs.Prelude.{◌≡◌, [], ◌∷◌, ◌++◌, map, option_map, OnOk};
+ghost use Rattle.std.specs.Prelude.{◌≡◌, [], map, IfOk};
 ghost use Rattle.std.specs.List.{list_any};
 ghost use Rattle.toml.specs.View.{table_view};
 ghost use Rattle.hall_sheet.specs.Given.{Gives};
@@ -8,7 +8,7 @@ ghost use Rattle.hall_sheet.specs.Sheet.{list_in, fields_in, sheet_in};
 
 use crate::fault::{Field, Refusal, SheetFault};
 use crate::start::read_moment;
-use crate::table::{has_only, read_number, read_text, tables_at, text_at};
+use crate::table::{has_only, push, read_number, read_tables, read_text, text_at};
 use hall_policy::{Entries, Entry, Mode, Moment, PuzzleKey, Sheet, Within};
 use std::alloc::{AllocError, Global};
 use toml::Table;
@@ -47,15 +47,17 @@ fn read_document(alloc: Global, bytes: &[u8]) -> Result<Table, SheetFault>
 }
 
 /// Whether every key is listed, at the top and in the tables of `puzzle`.
-fn are_listed(document: &Table, puzzles: Option<&[&Table]>) -> bool
-    ensures { result ≡ are_listed (table_view document.now)
-        (option_map (λ tables. map (λ t. table_view t.now) tables.now) puzzles) }
+fn are_listed(alloc: Global, document: &Table) -> Result<bool, AllocError>
+    ensures { IfOk result (λ listed. listed ≡ are_listed (table_view document.now)) }
 {
-    has_only(document, &SHEET_FIELDS)
-        && puzzles
-            .unwrap_or_default()
-            .iter()
-            .all(|table| has_only(table, &ENTRY_FIELDS))
+    if !has_only(document, &SHEET_FIELDS) {
+        return Ok(false);
+    }
+    match read_tables(alloc, document, Field::Puzzle) {
+        Ok(tables) => Ok(tables.iter().all(|table| has_only(table, &ENTRY_FIELDS))),
+        Err(SheetFault::Memory) => Err(AllocError),
+        Err(SheetFault::Refused(_)) => Ok(true),
+    }
 }
 
 /// The moment at which the round starts.
@@ -77,6 +79,7 @@ fn read_mode(table: &Table) -> Result<Mode, SheetFault>
 }
 
 /// A puzzle of the round, and the points for it.
+#[tactic(auto, unfolding(crate::specs::Sheet::entry_in))]
 fn read_entry(alloc: Global, table: &Table) -> Result<Entry, SheetFault>
     ensures { Gives (λ e. e) result (entry_in (table_view table.now)) }
 {
@@ -98,14 +101,6 @@ fn is_repeated(entries: &[Entry], later: &Entry) -> bool
         .any(|entry| entry.puzzle.is_same(&later.puzzle))
 }
 
-/// Puts the entry at the end.
-fn push(entries: &mut Vec<Entry>, entry: Entry) -> Result<(), AllocError>
-    ensures { OnOk result (entries.new.items ≡ entries.old.items ++ entry ∷ []) }
-{
-    entries.push(entry)?;
-    Ok(())
-}
-
 /// The entries that tables spell, one after another.
 fn read_entries(alloc: Global, tables: &[&Table]) -> Result<Vec<Entry>, SheetFault>
     ensures { Gives (λ v. v.items) result (entries_in [] (map (λ t. table_view t.now) tables.now)) }
@@ -122,29 +117,26 @@ fn read_entries(alloc: Global, tables: &[&Table]) -> Result<Vec<Entry>, SheetFau
 }
 
 /// The round's list.
-fn read_list(alloc: Global, puzzles: Option<&[&Table]>) -> Result<Entries, SheetFault>
-    ensures { Gives (λ e. e) result
-        (list_in (option_map (λ tables. map (λ t. table_view t.now) tables.now) puzzles)) }
+#[tactic(auto, unfolding(crate::specs::Sheet::list_in))]
+fn read_list(alloc: Global, document: &Table) -> Result<Entries, SheetFault>
+    ensures { Gives (λ e. e) result (list_in (table_view document.now)) }
 {
-    let Some(tables) = puzzles else {
-        return Err(SheetFault::Refused(Refusal::Missing(Field::Puzzle)));
-    };
     let out_of_range = SheetFault::Refused(Refusal::Range(Field::Puzzle));
+    let tables = read_tables(alloc, document, Field::Puzzle)?;
     if tables.is_empty() || tables.len() > MOST_PUZZLES {
         return Err(out_of_range);
     }
-    let entries = read_entries(alloc, tables)?;
-    Entries::new(entries).ok_or(out_of_range)
+    let entries = read_entries(alloc, tables.as_slice())?;
+    match Entries::new(entries) {
+        Some(list) => Ok(list),
+        None => Err(out_of_range),
+    }
 }
 
 /// The sheet, field by field.
-fn read_fields(
-    alloc: Global,
-    document: &Table,
-    puzzles: Option<&[&Table]>,
-) -> Result<Sheet, SheetFault>
-    ensures { Gives (λ s. s) result (fields_in (table_view document.now)
-        (option_map (λ tables. map (λ t. table_view t.now) tables.now) puzzles)) }
+#[tactic(auto, unfolding(crate::specs::Sheet::fields_in))]
+fn read_fields(alloc: Global, document: &Table) -> Result<Sheet, SheetFault>
+    ensures { Gives (λ s. s) result (fields_in (table_view document.now)) }
 {
     let _version: Within<1, 1> = read_number(document, Field::Version)?;
     Ok(Sheet {
@@ -155,19 +147,17 @@ fn read_fields(
         mode: read_mode(document)?,
         penalty: read_number(document, Field::Penalty)?,
         bonus: read_number(document, Field::Bonus)?,
-        puzzles: read_list(alloc, puzzles)?,
+        puzzles: read_list(alloc, document)?,
     })
 }
 
-/// The round sheet that the bytes spell, or the first thing that is wrong with them; an error is also want of memory.
+/// The round sheet that the bytes spell, or the first thing that is wrong with them; an error may also be want of memory.
 pub fn read_round(alloc: Global, bytes: &[u8]) -> Result<Sheet, SheetFault>
     ensures { Gives (λ s. s) result (sheet_in bytes.now) }
 {
     let document = read_document(alloc, bytes)?;
-    let puzzles = tables_at(alloc, &document, Field::Puzzle)?;
-    let puzzles = puzzles.as_ref().map(Vec::as_slice);
-    if !are_listed(&document, puzzles) {
+    if !are_listed(alloc, &document)? {
         return Err(SYNTAX);
     }
-    read_fields(alloc, &document, puzzles)
+    read_fields(alloc, &document)
 }

@@ -1,12 +1,13 @@
 //! The fields of a table of TOML.
-ghost use Rattle.std.specs.Prelude.{◌≡◌, option_map, option_and_then, string_bytes, map, IfOk};
-ghost use Rattle.std.specs.List.{list_any, list_all};
+ghost use Rattle.std.specs.Prelude.{◌≡◌, option_map, option_and_then, map, OnOk, [], ◌∷◌, ◌++◌};
+ghost use Rattle.std.specs.List.{list_any};
 ghost use Rattle.std.specs.Str.{bytes_eq};
 ghost use Rattle.toml.specs.View.{view, items_view, table_view};
 ghost use Rattle.hall_sheet.specs.Fault.{name_of};
-ghost use Rattle.hall_sheet.specs.Given.{Gives};
+ghost use Rattle.hall_sheet.specs.Given.{Gives, or_refuse};
+ghost use Rattle.hall_sheet.specs.declared.fault.Refusal.TheVariants.{Missing};
 ghost use Rattle.hall_sheet.specs.Table.{has_only, value_at, text_at, integer_at, in_range, number_in};
-ghost use Rattle.hall_sheet.specs.Table.{text_in, tables_of, tables_at};
+ghost use Rattle.hall_sheet.specs.Table.{text_in, tables_of, tables_in};
 
 use crate::fault::{Field, Refusal, SheetFault};
 use crate::words::checked;
@@ -92,36 +93,44 @@ pub(crate) fn read_text<K: TextKind>(
     checked(alloc, text_at(table, field)?, Refusal::Range(field))
 }
 
-/// The values, where each of them is a table.
-fn tables_of(alloc: Global, values: &[Value]) -> Result<Option<Vec<&Table>>, AllocError>
-    ensures { IfOk result (λ found.
-        option_map (λ tables. map (λ t. table_view t.now) tables.items) found ≡ tables_of (items_view values.now)) }
+/// Puts the item at the end.
+pub(crate) fn push<T: Drop>(items: &mut Vec<T>, item: T) -> Result<(), AllocError>
+    ensures { OnOk result (items.new.items ≡ items.old.items ++ item ∷ []) }
+{
+    items.push(item)?;
+    Ok(())
+}
+
+/// The tables that the values of a field are, where each of them is one.
+fn tables_of(alloc: Global, values: &[Value], field: Field) -> Result<Vec<&Table>, SheetFault>
+    ensures { Gives (λ tables. map (λ t. table_view t.now) tables.items) result
+        (or_refuse (Missing field) (tables_of (items_view values.now))) }
 {
     let mut tables = Vec::with_capacity(alloc, values.len())?;
     for value in values {
         let Some(table) = value.as_table() else {
-            return Ok(None);
+            return Err(SheetFault::Refused(Refusal::Missing(field)));
         };
-        tables.push(table)?;
+        push(&mut tables, table)?;
     }
-    Ok(Some(tables))
+    Ok(tables)
 }
 
 /// The tables that a field is, where it is an array of tables.
-pub(crate) fn tables_at(
+pub(crate) fn read_tables(
     alloc: Global,
     table: &Table,
     field: Field,
-) -> Result<Option<Vec<&Table>>, AllocError>
-    ensures { IfOk result (λ found.
-        option_map (λ tables. map (λ t. table_view t.now) tables.items) found
-        ≡ tables_at field (table_view table.now)) }
+) -> Result<Vec<&Table>, SheetFault>
+    ensures { Gives (λ tables. map (λ t. table_view t.now) tables.items) result
+        (tables_in field (table_view table.now)) }
 {
-    let Some(value) = value_at(table, field) else {
-        return Ok(None);
-    };
-    match value.as_array() {
-        Some(values) => tables_of(alloc, values.as_slice()),
-        None => Ok(None),
+    let missing = SheetFault::Refused(Refusal::Missing(field));
+    match value_at(table, field) {
+        Some(value) => match value.as_array() {
+            Some(values) => tables_of(alloc, values.as_slice(), field),
+            None => Err(missing),
+        },
+        None => Err(missing),
     }
 }
