@@ -6,3 +6,4 @@ pub mod Dates
 pub mod Moments
 pub mod Documents
 pub mod Entries
+pub mod Listing
