@@ -5,3 +5,11 @@ pub mod TakesHeader
 pub mod IsListed
 pub mod RolesIn
 pub mod PeopleIn
+pub mod Forms
+pub mod Fields
+pub mod Digits
+pub mod Dates
+pub mod Moments
+pub mod Documents
+pub mod Entries
+pub mod Listing

@@ -1,4 +1,7 @@
 //! Why bytes are no entry list or round sheet.
+ghost use Rattle.std.specs.Prelude.{◌≡◌};
+ghost use Rattle.hall_sheet.specs.Fault.{name_of};
+
 use std::alloc::AllocError;
 
 /// What a refusal names: a column of an entry list, a field of a round sheet, or the list as a whole.
@@ -21,6 +24,32 @@ pub enum Field {
     Author,
     Label,
     Points,
+}
+
+impl Field {
+    /// Its name, as lists, sheets and refusals write it.
+    pub fn name(self) -> &'static str
+        ensures { result.now ≡ name_of self }
+    {
+        match self {
+            Field::List => "list",
+            Field::Name => "name",
+            Field::Key => "key",
+            Field::Roles => "roles",
+            Field::Version => "version",
+            Field::Title => "title",
+            Field::Start => "start",
+            Field::Minutes => "minutes",
+            Field::ProtestMinutes => "protest_minutes",
+            Field::Mode => "mode",
+            Field::Penalty => "penalty",
+            Field::Bonus => "bonus",
+            Field::Puzzle => "puzzle",
+            Field::Author => "author",
+            Field::Label => "label",
+            Field::Points => "points",
+        }
+    }
 }
 
 /// The first thing that keeps bytes from being an entry list or a round sheet.

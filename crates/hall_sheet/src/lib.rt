@@ -4,7 +4,11 @@
 mod entry;
 mod fault;
 mod list;
+mod sheet;
+mod start;
+mod table;
 mod words;
 
 pub use fault::{Field, Refusal, SheetFault};
 pub use list::read_people;
+pub use sheet::read_round;

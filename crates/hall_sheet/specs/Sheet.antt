@@ -1,0 +1,110 @@
+-- The round sheet that bytes spell, or the first thing that is wrong with them.
+use Rattle.std.specs.Prelude.{◌==◌, ℕ, ◌+◌, nat_le, Bool, true, false, not, ◌&&◌, if◌then◌else◌, List, [], ◌∷◌, ◌++◌, length}
+use Rattle.std.specs.Prelude.{codes, Option, Some, None, unwrap_or, Result, Ok, Err}
+use Rattle.std.specs.List.{list_any, list_all}
+use Rattle.std.specs.Str.{bytes_eq, is_utf8}
+use Rattle.toml.specs.Data.{Members}
+use Rattle.toml.specs.Parse.{parse_document}
+use Rattle.hall_policy.specs.Text.{is_word_byte, is_printable}
+use Rattle.hall_policy.specs.declared.record.Entry.{Entry}
+use Rattle.hall_policy.specs.declared.record.Mode.{Mode}
+use Rattle.hall_policy.specs.declared.record.Mode.TheVariants.{Instant, Sealed}
+use Rattle.hall_policy.specs.declared.request.Sheet.{Sheet}
+use Rattle.hall_sheet.specs.declared.fault.Field.{Field}
+use Rattle.hall_sheet.specs.declared.fault.Field.TheVariants as field
+use Rattle.hall_sheet.specs.declared.fault.Refusal.{Refusal}
+use Rattle.hall_sheet.specs.declared.fault.Refusal.TheVariants as refusal
+use Rattle.hall_sheet.specs.Given.{◌>>=◌, or_refuse, unless}
+use Rattle.hall_sheet.specs.Table.{has_only, text_at, text_in, number_in, tables_at, tables_in}
+use Rattle.hall_sheet.specs.Start.{start_in}
+
+-- the fields of a sheet
+abbrev pub sheet_fields : List Field
+sheet_fields =
+    field.Version ∷ field.Title ∷ field.Start ∷ field.Minutes ∷ field.ProtestMinutes ∷ field.Mode ∷ field.Penalty
+    ∷ field.Bonus ∷ field.Puzzle ∷ []
+
+-- the fields of a table of `puzzle`
+abbrev pub entry_fields : List Field
+entry_fields = field.Author ∷ field.Label ∷ field.Points ∷ []
+
+-- the table that the bytes write in TOML
+abbrev pub document_in : List ℕ → Result Members Refusal
+document_in bytes = unless refusal.Syntax (is_utf8 bytes) >>= (λ _. or_refuse refusal.Syntax (parse_document bytes))
+
+-- every key is listed, at the top and in the tables of `puzzle`, where that is an array of tables
+abbrev pub are_listed : Members → Bool
+are_listed ms =
+    has_only sheet_fields ms && list_all (has_only entry_fields) (unwrap_or (tables_at field.Puzzle ms) [])
+
+-- the moment at which the round starts
+abbrev pub starts_in : Members → Result ℕ Refusal
+starts_in ms = text_at field.Start ms >>= start_in
+
+-- how answers count
+abbrev pub mode_of : List ℕ → Result Mode Refusal
+mode_of text =
+    if bytes_eq text (codes "instant") then Ok Instant
+    else if bytes_eq text (codes "sealed") then Ok Sealed
+    else Err (refusal.Range field.Mode)
+
+abbrev pub mode_in : Members → Result Mode Refusal
+mode_in ms = text_at field.Mode ms >>= mode_of
+
+-- a puzzle of the round, and the points for it
+unfoldable pub entry_in : Members → Result Entry Refusal
+entry_in ms = do
+  author ← text_in field.Author 1 24 is_word_byte ms
+  label ← text_in field.Label 1 24 is_word_byte ms
+  points ← number_in field.Points 1 1000 ms
+  Ok (record { puzzle = record { author = author; label = label }; points = points })
+
+-- the two entries are of one puzzle
+abbrev pub is_repeated : Entry → Entry → Bool
+is_repeated later earlier =
+    bytes_eq earlier.puzzle.author later.puzzle.author && bytes_eq earlier.puzzle.label later.puzzle.label
+
+-- the entries that follow those before, one after another; none is of the puzzle of an earlier one
+abbrev pub entries_in : List Entry → List Members → Result (List Entry) Refusal
+entries_in before [] = Ok before
+entries_in before (ms ∷ more) = do
+  entry ← entry_in ms
+  _ ← unless refusal.Repeated (not (list_any (is_repeated entry) before))
+  entries_in (before ++ entry ∷ []) more
+
+-- the round's list: one to forty puzzles
+unfoldable pub list_in : Members → Result (List Entry) Refusal
+list_in ms = do
+  tables ← tables_in field.Puzzle ms
+  _ ← unless (refusal.Range field.Puzzle) (nat_le 1 (length tables) && nat_le (length tables) 40)
+  entries_in [] tables
+
+-- the sheet, field by field
+unfoldable pub fields_in : Members → Result Sheet Refusal
+fields_in ms = do
+  _ ← number_in field.Version 1 1 ms
+  title ← text_in field.Title 1 60 is_printable ms
+  start ← starts_in ms
+  minutes ← number_in field.Minutes 1 1440 ms
+  protest_minutes ← number_in field.ProtestMinutes 0 10080 ms
+  mode ← mode_in ms
+  penalty ← number_in field.Penalty 0 1000 ms
+  bonus ← number_in field.Bonus 0 1000 ms
+  puzzles ← list_in ms
+  Ok (record {
+    title = title;
+    start = start;
+    minutes = minutes;
+    protest_minutes = protest_minutes;
+    mode = mode;
+    penalty = penalty;
+    bonus = bonus;
+    puzzles = puzzles;
+  })
+
+-- the sheet that the bytes spell: a document of TOML in which every key is listed, and then its fields
+abbrev pub sheet_in : List ℕ → Result Sheet Refusal
+sheet_in bytes = do
+  ms ← document_in bytes
+  _ ← unless refusal.Syntax (are_listed ms)
+  fields_in ms

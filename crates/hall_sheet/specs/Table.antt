@@ -1,0 +1,56 @@
+-- The fields of a table of TOML: each in its type and its range, or the first thing that is wrong with it.
+use Rattle.std.specs.Prelude.{ℕ, nat_le, ℤ, pos, negsuc, Bool, true, ◌&&◌, List, [], ◌∷◌, length}
+use Rattle.std.specs.Prelude.{Option, Some, None, option_and_then, option_map, Result, Ok, Err}
+use Rattle.std.specs.List.{list_any, list_all}
+use Rattle.std.specs.Str.{bytes_eq}
+use Rattle.toml.specs.Data.{Data, Items, no_items, item, Members, no_members, member, get_member}
+use Rattle.toml.specs.Data.{as_integer, as_str, as_array, as_table}
+use Rattle.hall_sheet.specs.declared.fault.Field.{Field}
+use Rattle.hall_sheet.specs.declared.fault.Refusal.{Refusal}
+use Rattle.hall_sheet.specs.declared.fault.Refusal.TheVariants as refusal
+use Rattle.hall_sheet.specs.Fault.{name_of}
+use Rattle.hall_sheet.specs.Given.{◌>>=◌, or_refuse, unless}
+use Rattle.hall_sheet.specs.Words.{of_kind}
+
+-- each key of the table is the name of one of these fields
+abbrev pub has_only : List Field → Members → Bool
+has_only fields no_members = true
+has_only fields (member key d ms) = list_any (λ f. bytes_eq (name_of f) key) fields && has_only fields ms
+
+-- what stands at a field, if anything does
+abbrev pub value_at : Field → Members → Option Data
+value_at f ms = get_member (name_of f) ms
+
+-- the text that a field is
+abbrev pub text_at : Field → Members → Result (List ℕ) Refusal
+text_at f ms = or_refuse (refusal.Missing f) (option_and_then as_str (value_at f ms))
+
+-- the integer that a field is
+abbrev pub integer_at : Field → Members → Result ℤ Refusal
+integer_at f ms = or_refuse (refusal.Missing f) (option_and_then as_integer (value_at f ms))
+
+-- the integer where it lies from the least to the most, else the field's refusal
+abbrev pub in_range : Field → ℕ → ℕ → ℤ → Result ℕ Refusal
+in_range f least most (pos n) = unless (refusal.Range f) (nat_le least n && nat_le n most) >>= (λ _. Ok n)
+in_range f least most (negsuc n) = Err (refusal.Range f)
+
+-- a field that is an integer in a range
+abbrev pub number_in : Field → ℕ → ℕ → Members → Result ℕ Refusal
+number_in f least most ms = integer_at f ms >>= in_range f least most
+
+-- a field that is a text of a kind
+abbrev pub text_in : Field → ℕ → ℕ → (ℕ → Bool) → Members → Result (List ℕ) Refusal
+text_in f least most allows ms = text_at f ms >>= of_kind (refusal.Range f) least most allows
+
+-- the items, where each of them is a table
+abbrev pub tables_of : Items → Option (List Members)
+tables_of no_items = Some []
+tables_of (item d ds) = option_and_then (λ ms. option_map (λ more. ms ∷ more) (tables_of ds)) (as_table d)
+
+-- the tables that a field is, where it is an array of tables
+abbrev pub tables_at : Field → Members → Option (List Members)
+tables_at f ms = option_and_then tables_of (option_and_then as_array (value_at f ms))
+
+-- a field that is an array of tables
+abbrev pub tables_in : Field → Members → Result (List Members) Refusal
+tables_in f ms = or_refuse (refusal.Missing f) (tables_at f ms)

@@ -1,0 +1,163 @@
+//! Round sheets.
+ghost use Rattle.std.specs.Prelude.{◌≡◌, [], map, IfOk};
+ghost use Rattle.std.specs.List.{list_any};
+ghost use Rattle.toml.specs.View.{table_view};
+ghost use Rattle.hall_sheet.specs.Given.{Gives};
+ghost use Rattle.hall_sheet.specs.Sheet.{document_in, are_listed, starts_in, mode_in, entry_in, is_repeated, entries_in};
+ghost use Rattle.hall_sheet.specs.Sheet.{list_in, fields_in, sheet_in};
+
+use crate::fault::{Field, Refusal, SheetFault};
+use crate::start::read_moment;
+use crate::table::{has_only, push, read_number, read_tables, read_text, text_at};
+use hall_policy::{Entries, Entry, Mode, Moment, PuzzleKey, Sheet, Within};
+use std::alloc::{AllocError, Global};
+use toml::Table;
+
+const SYNTAX: SheetFault = SheetFault::Refused(Refusal::Syntax);
+
+const SHEET_FIELDS: [Field; 9] = [
+    Field::Version,
+    Field::Title,
+    Field::Start,
+    Field::Minutes,
+    Field::ProtestMinutes,
+    Field::Mode,
+    Field::Penalty,
+    Field::Bonus,
+    Field::Puzzle,
+];
+
+const ENTRY_FIELDS: [Field; 3] = [Field::Author, Field::Label, Field::Points];
+
+/// The most puzzles of a round.
+const MOST_PUZZLES: usize = 40;
+
+/// The table that the bytes write.
+fn read_document(alloc: Global, bytes: &[u8]) -> Result<Table, SheetFault>
+    ensures { Gives (λ t. table_view t) result (document_in bytes.now) }
+{
+    let Ok(text) = str::from_utf8(bytes) else {
+        return Err(SYNTAX);
+    };
+    match toml::table_from_str(alloc, text) {
+        Ok(table) => Ok(table),
+        Err(error) if error.is_memory() => Err(SheetFault::Memory),
+        Err(_) => Err(SYNTAX),
+    }
+}
+
+/// Whether every key is listed, at the top and in the tables of `puzzle`.
+fn are_listed(alloc: Global, document: &Table) -> Result<bool, AllocError>
+    ensures { IfOk result (λ listed. listed ≡ are_listed (table_view document.now)) }
+{
+    if !has_only(document, &SHEET_FIELDS) {
+        return Ok(false);
+    }
+    match read_tables(alloc, document, Field::Puzzle) {
+        Ok(tables) => Ok(tables.iter().all(|table| has_only(table, &ENTRY_FIELDS))),
+        Err(SheetFault::Memory) => Err(AllocError),
+        Err(SheetFault::Refused(_)) => Ok(true),
+    }
+}
+
+/// The moment at which the round starts.
+fn read_start(table: &Table) -> Result<Moment, SheetFault>
+    ensures { Gives (λ n. n) result (starts_in (table_view table.now)) }
+{
+    read_moment(text_at(table, Field::Start)?.as_bytes())
+}
+
+/// How answers count.
+fn read_mode(table: &Table) -> Result<Mode, SheetFault>
+    ensures { Gives (λ m. m) result (mode_in (table_view table.now)) }
+{
+    match text_at(table, Field::Mode)? {
+        "instant" => Ok(Mode::Instant),
+        "sealed" => Ok(Mode::Sealed),
+        _ => Err(SheetFault::Refused(Refusal::Range(Field::Mode))),
+    }
+}
+
+/// A puzzle of the round, and the points for it.
+#[tactic(auto, unfolding(crate::specs::Sheet::entry_in))]
+fn read_entry(alloc: Global, table: &Table) -> Result<Entry, SheetFault>
+    ensures { Gives (λ e. e) result (entry_in (table_view table.now)) }
+{
+    Ok(Entry {
+        puzzle: PuzzleKey {
+            author: read_text(alloc, table, Field::Author)?,
+            label: read_text(alloc, table, Field::Label)?,
+        },
+        points: read_number(table, Field::Points)?,
+    })
+}
+
+/// Whether one of the entries is of the same puzzle.
+fn is_repeated(entries: &[Entry], later: &Entry) -> bool
+    ensures { result ≡ list_any (is_repeated later.now) entries.now }
+{
+    entries
+        .iter()
+        .any(|entry| entry.puzzle.is_same(&later.puzzle))
+}
+
+/// The entries that tables spell, one after another.
+fn read_entries(alloc: Global, tables: &[&Table]) -> Result<Vec<Entry>, SheetFault>
+    ensures { Gives (λ v. v.items) result (entries_in [] (map (λ t. table_view t.now) tables.now)) }
+{
+    let mut entries = Vec::new(alloc);
+    for table in tables {
+        let entry = read_entry(alloc, table)?;
+        if is_repeated(entries.as_slice(), &entry) {
+            return Err(SheetFault::Refused(Refusal::Repeated));
+        }
+        push(&mut entries, entry)?;
+    }
+    Ok(entries)
+}
+
+/// The round's list.
+#[tactic(auto, unfolding(crate::specs::Sheet::list_in))]
+fn read_list(alloc: Global, document: &Table) -> Result<Entries, SheetFault>
+    ensures { Gives (λ e. e) result (list_in (table_view document.now)) }
+{
+    let out_of_range = SheetFault::Refused(Refusal::Range(Field::Puzzle));
+    let tables = read_tables(alloc, document, Field::Puzzle)?;
+    if tables.is_empty() || tables.len() > MOST_PUZZLES {
+        return Err(out_of_range);
+    }
+    let entries = read_entries(alloc, tables.as_slice())?;
+    match Entries::new(entries) {
+        Some(list) => Ok(list),
+        None => Err(out_of_range),
+    }
+}
+
+/// The sheet, field by field.
+#[tactic(auto, unfolding(crate::specs::Sheet::fields_in))]
+fn read_fields(alloc: Global, document: &Table) -> Result<Sheet, SheetFault>
+    ensures { Gives (λ s. s) result (fields_in (table_view document.now)) }
+{
+    let _version: Within<1, 1> = read_number(document, Field::Version)?;
+    Ok(Sheet {
+        title: read_text(alloc, document, Field::Title)?,
+        start: read_start(document)?,
+        minutes: read_number(document, Field::Minutes)?,
+        protest_minutes: read_number(document, Field::ProtestMinutes)?,
+        mode: read_mode(document)?,
+        penalty: read_number(document, Field::Penalty)?,
+        bonus: read_number(document, Field::Bonus)?,
+        puzzles: read_list(alloc, document)?,
+    })
+}
+
+/// The round sheet that the bytes spell, or the first thing that is wrong with them; an error may also be want of memory.
+pub fn read_round(alloc: Global, bytes: &[u8]) -> Result<Sheet, SheetFault>
+    ensures { Gives (λ s. s) result (sheet_in bytes.now) }
+{
+    let document = read_document(alloc, bytes)?;
+    if !are_listed(alloc, &document)? {
+        return Err(SYNTAX);
+    }
+    read_fields(alloc, &document)
+}
