@@ -43,13 +43,13 @@ filled_in line =
 abbrev pub words_in : List ℕ → List (List ℕ)
 words_in text = slice_split (λ byte. byte == 43) text
 
--- director, author, referee or entrant
-abbrev pub is_role : List ℕ → Bool
-is_role word = list_any (bytes_eq word) (codes "director" ∷ codes "author" ∷ codes "referee" ∷ codes "entrant" ∷ [])
-
 -- whether the word is one of these
 abbrev pub is_among : List (List ℕ) → List ℕ → Bool
 is_among words word = list_any (bytes_eq word) words
+
+-- director, author, referee or entrant
+abbrev pub is_role : List ℕ → Bool
+is_role = is_among (codes "director" ∷ codes "author" ∷ codes "referee" ∷ codes "entrant" ∷ [])
 
 -- no word stands twice
 abbrev pub are_distinct : List (List ℕ) → Bool
@@ -70,7 +70,7 @@ abbrev pub roles_in : List ℕ → Option Roles
 roles_in text =
     if list_all is_role (words_in text) && are_distinct (words_in text) then Some (roles_named (words_in text)) else None
 
--- the person that a line spells: each field is there, then each has its form
+-- the person that a line spells: first no field is empty, then each has its form, from the left
 abbrev pub spelled_in : Fields → Result Person Refusal
 spelled_in line =
     filled_in line
@@ -89,14 +89,14 @@ new_after before person =
     unless Repeated (not (list_any (λ p. bytes_eq p.name person.name || bytes_eq p.key person.key) before))
     >>= (λ _. Ok person)
 
--- the person of a record that follows these people, of whom there may be 4,999
+-- the person of the record after these people, who are at most 4,999
 abbrev pub person_in : List Person → List (List ℕ) → Result Person Refusal
 person_in before fields =
     unless (Range field.List) (nat_lt (length before) 5000)
     >>= (λ _. person_of fields)
     >>= new_after before
 
--- these people, and then those of these records
+-- these people, and then those of these records, as long as each spells one
 abbrev pub people_from : List Person → List (List (List ℕ)) → Result (List Person) Refusal
 people_from before [] = Ok before
 people_from before (first ∷ more) = person_in before first >>= (λ person. people_from (before ++ person ∷ []) more)
@@ -115,6 +115,6 @@ abbrev pub people_of : List (List (List ℕ)) → Result (List Person) Refusal
 people_of [] = Err Syntax
 people_of (first ∷ more) = header_in first >>= (λ _. people_from [] more)
 
--- the people of a list: its bytes are CSV, without the byte order mark where there is one
+-- the people of a list: its bytes are records of CSV, with a byte order mark before them or none
 abbrev pub people_in : List ℕ → Result (List Person) Refusal
 people_in bytes = people_of (records default_config (strip_bom bytes))
