@@ -14,6 +14,8 @@ mod limited;
 #[cfg(test)]
 mod policy;
 #[cfg(test)]
+mod sheets;
+#[cfg(test)]
 mod store;
 #[cfg(test)]
 mod tool;
