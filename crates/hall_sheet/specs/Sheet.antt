@@ -41,13 +41,14 @@ are_listed ms =
 abbrev pub starts_in : Members → Result ℕ Refusal
 starts_in ms = text_at field.Start ms >>= start_in
 
--- how answers count
+-- the mode of this name
 abbrev pub mode_of : List ℕ → Result Mode Refusal
 mode_of text =
     if bytes_eq text (codes "instant") then Ok Instant
     else if bytes_eq text (codes "sealed") then Ok Sealed
     else Err (refusal.Range field.Mode)
 
+-- how answers count
 abbrev pub mode_in : Members → Result Mode Refusal
 mode_in ms = text_at field.Mode ms >>= mode_of
 

@@ -1,7 +1,7 @@
 -- The moment that the text of a start names: a civil time and how far east of UTC its clock stands.
 use Rattle.std.specs.Prelude.{ℕ, ◌+◌, ◌*◌, ◌==◌, nat_le, ℤ, pos, neg_ℤ, ◌+ℤ◌, ◌-ℤ◌, ◌*ℤ◌, Bool, true, false, ◌&&◌}
 use Rattle.std.specs.Prelude.{if◌then◌else◌, List, length, take, drop, slice_range, codes, Option, Some, None}
-use Rattle.std.specs.Prelude.{option_and_then, option_map, Result}
+use Rattle.std.specs.Prelude.{option_map, Result}
 use Rattle.std.specs.List.{list_all, zip}
 use Rattle.std.specs.Char.{is_ascii_digit}
 use Rattle.std.specs.Str.{bytes_eq}
@@ -37,13 +37,18 @@ clock_in hours minutes seconds =
     if nat_le hours 23 && nat_le minutes 59 && nat_le seconds 59
     then Some (3600 * hours + 60 * minutes + seconds) else None
 
+-- two values, where there are both
+abbrev pub both : {A B : Type 0} → Option A → Option B → Option (A × B)
+both (Some x) (Some y) = Some (x, y)
+both (Some x) None = None
+both None _ = None
+
 -- the day number and the second of the day of a civil time, where the text is one that exists
 abbrev pub civil_in : List ℕ → Option (ℤ × ℕ)
 civil_in text =
     if has_form (codes "0000-00-00T00:00:00") text
-    then option_and_then (λ day. option_map (λ clock. (day, clock))
-    (clock_in (number_at text 11 13) (number_at text 14 16) (number_at text 17 19)))
-    (day_in (number_at text 0 4) (number_at text 5 7) (number_at text 8 10))
+    then both (day_in (number_at text 0 4) (number_at text 5 7) (number_at text 8 10))
+    (clock_in (number_at text 11 13) (number_at text 14 16) (number_at text 17 19))
     else None
 
 -- the seconds of the hours and minutes that follow a sign
@@ -58,9 +63,9 @@ offset_in text =
     else if has_form (codes "-00:00") text then option_map (λ n. neg_ℤ (pos n)) (distance_in text)
     else None
 
--- the moment: the seconds from the beginning of 1970 to the civil time, less the offset; none is later than 2099
+-- the moment, 0 to 4,102,444,800: the seconds from the beginning of 1970 to the civil time, less the offset
 abbrev pub start_in : List ℕ → Result ℕ Refusal
-start_in text =
-    or_refuse refusal.Start (civil_in (take 19 text))
-    >>= (λ civil. or_refuse refusal.Start (offset_in (drop 19 text))
-    >>= (λ offset. in_range field.Start 0 4102444800 (civil.0 *ℤ pos 86400 +ℤ pos civil.1 -ℤ offset)))
+start_in text = do
+  civil ← or_refuse refusal.Start (civil_in (take 19 text))
+  offset ← or_refuse refusal.Start (offset_in (drop 19 text))
+  in_range field.Start 0 4102444800 (civil.0 *ℤ pos 86400 +ℤ pos civil.1 -ℤ offset)

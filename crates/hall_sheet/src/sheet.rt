@@ -32,7 +32,7 @@ const ENTRY_FIELDS: [Field; 3] = [Field::Author, Field::Label, Field::Points];
 /// The most puzzles of a round.
 const MOST_PUZZLES: usize = 40;
 
-/// The table that the bytes write.
+/// The table that the bytes write in TOML.
 fn read_document(alloc: Global, bytes: &[u8]) -> Result<Table, SheetFault>
     ensures { Gives (λ t. table_view t) result (document_in bytes.now) }
 {
@@ -129,6 +129,7 @@ fn read_list(alloc: Global, document: &Table) -> Result<Entries, SheetFault>
     let entries = read_entries(alloc, tables.as_slice())?;
     match Entries::new(entries) {
         Some(list) => Ok(list),
+        // Not met: the entries differ, and there are one to forty.
         None => Err(out_of_range),
     }
 }
@@ -151,7 +152,7 @@ fn read_fields(alloc: Global, document: &Table) -> Result<Sheet, SheetFault>
     })
 }
 
-/// The round sheet that the bytes spell, or the first thing that is wrong with them; an error may also be want of memory.
+/// The round sheet that the bytes spell in TOML; an error is the first thing that is wrong with them, or want of memory.
 pub fn read_round(alloc: Global, bytes: &[u8]) -> Result<Sheet, SheetFault>
     ensures { Gives (λ s. s) result (sheet_in bytes.now) }
 {
