@@ -1,0 +1,79 @@
+-- Which command the words after the program's name spell.
+use Rattle.std.specs.Prelude.{◌≡◌, ◌≢◌, ⊤, ◌≤◌, ℕ, List, [], ◌∷◌, Option, Some, None, codes, if◌then◌else◌}
+use Rattle.std.specs.Str.{bytes_eq}
+use Rattle.std.specs.Str.Parse.{IsNumeral, digits_value, without_leading_plus}
+use Rattle.clap.specs.Words.{Kinds, Row, Text, fault_of, first_of, matches_of}
+use Rattle.clap.specs.declared.error.kind.ErrorKind.{ErrorKind}
+use Rattle.clap.specs.declared.error.kind.ErrorKind.TheVariants.{DisplayHelp, DisplayVersion, OutOfMemory}
+use Rattle.hall_tool.specs.declared.pages.Page.{Page}
+use Rattle.hall_tool.specs.declared.pages.Page.TheVariants as pages
+use Rattle.hall_tool.specs.declared.words.Command.{Command}
+use Rattle.hall_tool.specs.declared.words.Command.TheVariants.{Judge, Solve, Replay, Help, Version}
+use Rattle.hall_tool.specs.declared.words.WordsFault.{WordsFault}
+use Rattle.hall_tool.specs.declared.words.WordsFault.TheVariants.{Memory, Line}
+use Rattle.hall_tool.specs.Pages.{line_of}
+
+-- the first word names the command; where it names none, the words are the program's own
+abbrev pub page_of : List Text → Page
+page_of [] = pages.Hall
+page_of (name ∷ rest) =
+    if bytes_eq name (codes "judge") then pages.Judge
+    else (if bytes_eq name (codes "solve") then pages.Solve
+    else (if bytes_eq name (codes "replay") then pages.Replay
+    else pages.Hall))
+
+-- what clap's rules find wrong with the words, or asked by them in place of a command
+abbrev pub faults_of : List Text → Kinds
+faults_of words = fault_of (line_of (page_of words)) words
+
+-- the first word names the command of this page, and clap's rules take the words after it
+abbrev pub Takes : Page → List Text → Type 0
+Takes page words = (page_of words ≡ page) × (faults_of words ≡ [])
+
+-- a budget that is named is a number of at most 1,000,000, as std reads a text; where none is named, it is 200,000
+abbrev pub IsBudget : Option Text → ℕ → Type 0
+IsBudget None budget = budget ≡ 200000
+IsBudget (Some text) budget =
+    IsNumeral 10 (without_leading_plus text) × (budget ≡ digits_value 10 (without_leading_plus text))
+    × (budget ≤ 1000000)
+
+-- no number is the budget
+abbrev pub IsNoBudget : Option Text → Type 0
+IsNoBudget text = (budget : ℕ) → IsBudget text budget → ⊥
+
+-- the command of a page, with the values that clap's rows give its options
+abbrev pub IsTaken : Page → List Row → Command → Type 0
+IsTaken page rows Judge = page ≡ pages.Judge
+IsTaken page rows (Solve budget) = (page ≡ pages.Solve) × IsBudget (first_of (codes "budget") rows) budget
+IsTaken page rows Replay = page ≡ pages.Replay
+IsTaken page rows other = ⊥
+
+-- no command is that of the page and the rows
+abbrev pub TakesNone : Page → List Row → Type 0
+TakesNone page rows = (command : Command) → IsTaken page rows command → ⊥
+
+-- what an error of this kind asks for: a page of help, or the version
+abbrev pub AsksFor : Page → ErrorKind → Command → Type 0
+AsksFor page kind (Help asked) = (asked ≡ page) × (kind ≡ DisplayHelp)
+AsksFor page kind Version = kind ≡ DisplayVersion
+AsksFor page kind other = ⊥
+
+-- an error of this kind asks for nothing
+abbrev pub AsksNone : ErrorKind → Type 0
+AsksNone kind = (kind ≢ OutOfMemory) × (kind ≢ DisplayHelp) × (kind ≢ DisplayVersion)
+
+-- the words spell the command
+abbrev pub Spells : List Text → Command → Type 0
+Spells words (Help page) = (page_of words ≡ page) × (faults_of words ≡ DisplayHelp ∷ [])
+Spells words Version = faults_of words ≡ DisplayVersion ∷ []
+Spells words command =
+    (faults_of words ≡ []) × IsTaken (page_of words) (matches_of (line_of (page_of words)) words) command
+
+-- no command has these words
+abbrev pub SpellsNone : List Text → Type 0
+SpellsNone words = (command : Command) → Spells words command → ⊥
+
+-- what a line that is refused tells; want of memory tells nothing
+abbrev pub IfLine : WordsFault → Type 0 → Type 0
+IfLine Memory claim = ⊤
+IfLine (Line error) claim = claim
