@@ -1,5 +1,5 @@
 //! The words of the command line.
-ghost use Rattle.std.specs.Prelude.{◌≡◌, IfOk, IfErr, map, codes, string_bytes};
+ghost use Rattle.std.specs.Prelude.{◌≡◌, IfOk, IfErr, MatchOption, Some, map, codes, string_bytes};
 ghost use Rattle.clap.specs.Words.{first_of, found_of, kind_of, rows_of};
 ghost use Rattle.hall_tool.specs.Words.{IfLine, SpellsNone, IsBudget, Spells, page_of};
 ghost use Rattle.hall_tool.specs.Words.{IsNoBudget, IsTaken, TakesNone, AsksFor, AsksNone};
@@ -135,10 +135,20 @@ fn budget_of(
 {
     match matches.get_str("budget") {
         None => Ok(DEFAULT_BUDGET),
-        Some(text) => match text.parse::<u64>() {
-            Ok(budget) if budget <= MOST_BUDGET => Ok(budget),
-            _ => Err(no_budget(alloc, line, text)),
+        Some(text) => match named_budget(text) {
+            Some(budget) => Ok(budget),
+            None => Err(no_budget(alloc, line, text)),
         },
+    }
+}
+
+/// The budget that the text is a number of.
+fn named_budget(text: &str) -> Option<u64>
+    ensures { MatchOption result (IsNoBudget (Some text.now)) (IsBudget (Some text.now)) }
+{
+    match text.parse::<u64>() {
+        Ok(budget) if budget <= MOST_BUDGET => Some(budget),
+        _ => None,
     }
 }
 
