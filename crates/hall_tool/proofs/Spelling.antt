@@ -34,8 +34,12 @@ pub no_command : {X : Type 0} (f : X → Text) (xs : List X) (x : X) → Some x 
 no_command f [] x e judge solve replay = cc
 no_command f (y ∷ ys) x e judge solve replay =
     let same : f x ≡ f y = ap f (ap (λ o. unwrap_or o x) e) in
-    rw (← same, differs (f x) (codes "judge") judge, differs (f x) (codes "solve") solve,
-    differs (f x) (codes "replay") replay) refl
+    rw (
+      ← same,
+      differs (f x) (codes "judge") judge,
+      differs (f x) (codes "solve") solve,
+      differs (f x) (codes "replay") replay,
+    ) refl
 
 -- what holds of the value that clap's matches give for the budget
 pub budget_row : (f : Found) (named : Option Text) (P : Option Text → Type 0) → named ≡ first_value f (codes "budget")

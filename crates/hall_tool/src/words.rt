@@ -16,6 +16,10 @@ const DEFAULT_BUDGET: u64 = 200_000;
 /// The most visits that may be named.
 const MOST_BUDGET: u64 = 1_000_000;
 
+const NO_COMMAND: &str = "a command is wanted";
+
+const NO_VALUE: &str = "a value is required for '--budget <N>' but none was supplied";
+
 /// What the program is asked to do.
 #[derive(Clone, Copy, Debug, PartialEq, Eq)]
 pub enum Command {
@@ -70,7 +74,7 @@ pub fn read_words(alloc: Global, words: &[String]) -> Result<Command, WordsFault
     let mut line = command_line(alloc, page)?;
     match line.try_get_matches_from_mut(words) {
         Ok(matches) => taken(alloc, &mut line, page, &matches),
-        Err(error) => asked(page, error),
+        Err(error) => asked(&mut line, page, error),
     }
 }
 
@@ -100,7 +104,7 @@ fn taken<'a>(
     ensures fault { IfErr result (λ fault. IfLine fault (TakesNone page (rows_of (found_of matches.now)))) }
 {
     match page {
-        Page::Hall => Err(refusal(line, ErrorKind::MissingSubcommand, "a command is wanted")),
+        Page::Hall => Err(refusal(line, ErrorKind::MissingSubcommand, NO_COMMAND)),
         Page::Judge => Ok(Command::Judge),
         Page::Solve => {
             let budget = budget_of(alloc, line, matches)?;
@@ -111,7 +115,7 @@ fn taken<'a>(
 }
 
 /// What words ask for that the line of the page doesn't take.
-fn asked(page: Page, error: Error) -> Result<Command, WordsFault>
+fn asked(line: &mut clap::Command<'_>, page: Page, error: Error) -> Result<Command, WordsFault>
     ensures command { IfOk result (AsksFor page (kind_of error)) }
     ensures fault { IfErr result (λ fault. IfLine fault (AsksNone (kind_of error))) }
 {
@@ -119,6 +123,8 @@ fn asked(page: Page, error: Error) -> Result<Command, WordsFault>
         ErrorKind::OutOfMemory => Err(WordsFault::Memory),
         ErrorKind::DisplayHelp => Ok(Command::Help(page)),
         ErrorKind::DisplayVersion => Ok(Command::Version),
+        // clap's own text has no usage line.
+        ErrorKind::InvalidValue => Err(refusal(line, ErrorKind::InvalidValue, NO_VALUE)),
         _ => Err(WordsFault::Line(error)),
     }
 }
