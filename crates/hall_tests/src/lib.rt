@@ -17,3 +17,5 @@ mod policy;
 mod store;
 #[cfg(test)]
 mod tool;
+#[cfg(test)]
+mod words;
