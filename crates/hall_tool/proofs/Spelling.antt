@@ -18,7 +18,7 @@ use Rattle.hall_tool.specs.declared.words.Command.TheVariants.{Judge, Solve, Rep
 use Rattle.hall_tool.specs.Pages.{line_of}
 use Rattle.hall_tool.specs.declared.words.WordsFault.{WordsFault}
 use Rattle.hall_tool.specs.declared.words.WordsFault.TheVariants.{Memory, Line}
-use Rattle.hall_tool.specs.Words.{AsksFor, AsksNone, IfLine, IsTaken, Spells, SpellsNone, TakesNone, faults_of, page_of}
+use Rattle.hall_tool.specs.Words.{AsksFor, AsksNone, IfLine, IsBudget, IsTaken, Spells, SpellsNone, TakesNone, faults_of, page_of}
 use Rattle.hall_tool.proofs.OneKind.{IsSingle, built_one, only_kind}
 
 differs : (a b : Text) → a ≢ b → bytes_eq a b ≡ false
@@ -86,20 +86,25 @@ module _ (words : List Text) where
   -- words that the line takes
   module _ (rows : List Row) (fine : faults_of words ≡ []) (same : rows ≡ matches_of (line_of (page_of words)) words) where
     pub taken_spells : (command : Command) → IsTaken (page_of words) rows command → Spells words command
-    taken_spells Judge t = (fine, t)
-    taken_spells (Solve budget) t = (fine, rw same at t)
-    taken_spells Replay t = (fine, t)
+    taken_spells Judge t = (t, fine)
+    taken_spells (Solve budget) t =
+        let read : rows ≡ matches_of (line_of pages.Solve) words =
+        same ∙ ap (λ page. matches_of (line_of page) words) t.0 in
+        ((t.0, fine), subst (λ (rs : List Row). IsBudget (first_of (codes "budget") rs) budget) read t.1)
+    taken_spells Replay t = (t, fine)
     taken_spells (Help page) t = absurd t
     taken_spells Version t = absurd t
 
     pub none_taken : TakesNone (page_of words) rows → SpellsNone words
-    none_taken none Judge s = none Judge s.1
-    none_taken none (Solve budget) s = none (Solve budget) (rw (← same) at s.1)
-    none_taken none Replay s = none Replay s.1
-    none_taken none (Help page) s =
-        absurd (none_is_some DisplayHelp (sym fine ∙ s.1))
-    none_taken none Version s =
-        absurd (none_is_some DisplayVersion (sym fine ∙ s))
+    none_taken none Judge s = none Judge s.0
+    none_taken none (Solve budget) s =
+        let read : rows ≡ matches_of (line_of pages.Solve) words =
+        same ∙ ap (λ page. matches_of (line_of page) words) s.0.0 in
+        none (Solve budget)
+        (s.0.0, subst (λ (rs : List Row). IsBudget (first_of (codes "budget") rs) budget) (sym read) s.1)
+    none_taken none Replay s = none Replay s.0
+    none_taken none (Help page) s = absurd (none_is_some DisplayHelp (sym fine ∙ s.1))
+    none_taken none Version s = absurd (none_is_some DisplayVersion (sym fine ∙ s))
 
   whole : (k : ErrorKind) → IsAmong k (faults_of words) → faults_of words ≡ k ∷ []
   whole k among = only_kind (faults_of words) k (one_fault (page_of words) words) among
@@ -118,9 +123,9 @@ module _ (words : List Text) where
 
   pub none_asked : (e : Error) → HasKind (faults_of words) e → AsksNone (kind_of e) → SpellsNone words
   none_asked e (inl memory) asks command s = absurd (asks.0 memory)
-  none_asked e (inr among) asks Judge s = absurd (none_is_some _ (sym s.0 ∙ whole (kind_of e) among))
-  none_asked e (inr among) asks (Solve budget) s = absurd (none_is_some _ (sym s.0 ∙ whole (kind_of e) among))
-  none_asked e (inr among) asks Replay s = absurd (none_is_some _ (sym s.0 ∙ whole (kind_of e) among))
+  none_asked e (inr among) asks Judge s = absurd (none_is_some _ (sym s.1 ∙ whole (kind_of e) among))
+  none_asked e (inr among) asks (Solve budget) s = absurd (none_is_some _ (sym s.0.1 ∙ whole (kind_of e) among))
+  none_asked e (inr among) asks Replay s = absurd (none_is_some _ (sym s.1 ∙ whole (kind_of e) among))
   none_asked e (inr among) asks (Help page) s =
       absurd (asks.1 (same_kind _ _ (sym (whole (kind_of e) among) ∙ s.1)))
   none_asked e (inr among) asks Version s = absurd (asks.2 (same_kind _ _ (sym (whole (kind_of e) among) ∙ s)))

@@ -1,4 +1,4 @@
--- Which command the words after the program's name spell.
+-- Which command the words after the program's name spell, by clap's rules for a simple command.
 use Rattle.std.specs.Prelude.{◌≡◌, ◌≢◌, ⊤, ◌≤◌, ℕ, List, [], ◌∷◌, Option, Some, None, codes, if◌then◌else◌}
 use Rattle.std.specs.Str.{bytes_eq}
 use Rattle.std.specs.Str.Parse.{IsNumeral, digits_value, without_leading_plus}
@@ -13,7 +13,7 @@ use Rattle.hall_tool.specs.declared.words.WordsFault.{WordsFault}
 use Rattle.hall_tool.specs.declared.words.WordsFault.TheVariants.{Memory, Line}
 use Rattle.hall_tool.specs.Pages.{line_of}
 
--- the first word names the command; where it names none, the words are the program's own
+-- the first word names a command; any other word, or none, is for the program's own line
 abbrev pub page_of : List Text → Page
 page_of [] = pages.Hall
 page_of (name ∷ rest) =
@@ -22,20 +22,47 @@ page_of (name ∷ rest) =
     else (if bytes_eq name (codes "replay") then pages.Replay
     else pages.Hall))
 
--- what clap's rules find wrong with the words, or asked by them in place of a command
+-- what is wrong with the words, or asked for by them in place of a run
 abbrev pub faults_of : List Text → Kinds
 faults_of words = fault_of (line_of (page_of words)) words
 
--- the first word names the command of this page, and clap's rules take the words after it
+-- the first word names the command, and its line takes the words
 abbrev pub Takes : Page → List Text → Type 0
 Takes page words = (page_of words ≡ page) × (faults_of words ≡ [])
 
--- a budget that is named is a number of at most 1,000,000, as std reads a text; where none is named, it is 200,000
+-- the first word names the page, and the words ask for help
+abbrev pub AsksHelp : Page → List Text → Type 0
+AsksHelp page words = (page_of words ≡ page) × (faults_of words ≡ DisplayHelp ∷ [])
+
+-- the value that the words of `solve` give the option `--budget`
+abbrev pub budget_text : List Text → Option Text
+budget_text words = first_of (codes "budget") (matches_of (line_of pages.Solve) words)
+
+-- a budget that is named is a number of at most 1,000,000, read as std reads a text; where none is named, it is 200,000
 abbrev pub IsBudget : Option Text → ℕ → Type 0
 IsBudget None budget = budget ≡ 200000
 IsBudget (Some text) budget =
     IsNumeral 10 (without_leading_plus text) × (budget ≡ digits_value 10 (without_leading_plus text))
     × (budget ≤ 1000000)
+
+-- the words spell the command
+abbrev pub Spells : List Text → Command → Type 0
+Spells words Judge = Takes pages.Judge words
+Spells words (Solve budget) = Takes pages.Solve words × IsBudget (budget_text words) budget
+Spells words Replay = Takes pages.Replay words
+Spells words (Help page) = AsksHelp page words
+Spells words Version = faults_of words ≡ DisplayVersion ∷ []
+
+-- the words spell no command
+abbrev pub SpellsNone : List Text → Type 0
+SpellsNone words = (command : Command) → Spells words command → ⊥
+
+-- what a wrong line tells; want of memory tells nothing
+abbrev pub IfLine : WordsFault → Type 0 → Type 0
+IfLine Memory claim = ⊤
+IfLine (Line error) claim = claim
+
+-- ---- the same, of a line that took its words or refused them
 
 -- no number is the budget
 abbrev pub IsNoBudget : Option Text → Type 0
@@ -61,19 +88,3 @@ AsksFor page kind other = ⊥
 -- an error of this kind asks for nothing
 abbrev pub AsksNone : ErrorKind → Type 0
 AsksNone kind = (kind ≢ OutOfMemory) × (kind ≢ DisplayHelp) × (kind ≢ DisplayVersion)
-
--- the words spell the command
-abbrev pub Spells : List Text → Command → Type 0
-Spells words (Help page) = (page_of words ≡ page) × (faults_of words ≡ DisplayHelp ∷ [])
-Spells words Version = faults_of words ≡ DisplayVersion ∷ []
-Spells words command =
-    (faults_of words ≡ []) × IsTaken (page_of words) (matches_of (line_of (page_of words)) words) command
-
--- no command has these words
-abbrev pub SpellsNone : List Text → Type 0
-SpellsNone words = (command : Command) → Spells words command → ⊥
-
--- what a line that is refused tells; want of memory tells nothing
-abbrev pub IfLine : WordsFault → Type 0 → Type 0
-IfLine Memory claim = ⊤
-IfLine (Line error) claim = claim
