@@ -76,10 +76,10 @@ one_fault pages.Judge words = built_one (built (line_of pages.Judge)).top (argum
 one_fault pages.Solve words = built_one (built (line_of pages.Solve)).top (argument_words (built (line_of pages.Solve)) words) refl
 one_fault pages.Replay words = built_one (built (line_of pages.Replay)).top (argument_words (built (line_of pages.Replay)) words) refl
 
-none_is_some : (k : ErrorKind) → ◌≡◌ {A = Kinds} [] (k ∷ []) → ⊥
+pub none_is_some : (k : ErrorKind) → ◌≡◌ {A = Kinds} [] (k ∷ []) → ⊥
 none_is_some k e = cc
 
-same_kind : (k l : ErrorKind) → ◌≡◌ {A = Kinds} (k ∷ []) (l ∷ []) → k ≡ l
+pub same_kind : (k l : ErrorKind) → ◌≡◌ {A = Kinds} (k ∷ []) (l ∷ []) → k ≡ l
 same_kind k l e = cc
 
 module _ (words : List Text) where

@@ -1,5 +1,5 @@
 -- Which command the words after the program's name spell, by clap's rules for a simple command.
-use Rattle.std.specs.Prelude.{◌≡◌, ◌≢◌, ⊤, ◌≤◌, ℕ, List, [], ◌∷◌, Option, Some, None, codes, if◌then◌else◌}
+use Rattle.std.specs.Prelude.{◌≡◌, ◌≢◌, ⊤, ◌≤◌, ℕ, List, [], ◌∷◌, ◌++◌, Option, Some, None, codes, if◌then◌else◌}
 use Rattle.std.specs.Str.{bytes_eq}
 use Rattle.std.specs.Str.Parse.{IsNumeral, digits_value, without_leading_plus}
 use Rattle.clap.specs.Words.{Kinds, Row, Text, fault_of, first_of, matches_of}
@@ -88,3 +88,22 @@ AsksFor page kind other = ⊥
 -- an error of this kind asks for nothing
 abbrev pub AsksNone : ErrorKind → Type 0
 AsksNone kind = (kind ≢ OutOfMemory) × (kind ≢ DisplayHelp) × (kind ≢ DisplayVersion)
+
+-- ---- what the definitions give
+
+-- no words spell two commands
+abbrev pub SpellOneCommand : Type 0
+SpellOneCommand = (words : List Text) (one other : Command) → Spells words one → Spells words other → one ≡ other
+
+-- words of each command: its name alone, and for `solve` any text of a budget; `--help` alone and after a name
+pub record AreSpelled : Type 0 where
+  pub judge : Spells (codes "judge" ∷ []) Judge
+  pub solve : Spells (codes "solve" ∷ []) (Solve 200000)
+  pub named : (text : Text) (budget : ℕ) → IsBudget (Some text) budget
+      → Spells (codes "solve" ∷ (codes "--budget=" ++ text) ∷ []) (Solve budget)
+  pub replay : Spells (codes "replay" ∷ []) Replay
+  pub hall_help : Spells (codes "--help" ∷ []) (Help pages.Hall)
+  pub judge_help : Spells (codes "judge" ∷ codes "--help" ∷ []) (Help pages.Judge)
+  pub solve_help : Spells (codes "solve" ∷ codes "--help" ∷ []) (Help pages.Solve)
+  pub replay_help : Spells (codes "replay" ∷ codes "--help" ∷ []) (Help pages.Replay)
+  pub version : Spells (codes "--version" ∷ []) Version
