@@ -1,5 +1,5 @@
 //! The words of the command line: the command that they spell, or the error that names the word that is wrong.
-use hall_tool::{Command, Page, read_words};
+use hall_tool::{Command, Page, WordsFault, read_words};
 use std::alloc::AllocGlobal;
 use std::process::Abort;
 
@@ -41,8 +41,11 @@ const SPELLED: [Spelled; 19] = [
 type Refused = (&'static [&'static str], &'static str, &'static str);
 
 const HALL: &str = "hall judge|solve|replay [OPTIONS] < FILE";
+
 const JUDGE: &str = "hall judge < FILE";
+
 const SOLVE: &str = "hall solve [--budget N] < FILE";
+
 const REPLAY: &str = "hall replay < FILE";
 
 const REFUSED: [Refused; 26] = [
@@ -62,7 +65,11 @@ const REFUSED: [Refused; 26] = [
     ),
     (&["--", "judge"], "unexpected argument 'judge' found", HALL),
     (&["judge", "x"], "unexpected argument 'x' found", JUDGE),
-    (&["judge", "judge"], "unexpected argument 'judge' found", JUDGE),
+    (
+        &["judge", "judge"],
+        "unexpected argument 'judge' found",
+        JUDGE,
+    ),
     (
         &["judge", "--budget", "5"],
         "unexpected argument '--budget' found",
@@ -73,7 +80,11 @@ const REFUSED: [Refused; 26] = [
         "unexpected argument '--version' found",
         JUDGE,
     ),
-    (&["replay", "--", "x"], "unexpected argument 'x' found", REPLAY),
+    (
+        &["replay", "--", "x"],
+        "unexpected argument 'x' found",
+        REPLAY,
+    ),
     (&["solve", "5"], "unexpected argument '5' found", SOLVE),
     (
         &["solve", "--budget", "5", "6"],
@@ -122,7 +133,7 @@ const REFUSED: [Refused; 26] = [
     ),
 ];
 
-/// The command that the words spell, or the text of the fault.
+/// The command that the words spell, or the error's text.
 fn read(rt: &(impl AllocGlobal + Abort), words: &[&str]) -> Result<Command, String> {
     let mut list = Vec::new(rt.alloc());
     for word in words {
@@ -131,7 +142,8 @@ fn read(rt: &(impl AllocGlobal + Abort), words: &[&str]) -> Result<Command, Stri
     }
     match read_words(rt.alloc(), &list) {
         Ok(command) => Ok(command),
-        Err(fault) => Err(format!(in rt.alloc(); "{fault}").expect(rt, "memory")),
+        Err(WordsFault::Line(error)) => Err(format!(in rt.alloc(); "{error}").expect(rt, "memory")),
+        Err(WordsFault::Memory) => Err(String::new(rt.alloc())),
     }
 }
 

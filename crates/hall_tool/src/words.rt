@@ -8,7 +8,6 @@ use crate::pages::{Page, command_line};
 use clap::ArgMatches;
 use clap::error::{Error, ErrorKind};
 use std::alloc::{AllocError, Global};
-use std::fmt;
 
 /// The visits that a search may make where none are named.
 const DEFAULT_BUDGET: u64 = 200_000;
@@ -52,15 +51,6 @@ impl From<AllocError> for WordsFault {
 
     fn from(_e: AllocError) -> WordsFault {
         WordsFault::Memory
-    }
-}
-
-impl fmt::Display for WordsFault {
-    fn fmt<W: fmt::Write>(&self, f: &mut fmt::Formatter<W>) -> fmt::Result {
-        match self {
-            WordsFault::Memory => f.write_str("error: out of memory\n"),
-            WordsFault::Line(error) => error.fmt(f),
-        }
     }
 }
 
