@@ -23,3 +23,5 @@ mod socket;
 mod store;
 #[cfg(test)]
 mod tool;
+#[cfg(test)]
+mod words;
