@@ -1,5 +1,5 @@
 -- The table that bytes write.
-use Rattle.std.proofs.Common.{◌≡◌, refl, ℕ, List, true, false, Some, Ok, Err}
+use Rattle.std.proofs.Common.{◌≡◌, refl, ℕ, List, false, Some, Ok, Err}
 use Rattle.std.specs.Str.{IsUtf8, is_utf8}
 use Rattle.std.proofs.lemmas.Bool.{false_from_ne_true}
 use Rattle.std.proofs.lemmas.Str.{IsUtf8-from_is_utf8, is_utf8-from_IsUtf8}

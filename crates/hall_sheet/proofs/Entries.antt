@@ -1,5 +1,5 @@
 -- Entries one after another.
-use Rattle.std.proofs.Common.{◌≡◌, ◌∙◌, sym, refl, arith, ℕ, zero, suc, ◌+◌, ◌<◌, ◌≤◌, ◌&&◌, ◌||◌, Bool, true, false, not}
+use Rattle.std.proofs.Common.{◌≡◌, ◌∙◌, sym, refl, arith, ℕ, zero, suc, ◌+◌, ◌<◌, ◌≤◌, ◌||◌, Bool, true, false}
 use Rattle.std.proofs.Common.{◌⊎◌, inl, inr, ap, List, [], ◌∷◌, ◌++◌, length, drop, map, get_or, length-append, Ok, Err, Result, AllPairs}
 use Rattle.std.specs.List.{list_any}
 use Rattle.std.specs.Str.{bytes_eq}
@@ -12,7 +12,6 @@ use Rattle.hall_policy.specs.declared.record.Entry.{Entry}
 use Rattle.hall_policy.specs.Lists.{AreEntries}
 use Rattle.hall_sheet.specs.declared.fault.Refusal.{Refusal}
 use Rattle.hall_sheet.specs.declared.fault.Refusal.TheVariants as refusal
-use Rattle.hall_sheet.specs.Given.{◌>>=◌, unless}
 use Rattle.hall_sheet.specs.Sheet.{entry_in, entries_in, is_repeated}
 
 module _ {T : Type 0} (seen : T → Members) where

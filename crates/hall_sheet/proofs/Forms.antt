@@ -1,5 +1,5 @@
 -- What a form says of the bytes of a text: where the form has zeros, the text has digits.
-use Rattle.std.proofs.Common.{◌≡◌, refl, rules, arith, ℕ, zero, suc, ◌-◌, true, ◌==◌, List, [], ◌∷◌}
+use Rattle.std.proofs.Common.{◌≡◌, refl, arith, ℕ, zero, suc, ◌-◌, true, ◌==◌, List, [], ◌∷◌}
 use Rattle.std.proofs.Common.{length, take, drop, length-take, length-drop}
 use Rattle.std.specs.Prelude.{slice_range, codes}
 use Rattle.std.specs.List.{list_all, zip}

@@ -1,5 +1,5 @@
 -- The listed keys of a sheet.
-use Rattle.std.proofs.Common.{◌≡◌, ◌∙◌, sym, ap, refl, Bool, true, ◌&&◌, List, [], ◌∷◌, map, Option, Some, None, Ok}
+use Rattle.std.proofs.Common.{◌≡◌, ◌∙◌, ap, refl, Bool, true, ◌&&◌, List, [], ◌∷◌, map, Option, Some, None, Ok}
 use Rattle.std.specs.List.{list_all}
 use Rattle.toml.specs.Data.{Members}
 use Rattle.hall_sheet.specs.declared.fault.Field.TheVariants as field

@@ -1,6 +1,6 @@
 -- The moment of a start, from its parts.
-use Rattle.std.proofs.Common.{◌≡◌, refl, rules, arith, ℕ, ◌<◌, ◌==◌, ◌&&◌, Bool, true, false, List, length, take, drop}
-use Rattle.std.proofs.Common.{length-take, Some, None, Result, Ok, Err, ℤ, pos, ◌+ℤ◌, ◌-ℤ◌, ◌*ℤ◌}
+use Rattle.std.proofs.Common.{◌≡◌, refl, arith, ℕ, ◌<◌, ◌==◌, false, List, length, take, drop}
+use Rattle.std.proofs.Common.{length-take, Some, Result, Err, ℤ, pos, ◌+ℤ◌, ◌-ℤ◌, ◌*ℤ◌}
 use Rattle.std.specs.Prelude.{codes}
 use Rattle.std.proofs.lemmas.Bool.{ne_eqb}
 use Rattle.hall_sheet.specs.declared.fault.Field.TheVariants as field

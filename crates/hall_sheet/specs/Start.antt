@@ -1,5 +1,5 @@
 -- The moment that the text of a start names: a civil time and how far east of UTC its clock stands.
-use Rattle.std.specs.Prelude.{ℕ, ◌+◌, ◌*◌, ◌==◌, nat_le, ℤ, pos, neg_ℤ, ◌+ℤ◌, ◌-ℤ◌, ◌*ℤ◌, Bool, true, false, ◌&&◌}
+use Rattle.std.specs.Prelude.{ℕ, ◌+◌, ◌*◌, ◌==◌, nat_le, ℤ, pos, neg_ℤ, ◌+ℤ◌, ◌-ℤ◌, ◌*ℤ◌, Bool, ◌&&◌}
 use Rattle.std.specs.Prelude.{if◌then◌else◌, List, length, take, drop, slice_range, codes, Option, Some, None}
 use Rattle.std.specs.Prelude.{option_map, Result}
 use Rattle.std.specs.List.{list_all, zip}

@@ -1,4 +1,4 @@
-use Rattle.std.proofs.Common.{◌≡◌, ◌∙◌, sym, ap, rules, Some, pos}
+use Rattle.std.proofs.Common.{◌∙◌, sym, ap, rules, Some, pos}
 use Rattle.std.proofs.lemmas.Int.{to_z-of_z}
 use mir.Syntax.{w8, w16, w32}
 use mir.Val.{SFits}
