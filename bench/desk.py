@@ -3,29 +3,19 @@
 
     python3 bench/desk.py [PROGRAM] [--stored N ..]
 
-PROGRAM is built from the sources in bench/desk. Without it, the script makes a copy of the crates that it stands on, with
-what was proved of them before (their out/, some 4 GB; so build the hall first), proves and builds it there in some four
-minutes, and leaves it as bench/desk/out/desk_bench. The sources have an ending of their own, since the gate refuses a
-`.rt` file of no crate.
+PROGRAM is built from the sources in bench/desk; without it, bench/desk_program.py builds it and leaves it as
+bench/desk/out/desk_bench.
 
 Each measure is made where N answers of others are stored, by default 10, 1,000 and 100,000: 50 by each of them, over 20
 rounds, the one of the hand-ins among them. The time is the processor time of the requests alone, which are made before:
 the least of ten runs. The script checks that all replies are as wanted.
 """
 import argparse
-import glob
-import os
-import shutil
 import subprocess
 import sys
-import tempfile
 
-BENCH = os.path.dirname(os.path.realpath(__file__))
-ROOT = os.path.dirname(BENCH)
-NAME = "desk_bench"
-PROGRAM = f"{BENCH}/desk/out/{NAME}"
-ENDING = ".rattle"
-STANDS_ON = ["hall_grid", "hall_policy", "hall_store", "hall_desk"]
+from desk_program import build
+
 RUNS = 10
 # What is measured, the word for it, the rows of a listing, and how many requests.
 MEASURES = [
@@ -35,40 +25,6 @@ MEASURES = [
     ("listings of 50 rows", "list", 50, 1000),
     ("listings of 1,000 rows", "list", 1000, 1000),
 ]
-
-
-def crates_below():
-    """The lines of crates.txt for the crates that the program stands on."""
-    with open(f"{ROOT}/crates.txt", encoding="utf-8") as file:
-        lines = [line.partition("#")[0].partition(":") for line in file]
-    stands_on = {name.split()[0]: below.split() for name, mark, below in lines if mark}
-    wanted = list(STANDS_ON)
-    for name in wanted:
-        wanted += [below for below in stands_on[name] if below in stands_on and below not in wanted]
-    return {name: stands_on[name] for name in stands_on if name in wanted}
-
-
-def build(folder):
-    """Builds the program in a copy of the crates that it stands on."""
-    crates = crates_below()
-    for name in crates:
-        subprocess.run(["cp", "-a", "--parents", f"crates/{name}", folder], cwd=ROOT, check=True)
-    os.makedirs(f"{folder}/crates/{NAME}/src")
-    for source in glob.glob(f"{BENCH}/desk/*{ENDING}"):
-        name = os.path.basename(source).removesuffix(ENDING)
-        shutil.copy(source, f"{folder}/crates/{NAME}/src/{name}.rt")
-    with open(f"{folder}/crates.txt", "w", encoding="utf-8") as file:
-        file.writelines(f"{name}: {' '.join(below)}\n" for name, below in {**crates, NAME: STANDS_ON}.items())
-    log = f"{folder}/build.log"
-    with open(log, "wb") as file:
-        words = ["rt", "run", "--", "submit", "0", "0", "1"]
-        subprocess.run(words, cwd=f"{folder}/crates/{NAME}", stdout=file, stderr=subprocess.STDOUT, check=False)
-    built = f"{folder}/crates/{NAME}/out/{NAME}"
-    if not os.access(built, os.X_OK):
-        with open(log, encoding="utf-8", errors="replace") as file:
-            sys.exit("".join(file.readlines()[-40:]) + "the program was not built")
-    os.makedirs(os.path.dirname(PROGRAM), exist_ok=True)
-    return shutil.copy(built, PROGRAM)
 
 
 def run(program, word, stored, rows, count):
@@ -102,11 +58,8 @@ def main():
     parser.add_argument("program", nargs="?")
     parser.add_argument("--stored", type=int, nargs="+", default=[10, 1000, 100000], metavar="N")
     args = parser.parse_args()
-    program = args.program
-    if not program:
-        with tempfile.TemporaryDirectory(prefix="desk-bench-") as folder:
-            program = build(folder)
-    measure_all(program, args.stored)
+    measure_all(args.program or build(), args.stored)
 
 
-main()
+if __name__ == "__main__":
+    main()

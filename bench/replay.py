@@ -105,4 +105,5 @@ def main():
         measure_all(args.program, stored)
 
 
-main()
+if __name__ == "__main__":
+    main()

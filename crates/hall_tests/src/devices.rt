@@ -29,6 +29,31 @@ impl Read for Dripping<'_> {
     }
 }
 
+/// Gives its bytes one at a time, over and over.
+#[derive(Drop)]
+pub(crate) struct Circling<'a> {
+    bytes: &'a [u8],
+    rest: &'a [u8],
+    pub(crate) asked: usize,
+}
+
+impl Read for Circling<'_> {
+    fn read(&mut self, buf: &mut [u8]) -> io::Result<usize> {
+        self.asked = self.asked.saturating_add(1);
+        if self.rest.is_empty() {
+            self.rest = self.bytes;
+        }
+        match (self.rest, buf) {
+            ([first, rest @ ..], [place, ..]) => {
+                *place = *first;
+                self.rest = rest;
+                Ok(1)
+            }
+            _ => Ok(0),
+        }
+    }
+}
+
 /// Takes one byte at a call, and fails at call `fails_at`: by an error, or by taking none.
 #[derive(Drop)]
 pub(crate) struct Sipping {
@@ -66,6 +91,14 @@ pub(crate) fn failing_reader(
         asked: 0,
         fails_at,
         error,
+    })
+}
+
+pub(crate) fn endless_reader(bytes: &[u8]) -> Counted<Circling<'_>> {
+    Counted::new(Circling {
+        bytes,
+        rest: bytes,
+        asked: 0,
     })
 }
 
