@@ -19,128 +19,116 @@ const ALL_SIX: &str =
     "dora dora-key d;ada ada-key-1 ae;bob bob-key-1 a;eve eve-key-1 e;fay fay-key-1 e;rex rex-key-1 r;";
 
 /// A list, and its people or what it is refused for.
-type Listed = (&'static [u8], Result<&'static str, Refusal>);
+type Listed = (&'static [u8], &'static str);
 
-const WHOLE_LISTS: [Listed; 20] = [
-    (SIX, Ok(ALL_SIX)),
-    (b"name,key,roles", Ok("")),
-    (b"name,key,roles\n", Ok("")),
-    (b"\n\nname,key,roles\n\n", Ok("")),
-    (b"\xef\xbb\xbfname,key,roles\n", Ok("")),
-    (b"\"name\",\"key\",\"roles\"\n", Ok("")),
-    (b"\xef\xbb\xbf\xef\xbb\xbfname,key,roles\n", Err(Syntax)),
-    (b"", Err(Syntax)),
-    (b"\n", Err(Syntax)),
-    (b"name,key\n", Err(Syntax)),
-    (b"name,key,roles,more\n", Err(Syntax)),
-    (b"name,key,roles,\n", Err(Syntax)),
-    (b"name,roles,key\n", Err(Syntax)),
-    (b"Name,key,roles\n", Err(Syntax)),
-    (b"name, key,roles\n", Err(Syntax)),
-    (b"name;key;roles\n", Err(Syntax)),
-    (b"dora,dora-key,director\n", Err(Syntax)),
-    (b"name,key,roles\xff\n", Err(Syntax)),
+static WHOLE_LISTS: [Listed; 20] = [
+    (SIX, ALL_SIX),
+    (b"name,key,roles", ""),
+    (b"name,key,roles\n", ""),
+    (b"\n\nname,key,roles\n\n", ""),
+    (b"\xef\xbb\xbfname,key,roles\n", ""),
+    (b"\"name\",\"key\",\"roles\"\n", ""),
+    (b"\xef\xbb\xbf\xef\xbb\xbfname,key,roles\n", "F1"),
+    (b"", "F1"),
+    (b"\n", "F1"),
+    (b"name,key\n", "F1"),
+    (b"name,key,roles,more\n", "F1"),
+    (b"name,key,roles,\n", "F1"),
+    (b"name,roles,key\n", "F1"),
+    (b"Name,key,roles\n", "F1"),
+    (b"name, key,roles\n", "F1"),
+    (b"name;key;roles\n", "F1"),
+    (b"dora,dora-key,director\n", "F1"),
+    (b"name,key,roles\xff\n", "F1"),
     (
         b"name,key,roles\r\ndora,dora-key,director\r\n\r\nada,ada-key-1,author\r\n",
-        Ok("dora dora-key d;ada ada-key-1 a;"),
+        "dora dora-key d;ada ada-key-1 a;",
     ),
     (
         b"name,key,roles\rdora,dora-key,director\rada,ada-key-1,author",
-        Ok("dora dora-key d;ada ada-key-1 a;"),
+        "dora dora-key d;ada ada-key-1 a;",
     ),
 ];
 
 /// What follows the header.
-const LINES: [Listed; 56] = [
+static LINES: [Listed; 56] = [
     (
         b"ada,ada-key-1,referee+entrant+author+director",
-        Ok("ada ada-key-1 dare;"),
+        "ada ada-key-1 dare;",
     ),
-    (b"dora,dora-key,director+entrant", Ok("dora dora-key de;")),
+    (b"dora,dora-key,director+entrant", "dora dora-key de;"),
     (
         b"0-9,KEY-key-0,author\n-,--------,author",
-        Ok("0-9 KEY-key-0 a;- -------- a;"),
+        "0-9 KEY-key-0 a;- -------- a;",
     ),
     (
         b"abcdefghijklmnopqrstuvwx,12345678,author",
-        Ok("abcdefghijklmnopqrstuvwx 12345678 a;"),
+        "abcdefghijklmnopqrstuvwx 12345678 a;",
     ),
     (
         b"dora-key,key-dora,author\nkey-dora,dora-key,author",
-        Ok("dora-key key-dora a;key-dora dora-key a;"),
+        "dora-key key-dora a;key-dora dora-key a;",
     ),
     (
         b"\"ada\",\"ada-key-1\",\"author+entrant\"",
-        Ok("ada ada-key-1 ae;"),
+        "ada ada-key-1 ae;",
     ),
-    (b"ada,ada-key-1,\"author", Ok("ada ada-key-1 a;")),
-    (b"ada,ada-key-1,\"author\n", Err(Range(Field::Roles))),
-    (b"\"a\"\"da\",ada-key-1,author", Err(Range(Field::Name))),
-    (b"\"ada,ada-key-1,author\"", Err(Syntax)),
-    (b"ada", Err(Syntax)),
-    (b"ada,ada-key-1", Err(Syntax)),
-    (b"ada,ada-key-1,author,", Err(Syntax)),
-    (b"ada,ada-key-1,author,entrant", Err(Syntax)),
-    (b",", Err(Syntax)),
-    (b",,,", Err(Syntax)),
-    (b"\xff,ada-key-1,author", Err(Syntax)),
-    (b"ada,ada-key\xc3,author", Err(Syntax)),
-    (b"ada,ada-key-1,\xed\xa0\x80", Err(Syntax)),
-    (b",,\xff", Err(Syntax)),
-    (b",,", Err(Missing(Field::Name))),
-    (b"\"\",ada-key-1,author", Err(Missing(Field::Name))),
-    (b"ada,,", Err(Missing(Field::Key))),
-    (b"ada,,author", Err(Missing(Field::Key))),
-    (b"ada,ada-key-1,", Err(Missing(Field::Roles))),
-    (b"Ada,key,", Err(Missing(Field::Roles))),
-    (b"Ada,,judge", Err(Missing(Field::Key))),
-    (b"Ada,key,judge", Err(Range(Field::Name))),
-    (b"ada,key,judge", Err(Range(Field::Key))),
-    (b"ada,ada-key-1,judge", Err(Range(Field::Roles))),
-    (b" ada,ada-key-1,author", Err(Range(Field::Name))),
-    (b"a_da,ada-key-1,author", Err(Range(Field::Name))),
-    (b"\xc3\xa4da,ada-key-1,author", Err(Range(Field::Name))),
-    (
-        b"abcdefghijklmnopqrstuvwxy,12345678,author",
-        Err(Range(Field::Name)),
-    ),
-    (b"ada,1234567,author", Err(Range(Field::Key))),
-    (b"ada,ada_key_1,author", Err(Range(Field::Key))),
-    (b"ada,ada key 1,author", Err(Range(Field::Key))),
+    (b"ada,ada-key-1,\"author", "ada ada-key-1 a;"),
+    (b"ada,ada-key-1,\"author\n", "F3 roles"),
+    (b"\"a\"\"da\",ada-key-1,author", "F3 name"),
+    (b"\"ada,ada-key-1,author\"", "F1"),
+    (b"ada", "F1"),
+    (b"ada,ada-key-1", "F1"),
+    (b"ada,ada-key-1,author,", "F1"),
+    (b"ada,ada-key-1,author,entrant", "F1"),
+    (b",", "F1"),
+    (b",,,", "F1"),
+    (b"\xff,ada-key-1,author", "F1"),
+    (b"ada,ada-key\xc3,author", "F1"),
+    (b"ada,ada-key-1,\xed\xa0\x80", "F1"),
+    (b",,\xff", "F1"),
+    (b",,", "F2 name"),
+    (b"\"\",ada-key-1,author", "F2 name"),
+    (b"ada,,", "F2 key"),
+    (b"ada,,author", "F2 key"),
+    (b"ada,ada-key-1,", "F2 roles"),
+    (b"Ada,key,", "F2 roles"),
+    (b"Ada,,judge", "F2 key"),
+    (b"Ada,key,judge", "F3 name"),
+    (b"ada,key,judge", "F3 key"),
+    (b"ada,ada-key-1,judge", "F3 roles"),
+    (b" ada,ada-key-1,author", "F3 name"),
+    (b"a_da,ada-key-1,author", "F3 name"),
+    (b"\xc3\xa4da,ada-key-1,author", "F3 name"),
+    (b"abcdefghijklmnopqrstuvwxy,12345678,author", "F3 name"),
+    (b"ada,1234567,author", "F3 key"),
+    (b"ada,ada_key_1,author", "F3 key"),
+    (b"ada,ada key 1,author", "F3 key"),
     (
         b"ada,12345678901234567890123456789012345678901234567890123456789012345,author",
-        Err(Range(Field::Key)),
+        "F3 key",
     ),
-    (b"ada,ada-key-1,Author", Err(Range(Field::Roles))),
-    (b"ada,ada-key-1,author+author", Err(Range(Field::Roles))),
-    (
-        b"ada,ada-key-1,author+entrant+author",
-        Err(Range(Field::Roles)),
-    ),
-    (b"ada,ada-key-1,+", Err(Range(Field::Roles))),
-    (b"ada,ada-key-1,+author", Err(Range(Field::Roles))),
-    (b"ada,ada-key-1,author+", Err(Range(Field::Roles))),
-    (b"ada,ada-key-1,author++entrant", Err(Range(Field::Roles))),
-    (b"ada,ada-key-1,author + entrant", Err(Range(Field::Roles))),
-    (b"ada,ada-key-1,author;entrant", Err(Range(Field::Roles))),
-    (b"ada,ada-key-1,author\nada,bob-key-1,author", Err(Repeated)),
-    (b"ada,ada-key-1,author\nbob,ada-key-1,author", Err(Repeated)),
-    (b"ada,ada-key-1,author\nada,ada-key-1,author", Err(Repeated)),
+    (b"ada,ada-key-1,Author", "F3 roles"),
+    (b"ada,ada-key-1,author+author", "F3 roles"),
+    (b"ada,ada-key-1,author+entrant+author", "F3 roles"),
+    (b"ada,ada-key-1,+", "F3 roles"),
+    (b"ada,ada-key-1,+author", "F3 roles"),
+    (b"ada,ada-key-1,author+", "F3 roles"),
+    (b"ada,ada-key-1,author++entrant", "F3 roles"),
+    (b"ada,ada-key-1,author + entrant", "F3 roles"),
+    (b"ada,ada-key-1,author;entrant", "F3 roles"),
+    (b"ada,ada-key-1,author\nada,bob-key-1,author", "F4"),
+    (b"ada,ada-key-1,author\nbob,ada-key-1,author", "F4"),
+    (b"ada,ada-key-1,author\nada,ada-key-1,author", "F4"),
     (
         b"ada,ada-key-1,author\nbob,bob-key-1,author\nada,eve-key-1,entrant",
-        Err(Repeated),
+        "F4",
     ),
-    (
-        b"ada,ada-key-1,author\nada,ada-key-1,judge",
-        Err(Range(Field::Roles)),
-    ),
-    (b"ada,ada-key-1,author\nada,ada-key-1", Err(Syntax)),
-    (
-        b"ada,ada-key-1,author\nada,ada-key-1,author\nbob",
-        Err(Repeated),
-    ),
-    (b"ada,ada-key-1,judge\nbob\n", Err(Range(Field::Roles))),
-    (b"ada,ada-key-1,author\n,,", Err(Missing(Field::Name))),
+    (b"ada,ada-key-1,author\nada,ada-key-1,judge", "F3 roles"),
+    (b"ada,ada-key-1,author\nada,ada-key-1", "F1"),
+    (b"ada,ada-key-1,author\nada,ada-key-1,author\nbob", "F4"),
+    (b"ada,ada-key-1,judge\nbob\n", "F3 roles"),
+    (b"ada,ada-key-1,author\n,,", "F2 name"),
 ];
 
 fn letters(roles: Roles) -> [(bool, &'static str); 4] {
@@ -169,12 +157,28 @@ fn told(rt: &(impl AllocGlobal + Abort), people: &People) -> String {
     text
 }
 
-/// Whether the list is read as it should be.
-fn is_read(rt: &(impl AllocGlobal + Abort), list: &[u8], expected: &Result<&str, Refusal>) -> bool {
-    match (read_people(rt.alloc(), list), expected) {
-        (Ok(people), Ok(text)) => told(rt, &people).as_str() == *text,
-        (Err(SheetFault::Refused(found)), Err(refusal)) => found == *refusal,
-        _ => false,
+/// The code of a refusal, and its field.
+fn code(refusal: Refusal) -> &'static str {
+    match refusal {
+        Syntax => "F1",
+        Missing(Field::Name) => "F2 name",
+        Missing(Field::Key) => "F2 key",
+        Missing(Field::Roles) => "F2 roles",
+        Range(Field::List) => "F3 list",
+        Range(Field::Name) => "F3 name",
+        Range(Field::Key) => "F3 key",
+        Range(Field::Roles) => "F3 roles",
+        Repeated => "F4",
+        _ => "another",
+    }
+}
+
+/// Whether the list has these people, or is refused for this.
+fn is_read(rt: &(impl AllocGlobal + Abort), list: &[u8], expected: &str) -> bool {
+    match read_people(rt.alloc(), list) {
+        Ok(people) => told(rt, &people).as_str() == expected,
+        Err(SheetFault::Refused(refusal)) => code(refusal) == expected,
+        Err(SheetFault::Memory) => false,
     }
 }
 
@@ -266,7 +270,6 @@ fn a_list_has_5000_people_and_no_more(rt: HostRuntime) {
     for line in &last {
         let mut more = Vec::from_slice(rt.alloc(), list.as_bytes()).expect(&rt, "memory");
         more.extend_from_slice(line).expect(&rt, "memory");
-        let refused = Err(Range(Field::List));
-        assert!(rt; is_read(&rt, more.as_slice(), &refused));
+        assert!(rt; is_read(&rt, more.as_slice(), "F3 list"));
     }
 }
