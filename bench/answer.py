@@ -99,20 +99,39 @@ def measure_kind(program, hall, kind):
     print(f"{name:25}" + "".join(f"{spent:12.2f} us" for spent in least.values()), flush=True)
 
 
-def long_request(head, body):
-    """A request of so many bytes of head and of body."""
+def long_request(head, body, name=""):
+    """A request of so many bytes of head and of body. The head is filled up by the value of a header, or by its name."""
     start = f"POST /nothing HTTP/1.1\r\nContent-Length: {body}\r\n"
-    filling = head - len(start) - len("A: \r\n\r\n")
-    if filling >= 0:
-        start += "A: " + "x" * filling + "\r\n"
+    filling = "x" * (head - len(start) - len("A: b\r\n\r\n"))
+    if filling:
+        start += f"{name}{filling}: b\r\n" if name else f"A: b{filling}\r\n"
     return start + "\r\n" + "x" * body
 
 
+# Bytes of head and of body, and how the head is filled up: by a value where no name begins it.
+LONG = [
+    (0, 32768, ""),
+    (0, 65536, ""),
+    (2048, 0, ""),
+    (4096, 0, ""),
+    (8192, 0, ""),
+    (8192, 32768, ""),
+    (8192, 65536, ""),
+    (8192, 0, "A"),
+    (8192, 65536, "A"),
+]
+
+
 def measure_long(program):
-    for head, body in [(0, 32768), (0, 65536), (2048, 0), (4096, 0), (8192, 0), (8192, 32768), (8192, 65536)]:
-        asked = long_request(head, body)
+    for head, body, name in LONG:
+        asked = long_request(head, body, name)
         spent = min(answer(program, "serve", 0, 1, [asked], 0) for _ in range(RUNS)) / 1000
-        print(f"head of {len(asked) - body:5,}, body of {body:6,}{spent:14,.0f} us{1000 * spent / len(asked):12,.0f} ns a byte", flush=True)
+        filled = "a name" if name else "a value"
+        print(
+            f"head of {len(asked) - body:5,} ({filled:7}), body of {body:6,}"
+            f"{spent:12,.0f} us{1000 * spent / len(asked):10,.0f} ns a byte",
+            flush=True,
+        )
 
 
 def main():

@@ -16,9 +16,10 @@ def record(moment, asked):
 
 def replies(written):
     """The replies that were written one after another, each whole; the last may be cut short."""
-    found = []
-    while head := REPLY.match(written):
+    found, at = [], 0
+    while head := REPLY.match(written, at):
         end = head.end() + int(head[1])
-        found.append(written[:end])
-        written = written[end:]
-    return found + [written] if written else found
+        found.append(written[at:end])
+        at = end
+    rest = written[at:]
+    return found + [rest] if rest else found
