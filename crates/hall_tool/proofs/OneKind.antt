@@ -1,20 +1,26 @@
 -- A parse of a simple command without subcommands has one kind of fault at most.
-use Rattle.std.proofs.Common.{ap, sym, inl, inr, arith, ◌≤◌, ℕ, Bool, zero, suc, true, false, cond, refl, List, [], ◌∷◌, ◌≡◌, Option, Some, None, length, drop, rules}
-use Rattle.std.specs.Prelude.{⊤, ◌+◌, ◌==◌, ◌||◌, encode_utf8, if◌then◌else◌, min, nat_lt, not, slice_get}
+use Rattle.std.proofs.Common.{ap, sym, inl, inr, arith, ◌≤◌, ℕ, Bool, zero, suc, true, false, cond, List, []}
+use Rattle.std.proofs.Common.{◌∷◌, ◌≡◌, Option, Some, None, length}
+use Rattle.std.specs.Prelude.{slice_get}
 use Rattle.std.specs.Option.{option_map_or}
-use Rattle.std.specs.Str.{bytes_eq, chars}
+use Rattle.std.specs.Str.{chars}
 use Rattle.clap.specs.Lexer.{long_of, short_of}
-use Rattle.clap.specs.Matches.{count_text}
-use Rattle.clap.specs.Facts.{parser_of_value, unwrap_or_range}
-use Rattle.clap.specs.Simple.{App, Shape, names_of}
-use Rattle.clap.specs.Walk.{Held, Names, Row, Rule, Step, Text, Waiting, Walk, action_of, arg_by_id, arg_by_index, arg_by_long, arg_by_short}
-use Rattle.clap.specs.Walk.{attached_value, count_of, finished, is_empty, is_pending, nothing_held, reacted, settled, takes_several, takes_values, value, values_or_missing, walk, walk_from, walked, with_default, word_met}
+use Rattle.clap.specs.Simple.{Shape}
+use Rattle.clap.specs.Walk.{Held, Row, Rule, Step, Text, Waiting, Walk, arg_by_id, arg_by_index, arg_by_long}
+use Rattle.clap.specs.Walk.{arg_by_short}
+use Rattle.clap.specs.Walk.{attached_value, nothing_held, settled, value, walk, walk_from, walked}
+use Rattle.clap.specs.Walk.{with_default, word_met}
 use Rattle.clap.specs.Walk.{idle, option, positional, next, trailing, subcommand}
-use Rattle.clap.specs.Kinds.{Kinds, IsAmong, check_kinds, or_else, range_kinds, request_kinds, value_kinds, values_kinds}
-use Rattle.clap.specs.Faults.{action_fault, bundle_fault, bundle_step_fault, built_fault, check_fault, count_fault, default_fault, defaults_fault, entered_fault, flag_word_fault, flags_fault, level_fault, long_fault, option_fault}
-use Rattle.clap.specs.Faults.{other_fault, positional_fault, react_fault, repeat_fault, set_fault, settle_fault, short_fault, step_fault, stray_fault, turn_fault, use_fault, walk_fault, word_fault}
+use Rattle.clap.specs.Kinds.{Kinds, IsAmong, check_kinds, or_else, range_kinds, request_kinds, value_kinds}
+use Rattle.clap.specs.Kinds.{values_kinds}
+use Rattle.clap.specs.Faults.{action_fault, bundle_fault, bundle_step_fault, built_fault, count_fault}
+use Rattle.clap.specs.Faults.{default_fault, defaults_fault, entered_fault, flag_word_fault, flags_fault}
+use Rattle.clap.specs.Faults.{level_fault, long_fault, option_fault}
+use Rattle.clap.specs.Faults.{positional_fault, react_fault, set_fault, settle_fault, short_fault, step_fault}
+use Rattle.clap.specs.Faults.{stray_fault, turn_fault, use_fault, walk_fault, word_fault}
 use Rattle.clap.specs.declared.builder.action.ArgAction.{ArgAction}
-use Rattle.clap.specs.declared.builder.action.ArgAction.TheVariants.{Set, Append, SetTrue, SetFalse, Count, Help, HelpShort, HelpLong, Version}
+use Rattle.clap.specs.declared.builder.action.ArgAction.TheVariants.{Set, Append, SetTrue, SetFalse, Count}
+use Rattle.clap.specs.declared.builder.action.ArgAction.TheVariants.{Help, HelpShort, HelpLong, Version}
 use Rattle.clap.specs.declared.builder.value_parser.ValueParser.{ValueParser}
 use Rattle.clap.specs.declared.error.kind.ErrorKind.{ErrorKind}
 
@@ -101,7 +107,8 @@ settle_one c again h = go h.pending
     go None = search one_or_none
     go (Some p) = used_one (arg_by_id c p.0) again p.1 h.rows
 
-react_one : (c : List Rule) (again : Bool) (a : Rule) (vs : List Text) (h : Held) → IsSingle (react_fault c again a vs h)
+react_one : (c : List Rule) (again : Bool) (a : Rule) (vs : List Text) (h : Held)
+    → IsSingle (react_fault c again a vs h)
 react_one c again a vs h = either _ _ (settle_one c again h) (use_one again a vs (settled c h).rows)
 
 option_one : (c : List Rule) (again : Bool) (a : Rule) (v : Option Text) (h : Held)
@@ -148,11 +155,14 @@ flag_word_one c again None word h = go (short_of word)
 word_one : (s : Shape) (trails : Bool) (waiting : Waiting) (word : Text) (h : Held)
     → IsSingle (word_fault s [] trails waiting word h)
 word_one s trails idle word h =
-    chosen trails _ _ nothing (chosen _ _ _ nothing (flag_word_one s.rules s.args_override_self (long_of word) word h))
+    chosen trails _ _ nothing
+    (chosen _ _ _ nothing (flag_word_one s.rules s.args_override_self (long_of word) word h))
 word_one s trails (option id) word h =
-    chosen trails _ _ nothing (chosen _ _ _ nothing (flag_word_one s.rules s.args_override_self (long_of word) word h))
+    chosen trails _ _ nothing
+    (chosen _ _ _ nothing (flag_word_one s.rules s.args_override_self (long_of word) word h))
 word_one s trails positional word h =
-    chosen trails _ _ nothing (chosen _ _ _ nothing (flag_word_one s.rules s.args_override_self (long_of word) word h))
+    chosen trails _ _ nothing
+    (chosen _ _ _ nothing (flag_word_one s.rules s.args_override_self (long_of word) word h))
 
 module _ (s : Shape) (leaf : s.is_leaf ≡ true) where
   stray_one : IsSingle (stray_fault s)
@@ -189,7 +199,9 @@ module _ (s : Shape) (leaf : s.is_leaf ≡ true) where
   defaults_one rows (a ∷ rest) = either _ _ (default_one rows a) (defaults_one (with_default rows a) rest)
 
   check_one : (help sub wanted : Bool) → IsSingle (check_kinds help sub wanted)
-  check_one help sub wanted = chosen help _ _ (search one_or_none) (chosen sub _ _ (search one_or_none) (chosen wanted _ _ (search one_or_none) (search one_or_none)))
+  check_one help sub wanted =
+      chosen help _ _ (search one_or_none)
+      (chosen sub _ _ (search one_or_none) (chosen wanted _ _ (search one_or_none) (search one_or_none)))
 
   level_one : (h : Held) (words : List Text) (sub : Bool) (below : Kinds) → IsSingle below
       → IsSingle (level_fault s [] h words sub below)
@@ -199,7 +211,8 @@ module _ (s : Shape) (leaf : s.is_leaf ≡ true) where
       (either _ _ one (either _ _ (settle_one s.rules s.args_override_self end)
       (either _ _ (defaults_one (settled s.rules end).rows s.rules) (check_one _ _ _))))
 
-entered_one : (s : Shape) (stop : Option (Text × List Text)) → IsSingle (entered_fault (record { top = s; subs = [] }) stop)
+entered_one : (s : Shape) (stop : Option (Text × List Text))
+    → IsSingle (entered_fault (record { top = s; subs = [] }) stop)
 entered_one s None = search one_or_none
 entered_one s (Some p) = search one_or_none
 

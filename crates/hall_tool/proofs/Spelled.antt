@@ -1,12 +1,10 @@
 -- Words of each command, and that no words spell two.
-use Rattle.std.proofs.Common.{ap, sym, refl, ◌∙◌, ◌≡◌, ℕ, List, [], ◌∷◌, Option, Some, None, codes}
+use Rattle.std.proofs.Common.{ap, sym, refl, ◌∙◌, ◌≡◌, ℕ, [], ◌∷◌, Option, Some, None}
 use Rattle.clap.specs.Words.{Kinds, Text}
 use Rattle.clap.specs.declared.error.kind.ErrorKind.TheVariants.{DisplayHelp, DisplayVersion}
 use Rattle.clap.proofs.OnLiterals.{clap_on_literals}
-use Rattle.hall_tool.specs.declared.pages.Page.TheVariants as pages
-use Rattle.hall_tool.specs.declared.words.Command.{Command}
 use Rattle.hall_tool.specs.declared.words.Command.TheVariants.{Judge, Solve, Replay, Help, Version}
-use Rattle.hall_tool.specs.Words.{AreSpelled, IsBudget, SpellOneCommand, budget_text, faults_of, page_of}
+use Rattle.hall_tool.specs.Words.{AreSpelled, IsBudget, SpellOneCommand, budget_text}
 use Rattle.hall_tool.proofs.Spelling.{none_is_some, same_kind}
 
 pub are_spelled : AreSpelled

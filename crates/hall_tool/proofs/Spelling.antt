@@ -1,15 +1,17 @@
 -- What the program's words spell.
-use Rattle.std.proofs.Common.{ap, sym, subst, refl, inl, inr, ◌∙◌, ◌≡◌, ◌⊎◌, ℕ, Bool, true, false, List, [], ◌∷◌, map, Option, Some, None, codes}
+use Rattle.std.proofs.Common.{ap, sym, subst, refl, inl, inr, ◌∙◌, ◌≡◌, Bool, true, false, List, [], ◌∷◌, map}
+use Rattle.std.proofs.Common.{Option, Some, codes}
 use Rattle.std.specs.Prelude.{◌≢◌, slice_get, unwrap_or}
 use Rattle.std.specs.Str.{bytes_eq}
 use Rattle.std.proofs.lemmas.Slice.Eq.{bytes_eq-Decides}
-use Rattle.clap.specs.Words.{App, Kinds, HasKind, IsAmong, Row, Text, fault_of, first_of, first_value, is_simple, is_simple_and_free, kind_of, matches_of, rows_of}
+use Rattle.clap.specs.Words.{Kinds, HasKind, IsAmong, Row, Text, fault_of, first_of, first_value, is_simple}
+use Rattle.clap.specs.Words.{is_simple_and_free, kind_of, matches_of, rows_of}
 use Rattle.clap.specs.declared.parser.matches.Found.{Found}
 use Rattle.clap.proofs.WalkLemmas.{first_value-rows}
 use Rattle.clap.specs.Simple.{argument_words, built}
 use Rattle.clap.specs.declared.error.Error.{Error}
 use Rattle.clap.specs.declared.error.kind.ErrorKind.{ErrorKind}
-use Rattle.clap.specs.declared.error.kind.ErrorKind.TheVariants.{DisplayHelp, DisplayVersion, OutOfMemory}
+use Rattle.clap.specs.declared.error.kind.ErrorKind.TheVariants.{DisplayHelp, DisplayVersion}
 use Rattle.clap.proofs.OnLiterals.{clap_on_literals}
 use Rattle.hall_tool.specs.declared.pages.Page.{Page}
 use Rattle.hall_tool.specs.declared.pages.Page.TheVariants as pages
@@ -18,7 +20,8 @@ use Rattle.hall_tool.specs.declared.words.Command.TheVariants.{Judge, Solve, Rep
 use Rattle.hall_tool.specs.Pages.{line_of}
 use Rattle.hall_tool.specs.declared.words.WordsFault.{WordsFault}
 use Rattle.hall_tool.specs.declared.words.WordsFault.TheVariants.{Memory, Line}
-use Rattle.hall_tool.specs.Words.{AsksFor, AsksNone, IfLine, IsBudget, IsTaken, Spells, SpellsNone, TakesNone, faults_of, page_of}
+use Rattle.hall_tool.specs.Words.{AsksFor, AsksNone, IfLine, IsBudget, IsTaken, Spells, SpellsNone, TakesNone}
+use Rattle.hall_tool.specs.Words.{faults_of, page_of}
 use Rattle.hall_tool.proofs.OneKind.{IsSingle, built_one, only_kind}
 
 differs : (a b : Text) → a ≢ b → bytes_eq a b ≡ false
@@ -51,7 +54,8 @@ pub line_tells : (fault : WordsFault) (claim : Type 0) → claim → IfLine faul
 line_tells Memory claim p = tt
 line_tells (Line error) claim p = p
 
-pub line_weaker : (fault : WordsFault) (claim other : Type 0) → (claim → other) → IfLine fault claim → IfLine fault other
+pub line_weaker : (fault : WordsFault) (claim other : Type 0) → (claim → other) → IfLine fault claim
+    → IfLine fault other
 line_weaker Memory claim other step p = tt
 line_weaker (Line error) claim other step p = step p
 
@@ -71,10 +75,14 @@ line_free pages.Solve = refl
 line_free pages.Replay = refl
 
 one_fault : (page : Page) (words : List Text) → IsSingle (fault_of (line_of page) words)
-one_fault pages.Hall words = built_one (built (line_of pages.Hall)).top (argument_words (built (line_of pages.Hall)) words) refl
-one_fault pages.Judge words = built_one (built (line_of pages.Judge)).top (argument_words (built (line_of pages.Judge)) words) refl
-one_fault pages.Solve words = built_one (built (line_of pages.Solve)).top (argument_words (built (line_of pages.Solve)) words) refl
-one_fault pages.Replay words = built_one (built (line_of pages.Replay)).top (argument_words (built (line_of pages.Replay)) words) refl
+one_fault pages.Hall words =
+    built_one (built (line_of pages.Hall)).top (argument_words (built (line_of pages.Hall)) words) refl
+one_fault pages.Judge words =
+    built_one (built (line_of pages.Judge)).top (argument_words (built (line_of pages.Judge)) words) refl
+one_fault pages.Solve words =
+    built_one (built (line_of pages.Solve)).top (argument_words (built (line_of pages.Solve)) words) refl
+one_fault pages.Replay words =
+    built_one (built (line_of pages.Replay)).top (argument_words (built (line_of pages.Replay)) words) refl
 
 pub none_is_some : (k : ErrorKind) → ◌≡◌ {A = Kinds} [] (k ∷ []) → ⊥
 none_is_some k e = cc
@@ -84,7 +92,8 @@ same_kind k l e = cc
 
 module _ (words : List Text) where
   -- words that the line takes
-  module _ (rows : List Row) (fine : faults_of words ≡ []) (same : rows ≡ matches_of (line_of (page_of words)) words) where
+  module _ (rows : List Row) (fine : faults_of words ≡ [])
+      (same : rows ≡ matches_of (line_of (page_of words)) words) where
     pub taken_spells : (command : Command) → IsTaken (page_of words) rows command → Spells words command
     taken_spells Judge t = (t, fine)
     taken_spells (Solve budget) t =

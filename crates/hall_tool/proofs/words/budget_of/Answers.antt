@@ -1,6 +1,6 @@
 use Rattle.std.proofs.Common.{None, Some, refl}
 use Rattle.clap.specs.Words.{found_of}
-use Rattle.hall_tool.specs.Words.{IfLine, IsBudget, IsNoBudget}
+use Rattle.hall_tool.specs.Words.{IsBudget, IsNoBudget}
 use Rattle.hall_tool.proofs.Spelling.{budget_row, line_tells}
 use Rattle.hall_tool.proofs.words.budget_of.Goals as goal
 

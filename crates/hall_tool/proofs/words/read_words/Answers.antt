@@ -1,10 +1,12 @@
 use Rattle.std.proofs.Common.{◌≡◌, ◌∙◌, ap, sym, subst, map, string_bytes, [], List}
 use Rattle.std.proofs.lemmas.Result.{IfErr-weaker, IfOk-weaker}
-use Rattle.clap.specs.Words.{App, HasKind, Row, Text, app_of, fault_of, found_of, is_simple, is_simple_and_free, kind_of, matches_of, rows_of}
+use Rattle.clap.specs.Words.{App, HasKind, Row, Text, app_of, fault_of, found_of, is_simple}
+use Rattle.clap.specs.Words.{is_simple_and_free, kind_of, matches_of, rows_of}
 use Rattle.hall_tool.specs.declared.pages.Page.{Page}
 use Rattle.hall_tool.specs.Pages.{line_of}
-use Rattle.hall_tool.specs.Words.{AsksFor, AsksNone, IsTaken, SpellsNone, TakesNone, faults_of, page_of}
-use Rattle.hall_tool.proofs.Spelling.{asked_spells, line_free, line_simple, line_weaker, none_asked, none_taken, taken_spells}
+use Rattle.hall_tool.specs.Words.{AsksFor, IsTaken, SpellsNone, TakesNone, faults_of, page_of}
+use Rattle.hall_tool.proofs.Spelling.{asked_spells, line_free, line_simple, line_weaker, none_asked}
+use Rattle.hall_tool.proofs.Spelling.{none_taken, taken_spells}
 use Rattle.hall_tool.proofs.words.read_words.Goals as goal
 
 pub returns-in-Ok-clause-command : goal.returns-in-Ok-clause-command
@@ -41,7 +43,8 @@ returns-clause-command c =
     let words : List Text = map string_bytes c.args.words.now in
     let page : c.page_of-page.result ≡ page_of words = c.page_of-page.ensures in
     let app : app_of c.in_ok-line.line ≡ line_of (page_of words) = c.in_ok-line.ensures ∙ ap line_of page in
-    let has : HasKind (faults_of words) c.in-Err.error = subst (λ (a : App). HasKind (fault_of a words) c.in-Err.error) app
+    let has : HasKind (faults_of words) c.in-Err.error =
+    subst (λ (a : App). HasKind (fault_of a words) c.in-Err.error) app
     (c.in-Err.ensures.kinds (ap is_simple_and_free app ∙ line_free (page_of words))) in
     IfOk-weaker c.asked.result _ _ (λ command asks. asked_spells words c.in-Err.error command has
     (subst (λ (p : Page). AsksFor p (kind_of c.in-Err.error) command) page asks)) c.asked.ensures.command
@@ -51,7 +54,8 @@ returns-clause-fault c =
     let words : List Text = map string_bytes c.args.words.now in
     let page : c.page_of-page.result ≡ page_of words = c.page_of-page.ensures in
     let app : app_of c.in_ok-line.line ≡ line_of (page_of words) = c.in_ok-line.ensures ∙ ap line_of page in
-    let has : HasKind (faults_of words) c.in-Err.error = subst (λ (a : App). HasKind (fault_of a words) c.in-Err.error) app
+    let has : HasKind (faults_of words) c.in-Err.error =
+    subst (λ (a : App). HasKind (fault_of a words) c.in-Err.error) app
     (c.in-Err.ensures.kinds (ap is_simple_and_free app ∙ line_free (page_of words))) in
     IfErr-weaker c.asked.result _ _ (λ fault told. line_weaker fault _ (SpellsNone words)
     (λ asks. none_asked words c.in-Err.error has asks) told) c.asked.ensures.fault
