@@ -118,7 +118,7 @@ impl Listed {
         }
     }
 
-    /// Adds the person, and tells whether name and key were new.
+    /// Adds the person, and tells whether name and key were new; where they weren't, the list is of no more use.
     fn add(&mut self, person: Person) -> Result<bool, AllocError>
         requires { length self.old.people.items < 5000 }
         ensures { (before : List Person) → IsListed self.old before → IfOk result (λ new. Adds new before person self.new) }
@@ -152,6 +152,7 @@ pub fn read_people(alloc: Global, bytes: &[u8]) -> Result<People, SheetFault>
     let mut rows = rows_of(alloc, bytes);
     read_header(&mut rows)?;
     let mut list = Listed::new(alloc);
+
     while let Some(row) = next_row(&mut rows)? {
         list.add_row(alloc, row)?;
     }
