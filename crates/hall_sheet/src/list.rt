@@ -152,7 +152,6 @@ pub fn read_people(alloc: Global, bytes: &[u8]) -> Result<People, SheetFault>
     let mut rows = rows_of(alloc, bytes);
     read_header(&mut rows)?;
     let mut list = Listed::new(alloc);
-
     while let Some(row) = next_row(&mut rows)? {
         list.add_row(alloc, row)?;
     }
