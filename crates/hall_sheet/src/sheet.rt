@@ -152,7 +152,8 @@ fn read_fields(alloc: Global, document: &Table) -> Result<Sheet, SheetFault>
     })
 }
 
-/// The round sheet that the bytes spell in TOML; an error is the first thing that is wrong with them, or want of memory.
+/// The round sheet that the bytes spell in TOML. An error is the first thing that is wrong with them, or want of
+/// memory.
 pub fn read_round(alloc: Global, bytes: &[u8]) -> Result<Sheet, SheetFault>
     ensures { Gives (λ s. s) result (sheet_in bytes.now) }
 {
