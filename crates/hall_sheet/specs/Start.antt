@@ -28,7 +28,8 @@ number_at text from to = digits_value 10 (slice_range text from to)
 -- the day number of a date, where the calendar has it in the years 0 to 9999
 abbrev pub day_in : ℕ → ℕ → ℕ → Option ℤ
 day_in year month day =
-    if nat_le year 9999 && (nat_le 1 month && nat_le month 12) && (nat_le 1 day && nat_le day (days_in_month (pos year) month))
+    if nat_le year 9999 && (nat_le 1 month && nat_le month 12)
+    && (nat_le 1 day && nat_le day (days_in_month (pos year) month))
     then Some (days_from_civil (pos year) month day) else None
 
 -- the seconds of hours, minutes and seconds, where a clock shows them: up to 23:59:59

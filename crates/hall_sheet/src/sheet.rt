@@ -3,8 +3,8 @@ ghost use Rattle.std.specs.Prelude.{◌≡◌, [], map, IfOk};
 ghost use Rattle.std.specs.List.{list_any};
 ghost use Rattle.toml.specs.View.{table_view};
 ghost use Rattle.hall_sheet.specs.Given.{Gives};
-ghost use Rattle.hall_sheet.specs.Sheet.{document_in, are_listed, starts_in, mode_in, entry_in, is_repeated, entries_in};
-ghost use Rattle.hall_sheet.specs.Sheet.{list_in, fields_in, sheet_in};
+ghost use Rattle.hall_sheet.specs.Sheet.{document_in, are_listed, starts_in, mode_in, entry_in, is_repeated};
+ghost use Rattle.hall_sheet.specs.Sheet.{entries_in, list_in, fields_in, sheet_in};
 
 use crate::fault::{Field, Refusal, SheetFault};
 use crate::start::read_moment;
@@ -152,7 +152,8 @@ fn read_fields(alloc: Global, document: &Table) -> Result<Sheet, SheetFault>
     })
 }
 
-/// The round sheet that the bytes spell in TOML; an error is the first thing that is wrong with them, or want of memory.
+/// The round sheet that the bytes spell in TOML. An error is the first thing that is wrong with them, or want of
+/// memory.
 pub fn read_round(alloc: Global, bytes: &[u8]) -> Result<Sheet, SheetFault>
     ensures { Gives (λ s. s) result (sheet_in bytes.now) }
 {
