@@ -1,5 +1,5 @@
 -- A session over a store is a run of the hall over its requests.
-use Rattle.std.proofs.Common.{◌≡◌, ◌∙◌, sym, subst, refl, ℕ, inl, inr, List, [], ◌∷◌, ◌++◌, Option, Some, None, All}
+use Rattle.std.proofs.Common.{◌≡◌, ◌∙◌, sym, subst, refl, arith, ℕ, inl, inr, List, [], ◌∷◌, ◌++◌, Option, Some, None, All}
 use Rattle.std.proofs.lemmas.List.Elements.{All-nil, All-cons}
 use Rattle.hall_policy.specs.World.{World}
 use Rattle.hall_store.specs.Store.{Content, Leads, Over}
@@ -161,17 +161,32 @@ module _ {H C : Type 0} (content : H → Content) (now_gives : C → Option ℕ 
       runs_sane (content h) handled.exchanges (content i)
       (session_runs content now_gives h c handled.exchanges i d handled.session)
 
+-- nobody was served
+pub idle : {C : Type 0} (now_gives : C → Option ℕ → C → Type 0) (store : Content) (clock : C)
+    → IsRunThrough now_gives store store clock clock
+idle now_gives store clock = record {
+  exchanges = [];
+  whole = All-nil (λ x. IsWhole x.request);
+  moments = refl;
+  few = omega arith;
+  leads = record { honest = λ k. k; serves = λ k s. s };
+  run = λ k. onward_runs store [] store (store.world, refl, λ s. refl);
+}
+
 -- what a connection leaves, however it ended
 pub run_through : {H C E : Type 0} (content : H → Content) (now_gives : C → Option ℕ → C → Type 0)
     (stream after wrote written : Option (List ℕ)) (h : H) (c : C) (i : H) (d : C) (read_failed write_failed : Type 0)
     (r : Result ServeEnd E)
     → IfOk r (IsServed now_gives stream after wrote written (content h) (content i) c d read_failed write_failed)
-    → OnErr r (i ≡ h) → IsRunThrough (content h) (content i)
-run_through content now_gives stream after wrote written h c i d read_failed write_failed (Ok e) served same =
-    record { exchanges = served.exchanges; leads = served.leads; run = served.run }
-run_through content now_gives stream after wrote written h c i d read_failed write_failed (Err e) served same =
-    subst (λ i. IsRunThrough (content h) (content i)) (sym same) (record {
-      exchanges = [];
-      leads = record { honest = λ k. k; serves = λ k s. s };
-      run = λ k. onward_runs (content h) [] (content h) ((content h).world, refl, λ s. refl);
-    })
+    → OnErr r (i ≡ h) → OnErr r (d ≡ c) → IsRunThrough now_gives (content h) (content i) c d
+run_through content now_gives stream after wrote written h c i d read_failed write_failed (Ok e) served same stood =
+    record {
+      exchanges = served.exchanges;
+      whole = served.whole;
+      moments = served.moments;
+      few = served.few;
+      leads = served.leads;
+      run = served.run;
+    }
+run_through content now_gives stream after wrote written h c i d read_failed write_failed (Err e) served same stood =
+    rw (same, stood) (idle now_gives (content h) c)

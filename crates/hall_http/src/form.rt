@@ -26,7 +26,7 @@ pub(crate) enum FormFault {
     Puzzle(TextFault),
     /// Nothing is served at the method and path.
     NoRoute,
-    /// The bytes aren't a first line and a body in the limits.
+    /// The bytes aren't one whole request in the limits.
     NotWhole,
 }
 

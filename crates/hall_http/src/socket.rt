@@ -3,7 +3,6 @@ ghost use Rattle.std.specs.Prelude.{◌≡◌, OnErr};
 ghost use Rattle.hall_desk.specs.Desk.{kept_by, SaneThen};
 ghost use Rattle.hall_desk.specs.Sane.{Sane};
 ghost use Rattle.hall_desk.specs.Promises.{HasUniqueSolutions, RightAnswersAreSolutions};
-ghost use Rattle.hall_store.specs.Store.{Leads};
 ghost use Rattle.hall_http.specs.Socket.{IsRunThrough};
 
 use crate::connection::{Clock, ServeEnd, serve};
@@ -12,12 +11,13 @@ use hall_grid::Counted;
 use hall_policy::Moment;
 use hall_store::Store;
 use std::alloc::{AllocError, Global};
+use std::io;
 use std::io::Read;
 use std::net::{Shutdown, TcpStream};
 use std::time;
 use std::time::{Duration, SystemTime, UNIX_EPOCH};
 
-/// How many seconds a read waits for the next bytes of a request.
+/// How many seconds a read waits for the next bytes of a request, and a write for the client to take its reply.
 const PATIENCE: u64 = 30;
 
 /// How many seconds a read waits for bytes that are no longer answered.
@@ -51,9 +51,9 @@ impl<'t, T: time::Clock> Clock for SystemClock<'t, T> {
 
 /// Serves one connection over a socket, and hangs up.
 ///
-/// Each reply is sent at once, and a read that waits for thirty seconds fails. At the end the writing side is shut, and
-/// what is still unread is read off for a while: a socket that is closed with unread bytes resets the connection, and
-/// the client would lose its last reply.
+/// Each reply is sent at once, and a read or a write that waits for thirty seconds fails; a socket that can't be told so
+/// isn't served (`Device`). At the end the writing side is shut, and what is still unread is read off for a while: a
+/// socket that is closed with unread bytes resets the connection, and the client would lose its last reply.
 pub fn serve_socket<S: Store, C: Clock>(
     alloc: Global,
     desk: &mut Desk<S>,
@@ -61,18 +61,28 @@ pub fn serve_socket<S: Store, C: Clock>(
     clock: &mut C,
 ) -> Result<ServeEnd, AllocError>
     ensures desk { OnErr result (desk.new ≡ desk.old) }
-    ensures run { IsRunThrough (S.content (kept_by desk.old)) (S.content (kept_by desk.new)) }
+    ensures run { IsRunThrough C.now_gives (S.content (kept_by desk.old)) (S.content (kept_by desk.new))
+        clock.old clock.new }
     ensures sane { SaneThen Sane (S.content (kept_by desk.old)) (S.content (kept_by desk.new)) }
     ensures unique { SaneThen HasUniqueSolutions (S.content (kept_by desk.old)) (S.content (kept_by desk.new)) }
     ensures right { SaneThen RightAnswersAreSolutions (S.content (kept_by desk.old)) (S.content (kept_by desk.new)) }
 {
-    let _sent_at_once = stream.set_nodelay(true);
-    let _patient = stream.set_read_timeout(Some(Duration::from_secs(PATIENCE)));
+    if set_up(stream).is_err() {
+        return Ok(ServeEnd::Device);
+    }
     let mut reader = Counted::new(stream);
     let mut writer = Counted::new(stream);
     let ended = serve(alloc, desk, &mut reader, &mut writer, clock);
     hang_up(stream);
     ended
+}
+
+/// Has each reply sent at once, and no read or write wait for ever.
+fn set_up(stream: &TcpStream) -> io::Result<()> {
+    let patience = Some(Duration::from_secs(PATIENCE));
+    stream.set_nodelay(true)?;
+    stream.set_read_timeout(patience)?;
+    stream.set_write_timeout(patience)
 }
 
 /// Shuts the writing side, and reads off what is still unread, within the limits.
