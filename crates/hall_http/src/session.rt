@@ -87,13 +87,7 @@ fn answer_records<R: Read, W: Write, S: Store>(
     'records: loop {
         match cut_record(inbox.unread()) {
             Cut::Whole { moment, start, end } => {
-                let answer = answer_bytes(
-                    alloc,
-                    routes,
-                    desk,
-                    moment,
-                    &inbox.unread()[start..end],
-                );
+                let answer = answer_bytes(alloc, routes, desk, moment, &inbox.unread()[start..end]);
                 inbox.pass(end);
                 match send(writer, answer) {
                     Ok(()) => {}

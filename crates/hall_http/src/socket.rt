@@ -11,11 +11,10 @@ use hall_grid::Counted;
 use hall_policy::Moment;
 use hall_store::Store;
 use std::alloc::{AllocError, Global};
-use std::io;
 use std::io::Read;
 use std::net::{Shutdown, TcpStream};
-use std::time;
 use std::time::{Duration, SystemTime, UNIX_EPOCH};
+use std::{io, time};
 
 /// How many seconds a read waits for the next bytes of a request, and a write for the client to take its reply.
 const PATIENCE: u64 = 30;
