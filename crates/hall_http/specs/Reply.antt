@@ -3,8 +3,6 @@ use Rattle.std.specs.Prelude.{◌≡◌, ℕ, ◌==◌, ◌++◌, List, map, if�
 use Rattle.serde_json.specs.Data.{Data, number, string, object, array, unsigned, Members, no_members, member}
 use Rattle.serde_json.specs.View.{items_of}
 use Rattle.serde_json.specs.Written.{compact_text}
-use Rattle.hall_grid.specs.declared.fault.TextFault.{TextFault}
-use Rattle.hall_grid.specs.declared.fault.TextFault.TheVariants as text_fault
 use Rattle.hall_grid.specs.Rule.{verdict_text}
 use Rattle.hall_policy.specs.declared.record.Mode.{Mode}
 use Rattle.hall_policy.specs.declared.record.Mode.TheVariants.{Instant, Sealed}
@@ -17,6 +15,8 @@ use Rattle.hall_desk.specs.declared.reply.Reply.{Reply}
 use Rattle.hall_desk.specs.declared.reply.Reply.TheVariants as reply
 use Rattle.hall_http.specs.declared.form.Field.{Field}
 use Rattle.hall_http.specs.declared.form.Field.TheVariants as field
+use Rattle.hall_http.specs.declared.form.PuzzleFault.{PuzzleFault}
+use Rattle.hall_http.specs.declared.form.PuzzleFault.TheVariants as puzzle
 use Rattle.hall_http.specs.declared.form.FormFault.{FormFault}
 use Rattle.hall_http.specs.declared.form.FormFault.TheVariants as fault
 use Rattle.hall_http.specs.declared.status.Status.{Status}
@@ -169,22 +169,21 @@ abbrev pub place_data : List ℕ → ℕ → Data
 place_data form place = object (text_member (codes "form") form (number_member (codes "place") place no_members))
 
 -- the body of the reply to a text that is no puzzle
-abbrev pub text_fault_data : TextFault → Data
-text_fault_data text_fault.Memory = form_data (codes "E1")
-text_fault_data text_fault.Kind = form_data (codes "E2")
-text_fault_data text_fault.SizeField = form_data (codes "E3")
-text_fault_data text_fault.SizeLimit = form_data (codes "E4")
-text_fault_data (text_fault.Strange place) = place_data (codes "E5") place
-text_fault_data (text_fault.Cut place) = place_data (codes "E6") place
-text_fault_data (text_fault.Range place) = place_data (codes "E7") place
-text_fault_data (text_fault.After place) = place_data (codes "E8") place
+abbrev pub puzzle_fault_data : PuzzleFault → Data
+puzzle_fault_data puzzle.Kind = form_data (codes "E2")
+puzzle_fault_data puzzle.SizeField = form_data (codes "E3")
+puzzle_fault_data puzzle.SizeLimit = form_data (codes "E4")
+puzzle_fault_data (puzzle.Strange place) = place_data (codes "E5") place
+puzzle_fault_data (puzzle.Cut place) = place_data (codes "E6") place
+puzzle_fault_data (puzzle.Range place) = place_data (codes "E7") place
+puzzle_fault_data (puzzle.After place) = place_data (codes "E8") place
 
 -- the body of the reply to bytes that are no request
 abbrev pub fault_data : FormFault → Data
 fault_data fault.Syntax = form_data (codes "F1")
 fault_data (fault.Missing f) = field_data f (codes "F2")
 fault_data (fault.Range f) = field_data f (codes "F3")
-fault_data (fault.Puzzle found) = text_fault_data found
+fault_data (fault.Puzzle found) = puzzle_fault_data found
 fault_data fault.NoRoute = form_data (codes "F6")
 fault_data fault.NotWhole = form_data (codes "F7")
 

@@ -2,6 +2,7 @@
 use Rattle.std.specs.Prelude.{◌≡◌, ◌⊎◌, ℕ, List, if◌then◌else◌, Option, Some, None, option_and_then, Result, Ok, Err}
 use Rattle.httparse.specs.Grammar.{RequestHead}
 use Rattle.hall_grid.specs.declared.fault.TextFault.{TextFault}
+use Rattle.hall_grid.specs.declared.fault.TextFault.TheVariants as text_fault
 use Rattle.hall_grid.specs.Board.{Board}
 use Rattle.hall_grid.specs.Text.{SpellsText, FaultOf}
 use Rattle.hall_policy.specs.Text.{is_key_byte}
@@ -9,6 +10,8 @@ use Rattle.hall_policy.specs.declared.record.PuzzleKey.{PuzzleKey}
 use Rattle.hall_policy.specs.declared.request.Action.{Action}
 use Rattle.hall_policy.specs.declared.request.Action.TheVariants as action
 use Rattle.hall_policy.specs.declared.request.Request.{Request}
+use Rattle.hall_http.specs.declared.form.PuzzleFault.{PuzzleFault}
+use Rattle.hall_http.specs.declared.form.PuzzleFault.TheVariants as puzzle
 use Rattle.hall_http.specs.declared.form.FormFault.{FormFault}
 use Rattle.hall_http.specs.declared.form.FormFault.TheVariants as fault
 use Rattle.hall_http.specs.declared.routes.Route.{Route}
@@ -19,10 +22,23 @@ use Rattle.hall_http.specs.Body.{answer_in, text_in, budget_in}
 use Rattle.hall_http.specs.Head.{IsRequest, IsWhole, shown_key}
 use Rattle.hall_http.specs.Routes.{route_in}
 
+-- what is wrong with a text that is no puzzle; want of memory says nothing of it
+abbrev pub puzzle_fault : TextFault → Option PuzzleFault
+puzzle_fault text_fault.Memory = None
+puzzle_fault text_fault.Kind = Some puzzle.Kind
+puzzle_fault text_fault.SizeField = Some puzzle.SizeField
+puzzle_fault text_fault.SizeLimit = Some puzzle.SizeLimit
+puzzle_fault (text_fault.Strange place) = Some (puzzle.Strange place)
+puzzle_fault (text_fault.Cut place) = Some (puzzle.Cut place)
+puzzle_fault (text_fault.Range place) = Some (puzzle.Range place)
+puzzle_fault (text_fault.After place) = Some (puzzle.After place)
+
 -- the puzzle that a text spells, to be put under the key, or the text's first fault
 abbrev pub PutOf : PuzzleKey → List ℕ → Result Action FormFault → Type 0
 PutOf key text (Ok asked) = (board : Board) × SpellsText text board × (asked ≡ action.PutPuzzle key board)
-PutOf key text (Err found) = (first : TextFault) × FaultOf text first × (found ≡ fault.Puzzle first)
+PutOf key text (Err found) =
+    (first : TextFault) × (told : PuzzleFault) × FaultOf text first × (puzzle_fault first ≡ Some told)
+    × (found ≡ fault.Puzzle told)
 
 -- the same, where the body has a text, else the body's fault
 abbrev pub PutFrom : PuzzleKey → Result (List ℕ) FormFault → Result Action FormFault → Type 0

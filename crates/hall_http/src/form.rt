@@ -1,6 +1,7 @@
 //! Why bytes are no request.
 ghost use Rattle.std.specs.Prelude.{◌≡◌};
 ghost use Rattle.hall_http.specs.declared.form.RequestFault.TheVariants.{Memory};
+ghost use Rattle.hall_http.specs.Request.{puzzle_fault};
 
 use hall_grid::TextFault;
 use std::alloc::AllocError;
@@ -13,6 +14,34 @@ pub(crate) enum Field {
     Budget,
 }
 
+/// The first thing that keeps a text from being a puzzle. A place is an offset in the body of the text.
+#[derive(Clone, Copy, Debug, PartialEq, Eq)]
+pub(crate) enum PuzzleFault {
+    Kind,
+    SizeField,
+    SizeLimit,
+    Strange(usize),
+    Cut(usize),
+    Range(usize),
+    After(usize),
+}
+
+/// What is wrong with the text; nothing where memory ran out.
+pub(crate) fn puzzle_fault(fault: TextFault) -> Option<PuzzleFault>
+    ensures { result ≡ puzzle_fault fault }
+{
+    match fault {
+        TextFault::Memory => None,
+        TextFault::Kind => Some(PuzzleFault::Kind),
+        TextFault::SizeField => Some(PuzzleFault::SizeField),
+        TextFault::SizeLimit => Some(PuzzleFault::SizeLimit),
+        TextFault::Strange(place) => Some(PuzzleFault::Strange(place)),
+        TextFault::Cut(place) => Some(PuzzleFault::Cut(place)),
+        TextFault::Range(place) => Some(PuzzleFault::Range(place)),
+        TextFault::After(place) => Some(PuzzleFault::After(place)),
+    }
+}
+
 /// The first thing that keeps bytes from being a request.
 #[derive(Clone, Copy, Debug, PartialEq, Eq)]
 pub(crate) enum FormFault {
@@ -22,8 +51,8 @@ pub(crate) enum FormFault {
     Missing(Field),
     /// A member is out of its limits or has a strange byte.
     Range(Field),
-    /// The text is no puzzle; never for want of memory.
-    Puzzle(TextFault),
+    /// The text is no puzzle.
+    Puzzle(PuzzleFault),
     /// Nothing is served at the method and path.
     NoRoute,
     /// The bytes aren't one whole request in the limits.

@@ -1,17 +1,17 @@
 //! The bytes of replies.
-ghost use Rattle.std.specs.Prelude.{◌≡◌, ◌++◌, [], false, IfOk, OnOk, map, string_bytes};
+ghost use Rattle.std.specs.Prelude.{◌≡◌, ◌≢◌, ◌++◌, [], false, IfOk, OnOk, map, string_bytes};
 ghost use Rattle.serde_json.specs.View.{view};
 ghost use Rattle.serde_json.specs.Written.{has_float, compact_text};
 ghost use Rattle.hall_http.specs.Reply.{state_text, mode_text, put_data, certified_data, released_data, puzzle_data};
 ghost use Rattle.hall_http.specs.Reply.{round_data, received_data, answer_data, answers_data, denied_data};
-ghost use Rattle.hall_http.specs.Reply.{unavailable_data, reply_data, reply_status, denied_status, field_text};
-ghost use Rattle.hall_http.specs.Reply.{form_data, field_data, place_data, text_fault_data, fault_data, fault_status};
+ghost use Rattle.hall_http.specs.Reply.{reply_data, reply_status, denied_status, field_text};
+ghost use Rattle.hall_http.specs.Reply.{form_data, field_data, place_data, puzzle_fault_data, fault_data, fault_status};
 ghost use Rattle.hall_http.specs.Reply.{head_bytes, wire_bytes, BytesOf, FaultBytesOf};
 
-use crate::form::{Field, FormFault};
+use crate::form::{Field, FormFault, PuzzleFault};
 use crate::status::{MediaType, Status};
 use hall_desk::{AnswerLine, Reply, ShownPuzzle, ShownRound, StateName};
-use hall_grid::{Broken, TextFault};
+use hall_grid::Broken;
 use hall_policy::{AnswerNumber, Mode};
 use serde_json::{Value, json};
 use std::alloc::{AllocError, Global};
@@ -24,6 +24,9 @@ pub(crate) const UNAVAILABLE: &str =
 pub(crate) fn reply_bytes(alloc: Global, reply: &Reply) -> Result<String, AllocError>
     ensures { IfOk result (λ bytes. BytesOf reply.now (string_bytes bytes)) }
 {
+    if let Reply::Unavailable = reply {
+        return String::from_str(alloc, UNAVAILABLE);
+    }
     let body = reply_body(alloc, reply)?;
     json_bytes(alloc, reply_status(reply), &body)
 }
@@ -75,11 +78,12 @@ fn push_head(bytes: &mut String, status: Status, media: MediaType) -> Result<(),
 
 /// The status of a reply.
 fn reply_status(reply: &Reply) -> Status
+    requires { reply.now ≢ Reply.Unavailable }
     ensures { result ≡ reply_status reply.now }
 {
     match reply {
         Reply::Denied(rule) => denied_status(*rule),
-        Reply::Unavailable => Status::Unavailable,
+        Reply::Unavailable => unreachable!(),
         Reply::PuzzlePut { .. } => Status::Ok,
         Reply::Certified(_) => Status::Ok,
         Reply::Released(_) => Status::Ok,
@@ -116,11 +120,12 @@ fn fault_status(fault: FormFault) -> Status
 
 /// The body of a reply.
 fn reply_body(alloc: Global, reply: &Reply) -> Result<Value, AllocError>
+    requires { reply.now ≢ Reply.Unavailable }
     ensures { IfOk result (λ body. view body ≡ reply_data reply.now) }
 {
     match reply {
         Reply::Denied(rule) => denied_body(alloc, *rule),
-        Reply::Unavailable => unavailable_body(alloc),
+        Reply::Unavailable => unreachable!(),
         Reply::PuzzlePut { state, text } => put_body(alloc, *state, text.as_str()),
         Reply::Certified(state) => certified_body(alloc, *state),
         Reply::Released(round) => released_body(alloc, round.as_str()),
@@ -134,12 +139,6 @@ fn denied_body(alloc: Global, rule: u8) -> Result<Value, AllocError>
     ensures { IfOk result (λ body. view body ≡ denied_data rule) }
 {
     json!(in alloc; {"denied": rule})
-}
-
-fn unavailable_body(alloc: Global) -> Result<Value, AllocError>
-    ensures { IfOk result (λ body. view body ≡ unavailable_data) }
-{
-    json!(in alloc; {"fault": "hall"})
 }
 
 /// What a puzzle's state is called.
@@ -310,18 +309,17 @@ fn place_body(alloc: Global, form: &str, place: usize) -> Result<Value, AllocErr
 }
 
 /// The body of the reply to a text that is no puzzle.
-fn text_fault_body(alloc: Global, fault: TextFault) -> Result<Value, AllocError>
-    ensures { IfOk result (λ body. view body ≡ text_fault_data fault) }
+fn puzzle_fault_body(alloc: Global, fault: PuzzleFault) -> Result<Value, AllocError>
+    ensures { IfOk result (λ body. view body ≡ puzzle_fault_data fault) }
 {
     match fault {
-        TextFault::Memory => form_body(alloc, "E1"),
-        TextFault::Kind => form_body(alloc, "E2"),
-        TextFault::SizeField => form_body(alloc, "E3"),
-        TextFault::SizeLimit => form_body(alloc, "E4"),
-        TextFault::Strange(place) => place_body(alloc, "E5", place),
-        TextFault::Cut(place) => place_body(alloc, "E6", place),
-        TextFault::Range(place) => place_body(alloc, "E7", place),
-        TextFault::After(place) => place_body(alloc, "E8", place),
+        PuzzleFault::Kind => form_body(alloc, "E2"),
+        PuzzleFault::SizeField => form_body(alloc, "E3"),
+        PuzzleFault::SizeLimit => form_body(alloc, "E4"),
+        PuzzleFault::Strange(place) => place_body(alloc, "E5", place),
+        PuzzleFault::Cut(place) => place_body(alloc, "E6", place),
+        PuzzleFault::Range(place) => place_body(alloc, "E7", place),
+        PuzzleFault::After(place) => place_body(alloc, "E8", place),
     }
 }
 
@@ -333,7 +331,7 @@ fn fault_body(alloc: Global, fault: FormFault) -> Result<Value, AllocError>
         FormFault::Syntax => form_body(alloc, "F1"),
         FormFault::Missing(field) => field_body(alloc, field, "F2"),
         FormFault::Range(field) => field_body(alloc, field, "F3"),
-        FormFault::Puzzle(found) => text_fault_body(alloc, found),
+        FormFault::Puzzle(found) => puzzle_fault_body(alloc, found),
         FormFault::NoRoute => form_body(alloc, "F6"),
         FormFault::NotWhole => form_body(alloc, "F7"),
     }

@@ -4,11 +4,11 @@ ghost use Rattle.hall_http.specs.Given.{Finds};
 ghost use Rattle.hall_http.specs.Request.{key_in, ActionOf, PutOf, RequestOf};
 
 use crate::body::{read_answer, read_budget, read_text};
-use crate::form::{FormFault, RequestFault};
+use crate::form::{FormFault, RequestFault, puzzle_fault};
 use crate::head::read_whole;
 use crate::routes::{Route, Routes, route_of};
 use crate::words::checked;
-use hall_grid::{TextFault, parse_puzzle};
+use hall_grid::parse_puzzle;
 use hall_policy::{Action, Key, PuzzleKey, Request};
 use std::alloc::{AllocError, Global};
 
@@ -34,8 +34,10 @@ fn put_of(alloc: Global, key: PuzzleKey, text: &[u8]) -> Result<Action, RequestF
 {
     match parse_puzzle(alloc, text) {
         Ok(puzzle) => Ok(Action::PutPuzzle { key, puzzle }),
-        Err(TextFault::Memory) => Err(RequestFault::Memory),
-        Err(fault) => Err(RequestFault::Form(FormFault::Puzzle(fault))),
+        Err(fault) => match puzzle_fault(fault) {
+            Some(found) => Err(RequestFault::Form(FormFault::Puzzle(found))),
+            None => Err(RequestFault::Memory),
+        },
     }
 }
 
