@@ -1,7 +1,9 @@
 -- What one call of the store makes of the world, and what it asks of its caller.
-use Rattle.std.specs.Prelude.{◌≡◌, ◌≢◌, ℕ, true, List, Option, Some, None}
-use Rattle.std.specs.FinMap.{get, insert}
-use Rattle.hall_policy.specs.World.{World}
+use Rattle.std.specs.Prelude.{◌≡◌, ◌≢◌, ◌+◌, ℕ, true, not, List, [], ◌∷◌, Option, Some, None, Contains}
+use Rattle.std.specs.FinMap.{FinMap, get, contains_key, insert, retain_keys}
+use Rattle.hall_policy.specs.Text.{text_cmp}
+use Rattle.hall_policy.specs.World.{World, place_cmp, same_text}
+use Rattle.hall_policy.specs.Rules.{Conflicts}
 use Rattle.hall_policy.specs.declared.record.Person.{Person}
 use Rattle.hall_policy.specs.declared.record.Entry.{Entry}
 use Rattle.hall_policy.specs.declared.record.AnswerRow.{AnswerRow}
@@ -9,16 +11,41 @@ use Rattle.hall_policy.specs.declared.record.PuzzleKey.{PuzzleKey}
 use Rattle.hall_policy.specs.declared.record.PuzzleRow.{PuzzleRow}
 use Rattle.hall_policy.specs.declared.record.PuzzleState.{PuzzleState}
 use Rattle.hall_policy.specs.declared.record.Round.{Round}
+use Rattle.hall_policy.specs.declared.record.RoundRow.{RoundRow}
 use Rattle.hall_store.specs.declared.change.Change.{Change}
-use Rattle.hall_store.specs.declared.change.Change.TheVariants.{Nothing, PutPuzzle, SetState, SetRoundFlag, AddAnswer}
+use Rattle.hall_store.specs.declared.change.Change.TheVariants.{Nothing, Import, PutPuzzle, SetState}
+use Rattle.hall_store.specs.declared.change.Change.TheVariants.{PutRound, SetRoundFlag, AddAnswer}
 use Rattle.hall_store.specs.declared.change.RoundFlag.{RoundFlag}
 use Rattle.hall_store.specs.declared.change.RoundFlag.TheVariants.{Released, Published}
+
+-- the people, and this one too where the name is unknown
+abbrev pub with_person : FinMap text_cmp Person → Person → FinMap text_cmp Person
+with_person people person = if contains_key people person.name then people else insert people person.name person
+
+-- the people, and those of the list whose names are unknown
+abbrev pub with_people : FinMap text_cmp Person → List Person → FinMap text_cmp Person
+with_people people [] = people
+with_people people (person ∷ rest) = with_people (with_person people person) rest
 
 -- the puzzles, that of the key in this state
 abbrev pub with_state : World → PuzzleKey → PuzzleState → Option PuzzleRow → World
 with_state world key state None = world
 with_state world key state (Some row) =
     record world { puzzles = insert world.puzzles key (record row { state = state }) }
+
+-- the places of all rounds but this one
+abbrev pub without_list : FinMap place_cmp Entry → List ℕ → FinMap place_cmp Entry
+without_list places id = retain_keys places (λ key. not (same_text key.round id))
+
+-- the places, and the entries at theirs in the round, numbered from the given number on
+abbrev pub with_list : FinMap place_cmp Entry → List ℕ → ℕ → List Entry → FinMap place_cmp Entry
+with_list places id number [] = places
+with_list places id number (entry ∷ entries) =
+    insert (with_list places id (number + 1) entries) (record { round = id; number = number }) entry
+
+-- the places, those of the round being its entries, numbered from 1
+abbrev pub relisted : FinMap place_cmp Entry → List ℕ → List Entry → FinMap place_cmp Entry
+relisted places id entries = with_list (without_list places id) id 1 entries
 
 -- the round with the flag set
 abbrev pub flagged : RoundFlag → Round → Round
@@ -33,10 +60,19 @@ with_flag world id flag (Some round) = record world { rounds = insert world.roun
 -- the world after a change
 abbrev pub changed : Change → World → World
 changed Nothing world = world
+changed (Import people) world = record world { people = with_people world.people people }
 changed (PutPuzzle row) world = record world { puzzles = insert world.puzzles row.key row }
 changed (SetState key state) world = with_state world key state (get world.puzzles key)
+changed (PutRound row) world = record world {
+  rounds = insert world.rounds row.round.id row.round;
+  places = relisted world.places row.round.id row.puzzles;
+}
 changed (SetRoundFlag id flag) world = with_flag world id flag (get world.rounds id)
 changed (AddAnswer row) world = record world { answers = insert world.answers row.key row }
+
+-- nobody in the list contradicts what is known
+abbrev pub CanImport : World → List Person → Type 0
+CanImport world people = (person : Person) → Contains people person → ¬ (Conflicts world person)
 
 -- the author is there
 abbrev pub CanPutPuzzle : World → PuzzleRow → Type 0
@@ -45,6 +81,10 @@ CanPutPuzzle world row = (person : Person) × (get world.people row.key.author �
 -- the puzzle is there
 abbrev pub CanSetState : World → PuzzleKey → Type 0
 CanSetState world key = (row : PuzzleRow) × (get world.puzzles key ≡ Some row)
+
+-- the puzzles of the round's list are there
+abbrev pub CanPutRound : World → RoundRow → Type 0
+CanPutRound world row = (entry : Entry) → Contains row.puzzles entry → get world.puzzles entry.puzzle ≢ None
 
 -- the round is there
 abbrev pub CanSetFlag : World → List ℕ → Type 0
@@ -64,7 +104,9 @@ pub record CanAddAnswer (world : World) (row : AnswerRow) : Type 0 where
 -- the change may be made
 abbrev pub CanMake : Change → World → Type 0
 CanMake Nothing world = Unit {0}
+CanMake (Import people) world = CanImport world people
 CanMake (PutPuzzle row) world = CanPutPuzzle world row
 CanMake (SetState key state) world = CanSetState world key
+CanMake (PutRound row) world = CanPutRound world row
 CanMake (SetRoundFlag id flag) world = CanSetFlag world id
 CanMake (AddAnswer row) world = CanAddAnswer world row

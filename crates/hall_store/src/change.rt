@@ -1,5 +1,5 @@
 //! A change of the world.
-use hall_policy::{AnswerRow, PuzzleKey, PuzzleRow, PuzzleState, RoundId};
+use hall_policy::{AnswerRow, People, PuzzleKey, PuzzleRow, PuzzleState, RoundId, RoundRow};
 
 /// What a director sets on a round, and nobody takes back.
 #[derive(Clone, Copy, Debug, PartialEq, Eq)]
@@ -12,10 +12,14 @@ pub enum RoundFlag {
 #[derive(Drop)]
 pub enum Change {
     Nothing,
+    /// Adds the people of the list whose names are unknown.
+    Import(People),
     /// Stores the puzzle, in the place of the one under its key.
     PutPuzzle(PuzzleRow),
     /// Sets the state of the puzzle under the key.
     SetState { key: PuzzleKey, state: PuzzleState },
+    /// Stores the round with its list, in the place of the one under its id.
+    PutRound(RoundRow),
     /// Sets a flag of the round.
     SetRoundFlag { round: RoundId, flag: RoundFlag },
     /// Stores one more answer.

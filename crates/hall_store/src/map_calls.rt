@@ -17,8 +17,8 @@ use crate::slot::Part;
 use crate::store::Store;
 use crate::writes::put;
 use hall_policy::{
-    AnswerKey, AnswerNumber, AnswerRow, Key, Name, Person, PuzzleKey, PuzzleNumber, PuzzleRow,
-    PuzzleState, Round, RoundId, RoundRow,
+    AnswerKey, AnswerNumber, AnswerRow, Key, Name, People, Person, PuzzleKey, PuzzleNumber,
+    PuzzleRow, PuzzleState, Round, RoundId, RoundRow,
 };
 use std::alloc::Global;
 
@@ -37,6 +37,10 @@ impl Store for MapStore {
         Ok(person_at(&self.people, name)?)
     }
 
+    fn import(&mut self, _alloc: Global, people: &People) -> Result<(), StoreFault> {
+        Err(StoreFault::Memory)
+    }
+
     fn puzzle(&mut self, _alloc: Global, key: &PuzzleKey) -> Result<Option<PuzzleRow>, StoreFault> {
         Ok(puzzle_at(&self.puzzles, key)?)
     }
@@ -44,6 +48,10 @@ impl Store for MapStore {
     fn puzzles_of(&mut self, alloc: Global, author: &Name) -> Result<Vec<PuzzleRow>, StoreFault> {
         let first = first_label(alloc, author)?;
         Ok(puzzle_rows(alloc, &self.puzzles, &first)?)
+    }
+
+    fn all_puzzles(&mut self, alloc: Global) -> Result<Vec<PuzzleRow>, StoreFault> {
+        Err(StoreFault::Memory)
     }
 
     fn puzzles_put(&mut self, alloc: Global, author: &Name) -> Result<u64, StoreFault> {
@@ -74,6 +82,14 @@ impl Store for MapStore {
 
     fn round(&mut self, _alloc: Global, id: &RoundId) -> Result<Option<RoundRow>, StoreFault> {
         Ok(round_at(&self.rounds, id)?)
+    }
+
+    fn rounds(&mut self, alloc: Global) -> Result<Vec<Round>, StoreFault> {
+        Err(StoreFault::Memory)
+    }
+
+    fn put_round(&mut self, _alloc: Global, row: RoundRow) -> Result<(), StoreFault> {
+        Err(StoreFault::Memory)
     }
 
     fn set_round_flag(

@@ -2,8 +2,8 @@
 use crate::change::RoundFlag;
 use crate::fault::StoreFault;
 use hall_policy::{
-    AnswerKey, AnswerNumber, AnswerRow, Key, Name, Person, PuzzleKey, PuzzleNumber, PuzzleRow,
-    PuzzleState, RoundId, RoundRow,
+    AnswerKey, AnswerNumber, AnswerRow, Key, Name, People, Person, PuzzleKey, PuzzleNumber,
+    PuzzleRow, PuzzleState, Round, RoundId, RoundRow,
 };
 use std::alloc::Global;
 
@@ -15,13 +15,14 @@ use std::alloc::Global;
 /// A call is refused for want of memory, or as failed, which only a store that can fail does.
 pub trait Store: Drop {
     ghost use Rattle.std.specs.Prelude.{◌≡◌, ◌↔◌, IsTrue};
-    ghost use Rattle.std.specs.FinMap.{get};
+    ghost use Rattle.std.specs.FinMap.{get, values};
     ghost use Rattle.hall_policy.specs.Rules.{answers_given, puzzles_put};
     ghost use Rattle.hall_store.specs.Store.{Content, Kept, Served, Fails, Asks, Makes, puzzles_of, IsRoundKept};
     ghost use Rattle.hall_store.specs.Store.{AreUsing, IsNumberTaken, IsListing, is_of, is_in};
     ghost use Rattle.hall_store.specs.Caller.{IsKeyHolder};
-    ghost use Rattle.hall_store.specs.Change.{CanPutPuzzle, CanSetState, CanSetFlag, CanAddAnswer};
-    ghost use Rattle.hall_store.specs.declared.change.Change.TheVariants.{PutPuzzle, SetState, SetRoundFlag, AddAnswer};
+    ghost use Rattle.hall_store.specs.Change.{CanImport, CanPutPuzzle, CanSetState, CanPutRound, CanSetFlag, CanAddAnswer};
+    ghost use Rattle.hall_store.specs.declared.change.Change.TheVariants.{Import, PutPuzzle, SetState, PutRound};
+    ghost use Rattle.hall_store.specs.declared.change.Change.TheVariants.{SetRoundFlag, AddAnswer};
 
     // The world, and while it can be told.
     ghost content: { Self → Content };
@@ -41,6 +42,12 @@ pub trait Store: Drop {
         ensures served { Served (content self.new) result (λ world found. found ≡ get world.people name.now) }
         ensures fault { Fails can_fail result };
 
+    /// Adds the people of the list whose names are unknown.
+    fn import(&mut self, alloc: Global, people: &People) -> Result<(), StoreFault>
+        requires { Asks (content self.old) (λ world. CanImport world people.now) }
+        ensures makes { Makes (Import people.now) (content self.old) (content self.new) result }
+        ensures fault { Fails can_fail result };
+
     /// The puzzle under the key.
     fn puzzle(&mut self, alloc: Global, key: &PuzzleKey) -> Result<Option<PuzzleRow>, StoreFault>
         ensures kept { Kept (content self.old) (content self.new) }
@@ -51,6 +58,12 @@ pub trait Store: Drop {
     fn puzzles_of(&mut self, alloc: Global, author: &Name) -> Result<Vec<PuzzleRow>, StoreFault>
         ensures kept { Kept (content self.old) (content self.new) }
         ensures served { Served (content self.new) result (λ world rows. rows.items ≡ puzzles_of world author.now) }
+        ensures fault { Fails can_fail result };
+
+    /// All puzzles, in the order of their keys.
+    fn all_puzzles(&mut self, alloc: Global) -> Result<Vec<PuzzleRow>, StoreFault>
+        ensures kept { Kept (content self.old) (content self.new) }
+        ensures served { Served (content self.new) result (λ world rows. rows.items ≡ values world.puzzles) }
         ensures fault { Fails can_fail result };
 
     /// How many puzzles of the author are kept.
@@ -80,6 +93,18 @@ pub trait Store: Drop {
     fn round(&mut self, alloc: Global, id: &RoundId) -> Result<Option<RoundRow>, StoreFault>
         ensures kept { Kept (content self.old) (content self.new) }
         ensures served { Served (content self.new) result (λ world found. IsRoundKept world id.now found) }
+        ensures fault { Fails can_fail result };
+
+    /// All rounds without their puzzles, in the order of their ids.
+    fn rounds(&mut self, alloc: Global) -> Result<Vec<Round>, StoreFault>
+        ensures kept { Kept (content self.old) (content self.new) }
+        ensures served { Served (content self.new) result (λ world rounds. rounds.items ≡ values world.rounds) }
+        ensures fault { Fails can_fail result };
+
+    /// Stores the round with its list, in the place of the one under its id.
+    fn put_round(&mut self, alloc: Global, row: RoundRow) -> Result<(), StoreFault>
+        requires { Asks (content self.old) (λ world. CanPutRound world row) }
+        ensures makes { Makes (PutRound row) (content self.old) (content self.new) result }
         ensures fault { Fails can_fail result };
 
     /// Sets a flag of the round.
