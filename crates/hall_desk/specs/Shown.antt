@@ -4,6 +4,7 @@ use Rattle.std.specs.FinMap.{get}
 use Rattle.hall_grid.specs.Canonical.{CanonicalText}
 use Rattle.hall_policy.specs.World.{World, end_of, same_text}
 use Rattle.hall_policy.specs.declared.record.Person.{Person}
+use Rattle.hall_policy.specs.declared.record.PuzzleKey.{PuzzleKey}
 use Rattle.hall_policy.specs.declared.record.PuzzleRow.{PuzzleRow}
 use Rattle.hall_policy.specs.declared.record.PuzzleState.{PuzzleState}
 use Rattle.hall_policy.specs.declared.record.PuzzleState.TheVariants as state
@@ -18,6 +19,8 @@ use Rattle.hall_desk.specs.declared.reply.StateName.TheVariants as name
 use Rattle.hall_desk.specs.declared.reply.ShownPuzzle.{ShownPuzzle}
 use Rattle.hall_desk.specs.declared.reply.ShownRound.{ShownRound}
 use Rattle.hall_desk.specs.declared.reply.AnswerLine.{AnswerLine}
+use Rattle.hall_desk.specs.declared.reply.PuzzleLine.{PuzzleLine}
+use Rattle.hall_desk.specs.declared.reply.RoundLine.{RoundLine}
 
 -- what is told of a puzzle's state
 abbrev pub state_name : PuzzleState → StateName
@@ -26,6 +29,30 @@ state_name (state.One solution) = name.One
 state_name state.NoSolution = name.NoSolution
 state_name state.More = name.More
 state_name state.GaveUp = name.GaveUp
+
+-- a director sees every puzzle, an author the own ones
+abbrev pub sees_puzzle : Person → PuzzleRow → Bool
+sees_puzzle person row = person.roles.director || same_text row.key.author person.name
+
+-- a puzzle as it is listed
+abbrev pub puzzle_line : PuzzleRow → PuzzleLine
+puzzle_line row = record { key = row.key; state = state_name row.state }
+
+-- a director sees every round, all others the released ones
+abbrev pub sees_round : Person → Round → Bool
+sees_round person round = person.roles.director || round.released
+
+-- a round as it is listed
+abbrev pub round_line : Round → RoundLine
+round_line round = record {
+  id = round.id;
+  minutes = round.minutes;
+  mode = round.mode;
+  published = round.published;
+  released = round.released;
+  start = round.start;
+  title = round.title;
+}
 
 -- a puzzle of a round as it is shown: its number, its points and its canonical text
 pub record ShowsPuzzle (world : World) (place : ℕ) (entry : Entry) (shown : ShownPuzzle) : Type 0 where
@@ -88,3 +115,16 @@ answer_line shows row = record {
 -- the verdict that a reply to a Submit tells: none where the round is sealed
 abbrev pub told_verdict : Round → ℕ → Option ℕ
 told_verdict round verdict = if is_sealed round.mode then None else Some verdict
+
+-- the text is the solution that is stored with the puzzle
+abbrev pub IsStoredSolution : World → PuzzleKey → List ℕ → Type 0
+IsStoredSolution world key text =
+    (row : PuzzleRow) × (get world.puzzles key ≡ Some row) × (row.state ≡ state.One text)
+
+-- the texts are the stored solutions of the list's puzzles, in its order
+abbrev pub AreSolutions : World → List Entry → List (List ℕ) → Type 0
+AreSolutions world [] [] = Unit {0}
+AreSolutions world (entry ∷ entries) (text ∷ texts) =
+    IsStoredSolution world entry.puzzle text × AreSolutions world entries texts
+AreSolutions world [] (text ∷ texts) = ⊥
+AreSolutions world (entry ∷ entries) [] = ⊥

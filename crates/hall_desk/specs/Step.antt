@@ -1,6 +1,7 @@
 -- A step of the hall: one request, answered.
-use Rattle.std.specs.Prelude.{◌≡◌, ◌≢◌, ◌+◌, ◌⊎◌, ℕ, Bool, true, false, List, Option, Some, map}
-use Rattle.std.specs.FinMap.{get, insert}
+use Rattle.std.specs.Prelude.{◌≡◌, ◌≢◌, ◌+◌, ◌⊎◌, ℕ, Bool, true, false, not, List, Option, Some, map, count_by}
+use Rattle.std.specs.List.{filter}
+use Rattle.std.specs.FinMap.{get, contains_key, insert, values}
 use Rattle.hall_grid.specs.Board.{Board}
 use Rattle.hall_grid.specs.Answer.{AnswerText, Verdict}
 use Rattle.hall_grid.specs.Canonical.{CanonicalText}
@@ -18,6 +19,7 @@ use Rattle.hall_policy.specs.declared.record.Round.{Round}
 use Rattle.hall_policy.specs.declared.record.Entry.{Entry}
 use Rattle.hall_policy.specs.declared.record.RoundRow.{RoundRow}
 use Rattle.hall_policy.specs.declared.record.AnswerRow.{AnswerRow}
+use Rattle.hall_policy.specs.declared.request.Sheet.{Sheet}
 use Rattle.hall_policy.specs.declared.request.Action.{Action}
 use Rattle.hall_policy.specs.declared.request.Action.TheVariants.{Import, PutPuzzle, ReadPuzzle, ListPuzzles, Certify, PutRound, Release, ListRounds, ReadRound}
 use Rattle.hall_policy.specs.declared.request.Action.TheVariants.{Submit, Answers, Solutions, Protest, Protests, Rule, Publish, Table}
@@ -25,11 +27,23 @@ use Rattle.hall_policy.specs.declared.request.Request.{Request}
 use Rattle.hall_policy.specs.declared.rule.Decision.{Decision}
 use Rattle.hall_policy.specs.declared.rule.Decision.TheVariants.{Allow, Repeat, Deny}
 use Rattle.hall_store.specs.Caller.{caller_of}
+use Rattle.hall_store.specs.Change.{with_people, relisted}
 use Rattle.hall_store.specs.Store.{IsListing}
-use Rattle.hall_desk.specs.Shown.{state_name, ShowsRound, sees_answer, shows_verdict, answer_line, told_verdict}
+use Rattle.hall_desk.specs.Shown.{state_name, sees_puzzle, puzzle_line, sees_round, round_line, ShowsRound}
+use Rattle.hall_desk.specs.Shown.{sees_answer, shows_verdict, answer_line, told_verdict, AreSolutions}
 use Rattle.hall_desk.specs.declared.reply.ShownRound.{ShownRound}
 use Rattle.hall_desk.specs.declared.reply.Reply.{Reply}
 use Rattle.hall_desk.specs.declared.reply.Reply.TheVariants as reply
+
+-- how many people of the list have a name that is unknown
+abbrev pub unknown_people : World → List Person → ℕ
+unknown_people world people = count_by (λ person. not (contains_key world.people person.name)) people
+
+-- the people whose names are unknown are added, and counted
+abbrev pub IsImported : World → List Person → Reply → World → Type 0
+IsImported world people given new =
+    (given ≡ reply.Imported (unknown_people world people))
+    × (new ≡ record world { people = with_people world.people people })
 
 -- a puzzle as it is first stored: new, without a solution
 abbrev pub new_row : PuzzleKey → Board → PuzzleRow
@@ -47,6 +61,17 @@ IsPut world key puzzle text given new =
     ((row : PuzzleRow) → get world.puzzles key ≡ Some row → row.puzzle ≢ puzzle)
     × (given ≡ reply.PuzzlePut (state_name state.New) text)
     × (new ≡ record world { puzzles = insert world.puzzles key (new_row key puzzle) })
+
+-- the puzzle is read: its state, and its text as the writer writes it
+abbrev pub IsPuzzleRead : World → PuzzleKey → Reply → Type 0
+IsPuzzleRead world key given =
+    (row : PuzzleRow) × (text : List ℕ) × (get world.puzzles key ≡ Some row) × CanonicalText text row.puzzle
+    × (given ≡ reply.PuzzleRead key (state_name row.state) text)
+
+-- the reply lists all puzzles that the caller sees, by author, then label, and no other
+abbrev pub ArePuzzlesListed : World → Person → Reply → Type 0
+ArePuzzlesListed world person given =
+    given ≡ reply.PuzzleList (map puzzle_line (filter (sees_puzzle person) (values world.puzzles)))
 
 -- whether the puzzle was never searched, or the search came to no end
 abbrev pub is_open : PuzzleState → Bool
@@ -85,6 +110,34 @@ IsCertifiedBy world key budget found given new =
     (row : PuzzleRow) × (get world.puzzles key ≡ Some row)
     × (IsSearched world key row budget found given new ⊎ IsSettled world row given new)
 
+-- the draft that the sheet describes
+abbrev pub draft_of : List ℕ → Sheet → Round
+draft_of id sheet = record {
+  id = id;
+  title = sheet.title;
+  start = sheet.start;
+  minutes = sheet.minutes;
+  protest_minutes = sheet.protest_minutes;
+  mode = sheet.mode;
+  penalty = sheet.penalty;
+  bonus = sheet.bonus;
+  released = false;
+  published = false;
+}
+
+-- the draft of the sheet stands under the id, with the sheet's puzzles as its list; what stood there before is gone
+abbrev pub IsRoundPut : World → List ℕ → Sheet → Reply → World → Type 0
+IsRoundPut world id sheet given new =
+    (given ≡ reply.RoundPut id) × (new ≡ record world {
+      rounds = insert world.rounds id (draft_of id sheet);
+      places = relisted world.places id sheet.puzzles;
+    })
+
+-- the reply lists all rounds that the caller sees, by id, and no other
+abbrev pub AreRoundsListed : World → Person → Reply → Type 0
+AreRoundsListed world person given =
+    given ≡ reply.RoundList (map round_line (filter (sees_round person) (values world.rounds)))
+
 -- the draft is released
 abbrev pub IsReleasedBy : World → List ℕ → Reply → World → Type 0
 IsReleasedBy world id given new =
@@ -120,6 +173,12 @@ IsListed world person id t given =
     × IsListing world (sees_answer person round id t) rows
     × (given ≡ reply.AnswerList (map (answer_line (shows_verdict person round t)) rows))
 
+-- the solutions of the round's puzzles are told, in the list's order
+abbrev pub AreSolutionsTold : World → List ℕ → Reply → Type 0
+AreSolutionsTold world id given =
+    (row : RoundRow) × (texts : List (List ℕ)) × IsRoundAt world id row × AreSolutions world row.puzzles texts
+    × (given ≡ reply.SolutionList texts)
+
 -- what an allowed action answers and changes; `found` is what the search would find if the action ran it. The other
 -- actions aren't served yet
 abbrev pub Allowed : World → Option Person → Action → ℕ → PuzzleState → Reply → World → Type 0
@@ -135,12 +194,14 @@ Allowed world caller (Submit id number token answer) t found given new =
     TheCaller caller (λ person. IsSubmitted world person id number token answer t given new)
 Allowed world caller (Answers id) t found given new =
     TheCaller caller (λ person. IsListed world person id t given × (new ≡ world))
-Allowed world caller (Import people) t found given new = ⊥
-Allowed world caller (ReadPuzzle key) t found given new = ⊥
-Allowed world caller ListPuzzles t found given new = ⊥
-Allowed world caller (PutRound id sheet) t found given new = ⊥
-Allowed world caller ListRounds t found given new = ⊥
-Allowed world caller (Solutions id) t found given new = ⊥
+Allowed world caller (Import people) t found given new = IsImported world people given new
+Allowed world caller (ReadPuzzle key) t found given new = IsPuzzleRead world key given × (new ≡ world)
+Allowed world caller ListPuzzles t found given new =
+    TheCaller caller (λ person. ArePuzzlesListed world person given × (new ≡ world))
+Allowed world caller (PutRound id sheet) t found given new = IsRoundPut world id sheet given new
+Allowed world caller ListRounds t found given new =
+    TheCaller caller (λ person. AreRoundsListed world person given × (new ≡ world))
+Allowed world caller (Solutions id) t found given new = AreSolutionsTold world id given × (new ≡ world)
 Allowed world caller (Protest id token number text) t found given new = ⊥
 Allowed world caller (Protests id) t found given new = ⊥
 Allowed world caller (Rule id entrant token ruling) t found given new = ⊥

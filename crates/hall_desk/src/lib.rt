@@ -25,7 +25,7 @@ pub use desk::Desk;
 pub use law::{law_accepted_answers, law_sanity, law_tokens};
 pub use opening::opening_store;
 pub use planned::Plan;
-pub use reply::{AnswerLine, Reply, ShownPuzzle, ShownRound, StateName};
+pub use reply::{AnswerLine, PuzzleLine, Reply, RoundLine, ShownPuzzle, ShownRound, StateName};
 pub use rows::Rows;
 pub use search::certify;
 pub use verdict::judge;

@@ -3,7 +3,7 @@ use crate::rows::Rows;
 use hall_grid::Broken;
 use hall_policy::{
     AnswerNumber, AnswerText, Bonus, Minutes, Mode, Moment, Name, Penalty, Points, ProtestMinutes,
-    PuzzleNumber, PuzzleText, RoundId, Title, Token,
+    PuzzleKey, PuzzleNumber, PuzzleText, RoundId, Title, Token,
 };
 
 /// What is told of a puzzle's state.
@@ -14,6 +14,25 @@ pub enum StateName {
     NoSolution,
     More,
     GaveUp,
+}
+
+/// A puzzle, as it is listed.
+#[derive(Drop)]
+pub struct PuzzleLine {
+    pub key: PuzzleKey,
+    pub state: StateName,
+}
+
+/// A round, as it is listed.
+#[derive(Drop)]
+pub struct RoundLine {
+    pub id: RoundId,
+    pub minutes: Minutes,
+    pub mode: Mode,
+    pub published: bool,
+    pub released: bool,
+    pub start: Moment,
+    pub title: Title,
 }
 
 /// A puzzle of a round, as it is read.
@@ -59,15 +78,29 @@ pub enum Reply {
     Denied(u8),
     /// No memory was left, or the store refused; nothing is changed.
     Unavailable,
+    /// How many people were added.
+    Imported(u64),
     /// The puzzle's state and text, after it was put.
     PuzzlePut {
         state: StateName,
         text: PuzzleText,
     },
+    /// The puzzle that was read, with its state and text.
+    PuzzleRead {
+        key: PuzzleKey,
+        state: StateName,
+        text: PuzzleText,
+    },
+    /// The puzzles that the caller sees, by author, then label.
+    PuzzleList(Rows<PuzzleLine>),
     /// The puzzle's state, after it was certified.
     Certified(StateName),
+    /// The id of the draft that was stored or replaced.
+    RoundPut(RoundId),
     /// The id of the round that was released.
     Released(RoundId),
+    /// The rounds that the caller sees, by id.
+    RoundList(Rows<RoundLine>),
     /// The round that was read.
     RoundRead(ShownRound),
     /// An accepted answer's number and, in an instant round, its verdict.
@@ -77,4 +110,6 @@ pub enum Reply {
     },
     /// The answers that the caller sees, by entrant, number, then n.
     AnswerList(Rows<AnswerLine>),
+    /// The solutions of the round's puzzles, by number.
+    SolutionList(Rows<AnswerText>),
 }

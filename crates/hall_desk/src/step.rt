@@ -40,8 +40,10 @@ fn make<S: Store>(alloc: Global, store: &mut S, change: Change) -> Result<(), St
 {
     match change {
         Change::Nothing => Ok(()),
+        Change::Import(people) => store.import(alloc, &people),
         Change::PutPuzzle(row) => store.put_puzzle(alloc, row),
         Change::SetState { key, state } => store.set_state(alloc, &key, state),
+        Change::PutRound(row) => store.put_round(alloc, row),
         Change::SetRoundFlag { round, flag } => store.set_round_flag(alloc, &round, flag),
         Change::AddAnswer(row) => store.add_answer(alloc, row),
     }

@@ -170,3 +170,15 @@ impl People {
         self.people.as_slice()
     }
 }
+
+impl Clone for People {
+    ghost use Rattle.std.specs.Prelude.{◌≡◌};
+
+    ghost is_clone = { λ x y. y ≡ x };
+
+    fn clone(&self) -> Result<People, AllocError> {
+        Ok(People {
+            people: self.people.clone()?,
+        })
+    }
+}
