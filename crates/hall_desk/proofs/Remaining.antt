@@ -95,6 +95,10 @@ allowed_remains world caller (action.Release id) t found given new none h = rele
 allowed_remains world caller (action.Submit id number token answer) t found given new none h = submit_remains world caller id number token answer t found given new none h
 allowed_remains world caller (action.ReadRound id) t found given new none h = remains_same world new h.5
 allowed_remains world caller (action.Answers id) t found given new none h = remains_same world new h.2.1
+allowed_remains world caller (action.ReadPuzzle key) t found given new none h = remains_same world new h.1
+allowed_remains world caller action.ListPuzzles t found given new none h = remains_same world new h.2.1
+allowed_remains world caller action.ListRounds t found given new none h = remains_same world new h.2.1
+allowed_remains world caller (action.Solutions id) t found given new none h = remains_same world new h.1
 allowed_remains world caller _ t found given new none h = absurd h
 
 -- a step keeps them

@@ -110,13 +110,13 @@ allowed_sane world caller (action.Submit id number token answer) t found given n
 allowed_sane world caller (action.ReadRound id) t found given new sane there timed is none h = subst Sane (sym h.5) sane
 allowed_sane world caller (action.Answers id) t found given new sane there timed is none h = subst Sane (sym h.2.1) sane
 allowed_sane world caller (action.Import people) t found given new sane there timed is none h = absurd h
-allowed_sane world caller (action.ReadPuzzle key) t found given new sane there timed is none h = absurd h
-allowed_sane world caller action.ListPuzzles t found given new sane there timed is none h = absurd h
+allowed_sane world caller (action.ReadPuzzle key) t found given new sane there timed is none h = subst Sane (sym h.1) sane
+allowed_sane world caller action.ListPuzzles t found given new sane there timed is none h = subst Sane (sym h.2.1) sane
 allowed_sane world caller (action.Certify key budget) t found given new sane there timed is none h = certify_step world caller key budget t found given new sane h
 allowed_sane world caller (action.PutRound id sheet) t found given new sane there timed is none h = absurd h
 allowed_sane world caller (action.Release id) t found given new sane there timed is none h = release_step world caller id t found given new sane none h
-allowed_sane world caller action.ListRounds t found given new sane there timed is none h = absurd h
-allowed_sane world caller (action.Solutions id) t found given new sane there timed is none h = absurd h
+allowed_sane world caller action.ListRounds t found given new sane there timed is none h = subst Sane (sym h.2.1) sane
+allowed_sane world caller (action.Solutions id) t found given new sane there timed is none h = subst Sane (sym h.1) sane
 allowed_sane world caller (action.Protest id token number text) t found given new sane there timed is none h = absurd h
 allowed_sane world caller (action.Protests id) t found given new sane there timed is none h = absurd h
 allowed_sane world caller (action.Rule id entrant token ruling) t found given new sane there timed is none h = absurd h

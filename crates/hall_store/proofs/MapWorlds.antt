@@ -109,6 +109,7 @@ module _ (store : MapStore) (key : List ℕ) where
       | Some p ↦ λ e. (found_kept p e).0
     ] refl;
     alone = is_found;
+    own = λ name other kept _. (store.people_indexed name other (sym (get_found text_total store.people.entries name) ∙ kept)).own;
   }
 
 -- ---- rounds and their places

@@ -1,0 +1,152 @@
+//! Import: the people of a list whose names are unknown are added.
+ghost use Rattle.std.specs.Prelude.{◌≡◌, ◌≢◌, ◌↔◌, ◌⊎◌, ◌+◌, IsTrue, Contains, not, is_none, count_by};
+ghost use Rattle.std.specs.FinMap.{get, contains_key};
+ghost use Rattle.hall_policy.specs.Rules.{Conflicts};
+ghost use Rattle.hall_store.specs.Store.{Kept, Told, Fails};
+ghost use Rattle.hall_desk.specs.Step.{unknown_people};
+
+use crate::handler::Handler;
+use crate::planned::Plan;
+use crate::reply::Reply;
+use hall_policy::{Action, Decision, Facts, Moment, People, Person, decide};
+use hall_store::{Change, Store, StoreFault};
+use std::alloc::Global;
+
+/// What is imported: a list of people.
+#[derive(Clone, Copy)]
+pub(crate) struct Importing<'a> {
+    pub(crate) people: &'a People,
+}
+
+impl<'a> Handler for Importing<'a> {
+    ghost use Rattle.hall_desk.specs.Handler.{import_action};
+
+    ghost action_of = { import_action };
+
+    fn decision<S: Store>(
+        &self,
+        alloc: Global,
+        store: &mut S,
+        t: Moment,
+        action: &Action,
+        facts: &mut Facts,
+    ) -> Result<Decision, StoreFault> {
+        facts.conflict = any_conflict(alloc, store, self.people.as_slice())?;
+        Ok(decide(facts, action, t))
+    }
+
+    fn first_reply(&self, _facts: &Facts) -> Option<Reply> {
+        None
+    }
+
+    /// The people whose names are unknown are counted and added.
+    fn plan<S: Store>(
+        &self,
+        alloc: Global,
+        store: &mut S,
+        _t: Moment,
+        _facts: &Facts,
+    ) -> Result<Plan, StoreFault> {
+        let added = count_unknown(alloc, store, self.people.as_slice())?;
+        let people = self.people.clone()?;
+        Ok(Plan {
+            reply: Reply::Imported(added),
+            change: Change::Import(people),
+        })
+    }
+}
+
+/// Whether one of the people contradicts what is known.
+fn any_conflict<S: Store>(
+    alloc: Global,
+    store: &mut S,
+    people: &[Person],
+) -> Result<bool, StoreFault>
+    ensures kept { Kept (S.content store.old) (S.content store.new) }
+    ensures fault { Fails S.can_fail result }
+    ensures told { Told (S.content store.old) (S.content store.new) result
+        (λ world found. IsTrue found ↔ ((person : Person) × Contains people.now person × Conflicts world person)) }
+{
+    for person in people {
+        if conflicts(alloc, store, person)? {
+            return Ok(true);
+        }
+    }
+    Ok(false)
+}
+
+/// Whether the person has a known name with another key or other roles, has the key of another person, or is director
+/// and entrant.
+fn conflicts<S: Store>(alloc: Global, store: &mut S, person: &Person) -> Result<bool, StoreFault>
+    ensures kept { Kept (S.content store.old) (S.content store.new) }
+    ensures fault { Fails S.can_fail result }
+    ensures told { Told (S.content store.old) (S.content store.new) result
+        (λ world found. IsTrue found ↔ Conflicts world person.now) }
+{
+    if is_changed(alloc, store, person)? {
+        return Ok(true);
+    }
+    if has_key_of_another(alloc, store, person)? {
+        return Ok(true);
+    }
+    Ok(person.roles.director && person.roles.entrant)
+}
+
+/// Whether the name is known, with another key or other roles.
+fn is_changed<S: Store>(alloc: Global, store: &mut S, person: &Person) -> Result<bool, StoreFault>
+    ensures kept { Kept (S.content store.old) (S.content store.new) }
+    ensures fault { Fails S.can_fail result }
+    ensures told { Told (S.content store.old) (S.content store.new) result
+        (λ world found. IsTrue found ↔ ((known : Person) × (get world.people person.now.name ≡ Some known)
+        × ((known.key ≢ person.now.key) ⊎ (known.roles ≢ person.now.roles)))) }
+{
+    match store.person(alloc, &person.name)? {
+        Some(known) => Ok(differs(&known, person)),
+        None => Ok(false),
+    }
+}
+
+/// Whether the known person has another key or other roles.
+fn differs(known: &Person, person: &Person) -> bool
+    ensures { IsTrue result ↔ ((known.now.key ≢ person.now.key) ⊎ (known.now.roles ≢ person.now.roles)) }
+{
+    !known.key.is_same(&person.key) || known.roles != person.roles
+}
+
+/// Whether somebody of another name has the key.
+fn has_key_of_another<S: Store>(
+    alloc: Global,
+    store: &mut S,
+    person: &Person,
+) -> Result<bool, StoreFault>
+    ensures kept { Kept (S.content store.old) (S.content store.new) }
+    ensures fault { Fails S.can_fail result }
+    ensures told { Told (S.content store.old) (S.content store.new) result
+        (λ world found. IsTrue found ↔ ((other : List ℕ) × (known : Person) × (get world.people other ≡ Some known)
+        × (other ≢ person.now.name) × (known.key ≡ person.now.key))) }
+{
+    match store.person_by_key(alloc, &person.key)? {
+        Some(known) => Ok(!known.name.is_same(&person.name)),
+        None => Ok(false),
+    }
+}
+
+/// How many of the people have a name that is unknown.
+fn count_unknown<S: Store>(
+    alloc: Global,
+    store: &mut S,
+    people: &[Person],
+) -> Result<u64, StoreFault>
+    ensures kept { Kept (S.content store.old) (S.content store.new) }
+    ensures fault { Fails S.can_fail result }
+    ensures told { Told (S.content store.old) (S.content store.new) result
+        (λ world count. count ≡ unknown_people world people.now) }
+{
+    let mut count = 0;
+    for person in people {
+        if store.person(alloc, &person.name)?.is_none() {
+            count += 1;
+        }
+    }
+    Ok(count)
+}

@@ -1,0 +1,112 @@
+//! PutRound: a draft is stored, or replaced.
+ghost use Rattle.std.specs.Prelude.{◌≡◌, ◌↔◌, IsTrue, IfOk, None, Contains};
+ghost use Rattle.std.specs.FinMap.{get};
+ghost use Rattle.hall_store.specs.Store.{Kept, Told, Fails};
+ghost use Rattle.hall_desk.specs.Step.{draft_of};
+
+use crate::handler::Handler;
+use crate::planned::Plan;
+use crate::reply::Reply;
+use hall_policy::{
+    Action, Decision, Entry, Facts, Moment, Round, RoundId, RoundRow, Rule, Sheet, decide,
+    decide_up_to,
+};
+use hall_store::{Change, Store, StoreFault};
+use std::alloc::{AllocError, Global};
+
+/// What is drafted: the round of this id, by a sheet.
+#[derive(Clone, Copy)]
+pub(crate) struct Drafting<'a> {
+    pub(crate) round: &'a RoundId,
+    pub(crate) sheet: &'a Sheet,
+}
+
+impl<'a> Handler for Drafting<'a> {
+    ghost use Rattle.hall_desk.specs.Handler.{draft_action};
+
+    ghost action_of = { draft_action };
+
+    /// The sheet's puzzles are looked for, then the round.
+    fn decision<S: Store>(
+        &self,
+        alloc: Global,
+        store: &mut S,
+        t: Moment,
+        action: &Action,
+        facts: &mut Facts,
+    ) -> Result<Decision, StoreFault> {
+        facts.sheet_lacks = any_lacking(alloc, store, self.sheet.puzzles.as_slice())?;
+        if let Some(decision) = decide_up_to(facts, action, t, Rule::Missing) {
+            return Ok(decision);
+        }
+        facts.round = store.round(alloc, self.round)?;
+        Ok(decide(facts, action, t))
+    }
+
+    fn first_reply(&self, _facts: &Facts) -> Option<Reply> {
+        None
+    }
+
+    fn plan<S: Store>(
+        &self,
+        _alloc: Global,
+        _store: &mut S,
+        _t: Moment,
+        _facts: &Facts,
+    ) -> Result<Plan, StoreFault> {
+        let shown = self.round.clone()?;
+        let row = draft_row(self.round, self.sheet)?;
+        Ok(Plan {
+            reply: Reply::RoundPut(shown),
+            change: Change::PutRound(row),
+        })
+    }
+}
+
+/// The draft that the sheet describes, with the sheet's puzzles.
+fn draft_row(id: &RoundId, sheet: &Sheet) -> Result<RoundRow, AllocError>
+    ensures { IfOk result (λ row. row ≡ record { round = draft_of id.now sheet.now; puzzles = sheet.now.puzzles }) }
+{
+    Ok(RoundRow {
+        round: draft_of(id, sheet)?,
+        puzzles: sheet.puzzles.clone()?,
+    })
+}
+
+/// The draft that the sheet describes.
+fn draft_of(id: &RoundId, sheet: &Sheet) -> Result<Round, AllocError>
+    ensures { IfOk result (λ round. round ≡ draft_of id.now sheet.now) }
+{
+    Ok(Round {
+        id: id.clone()?,
+        title: sheet.title.clone()?,
+        start: sheet.start,
+        minutes: sheet.minutes,
+        protest_minutes: sheet.protest_minutes,
+        mode: sheet.mode,
+        penalty: sheet.penalty,
+        bonus: sheet.bonus,
+        released: false,
+        published: false,
+    })
+}
+
+/// Whether one of the entries is of a puzzle that isn't kept.
+fn any_lacking<S: Store>(
+    alloc: Global,
+    store: &mut S,
+    entries: &[Entry],
+) -> Result<bool, StoreFault>
+    ensures kept { Kept (S.content store.old) (S.content store.new) }
+    ensures fault { Fails S.can_fail result }
+    ensures told { Told (S.content store.old) (S.content store.new) result
+        (λ world found. IsTrue found
+        ↔ ((entry : Entry) × Contains entries.now entry × (get world.puzzles entry.puzzle ≡ None))) }
+{
+    for entry in entries {
+        if store.puzzle(alloc, &entry.puzzle)?.is_none() {
+            return Ok(true);
+        }
+    }
+    Ok(false)
+}
