@@ -5,12 +5,15 @@ use Rattle.hall_policy.specs.World.{World}
 use Rattle.hall_policy.specs.Rules.{answers_given}
 use Rattle.hall_policy.specs.declared.record.AnswerRow.{AnswerRow}
 use Rattle.hall_policy.specs.declared.request.Action.{Action}
-use Rattle.hall_policy.specs.declared.request.Action.TheVariants.{PutPuzzle, Certify, Release, ReadRound, Submit, Answers}
+use Rattle.hall_policy.specs.declared.request.Action.TheVariants.{Import, PutPuzzle, Certify, PutRound, Release}
+use Rattle.hall_policy.specs.declared.request.Action.TheVariants.{ReadRound, Submit, Answers}
 use Rattle.hall_policy.specs.declared.record.AnswerKey.{AnswerKey}
 use Rattle.hall_policy.specs.declared.record.Person.{Person}
 use Rattle.hall_desk.specs.declared.submit.Handed.{Handed}
+use Rattle.hall_desk.specs.declared.import_people.Importing.{Importing}
 use Rattle.hall_desk.specs.declared.put_puzzle.Putting.{Putting}
 use Rattle.hall_desk.specs.declared.certify_puzzle.Certifying.{Certifying}
+use Rattle.hall_desk.specs.declared.put_round.Drafting.{Drafting}
 use Rattle.hall_desk.specs.declared.release.Releasing.{Releasing}
 use Rattle.hall_desk.specs.declared.read_round.Reading.{Reading}
 use Rattle.hall_desk.specs.declared.answers.Listing.{Listing}
@@ -39,6 +42,10 @@ abbrev pub IsCountOf : World → Option Person → Handed → ℕ → Type 0
 IsCountOf world caller handed count =
     (person : Person) → caller ≡ Some person → count ≡ answers_given world person.name handed.round.now handed.number
 
+-- the action that imports the people
+abbrev pub import_action : Importing → Action
+import_action imported = Import imported.people.now
+
 -- the action that puts the puzzle
 abbrev pub put_action : Putting → Action
 put_action put = PutPuzzle put.key.now put.puzzle.now
@@ -46,6 +53,10 @@ put_action put = PutPuzzle put.key.now put.puzzle.now
 -- the action that certifies the puzzle
 abbrev pub certify_action : Certifying → Action
 certify_action certified = Certify certified.key.now certified.budget
+
+-- the action that puts the round
+abbrev pub draft_action : Drafting → Action
+draft_action drafted = PutRound drafted.round.now drafted.sheet.now
 
 -- the action that releases the round
 abbrev pub release_action : Releasing → Action

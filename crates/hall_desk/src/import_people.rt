@@ -1,6 +1,6 @@
 //! Import: the people of a list whose names are unknown are added.
-ghost use Rattle.std.specs.Prelude.{◌≡◌, ◌≢◌, ◌↔◌, ◌⊎◌, ◌+◌, IsTrue, Contains, not, is_none, count_by};
-ghost use Rattle.std.specs.FinMap.{get, contains_key};
+ghost use Rattle.std.specs.Prelude.{◌≡◌, ◌≢◌, ◌↔◌, ◌⊎◌, ℕ, List, IsTrue, Contains};
+ghost use Rattle.std.specs.FinMap.{get};
 ghost use Rattle.hall_policy.specs.Rules.{Conflicts};
 ghost use Rattle.hall_store.specs.Store.{Kept, Told, Fails};
 ghost use Rattle.hall_desk.specs.Step.{unknown_people};

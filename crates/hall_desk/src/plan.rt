@@ -11,8 +11,10 @@ ghost use Rattle.hall_desk.specs.Plans.{IsPlanFor, Planned, FailsIn, IsUnserved,
 use crate::answers::Listing;
 use crate::certify_puzzle::Certifying;
 use crate::handler::Handler;
+use crate::import_people::Importing;
 use crate::planned::Plan;
 use crate::put_puzzle::Putting;
+use crate::put_round::Drafting;
 use crate::read_round::Reading;
 use crate::release::Releasing;
 use crate::reply::Reply;
@@ -147,6 +149,7 @@ fn dispatch<S: Store>(
         (λ world plan. IsPlanFor world t request.now plan) }
 {
     match &request.action {
+        Action::Import { people } => handle(alloc, store, t, request, &Importing { people }, facts),
         Action::PutPuzzle { key, puzzle } => {
             handle(alloc, store, t, request, &Putting { key, puzzle }, facts)
         }
@@ -156,6 +159,9 @@ fn dispatch<S: Store>(
                 budget: *budget,
             };
             handle(alloc, store, t, request, &certified, facts)
+        }
+        Action::PutRound { round, sheet } => {
+            handle(alloc, store, t, request, &Drafting { round, sheet }, facts)
         }
         Action::Release { round } => handle(alloc, store, t, request, &Releasing { round }, facts),
         Action::ReadRound { round } => handle(alloc, store, t, request, &Reading { round }, facts),
@@ -174,10 +180,8 @@ fn dispatch<S: Store>(
             handle(alloc, store, t, request, &handed, facts)
         }
         Action::Answers { round } => handle(alloc, store, t, request, &Listing { round }, facts),
-        Action::Import { .. }
-        | Action::ReadPuzzle { .. }
+        Action::ReadPuzzle { .. }
         | Action::ListPuzzles
-        | Action::PutRound { .. }
         | Action::ListRounds
         | Action::Solutions { .. }
         | Action::Protest { .. }
