@@ -4,9 +4,11 @@ use Rattle.std.specs.FinMap.{get}
 use Rattle.hall_grid.specs.Board.{Board}
 use Rattle.hall_policy.specs.World.{World}
 use Rattle.hall_policy.specs.Facts.{TrueUpTo, IsRoundFound}
-use Rattle.hall_policy.specs.Rules.{Lists, StandsReleased, puzzles_put, answers_given}
+use Rattle.hall_policy.specs.Rules.{Lists, StandsReleased, Conflicts, puzzles_put, answers_given}
 use Rattle.hall_policy.specs.declared.record.Person.{Person}
 use Rattle.hall_policy.specs.declared.record.PuzzleKey.{PuzzleKey}
+use Rattle.hall_policy.specs.declared.record.Entry.{Entry}
+use Rattle.hall_policy.specs.declared.request.Sheet.{Sheet}
 use Rattle.hall_policy.specs.declared.request.Action.{Action}
 use Rattle.hall_policy.specs.declared.request.Action.TheVariants.{Import, PutPuzzle, ReadPuzzle, ListPuzzles, Certify, PutRound, Release, ListRounds, ReadRound, Submit, Answers, Solutions, Protest, Protests, Rule, Publish, Table}
 use Rattle.hall_policy.specs.declared.facts.Facts.{Facts}
@@ -50,10 +52,10 @@ unserved_without_caller facts (Release round) t passes none = without_caller fac
 unserved_without_caller facts (ReadRound round) t passes none = without_caller facts (ReadRound round) t (0, lit< tt, refl) passes none
 unserved_without_caller facts (Submit round number token answer) t passes none = without_caller facts (Submit round number token answer) t (0, lit< tt, refl) passes none
 unserved_without_caller facts (Answers round) t passes none = without_caller facts (Answers round) t (0, lit< tt, refl) passes none
-unserved_without_caller facts (Import people) t passes none = tt
+unserved_without_caller facts (Import people) t passes none = without_caller facts (Import people) t (0, lit< tt, refl) passes none
 unserved_without_caller facts (ReadPuzzle key) t passes none = tt
 unserved_without_caller facts ListPuzzles t passes none = tt
-unserved_without_caller facts (PutRound round sheet) t passes none = tt
+unserved_without_caller facts (PutRound round sheet) t passes none = without_caller facts (PutRound round sheet) t (0, lit< tt, refl) passes none
 unserved_without_caller facts ListRounds t passes none = tt
 unserved_without_caller facts (Solutions round) t passes none = tt
 unserved_without_caller facts (Protest round token number text) t passes none = tt
@@ -74,6 +76,19 @@ module _ (world : World) (facts : Facts) (action : Action) where
 
       pub put_told : facts.puzzle ≡ get world.puzzles key → (facts.puzzle ≡ None → facts.count ≡ puzzles_put world key.author) → TrueUpTo 20 facts world action
       put_told found count = subst (λ (a : Action). TrueUpTo 20 facts world a) (sym is) (tt, (tt, (tt, (author, (released, ((found, count), tt))))))
+
+  -- people who are imported
+  pub import_told : (people : List Person) → action ≡ Import people → (IsTrue facts.conflict ↔ ((person : Person) × Contains people person × Conflicts world person)) → TrueUpTo 20 facts world action
+  import_told people is conflict = subst (λ (a : Action). TrueUpTo 20 facts world a) (sym is) (tt, (tt, (conflict, tt)))
+
+  -- a round that is put: its sheet's puzzles, then itself
+  module _ (id : List ℕ) (sheet : Sheet) (is : action ≡ PutRound id sheet)
+      (lacks : IsTrue facts.sheet_lacks ↔ ((entry : Entry) × Contains sheet.puzzles entry × (get world.puzzles entry.puzzle ≡ None))) where
+    pub sheet_told : TrueUpTo 4 facts world action
+    sheet_told = subst (λ (a : Action). TrueUpTo 4 facts world a) (sym is) (tt, (tt, (lacks, (tt, tt))))
+
+    pub replaced_told : IsRoundFound world (Some id) facts.round → TrueUpTo 20 facts world action
+    replaced_told round = subst (λ (a : Action). TrueUpTo 20 facts world a) (sym is) (tt, (tt, (lacks, (round, tt))))
 
   -- a puzzle that is certified
   pub certify_told : (key : PuzzleKey) (budget : ℕ) → action ≡ Certify key budget → facts.puzzle ≡ get world.puzzles key → TrueUpTo 20 facts world action
