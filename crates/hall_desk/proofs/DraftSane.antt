@@ -21,7 +21,7 @@ use Rattle.hall_policy.proofs.Orders.{text_total, same_texts}
 use Rattle.hall_policy.proofs.Rounds.{entry_contained}
 use Rattle.hall_store.specs.Change.{relisted}
 use Rattle.hall_store.proofs.Inserts.{keys_apart, found_after, others_stay, inserted_there, still_there}
-use Rattle.hall_desk.proofs.Relisted.{get-relisted}
+use Rattle.hall_store.proofs.Changes.{get-relisted}
 use Rattle.hall_store.proofs.Tests.{not_true}
 use Rattle.hall_desk.specs.Found.{IsReleasedRound}
 use Rattle.hall_desk.specs.Step.{Allowed, draft_of}

@@ -12,7 +12,6 @@ pub mod CertifySane
 pub mod ReleaseSane
 pub mod ImportSane
 pub mod DraftSane
-pub mod Relisted
 pub mod StepsSane
 pub mod Promises
 pub mod Tokens

@@ -28,12 +28,13 @@ use Rattle.hall_policy.specs.declared.request.Request.{Request}
 use Rattle.hall_policy.proofs.Maps.{get_of_value}
 use Rattle.hall_policy.proofs.Orders.{text_total, same_texts, answer_total, same_answer_keys}
 use Rattle.hall_store.specs.Caller.{caller_of}
-use Rattle.hall_store.specs.Change.{with_person, with_people}
+use Rattle.hall_store.specs.Change.{with_person, with_people, relisted}
 use Rattle.hall_desk.specs.Found.{IsReleasedRound}
 use Rattle.hall_desk.specs.Step.{Step, Allowed, IsReleasedBy, draft_of, answer_row}
 use Rattle.hall_desk.specs.Run.{Run}
 use Rattle.hall_desk.specs.declared.reply.Reply.{Reply}
-use Rattle.hall_store.proofs.Inserts.{keys_apart, others_stay, inserted_there, still_there}
+use Rattle.hall_store.proofs.Changes.{with_people-known}
+use Rattle.hall_store.proofs.Inserts.{keys_apart, others_stay, inserted_there}
 use Rattle.hall_store.proofs.Tests.{not_true}
 use Rattle.hall_desk.proofs.Answering.{text_decides, find-Contains}
 use Rattle.hall_desk.proofs.DraftSane.{puts_no_released, relisted_other}
@@ -63,6 +64,11 @@ stays_as_found world later id round at is places = record {
   places = λ number. ap (λ (m : FinMap place_cmp Entry). get m (record { round = id; number = number })) places;
 }
 
+-- the caller is told by the people alone
+callers_stay : (world later : World) → later.people ≡ world.people → (key : Option (List ℕ)) (person : Person) → caller_of world key ≡ Some person → caller_of later key ≡ Some person
+callers_stay world later same None person is = is
+callers_stay world later same (Some key) person is = ap (λ (people : FinMap text_cmp Person). find (λ p. same_text p.key key) (values people)) same ∙ is
+
 -- a world keeps what it has
 remains_itself : (world : World) → Remains world world
 remains_itself world = record { callers = λ key person is. is; answers = λ key row at. at; rounds = λ id round at is. stays_as_found world world id round at is refl }
@@ -73,12 +79,12 @@ remains_same world new same = subst (λ (w : World). Remains world w) (sym same)
 
 -- what is kept of what was kept
 pub remains_on : (world mid later : World) → Remains world mid → Remains mid later → Remains world later
-remains_on world mid later first then = record {
-  callers = λ key person is. then.callers key person (first.callers key person is);
-  answers = λ key row at. then.answers key row (first.answers key row at);
+remains_on world mid later first second = record {
+  callers = λ key person is. second.callers key person (first.callers key person is);
+  answers = λ key row at. second.answers key row (first.answers key row at);
   rounds = λ id round at is.
       let a = first.rounds id round at is in
-      let b = then.rounds id a.after a.found a.released in
+      let b = second.rounds id a.after a.found a.released in
       record { after = b.after; found = b.found; released = b.released; mode = b.mode ∙ a.mode; places = λ number. b.places number ∙ a.places number };
 }
 
@@ -87,7 +93,7 @@ puzzles_change : (world new : World) (puzzles : FinMap puzzle_cmp PuzzleRow) →
 puzzles_change world new puzzles made =
     let after : World = record world { puzzles = puzzles } in
     subst (λ (w : World). Remains world w) (sym made)
-    (record { callers = λ { None person is ↦ is | (Some key) person is ↦ is }; answers = λ key row at. at; rounds = λ id round at is. stays_as_found world after id round at is refl })
+    (record { callers = callers_stay world after refl; answers = λ key row at. at; rounds = λ id round at is. stays_as_found world after id round at is refl })
 
 -- ---- an Import
 -- who is found first stays so, as a value that fails the test is put under a new key
@@ -113,14 +119,10 @@ found_still people person key other =
 
 -- a name that is unknown later was unknown before
 unknown_before : (people : FinMap text_cmp Person) (person : Person) (name : List ℕ) → get (with_person people person) name ≡ None → get people name ≡ None
-unknown_before people person name =
-    elim (is_some (get people person.name)) as (λ b. get (if b then people else insert people person.name person) name ≡ None → get people name ≡ None) [
-      | true ↦ λ none. none
-      | false ↦ λ none. elim (get people name) as (λ (o : Option Person). get people name ≡ o → o ≡ None) [
-        | None ↦ λ _. refl
-        | Some known ↦ λ found. absurd (still_there text_total same_texts people person.name person name (λ gone. let no : Some known ≡ None = sym found ∙ gone in cc) none)
-      ] refl
-    ]
+unknown_before people person name none = elim (get people name) as (λ (o : Option Person). get people name ≡ o → o ≡ None) [
+  | None ↦ λ _. refl
+  | Some known ↦ λ found. absurd (let no : Some known ≡ None = sym (with_people-known people (person ∷ []) name known found) ∙ none in cc)
+] refl
 
 -- a list of people, those with unknown names having other keys, leaves who is found
 found_in_list : (people : FinMap text_cmp Person) (list : List Person) (key : List ℕ) → ((person : Person) → Contains list person → get people person.name ≡ None → same_text person.key key ≡ false) →
@@ -165,14 +167,16 @@ import_remains world caller people t found given new none (told, made) =
 put_round_remains : (world : World) (caller : Option Person) (id : List ℕ) (sheet : Sheet) (t : ℕ) (found : PuzzleState) (given : Reply) (new : World) →
     NoneBelow 21 world caller (action.PutRound id sheet) t → Allowed world caller (action.PutRound id sheet) t found given new → Remains world new
 put_round_remains world caller id sheet t found given new none (told, made) =
+    let draft : Round = draft_of id sheet in
+    let after : World = record world { rounds = insert world.rounds id draft; places = relisted world.places id sheet.puzzles } in
     subst (λ (w : World). Remains world w) (sym made) (record {
-      callers = λ { None person is ↦ is | (Some key) person is ↦ is };
+      callers = callers_stay world after refl;
       answers = λ key row at. at;
       rounds = λ q r at is.
           let other : q ≢ id = λ same. puts_no_released world caller id sheet t none (subst (IsReleasedRound world) same (r, at, is)) in
           record {
             after = r;
-            found = others_stay text_total same_texts world.rounds id (draft_of id sheet) q r other at;
+            found = others_stay text_total same_texts world.rounds id draft q r other at;
             released = is;
             mode = refl;
             places = λ number. relisted_other world.places id sheet.puzzles (record { round = q; number = number }) other;
@@ -183,8 +187,9 @@ put_round_remains world caller id sheet t found given new none (told, made) =
 release_remains : (world : World) (id : List ℕ) (given : Reply) (new : World) → IsReleasedBy world id given new → Remains world new
 release_remains world id given new (round, kept, told, made) =
     let now : Round = record round { released = true } in
+    let after : World = record world { rounds = insert world.rounds id now } in
     subst (λ (w : World). Remains world w) (sym made) (record {
-      callers = λ { None person is ↦ is | (Some key) person is ↦ is };
+      callers = callers_stay world after refl;
       answers = λ key row at. at;
       rounds = λ q r at is. elim (keys_apart text_total same_texts q id) [
         | inl own ↦
@@ -200,8 +205,9 @@ submit_remains : (world : World) (caller : Option Person) (id : List ℕ) (numbe
     NoneBelow 21 world caller (action.Submit id number token answer) t → Allowed world caller (action.Submit id number token answer) t found given new → Remains world new
 submit_remains world caller id number token answer t found given new none (person, is, (round, entry, puzzle, verdict, kept, place, grid, judged, (told, made))) =
     let row : AnswerRow = answer_row world person id number token answer t verdict in
+    let after : World = record world { answers = insert world.answers row.key row } in
     subst (λ (w : World). Remains world w) (sym made) (record {
-      callers = λ { None found is ↦ is | (Some key) found is ↦ is };
+      callers = callers_stay world after refl;
       answers = λ key old at. others_stay answer_total same_answer_keys world.answers row.key row key old
           (λ own. token_decides world caller t person id number token answer old is (ap (get world.answers) (sym own) ∙ at) 21 none (lit< tt)) at;
       rounds = λ q r at is. record { after = r; found = at; released = is; mode = refl; places = λ number. refl };
