@@ -18,7 +18,7 @@ use Rattle.hall_desk.specs.declared.reply.Reply.{Reply}
 use Rattle.hall_desk.specs.declared.reply.Reply.TheVariants as reply
 use Rattle.hall_desk.proofs.Tokens.{same_text_stands}
 use Rattle.hall_desk.proofs.Remaining.{Remains, remains_on, step_remains, run_remains}
-use Rattle.hall_desk.proofs.Retries.{repeats_at_six, accepted, same_caller, same_told, none_forbids}
+use Rattle.hall_desk.proofs.Retries.{repeats_at_six, accepted, same_caller, same_told, was_released, none_forbids}
 
 module _ (world later : World) (remains : Remains world later) (t u : ℕ) (key : Option (List ℕ)) (id : List ℕ) (number : ℕ) (token answer again : List ℕ)
     (round : Round) (found : get world.rounds id ≡ Some round) (none : NoneBelow 6 world (caller_of later key) (action.Submit id number token answer) t)
@@ -49,8 +49,8 @@ module _ (world later : World) (remains : Remains world later) (t u : ℕ) (key 
     -- the first reply is still that of the row: its round's mode is the same
     replies_again : FirstReply later (caller_of later key) (action.Submit id number token again) first
     replies_again =
-        let now = remains.rounds id round found in
-        (person, is, (now.0, row, now.1, stands, told ∙ ap (reply.Received row.n) (same_told round now.0 row.verdict (sym now.2))))
+        let now = remains.rounds id round found (was_released world later remains (caller_of later key) t u id number token answer again round found none) in
+        (person, is, (now.after, row, now.found, stands, told ∙ ap (reply.Received row.n) (same_told round now.after row.verdict (sym now.mode))))
 
     -- so there is a step that answers it
     answers_again : (answer ≡ again → Step later u (record { key = key; action = action.Submit id number token again }) first later)
@@ -63,7 +63,7 @@ retries_are_answered world kept later t u key id number token answer again n tol
     let h = accepted world kept t key id number token answer n told first in
     let between : Remains kept later = run_remains kept requests replies later run in
     let remains : Remains world later = remains_on world kept later (step_remains world t (record { key = key; action = action.Submit id number token answer }) (reply.Received n told) kept first) between in
-    let same : caller_of later key ≡ caller_of world key = same_caller world later key remains.people in
+    let same : caller_of later key ≡ caller_of world key = same_caller world later key h.person remains h.is in
     answers_again world later remains t u key id number token answer again h.round h.found
     (subst (λ (c : Option Person). NoneBelow 6 world c (action.Submit id number token answer) t) (sym same) h.none)
     h.person (same ∙ h.is) h.row (between.answers _ h.row h.stands) h.text (reply.Received n told) h.told

@@ -10,6 +10,8 @@ pub mod Truths
 pub mod Saneness
 pub mod CertifySane
 pub mod ReleaseSane
+pub mod ImportSane
+pub mod DraftSane
 pub mod StepsSane
 pub mod Promises
 pub mod Tokens

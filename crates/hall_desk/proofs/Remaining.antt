@@ -1,37 +1,77 @@
--- What no step, and so no run, takes away: people, places, rounds and the answers that stand.
-use Rattle.std.proofs.Common.{◌≡◌, inl, inr, ℕ, true, List, [], ◌∷◌, Option, Some, refl, sym, ap, ◌∙◌, subst, lit<}
-use Rattle.std.specs.FinMap.{FinMap, get}
-use Rattle.hall_policy.specs.World.{World, puzzle_cmp}
+-- What no step, and so no run, takes away: who has a key, the answers that stand, and the released rounds.
+use Rattle.std.proofs.Common.{◌≡◌, ◌≢◌, inl, inr, if◌then◌else◌, ℕ, suc, Bool, true, false, cond, List, [], ◌∷◌, Option, Some, None, Contains, refl, sym, ap, ◌∙◌, subst, arith, lit<}
+use Rattle.std.specs.Prelude.{find, is_some}
+use Rattle.std.specs.FinMap.{FinMap, get, insert, entries, values, put, get-entries, entries-insert}
+use Rattle.std.specs.FinMap.{find as by_key}
+use Rattle.std.specs.FinMap.Entries.{by_order}
+use Rattle.std.specs.Map.{values_of}
+use Rattle.std.specs.Ordering.{is_eq}
+use Rattle.std.specs.declared.cmp.Ordering.{Ordering}
+use Rattle.std.specs.declared.cmp.Ordering.TheVariants.{Less, Equal, Greater}
+use Rattle.std.proofs.lemmas.Option.{slice_get_within, get_or_from_slice_get}
+use Rattle.hall_policy.specs.Text.{text_cmp}
+use Rattle.hall_policy.specs.World.{World, place_of, same_text, puzzle_cmp, place_cmp}
 use Rattle.hall_policy.specs.First.{NoneBelow}
+use Rattle.hall_policy.specs.declared.rule.Rule.TheVariants as rule
 use Rattle.hall_policy.specs.declared.rule.Decision.TheVariants.{Allow, Repeat, Deny}
 use Rattle.hall_policy.specs.declared.record.Person.{Person}
 use Rattle.hall_policy.specs.declared.record.PuzzleState.{PuzzleState}
 use Rattle.hall_policy.specs.declared.record.PuzzleRow.{PuzzleRow}
 use Rattle.hall_policy.specs.declared.record.Round.{Round}
+use Rattle.hall_policy.specs.declared.record.Entry.{Entry}
 use Rattle.hall_policy.specs.declared.record.AnswerKey.{AnswerKey}
 use Rattle.hall_policy.specs.declared.record.AnswerRow.{AnswerRow}
+use Rattle.hall_policy.specs.declared.request.Sheet.{Sheet}
 use Rattle.hall_policy.specs.declared.request.Action.{Action}
 use Rattle.hall_policy.specs.declared.request.Action.TheVariants as action
 use Rattle.hall_policy.specs.declared.request.Request.{Request}
+use Rattle.hall_policy.proofs.Maps.{get_of_value}
 use Rattle.hall_policy.proofs.Orders.{text_total, same_texts, answer_total, same_answer_keys}
 use Rattle.hall_store.specs.Caller.{caller_of}
-use Rattle.hall_desk.specs.Step.{Step, Allowed, IsReleasedBy, answer_row}
+use Rattle.hall_store.specs.Change.{with_person, with_people, relisted}
+use Rattle.hall_desk.specs.Found.{IsReleasedRound}
+use Rattle.hall_desk.specs.Step.{Step, Allowed, IsReleasedBy, draft_of, answer_row}
 use Rattle.hall_desk.specs.Run.{Run}
 use Rattle.hall_desk.specs.declared.reply.Reply.{Reply}
+use Rattle.hall_store.proofs.Changes.{with_people-known}
 use Rattle.hall_store.proofs.Inserts.{keys_apart, others_stay, inserted_there}
+use Rattle.hall_store.proofs.Tests.{not_true}
+use Rattle.hall_desk.proofs.Answering.{text_decides, find-Contains}
+use Rattle.hall_desk.proofs.DraftSane.{puts_no_released, relisted_other}
 use Rattle.hall_desk.proofs.Tokens.{token_decides}
 
--- people and places are the same; an answer that stands stays; a round stays, in its mode, and released if it was
+-- a released round as it stays: in its mode, and with each place
+pub record StaysReleased (world later : World) (id : List ℕ) (round : Round) : Type 0 where
+  pub after : Round
+  pub found : get later.rounds id ≡ Some after
+  pub released : after.released ≡ true
+  pub mode : after.mode ≡ round.mode
+  pub places : (number : ℕ) → place_of later id number ≡ place_of world id number
+
+-- who has a key is found by it; an answer that stands stays; a released round stays
 pub record Remains (world later : World) : Type 0 where
-  pub people : later.people ≡ world.people
-  pub places : later.places ≡ world.places
+  pub callers : (key : Option (List ℕ)) (person : Person) → caller_of world key ≡ Some person → caller_of later key ≡ Some person
   pub answers : (key : AnswerKey) (row : AnswerRow) → get world.answers key ≡ Some row → get later.answers key ≡ Some row
-  pub rounds : (id : List ℕ) (round : Round) → get world.rounds id ≡ Some round →
-      (after : Round) × (get later.rounds id ≡ Some after) × (after.mode ≡ round.mode) × (round.released ≡ true → after.released ≡ true)
+  pub rounds : (id : List ℕ) (round : Round) → get world.rounds id ≡ Some round → round.released ≡ true → StaysReleased world later id round
+
+-- a round that is found with its places is as it was
+stays_as_found : (world later : World) (id : List ℕ) (round : Round) → get later.rounds id ≡ Some round → round.released ≡ true → later.places ≡ world.places → StaysReleased world later id round
+stays_as_found world later id round at is places = record {
+  after = round;
+  found = at;
+  released = is;
+  mode = refl;
+  places = λ number. ap (λ (m : FinMap place_cmp Entry). get m (record { round = id; number = number })) places;
+}
+
+-- the caller is told by the people alone
+callers_stay : (world later : World) → later.people ≡ world.people → (key : Option (List ℕ)) (person : Person) → caller_of world key ≡ Some person → caller_of later key ≡ Some person
+callers_stay world later same None person is = is
+callers_stay world later same (Some key) person is = ap (λ (people : FinMap text_cmp Person). find (λ p. same_text p.key key) (values people)) same ∙ is
 
 -- a world keeps what it has
 remains_itself : (world : World) → Remains world world
-remains_itself world = record { people = refl; places = refl; answers = λ key row at. at; rounds = λ id round at. (round, at, refl, λ is. is) }
+remains_itself world = record { callers = λ key person is. is; answers = λ key row at. at; rounds = λ id round at is. stays_as_found world world id round at is refl }
 
 -- so does one that is the same
 remains_same : (world new : World) → new ≡ world → Remains world new
@@ -39,35 +79,124 @@ remains_same world new same = subst (λ (w : World). Remains world w) (sym same)
 
 -- what is kept of what was kept
 pub remains_on : (world mid later : World) → Remains world mid → Remains mid later → Remains world later
-remains_on world mid later first then = record {
-  people = then.people ∙ first.people;
-  places = then.places ∙ first.places;
-  answers = λ key row at. then.answers key row (first.answers key row at);
-  rounds = λ id round at.
-      let a = first.rounds id round at in
-      let b = then.rounds id a.0 a.1 in
-      (b.0, b.1, b.2 ∙ a.2, λ is. b.3 (a.3 is));
+remains_on world mid later first second = record {
+  callers = λ key person is. second.callers key person (first.callers key person is);
+  answers = λ key row at. second.answers key row (first.answers key row at);
+  rounds = λ id round at is.
+      let a = first.rounds id round at is in
+      let b = second.rounds id a.after a.found a.released in
+      record { after = b.after; found = b.found; released = b.released; mode = b.mode ∙ a.mode; places = λ number. b.places number ∙ a.places number };
 }
 
 -- a world whose puzzles change keeps the rest
 puzzles_change : (world new : World) (puzzles : FinMap puzzle_cmp PuzzleRow) → new ≡ record world { puzzles = puzzles } → Remains world new
-puzzles_change world new puzzles made = subst (λ (w : World). Remains world w) (sym made)
-    (record { people = refl; places = refl; answers = λ key row at. at; rounds = λ id round at. (round, at, refl, λ is. is) })
+puzzles_change world new puzzles made =
+    let after : World = record world { puzzles = puzzles } in
+    subst (λ (w : World). Remains world w) (sym made)
+    (record { callers = callers_stay world after refl; answers = λ key row at. at; rounds = λ id round at is. stays_as_found world after id round at is refl })
+
+-- ---- an Import
+-- who is found first stays so, as a value that fails the test is put under a new key
+find-put : {K X : Type 0} (R : K → K → Ordering) (p : X → Bool) (k : K) (v : X) (es : List (K × X)) → by_key R k es ≡ None → p v ≡ false → find p (values_of (put R k v es)) ≡ find p (values_of es)
+find-put R p k v [] new fails = ap (λ b. cond b (Some v) None) fails
+find-put {X = X} R p k v (e ∷ es) new fails =
+    elim (R k e.0) as (λ r. cond (is_eq r) (Some e.1) (by_key R k es) ≡ None → find p (values_of (by_order r ((k, v) ∷ e ∷ es) ((e.0, v) ∷ es) (e ∷ put R k v es))) ≡ find p (values_of (e ∷ es))) [
+      | Less ↦ λ n. ap (λ b. cond b (Some v) (find p (values_of (e ∷ es)))) fails
+      | Equal ↦ λ n. absurd (let no : Some e.1 ≡ None = n in cc)
+      | Greater ↦ λ n. ap (cond (p e.1) (Some e.1)) (find-put R p k v es n fails)
+    ] new
+
+-- a new person is found by the own key alone
+found_still : (people : FinMap text_cmp Person) (person : Person) (key : List ℕ) → (get people person.name ≡ None → same_text person.key key ≡ false) →
+    find (λ p. same_text p.key key) (values (with_person people person)) ≡ find (λ p. same_text p.key key) (values people)
+found_still people person key other =
+    elim (get people person.name) as (λ (o : Option Person). get people person.name ≡ o → find (λ p. same_text p.key key) (values (if is_some o then people else insert people person.name person)) ≡ find (λ p. same_text p.key key) (values people)) [
+      | None ↦ λ none.
+          ap (λ es. find (λ p. same_text p.key key) (values_of es)) (entries-insert text_total people person.name person)
+          ∙ find-put text_cmp (λ p. same_text p.key key) person.name person (entries people) (sym (get-entries people person.name) ∙ none) (other none)
+      | Some known ↦ λ _. refl
+    ] refl
+
+-- a name that is unknown later was unknown before
+unknown_before : (people : FinMap text_cmp Person) (person : Person) (name : List ℕ) → get (with_person people person) name ≡ None → get people name ≡ None
+unknown_before people person name none = elim (get people name) as (λ (o : Option Person). get people name ≡ o → o ≡ None) [
+  | None ↦ λ _. refl
+  | Some known ↦ λ found. absurd (let no : Some known ≡ None = sym (with_people-known people (person ∷ []) name known found) ∙ none in cc)
+] refl
+
+-- a list of people, those with unknown names having other keys, leaves who is found
+found_in_list : (people : FinMap text_cmp Person) (list : List Person) (key : List ℕ) → ((person : Person) → Contains list person → get people person.name ≡ None → same_text person.key key ≡ false) →
+    find (λ p. same_text p.key key) (values (with_people people list)) ≡ find (λ p. same_text p.key key) (values people)
+found_in_list people [] key others = refl
+found_in_list people (person ∷ rest) key others =
+    found_in_list (with_person people person) rest key (λ next among none. others next (suc among.0, omega (arith, among.1), among.2) (unknown_before people person next.name none))
+    ∙ found_still people person key (others person (0, omega arith, refl))
+
+-- an Import's rule denies a list that gives a key of somebody to a name that is unknown
+import_remains : (world : World) (caller : Option Person) (people : List Person) (t : ℕ) (found : PuzzleState) (given : Reply) (new : World) →
+    NoneBelow 21 world caller (action.Import people) t → Allowed world caller (action.Import people) t found given new → Remains world new
+import_remains world caller people t found given new none (told, made) =
+    let after : World = record world { people = with_people world.people people } in
+    subst (λ (w : World). Remains world w) (sym made)
+    (record { callers = callers; answers = λ key row at. at; rounds = λ id round at is. stays_as_found world after id round at is refl }) where
+  callers : (key : Option (List ℕ)) (person : Person) → caller_of world key ≡ Some person → caller_of (record world { people = with_people world.people people }) key ≡ Some person
+  callers None person is = is
+  callers (Some key) person is =
+      let at = find-Contains (λ p. same_text p.key key) (values world.people) person is in
+      let under = get_of_value text_total world.people person (at.0, slice_get_within (values world.people) at.0 person at.1, get_or_from_slice_get (values world.people) at.0 person person at.1) in
+      let own : person.key ≡ key = (text_decides person.key key).0 at.2 in
+      found_in_list world.people people key (λ next among unknown. not_true (same_text next.key key) (λ same.
+          (none rule.ListConflict (lit< tt)).0 (
+            (2, lit< tt, refl),
+            (
+              next,
+              among,
+              inr (inl (
+                under.0,
+                person,
+                under.1,
+                (λ named. let no : Some person ≡ None = sym under.1 ∙ ap (get world.people) named ∙ unknown in cc),
+                own ∙ sym ((text_decides next.key key).0 same),
+              )),
+            ),
+          )))
+      ∙ is
+
+-- ---- a round
+-- a draft that is put leaves the released rounds
+put_round_remains : (world : World) (caller : Option Person) (id : List ℕ) (sheet : Sheet) (t : ℕ) (found : PuzzleState) (given : Reply) (new : World) →
+    NoneBelow 21 world caller (action.PutRound id sheet) t → Allowed world caller (action.PutRound id sheet) t found given new → Remains world new
+put_round_remains world caller id sheet t found given new none (told, made) =
+    let draft : Round = draft_of id sheet in
+    let after : World = record world { rounds = insert world.rounds id draft; places = relisted world.places id sheet.puzzles } in
+    subst (λ (w : World). Remains world w) (sym made) (record {
+      callers = callers_stay world after refl;
+      answers = λ key row at. at;
+      rounds = λ q r at is.
+          let other : q ≢ id = λ same. puts_no_released world caller id sheet t none (subst (IsReleasedRound world) same (r, at, is)) in
+          record {
+            after = r;
+            found = others_stay text_total same_texts world.rounds id draft q r other at;
+            released = is;
+            mode = refl;
+            places = λ number. relisted_other world.places id sheet.puzzles (record { round = q; number = number }) other;
+          };
+    })
 
 -- a Release sets its round's flag alone
 release_remains : (world : World) (id : List ℕ) (given : Reply) (new : World) → IsReleasedBy world id given new → Remains world new
 release_remains world id given new (round, kept, told, made) =
     let now : Round = record round { released = true } in
+    let after : World = record world { rounds = insert world.rounds id now } in
     subst (λ (w : World). Remains world w) (sym made) (record {
-      people = refl;
-      places = refl;
+      callers = callers_stay world after refl;
       answers = λ key row at. at;
-      rounds = λ q r at. elim (keys_apart text_total same_texts q id) [
+      rounds = λ q r at is. elim (keys_apart text_total same_texts q id) [
         | inl own ↦
             let both : Some round ≡ Some r = sym kept ∙ ap (get world.rounds) (sym own) ∙ at in
             let one : round ≡ r = cc in
-            (now, inserted_there text_total same_texts world.rounds id now q own, ap (λ (x : Round). x.mode) one, λ is. refl)
-        | inr other ↦ (r, others_stay text_total same_texts world.rounds id now q r other at, refl, λ is. is)
+            record { after = now; found = inserted_there text_total same_texts world.rounds id now q own; released = refl; mode = ap (λ (x : Round). x.mode) one; places = λ number. refl }
+        | inr other ↦ record { after = r; found = others_stay text_total same_texts world.rounds id now q r other at; released = is; mode = refl; places = λ number. refl }
       ];
     })
 
@@ -76,15 +205,15 @@ submit_remains : (world : World) (caller : Option Person) (id : List ℕ) (numbe
     NoneBelow 21 world caller (action.Submit id number token answer) t → Allowed world caller (action.Submit id number token answer) t found given new → Remains world new
 submit_remains world caller id number token answer t found given new none (person, is, (round, entry, puzzle, verdict, kept, place, grid, judged, (told, made))) =
     let row : AnswerRow = answer_row world person id number token answer t verdict in
+    let after : World = record world { answers = insert world.answers row.key row } in
     subst (λ (w : World). Remains world w) (sym made) (record {
-      people = refl;
-      places = refl;
+      callers = callers_stay world after refl;
       answers = λ key old at. others_stay answer_total same_answer_keys world.answers row.key row key old
           (λ own. token_decides world caller t person id number token answer old is (ap (get world.answers) (sym own) ∙ at) 21 none (lit< tt)) at;
-      rounds = λ q r at. (r, at, refl, λ is. is);
+      rounds = λ q r at is. record { after = r; found = at; released = is; mode = refl; places = λ number. refl };
     })
 
--- a PutPuzzle and a Certify change puzzles alone, and no other action but these takes effect
+-- a PutPuzzle and a Certify change puzzles alone, and what else takes effect is said above
 allowed_remains : (world : World) (caller : Option Person) (asked : Action) (t : ℕ) (found : PuzzleState) (given : Reply) (new : World) →
     NoneBelow 21 world caller asked t → Allowed world caller asked t found given new → Remains world new
 allowed_remains world caller (action.PutPuzzle key puzzle) t found given new none (text, canonical, inl h) = remains_same world new h.4
@@ -93,6 +222,8 @@ allowed_remains world caller (action.Certify key budget) t found given new none 
 allowed_remains world caller (action.Certify key budget) t found given new none (row, kept, inr h) = remains_same world new h.same
 allowed_remains world caller (action.Release id) t found given new none h = release_remains world id given new h
 allowed_remains world caller (action.Submit id number token answer) t found given new none h = submit_remains world caller id number token answer t found given new none h
+allowed_remains world caller (action.Import people) t found given new none h = import_remains world caller people t found given new none h
+allowed_remains world caller (action.PutRound id sheet) t found given new none h = put_round_remains world caller id sheet t found given new none h
 allowed_remains world caller (action.ReadRound id) t found given new none h = remains_same world new h.5
 allowed_remains world caller (action.Answers id) t found given new none h = remains_same world new h.2.1
 allowed_remains world caller (action.ReadPuzzle key) t found given new none h = remains_same world new h.1

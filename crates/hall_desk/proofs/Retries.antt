@@ -1,10 +1,8 @@
 -- An accepted answer stays accepted, whatever comes between.
 use Rattle.std.proofs.Common.{◌≡◌, ◌≢◌, ◌≤◌, inl, inr, ℕ, true, false, List, Option, Some, None, refl, sym, ap, ◌∙◌, subst, arith, lit<, if◌then◌else◌}
 use Rattle.std.proofs.Math.Bool.{and-false}
-use Rattle.std.specs.Prelude.{find}
-use Rattle.std.specs.FinMap.{FinMap, get, values}
-use Rattle.hall_policy.specs.Text.{text_cmp}
-use Rattle.hall_policy.specs.World.{World, place_cmp, same_text}
+use Rattle.std.specs.FinMap.{get}
+use Rattle.hall_policy.specs.World.{World, place_of}
 use Rattle.hall_policy.specs.Actions.{number_of}
 use Rattle.hall_policy.specs.First.{First, NoneBelow, Forbids, Repeated}
 use Rattle.hall_policy.specs.declared.rule.Rule.{Rule}
@@ -14,7 +12,6 @@ use Rattle.hall_policy.specs.declared.rule.Decision.TheVariants.{Allow, Repeat, 
 use Rattle.hall_policy.specs.declared.record.Person.{Person}
 use Rattle.hall_policy.specs.declared.record.Mode.{Mode}
 use Rattle.hall_policy.specs.declared.record.Round.{Round}
-use Rattle.hall_policy.specs.declared.record.Entry.{Entry}
 use Rattle.hall_policy.specs.declared.record.PuzzleState.{PuzzleState}
 use Rattle.hall_policy.specs.declared.record.AnswerRow.{AnswerRow}
 use Rattle.hall_policy.specs.declared.request.Action.TheVariants as action
@@ -78,10 +75,9 @@ accepted world kept t key id number token answer n told (inr (found, (Allow, non
       none = λ r few. none r (omega arith);
     }
 
--- the caller is told by the people alone
-pub same_caller : (world later : World) (key : Option (List ℕ)) → later.people ≡ world.people → caller_of later key ≡ caller_of world key
-same_caller world later None same = refl
-same_caller world later (Some k) same = ap (λ (people : FinMap text_cmp Person). find (λ (person : Person). same_text person.key k) (values people)) same
+-- who made the accepted answer is still the caller
+pub same_caller : (world later : World) (key : Option (List ℕ)) (person : Person) → Remains world later → caller_of world key ≡ Some person → caller_of later key ≡ caller_of world key
+same_caller world later key person remains is = remains.callers key person is ∙ sym is
 
 -- the verdict that is told depends on the round's mode alone
 pub same_told : (a b : Round) (verdict : ℕ) → a.mode ≡ b.mode → told_verdict a verdict ≡ told_verdict b verdict
@@ -90,7 +86,7 @@ same_told a b verdict same = ap (λ (m : Mode). if is_sealed m then None else So
 module _ (world later : World) (remains : Remains world later) (caller : Option Person) (t u : ℕ) (id : List ℕ) (number : ℕ) (token answer again : List ℕ)
     (round : Round) (found : get world.rounds id ≡ Some round) (none : NoneBelow 6 world caller (action.Submit id number token answer) t) where
   -- the answer's round was released, since a draft is missing for a Submit
-  was_released : round.released ≡ true
+  pub was_released : round.released ≡ true
   was_released = elim round.released as (λ b. round.released ≡ b → b ≡ true) [
     | true ↦ λ e. refl
     | false ↦ λ e. absurd ((none rule.Missing (lit< tt)).0 (
@@ -108,10 +104,10 @@ module _ (world later : World) (remains : Remains world later) (caller : Option 
   forbade rule.NoRole few h = h
   forbade rule.OtherAuthor few h = h
   forbade rule.Missing few (asked, inl missing) =
-      let now = remains.rounds id round found in
-      let no : true ≡ false = sym (now.3 was_released) ∙ (missing now.0 now.1).0 in
+      let now = remains.rounds id round found was_released in
+      let no : true ≡ false = sym now.released ∙ (missing now.after now.found).0 in
       absurd (cc)
-  forbade rule.Missing few (asked, inr gone) = (asked, inr (ap (λ (w : FinMap place_cmp Entry). get w (record { round = id; number = number })) (sym remains.places) ∙ gone))
+  forbade rule.Missing few (asked, inr gone) = (asked, inr (sym ((remains.rounds id round found was_released).places number) ∙ gone))
   forbade rule.OwnPuzzle few (asked, (person, is, (entrant, (q, r, entry, named, at, (place, lists), own)))) =
       let one : id ≡ q = cc in (
         asked,
@@ -126,7 +122,7 @@ module _ (world later : World) (remains : Remains world later) (caller : Option 
               entry,
               named,
               subst (λ (x : List ℕ). get world.rounds x ≡ Some round) one found,
-              (place, ap (λ (w : FinMap place_cmp Entry). get w (record { round = q; number = place })) (sym remains.places) ∙ lists),
+              (place, subst (λ (x : List ℕ). place_of world x place ≡ Some entry) one (sym ((remains.rounds id round found was_released).places place) ∙ subst (λ (x : List ℕ). place_of later x place ≡ Some entry) (sym one) lists)),
               own,
             ),
           ),
@@ -144,10 +140,10 @@ module _ (world later : World) (remains : Remains world later) (caller : Option 
     -- the first reply is told again: the row and its round's mode are the same
     told_again : (given : Reply) → IsToldAgain later id row again given → (again ≡ answer) × (given ≡ first)
     told_again given h =
-        let now = remains.rounds id round found in
-        let both : Some h.round ≡ Some now.0 = sym h.kept ∙ now.1 in
-        let one : h.round ≡ now.0 = cc in
-        let mode : h.round.mode ≡ round.mode = ap (λ (x : Round). x.mode) one ∙ now.2 in
+        let now = remains.rounds id round found was_released in
+        let both : Some h.round ≡ Some now.after = sym h.kept ∙ now.found in
+        let one : h.round ≡ now.after = cc in
+        let mode : h.round.mode ≡ round.mode = ap (λ (x : Round). x.mode) one ∙ now.mode in
         (sym h.same_answer ∙ text, h.told ∙ ap (reply.Received row.n) (same_told h.round round row.verdict mode) ∙ sym told)
 
     -- a denial of the retry is that of the token's rule, for another text
@@ -173,7 +169,7 @@ accepted_answers_stay world kept later new t u key id number token answer again 
     let h = accepted world kept t key id number token answer n told first in
     let between : Remains kept later = run_remains kept requests replies later run in
     let remains : Remains world later = remains_on world kept later (step_remains world t (record { key = key; action = action.Submit id number token answer }) (reply.Received n told) kept first) between in
-    let same : caller_of later key ≡ caller_of world key = same_caller world later key remains.people in
+    let same : caller_of later key ≡ caller_of world key = same_caller world later key h.person remains h.is in
     retried world later remains (caller_of later key) t u id number token answer again h.round h.found
     (subst (λ (c : Option Person). NoneBelow 6 world c (action.Submit id number token answer) t) (sym same) h.none)
     h.person (same ∙ h.is) h.row (between.answers _ h.row h.stands) h.text (reply.Received n told) h.told found given new decision decides decided

@@ -38,6 +38,8 @@ use Rattle.hall_desk.specs.declared.reply.Reply.{Reply}
 use Rattle.hall_desk.proofs.Answering.{find-Contains}
 use Rattle.hall_desk.proofs.Saneness.{put_sane, submit_sane}
 use Rattle.hall_desk.proofs.CertifySane.{certify_step}
+use Rattle.hall_desk.proofs.ImportSane.{import_step}
+use Rattle.hall_desk.proofs.DraftSane.{put_round_step}
 use Rattle.hall_desk.proofs.ReleaseSane.{release_step}
 
 -- the caller is there, under the own name
@@ -109,11 +111,11 @@ allowed_sane world caller (action.PutPuzzle key puzzle) t found given new sane t
 allowed_sane world caller (action.Submit id number token answer) t found given new sane there timed is none h = submit_step world caller id number token answer t found given new sane there timed is none h
 allowed_sane world caller (action.ReadRound id) t found given new sane there timed is none h = subst Sane (sym h.5) sane
 allowed_sane world caller (action.Answers id) t found given new sane there timed is none h = subst Sane (sym h.2.1) sane
-allowed_sane world caller (action.Import people) t found given new sane there timed is none h = absurd h
+allowed_sane world caller (action.Import people) t found given new sane there timed is none h = import_step world caller people t found given new sane is none h
 allowed_sane world caller (action.ReadPuzzle key) t found given new sane there timed is none h = subst Sane (sym h.1) sane
 allowed_sane world caller action.ListPuzzles t found given new sane there timed is none h = subst Sane (sym h.2.1) sane
 allowed_sane world caller (action.Certify key budget) t found given new sane there timed is none h = certify_step world caller key budget t found given new sane h
-allowed_sane world caller (action.PutRound id sheet) t found given new sane there timed is none h = absurd h
+allowed_sane world caller (action.PutRound id sheet) t found given new sane there timed is none h = put_round_step world caller id sheet t found given new sane is none h
 allowed_sane world caller (action.Release id) t found given new sane there timed is none h = release_step world caller id t found given new sane none h
 allowed_sane world caller action.ListRounds t found given new sane there timed is none h = subst Sane (sym h.2.1) sane
 allowed_sane world caller (action.Solutions id) t found given new sane there timed is none h = subst Sane (sym h.1) sane
