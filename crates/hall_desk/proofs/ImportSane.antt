@@ -141,7 +141,7 @@ still_fits world person next differ fits =
     ]
 
 -- people who conflict with nobody, and have names and keys of their own, may be added one by one
-people_sane : (world : World) (people : List Person) → Sane world → ArePeopleDifferent people → All IsPerson people → ((person : Person) → Contains people person → ¬ (Conflicts world person)) →
+pub people_sane : (world : World) (people : List Person) → Sane world → ArePeopleDifferent people → All IsPerson people → ((person : Person) → Contains people person → ¬ (Conflicts world person)) →
     Sane (record world { people = with_people world.people people })
 people_sane world [] sane different each fits = sane
 people_sane world (person ∷ rest) sane different each fits =

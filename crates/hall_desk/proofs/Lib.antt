@@ -19,3 +19,4 @@ pub mod Remaining
 pub mod Retries
 pub mod Answered
 pub mod Stepping
+pub mod Seeding

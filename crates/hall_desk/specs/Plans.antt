@@ -1,5 +1,6 @@
 -- What a plan promises, and what a step over a store leaves.
 use Rattle.std.specs.Prelude.{◌≡◌, ◌⊎◌, ℕ, List, Option, Some, None, ◌≢◌, ⊤, Result, Ok, Err, IfErr, Contains}
+use Rattle.hall_store.specs.declared.change.Change.TheVariants as change
 use Rattle.hall_store.specs.declared.change.Change.TheVariants.{Nothing}
 use Rattle.std.specs.FinMap.{get}
 use Rattle.hall_grid.specs.Answer.{Verdict}
@@ -27,9 +28,10 @@ use Rattle.hall_policy.specs.declared.request.Request.{Request}
 use Rattle.hall_policy.specs.declared.rule.Decision.TheVariants.{Allow}
 use Rattle.hall_store.specs.Change.{changed, CanMake}
 use Rattle.hall_desk.specs.Plan.{planned_reply, planned_change}
-use Rattle.hall_desk.specs.Step.{Step, IsAnswered, Allowed}
+use Rattle.hall_desk.specs.Step.{Step, Seed, IsAnswered, Allowed, unknown_people}
 use Rattle.hall_desk.specs.Run.{Run}
 use Rattle.hall_desk.specs.declared.reply.Reply.{Reply}
+use Rattle.hall_desk.specs.declared.reply.Reply.TheVariants as reply
 use Rattle.hall_desk.specs.declared.planned.Plan.{Plan}
 
 -- the plan's reply and change are those of the request as it is decided, for what the search would find, and the
@@ -63,6 +65,16 @@ pub record IsMadePlan (world : World) (caller : Option Person) (action : Action)
 abbrev pub IsSearchPlanOf : Facts → Action → Plan → Type 0
 IsSearchPlanOf facts action plan =
     (world : World) → TrueUpTo 20 facts world action → (t : ℕ) → IsMadePlan world facts.caller action t plan
+
+-- the plan counts and adds the people of the list whose names are unknown
+pub record IsImportPlan (world : World) (people : List Person) (plan : Plan) : Type 0 where
+  pub counted : plan.reply ≡ reply.Imported (unknown_people world people)
+  pub change : plan.change ≡ change.Import people
+
+-- the plan's reply and change are those of the people who stand before any request, and the change may be made
+pub record IsSeedPlan (world : World) (people : List Person) (plan : Plan) : Type 0 where
+  pub seeded : Seed world people plan.reply (changed plan.change world)
+  pub can : CanMake plan.change world
 
 -- the desk doesn't serve the action yet
 abbrev pub IsUnserved : Action → Type 0
@@ -110,6 +122,10 @@ Planned new t request (Err fault) = Unit {0}
 -- store served before and after, and made a step of the hall.
 abbrev pub Steps : Content → ℕ → Request → Reply → Content → Type 0
 Steps old t request given new = Over (λ before after. Step before t request given after) old new
+
+-- where the store served before, it made of the people what stands before any request
+abbrev pub Seeds : Content → List Person → Reply → Content → Type 0
+Seeds old people given new = old.serves → Over (λ before after. Seed before people given after) old new
 
 -- the replies are a run of the hall to some world, and where the store still serves, that world is its own
 abbrev pub Runs : Content → List (ℕ × Request) → List Reply → Content → Type 0

@@ -8,7 +8,7 @@ use Rattle.hall_grid.specs.Canonical.{CanonicalText}
 use Rattle.hall_solve.specs.Puzzle.{OutcomeOfPuzzle}
 use Rattle.hall_solve.specs.declared.outcome.Outcome.TheVariants as outcome
 use Rattle.hall_policy.specs.World.{World, IsRoundAt}
-use Rattle.hall_policy.specs.Rules.{TheCaller, answers_given}
+use Rattle.hall_policy.specs.Rules.{TheCaller, HasConflict, answers_given}
 use Rattle.hall_policy.specs.First.{First}
 use Rattle.hall_policy.specs.declared.record.Person.{Person}
 use Rattle.hall_policy.specs.declared.record.PuzzleKey.{PuzzleKey}
@@ -240,3 +240,11 @@ abbrev pub Step : World → ℕ → Request → Reply → World → Type 0
 Step world t request given new =
     ((given ≡ reply.Unavailable) × (new ≡ world))
     ⊎ ((found : PuzzleState) × IsAnswered world (record { moment = t; request = request; found = found }) given new)
+
+-- people stand before any request: their list is refused by the rule on lists alone, or they are imported, or it is
+-- Unavailable and leaves the world
+abbrev pub Seed : World → List Person → Reply → World → Type 0
+Seed world people given new =
+    ((given ≡ reply.Unavailable) × (new ≡ world))
+    ⊎ ((HasConflict world (Import people) × (given ≡ reply.Denied 20) × (new ≡ world))
+    ⊎ (¬ (HasConflict world (Import people)) × IsImported world people given new))

@@ -7,13 +7,14 @@ ghost use Rattle.hall_desk.specs.Desk.{kept_by, SaneThen};
 ghost use Rattle.hall_desk.specs.Sane.{Sane};
 ghost use Rattle.hall_desk.specs.Promises.{HasUniqueSolutions, RightAnswersAreSolutions};
 ghost use Rattle.hall_desk.specs.Plan.{planned_reply, planned_change};
-ghost use Rattle.hall_desk.specs.Plans.{Planned, Steps, Runs, FailsIn, IsUnserved, IsKeylessPlan};
+ghost use Rattle.hall_desk.specs.Plans.{Planned, Steps, Seeds, Runs, FailsIn, IsUnserved, IsKeylessPlan};
 
 use crate::plan::make_plan;
 use crate::planned::Plan;
 use crate::reply::Reply;
+use crate::seed::seed;
 use crate::step::{commit, run, step};
-use hall_policy::{Moment, Request};
+use hall_policy::{Moment, People, Request};
 use hall_store::{Store, StoreFault};
 use std::alloc::{AllocError, Global};
 
@@ -73,6 +74,17 @@ impl<S: Store> Desk<S> {
             (S.content (kept_by self.new)) }
     {
         step(alloc, &mut self.store, t, request)
+    }
+
+    /// Imports the people before any request: the rule on lists alone is asked. It answers `Reply::Imported`,
+    /// `Reply::Denied` by that rule, or `Reply::Unavailable`.
+    pub fn seed(&mut self, alloc: Global, people: &People) -> Reply
+        ensures leads { Leads (S.content (kept_by self.old)) (S.content (kept_by self.new)) }
+        ensures seeds { (S.content (kept_by self.new)).honest →
+            Seeds (S.content (kept_by self.old)) people.now result (S.content (kept_by self.new)) }
+        ensures sane { SaneThen Sane (S.content (kept_by self.old)) (S.content (kept_by self.new)) }
+    {
+        seed(alloc, &mut self.store, people)
     }
 
     /// Answers the requests one after another: a run of the hall. Room for all replies is made before the first

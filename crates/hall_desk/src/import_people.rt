@@ -4,6 +4,7 @@ ghost use Rattle.std.specs.FinMap.{get};
 ghost use Rattle.hall_policy.specs.Rules.{Conflicts};
 ghost use Rattle.hall_store.specs.Store.{Kept, Told, Fails};
 ghost use Rattle.hall_desk.specs.Step.{unknown_people};
+ghost use Rattle.hall_desk.specs.Plans.{IsImportPlan};
 
 use crate::handler::Handler;
 use crate::planned::Plan;
@@ -39,7 +40,6 @@ impl<'a> Handler for Importing<'a> {
         None
     }
 
-    /// The people whose names are unknown are counted and added.
     fn plan<S: Store>(
         &self,
         alloc: Global,
@@ -47,17 +47,31 @@ impl<'a> Handler for Importing<'a> {
         _t: Moment,
         _facts: &Facts,
     ) -> Result<Plan, StoreFault> {
-        let added = count_unknown(alloc, store, self.people.as_slice())?;
-        let people = self.people.clone()?;
-        Ok(Plan {
-            reply: Reply::Imported(added),
-            change: Change::Import(people),
-        })
+        plan_import(alloc, store, self.people)
     }
 }
 
+/// The plan that counts and adds the people whose names are unknown.
+pub(crate) fn plan_import<S: Store>(
+    alloc: Global,
+    store: &mut S,
+    people: &People,
+) -> Result<Plan, StoreFault>
+    ensures kept { Kept (S.content store.old) (S.content store.new) }
+    ensures fault { Fails S.can_fail result }
+    ensures told { Told (S.content store.old) (S.content store.new) result
+        (λ world plan. IsImportPlan world people.now plan) }
+{
+    let added = count_unknown(alloc, store, people.as_slice())?;
+    let people = people.clone()?;
+    Ok(Plan {
+        reply: Reply::Imported(added),
+        change: Change::Import(people),
+    })
+}
+
 /// Whether one of the people contradicts what is known.
-fn any_conflict<S: Store>(
+pub(crate) fn any_conflict<S: Store>(
     alloc: Global,
     store: &mut S,
     people: &[Person],

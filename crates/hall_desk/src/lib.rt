@@ -19,6 +19,7 @@ mod release;
 mod reply;
 mod rows;
 mod search;
+mod seed;
 mod step;
 mod submit;
 mod verdict;

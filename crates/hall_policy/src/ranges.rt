@@ -1,11 +1,12 @@
 //! That a request, a person or a round lies in the ranges of its types: what is read tells what its type keeps.
 ghost use Rattle.std.specs.Prelude.{All};
+ghost use Rattle.hall_policy.specs.Lists.{ArePeople};
 ghost use Rattle.hall_policy.specs.Ranges.{IsPerson, IsPuzzleKey, IsEntry, IsEntryList, IsRound, IsRoundRow};
 ghost use Rattle.hall_policy.specs.Ranges.{IsSheet, IsRuling, IsAction, IsRequest};
 ghost use Rattle.hall_policy.specs.declared.request.Action.TheVariants.{PutPuzzle, Certify, PutRound, Submit};
 ghost use Rattle.hall_policy.specs.declared.request.Action.TheVariants.{Protest, Rule};
 
-use crate::list::Entries;
+use crate::list::{Entries, People};
 use crate::number::{Budget, PuzzleNumber};
 use crate::record::{Entry, Person, PuzzleKey, Round, RoundRow, Ruling};
 use crate::request::{Action, Request, Sheet};
@@ -27,6 +28,16 @@ fn read_people(people: &[Person])
 {
     for person in people {
         person.in_range();
+    }
+}
+
+impl People {
+    /// Tells a proof that the list and its people lie in the ranges of their types.
+    pub fn in_range(&self)
+        ensures list { ArePeople self.now }
+        ensures each { All IsPerson self.now }
+    {
+        read_people(self.as_slice());
     }
 }
 
@@ -152,7 +163,7 @@ fn read_action(action: &Action)
     ensures { IsAction action.now }
 {
     match action {
-        Action::Import { people } => read_people(people.as_slice()),
+        Action::Import { people } => people.in_range(),
         Action::PutPuzzle { key, puzzle } => read_put_puzzle(key, puzzle),
         Action::ReadPuzzle { key } => read_puzzle_key(key),
         Action::Certify { key, budget } => read_certify(key, *budget),

@@ -1,0 +1,54 @@
+//! People who are imported before any request.
+ghost use Rattle.std.specs.Prelude.{◌≡◌};
+ghost use Rattle.hall_store.specs.Store.{Kept, Leads, Told, Fails};
+ghost use Rattle.hall_desk.specs.Desk.{SaneThen};
+ghost use Rattle.hall_desk.specs.Sane.{Sane};
+ghost use Rattle.hall_desk.specs.Plans.{IsSeedPlan, Seeds};
+
+use crate::import_people::{any_conflict, plan_import};
+use crate::planned::Plan;
+use crate::reply::Reply;
+use crate::step::commit;
+use hall_policy::{People, Rule};
+use hall_store::{Store, StoreFault};
+use std::alloc::Global;
+
+/// Imports the people, whom the rule on lists alone may forbid.
+pub(crate) fn seed<S: Store>(alloc: Global, store: &mut S, people: &People) -> Reply
+    ensures leads { Leads (S.content store.old) (S.content store.new) }
+    ensures seeds { (S.content store.new).honest → Seeds (S.content store.old) people.now result
+        (S.content store.new) }
+    ensures sane { SaneThen Sane (S.content store.old) (S.content store.new) }
+{
+    // They are read for the ranges that their types keep.
+    people.in_range();
+    make_seed(alloc, store, people)
+}
+
+/// Makes the plan of the people, and commits it.
+fn make_seed<S: Store>(alloc: Global, store: &mut S, people: &People) -> Reply
+    ensures leads { Leads (S.content store.old) (S.content store.new) }
+    ensures seeds { (S.content store.new).honest → Seeds (S.content store.old) people.now result
+        (S.content store.new) }
+{
+    match plan_seed(alloc, store, people) {
+        Ok(plan) => match commit(alloc, store, plan) {
+            Ok(reply) => reply,
+            Err(_) => Reply::Unavailable,
+        },
+        Err(_) => Reply::Unavailable,
+    }
+}
+
+/// The plan of the people: a denial where one of them contradicts what is known.
+fn plan_seed<S: Store>(alloc: Global, store: &mut S, people: &People) -> Result<Plan, StoreFault>
+    ensures kept { Kept (S.content store.old) (S.content store.new) }
+    ensures fault { Fails S.can_fail result }
+    ensures told { Told (S.content store.old) (S.content store.new) result
+        (λ world plan. IsSeedPlan world people.now plan) }
+{
+    if any_conflict(alloc, store, people.as_slice())? {
+        return Ok(Plan::of(Reply::Denied(Rule::ListConflict.number())));
+    }
+    plan_import(alloc, store, people)
+}
