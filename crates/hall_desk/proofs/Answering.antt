@@ -2,11 +2,14 @@
 use Rattle.std.proofs.Common.{◌≡◌, ◌==◌, ◌&&◌, ℕ, ◌+◌, zero, suc, Bool, true, false, cond, List, [], ◌∷◌, Option, Some, None, Contains, refl, sym, ap, ◌∙◌, subst, arith, zero-add, slice_get}
 use Rattle.std.specs.List.{filter, find, count_by}
 use Rattle.std.specs.Bool.{Decides}
-use Rattle.std.specs.Cmp.{unsigned_Decides}
+use Rattle.std.specs.Cmp.{IsTotalOrder, unsigned_Decides}
 use Rattle.std.specs.Cmp.Lexicographic.{pointwise_decides}
+use Rattle.std.specs.FinMap.{FinMap, get, values}
+use Rattle.std.specs.declared.cmp.Ordering.{Ordering}
 use Rattle.std.proofs.lemmas.List.Sums.{sum_by-cons}
 use Rattle.std.proofs.lemmas.Option.{slice_get_within, slice_get-get_or, get_or_from_slice_get}
 use Rattle.hall_policy.specs.World.{same_text}
+use Rattle.hall_policy.proofs.Maps.{get_of_value}
 
 -- texts are one exactly where the test passes
 pub text_decides : (a b : List ℕ) → Decides (same_text a b) (a ≡ b)
@@ -87,3 +90,10 @@ contained xs x j e = (j, slice_get_within xs j x e, get_or_from_slice_get xs j x
 
 placed : {X : Type 0} (xs : List X) (x : X) → Contains xs x → (j : ℕ) × (slice_get xs j ≡ Some x)
 placed xs x h = (h.0, slice_get-get_or xs h.0 x h.1 ∙ ap Some h.2)
+
+-- a value of a map that a test finds passes it and stands under a key
+pub find-value : {K X : Type 0} {R : K → K → Ordering} → IsTotalOrder R → (p : X → Bool) (m : FinMap R X) (x : X) → find p (values m) ≡ Some x → (k : K) × (get m k ≡ Some x) × (p x ≡ true)
+find-value o p m x found =
+    let at = find-Contains p (values m) x found in
+    let under = get_of_value o m x (contained (values m) x at.0 at.1) in
+    (under.0, under.1, at.2)

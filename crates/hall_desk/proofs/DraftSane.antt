@@ -181,7 +181,6 @@ pub draft_sane : (world : World) (id : List ℕ) (row : RoundRow) (places : FinM
     ((key : PlaceKey) → key.round ≢ id → get places key ≡ get world.places key) → Sane (record world { rounds = insert world.rounds id row.round; places = places })
 draft_sane world id row places sane unreleased own draft secret in_range there at_own at_other = draft_added world id row places sane unreleased at_own at_other own in_range there draft secret
 
-
 -- ---- the places of a draft that is put
 -- the round's places are its entries
 relisted_own : (places : FinMap place_cmp Entry) (id : List ℕ) (entries : List Entry) (number : ℕ) → get (relisted places id entries) (record { round = id; number = number }) ≡ entry_at entries number

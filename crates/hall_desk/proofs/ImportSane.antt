@@ -150,8 +150,8 @@ people_sane world (person ∷ rest) sane different each fits =
     (λ i j d before within. different (suc i) (suc j) d (omega arith) (omega arith))
     (All-tail IsPerson person rest each)
     (λ next among. still_fits world person next
-        (subst (λ (x : Person). ¬ ((person.name ≡ x.name) ⊎ (person.key ≡ x.key))) among.2 (different 0 (suc among.0) next (omega arith) (omega (arith, among.1))))
-        (fits next (suc among.0, omega (arith, among.1), among.2)))
+    (subst (λ (x : Person). ¬ ((person.name ≡ x.name) ⊎ (person.key ≡ x.key))) among.2 (different 0 (suc among.0) next (omega arith) (omega (arith, among.1))))
+    (fits next (suc among.0, omega (arith, among.1), among.2)))
 
 -- an Import keeps the world sane: its rule denies a list that conflicts with somebody
 pub import_step : (world : World) (caller : Option Person) (people : List Person) (t : ℕ) (found : PuzzleState) (given : Reply) (new : World) → Sane world →

@@ -8,9 +8,9 @@ use Rattle.std.specs.Map.{values_of}
 use Rattle.std.specs.Ordering.{is_eq}
 use Rattle.std.specs.declared.cmp.Ordering.{Ordering}
 use Rattle.std.specs.declared.cmp.Ordering.TheVariants.{Less, Equal, Greater}
-use Rattle.std.proofs.lemmas.Option.{slice_get_within, get_or_from_slice_get}
 use Rattle.hall_policy.specs.Text.{text_cmp}
 use Rattle.hall_policy.specs.World.{World, place_of, same_text, puzzle_cmp, place_cmp}
+use Rattle.hall_policy.specs.Rules.{Conflicts}
 use Rattle.hall_policy.specs.First.{NoneBelow}
 use Rattle.hall_policy.specs.declared.rule.Rule.TheVariants as rule
 use Rattle.hall_policy.specs.declared.rule.Decision.TheVariants.{Allow, Repeat, Deny}
@@ -25,9 +25,8 @@ use Rattle.hall_policy.specs.declared.request.Sheet.{Sheet}
 use Rattle.hall_policy.specs.declared.request.Action.{Action}
 use Rattle.hall_policy.specs.declared.request.Action.TheVariants as action
 use Rattle.hall_policy.specs.declared.request.Request.{Request}
-use Rattle.hall_policy.proofs.Maps.{get_of_value}
 use Rattle.hall_policy.proofs.Orders.{text_total, same_texts, answer_total, same_answer_keys}
-use Rattle.hall_store.specs.Caller.{caller_of}
+use Rattle.hall_store.specs.Caller.{with_key, caller_of}
 use Rattle.hall_store.specs.Change.{with_person, with_people, relisted}
 use Rattle.hall_desk.specs.Found.{IsReleasedRound}
 use Rattle.hall_desk.specs.Step.{Step, Allowed, IsReleasedBy, draft_of, answer_row}
@@ -36,7 +35,7 @@ use Rattle.hall_desk.specs.declared.reply.Reply.{Reply}
 use Rattle.hall_store.proofs.Changes.{with_people-known}
 use Rattle.hall_store.proofs.Inserts.{keys_apart, others_stay, inserted_there}
 use Rattle.hall_store.proofs.Tests.{not_true}
-use Rattle.hall_desk.proofs.Answering.{text_decides, find-Contains}
+use Rattle.hall_desk.proofs.Answering.{text_decides, find-value}
 use Rattle.hall_desk.proofs.DraftSane.{puts_no_released, relisted_other}
 use Rattle.hall_desk.proofs.Tokens.{token_decides}
 
@@ -97,13 +96,13 @@ puzzles_change world new puzzles made =
 
 -- ---- an Import
 -- who is found first stays so, as a value that fails the test is put under a new key
-find-put : {K X : Type 0} (R : K → K → Ordering) (p : X → Bool) (k : K) (v : X) (es : List (K × X)) → by_key R k es ≡ None → p v ≡ false → find p (values_of (put R k v es)) ≡ find p (values_of es)
-find-put R p k v [] new fails = ap (λ b. cond b (Some v) None) fails
-find-put {X = X} R p k v (e ∷ es) new fails =
+find_value-put : {K X : Type 0} (R : K → K → Ordering) (p : X → Bool) (k : K) (v : X) (es : List (K × X)) → by_key R k es ≡ None → p v ≡ false → find p (values_of (put R k v es)) ≡ find p (values_of es)
+find_value-put R p k v [] new fails = ap (λ b. cond b (Some v) None) fails
+find_value-put {X = X} R p k v (e ∷ es) new fails =
     elim (R k e.0) as (λ r. cond (is_eq r) (Some e.1) (by_key R k es) ≡ None → find p (values_of (by_order r ((k, v) ∷ e ∷ es) ((e.0, v) ∷ es) (e ∷ put R k v es))) ≡ find p (values_of (e ∷ es))) [
       | Less ↦ λ n. ap (λ b. cond b (Some v) (find p (values_of (e ∷ es)))) fails
       | Equal ↦ λ n. absurd (let no : Some e.1 ≡ None = n in cc)
-      | Greater ↦ λ n. ap (cond (p e.1) (Some e.1)) (find-put R p k v es n fails)
+      | Greater ↦ λ n. ap (cond (p e.1) (Some e.1)) (find_value-put R p k v es n fails)
     ] new
 
 -- a new person is found by the own key alone
@@ -113,7 +112,7 @@ found_still people person key other =
     elim (get people person.name) as (λ (o : Option Person). get people person.name ≡ o → find (λ p. same_text p.key key) (values (if is_some o then people else insert people person.name person)) ≡ find (λ p. same_text p.key key) (values people)) [
       | None ↦ λ none.
           ap (λ es. find (λ p. same_text p.key key) (values_of es)) (entries-insert text_total people person.name person)
-          ∙ find-put text_cmp (λ p. same_text p.key key) person.name person (entries people) (sym (get-entries people person.name) ∙ none) (other none)
+          ∙ find_value-put text_cmp (λ p. same_text p.key key) person.name person (entries people) (sym (get-entries people person.name) ∙ none) (other none)
       | Some known ↦ λ _. refl
     ] refl
 
@@ -132,35 +131,35 @@ found_in_list people (person ∷ rest) key others =
     found_in_list (with_person people person) rest key (λ next among none. others next (suc among.0, omega (arith, among.1), among.2) (unknown_before people person next.name none))
     ∙ found_still people person key (others person (0, omega arith, refl))
 
--- an Import's rule denies a list that gives a key of somebody to a name that is unknown
+-- a key that finds somebody is the key of nobody in the list whose name is unknown
+not_given : (world : World) (people : List Person) (key : List ℕ) (holder : Person) → ((person : Person) → Contains people person → ¬ (Conflicts world person)) → with_key world key ≡ Some holder →
+    (person : Person) → Contains people person → get world.people person.name ≡ None → same_text person.key key ≡ false
+not_given world people key holder fits is person among unknown =
+    let under = find-value text_total (λ p. same_text p.key key) world.people holder is in
+    not_true (same_text person.key key) (λ same. fits person among (inr (inl (
+      under.0,
+      holder,
+      under.1,
+      (λ named. let no : Some holder ≡ None = sym under.1 ∙ ap (get world.people) named ∙ unknown in cc),
+      (text_decides holder.key key).0 under.2 ∙ sym ((text_decides person.key key).0 same),
+    ))))
+
+-- so it finds the same person once the list is added
+still_callers : (world : World) (people : List Person) → ((person : Person) → Contains people person → ¬ (Conflicts world person)) → (key : Option (List ℕ)) (person : Person) →
+    caller_of world key ≡ Some person → caller_of (record world { people = with_people world.people people }) key ≡ Some person
+still_callers world people fits None person is = is
+still_callers world people fits (Some key) person is = found_in_list world.people people key (not_given world people key person fits is) ∙ is
+
+-- an Import's rule denies a list that conflicts with somebody
 import_remains : (world : World) (caller : Option Person) (people : List Person) (t : ℕ) (found : PuzzleState) (given : Reply) (new : World) →
     NoneBelow 21 world caller (action.Import people) t → Allowed world caller (action.Import people) t found given new → Remains world new
 import_remains world caller people t found given new none (told, made) =
     let after : World = record world { people = with_people world.people people } in
-    subst (λ (w : World). Remains world w) (sym made)
-    (record { callers = callers; answers = λ key row at. at; rounds = λ id round at is. stays_as_found world after id round at is refl }) where
-  callers : (key : Option (List ℕ)) (person : Person) → caller_of world key ≡ Some person → caller_of (record world { people = with_people world.people people }) key ≡ Some person
-  callers None person is = is
-  callers (Some key) person is =
-      let at = find-Contains (λ p. same_text p.key key) (values world.people) person is in
-      let under = get_of_value text_total world.people person (at.0, slice_get_within (values world.people) at.0 person at.1, get_or_from_slice_get (values world.people) at.0 person person at.1) in
-      let own : person.key ≡ key = (text_decides person.key key).0 at.2 in
-      found_in_list world.people people key (λ next among unknown. not_true (same_text next.key key) (λ same.
-          (none rule.ListConflict (lit< tt)).0 (
-            (2, lit< tt, refl),
-            (
-              next,
-              among,
-              inr (inl (
-                under.0,
-                person,
-                under.1,
-                (λ named. let no : Some person ≡ None = sym under.1 ∙ ap (get world.people) named ∙ unknown in cc),
-                own ∙ sym ((text_decides next.key key).0 same),
-              )),
-            ),
-          )))
-      ∙ is
+    subst (λ (w : World). Remains world w) (sym made) (record {
+      callers = still_callers world people (λ person among conflict. (none rule.ListConflict (lit< tt)).0 ((2, lit< tt, refl), (person, among, conflict)));
+      answers = λ key row at. at;
+      rounds = λ id round at is. stays_as_found world after id round at is refl;
+    })
 
 -- ---- a round
 -- a draft that is put leaves the released rounds

@@ -3,8 +3,7 @@ use Rattle.std.proofs.Common.{◌≡◌, ◌&&◌, ◌<◌, ◌≤◌, inl, inr,
 use Rattle.std.specs.Prelude.{All}
 use Rattle.std.proofs.lemmas.List.Elements.{All-head, All-tail}
 use Rattle.std.proofs.lemmas.Bool.{cases_order}
-use Rattle.std.proofs.lemmas.Option.{slice_get_within, get_or_from_slice_get}
-use Rattle.std.specs.FinMap.{get, values}
+use Rattle.std.specs.FinMap.{get}
 use Rattle.hall_policy.specs.World.{World, same_text}
 use Rattle.hall_policy.specs.Ranges.{IsMoment, IsAnswerRow, IsAction, IsRequest}
 use Rattle.hall_policy.specs.Rules.{answers_given, puzzles_put}
@@ -22,7 +21,6 @@ use Rattle.hall_policy.specs.declared.request.Request.{Request}
 use Rattle.hall_grid.specs.Board.{Board}
 use Rattle.hall_grid.specs.Rule.{IsNameSet}
 use Rattle.hall_grid.specs.Answer.{Verdict}
-use Rattle.hall_policy.proofs.Maps.{get_of_value}
 use Rattle.hall_policy.proofs.Orders.{text_total}
 use Rattle.hall_store.specs.Caller.{caller_of}
 use Rattle.hall_desk.specs.Found.{IsReleasedRound}
@@ -35,7 +33,7 @@ use Rattle.hall_desk.specs.declared.planned.Plan.{Plan}
 use Rattle.hall_store.specs.Change.{changed}
 use Rattle.hall_desk.specs.Sane.{Sane}
 use Rattle.hall_desk.specs.declared.reply.Reply.{Reply}
-use Rattle.hall_desk.proofs.Answering.{find-Contains}
+use Rattle.hall_desk.proofs.Answering.{find-value}
 use Rattle.hall_desk.proofs.Saneness.{put_sane, submit_sane}
 use Rattle.hall_desk.proofs.CertifySane.{certify_step}
 use Rattle.hall_desk.proofs.ImportSane.{import_step}
@@ -46,8 +44,7 @@ use Rattle.hall_desk.proofs.ReleaseSane.{release_step}
 caller_there : (world : World) → Sane world → (key : Option (List ℕ)) (person : Person) → caller_of world key ≡ Some person → get world.people person.name ≡ Some person
 caller_there world sane None person e = let no : None ≡ Some person = e in absurd (cc)
 caller_there world sane (Some key) person e =
-    let at = find-Contains (λ p. same_text p.key key) (values world.people) person e in
-    let under = get_of_value text_total world.people person (at.0, slice_get_within (values world.people) at.0 person at.1, get_or_from_slice_get (values world.people) at.0 person person at.1) in
+    let under = find-value text_total (λ p. same_text p.key key) world.people person e in
     let own : person.name ≡ under.0 = sane.typed.people under.0 person under.1 in
     subst (λ (name : List ℕ). get world.people name ≡ Some person) (sym own) under.1
 
