@@ -39,8 +39,11 @@ impl Store for MapStore {
     }
 
     fn import(&mut self, _alloc: Global, people: &People) -> Result<(), StoreFault> {
-        index_people(&mut self.keys, people.as_slice())?;
-        self.people = with_people(&self.people, people.as_slice())?;
+        // A copy takes the place of the people at the end, so that a refusal leaves them.
+        let list = people.as_slice();
+        let people = with_people(&self.people, list)?;
+        index_people(&mut self.keys, list)?;
+        self.people = people;
         Ok(())
     }
 
