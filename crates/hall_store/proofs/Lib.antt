@@ -10,3 +10,4 @@ pub mod Inserts
 pub mod Knowing
 pub mod Adding
 pub mod Changes
+pub mod Imports
