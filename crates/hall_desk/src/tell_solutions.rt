@@ -1,5 +1,4 @@
 //! Solutions: the stored solutions of a round's puzzles.
-ghost use Rattle.std.specs.Prelude.{◌≤◌, length};
 ghost use Rattle.hall_policy.specs.Rules.{IsCertified};
 ghost use Rattle.hall_store.specs.Store.{Asks, Kept, Told};
 ghost use Rattle.hall_desk.specs.Sane.{Sane};

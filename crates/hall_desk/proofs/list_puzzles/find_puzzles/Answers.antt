@@ -1,8 +1,6 @@
-use Rattle.std.proofs.Common.{◌≡◌, Bool, true, List, [], ◌∷◌, cond, refl, sym, ap, ◌∙◌}
+use Rattle.std.proofs.Common.{◌≡◌, Bool, true, List, [], ◌∷◌, refl, sym, ap, ◌∙◌}
 use Rattle.std.specs.List.{filter}
 use Rattle.std.specs.FinMap.{values}
-use Rattle.hall_policy.specs.World.{same_text}
-use Rattle.hall_policy.specs.declared.record.PuzzleRow.{PuzzleRow}
 use Rattle.hall_store.proofs.Knowing.{served_turn}
 use Rattle.hall_desk.specs.Shown.{sees_puzzle}
 use Rattle.hall_desk.proofs.list_puzzles.find_puzzles.Goals as goal

@@ -28,7 +28,7 @@ loop-entry-preserved g c =
       opened = λ h s. step.told.0 h (old.opened (step.kept.honest h) s);
       texts = λ h s.
           subst (λ (list : List Entry). AreSolutions new.world list c.push.new.items.items) (sym more)
-          (subst (λ (texts : List (List ℕ)). AreSolutions new.world (take place entries ++ entry ∷ []) texts) (sym c.in_ok-push.ensures)
+          (subst (λ (texts : List (List ℕ)). AreSolutions new.world (take place entries ++ entry ∷ []) texts) (sym {A = List (List ℕ)} c.in_ok-push.ensures)
           (solutions_more new.world (take place entries) c.loop-entry.texts.items entry c.in_ok-text.text
           (carried (λ w. AreSolutions w (take place entries) c.loop-entry.texts.items) before new step.kept old.texts h s) (step.told.1 h s)));
     }

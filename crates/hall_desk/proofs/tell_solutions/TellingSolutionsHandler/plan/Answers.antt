@@ -1,5 +1,4 @@
 use Rattle.std.proofs.Common.{Option, Some, List, sym, subst}
-use Rattle.hall_policy.specs.World.{World}
 use Rattle.hall_policy.specs.Facts.{IsRoundFound}
 use Rattle.hall_policy.specs.declared.record.Entry.{Entry}
 use Rattle.hall_policy.specs.declared.record.RoundRow.{RoundRow}
