@@ -53,11 +53,11 @@ unserved_without_caller facts (ReadRound round) t passes none = without_caller f
 unserved_without_caller facts (Submit round number token answer) t passes none = without_caller facts (Submit round number token answer) t (0, lit< tt, refl) passes none
 unserved_without_caller facts (Answers round) t passes none = without_caller facts (Answers round) t (0, lit< tt, refl) passes none
 unserved_without_caller facts (Import people) t passes none = without_caller facts (Import people) t (0, lit< tt, refl) passes none
-unserved_without_caller facts (ReadPuzzle key) t passes none = tt
-unserved_without_caller facts ListPuzzles t passes none = tt
+unserved_without_caller facts (ReadPuzzle key) t passes none = without_caller facts (ReadPuzzle key) t (0, lit< tt, refl) passes none
+unserved_without_caller facts ListPuzzles t passes none = without_caller facts ListPuzzles t (0, lit< tt, refl) passes none
 unserved_without_caller facts (PutRound round sheet) t passes none = without_caller facts (PutRound round sheet) t (0, lit< tt, refl) passes none
-unserved_without_caller facts ListRounds t passes none = tt
-unserved_without_caller facts (Solutions round) t passes none = tt
+unserved_without_caller facts ListRounds t passes none = without_caller facts ListRounds t (0, lit< tt, refl) passes none
+unserved_without_caller facts (Solutions round) t passes none = without_caller facts (Solutions round) t (0, lit< tt, refl) passes none
 unserved_without_caller facts (Protest round token number text) t passes none = tt
 unserved_without_caller facts (Protests round) t passes none = tt
 unserved_without_caller facts (Rule round entrant token ruling) t passes none = tt
@@ -154,3 +154,19 @@ module _ (world : World) (facts : Facts) (action : Action) where
   -- a round whose answers are listed
   pub list_told : (id : List ℕ) → action ≡ Answers id → IsRoundFound world (Some id) facts.round → TrueUpTo 20 facts world action
   list_told id is found = subst (λ (a : Action). TrueUpTo 20 facts world a) (sym is) (tt, (tt, (found, tt)))
+
+  -- a puzzle that is read
+  pub puzzle_read_told : (key : PuzzleKey) → action ≡ ReadPuzzle key → facts.puzzle ≡ get world.puzzles key → TrueUpTo 20 facts world action
+  puzzle_read_told key is found = subst (λ (a : Action). TrueUpTo 20 facts world a) (sym is) (tt, (tt, (tt, (found, tt))))
+
+  -- puzzles that are listed
+  pub puzzles_list_told : action ≡ ListPuzzles → TrueUpTo 20 facts world action
+  puzzles_list_told is = subst (λ (a : Action). TrueUpTo 20 facts world a) (sym is) (tt, (tt, tt))
+
+  -- rounds that are listed
+  pub rounds_list_told : action ≡ ListRounds → TrueUpTo 20 facts world action
+  rounds_list_told is = subst (λ (a : Action). TrueUpTo 20 facts world a) (sym is) (tt, tt)
+
+  -- a round whose solutions are told
+  pub solutions_told : (id : List ℕ) → action ≡ Solutions id → IsRoundFound world (Some id) facts.round → TrueUpTo 20 facts world action
+  solutions_told id is found = subst (λ (a : Action). TrueUpTo 20 facts world a) (sym is) (tt, (tt, (found, (found, tt))))

@@ -5,8 +5,9 @@ use Rattle.hall_policy.specs.World.{World}
 use Rattle.hall_policy.specs.Rules.{answers_given}
 use Rattle.hall_policy.specs.declared.record.AnswerRow.{AnswerRow}
 use Rattle.hall_policy.specs.declared.request.Action.{Action}
-use Rattle.hall_policy.specs.declared.request.Action.TheVariants.{Import, PutPuzzle, Certify, PutRound, Release}
-use Rattle.hall_policy.specs.declared.request.Action.TheVariants.{ReadRound, Submit, Answers}
+use Rattle.hall_policy.specs.declared.request.Action.TheVariants.{Import, PutPuzzle, ReadPuzzle, ListPuzzles, Certify}
+use Rattle.hall_policy.specs.declared.request.Action.TheVariants.{PutRound, Release, ListRounds, ReadRound, Submit}
+use Rattle.hall_policy.specs.declared.request.Action.TheVariants.{Answers, Solutions}
 use Rattle.hall_policy.specs.declared.record.AnswerKey.{AnswerKey}
 use Rattle.hall_policy.specs.declared.record.Person.{Person}
 use Rattle.hall_desk.specs.declared.submit.Handed.{Handed}
@@ -17,6 +18,10 @@ use Rattle.hall_desk.specs.declared.put_round.Drafting.{Drafting}
 use Rattle.hall_desk.specs.declared.release.Releasing.{Releasing}
 use Rattle.hall_desk.specs.declared.read_round.Reading.{Reading}
 use Rattle.hall_desk.specs.declared.answers.Listing.{Listing}
+use Rattle.hall_desk.specs.declared.read_puzzle.ReadingPuzzle.{ReadingPuzzle}
+use Rattle.hall_desk.specs.declared.list_puzzles.ListingPuzzles.{ListingPuzzles}
+use Rattle.hall_desk.specs.declared.list_rounds.ListingRounds.{ListingRounds}
+use Rattle.hall_desk.specs.declared.tell_solutions.TellingSolutions.{TellingSolutions}
 
 -- the action that hands it in
 abbrev pub handed_action : Handed → Action
@@ -69,3 +74,19 @@ read_action read = ReadRound read.round.now
 -- the action that lists the round's answers
 abbrev pub list_action : Listing → Action
 list_action listed = Answers listed.round.now
+
+-- the action that reads the puzzle
+abbrev pub puzzle_read_action : ReadingPuzzle → Action
+puzzle_read_action read = ReadPuzzle read.key.now
+
+-- the action that lists puzzles
+abbrev pub puzzles_list_action : ListingPuzzles → Action
+puzzles_list_action listed = ListPuzzles
+
+-- the action that lists rounds
+abbrev pub rounds_list_action : ListingRounds → Action
+rounds_list_action listed = ListRounds
+
+-- the action that tells the round's solutions
+abbrev pub solutions_action : TellingSolutions → Action
+solutions_action told = Solutions told.round.now

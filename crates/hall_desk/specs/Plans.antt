@@ -5,6 +5,7 @@ use Rattle.hall_store.specs.declared.change.Change.TheVariants.{Nothing}
 use Rattle.std.specs.FinMap.{get}
 use Rattle.hall_grid.specs.Answer.{Verdict}
 use Rattle.hall_policy.specs.World.{World, entry_at}
+use Rattle.hall_policy.specs.Rules.{IsCertified}
 use Rattle.hall_policy.specs.declared.record.Entry.{Entry}
 use Rattle.hall_policy.specs.declared.record.Person.{Person}
 use Rattle.hall_policy.specs.declared.record.PuzzleRow.{PuzzleRow}
@@ -85,11 +86,11 @@ IsUnserved (ReadRound round) = ⊥
 IsUnserved (Submit round number token answer) = ⊥
 IsUnserved (Answers round) = ⊥
 IsUnserved (Import people) = ⊥
-IsUnserved (ReadPuzzle key) = ⊤
-IsUnserved ListPuzzles = ⊤
+IsUnserved (ReadPuzzle key) = ⊥
+IsUnserved ListPuzzles = ⊥
 IsUnserved (PutRound round sheet) = ⊥
-IsUnserved ListRounds = ⊤
-IsUnserved (Solutions round) = ⊤
+IsUnserved ListRounds = ⊥
+IsUnserved (Solutions round) = ⊥
 IsUnserved (Protest round token number text) = ⊤
 IsUnserved (Protests round) = ⊤
 IsUnserved (Rule round entrant token ruling) = ⊤
@@ -109,6 +110,10 @@ FailsIn cause new result =
 -- the entries' puzzles are kept
 abbrev pub AreKept : World → List Entry → Type 0
 AreKept world entries = (entry : Entry) → Contains entries entry → get world.puzzles entry.puzzle ≢ None
+
+-- the entries' puzzles are kept in the state one
+abbrev pub AreInStateOne : World → List Entry → Type 0
+AreInStateOne world entries = (entry : Entry) → Contains entries entry → IsCertified world entry.puzzle
 
 -- what a plan says holds of the store's world, which still serves, where its device was honest; or, where no store
 -- was asked, it changes nothing and holds of every world

@@ -12,13 +12,17 @@ use crate::answers::Listing;
 use crate::certify_puzzle::Certifying;
 use crate::handler::Handler;
 use crate::import_people::Importing;
+use crate::list_puzzles::ListingPuzzles;
+use crate::list_rounds::ListingRounds;
 use crate::planned::Plan;
 use crate::put_puzzle::Putting;
 use crate::put_round::Drafting;
+use crate::read_puzzle::ReadingPuzzle;
 use crate::read_round::Reading;
 use crate::release::Releasing;
 use crate::reply::Reply;
 use crate::submit::Handed;
+use crate::tell_solutions::TellingSolutions;
 use hall_policy::{Action, Decision, Facts, Moment, Request, Rule, decide_up_to};
 use hall_store::{Store, StoreFault};
 use std::alloc::Global;
@@ -153,6 +157,10 @@ fn dispatch<S: Store>(
         Action::PutPuzzle { key, puzzle } => {
             handle(alloc, store, t, request, &Putting { key, puzzle }, facts)
         }
+        Action::ReadPuzzle { key } => {
+            handle(alloc, store, t, request, &ReadingPuzzle { key }, facts)
+        }
+        Action::ListPuzzles => handle(alloc, store, t, request, &ListingPuzzles {}, facts),
         Action::Certify { key, budget } => {
             let certified = Certifying {
                 key,
@@ -164,6 +172,7 @@ fn dispatch<S: Store>(
             handle(alloc, store, t, request, &Drafting { round, sheet }, facts)
         }
         Action::Release { round } => handle(alloc, store, t, request, &Releasing { round }, facts),
+        Action::ListRounds => handle(alloc, store, t, request, &ListingRounds {}, facts),
         Action::ReadRound { round } => handle(alloc, store, t, request, &Reading { round }, facts),
         Action::Submit {
             round,
@@ -180,11 +189,10 @@ fn dispatch<S: Store>(
             handle(alloc, store, t, request, &handed, facts)
         }
         Action::Answers { round } => handle(alloc, store, t, request, &Listing { round }, facts),
-        Action::ReadPuzzle { .. }
-        | Action::ListPuzzles
-        | Action::ListRounds
-        | Action::Solutions { .. }
-        | Action::Protest { .. }
+        Action::Solutions { round } => {
+            handle(alloc, store, t, request, &TellingSolutions { round }, facts)
+        }
+        Action::Protest { .. }
         | Action::Protests { .. }
         | Action::Rule { .. }
         | Action::Publish { .. }

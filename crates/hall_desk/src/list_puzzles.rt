@@ -1,0 +1,96 @@
+//! ListPuzzles: the puzzles that the caller sees.
+ghost use Rattle.std.specs.Prelude.{◌≡◌, IfOk, map};
+ghost use Rattle.std.specs.List.{filter};
+ghost use Rattle.std.specs.FinMap.{values};
+ghost use Rattle.hall_store.specs.Store.{Kept, Served, Fails};
+ghost use Rattle.hall_desk.specs.Shown.{sees_puzzle, puzzle_line};
+
+use crate::handler::Handler;
+use crate::planned::Plan;
+use crate::put_puzzle::state_name;
+use crate::reply::{PuzzleLine, Reply};
+use crate::rows::{Rows, push};
+use hall_policy::{Action, Decision, Facts, Moment, Person, PuzzleRow, decide};
+use hall_store::{Store, StoreFault};
+use std::alloc::{AllocError, Global};
+
+/// What is listed: puzzles.
+#[derive(Clone, Copy)]
+pub(crate) struct ListingPuzzles {}
+
+impl Handler for ListingPuzzles {
+    ghost use Rattle.hall_desk.specs.Handler.{puzzles_list_action};
+
+    ghost action_of = { puzzles_list_action };
+
+    /// The rules read the caller alone.
+    fn decision<S: Store>(
+        &self,
+        _alloc: Global,
+        _store: &mut S,
+        t: Moment,
+        action: &Action,
+        facts: &mut Facts,
+    ) -> Result<Decision, StoreFault> {
+        Ok(decide(facts, action, t))
+    }
+
+    fn first_reply(&self, _facts: &Facts) -> Option<Reply> {
+        None
+    }
+
+    /// The puzzles that the caller sees.
+    fn plan<S: Store>(
+        &self,
+        alloc: Global,
+        store: &mut S,
+        _t: Moment,
+        facts: &Facts,
+    ) -> Result<Plan, StoreFault> {
+        let Some(person) = &facts.caller else {
+            unreachable!()
+        };
+        let rows = find_puzzles(alloc, store, person)?;
+        let lines = show_puzzles(alloc, rows.as_slice())?;
+        Ok(Plan::of(Reply::PuzzleList(lines)))
+    }
+}
+
+/// The puzzles that the person sees: all of them, or the own ones.
+fn find_puzzles<S: Store>(
+    alloc: Global,
+    store: &mut S,
+    person: &Person,
+) -> Result<Vec<PuzzleRow>, StoreFault>
+    ensures kept { Kept (S.content store.old) (S.content store.new) }
+    ensures fault { Fails S.can_fail result }
+    ensures served { Served (S.content store.new) result
+        (λ world rows. rows.items ≡ filter (sees_puzzle person.now) (values world.puzzles)) }
+{
+    if person.roles.director {
+        store.all_puzzles(alloc)
+    } else {
+        store.puzzles_of(alloc, &person.name)
+    }
+}
+
+/// The puzzles as they are listed.
+fn show_puzzles(alloc: Global, rows: &[PuzzleRow]) -> Result<Rows<PuzzleLine>, AllocError>
+    ensures { IfOk result (λ lines. lines ≡ map puzzle_line rows.now) }
+{
+    let mut lines = Vec::new(alloc);
+    for row in rows {
+        push(&mut lines, show_puzzle(row)?)?;
+    }
+    Ok(Rows::new(lines))
+}
+
+/// A puzzle as it is listed.
+fn show_puzzle(row: &PuzzleRow) -> Result<PuzzleLine, AllocError>
+    ensures { IfOk result (λ line. line ≡ puzzle_line row.now) }
+{
+    Ok(PuzzleLine {
+        key: row.key.clone()?,
+        state: state_name(&row.state),
+    })
+}
