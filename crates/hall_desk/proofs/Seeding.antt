@@ -1,6 +1,10 @@
 -- People who stand before any request.
-use Rattle.std.proofs.Common.{◌≡◌, inl, inr, List, Result, Ok, IfOk, sym, ap, ◌∙◌, subst}
+use Rattle.std.proofs.Common.{◌≡◌, inl, inr, ℕ, false, List, Result, Ok, IfOk, sym, ap, ◌∙◌, subst}
 use Rattle.std.specs.Prelude.{All}
+use Rattle.std.proofs.lemmas.Bool.{false≢true}
+use Rattle.hall_policy.specs.Facts.{TrueUpTo}
+use Rattle.hall_policy.specs.declared.facts.Facts.{Facts}
+use Rattle.hall_policy.specs.declared.record.PuzzleState.TheVariants as state
 use Rattle.hall_policy.specs.World.{World}
 use Rattle.hall_policy.specs.Lists.{ArePeople}
 use Rattle.hall_policy.specs.Ranges.{IsPerson}
@@ -12,7 +16,7 @@ use Rattle.hall_store.specs.Change.{changed, CanMake}
 use Rattle.hall_store.specs.declared.change.Change.{Change}
 use Rattle.hall_desk.specs.Step.{Seed}
 use Rattle.hall_desk.specs.Sane.{Sane}
-use Rattle.hall_desk.specs.Plans.{IsImportPlan, IsSeedPlan, Seeds}
+use Rattle.hall_desk.specs.Plans.{IsMadePlan, IsImportPlan, IsSeedPlan, Seeds}
 use Rattle.hall_desk.specs.declared.reply.Reply.{Reply}
 use Rattle.hall_desk.specs.declared.planned.Plan.{Plan}
 use Rattle.hall_desk.proofs.ImportSane.{people_sane}
@@ -22,6 +26,15 @@ pub seed_plan : (world : World) (people : List Person) (plan : Plan) → ¬ (Has
 seed_plan world people plan clear is = record {
   seeded = inr (inr (clear, (is.counted, ap (λ (c : Change). changed c world) is.change)));
   can = subst (λ (c : Change). CanMake c world) (sym is.change) (λ person among conflict. clear (person, among, conflict));
+}
+
+-- and it is that of an Import that is allowed
+pub import_plan : (world : World) (facts : Facts) (t : ℕ) (people : List Person) (plan : Plan) → TrueUpTo 20 facts world (Import people) → facts.conflict ≡ false →
+    IsImportPlan world people plan → IsMadePlan world facts.caller (Import people) t plan
+import_plan world facts t people plan told clear is = record {
+  found = state.New;
+  allowed = (is.counted, ap (λ (c : Change). changed c world) is.change);
+  can = (seed_plan world people plan (λ found. false≢true (sym clear ∙ told.1.1.0.1 found)) is).can;
 }
 
 -- a plan that was made over a store, and its change made there
