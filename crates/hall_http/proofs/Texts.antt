@@ -1,6 +1,6 @@
 -- Texts of a kind, and numbers in decimal.
 use Rattle.std.proofs.Common.{◌≡◌, ◌∙◌, sym, ap, refl, rules, arith, ℕ, ◌<◌, ◌≤◌, ◌^◌, ◌&&◌, ◌||◌, not, ◌==◌, Bool}
-use Rattle.std.proofs.Common.{true, false, List, length, get_or, Some, None, Result, Ok, Err, decimal}
+use Rattle.std.proofs.Common.{true, List, length, get_or, Some, None, Result, decimal}
 use Rattle.std.specs.Prelude.{IsTrue, nat_lt, slice_index}
 use Rattle.std.specs.List.{list_all}
 use Rattle.std.specs.Char.{is_ascii_digit}
@@ -8,9 +8,9 @@ use Rattle.std.specs.Str.{IsUtf8}
 use Rattle.std.specs.Str.Parse.{digits_value, ParsesUnsigned}
 use Rattle.std.specs.Result.{OkIff}
 use Rattle.std.proofs.lemmas.Bool.{and_from, and_parts, or_cases, or_left, or_right, cases_lt, cases_Bool, eq-eqb}
-use Rattle.std.proofs.lemmas.Bool.{eqb-true, leb-true, le-leb, ltb-true, lt-ltb, le-ltb, false_from_ne_true}
+use Rattle.std.proofs.lemmas.Bool.{eqb-true, leb-true, ltb-true, lt-ltb, le-ltb}
 use Rattle.std.proofs.lemmas.Bool.{not_from_false, ne_eqb, eqb-false, not-true}
-use Rattle.std.proofs.lemmas.List.Sums.{list_all-from_AllPass, AllPass-from_list_all}
+use Rattle.std.proofs.lemmas.List.Sums.{AllPass-from_list_all}
 use Rattle.std.proofs.lemmas.Str.{IsUtf8-from_ascii}
 use Rattle.std.proofs.Common.{inl, inr}
 use Rattle.std.proofs.lemmas.List.{get_or_past}
@@ -18,37 +18,7 @@ use Rattle.std.proofs.lemmas.Str.Parse.{IsNumeralModel, numerals_by_value, parse
 use Rattle.std.proofs.lemmas.Fmt.{decimal-digits_value, digits_decimal, digits_value-decimal, decimal_nonempty}
 use Rattle.std.proofs.lemmas.Fmt.{first_decimal, decimal_digit}
 use Rattle.hall_policy.specs.Text.{IsOfKind}
-use Rattle.hall_http.specs.declared.form.FormFault.{FormFault}
-use Rattle.hall_http.specs.Words.{is_kind, of_kind, is_decimal, number_in}
-
-pub kind_holds : (least most : ℕ) (allows : ℕ → Bool) (text : List ℕ) → IsOfKind least most allows text
-    → is_kind least most allows text ≡ true
-kind_holds least most allows text h =
-    and_from _ _ (and_from _ _ (le-leb _ _ h.long_enough) (le-leb _ _ h.short_enough))
-    (list_all-from_AllPass allows text h.allowed)
-
-pub kind_told : (least most : ℕ) (allows : ℕ → Bool) (text : List ℕ) → is_kind least most allows text ≡ true
-    → IsOfKind least most allows text
-kind_told least most allows text e =
-    let (sizes, all) = and_parts _ _ e in
-    let (low, high) = and_parts _ _ sizes in
-    record {
-      long_enough = leb-true _ _ low;
-      short_enough = leb-true _ _ high;
-      allowed = AllPass-from_list_all allows text all;
-    }
-
-pub kind_fails : (least most : ℕ) (allows : ℕ → Bool) (text : List ℕ) → (IsOfKind least most allows text → ⊥)
-    → is_kind least most allows text ≡ false
-kind_fails least most allows text other = false_from_ne_true _ (λ e. other (kind_told least most allows text e))
-
-pub of_kind_fails : (fault : FormFault) (least most : ℕ) (allows : ℕ → Bool) (text : List ℕ)
-    → (IsOfKind least most allows text → ⊥) → of_kind fault least most allows text ≡ Err fault
-of_kind_fails fault least most allows text other = rw (kind_fails least most allows text other) refl
-
-pub of_kind_holds : (fault : FormFault) (least most : ℕ) (allows : ℕ → Bool) (text : List ℕ)
-    → IsOfKind least most allows text → of_kind fault least most allows text ≡ Ok text
-of_kind_holds fault least most allows text h = rw (kind_holds least most allows text h) refl
+use Rattle.hall_http.specs.Words.{is_decimal, number_in}
 
 ascii_at : (text : List ℕ) → ((k : ℕ) → k < length text → get_or text k 0 < 128) → (i : ℕ) → slice_index text i < 128
 ascii_at text h i =

@@ -7,12 +7,11 @@ use Rattle.serde_json.specs.Data.{Members, no_members, member}
 use Rattle.serde_json.specs.Read.{read}
 use Rattle.serde_json.specs.Find.{get_member, as_object, as_str, as_number, as_integer}
 use Rattle.hall_policy.specs.Text.{is_printable}
+use Rattle.hall_policy.specs.Reading.{◌>>=◌, or_fault, unless, of_kind}
 use Rattle.hall_http.specs.declared.form.Field.{Field}
 use Rattle.hall_http.specs.declared.form.Field.TheVariants as field
 use Rattle.hall_http.specs.declared.form.FormFault.{FormFault}
 use Rattle.hall_http.specs.declared.form.FormFault.TheVariants as fault
-use Rattle.hall_http.specs.Given.{◌>>=◌, or_fault, unless}
-use Rattle.hall_http.specs.Words.{of_kind}
 
 -- each member has one of these names
 abbrev pub only_members : List (List ℕ) → Members → Bool

@@ -1,24 +1,8 @@
 -- What a reader of bytes answers: a value, the first fault of their form, or want of memory.
-use Rattle.std.specs.Prelude.{◌≡◌, Bool, true, false, Option, Some, None, Result, Ok, Err}
+use Rattle.std.specs.Prelude.{◌≡◌, Result, Ok, Err}
 use Rattle.hall_http.specs.declared.form.FormFault.{FormFault}
 use Rattle.hall_http.specs.declared.form.RequestFault.{RequestFault}
 use Rattle.hall_http.specs.declared.form.RequestFault.TheVariants as fault
-
--- the next reading goes on with what this one gave, and a fault ends both
-infixl 10 ◌>>=◌
-abbrev pub ◌>>=◌ : {A B : Type 0} → Result A FormFault → (A → Result B FormFault) → Result B FormFault
-(Ok x) >>= f = f x
-(Err e) >>= f = Err e
-
--- the value, or the fault where there is none
-abbrev pub or_fault : {A : Type 0} → FormFault → Option A → Result A FormFault
-or_fault f None = Err f
-or_fault f (Some x) = Ok x
-
--- nothing, or the fault where the test fails
-abbrev pub unless : FormFault → Bool → Result (Unit {0}) FormFault
-unless f true = Ok tt
-unless f false = Err f
 
 -- a refusal for the bytes' form is the first fault; want of memory says nothing of the bytes
 abbrev pub Fails : {A : Type 0} → RequestFault → Result A FormFault → Type 0

@@ -5,7 +5,8 @@ use Rattle.hall_grid.specs.declared.fault.TextFault.{TextFault}
 use Rattle.hall_grid.specs.declared.fault.TextFault.TheVariants as text_fault
 use Rattle.hall_grid.specs.Board.{Board}
 use Rattle.hall_grid.specs.Text.{SpellsText, FaultOf}
-use Rattle.hall_policy.specs.Text.{is_key_byte}
+use Rattle.hall_policy.specs.Text.{is_key_byte, is_kind}
+use Rattle.hall_policy.specs.Reading.{◌>>=◌}
 use Rattle.hall_policy.specs.declared.record.PuzzleKey.{PuzzleKey}
 use Rattle.hall_policy.specs.declared.request.Action.{Action}
 use Rattle.hall_policy.specs.declared.request.Action.TheVariants as action
@@ -16,8 +17,6 @@ use Rattle.hall_http.specs.declared.form.FormFault.{FormFault}
 use Rattle.hall_http.specs.declared.form.FormFault.TheVariants as fault
 use Rattle.hall_http.specs.declared.routes.Route.{Route}
 use Rattle.hall_http.specs.declared.routes.Route.TheVariants as route
-use Rattle.hall_http.specs.Given.{◌>>=◌}
-use Rattle.hall_http.specs.Words.{is_kind}
 use Rattle.hall_http.specs.Body.{answer_in, text_in, budget_in}
 use Rattle.hall_http.specs.Head.{IsRequest, IsWhole, shown_key}
 use Rattle.hall_http.specs.Routes.{route_in}

@@ -13,9 +13,9 @@ use Rattle.std.specs.List.{list_all}
 use Rattle.std.specs.Char.{is_ascii}
 use Rattle.std.specs.Str.{bytes_eq}
 use Rattle.hall_policy.specs.Text.{is_word_byte}
+use Rattle.hall_policy.specs.Reading.{◌>>=◌, or_fault, unless, of_kind}
 use Rattle.hall_policy.specs.declared.record.PuzzleKey.{PuzzleKey}
-use Rattle.hall_http.specs.Given.{◌>>=◌, or_fault, unless}
-use Rattle.hall_http.specs.Words.{of_kind, number_in}
+use Rattle.hall_http.specs.Words.{number_in}
 use Rattle.hall_http.specs.declared.form.FormFault.{FormFault}
 use Rattle.hall_http.specs.declared.form.FormFault.TheVariants as fault
 use Rattle.hall_http.specs.declared.routes.Route.{Route}

@@ -3,8 +3,8 @@ ghost use Rattle.std.specs.Prelude.{◌≡◌, ◌<◌, ℕ, IfOk, IfErr, OnOk, 
 ghost use Rattle.std.specs.List.{list_all};
 ghost use Rattle.std.specs.Char.{is_ascii};
 ghost use Rattle.matchit.specs.Params.{walk};
+ghost use Rattle.hall_policy.specs.Reading.{of_kind};
 ghost use Rattle.hall_http.specs.Given.{Gives};
-ghost use Rattle.hall_http.specs.Words.{of_kind};
 ghost use Rattle.hall_http.specs.Routes.{routes, found, rows_from, are_free, parts_of, route_at, route_in};
 ghost use Rattle.hall_http.specs.Routes.{puzzle_key_in, puzzle_number, is_method, ascii_path};
 ghost use Rattle.hall_http.specs.Parts.{parts_seen, AllAscii};

@@ -2,8 +2,9 @@
 ghost use Rattle.std.specs.Prelude.{◌≡◌, ◌<◌, ◌==◌, ℕ, IsTrue, Ok, option_map};
 ghost use Rattle.std.specs.List.{list_all, position};
 ghost use Rattle.std.specs.Char.{is_ascii_digit};
+ghost use Rattle.hall_policy.specs.Reading.{of_kind};
 ghost use Rattle.hall_http.specs.Given.{Gives};
-ghost use Rattle.hall_http.specs.Words.{cut, after_front, of_kind, is_decimal, number_in};
+ghost use Rattle.hall_http.specs.Words.{cut, after_front, is_decimal, number_in};
 
 use crate::form::{FormFault, RequestFault};
 use hall_policy::{Checked, TextKind};

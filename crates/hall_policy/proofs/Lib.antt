@@ -1,3 +1,4 @@
+pub mod Reading
 pub mod Rounds
 pub mod Findings
 pub mod TrueUpTo

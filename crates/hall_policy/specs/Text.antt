@@ -1,5 +1,6 @@
 -- Checked texts: what a contract sees of one is its list of bytes.
 use Rattle.std.specs.Prelude.{ℕ, ◌≤◌, Bool, List, length, All, IsTrue, ◌||◌, ◌&&◌, nat_le, nat_eq}
+use Rattle.std.specs.List.{list_all}
 use Rattle.std.specs.declared.cmp.Ordering.{Ordering}
 use Rattle.std.specs.Ordering.{nat_cmp}
 use Rattle.std.specs.Cmp.Lexicographic.{slice_cmp}
@@ -13,6 +14,10 @@ pub record IsOfKind (least most : ℕ) (allows : ℕ → Bool) (bytes : List ℕ
   pub long_enough : least ≤ length bytes
   pub short_enough : length bytes ≤ most
   pub allowed : All (λ byte. IsTrue (allows byte)) bytes
+
+-- so many bytes, and each is one that the kind allows
+abbrev pub is_kind : ℕ → ℕ → (ℕ → Bool) → List ℕ → Bool
+is_kind least most allows text = nat_le least (length text) && nat_le (length text) most && list_all allows text
 
 -- a to z, 0 to 9 and the dash
 abbrev pub is_word_byte : ℕ → Bool

@@ -14,7 +14,7 @@ mod text;
 
 pub use decision::{decide, decide_up_to};
 pub use facts::Facts;
-pub use list::{Entries, People};
+pub use list::{Entries, People, is_new};
 pub use number::{
     AnswerNumber, Bonus, Budget, Minutes, Moment, Penalty, Points, ProtestMinutes, PuzzleNumber,
     RulingPoints, Within,

@@ -1,6 +1,6 @@
 //! Lists in which no two items are alike: a round's puzzles, and people.
 ghost use Rattle.std.specs.Prelude.{◌≡◌, ◌↔◌, ◌≤◌, not, length, IsTrue, IfSome, IfNone, IfOk, OnErr, AllPairs, Any};
-ghost use Rattle.std.specs.BTreeSet.{contains};
+ghost use Rattle.std.specs.BTreeSet.{contains, IsUnchanged};
 ghost use Rattle.hall_policy.specs.Text.{text_cmp};
 ghost use Rattle.hall_policy.specs.Lists.{AreEntries, ArePeople, ArePeopleDifferent, IsSeenToo};
 
@@ -31,13 +31,14 @@ fn is_listed(entries: &[Entry], later: &Entry) -> bool
         .any(|entry| entry.puzzle.is_same(&later.puzzle))
 }
 
-/// Adds the text to those seen, and tells whether it is new.
-fn is_new<K: TextKind>(
+/// Adds the text to those seen, and tells whether it is new. An error is want of memory, and the set stays as it was.
+pub fn is_new<K: TextKind>(
     seen: &mut BTreeSet<Checked<K>>,
     text: &Checked<K>,
 ) -> Result<bool, AllocError>
     ensures new { IfOk result (λ new. new ≡ not (contains text_cmp seen.old text.now)) }
     ensures seen { IfOk result (λ new. IsSeenToo seen.old seen.new text.now) }
+    ensures err { OnErr result (IsUnchanged seen.old seen.new) }
 {
     match seen.insert(text.clone()?) {
         Ok(new) => Ok(new),

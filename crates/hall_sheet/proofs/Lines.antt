@@ -6,8 +6,8 @@ use Rattle.std.proofs.lemmas.Bool.{and_from, and_parts, false_from_ne_true}
 use Rattle.std.proofs.lemmas.Str.{IsUtf8-from_is_utf8, is_utf8-from_IsUtf8}
 use Rattle.csv.specs.Records.{AllText, field_at}
 use Rattle.csv.proofs.RecordFacts.{field-there}
+use Rattle.hall_policy.specs.Reading.{or_fault}
 use Rattle.hall_sheet.specs.declared.fault.Refusal.TheVariants.{Syntax}
-use Rattle.hall_sheet.specs.Given.{or_refuse}
 use Rattle.hall_sheet.specs.People.{three_in, texts_in}
 
 some_is : (x y : List ℕ) → Some x ≡ Some y → x ≡ y
@@ -15,7 +15,7 @@ some_is x y e = cc e
 
 pub three_are : (fields : List (List ℕ)) (a b c : List ℕ) → length fields ≡ 3 → Some a ≡ field_at fields 0
     → Some b ≡ field_at fields 1 → Some c ≡ field_at fields 2
-    → or_refuse Syntax (three_in fields) ≡ Ok (record { name = a; key = b; roles = c })
+    → or_fault Syntax (three_in fields) ≡ Ok (record { name = a; key = b; roles = c })
 unfolding field_at
 three_are [] a b c n e f g = cc n
 three_are (x ∷ []) a b c n e f g = cc n
@@ -23,7 +23,7 @@ three_are (x ∷ y ∷ []) a b c n e f g = cc n
 three_are (x ∷ y ∷ z ∷ []) a b c n e f g = rw (some_is a x e, some_is b y f, some_is c z g) refl
 three_are (x ∷ y ∷ z ∷ u ∷ more) a b c n e f g = cc n
 
-pub not_three : (fields : List (List ℕ)) → length fields ≢ 3 → or_refuse Syntax (three_in fields) ≡ Err Syntax
+pub not_three : (fields : List (List ℕ)) → length fields ≢ 3 → or_fault Syntax (three_in fields) ≡ Err Syntax
 not_three [] n = refl
 not_three (x ∷ []) n = refl
 not_three (x ∷ y ∷ []) n = refl

@@ -2,13 +2,13 @@
 use Rattle.std.proofs.Common.{◌≡◌, ◌∙◌, ap, refl, Bool, true, ◌&&◌, List, [], ◌∷◌, map, Option, Some, None, Ok}
 use Rattle.std.specs.List.{list_all}
 use Rattle.toml.specs.Data.{Members}
+use Rattle.hall_policy.specs.Reading.{or_fault}
 use Rattle.hall_sheet.specs.declared.fault.Field.TheVariants as field
 use Rattle.hall_sheet.specs.declared.fault.Refusal.{Refusal}
-use Rattle.hall_sheet.specs.Given.{or_refuse}
 use Rattle.hall_sheet.specs.Table.{has_only, tables_at, tables_in}
 use Rattle.hall_sheet.specs.Sheet.{sheet_fields, entry_fields, are_listed}
 
-was_given : {X : Type 0} (r : Refusal) (o : Option X) (x : X) → or_refuse r o ≡ Ok x → o ≡ Some x
+was_given : {X : Type 0} (r : Refusal) (o : Option X) (x : X) → or_fault r o ≡ Ok x → o ≡ Some x
 was_given r None x e = cc
 was_given r (Some y) x e = let same : y ≡ x = cc in ap Some same
 

@@ -1,24 +1,8 @@
 -- What a reader of bytes answers: a value, the first thing that is wrong with them, or want of memory.
-use Rattle.std.specs.Prelude.{◌≡◌, Bool, true, false, Option, Some, None, Result, Ok, Err}
+use Rattle.std.specs.Prelude.{◌≡◌, Result, Ok, Err}
 use Rattle.hall_sheet.specs.declared.fault.Refusal.{Refusal}
 use Rattle.hall_sheet.specs.declared.fault.SheetFault.{SheetFault}
 use Rattle.hall_sheet.specs.declared.fault.SheetFault.TheVariants as fault
-
--- the next reading goes on with what this one gave, and a refusal ends both
-infixl 10 ◌>>=◌
-abbrev pub ◌>>=◌ : {A B : Type 0} → Result A Refusal → (A → Result B Refusal) → Result B Refusal
-(Ok x) >>= f = f x
-(Err e) >>= f = Err e
-
--- the value, or the refusal where there is none
-abbrev pub or_refuse : {A : Type 0} → Refusal → Option A → Result A Refusal
-or_refuse r None = Err r
-or_refuse r (Some x) = Ok x
-
--- nothing, or the refusal where the test fails
-abbrev pub unless : Refusal → Bool → Result (Unit {0}) Refusal
-unless r true = Ok tt
-unless r false = Err r
 
 -- a refusal is the first thing that is wrong; want of memory says nothing of the bytes
 abbrev pub Fails : {A : Type 0} → SheetFault → Result A Refusal → Type 0

@@ -1,5 +1,4 @@
 pub mod Given
-pub mod Words
 pub mod People
 pub mod Entry
 pub mod List

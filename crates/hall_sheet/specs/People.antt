@@ -5,13 +5,12 @@ use Rattle.std.specs.List.{list_all, list_any, slice_split}
 use Rattle.std.specs.Str.{bytes_eq, is_utf8}
 use Rattle.csv.specs.Reading.{default_config, strip_bom, records}
 use Rattle.hall_policy.specs.Text.{is_word_byte, is_key_byte}
+use Rattle.hall_policy.specs.Reading.{◌>>=◌, or_fault, unless, of_kind}
 use Rattle.hall_policy.specs.declared.record.Person.{Person}
 use Rattle.hall_policy.specs.declared.record.Roles.{Roles}
 use Rattle.hall_sheet.specs.declared.fault.Field.TheVariants as field
 use Rattle.hall_sheet.specs.declared.fault.Refusal.{Refusal}
 use Rattle.hall_sheet.specs.declared.fault.Refusal.TheVariants.{Syntax, Missing, Range, Repeated}
-use Rattle.hall_sheet.specs.Given.{◌>>=◌, or_refuse, unless}
-use Rattle.hall_sheet.specs.Words.{of_kind}
 
 -- the fields of a line
 pub record Fields : Type 0 where
@@ -30,7 +29,7 @@ texts_in fields = unless Syntax (list_all is_utf8 fields) >>= (λ _. Ok fields)
 
 -- the line that a record is: three fields of text
 abbrev pub line_in : List (List ℕ) → Result Fields Refusal
-line_in fields = texts_in fields >>= (λ texts. or_refuse Syntax (three_in texts))
+line_in fields = texts_in fields >>= (λ texts. or_fault Syntax (three_in texts))
 
 -- nothing, where no field of the line is empty
 abbrev pub filled_in : Fields → Result (Unit {0}) Refusal
@@ -76,7 +75,7 @@ spelled_in line =
     filled_in line
     >>= (λ _. of_kind (Range field.Name) 1 24 is_word_byte line.name)
     >>= (λ name. of_kind (Range field.Key) 8 64 is_key_byte line.key
-    >>= (λ key. or_refuse (Range field.Roles) (roles_in line.roles)
+    >>= (λ key. or_fault (Range field.Roles) (roles_in line.roles)
     >>= (λ roles. Ok (record { name = name; key = key; roles = roles }))))
 
 -- the person of a record

@@ -6,6 +6,7 @@ use Rattle.std.specs.Str.{bytes_eq, is_utf8}
 use Rattle.toml.specs.Data.{Members}
 use Rattle.toml.specs.Parse.{parse_document}
 use Rattle.hall_policy.specs.Text.{is_word_byte, is_printable}
+use Rattle.hall_policy.specs.Reading.{◌>>=◌, or_fault, unless}
 use Rattle.hall_policy.specs.declared.record.Entry.{Entry}
 use Rattle.hall_policy.specs.declared.record.Mode.{Mode}
 use Rattle.hall_policy.specs.declared.record.Mode.TheVariants.{Instant, Sealed}
@@ -14,7 +15,6 @@ use Rattle.hall_sheet.specs.declared.fault.Field.{Field}
 use Rattle.hall_sheet.specs.declared.fault.Field.TheVariants as field
 use Rattle.hall_sheet.specs.declared.fault.Refusal.{Refusal}
 use Rattle.hall_sheet.specs.declared.fault.Refusal.TheVariants as refusal
-use Rattle.hall_sheet.specs.Given.{◌>>=◌, or_refuse, unless}
 use Rattle.hall_sheet.specs.Table.{has_only, text_at, text_in, number_in, tables_at, tables_in}
 use Rattle.hall_sheet.specs.Start.{start_in}
 
@@ -30,7 +30,7 @@ entry_fields = field.Author ∷ field.Label ∷ field.Points ∷ []
 
 -- the table that the bytes write in TOML
 abbrev pub document_in : List ℕ → Result Members Refusal
-document_in bytes = unless refusal.Syntax (is_utf8 bytes) >>= (λ _. or_refuse refusal.Syntax (parse_document bytes))
+document_in bytes = unless refusal.Syntax (is_utf8 bytes) >>= (λ _. or_fault refusal.Syntax (parse_document bytes))
 
 -- every key is listed, at the top and in the tables of `puzzle`, where that is an array of tables
 abbrev pub are_listed : Members → Bool

@@ -7,10 +7,10 @@ use Rattle.std.specs.Char.{is_ascii_digit}
 use Rattle.std.specs.Str.{bytes_eq}
 use Rattle.std.specs.Str.Parse.{digits_value}
 use Rattle.jiff_core.specs.Calendar.{days_from_civil, days_in_month}
+use Rattle.hall_policy.specs.Reading.{◌>>=◌, or_fault}
 use Rattle.hall_sheet.specs.declared.fault.Field.TheVariants as field
 use Rattle.hall_sheet.specs.declared.fault.Refusal.{Refusal}
 use Rattle.hall_sheet.specs.declared.fault.Refusal.TheVariants as refusal
-use Rattle.hall_sheet.specs.Given.{◌>>=◌, or_refuse}
 use Rattle.hall_sheet.specs.Table.{in_range}
 
 -- a byte at a mark of a form: the mark 0 stands for any digit, another mark for itself
@@ -67,6 +67,6 @@ offset_in text =
 -- the moment, 0 to 4,102,444,800: the seconds from the beginning of 1970 to the civil time, less the offset
 abbrev pub start_in : List ℕ → Result ℕ Refusal
 start_in text = do
-  civil ← or_refuse refusal.Start (civil_in (take 19 text))
-  offset ← or_refuse refusal.Start (offset_in (drop 19 text))
+  civil ← or_fault refusal.Start (civil_in (take 19 text))
+  offset ← or_fault refusal.Start (offset_in (drop 19 text))
   in_range field.Start 0 4102444800 (civil.0 *ℤ pos 86400 +ℤ pos civil.1 -ℤ offset)

@@ -5,12 +5,11 @@ use Rattle.std.specs.List.{list_any}
 use Rattle.std.specs.Str.{bytes_eq}
 use Rattle.toml.specs.Data.{Data, Items, no_items, item, Members, no_members, member, get_member}
 use Rattle.toml.specs.Data.{as_integer, as_str, as_array, as_table}
+use Rattle.hall_policy.specs.Reading.{◌>>=◌, or_fault, unless, of_kind}
 use Rattle.hall_sheet.specs.declared.fault.Field.{Field}
 use Rattle.hall_sheet.specs.declared.fault.Refusal.{Refusal}
 use Rattle.hall_sheet.specs.declared.fault.Refusal.TheVariants as refusal
 use Rattle.hall_sheet.specs.Fault.{name_of}
-use Rattle.hall_sheet.specs.Given.{◌>>=◌, or_refuse, unless}
-use Rattle.hall_sheet.specs.Words.{of_kind}
 
 -- each key of the table is the name of one of these fields
 abbrev pub has_only : List Field → Members → Bool
@@ -23,11 +22,11 @@ value_at f ms = get_member (name_of f) ms
 
 -- the text that a field is
 abbrev pub text_at : Field → Members → Result (List ℕ) Refusal
-text_at f ms = or_refuse (refusal.Missing f) (option_and_then as_str (value_at f ms))
+text_at f ms = or_fault (refusal.Missing f) (option_and_then as_str (value_at f ms))
 
 -- the integer that a field is
 abbrev pub integer_at : Field → Members → Result ℤ Refusal
-integer_at f ms = or_refuse (refusal.Missing f) (option_and_then as_integer (value_at f ms))
+integer_at f ms = or_fault (refusal.Missing f) (option_and_then as_integer (value_at f ms))
 
 -- the integer where it lies from the least to the most, else the field's refusal
 abbrev pub in_range : Field → ℕ → ℕ → ℤ → Result ℕ Refusal
@@ -53,4 +52,4 @@ tables_at f ms = option_and_then tables_of (option_and_then as_array (value_at f
 
 -- a field that is an array of tables
 abbrev pub tables_in : Field → Members → Result (List Members) Refusal
-tables_in f ms = or_refuse (refusal.Missing f) (tables_at f ms)
+tables_in f ms = or_fault (refusal.Missing f) (tables_at f ms)

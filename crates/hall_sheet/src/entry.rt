@@ -1,7 +1,8 @@
 //! One person's line of an entry list.
 ghost use Rattle.std.specs.Prelude.{◌≡◌};
 ghost use Rattle.csv.specs.Records.{fields_of};
-ghost use Rattle.hall_sheet.specs.Given.{Gives, or_refuse};
+ghost use Rattle.hall_policy.specs.Reading.{or_fault};
+ghost use Rattle.hall_sheet.specs.Given.{Gives};
 ghost use Rattle.hall_sheet.specs.declared.fault.Refusal.TheVariants.{Syntax};
 ghost use Rattle.hall_sheet.specs.People.{three_in, filled_in, spelled_in, is_header, roles_in};
 ghost use Rattle.hall_sheet.specs.Entry.{line_seen, with_role};
@@ -22,7 +23,7 @@ pub(crate) struct Line<'a> {
 
 /// The fields of a row that has three.
 pub(crate) fn read_line(row: &StringRecord) -> Result<Line<'_>, SheetFault>
-    ensures { Gives line_seen result (or_refuse Syntax (three_in (fields_of row.now))) }
+    ensures { Gives line_seen result (or_fault Syntax (three_in (fields_of row.now))) }
 {
     match (row.len(), row.get(0), row.get(1), row.get(2)) {
         (3, Some(name), Some(key), Some(roles)) => Ok(Line { name, key, roles }),

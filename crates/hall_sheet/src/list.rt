@@ -1,10 +1,7 @@
 //! Entry lists.
-ghost use Rattle.std.specs.Prelude.{◌≡◌, ◌++◌, ◌∷◌, [], ◌<◌, ℕ, List, length, IfOk, IfErr, not, Ok};
-ghost use Rattle.std.specs.BTreeSet.{contains};
+ghost use Rattle.std.specs.Prelude.{◌≡◌, ◌++◌, ◌∷◌, [], ◌<◌, ℕ, List, length, IfOk, IfErr, Ok};
 ghost use Rattle.csv.specs.Reading.{default_config, strip_bom, records};
 ghost use Rattle.csv.specs.Records.{fields_of};
-ghost use Rattle.hall_policy.specs.Text.{text_cmp};
-ghost use Rattle.hall_policy.specs.Lists.{IsSeenToo};
 ghost use Rattle.hall_policy.specs.declared.record.Person.{Person};
 ghost use Rattle.hall_sheet.specs.declared.fault.SheetFault.TheVariants.{Memory};
 ghost use Rattle.hall_sheet.specs.Given.{Gives};
@@ -14,7 +11,7 @@ ghost use Rattle.hall_sheet.specs.List.{HasLeft, Takes, TakesHeader, IsListed, A
 use crate::entry::read_line;
 use crate::fault::{Field, Refusal, SheetFault};
 use csv::{ByteRecord, ByteRecordsIntoIter, ReaderBuilder, StringRecord};
-use hall_policy::{Checked, Key, Name, People, Person, TextKind};
+use hall_policy::{Key, Name, People, Person, is_new};
 use std::alloc::{AllocError, Global};
 use std::collections::BTreeSet;
 
@@ -82,20 +79,6 @@ fn read_person(alloc: Global, row: ByteRecord) -> Result<Person, SheetFault>
 {
     let row = text_row(row)?;
     read_line(&row)?.person(alloc)
-}
-
-/// Adds the text to those seen, and tells whether it is new.
-fn is_new<K: TextKind>(
-    seen: &mut BTreeSet<Checked<K>>,
-    text: &Checked<K>,
-) -> Result<bool, AllocError>
-    ensures new { IfOk result (λ new. new ≡ not (contains text_cmp seen.old text.now)) }
-    ensures seen { IfOk result (λ new. IsSeenToo seen.old seen.new text.now) }
-{
-    match seen.insert(text.clone()?) {
-        Ok(new) => Ok(new),
-        Err(_) => Err(AllocError),
-    }
 }
 
 /// The people so far, with their names and keys.

@@ -3,8 +3,9 @@ ghost use Rattle.std.specs.Prelude.{◌≡◌, option_map, option_and_then, map,
 ghost use Rattle.std.specs.List.{list_any};
 ghost use Rattle.std.specs.Str.{bytes_eq};
 ghost use Rattle.toml.specs.View.{view, items_view, table_view};
+ghost use Rattle.hall_policy.specs.Reading.{or_fault};
 ghost use Rattle.hall_sheet.specs.Fault.{name_of};
-ghost use Rattle.hall_sheet.specs.Given.{Gives, or_refuse};
+ghost use Rattle.hall_sheet.specs.Given.{Gives};
 ghost use Rattle.hall_sheet.specs.declared.fault.Refusal.TheVariants.{Missing};
 ghost use Rattle.hall_sheet.specs.Table.{has_only, value_at, text_at, integer_at, in_range, number_in};
 ghost use Rattle.hall_sheet.specs.Table.{text_in, tables_of, tables_in};
@@ -104,7 +105,7 @@ pub(crate) fn push<T: Drop>(items: &mut Vec<T>, item: T) -> Result<(), AllocErro
 /// The tables that the values of a field are, where each of them is one.
 fn tables_of(alloc: Global, values: &[Value], field: Field) -> Result<Vec<&Table>, SheetFault>
     ensures { Gives (λ tables. map (λ t. table_view t.now) tables.items) result
-        (or_refuse (Missing field) (tables_of (items_view values.now))) }
+        (or_fault (Missing field) (tables_of (items_view values.now))) }
 {
     let mut tables = Vec::with_capacity(alloc, values.len())?;
     for value in values {

@@ -1,7 +1,7 @@
 //! Texts of a kind.
 ghost use Rattle.std.specs.Prelude.{◌≡◌, Ok};
+ghost use Rattle.hall_policy.specs.Reading.{of_kind};
 ghost use Rattle.hall_sheet.specs.Given.{Gives};
-ghost use Rattle.hall_sheet.specs.Words.{of_kind};
 
 use crate::fault::{Refusal, SheetFault};
 use hall_policy::{Checked, TextKind};

@@ -16,11 +16,17 @@ type Replayed = (&'static [u8], &'static [u8], Result<(), ReplayFault>);
 
 const CUT: Result<(), ReplayFault> = Err(ReplayFault::Record);
 
-const NO_ROUTE: &[u8] =
-    b"HTTP/1.1 404 Not Found\r\nContent-Type: application/json\r\nContent-Length: 13\r\n\r\n{\"form\":\"F6\"}";
+const NO_ROUTE: &[u8] = b"\
+    HTTP/1.1 404 Not Found\r\n\
+    Content-Type: application/json\r\n\
+    Content-Length: 13\r\n\r\n\
+    {\"form\":\"F6\"}";
 
-const NOT_WHOLE: &[u8] =
-    b"HTTP/1.1 400 Bad Request\r\nContent-Type: application/json\r\nContent-Length: 13\r\n\r\n{\"form\":\"F7\"}";
+const NOT_WHOLE: &[u8] = b"\
+    HTTP/1.1 400 Bad Request\r\n\
+    Content-Type: application/json\r\n\
+    Content-Length: 13\r\n\r\n\
+    {\"form\":\"F7\"}";
 
 const REPLAYS: [Replayed; 20] = [
     (b"", b"", Ok(())),
@@ -69,11 +75,41 @@ fn a_replay_ends_with_its_whole_records(rt: HostRuntime) {
 }
 
 /// Records that certify the puzzle of round r1, release it, read it too early and answer it.
-const RECORDS: &[u8] =
-    b"@1777700000 103\nPOST /puzzles/bob/p1/certificate HTTP/1.1\r\nHall-Key: bob-key-1\r\nContent-Length: 17\r\n\r\n{\"budget\":200000}@1777700000 56\nPOST /rounds/r1/release HTTP/1.1\r\nHall-Key: dora-key\r\n\r\n@1777712399 48\nGET /rounds/r1 HTTP/1.1\r\nHall-Key: eve-key-1\r\n\r\n@1777715999 110\nPUT /rounds/r1/answers/1/k1 HTTP/1.1\r\nHall-Key: eve-key-1\r\nContent-Length: 29\r\n\r\n{\"answer\":\"1234341221434321\"}";
+const RECORDS: &[u8] = b"\
+    @1777700000 103\n\
+    POST /puzzles/bob/p1/certificate HTTP/1.1\r\n\
+    Hall-Key: bob-key-1\r\n\
+    Content-Length: 17\r\n\r\n\
+    {\"budget\":200000}\
+    @1777700000 56\n\
+    POST /rounds/r1/release HTTP/1.1\r\n\
+    Hall-Key: dora-key\r\n\r\n\
+    @1777712399 48\n\
+    GET /rounds/r1 HTTP/1.1\r\n\
+    Hall-Key: eve-key-1\r\n\r\n\
+    @1777715999 110\n\
+    PUT /rounds/r1/answers/1/k1 HTTP/1.1\r\n\
+    Hall-Key: eve-key-1\r\n\
+    Content-Length: 29\r\n\r\n\
+    {\"answer\":\"1234341221434321\"}";
 
-const REPLIES: &[u8] =
-    b"HTTP/1.1 200 OK\r\nContent-Type: application/json\r\nContent-Length: 15\r\n\r\n{\"state\":\"one\"}HTTP/1.1 200 OK\r\nContent-Type: application/json\r\nContent-Length: 17\r\n\r\n{\"released\":\"r1\"}HTTP/1.1 403 Forbidden\r\nContent-Type: application/json\r\nContent-Length: 12\r\n\r\n{\"denied\":7}HTTP/1.1 200 OK\r\nContent-Type: application/json\r\nContent-Length: 32\r\n\r\n{\"received\":1,\"verdict\":\"right\"}";
+const REPLIES: &[u8] = b"\
+    HTTP/1.1 200 OK\r\n\
+    Content-Type: application/json\r\n\
+    Content-Length: 15\r\n\r\n\
+    {\"state\":\"one\"}\
+    HTTP/1.1 200 OK\r\n\
+    Content-Type: application/json\r\n\
+    Content-Length: 17\r\n\r\n\
+    {\"released\":\"r1\"}\
+    HTTP/1.1 403 Forbidden\r\n\
+    Content-Type: application/json\r\n\
+    Content-Length: 12\r\n\r\n\
+    {\"denied\":7}\
+    HTTP/1.1 200 OK\r\n\
+    Content-Type: application/json\r\n\
+    Content-Length: 32\r\n\r\n\
+    {\"received\":1,\"verdict\":\"right\"}";
 
 #[test]
 fn a_replay_ends_at_a_device_fault(rt: HostRuntime) {
@@ -93,15 +129,21 @@ fn a_replay_ends_at_a_device_fault(rt: HostRuntime) {
 }
 
 /// The requests of the records.
-const CERTIFY: &[u8] =
-    b"POST /puzzles/bob/p1/certificate HTTP/1.1\r\nHall-Key: bob-key-1\r\nContent-Length: 17\r\n\r\n{\"budget\":200000}";
+const CERTIFY: &[u8] = b"\
+    POST /puzzles/bob/p1/certificate HTTP/1.1\r\n\
+    Hall-Key: bob-key-1\r\n\
+    Content-Length: 17\r\n\r\n\
+    {\"budget\":200000}";
 
 const RELEASE: &[u8] = b"POST /rounds/r1/release HTTP/1.1\r\nHall-Key: dora-key\r\n\r\n";
 
 const READ: &[u8] = b"GET /rounds/r1 HTTP/1.1\r\nHall-Key: eve-key-1\r\n\r\n";
 
-const HAND_IN: &[u8] =
-    b"PUT /rounds/r1/answers/1/k1 HTTP/1.1\r\nHall-Key: eve-key-1\r\nContent-Length: 29\r\n\r\n{\"answer\":\"1234341221434321\"}";
+const HAND_IN: &[u8] = b"\
+    PUT /rounds/r1/answers/1/k1 HTTP/1.1\r\n\
+    Hall-Key: eve-key-1\r\n\
+    Content-Length: 29\r\n\r\n\
+    {\"answer\":\"1234341221434321\"}";
 
 /// A clock that tells its moments in turn, the last one from then on, and counts how often it is asked.
 #[derive(Drop)]
@@ -130,8 +172,11 @@ const NONE: u64 = u64::MAX;
 
 const REQUEST: &[u8] = b"GET /nothing HTTP/1.1\r\n\r\n";
 
-const NO_SERVICE: &[u8] =
-    b"HTTP/1.1 503 Service Unavailable\r\nContent-Type: application/json\r\nContent-Length: 16\r\n\r\n{\"fault\":\"hall\"}";
+const NO_SERVICE: &[u8] = b"\
+    HTTP/1.1 503 Service Unavailable\r\n\
+    Content-Type: application/json\r\n\
+    Content-Length: 16\r\n\r\n\
+    {\"fault\":\"hall\"}";
 
 const CLOSING: &[u8] = b"GET /nothing HTTP/1.1\r\nConnection: CLOSE\r\n\r\n";
 

@@ -9,8 +9,19 @@ use hall_sheet::{Field, Refusal, SheetFault, read_round};
 use std::alloc::AllocGlobal;
 use std::process::Abort;
 
-const SHEET: &str =
-    "version = 1\ntitle = \"Morning\"\nstart = \"2026-05-02T09:00:00Z\"\nminutes = 60\nprotest_minutes = 30\nmode = \"instant\"\npenalty = 5\nbonus = 2\n[[puzzle]]\nauthor = \"bob\"\nlabel = \"p1\"\npoints = 40\n";
+const SHEET: &str = "\
+    version = 1\n\
+    title = \"Morning\"\n\
+    start = \"2026-05-02T09:00:00Z\"\n\
+    minutes = 60\n\
+    protest_minutes = 30\n\
+    mode = \"instant\"\n\
+    penalty = 5\n\
+    bonus = 2\n\
+    [[puzzle]]\n\
+    author = \"bob\"\n\
+    label = \"p1\"\n\
+    points = 40\n";
 
 /// A part of the sheet, what stands in its place, and the refusal.
 type Edit = (&'static str, &'static str, Refusal);
@@ -175,7 +186,8 @@ const EDITS: [Edit; 76] = [
         Range(Penalty),
     ),
     (
-        "mode = \"instant\"\npenalty = 5\nbonus = 2\n[[puzzle]]\nauthor = \"bob\"\nlabel = \"p1\"\npoints = 40\n",
+        "mode = \"instant\"\npenalty = 5\nbonus = 2\n\
+        [[puzzle]]\nauthor = \"bob\"\nlabel = \"p1\"\npoints = 40\n",
         "mode = \"open\"\npuzzle = []\n",
         Range(Field::Mode),
     ),
@@ -187,27 +199,34 @@ const EDITS: [Edit; 76] = [
     ("label = \"p1\"\npoints = 40", "label = \"P\"", Range(Label)),
     (
         "[[puzzle]]\nauthor = \"bob\"\nlabel = \"p1\"\npoints = 40\n",
-        "[[puzzle]]\nauthor = \"bob\"\nlabel = \"p1\"\npoints = 40\n[[puzzle]]\nauthor = \"bob\"\nlabel = \"p1\"\npoints = 40\n",
+        "[[puzzle]]\nauthor = \"bob\"\nlabel = \"p1\"\npoints = 40\n\
+        [[puzzle]]\nauthor = \"bob\"\nlabel = \"p1\"\npoints = 40\n",
         Repeated,
     ),
     (
         "[[puzzle]]\nauthor = \"bob\"\nlabel = \"p1\"\npoints = 40\n",
-        "[[puzzle]]\nauthor = \"bob\"\nlabel = \"p1\"\npoints = 40\n[[puzzle]]\nauthor = \"bob\"\nlabel = \"p1\"\npoints = 41\n",
+        "[[puzzle]]\nauthor = \"bob\"\nlabel = \"p1\"\npoints = 40\n\
+        [[puzzle]]\nauthor = \"bob\"\nlabel = \"p1\"\npoints = 41\n",
         Repeated,
     ),
     (
         "[[puzzle]]\nauthor = \"bob\"\nlabel = \"p1\"\npoints = 40\n",
-        "[[puzzle]]\nauthor = \"bob\"\nlabel = \"p1\"\npoints = 40\n[[puzzle]]\nauthor = \"bob\"\nlabel = \"p1\"\npoints = 0\n",
+        "[[puzzle]]\nauthor = \"bob\"\nlabel = \"p1\"\npoints = 40\n\
+        [[puzzle]]\nauthor = \"bob\"\nlabel = \"p1\"\npoints = 0\n",
         Range(Points),
     ),
     (
         "[[puzzle]]\nauthor = \"bob\"\nlabel = \"p1\"\npoints = 40\n",
-        "[[puzzle]]\nauthor = \"bob\"\nlabel = \"p1\"\npoints = 40\n[[puzzle]]\nauthor = \"bob\"\nlabel = \"p1\"\npoints = 40\n[[puzzle]]\n",
+        "[[puzzle]]\nauthor = \"bob\"\nlabel = \"p1\"\npoints = 40\n\
+        [[puzzle]]\nauthor = \"bob\"\nlabel = \"p1\"\npoints = 40\n\
+        [[puzzle]]\n",
         Repeated,
     ),
     (
         "[[puzzle]]\nauthor = \"bob\"\nlabel = \"p1\"\npoints = 40\n",
-        "[[puzzle]]\nauthor = \"bob\"\nlabel = \"p1\"\npoints = 40\n[[puzzle]]\n[[puzzle]]\nauthor = \"bob\"\nlabel = \"p1\"\npoints = 40\n",
+        "[[puzzle]]\nauthor = \"bob\"\nlabel = \"p1\"\npoints = 40\n\
+        [[puzzle]]\n\
+        [[puzzle]]\nauthor = \"bob\"\nlabel = \"p1\"\npoints = 40\n",
         Missing(Author),
     ),
     ("[[puzzle]]", "[[puzzle]", Syntax),
@@ -279,17 +298,91 @@ const STARTS: [Begun; 57] = [
 
 /// Ways to write the sheet.
 const SPELLED: [&str; 8] = [
-    "version = 1\ntitle = \"Morning\"\nstart = \"2026-05-02T09:00:00Z\"\nminutes = 60\nprotest_minutes = 30\nmode = \"instant\"\npenalty = 5\nbonus = 2\n[[puzzle]]\nauthor = \"bob\"\nlabel = \"p1\"\npoints = 40\n",
-    "version = 1\r\ntitle = \"Morning\"\r\nstart = \"2026-05-02T09:00:00Z\"\r\nminutes = 60\r\nprotest_minutes = 30\r\nmode = \"instant\"\r\npenalty = 5\r\nbonus = 2\r\n[[puzzle]]\r\nauthor = \"bob\"\r\nlabel = \"p1\"\r\npoints = 40\r\n",
-    "﻿version = 1\ntitle = \"Morning\"\nstart = \"2026-05-02T09:00:00Z\"\nminutes = 60\nprotest_minutes = 30\nmode = \"instant\"\npenalty = 5\nbonus = 2\n[[puzzle]]\nauthor = \"bob\"\nlabel = \"p1\"\npoints = 40\n",
-    "version = 1\ntitle = \"Morning\"\nstart = \"2026-05-02T09:00:00Z\"\nminutes = 60\nprotest_minutes = 30\nmode = \"instant\"\npenalty = 5\nbonus = 2\n[[puzzle]]\nauthor = \"bob\"\nlabel = \"p1\"\npoints = 40",
-    "# Morning\nversion = 1\ntitle = \"Morning\"\nstart = \"2026-05-02T09:00:00Z\"\nminutes = 60 # an hour\n\n# and then\nprotest_minutes = 30\nmode = \"instant\"\npenalty = 5\nbonus = 2\n[[puzzle]]\nauthor = \"bob\"\nlabel = \"p1\"\npoints = 40\n",
-    "version = 1\ntitle = \"Morning\"\nstart = \"2026-05-02T09:00:00Z\"\nminutes = 60\nprotest_minutes = 30\nmode = \"instant\"\npenalty = 5\nbonus = 2\npuzzle = [{ author = \"bob\", label = \"p1\", points = 40 }]",
-    "version = 1\ntitle = \"Morning\"\nstart = \"2026-05-02T09:00:00Z\"\nminutes = 60\nprotest_minutes = 30\nmode = \"instant\"\npenalty = 5\nbonus = 2\npuzzle = [\n  # the only one\n  { label = \"p1\", points = 40, author = \"bob\" },\n]\n",
-    "puzzle = [{ author = \"bob\", label = \"p1\", points = 40 }]\nbonus = 0x2\npenalty = +5\nmode = 'instant'\nprotest_minutes = 3_0\nminutes = 0b111100\n\"start\" = \"\"\"2026-05-02T09:00:00Z\"\"\"\n'title' = \"M\\u006frning\"\nversion = 0o1",
+    SHEET,
+    "version = 1\r\n\
+    title = \"Morning\"\r\n\
+    start = \"2026-05-02T09:00:00Z\"\r\n\
+    minutes = 60\r\n\
+    protest_minutes = 30\r\n\
+    mode = \"instant\"\r\n\
+    penalty = 5\r\n\
+    bonus = 2\r\n\
+    [[puzzle]]\r\n\
+    author = \"bob\"\r\n\
+    label = \"p1\"\r\n\
+    points = 40\r\n",
+    "\u{feff}version = 1\n\
+    title = \"Morning\"\n\
+    start = \"2026-05-02T09:00:00Z\"\n\
+    minutes = 60\n\
+    protest_minutes = 30\n\
+    mode = \"instant\"\n\
+    penalty = 5\n\
+    bonus = 2\n\
+    [[puzzle]]\n\
+    author = \"bob\"\n\
+    label = \"p1\"\n\
+    points = 40\n",
+    "version = 1\n\
+    title = \"Morning\"\n\
+    start = \"2026-05-02T09:00:00Z\"\n\
+    minutes = 60\n\
+    protest_minutes = 30\n\
+    mode = \"instant\"\n\
+    penalty = 5\n\
+    bonus = 2\n\
+    [[puzzle]]\n\
+    author = \"bob\"\n\
+    label = \"p1\"\n\
+    points = 40",
+    "# Morning\n\
+    version = 1\n\
+    title = \"Morning\"\n\
+    start = \"2026-05-02T09:00:00Z\"\n\
+    minutes = 60 # an hour\n\
+    \n\
+    # and then\n\
+    protest_minutes = 30\n\
+    mode = \"instant\"\n\
+    penalty = 5\n\
+    bonus = 2\n\
+    [[puzzle]]\n\
+    author = \"bob\"\n\
+    label = \"p1\"\n\
+    points = 40\n",
+    "version = 1\n\
+    title = \"Morning\"\n\
+    start = \"2026-05-02T09:00:00Z\"\n\
+    minutes = 60\n\
+    protest_minutes = 30\n\
+    mode = \"instant\"\n\
+    penalty = 5\n\
+    bonus = 2\n\
+    puzzle = [{ author = \"bob\", label = \"p1\", points = 40 }]",
+    "version = 1\n\
+    title = \"Morning\"\n\
+    start = \"2026-05-02T09:00:00Z\"\n\
+    minutes = 60\n\
+    protest_minutes = 30\n\
+    mode = \"instant\"\n\
+    penalty = 5\n\
+    bonus = 2\n\
+    puzzle = [\n\
+    \x20 # the only one\n\
+    \x20 { label = \"p1\", points = 40, author = \"bob\" },\n\
+    ]\n",
+    "puzzle = [{ author = \"bob\", label = \"p1\", points = 40 }]\n\
+    bonus = 0x2\n\
+    penalty = +5\n\
+    mode = 'instant'\n\
+    protest_minutes = 3_0\n\
+    minutes = 0b111100\n\
+    \"start\" = \"\"\"2026-05-02T09:00:00Z\"\"\"\n\
+    'title' = \"M\\u006frning\"\n\
+    version = 0o1",
 ];
 
-/// From that many bytes of the sheet on, they are refused so; the first points from 4 on are points.
+/// How the sheet is refused where it is cut to so many bytes, and to more up to the next row; none where it is a sheet.
 const CUTS: [(usize, Option<Refusal>); 25] = [
     (0, Some(Missing(Version))),
     (1, Some(Syntax)),

@@ -32,11 +32,29 @@ const SIX: &str = "sudoku/6/6/12i64g6h3g3g5h56h34g4561g61g3h";
 
 const SIX_SOLVED: &str = "123456456123234561561234345612612345";
 
-const SIXTEEN: &str =
-    "sudoku/16/16/h3456g89agcdgf-10j9agcdef-10h3g9gbcdeg-1012g45g78dh-10123g5678gagc23456789abcdl89abifg123ibcdeg-10123g5g789efg12345678gabgd34h789abcdef-101g789hcdgf-10g23456bcdef-10g23456789gf-101g3456789abcdeg56789abcdef-101h89aieg-1012g4567cdgf-1012g4g6g89abh2345g789abif";
+const SIXTEEN: &str = "\
+    sudoku/16/16/\
+    h3456g89agcdgf-10j9agcdef-10h3g9gbcdeg-1012g45g78dh-10123g5678gagc23456789abcdl89abif\
+    g123ibcdeg-10123g5g789efg12345678gabgd34h789abcdef-101g789hcdgf-10g23456bcdef-10g2345\
+    6789gf-101g3456789abcdeg56789abcdef-101h89aieg-1012g4567cdgf-1012g4g6g89abh2345g789abif";
 
-const SIXTEEN_SOLVED: &str =
-    "123456789abcdefg56789abcdefg12349abcdefg12345678defg123456789abc23456789abcdefg16789abcdefg12345abcdefg123456789efg123456789abcd3456789abcdefg12789abcdefg123456bcdefg123456789afg123456789abcde456789abcdefg12389abcdefg1234567cdefg123456789abg123456789abcdef";
+const SIXTEEN_SOLVED: &str = "\
+    123456789abcdefg\
+    56789abcdefg1234\
+    9abcdefg12345678\
+    defg123456789abc\
+    23456789abcdefg1\
+    6789abcdefg12345\
+    abcdefg123456789\
+    efg123456789abcd\
+    3456789abcdefg12\
+    789abcdefg123456\
+    bcdefg123456789a\
+    fg123456789abcde\
+    456789abcdefg123\
+    89abcdefg1234567\
+    cdefg123456789ab\
+    g123456789abcdef";
 
 const SEARCHES: [(&str, u64, &str, &str, u64); 14] = [
     (NINE, 200_000, "one", NINE_SOLVED, 1),

@@ -1,5 +1,6 @@
 use Rattle.std.proofs.Common.{◌≡◌, ◌∙◌, sym}
-use Rattle.hall_http.proofs.Texts.{of_kind_fails, of_kind_holds, kind_ascii}
+use Rattle.hall_policy.proofs.Reading.{of_kind_fails, of_kind_holds}
+use Rattle.hall_http.proofs.Texts.{kind_ascii}
 use Rattle.hall_http.proofs.words.checked.Goals as goal
 
 pub returns-in_default : goal.returns-in_default

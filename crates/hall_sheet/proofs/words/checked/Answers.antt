@@ -1,5 +1,5 @@
 use Rattle.std.proofs.Common.{◌≡◌, ◌∙◌, sym}
-use Rattle.hall_sheet.proofs.Texts.{of_kind_fails, of_kind_holds}
+use Rattle.hall_policy.proofs.Reading.{of_kind_fails, of_kind_holds}
 use Rattle.hall_sheet.proofs.words.checked.Goals as goal
 
 pub returns-in-Some : goal.returns-in-Some
