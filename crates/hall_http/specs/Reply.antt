@@ -1,9 +1,10 @@
 -- The replies of the hall: a status and a JSON body, as bytes.
-use Rattle.std.specs.Prelude.{◌≡◌, ℕ, ◌==◌, ◌++◌, List, map, if◌then◌else◌, Option, Some, None, codes, decimal, length}
-use Rattle.serde_json.specs.Data.{Data, number, string, object, array, unsigned, Members, no_members, member}
+use Rattle.std.specs.Prelude.{◌≡◌, ℕ, Bool, ◌==◌, ◌++◌, List, map, if◌then◌else◌, Option, Some, None, codes, decimal, length}
+use Rattle.serde_json.specs.Data.{Data, boolean, number, string, object, array, unsigned, Members, no_members, member}
 use Rattle.serde_json.specs.View.{items_of}
 use Rattle.serde_json.specs.Written.{compact_text}
 use Rattle.hall_grid.specs.Rule.{verdict_text}
+use Rattle.hall_policy.specs.declared.record.PuzzleKey.{PuzzleKey}
 use Rattle.hall_policy.specs.declared.record.Mode.{Mode}
 use Rattle.hall_policy.specs.declared.record.Mode.TheVariants.{Instant, Sealed}
 use Rattle.hall_desk.specs.declared.reply.StateName.{StateName}
@@ -11,8 +12,13 @@ use Rattle.hall_desk.specs.declared.reply.StateName.TheVariants as state
 use Rattle.hall_desk.specs.declared.reply.ShownPuzzle.{ShownPuzzle}
 use Rattle.hall_desk.specs.declared.reply.ShownRound.{ShownRound}
 use Rattle.hall_desk.specs.declared.reply.AnswerLine.{AnswerLine}
+use Rattle.hall_desk.specs.declared.reply.PuzzleLine.{PuzzleLine}
+use Rattle.hall_desk.specs.declared.reply.RoundLine.{RoundLine}
 use Rattle.hall_desk.specs.declared.reply.Reply.{Reply}
 use Rattle.hall_desk.specs.declared.reply.Reply.TheVariants as reply
+use Rattle.hall_sheet.specs.Fault.{name_of}
+use Rattle.hall_sheet.specs.declared.fault.Refusal.{Refusal}
+use Rattle.hall_sheet.specs.declared.fault.Refusal.TheVariants as refusal
 use Rattle.hall_http.specs.declared.form.Field.{Field}
 use Rattle.hall_http.specs.declared.form.Field.TheVariants as field
 use Rattle.hall_http.specs.declared.form.PuzzleFault.{PuzzleFault}
@@ -66,17 +72,62 @@ abbrev pub mode_text : Mode → List ℕ
 mode_text Instant = codes "instant"
 mode_text Sealed = codes "sealed"
 
+-- a member that is true or false, before further members
+abbrev pub flag_member : List ℕ → Bool → Members → Members
+flag_member name flag more = member name (boolean flag) more
+
+-- {"added":N}
+abbrev pub imported_data : ℕ → Data
+imported_data added = object (number_member (codes "added") added no_members)
+
 -- {"state":S,"text":T}
 abbrev pub put_data : StateName → List ℕ → Data
 put_data s text = object (text_member (codes "state") (state_text s) (text_member (codes "text") text no_members))
+
+-- the members of a puzzle that its author and label name, before further members
+abbrev pub key_members : PuzzleKey → Members → Members
+key_members key more = text_member (codes "author") key.author (text_member (codes "label") key.label more)
+
+-- {"author":A,"label":L,"state":S,"text":T}
+abbrev pub read_data : PuzzleKey → StateName → List ℕ → Data
+read_data key s text =
+    object (key_members key (text_member (codes "state") (state_text s) (text_member (codes "text") text no_members)))
+
+-- {"author":A,"label":L,"state":S}
+abbrev pub listed_puzzle_data : PuzzleLine → Data
+listed_puzzle_data line =
+    object (key_members line.key (text_member (codes "state") (state_text line.state) no_members))
+
+-- {"puzzles":[P,..]}
+abbrev pub puzzles_data : List PuzzleLine → Data
+puzzles_data lines = object (member (codes "puzzles") (array (items_of (map listed_puzzle_data lines))) no_members)
 
 -- {"state":S}
 abbrev pub certified_data : StateName → Data
 certified_data s = object (text_member (codes "state") (state_text s) no_members)
 
+-- {"round":R}
+abbrev pub drafted_data : List ℕ → Data
+drafted_data id = object (text_member (codes "round") id no_members)
+
 -- {"released":R}
 abbrev pub released_data : List ℕ → Data
 released_data id = object (text_member (codes "released") id no_members)
+
+-- a listed round's members in the order of their names, the last being its title
+abbrev pub listed_round_data : RoundLine → Data
+listed_round_data r = object (
+    text_member (codes "id") r.id (
+    number_member (codes "minutes") r.minutes (
+    text_member (codes "mode") (mode_text r.mode) (
+    flag_member (codes "published") r.published (
+    flag_member (codes "released") r.released (
+    number_member (codes "start") r.start (
+    text_member (codes "title") r.title no_members)))))))
+
+-- {"rounds":[R,..]}
+abbrev pub rounds_data : List RoundLine → Data
+rounds_data lines = object (member (codes "rounds") (array (items_of (map listed_round_data lines))) no_members)
 
 -- {"number":N,"points":N,"text":T}
 abbrev pub puzzle_data : ShownPuzzle → Data
@@ -121,6 +172,10 @@ answer_data a = object (
 abbrev pub answers_data : List AnswerLine → Data
 answers_data lines = object (member (codes "answers") (array (items_of (map answer_data lines))) no_members)
 
+-- {"solutions":[T,..]}
+abbrev pub solutions_data : List (List ℕ) → Data
+solutions_data texts = object (member (codes "solutions") (array (items_of (map string texts))) no_members)
+
 -- {"denied":K}
 abbrev pub denied_data : ℕ → Data
 denied_data rule = object (number_member (codes "denied") rule no_members)
@@ -133,12 +188,18 @@ unavailable_data = object (text_member (codes "fault") (codes "hall") no_members
 abbrev pub reply_data : Reply → Data
 reply_data (reply.Denied rule) = denied_data rule
 reply_data reply.Unavailable = unavailable_data
+reply_data (reply.Imported added) = imported_data added
 reply_data (reply.PuzzlePut s text) = put_data s text
+reply_data (reply.PuzzleRead key s text) = read_data key s text
+reply_data (reply.PuzzleList lines) = puzzles_data lines
 reply_data (reply.Certified s) = certified_data s
+reply_data (reply.RoundPut id) = drafted_data id
 reply_data (reply.Released id) = released_data id
+reply_data (reply.RoundList lines) = rounds_data lines
 reply_data (reply.RoundRead round) = round_data round
 reply_data (reply.Received n verdict) = received_data n verdict
 reply_data (reply.AnswerList lines) = answers_data lines
+reply_data (reply.SolutionList texts) = solutions_data texts
 
 -- 404 where the object isn't there, 403 for any other denial
 abbrev pub denied_status : ℕ → Status
@@ -161,8 +222,8 @@ abbrev pub form_data : List ℕ → Data
 form_data form = object (text_member (codes "form") form no_members)
 
 -- {"field":"text","form":F}
-abbrev pub field_data : Field → List ℕ → Data
-field_data f form = object (text_member (codes "field") (field_text f) (text_member (codes "form") form no_members))
+abbrev pub field_data : List ℕ → List ℕ → Data
+field_data field form = object (text_member (codes "field") field (text_member (codes "form") form no_members))
 
 -- {"form":E,"place":N}
 abbrev pub place_data : List ℕ → ℕ → Data
@@ -178,12 +239,21 @@ puzzle_fault_data (puzzle.Cut place) = place_data (codes "E6") place
 puzzle_fault_data (puzzle.Range place) = place_data (codes "E7") place
 puzzle_fault_data (puzzle.After place) = place_data (codes "E8") place
 
+-- the body of the reply to bytes that are no entry list or round sheet
+abbrev pub sheet_fault_data : Refusal → Data
+sheet_fault_data refusal.Syntax = form_data (codes "F1")
+sheet_fault_data (refusal.Missing f) = field_data (name_of f) (codes "F2")
+sheet_fault_data (refusal.Range f) = field_data (name_of f) (codes "F3")
+sheet_fault_data refusal.Repeated = form_data (codes "F4")
+sheet_fault_data refusal.Start = form_data (codes "F5")
+
 -- the body of the reply to bytes that are no request
 abbrev pub fault_data : FormFault → Data
 fault_data fault.Syntax = form_data (codes "F1")
-fault_data (fault.Missing f) = field_data f (codes "F2")
-fault_data (fault.Range f) = field_data f (codes "F3")
+fault_data (fault.Missing f) = field_data (field_text f) (codes "F2")
+fault_data (fault.Range f) = field_data (field_text f) (codes "F3")
 fault_data (fault.Puzzle found) = puzzle_fault_data found
+fault_data (fault.Sheet r) = sheet_fault_data r
 fault_data fault.NoRoute = form_data (codes "F6")
 fault_data fault.NotWhole = form_data (codes "F7")
 

@@ -4,6 +4,7 @@ ghost use Rattle.hall_http.specs.declared.form.RequestFault.TheVariants.{Memory}
 ghost use Rattle.hall_http.specs.Request.{puzzle_fault};
 
 use hall_grid::TextFault;
+use hall_sheet::Refusal;
 use std::alloc::AllocError;
 
 /// A member of a body that a fault names.
@@ -53,6 +54,8 @@ pub(crate) enum FormFault {
     Range(Field),
     /// The text is no puzzle.
     Puzzle(PuzzleFault),
+    /// The body is no entry list, or no round sheet.
+    Sheet(Refusal),
     /// Nothing is served at the method and path.
     NoRoute,
     /// The bytes aren't one whole request in the limits.

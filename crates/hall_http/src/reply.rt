@@ -1,8 +1,11 @@
 //! The bytes of replies.
 ghost use Rattle.std.specs.Prelude.{◌≡◌, ◌≢◌, ◌++◌, [], false, IfOk, OnOk, map, string_bytes};
+ghost use Rattle.serde_json.specs.Data.{string};
 ghost use Rattle.serde_json.specs.View.{view};
 ghost use Rattle.serde_json.specs.Written.{has_float, compact_text};
-ghost use Rattle.hall_http.specs.Reply.{state_text, mode_text, put_data, certified_data, released_data, puzzle_data};
+ghost use Rattle.hall_http.specs.Reply.{state_text, mode_text, imported_data, put_data, read_data, certified_data};
+ghost use Rattle.hall_http.specs.Reply.{listed_puzzle_data, puzzles_data, drafted_data, released_data, puzzle_data};
+ghost use Rattle.hall_http.specs.Reply.{listed_round_data, rounds_data, solutions_data, sheet_fault_data};
 ghost use Rattle.hall_http.specs.Reply.{round_data, received_data, answer_data, answers_data, denied_data};
 ghost use Rattle.hall_http.specs.Reply.{reply_data, reply_status, denied_status, field_text};
 ghost use Rattle.hall_http.specs.Reply.{form_data, field_data, place_data, puzzle_fault_data, fault_data, fault_status};
@@ -10,9 +13,10 @@ ghost use Rattle.hall_http.specs.Reply.{head_bytes, wire_bytes, BytesOf, FaultBy
 
 use crate::form::{Field, FormFault, PuzzleFault};
 use crate::status::{MediaType, Status};
-use hall_desk::{AnswerLine, Reply, ShownPuzzle, ShownRound, StateName};
+use hall_desk::{AnswerLine, PuzzleLine, Reply, RoundLine, ShownPuzzle, ShownRound, StateName};
 use hall_grid::Broken;
-use hall_policy::{AnswerNumber, Mode};
+use hall_policy::{AnswerNumber, AnswerText, Mode, PuzzleKey};
+use hall_sheet::Refusal;
 use serde_json::{Value, json};
 use std::alloc::{AllocError, Global};
 
@@ -84,12 +88,18 @@ fn reply_status(reply: &Reply) -> Status
     match reply {
         Reply::Denied(rule) => denied_status(*rule),
         Reply::Unavailable => unreachable!(),
-        Reply::PuzzlePut { .. } => Status::Ok,
-        Reply::Certified(_) => Status::Ok,
-        Reply::Released(_) => Status::Ok,
-        Reply::RoundRead(_) => Status::Ok,
-        Reply::Received { .. } => Status::Ok,
-        Reply::AnswerList(_) => Status::Ok,
+        Reply::Imported(_)
+        | Reply::PuzzlePut { .. }
+        | Reply::PuzzleRead { .. }
+        | Reply::PuzzleList(_)
+        | Reply::Certified(_)
+        | Reply::RoundPut(_)
+        | Reply::Released(_)
+        | Reply::RoundList(_)
+        | Reply::RoundRead(_)
+        | Reply::Received { .. }
+        | Reply::AnswerList(_)
+        | Reply::SolutionList(_) => Status::Ok,
     }
 }
 
@@ -110,11 +120,12 @@ fn fault_status(fault: FormFault) -> Status
 {
     match fault {
         FormFault::NoRoute => Status::NotFound,
-        FormFault::Syntax => Status::BadRequest,
-        FormFault::Missing(_) => Status::BadRequest,
-        FormFault::Range(_) => Status::BadRequest,
-        FormFault::Puzzle(_) => Status::BadRequest,
-        FormFault::NotWhole => Status::BadRequest,
+        FormFault::Syntax
+        | FormFault::Missing(_)
+        | FormFault::Range(_)
+        | FormFault::Puzzle(_)
+        | FormFault::Sheet(_)
+        | FormFault::NotWhole => Status::BadRequest,
     }
 }
 
@@ -126,12 +137,18 @@ fn reply_body(alloc: Global, reply: &Reply) -> Result<Value, AllocError>
     match reply {
         Reply::Denied(rule) => denied_body(alloc, *rule),
         Reply::Unavailable => unreachable!(),
+        Reply::Imported(added) => imported_body(alloc, *added),
         Reply::PuzzlePut { state, text } => put_body(alloc, *state, text.as_str()),
+        Reply::PuzzleRead { key, state, text } => read_body(alloc, key, *state, text.as_str()),
+        Reply::PuzzleList(lines) => puzzles_body(alloc, lines.as_slice()),
         Reply::Certified(state) => certified_body(alloc, *state),
+        Reply::RoundPut(round) => drafted_body(alloc, round.as_str()),
         Reply::Released(round) => released_body(alloc, round.as_str()),
+        Reply::RoundList(lines) => rounds_body(alloc, lines.as_slice()),
         Reply::RoundRead(round) => round_body(alloc, round),
         Reply::Received { n, verdict } => received_body(alloc, *n, *verdict),
         Reply::AnswerList(lines) => answers_body(alloc, lines.as_slice()),
+        Reply::SolutionList(texts) => solutions_body(alloc, texts.as_slice()),
     }
 }
 
@@ -164,10 +181,59 @@ fn mode_text(mode: Mode) -> &'static str
     }
 }
 
+fn imported_body(alloc: Global, added: u64) -> Result<Value, AllocError>
+    ensures { IfOk result (λ body. view body ≡ imported_data added) }
+{
+    json!(in alloc; {"added": added})
+}
+
 fn put_body(alloc: Global, state: StateName, text: &str) -> Result<Value, AllocError>
     ensures { IfOk result (λ body. view body ≡ put_data state text.now) }
 {
     json!(in alloc; {"state": (state_text(state)), "text": text})
+}
+
+fn read_body(
+    alloc: Global,
+    key: &PuzzleKey,
+    state: StateName,
+    text: &str,
+) -> Result<Value, AllocError>
+    ensures { IfOk result (λ body. view body ≡ read_data key.now state text.now) }
+{
+    json!(in alloc; {
+        "author": (key.author.as_str()),
+        "label": (key.label.as_str()),
+        "state": (state_text(state)),
+        "text": text
+    })
+}
+
+fn listed_puzzle(alloc: Global, line: &PuzzleLine) -> Result<Value, AllocError>
+    ensures { IfOk result (λ body. view body ≡ listed_puzzle_data line.now) }
+{
+    json!(in alloc; {
+        "author": (line.key.author.as_str()),
+        "label": (line.key.label.as_str()),
+        "state": (state_text(line.state))
+    })
+}
+
+fn listed_puzzles(alloc: Global, lines: &[PuzzleLine]) -> Result<Vec<Value>, AllocError>
+    ensures { IfOk result (λ bodies. map view bodies.items ≡ map listed_puzzle_data lines.now) }
+{
+    let mut bodies = Vec::new(alloc);
+    for line in lines {
+        bodies.push(listed_puzzle(alloc, line)?)?;
+    }
+    Ok(bodies)
+}
+
+fn puzzles_body(alloc: Global, lines: &[PuzzleLine]) -> Result<Value, AllocError>
+    ensures { IfOk result (λ body. view body ≡ puzzles_data lines.now) }
+{
+    let puzzles = listed_puzzles(alloc, lines)?;
+    json!(in alloc; {"puzzles": puzzles})
 }
 
 fn certified_body(alloc: Global, state: StateName) -> Result<Value, AllocError>
@@ -176,10 +242,47 @@ fn certified_body(alloc: Global, state: StateName) -> Result<Value, AllocError>
     json!(in alloc; {"state": (state_text(state))})
 }
 
+fn drafted_body(alloc: Global, round: &str) -> Result<Value, AllocError>
+    ensures { IfOk result (λ body. view body ≡ drafted_data round.now) }
+{
+    json!(in alloc; {"round": round})
+}
+
 fn released_body(alloc: Global, round: &str) -> Result<Value, AllocError>
     ensures { IfOk result (λ body. view body ≡ released_data round.now) }
 {
     json!(in alloc; {"released": round})
+}
+
+fn listed_round(alloc: Global, line: &RoundLine) -> Result<Value, AllocError>
+    ensures { IfOk result (λ body. view body ≡ listed_round_data line.now) }
+{
+    json!(in alloc; {
+        "id": (line.id.as_str()),
+        "minutes": (line.minutes.get()),
+        "mode": (mode_text(line.mode)),
+        "published": (line.published),
+        "released": (line.released),
+        "start": (line.start.get()),
+        "title": (line.title.as_str())
+    })
+}
+
+fn listed_rounds(alloc: Global, lines: &[RoundLine]) -> Result<Vec<Value>, AllocError>
+    ensures { IfOk result (λ bodies. map view bodies.items ≡ map listed_round_data lines.now) }
+{
+    let mut bodies = Vec::new(alloc);
+    for line in lines {
+        bodies.push(listed_round(alloc, line)?)?;
+    }
+    Ok(bodies)
+}
+
+fn rounds_body(alloc: Global, lines: &[RoundLine]) -> Result<Value, AllocError>
+    ensures { IfOk result (λ body. view body ≡ rounds_data lines.now) }
+{
+    let rounds = listed_rounds(alloc, lines)?;
+    json!(in alloc; {"rounds": rounds})
 }
 
 fn puzzle_body(alloc: Global, puzzle: &ShownPuzzle) -> Result<Value, AllocError>
@@ -279,6 +382,23 @@ fn answers_body(alloc: Global, lines: &[AnswerLine]) -> Result<Value, AllocError
     json!(in alloc; {"answers": answers})
 }
 
+fn solution_bodies(alloc: Global, texts: &[AnswerText]) -> Result<Vec<Value>, AllocError>
+    ensures { IfOk result (λ bodies. map view bodies.items ≡ map string texts.now) }
+{
+    let mut bodies = Vec::new(alloc);
+    for text in texts {
+        bodies.push(json!(in alloc; (text.as_str()))?)?;
+    }
+    Ok(bodies)
+}
+
+fn solutions_body(alloc: Global, texts: &[AnswerText]) -> Result<Value, AllocError>
+    ensures { IfOk result (λ body. view body ≡ solutions_data texts.now) }
+{
+    let solutions = solution_bodies(alloc, texts)?;
+    json!(in alloc; {"solutions": solutions})
+}
+
 /// The member that a fault names.
 fn field_text(field: Field) -> &'static str
     ensures { result.now ≡ field_text field }
@@ -296,10 +416,10 @@ fn form_body(alloc: Global, form: &str) -> Result<Value, AllocError>
     json!(in alloc; {"form": form})
 }
 
-fn field_body(alloc: Global, field: Field, form: &str) -> Result<Value, AllocError>
-    ensures { IfOk result (λ body. view body ≡ field_data field form.now) }
+fn field_body(alloc: Global, field: &str, form: &str) -> Result<Value, AllocError>
+    ensures { IfOk result (λ body. view body ≡ field_data field.now form.now) }
 {
-    json!(in alloc; {"field": (field_text(field)), "form": form})
+    json!(in alloc; {"field": field, "form": form})
 }
 
 fn place_body(alloc: Global, form: &str, place: usize) -> Result<Value, AllocError>
@@ -323,15 +443,29 @@ fn puzzle_fault_body(alloc: Global, fault: PuzzleFault) -> Result<Value, AllocEr
     }
 }
 
+/// The body of the reply to bytes that are no entry list or round sheet.
+fn sheet_fault_body(alloc: Global, refusal: Refusal) -> Result<Value, AllocError>
+    ensures { IfOk result (λ body. view body ≡ sheet_fault_data refusal) }
+{
+    match refusal {
+        Refusal::Syntax => form_body(alloc, "F1"),
+        Refusal::Missing(field) => field_body(alloc, field.name(), "F2"),
+        Refusal::Range(field) => field_body(alloc, field.name(), "F3"),
+        Refusal::Repeated => form_body(alloc, "F4"),
+        Refusal::Start => form_body(alloc, "F5"),
+    }
+}
+
 /// The body of the reply to bytes that are no request.
 fn fault_body(alloc: Global, fault: FormFault) -> Result<Value, AllocError>
     ensures { IfOk result (λ body. view body ≡ fault_data fault) }
 {
     match fault {
         FormFault::Syntax => form_body(alloc, "F1"),
-        FormFault::Missing(field) => field_body(alloc, field, "F2"),
-        FormFault::Range(field) => field_body(alloc, field, "F3"),
+        FormFault::Missing(field) => field_body(alloc, field_text(field), "F2"),
+        FormFault::Range(field) => field_body(alloc, field_text(field), "F3"),
         FormFault::Puzzle(found) => puzzle_fault_body(alloc, found),
+        FormFault::Sheet(refusal) => sheet_fault_body(alloc, refusal),
         FormFault::NoRoute => form_body(alloc, "F6"),
         FormFault::NotWhole => form_body(alloc, "F7"),
     }
