@@ -1,5 +1,5 @@
 //! What a store answers after calls that change it.
-ghost use Rattle.std.specs.Prelude.{◌≡◌};
+ghost use Rattle.std.specs.Prelude.{◌≡◌, IsTrue, IfSome};
 ghost use Rattle.hall_policy.specs.Rules.{Conflicts};
 ghost use Rattle.hall_store.specs.Change.{CanImport, CanPutRound};
 ghost use Rattle.hall_store.specs.Maps.{world_of};
@@ -408,7 +408,6 @@ fn all_puzzles_and_rounds_are_listed_by_key(rt: HostRuntime) {
 fn names_text(rt: &(impl AllocGlobal + Abort), store: &mut MapStore) -> String {
     let mut words = String::new(rt.alloc());
     for (name, key) in [
-        ("ada", "ada-key-1"),
         ("bo", "bo-key-01"),
         ("bob", "bob-key-1"),
         ("cy", "cy-key-01"),
@@ -484,20 +483,36 @@ fn a_round_that_is_put_has_the_puzzles_of_its_last_list(rt: HostRuntime) {
     );
 }
 
+/// Whether the person has the key and roles of the one who is known, if any.
+fn is_as_known(known: &Option<Person>, person: &Person) -> bool
+    ensures { IsTrue result
+        → IfSome known.now (λ known. (known.key ≡ person.now.key) × (known.roles ≡ person.now.roles)) }
+{
+    match known {
+        Some(known) => known.key.is_same(&person.key) && known.roles == person.roles,
+        None => true,
+    }
+}
+
+/// Whether the person has the name of the key's holder, if any.
+fn is_holder(holder: &Option<Person>, person: &Person) -> bool
+    ensures { IsTrue result → IfSome holder.now (λ holder. holder.name ≡ person.now.name) }
+{
+    match holder {
+        Some(holder) => holder.name.is_same(&person.name),
+        None => true,
+    }
+}
+
 /// Sees that the person doesn't contradict what is known.
 fn see_person(rt: &(impl AllocGlobal + Abort), store: &mut MapStore, person: &Person)
     ensures kept { world_of store.new ≡ world_of store.old }
     ensures agrees { ¬ (Conflicts (world_of store.new) person.now) }
 {
-    if let Some(known) = store.person(rt.alloc(), &person.name).expect(rt, "memory") {
-        assert!(rt; known.key.is_same(&person.key) && known.roles == person.roles);
-    }
-    if let Some(known) = store
-        .person_by_key(rt.alloc(), &person.key)
-        .expect(rt, "memory")
-    {
-        assert!(rt; known.name.is_same(&person.name));
-    }
+    let known = store.person(rt.alloc(), &person.name);
+    assert!(rt; is_as_known(&known.expect(rt, "memory"), person));
+    let holder = store.person_by_key(rt.alloc(), &person.key);
+    assert!(rt; is_holder(&holder.expect(rt, "memory"), person));
     assert!(rt; !(person.roles.director && person.roles.entrant));
 }
 
@@ -524,34 +539,31 @@ fn import(rt: &(impl AllocGlobal + Abort), store: &mut MapStore, people: &People
 }
 
 /// A list of people with these names and keys.
-fn people<const N: usize>(rt: &(impl AllocGlobal + Abort), names: [(&str, &str); N]) -> People {
+fn people(rt: &(impl AllocGlobal + Abort), names: &[(&str, &str)]) -> People {
     let mut list = Vec::new(rt.alloc());
-    for (name, key) in names.iter() {
+    for (name, key) in names {
         list.push(person(rt, name, key)).expect(rt, "memory");
     }
     let people = People::new(rt.alloc(), list).expect(rt, "memory");
     people.expect(rt, "people")
 }
 
+/// Two lists of people, by name and key.
+const LISTS: [[(&str, &str); 2]; 2] = [
+    [("dee", "dee-key-1"), ("bob", "bob-key-1")],
+    [("cy", "cy-key-01"), ("dee", "dee-key-1")],
+];
+
 #[test]
 fn a_list_adds_those_who_are_unknown(rt: HostRuntime) {
     let mut store = store_with_drafts(&rt);
-    let first = people(
-        &rt,
-        [
-            ("dee", "dee-key-1"),
-            ("bob", "bob-key-1"),
-            ("ada", "ada-key-1"),
-        ],
-    );
-    let second = people(&rt, [("cy", "cy-key-01"), ("ada", "ada-key-1")]);
     for (list, wanted) in [
-        (&first, "ada bo bob dee"),
-        (&first, "ada bo bob dee"),
-        (&second, "ada bo bob cy dee"),
-        (&first, "ada bo bob cy dee"),
+        (0, "bo bob dee"),
+        (0, "bo bob dee"),
+        (1, "bo bob cy dee"),
+        (0, "bo bob cy dee"),
     ] {
-        import(&rt, &mut store, list);
+        import(&rt, &mut store, &people(&rt, &LISTS[list]));
         assert_eq!(rt; names_text(&rt, &mut store).as_str(), wanted);
     }
 }
