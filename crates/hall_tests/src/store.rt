@@ -1,9 +1,14 @@
 //! What a store answers after calls that change it.
+ghost use Rattle.std.specs.Prelude.{◌≡◌, IsTrue, IfSome};
+ghost use Rattle.hall_policy.specs.Rules.{Conflicts};
+ghost use Rattle.hall_store.specs.Change.{CanImport, CanPutRound};
+ghost use Rattle.hall_store.specs.Maps.{world_of};
+
 use crate::fixtures::{draft, entries, entry, number, puzzle_key, puzzle_row, text};
 use hall_grid::Broken;
 use hall_policy::{
-    AnswerKey, AnswerRow, Person, PuzzleKey, PuzzleRow, PuzzleState, Roles, RoundId, RoundRow,
-    Within,
+    AnswerKey, AnswerRow, People, Person, PuzzleKey, PuzzleRow, PuzzleState, Roles, RoundId,
+    RoundRow, Within,
 };
 use hall_store::{MapStore, RoundFlag, Store};
 use std::alloc::AllocGlobal;
@@ -357,6 +362,209 @@ fn a_flag_is_set_on_one_round(rt: HostRuntime) {
         for (id, words) in [("r0", r0), ("r1", r1), ("r3", "draft p1 p10")] {
             assert_eq!(rt; round_text(&rt, &mut store, id).as_str(), words, "{id}");
         }
+    }
+}
+
+/// All puzzles, by author and label.
+fn puzzles_text(rt: &(impl AllocGlobal + Abort), store: &mut MapStore) -> String {
+    let mut words = String::new(rt.alloc());
+    for row in store.all_puzzles(rt.alloc()).expect(rt, "memory").iter() {
+        add_word(rt, &mut words, row.key.author.as_str());
+        add_word(rt, &mut words, row.key.label.as_str());
+    }
+    words
+}
+
+/// All rounds: the id, how far it is, and the labels of its puzzles.
+fn rounds_text(rt: &(impl AllocGlobal + Abort), store: &mut MapStore) -> String {
+    let mut words = String::new(rt.alloc());
+    for round in store.rounds(rt.alloc()).expect(rt, "memory").iter() {
+        add_word(rt, &mut words, round.id.as_str());
+        let row = round_text(rt, store, round.id.as_str());
+        add_word(rt, &mut words, row.as_str());
+    }
+    words
+}
+
+#[test]
+fn all_puzzles_and_rounds_are_listed_by_key(rt: HostRuntime) {
+    let mut store = store_with_drafts(&rt);
+    let puzzles = puzzles_text(&rt, &mut store);
+    assert_eq!(rt; puzzles.as_str(), "bo p9 bob p1 bob p10 bob p2 bobo p0");
+    let rounds = rounds_text(&rt, &mut store);
+    assert_eq!(rt;
+        rounds.as_str(),
+        "r0 draft p10 p2 r1 draft p2 p1 r3 draft p1 p10"
+    );
+    set_flag(&rt, &mut store, &text(&rt, "r1"), RoundFlag::Released);
+    let rounds = rounds_text(&rt, &mut store);
+    assert_eq!(rt;
+        rounds.as_str(),
+        "r0 draft p10 p2 r1 released p2 p1 r3 draft p1 p10"
+    );
+}
+
+/// The names of those who are there; each is found by name and by key.
+fn names_text(rt: &(impl AllocGlobal + Abort), store: &mut MapStore) -> String {
+    let mut words = String::new(rt.alloc());
+    for (name, key) in [
+        ("bo", "bo-key-01"),
+        ("bob", "bob-key-1"),
+        ("cy", "cy-key-01"),
+        ("dee", "dee-key-1"),
+    ] {
+        let found = store.person(rt.alloc(), &text(rt, name));
+        let is_there = found.expect(rt, "memory").is_some();
+        assert!(rt; finds(rt, store, name, key, is_there), "{name}");
+        if is_there {
+            add_word(rt, &mut words, name);
+        }
+    }
+    words
+}
+
+/// The people, the puzzles, the rounds, and which rounds use bob's puzzles.
+fn world_text(rt: &(impl AllocGlobal + Abort), store: &mut MapStore) -> String {
+    let mut words = names_text(rt, store);
+    add_word(rt, &mut words, puzzles_text(rt, store).as_str());
+    add_word(rt, &mut words, rounds_text(rt, store).as_str());
+    for label in ["p1", "p10", "p2"] {
+        add_word(rt, &mut words, label);
+        add_word(rt, &mut words, rounds_using(rt, store, label).as_str());
+    }
+    words
+}
+
+/// Sees that the puzzles of the round are there.
+fn see_puzzles(rt: &(impl AllocGlobal + Abort), store: &mut MapStore, row: &RoundRow)
+    ensures { CanPutRound (world_of store.new) row.now }
+{
+    for entry in row.puzzles.as_slice() {
+        let found = store.puzzle(rt.alloc(), &entry.puzzle);
+        found.expect(rt, "memory").expect(rt, "puzzle");
+    }
+}
+
+/// Puts the round, whose puzzles are there. Where memory is refused, the world is as it was, and a second call puts it.
+fn put_round(rt: &(impl AllocGlobal + Abort), store: &mut MapStore, row: RoundRow) {
+    let before = world_text(rt, store);
+    let again = row.clone().expect(rt, "memory");
+    see_puzzles(rt, store, &row);
+    if store.put_round(rt.alloc(), row).is_ok() {
+        return;
+    }
+    assert_eq!(rt; world_text(rt, store).as_str(), before.as_str());
+    see_puzzles(rt, store, &again);
+    store.put_round(rt.alloc(), again).expect(rt, "memory");
+}
+
+/// Drafts put in turn, by id and puzzles; and which rounds use p1, p10 and p2 then.
+const SHEETS: [(&str, (&str, &str), &str, &str, &str); 4] = [
+    ("r2", ("p1", "p2"), "r1 r2 r3", "r0 r3", "r0 r1 r2"),
+    ("r2", ("p10", "p1"), "r1 r2 r3", "r0 r2 r3", "r0 r1"),
+    ("r1", ("p2", "p10"), "r2 r3", "r0 r1 r2 r3", "r0 r1"),
+    ("r2", ("p10", "p2"), "r3", "r0 r1 r2 r3", "r0 r1 r2"),
+];
+
+#[test]
+fn a_round_that_is_put_has_the_puzzles_of_its_last_list(rt: HostRuntime) {
+    let mut store = store_with_drafts(&rt);
+    for (place, (id, labels, p1, p10, p2)) in SHEETS.iter().enumerate() {
+        put_round(&rt, &mut store, round_row(&rt, id, *labels));
+        for (label, ids) in [("p1", *p1), ("p10", *p10), ("p2", *p2)] {
+            let using = rounds_using(&rt, &mut store, label);
+            assert_eq!(rt; using.as_str(), ids, "row {place}: {label}");
+        }
+    }
+    let rounds = rounds_text(&rt, &mut store);
+    assert_eq!(rt;
+        rounds.as_str(),
+        "r0 draft p10 p2 r1 draft p2 p10 r2 draft p10 p2 r3 draft p1 p10"
+    );
+}
+
+/// Whether the person has the key and roles of the one who is known, if any.
+fn is_as_known(known: &Option<Person>, person: &Person) -> bool
+    ensures { IsTrue result
+        → IfSome known.now (λ known. (known.key ≡ person.now.key) × (known.roles ≡ person.now.roles)) }
+{
+    match known {
+        Some(known) => known.key.is_same(&person.key) && known.roles == person.roles,
+        None => true,
+    }
+}
+
+/// Whether the person has the name of the key's holder, if any.
+fn is_holder(holder: &Option<Person>, person: &Person) -> bool
+    ensures { IsTrue result → IfSome holder.now (λ holder. holder.name ≡ person.now.name) }
+{
+    match holder {
+        Some(holder) => holder.name.is_same(&person.name),
+        None => true,
+    }
+}
+
+/// Sees that the person doesn't contradict what is known.
+fn see_person(rt: &(impl AllocGlobal + Abort), store: &mut MapStore, person: &Person)
+    ensures kept { world_of store.new ≡ world_of store.old }
+    ensures agrees { ¬ (Conflicts (world_of store.new) person.now) }
+{
+    let known = store.person(rt.alloc(), &person.name);
+    assert!(rt; is_as_known(&known.expect(rt, "memory"), person));
+    let holder = store.person_by_key(rt.alloc(), &person.key);
+    assert!(rt; is_holder(&holder.expect(rt, "memory"), person));
+    assert!(rt; !(person.roles.director && person.roles.entrant));
+}
+
+/// Sees that nobody of the list contradicts what is known.
+fn see_people(rt: &(impl AllocGlobal + Abort), store: &mut MapStore, people: &People)
+    ensures { CanImport (world_of store.new) people.now }
+{
+    for person in people.as_slice() {
+        see_person(rt, store, person);
+    }
+}
+
+/// Imports the people, none of whom contradicts what is known. Where memory is refused, the world is as it was, and a
+/// second call imports them.
+fn import(rt: &(impl AllocGlobal + Abort), store: &mut MapStore, people: &People) {
+    let before = world_text(rt, store);
+    see_people(rt, store, people);
+    if store.import(rt.alloc(), people).is_ok() {
+        return;
+    }
+    assert_eq!(rt; world_text(rt, store).as_str(), before.as_str());
+    see_people(rt, store, people);
+    store.import(rt.alloc(), people).expect(rt, "memory");
+}
+
+/// A list of people with these names and keys.
+fn people(rt: &(impl AllocGlobal + Abort), names: &[(&str, &str)]) -> People {
+    let mut list = Vec::new(rt.alloc());
+    for (name, key) in names {
+        list.push(person(rt, name, key)).expect(rt, "memory");
+    }
+    let people = People::new(rt.alloc(), list).expect(rt, "memory");
+    people.expect(rt, "people")
+}
+
+/// Two lists of people, by name and key.
+const LISTS: [[(&str, &str); 2]; 2] = [
+    [("dee", "dee-key-1"), ("bob", "bob-key-1")],
+    [("cy", "cy-key-01"), ("dee", "dee-key-1")],
+];
+
+#[test]
+fn a_list_adds_those_who_are_unknown(rt: HostRuntime) {
+    let mut store = store_with_drafts(&rt);
+    for (list, wanted) in [
+        (0, "bo bob dee"),
+        (0, "bo bob dee"),
+        (1, "bo bob cy dee"),
+        (0, "bo bob cy dee"),
+    ] {
+        import(&rt, &mut store, &people(&rt, &LISTS[list]));
+        assert_eq!(rt; names_text(&rt, &mut store).as_str(), wanted);
     }
 }
 
