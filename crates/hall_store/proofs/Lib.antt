@@ -9,3 +9,5 @@ pub mod Sorting
 pub mod Inserts
 pub mod Knowing
 pub mod Adding
+pub mod Changes
+pub mod Imports

@@ -34,6 +34,21 @@ pub record IsPersonIndexed (keys : List (List ℕ × List ℕ)) (name : List ℕ
   pub own : person.name ≡ name
   pub led : lookup (is_at (text_cmp person.key)) keys ≡ Some name
 
+-- the list gives the key to nobody of another name
+abbrev pub AgreesOn : List Person → List ℕ → List ℕ → Type 0
+AgreesOn list key name = (person : Person) → Contains list person → person.key ≡ key → person.name ≡ name
+
+-- what the index has and the list agrees on is not lost
+abbrev pub AgreedStay : List Person → List (List ℕ × List ℕ) → List (List ℕ × List ℕ) → Type 0
+AgreedStay list before after =
+    (key : List ℕ) (name : List ℕ) → AgreesOn list key name
+    → lookup (is_at (text_cmp key)) before ≡ Some name → lookup (is_at (text_cmp key)) after ≡ Some name
+
+-- the index leads from the key of each person of the list to the name
+abbrev pub AreLed : List Person → List (List ℕ × List ℕ) → Type 0
+AreLed list keys =
+    (person : Person) → Contains list person → lookup (is_at (text_cmp person.key)) keys ≡ Some person.name
+
 -- the person, where it has the key
 abbrev pub if_holder : List ℕ → Option Person → Option Person
 if_holder key None = None

@@ -1,10 +1,14 @@
-//! How a world in ordered maps begins, and what is added to it besides a store's calls.
+//! How a world in ordered maps begins, and what is added to it.
 ghost use Rattle.std.specs.Prelude.{◌≡◌, ◌↔◌, IsTrue, IfOk, OnOk, OnErr, Some, is_some};
 ghost use Rattle.std.specs.List.{list_all};
 ghost use Rattle.std.specs.BTreeMap as tree;
+ghost use Rattle.std.specs.FinMap.{from_entries};
 ghost use Rattle.hall_policy.specs.Text.{text_cmp};
 ghost use Rattle.hall_policy.specs.World.{puzzle_cmp};
+ghost use Rattle.hall_policy.specs.Lists.{ArePeopleDifferent};
+ghost use Rattle.hall_store.specs.Change.{with_people};
 ghost use Rattle.hall_store.specs.Keyed.{Each, IsRoundIndexed, IsUseKept, UsesStay, use_cmp, use_of};
+ghost use Rattle.hall_store.specs.Keyed.{AgreedStay, AreLed};
 ghost use Rattle.hall_store.specs.Maps.{world_of, empty_world, IsTaken, IsUnfit, PersonAdded, DraftAdded};
 
 use crate::map_reads::find_holder;
@@ -82,6 +86,21 @@ impl MapStore {
     }
 }
 
+/// Leads from the key of each person of the list to the name. Refused, it may have led from some of them.
+pub(crate) fn index_people(
+    keys: &mut BTreeMap<Key, Name>,
+    list: &[Person],
+) -> Result<(), AllocError>
+    requires { ArePeopleDifferent list.now }
+    ensures stay { AgreedStay list.now keys.old.entries keys.new.entries }
+    ensures led { OnOk result (AreLed list.now keys.new.entries) }
+{
+    for person in list {
+        index_person(keys, person)?;
+    }
+    Ok(())
+}
+
 /// Leads from the person's key to the name. Refused, it leaves the index.
 fn index_person(keys: &mut BTreeMap<Key, Name>, person: &Person) -> Result<(), AllocError>
     ensures ok { OnOk result (tree.Updates text_cmp keys.old keys.new person.now.key (Some person.now.name)) }
@@ -90,6 +109,23 @@ fn index_person(keys: &mut BTreeMap<Key, Name>, person: &Person) -> Result<(), A
     let key = person.key.clone()?;
     let name = person.name.clone()?;
     put(keys, key, name)
+}
+
+/// The people, and those of the list whose names are unknown.
+pub(crate) fn with_people(
+    known: &BTreeMap<Name, Person>,
+    list: &[Person],
+) -> Result<BTreeMap<Name, Person>, AllocError>
+    ensures { IfOk result
+        (λ people. from_entries people.entries ≡ with_people (from_entries known.now.entries) list.now) }
+{
+    let mut people = known.clone()?;
+    for person in list {
+        if !people.contains_key(&person.name) {
+            put_person(&mut people, person.clone()?)?;
+        }
+    }
+    Ok(people)
 }
 
 /// Puts the person under the own name. Refused, it leaves the people.
@@ -102,7 +138,7 @@ fn put_person(people: &mut BTreeMap<Name, Person>, person: Person) -> Result<(),
 }
 
 /// Leads from each of the round's puzzles to the round. Refused, it may have led from some of them.
-fn index_round(uses: &mut BTreeMap<UseKey, ()>, row: &RoundRow) -> Result<(), AllocError>
+pub(crate) fn index_round(uses: &mut BTreeMap<UseKey, ()>, row: &RoundRow) -> Result<(), AllocError>
     requires { Each use_cmp uses.old.entries IsUseKept }
     ensures kept { Each use_cmp uses.new.entries IsUseKept }
     ensures stay { UsesStay uses.old.entries uses.new.entries }
@@ -143,7 +179,10 @@ fn use_of(key: &PuzzleKey, round: &RoundId) -> Result<UseKey, AllocError>
 }
 
 /// Puts the round under its own id. Refused, it leaves the rounds.
-fn put_round(rounds: &mut BTreeMap<RoundId, RoundRow>, row: RoundRow) -> Result<(), AllocError>
+pub(crate) fn put_round(
+    rounds: &mut BTreeMap<RoundId, RoundRow>,
+    row: RoundRow,
+) -> Result<(), AllocError>
     ensures ok { OnOk result (tree.Updates text_cmp rounds.old rounds.new row.round.id (Some row)) }
     ensures err { OnErr result (tree.IsUnchanged rounds.old rounds.new) }
     ensures ordered { OnOk result (tree.IsOrdered text_cmp rounds.new) }

@@ -8,9 +8,10 @@ use crate::answer_reads::{
 };
 use crate::change::RoundFlag;
 use crate::fault::StoreFault;
+use crate::map_adds::{index_people, index_round, put_round, with_people};
 use crate::map_reads::{
-    count_puzzles, first_label, first_use, holder, ids_using, own_key, person_at, puzzle_at,
-    puzzle_rows, round_at,
+    all_puzzle_rows, count_puzzles, first_label, first_use, heads, holder, ids_using, own_key,
+    person_at, puzzle_at, puzzle_rows, round_at,
 };
 use crate::map_store::MapStore;
 use crate::slot::Part;
@@ -38,7 +39,12 @@ impl Store for MapStore {
     }
 
     fn import(&mut self, _alloc: Global, people: &People) -> Result<(), StoreFault> {
-        Err(StoreFault::Memory)
+        // A copy takes the place of the people at the end, so that a refusal leaves them.
+        let list = people.as_slice();
+        let people = with_people(&self.people, list)?;
+        index_people(&mut self.keys, list)?;
+        self.people = people;
+        Ok(())
     }
 
     fn puzzle(&mut self, _alloc: Global, key: &PuzzleKey) -> Result<Option<PuzzleRow>, StoreFault> {
@@ -51,7 +57,7 @@ impl Store for MapStore {
     }
 
     fn all_puzzles(&mut self, alloc: Global) -> Result<Vec<PuzzleRow>, StoreFault> {
-        Err(StoreFault::Memory)
+        Ok(all_puzzle_rows(alloc, &self.puzzles)?)
     }
 
     fn puzzles_put(&mut self, alloc: Global, author: &Name) -> Result<u64, StoreFault> {
@@ -85,11 +91,13 @@ impl Store for MapStore {
     }
 
     fn rounds(&mut self, alloc: Global) -> Result<Vec<Round>, StoreFault> {
-        Err(StoreFault::Memory)
+        Ok(heads(alloc, &self.rounds)?)
     }
 
     fn put_round(&mut self, _alloc: Global, row: RoundRow) -> Result<(), StoreFault> {
-        Err(StoreFault::Memory)
+        index_round(&mut self.uses, &row)?;
+        put_round(&mut self.rounds, row)?;
+        Ok(())
     }
 
     fn set_round_flag(

@@ -1,5 +1,5 @@
 //! What the maps of people, puzzles and rounds answer.
-ghost use Rattle.std.specs.Prelude.{◌≡◌, ◌++◌, ◌∷◌, [], IfOk, OnOk, cond, count_by, option_copied};
+ghost use Rattle.std.specs.Prelude.{◌≡◌, ◌++◌, ◌∷◌, [], IfOk, OnOk, cond, map, count_by, option_copied};
 ghost use Rattle.std.specs.List.{filter};
 ghost use Rattle.std.specs.BTreeMap as tree;
 ghost use Rattle.hall_policy.specs.Text.{text_cmp};
@@ -9,7 +9,9 @@ ghost use Rattle.hall_store.specs.Keyed.{use_of, use_cmp, is_use_of, is_use_true
 
 use crate::slot::UseKey;
 use crate::writes::push;
-use hall_policy::{Entry, Key, Label, Name, Person, PuzzleKey, PuzzleRow, RoundId, RoundRow};
+use hall_policy::{
+    Entry, Key, Label, Name, Person, PuzzleKey, PuzzleRow, Round, RoundId, RoundRow,
+};
 use std::alloc::{AllocError, Global};
 use std::collections::BTreeMap;
 
@@ -85,6 +87,21 @@ pub(crate) fn round_at(
     }
 }
 
+/// Copies of all rounds without their puzzles, in the order of their ids.
+pub(crate) fn heads(
+    alloc: Global,
+    rounds: &BTreeMap<RoundId, RoundRow>,
+) -> Result<Vec<Round>, AllocError>
+    ensures heads { IfOk result (λ heads. heads.items ≡ map (λ row. row.round) (tree.values rounds.now)) }
+    ensures ordered { tree.IsOrdered text_cmp rounds.now }
+{
+    let mut heads = Vec::new(alloc);
+    for row in rounds.values() {
+        push(&mut heads, row.round.clone()?)?;
+    }
+    Ok(heads)
+}
+
 /// The puzzle's key.
 pub(crate) fn own_key(row: &PuzzleRow) -> Result<PuzzleKey, AllocError>
     ensures { IfOk result (λ key. IsPuzzleKept key row.now) }
@@ -127,6 +144,21 @@ pub(crate) fn puzzle_rows(
         push(&mut rows, row.clone()?)?;
     }
     Ok(rows)
+}
+
+/// Copies of all puzzles, in the order of their keys.
+pub(crate) fn all_puzzle_rows(
+    alloc: Global,
+    puzzles: &BTreeMap<PuzzleKey, PuzzleRow>,
+) -> Result<Vec<PuzzleRow>, AllocError>
+    ensures rows { IfOk result (λ rows. rows.items ≡ tree.values puzzles.now) }
+    ensures ordered { tree.IsOrdered puzzle_cmp puzzles.now }
+{
+    let mut all = Vec::new(alloc);
+    for row in puzzles.values() {
+        push(&mut all, row.clone()?)?;
+    }
+    Ok(all)
 }
 
 /// How many puzzles the author has, from the author's first key on.
