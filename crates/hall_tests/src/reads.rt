@@ -3,7 +3,7 @@ use crate::fixtures::{number, puzzle_key, text};
 use crate::limited::LimitedStore;
 use Asked::{Puzzle, Puzzles, Rounds, Solutions};
 use hall_desk::{Desk, PuzzleLine, Reply, RoundLine, StateName, opening_store};
-use hall_policy::{Action, Moment, Request};
+use hall_policy::{Action, AnswerText, Moment, Request};
 use std::alloc::AllocGlobal;
 use std::process::Abort;
 
@@ -143,24 +143,15 @@ fn draft_word(released: bool) -> &'static str {
     if released { "released" } else { "draft" }
 }
 
-/// Adds the words, and a semicolon.
-fn add(rt: &(impl AllocGlobal + Abort), text: &mut String, words: &[&str]) {
-    for (place, word) in words.iter().enumerate() {
-        if place > 0 {
-            text.push_str(" ").expect(rt, "memory");
-        }
-        text.push_str(word).expect(rt, "memory");
-    }
-    text.push_str(";").expect(rt, "memory");
-}
-
 /// The author and the label of each puzzle, with its state.
 fn puzzle_words(rt: &(impl AllocGlobal + Abort), lines: &[PuzzleLine]) -> String {
     let mut words = String::new(rt.alloc());
     for line in lines {
         let (author, label) = (line.key.author.as_str(), line.key.label.as_str());
-        let parts = [author, label, state_word(line.state)];
-        add(rt, &mut words, parts.as_slice());
+        let state = state_word(line.state);
+        let line = format!(in rt.alloc(); "{author} {label} {state};");
+        let line = line.expect(rt, "memory");
+        words.push_str(line.as_str()).expect(rt, "memory");
     }
     words
 }
@@ -170,35 +161,40 @@ fn round_words(rt: &(impl AllocGlobal + Abort), lines: &[RoundLine]) -> String {
     let mut words = String::new(rt.alloc());
     for line in lines {
         let (id, title) = (line.id.as_str(), line.title.as_str());
-        let parts = [id, title, draft_word(line.released)];
-        add(rt, &mut words, parts.as_slice());
+        let state = draft_word(line.released);
+        let line = format!(in rt.alloc(); "{id} {title} {state};");
+        let line = line.expect(rt, "memory");
+        words.push_str(line.as_str()).expect(rt, "memory");
+    }
+    words
+}
+
+/// The texts, one after another.
+fn solution_words(rt: &(impl AllocGlobal + Abort), texts: &[AnswerText]) -> String {
+    let mut words = String::new(rt.alloc());
+    for text in texts {
+        words.push_str(text.as_str()).expect(rt, "memory");
+        words.push_str(";").expect(rt, "memory");
     }
     words
 }
 
 /// The reply in words.
 fn reply_words(rt: &(impl AllocGlobal + Abort), reply: &Reply) -> String {
-    let mut words = String::new(rt.alloc());
     match reply {
-        Reply::Denied(rule) => {
-            return format!(in rt.alloc(); "denied {rule}").expect(rt, "memory");
-        }
-        Reply::Unavailable => words.push_str("unavailable").expect(rt, "memory"),
+        Reply::Denied(rule) => format!(in rt.alloc(); "denied {rule}").expect(rt, "memory"),
+        Reply::Unavailable => String::from_str(rt.alloc(), "unavailable").expect(rt, "memory"),
         Reply::PuzzleRead { key, state, text } => {
             let (author, label) = (key.author.as_str(), key.label.as_str());
-            let parts = [author, label, state_word(*state), text.as_str()];
-            add(rt, &mut words, parts.as_slice());
+            let (state, text) = (state_word(*state), text.as_str());
+            let words = format!(in rt.alloc(); "{author} {label} {state} {text};");
+            words.expect(rt, "memory")
         }
-        Reply::PuzzleList(lines) => return puzzle_words(rt, lines.as_slice()),
-        Reply::RoundList(lines) => return round_words(rt, lines.as_slice()),
-        Reply::SolutionList(texts) => {
-            for text in texts.as_slice() {
-                add(rt, &mut words, &[text.as_str()]);
-            }
-        }
-        _ => words.push_str("another reply").expect(rt, "memory"),
+        Reply::PuzzleList(lines) => puzzle_words(rt, lines.as_slice()),
+        Reply::RoundList(lines) => round_words(rt, lines.as_slice()),
+        Reply::SolutionList(texts) => solution_words(rt, texts.as_slice()),
+        _ => String::from_str(rt.alloc(), "another reply").expect(rt, "memory"),
     }
-    words
 }
 
 /// What the request is answered where the store answers so many calls.
