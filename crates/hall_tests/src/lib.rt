@@ -16,6 +16,8 @@ mod lists;
 #[cfg(test)]
 mod policy;
 #[cfg(test)]
+mod reads;
+#[cfg(test)]
 mod sheets;
 #[cfg(test)]
 mod socket;
