@@ -14,17 +14,19 @@ use hall_store::{MapStore, RoundFlag, Store};
 use std::alloc::AllocGlobal;
 use std::process::Abort;
 
+/// What each person of these tests is.
+const ROLES: Roles = Roles {
+    director: false,
+    author: true,
+    referee: false,
+    entrant: true,
+};
+
 fn person(rt: &(impl AllocGlobal + Abort), name: &str, key: &str) -> Person {
-    let roles = Roles {
-        director: false,
-        author: true,
-        referee: false,
-        entrant: true,
-    };
     Person {
         name: text(rt, name),
         key: text(rt, key),
-        roles,
+        roles: ROLES,
     }
 }
 
@@ -41,7 +43,12 @@ const PEOPLE: [(&str, &str, bool, bool, bool); 6] = [
 /// Whether it is the person of the name and key that was found, where one is wanted, and else nobody.
 fn is_person(found: &Option<Person>, name: &str, key: &str, is_wanted: bool) -> bool {
     match found {
-        Some(found) => is_wanted && found.name.as_str() == name && found.key.as_str() == key,
+        Some(found) => {
+            is_wanted
+                && found.name.as_str() == name
+                && found.key.as_str() == key
+                && found.roles == ROLES
+        }
         None => !is_wanted,
     }
 }
@@ -408,6 +415,7 @@ fn all_puzzles_and_rounds_are_listed_by_key(rt: HostRuntime) {
 fn names_text(rt: &(impl AllocGlobal + Abort), store: &mut MapStore) -> String {
     let mut words = String::new(rt.alloc());
     for (name, key) in [
+        ("ada", "ada-key-1"),
         ("bo", "bo-key-01"),
         ("bob", "bob-key-1"),
         ("cy", "cy-key-01"),
@@ -556,12 +564,17 @@ const LISTS: [[(&str, &str); 2]; 2] = [
 
 #[test]
 fn a_list_adds_those_who_are_unknown(rt: HostRuntime) {
-    let mut store = store_with_drafts(&rt);
+    let known = [
+        ("bob", "bob-key-1"),
+        ("bo", "bo-key-01"),
+        ("ada", "ada-key-1"),
+    ];
+    let mut store = store_of(&rt, known);
     for (list, wanted) in [
-        (0, "bo bob dee"),
-        (0, "bo bob dee"),
-        (1, "bo bob cy dee"),
-        (0, "bo bob cy dee"),
+        (0, "ada bo bob dee"),
+        (0, "ada bo bob dee"),
+        (1, "ada bo bob cy dee"),
+        (0, "ada bo bob cy dee"),
     ] {
         import(&rt, &mut store, &people(&rt, &LISTS[list]));
         assert_eq!(rt; names_text(&rt, &mut store).as_str(), wanted);
