@@ -1,5 +1,5 @@
 -- A round whose flags change, and nothing else of it, keeps the world sane.
-use Rattle.std.proofs.Common.{◌≡◌, ◌≢◌, ◌⊎◌, inl, inr, ℕ, Bool, List, Some, None, IsTrue, refl, sym, ap, ◌∙◌, subst}
+use Rattle.std.proofs.Common.{◌≡◌, ◌≢◌, ◌⊎◌, inl, inr, ℕ, Bool, List, Some, None, IsTrue, sym, ap, ◌∙◌, subst}
 use Rattle.std.specs.FinMap.{FinMap, get, insert}
 use Rattle.hall_policy.specs.Text.{text_cmp}
 use Rattle.hall_policy.specs.World.{World}

@@ -1,5 +1,5 @@
 -- A protest that is stored, and one that is ruled, keeps the world sane.
-use Rattle.std.proofs.Common.{◌≡◌, ◌≢◌, ◌&&◌, ◌<◌, ◌≤◌, ◌⊎◌, inl, inr, ℕ, Bool, true, false, cond, List, Option, Some, None, IsTrue, refl, sym, ap, ◌∙◌, subst, arith, lit<}
+use Rattle.std.proofs.Common.{◌≡◌, ◌≢◌, ◌+◌, ◌&&◌, ◌<◌, ◌≤◌, ◌⊎◌, inl, inr, ℕ, Bool, true, false, cond, List, Option, Some, None, IsTrue, refl, sym, ap, ◌∙◌, subst, arith, lit<}
 use Rattle.std.specs.List.{count_by}
 use Rattle.std.specs.FinMap.{FinMap, get, insert, values}
 use Rattle.std.proofs.Math.Nat.{lt_of_not-le}
@@ -179,5 +179,5 @@ rule_step world caller id entrant token ruling t found given new sane asked (row
     (sane.refers.protesters key row kept)
     (sane.protests_released key row kept)
     (sane.refers.protested key row kept)
-    (λ round at published open. let no : Some ruling ≡ None = open in cc)
+    (λ round at published unruled. let no : Some ruling ≡ None = unruled in cc)
     (λ gone. absurd (let no : Some row ≡ None = sym kept ∙ gone in cc)))

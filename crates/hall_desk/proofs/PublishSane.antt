@@ -1,6 +1,5 @@
 -- A round that is published keeps the world sane.
-use Rattle.std.proofs.Common.{◌≡◌, ℕ, true, List, Option, Some, refl, sym, ◌∙◌, ap, subst, lit<}
-use Rattle.std.specs.FinMap.{get}
+use Rattle.std.proofs.Common.{◌≡◌, ℕ, true, List, Option, Some, refl, sym, ◌∙◌, subst, lit<}
 use Rattle.hall_policy.specs.World.{World}
 use Rattle.hall_policy.specs.First.{NoneBelow}
 use Rattle.hall_policy.specs.declared.rule.Rule.TheVariants as rule
@@ -26,4 +25,4 @@ publish_step world caller id t found given new sane none (round, kept, reply, ma
     (flags_sane world id round round.released true kept released sane
     (λ entry lists. sane.certified id entry.puzzle (round, entry, kept, released, lists, refl))
     (λ entry other lists differ stands. differ (sane.in_one_round other id entry.puzzle stands (round, entry, kept, released, lists, refl)))
-    (λ _ key row of found open. (none rule.OpenProtest (lit< tt)).0 ((5, lit< tt, refl), (id, key, row, refl, of, found, open))))
+    (λ _ key row of found unruled. (none rule.OpenProtest (lit< tt)).0 ((5, lit< tt, refl), (id, key, row, refl, of, found, unruled))))
