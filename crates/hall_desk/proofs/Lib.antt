@@ -9,7 +9,10 @@ mod Planning
 pub mod Truths
 pub mod Saneness
 pub mod CertifySane
+pub mod FlagsSane
 pub mod ReleaseSane
+pub mod PublishSane
+pub mod ProtestSane
 pub mod ImportSane
 pub mod DraftSane
 pub mod StepsSane

@@ -1,9 +1,14 @@
--- Released rounds that have a puzzle.
-use Rattle.std.proofs.Common.{◌≡◌, ◌≢◌, ◌↔◌, ℕ, zero, suc, Bool, true, false, not, List, ◌<◌, ◌≤◌, length, slice_get, Some, None, Contains, refl, sym, ap, ◌∙◌, arith}
+-- Released rounds: that one is found, and which have a puzzle.
+use Rattle.std.proofs.Common.{◌≡◌, ◌≢◌, ◌↔◌, ℕ, zero, suc, Bool, true, false, not, ◌&&◌, List, ◌<◌, ◌≤◌, length, slice_get, Option, Some, None, Contains, refl, sym, ap, ◌∙◌, subst, arith}
 use Rattle.std.specs.List.{filter}
+use Rattle.std.specs.FinMap.{get}
 use Rattle.std.proofs.lemmas.Option.{slice_get-get_or, slice_get_within, get_or_from_slice_get}
 use Rattle.hall_policy.specs.World.{World, IsRoundAt, entry_at, same_text}
-use Rattle.hall_policy.specs.Rules.{Lists, StandsReleased}
+use Rattle.hall_policy.specs.Actions.{finds_drafts}
+use Rattle.hall_policy.specs.Rules.{Lists, StandsReleased, RoundIsMissing, is_director}
+use Rattle.hall_policy.specs.declared.record.Person.{Person}
+use Rattle.hall_policy.specs.declared.record.Round.{Round}
+use Rattle.hall_policy.specs.declared.request.Action.{Action}
 use Rattle.hall_policy.specs.declared.record.Entry.{Entry}
 use Rattle.hall_policy.specs.declared.record.RoundRow.{RoundRow}
 use Rattle.hall_policy.specs.declared.record.PuzzleKey.{PuzzleKey}
@@ -11,6 +16,23 @@ use Rattle.hall_store.specs.Store.{AreUsing}
 use Rattle.hall_desk.specs.Found.{IsReleasedRound, HasFault, HasFaultyEntry}
 use Rattle.hall_desk.specs.declared.entry_fault.EntryFault.{EntryFault}
 use Rattle.hall_desk.proofs.Answering.{text_decides, Contains-filter, filter-Contains}
+
+and_false : (b : Bool) → (b && false) ≡ false
+and_false true = refl
+and_false false = refl
+
+-- an action that finds no drafts, and whose round is not missing, names a released one
+pub released_found : (world : World) (caller : Option Person) (asked : Action) (id : List ℕ) → finds_drafts asked ≡ false → ¬ (RoundIsMissing world caller asked id) → IsReleasedRound world id
+released_found world caller asked id no_drafts there = elim (get world.rounds id) as (λ (o : Option Round). get world.rounds id ≡ o → IsReleasedRound world id) [
+  | None ↦ λ gone. absurd (there (λ r at. absurd (let no : None ≡ Some r = sym gone ∙ at in cc)))
+  | Some round ↦ λ kept. elim round.released as (λ b. round.released ≡ b → IsReleasedRound world id) [
+    | true ↦ λ e. (round, kept, e)
+    | false ↦ λ e. absurd (there (λ r at.
+        let both : Some round ≡ Some r = sym kept ∙ at in
+        let same : round ≡ r = cc in
+        (subst (λ (x : Round). x.released ≡ false) same e, ap (λ b. is_director caller && b) no_drafts ∙ and_false (is_director caller))))
+  ] refl
+] refl
 
 -- a round that has the puzzle and is released
 pub released_using : (world : World) (key : PuzzleKey) (ids : List (List ℕ)) → AreUsing world key ids →

@@ -9,7 +9,7 @@ use Rattle.std.specs.Ordering.{is_eq}
 use Rattle.std.specs.declared.cmp.Ordering.{Ordering}
 use Rattle.std.specs.declared.cmp.Ordering.TheVariants.{Less, Equal, Greater}
 use Rattle.hall_policy.specs.Text.{text_cmp}
-use Rattle.hall_policy.specs.World.{World, place_of, same_text, puzzle_cmp, place_cmp}
+use Rattle.hall_policy.specs.World.{World, place_of, same_text, puzzle_cmp, place_cmp, protest_cmp}
 use Rattle.hall_policy.specs.Rules.{Conflicts}
 use Rattle.hall_policy.specs.First.{NoneBelow}
 use Rattle.hall_policy.specs.declared.rule.Rule.TheVariants as rule
@@ -21,6 +21,7 @@ use Rattle.hall_policy.specs.declared.record.Round.{Round}
 use Rattle.hall_policy.specs.declared.record.Entry.{Entry}
 use Rattle.hall_policy.specs.declared.record.AnswerKey.{AnswerKey}
 use Rattle.hall_policy.specs.declared.record.AnswerRow.{AnswerRow}
+use Rattle.hall_policy.specs.declared.record.ProtestRow.{ProtestRow}
 use Rattle.hall_policy.specs.declared.request.Sheet.{Sheet}
 use Rattle.hall_policy.specs.declared.request.Action.{Action}
 use Rattle.hall_policy.specs.declared.request.Action.TheVariants as action
@@ -29,7 +30,7 @@ use Rattle.hall_policy.proofs.Orders.{text_total, same_texts, answer_total, same
 use Rattle.hall_store.specs.Caller.{with_key, caller_of}
 use Rattle.hall_store.specs.Change.{with_person, with_people, relisted}
 use Rattle.hall_desk.specs.Found.{IsReleasedRound}
-use Rattle.hall_desk.specs.Step.{Step, Allowed, IsReleasedBy, draft_of, answer_row}
+use Rattle.hall_desk.specs.Step.{Step, Allowed, draft_of, answer_row}
 use Rattle.hall_desk.specs.Run.{Run}
 use Rattle.hall_desk.specs.declared.reply.Reply.{Reply}
 use Rattle.hall_store.proofs.Changes.{with_people-known}
@@ -91,6 +92,13 @@ remains_on world mid later first second = record {
 puzzles_change : (world new : World) (puzzles : FinMap puzzle_cmp PuzzleRow) → new ≡ record world { puzzles = puzzles } → Remains world new
 puzzles_change world new puzzles made =
     let after : World = record world { puzzles = puzzles } in
+    subst (λ (w : World). Remains world w) (sym made)
+    (record { callers = callers_stay world after refl; answers = λ key row at. at; rounds = λ id round at is. stays_as_found world after id round at is refl })
+
+-- a world whose protests change keeps the rest
+protests_change : (world new : World) (protests : FinMap protest_cmp ProtestRow) → new ≡ record world { protests = protests } → Remains world new
+protests_change world new protests made =
+    let after : World = record world { protests = protests } in
     subst (λ (w : World). Remains world w) (sym made)
     (record { callers = callers_stay world after refl; answers = λ key row at. at; rounds = λ id round at is. stays_as_found world after id round at is refl })
 
@@ -182,10 +190,10 @@ put_round_remains world caller id sheet t found given new none (told, made) =
           };
     })
 
--- a Release sets its round's flag alone
-release_remains : (world : World) (id : List ℕ) (given : Reply) (new : World) → IsReleasedBy world id given new → Remains world new
-release_remains world id given new (round, kept, told, made) =
-    let now : Round = record round { released = true } in
+-- a round that stays released where it was, and in its mode, leaves the rest
+round_changes : (world new : World) (id : List ℕ) (round now : Round) → get world.rounds id ≡ Some round → (round.released ≡ true → now.released ≡ true) → now.mode ≡ round.mode →
+    new ≡ record world { rounds = insert world.rounds id now } → Remains world new
+round_changes world new id round now kept stays mode made =
     let after : World = record world { rounds = insert world.rounds id now } in
     subst (λ (w : World). Remains world w) (sym made) (record {
       callers = callers_stay world after refl;
@@ -194,7 +202,13 @@ release_remains world id given new (round, kept, told, made) =
         | inl own ↦
             let both : Some round ≡ Some r = sym kept ∙ ap (get world.rounds) (sym own) ∙ at in
             let one : round ≡ r = cc in
-            record { after = now; found = inserted_there text_total same_texts world.rounds id now q own; released = refl; mode = ap (λ (x : Round). x.mode) one; places = λ number. refl }
+            record {
+              after = now;
+              found = inserted_there text_total same_texts world.rounds id now q own;
+              released = stays (ap (λ (x : Round). x.released) one ∙ is);
+              mode = mode ∙ ap (λ (x : Round). x.mode) one;
+              places = λ number. refl;
+            }
         | inr other ↦ record { after = r; found = others_stay text_total same_texts world.rounds id now q r other at; released = is; mode = refl; places = λ number. refl }
       ];
     })
@@ -212,14 +226,16 @@ submit_remains world caller id number token answer t found given new none (perso
       rounds = λ q r at is. record { after = r; found = at; released = is; mode = refl; places = λ number. refl };
     })
 
--- a PutPuzzle and a Certify change puzzles alone, and what else takes effect is said above
+-- a PutPuzzle and a Certify change puzzles alone, a Protest and a Rule protests, a Release and a Publish one flag of
+-- their round; what else takes effect is said above
 allowed_remains : (world : World) (caller : Option Person) (asked : Action) (t : ℕ) (found : PuzzleState) (given : Reply) (new : World) →
     NoneBelow 21 world caller asked t → Allowed world caller asked t found given new → Remains world new
 allowed_remains world caller (action.PutPuzzle key puzzle) t found given new none (text, canonical, inl h) = remains_same world new h.4
 allowed_remains world caller (action.PutPuzzle key puzzle) t found given new none (text, canonical, inr h) = puzzles_change world new _ h.2
 allowed_remains world caller (action.Certify key budget) t found given new none (row, kept, inl h) = puzzles_change world new _ h.stored
 allowed_remains world caller (action.Certify key budget) t found given new none (row, kept, inr h) = remains_same world new h.same
-allowed_remains world caller (action.Release id) t found given new none h = release_remains world id given new h
+allowed_remains world caller (action.Release id) t found given new none (round, kept, told, made) = round_changes world new id round (record round { released = true }) kept (λ _. refl) refl made
+allowed_remains world caller (action.Publish id) t found given new none (round, kept, told, made) = round_changes world new id round (record round { published = true }) kept (λ is. is) refl made
 allowed_remains world caller (action.Submit id number token answer) t found given new none h = submit_remains world caller id number token answer t found given new none h
 allowed_remains world caller (action.Import people) t found given new none h = import_remains world caller people t found given new none h
 allowed_remains world caller (action.PutRound id sheet) t found given new none h = put_round_remains world caller id sheet t found given new none h
@@ -229,7 +245,10 @@ allowed_remains world caller (action.ReadPuzzle key) t found given new none h = 
 allowed_remains world caller action.ListPuzzles t found given new none h = remains_same world new h.2.1
 allowed_remains world caller action.ListRounds t found given new none h = remains_same world new h.2.1
 allowed_remains world caller (action.Solutions id) t found given new none h = remains_same world new h.1
-allowed_remains world caller _ t found given new none h = absurd h
+allowed_remains world caller (action.Protests id) t found given new none h = remains_same world new h.2.1
+allowed_remains world caller (action.Protest id token number text) t found given new none (person, is, (told, made)) = protests_change world new _ made
+allowed_remains world caller (action.Rule id entrant token ruling) t found given new none (row, kept, told, made) = protests_change world new _ made
+allowed_remains world caller (action.Table id) t found given new none h = absurd h
 
 -- a step keeps them
 pub step_remains : (world : World) (t : ℕ) (request : Request) (given : Reply) (new : World) → Step world t request given new → Remains world new

@@ -1,19 +1,18 @@
 -- Each step, and so each run, keeps a sane world.
-use Rattle.std.proofs.Common.{◌≡◌, ◌&&◌, ◌<◌, ◌≤◌, inl, inr, ℕ, Bool, true, false, List, [], ◌∷◌, Option, Some, None, refl, sym, ◌∙◌, subst, arith, lit<, Result, Ok, Err, IfOk}
+use Rattle.std.proofs.Common.{◌≡◌, ◌<◌, inl, inr, ℕ, List, [], ◌∷◌, Option, Some, None, refl, sym, ◌∙◌, subst, arith, lit<, Result, Ok, Err, IfOk}
 use Rattle.std.specs.Prelude.{All}
 use Rattle.std.proofs.lemmas.List.Elements.{All-head, All-tail}
-use Rattle.std.proofs.lemmas.Bool.{cases_order}
+use Rattle.std.proofs.Math.Nat.{lt_of_not-le}
 use Rattle.std.specs.FinMap.{get}
 use Rattle.hall_policy.specs.World.{World, same_text}
 use Rattle.hall_policy.specs.Ranges.{IsMoment, IsAnswerRow, IsAction, IsRequest}
-use Rattle.hall_policy.specs.Rules.{answers_given, puzzles_put}
+use Rattle.hall_policy.specs.Rules.{answers_given}
 use Rattle.hall_policy.specs.First.{NoneBelow}
 use Rattle.hall_policy.specs.declared.rule.Rule.TheVariants as rule
 use Rattle.hall_policy.specs.declared.rule.Decision.TheVariants.{Allow, Repeat, Deny}
 use Rattle.hall_policy.specs.declared.record.Person.{Person}
 use Rattle.hall_policy.specs.declared.record.PuzzleKey.{PuzzleKey}
 use Rattle.hall_policy.specs.declared.record.PuzzleState.{PuzzleState}
-use Rattle.hall_policy.specs.declared.record.Round.{Round}
 use Rattle.hall_policy.specs.declared.record.AnswerRow.{AnswerRow}
 use Rattle.hall_policy.specs.declared.request.Action.{Action}
 use Rattle.hall_policy.specs.declared.request.Action.TheVariants as action
@@ -23,7 +22,6 @@ use Rattle.hall_grid.specs.Rule.{IsNameSet}
 use Rattle.hall_grid.specs.Answer.{Verdict}
 use Rattle.hall_policy.proofs.Orders.{text_total}
 use Rattle.hall_store.specs.Caller.{caller_of}
-use Rattle.hall_desk.specs.Found.{IsReleasedRound}
 use Rattle.hall_desk.specs.Step.{Step, Allowed, new_row, answer_row}
 use Rattle.hall_desk.specs.Run.{IsTimed, Run}
 use Rattle.hall_store.specs.Store.{Content, Asks}
@@ -39,6 +37,9 @@ use Rattle.hall_desk.proofs.CertifySane.{certify_step}
 use Rattle.hall_desk.proofs.ImportSane.{import_step}
 use Rattle.hall_desk.proofs.DraftSane.{put_round_step}
 use Rattle.hall_desk.proofs.ReleaseSane.{release_step}
+use Rattle.hall_desk.proofs.Releases.{released_found}
+use Rattle.hall_desk.proofs.ProtestSane.{protest_step, rule_step}
+use Rattle.hall_desk.proofs.PublishSane.{publish_step}
 
 -- the caller is there, under the own name
 caller_there : (world : World) → Sane world → (key : Option (List ℕ)) (person : Person) → caller_of world key ≡ Some person → get world.people person.name ≡ Some person
@@ -48,17 +49,6 @@ caller_there world sane (Some key) person e =
     let own : person.name ≡ under.0 = sane.typed.people under.0 person under.1 in
     subst (λ (name : List ℕ). get world.people name ≡ Some person) (sym own) under.1
 
-below : (m n : ℕ) → ¬ (n ≤ m) → m < n
-below m n never = elim (cases_order m n) [
-  | inl same ↦ absurd (never (omega arith))
-  | inr (inl lt) ↦ lt
-  | inr (inr gt) ↦ absurd (never (omega arith))
-]
-
-and_false : (b : Bool) → (b && false) ≡ false
-and_false true = refl
-and_false false = refl
-
 put_step : (world : World) (caller : Option Person) (key : PuzzleKey) (puzzle : Board) (t : ℕ) (found : PuzzleState) (given : Reply) (new : World) → Sane world →
     IsAction (action.PutPuzzle key puzzle) → NoneBelow 21 world caller (action.PutPuzzle key puzzle) t → Allowed world caller (action.PutPuzzle key puzzle) t found given new → Sane new
 put_step world caller key puzzle t found given new sane is none (text, canonical, inl h) = subst Sane (sym h.4) sane
@@ -67,7 +57,7 @@ put_step world caller key puzzle t found given new sane is none (text, canonical
     (put_sane world key (new_row key puzzle) refl (record { key = is.0; puzzle = is.1; state = tt }) tt sane
     (λ gone. (none rule.Missing (lit< tt)).0 ((3, lit< tt, refl), λ person there. absurd (let no : None ≡ Some person = sym gone ∙ there in cc)))
     (λ id stands. (none rule.InReleasedRound (lit< tt)).0 ((4, lit< tt, refl), (id, stands)))
-    (λ fresh. below (puzzles_put world key.author) 500 (λ many. (none rule.LimitReached (lit< tt)).0 ((5, lit< tt, refl), (fresh, many)))))
+    (λ fresh. lt_of_not-le (λ many. (none rule.LimitReached (lit< tt)).0 ((5, lit< tt, refl), (fresh, many)))))
 
 -- a verdict is a set of names of the table
 verdict_set : (board : Board) (text : List ℕ) (names : ℕ) → Verdict board text names → IsNameSet names
@@ -83,12 +73,9 @@ submit_step world caller id number token answer t found given new sane there tim
       | None ↦ λ e. refl
       | Some r ↦ λ e. absurd ((none rule.TokenTaken (lit< tt)).0 ((4, lit< tt, refl), ((person, is, (r, e)), (λ same. (none rule.TokenTaken (lit< tt)).1 ((4, lit< tt, refl), same)))))
     ] refl in
-    let released : IsReleasedRound world id = elim round.released as (λ b. round.released ≡ b → IsReleasedRound world id) [
-      | true ↦ λ e. (round, kept, e)
-      | false ↦ λ e. absurd ((none rule.Missing (lit< tt)).0 ((2, lit< tt, refl), inl (λ r other. let same : round ≡ r = let at : Some round ≡ Some r = sym kept ∙ other in cc in (subst (λ (x : Round). x.released ≡ false) same e, and_false _))))
-    ] refl in
+    let released = released_found world caller (action.Submit id number token answer) id refl (λ missing. (none rule.Missing (lit< tt)).0 ((2, lit< tt, refl), inl missing)) in
     let room : answers_given world person.name id number < 50 =
-    below (answers_given world person.name id number) 50 (λ many. (none rule.LimitReached (lit< tt)).0 ((8, lit< tt, refl), (person, is, many))) in
+    lt_of_not-le (λ many. (none rule.LimitReached (lit< tt)).0 ((8, lit< tt, refl), (person, is, many))) in
     let in_range : IsAnswerRow row = record {
       key = record { entrant = (sane.typed.in_range.people person.name person (there person is)).name; round = asked.0; number = asked.1; token = asked.2 };
       n = (omega arith, omega (arith, room));
@@ -116,10 +103,10 @@ allowed_sane world caller (action.PutRound id sheet) t found given new sane ther
 allowed_sane world caller (action.Release id) t found given new sane there timed is none h = release_step world caller id t found given new sane none h
 allowed_sane world caller action.ListRounds t found given new sane there timed is none h = subst Sane (sym h.2.1) sane
 allowed_sane world caller (action.Solutions id) t found given new sane there timed is none h = subst Sane (sym h.1) sane
-allowed_sane world caller (action.Protest id token number text) t found given new sane there timed is none h = absurd h
-allowed_sane world caller (action.Protests id) t found given new sane there timed is none h = absurd h
-allowed_sane world caller (action.Rule id entrant token ruling) t found given new sane there timed is none h = absurd h
-allowed_sane world caller (action.Publish id) t found given new sane there timed is none h = absurd h
+allowed_sane world caller (action.Protest id token number text) t found given new sane there timed is none h = protest_step world caller id token number text t found given new sane there is none h
+allowed_sane world caller (action.Protests id) t found given new sane there timed is none h = subst Sane (sym h.2.1) sane
+allowed_sane world caller (action.Rule id entrant token ruling) t found given new sane there timed is none h = rule_step world caller id entrant token ruling t found given new sane is h
+allowed_sane world caller (action.Publish id) t found given new sane there timed is none h = publish_step world caller id t found given new sane none h
 allowed_sane world caller (action.Table id) t found given new sane there timed is none h = absurd h
 
 -- a step keeps a sane world

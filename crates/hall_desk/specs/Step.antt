@@ -1,5 +1,5 @@
 -- A step of the hall: one request, answered.
-use Rattle.std.specs.Prelude.{◌≡◌, ◌≢◌, ◌+◌, ◌⊎◌, ℕ, Bool, true, false, not, List, Option, Some, map, count_by}
+use Rattle.std.specs.Prelude.{◌≡◌, ◌≢◌, ◌+◌, ◌⊎◌, ℕ, Bool, true, false, not, List, Option, Some, None, map, count_by}
 use Rattle.std.specs.List.{filter}
 use Rattle.std.specs.FinMap.{get, contains_key, insert, values}
 use Rattle.hall_grid.specs.Board.{Board}
@@ -7,7 +7,7 @@ use Rattle.hall_grid.specs.Answer.{AnswerText, Verdict}
 use Rattle.hall_grid.specs.Canonical.{CanonicalText}
 use Rattle.hall_solve.specs.Puzzle.{OutcomeOfPuzzle}
 use Rattle.hall_solve.specs.declared.outcome.Outcome.TheVariants as outcome
-use Rattle.hall_policy.specs.World.{World, IsRoundAt}
+use Rattle.hall_policy.specs.World.{World, IsRoundAt, protest_of}
 use Rattle.hall_policy.specs.Rules.{TheCaller, HasConflict, answers_given}
 use Rattle.hall_policy.specs.First.{First}
 use Rattle.hall_policy.specs.declared.record.Person.{Person}
@@ -19,6 +19,9 @@ use Rattle.hall_policy.specs.declared.record.Round.{Round}
 use Rattle.hall_policy.specs.declared.record.Entry.{Entry}
 use Rattle.hall_policy.specs.declared.record.RoundRow.{RoundRow}
 use Rattle.hall_policy.specs.declared.record.AnswerRow.{AnswerRow}
+use Rattle.hall_policy.specs.declared.record.ProtestKey.{ProtestKey}
+use Rattle.hall_policy.specs.declared.record.ProtestRow.{ProtestRow}
+use Rattle.hall_policy.specs.declared.record.Ruling.{Ruling}
 use Rattle.hall_policy.specs.declared.request.Sheet.{Sheet}
 use Rattle.hall_policy.specs.declared.request.Action.{Action}
 use Rattle.hall_policy.specs.declared.request.Action.TheVariants.{Import, PutPuzzle, ReadPuzzle, ListPuzzles, Certify, PutRound, Release, ListRounds, ReadRound}
@@ -31,6 +34,7 @@ use Rattle.hall_store.specs.Change.{with_people, relisted}
 use Rattle.hall_store.specs.Store.{IsListing}
 use Rattle.hall_desk.specs.Shown.{state_name, sees_puzzle, puzzle_line, sees_round, round_line, ShowsRound}
 use Rattle.hall_desk.specs.Shown.{sees_answer, shows_verdict, answer_line, told_verdict, AreSolutions}
+use Rattle.hall_desk.specs.Shown.{sees_protest, protest_line}
 use Rattle.hall_desk.specs.declared.reply.ShownRound.{ShownRound}
 use Rattle.hall_desk.specs.declared.reply.Reply.{Reply}
 use Rattle.hall_desk.specs.declared.reply.Reply.TheVariants as reply
@@ -179,8 +183,40 @@ AreSolutionsTold world id given =
     (row : RoundRow) × (texts : List (List ℕ)) × IsRoundAt world id row × AreSolutions world row.puzzles texts
     × (given ≡ reply.SolutionList texts)
 
--- what an allowed action answers and changes; `found` is what the search would find if the action ran it. The other
--- actions aren't served yet
+-- a protest as it is first stored: open
+abbrev pub open_protest : Person → List ℕ → List ℕ → ℕ → List ℕ → ProtestRow
+open_protest person round token number text = record {
+  key = record { entrant = person.name; round = round; token = token };
+  number = number;
+  text = text;
+  ruling = None;
+}
+
+-- the protest is stored as open
+abbrev pub IsProtested : World → Person → List ℕ → List ℕ → ℕ → List ℕ → Reply → World → Type 0
+IsProtested world person round token number text given new =
+    let row : ProtestRow = open_protest person round token number text in
+    (given ≡ reply.Protested token) × (new ≡ record world { protests = insert world.protests row.key row })
+
+-- the reply lists all protests that the caller sees, by entrant, then token, and no other
+abbrev pub AreProtestsListed : World → Person → List ℕ → Reply → Type 0
+AreProtestsListed world person id given =
+    given ≡ reply.ProtestList (map protest_line (filter (sees_protest person id) (values world.protests)))
+
+-- the protest is ruled, and the ruling is told
+abbrev pub IsRuledBy : World → List ℕ → List ℕ → List ℕ → Ruling → Reply → World → Type 0
+IsRuledBy world round entrant token ruling given new =
+    (row : ProtestRow) × (protest_of world entrant round token ≡ Some row) × (given ≡ reply.Ruled ruling)
+    × (let key : ProtestKey = record { entrant = entrant; round = round; token = token } in
+    new ≡ record world { protests = insert world.protests key (record row { ruling = Some ruling }) })
+
+-- the round is published
+abbrev pub IsPublishedBy : World → List ℕ → Reply → World → Type 0
+IsPublishedBy world id given new =
+    (round : Round) × (get world.rounds id ≡ Some round) × (given ≡ reply.Published id)
+    × (new ≡ record world { rounds = insert world.rounds id (record round { published = true }) })
+
+-- what an allowed action answers and changes; `found` is what the search would find if the action ran it
 abbrev pub Allowed : World → Option Person → Action → ℕ → PuzzleState → Reply → World → Type 0
 Allowed world caller (PutPuzzle key puzzle) t found given new =
     (text : List ℕ) × CanonicalText text puzzle
@@ -202,10 +238,13 @@ Allowed world caller (PutRound id sheet) t found given new = IsRoundPut world id
 Allowed world caller ListRounds t found given new =
     TheCaller caller (λ person. AreRoundsListed world person given × (new ≡ world))
 Allowed world caller (Solutions id) t found given new = AreSolutionsTold world id given × (new ≡ world)
-Allowed world caller (Protest id token number text) t found given new = ⊥
-Allowed world caller (Protests id) t found given new = ⊥
-Allowed world caller (Rule id entrant token ruling) t found given new = ⊥
-Allowed world caller (Publish id) t found given new = ⊥
+Allowed world caller (Protest id token number text) t found given new =
+    TheCaller caller (λ person. IsProtested world person id token number text given new)
+Allowed world caller (Protests id) t found given new =
+    TheCaller caller (λ person. AreProtestsListed world person id given × (new ≡ world))
+Allowed world caller (Rule id entrant token ruling) t found given new =
+    IsRuledBy world id entrant token ruling given new
+Allowed world caller (Publish id) t found given new = IsPublishedBy world id given new
 Allowed world caller (Table id) t found given new = ⊥
 
 -- the first reply, from the row that stands
@@ -214,6 +253,12 @@ FirstReply world caller (Submit id number token answer) given =
     TheCaller caller (λ person. (round : Round) × (row : AnswerRow) × (get world.rounds id ≡ Some round)
     × (get world.answers (record { entrant = person.name; round = id; number = number; token = token }) ≡ Some row)
     × (given ≡ reply.Received row.n (told_verdict round row.verdict)))
+FirstReply world caller (Protest id token number text) given =
+    TheCaller caller (λ person. (row : ProtestRow) × (protest_of world person.name id token ≡ Some row)
+    × (given ≡ reply.Protested token))
+FirstReply world caller (Rule id entrant token ruling) given =
+    (row : ProtestRow) × (ruled : Ruling) × (protest_of world entrant id token ≡ Some row) × (row.ruling ≡ Some ruled)
+    × (given ≡ reply.Ruled ruled)
 FirstReply world caller _ given = ⊥
 
 -- what each decision answers and changes: a denial and a repetition leave the world
