@@ -12,6 +12,7 @@ use Rattle.hall_policy.specs.declared.record.Round.{Round}
 use Rattle.hall_policy.specs.declared.record.Entry.{Entry}
 use Rattle.hall_policy.specs.declared.record.RoundRow.{RoundRow}
 use Rattle.hall_policy.specs.declared.record.AnswerRow.{AnswerRow}
+use Rattle.hall_policy.specs.declared.record.ProtestRow.{ProtestRow}
 use Rattle.hall_policy.specs.declared.record.Mode.{Mode}
 use Rattle.hall_policy.specs.declared.record.Mode.TheVariants.{Instant, Sealed}
 use Rattle.hall_desk.specs.declared.reply.StateName.{StateName}
@@ -19,6 +20,7 @@ use Rattle.hall_desk.specs.declared.reply.StateName.TheVariants as name
 use Rattle.hall_desk.specs.declared.reply.ShownPuzzle.{ShownPuzzle}
 use Rattle.hall_desk.specs.declared.reply.ShownRound.{ShownRound}
 use Rattle.hall_desk.specs.declared.reply.AnswerLine.{AnswerLine}
+use Rattle.hall_desk.specs.declared.reply.ProtestLine.{ProtestLine}
 use Rattle.hall_desk.specs.declared.reply.PuzzleLine.{PuzzleLine}
 use Rattle.hall_desk.specs.declared.reply.RoundLine.{RoundLine}
 
@@ -110,6 +112,22 @@ answer_line shows row = record {
   number = row.key.number;
   token = row.key.token;
   verdict = if shows then Some row.verdict else None;
+}
+
+-- the caller sees the protest: it is one of the round, and the caller's own or the caller is a director or referee
+abbrev pub sees_protest : Person → List ℕ → ProtestRow → Bool
+sees_protest person id row =
+    same_text row.key.round id
+    && ((person.roles.director || person.roles.referee) || same_text row.key.entrant person.name)
+
+-- a protest as it is listed
+abbrev pub protest_line : ProtestRow → ProtestLine
+protest_line row = record {
+  entrant = row.key.entrant;
+  number = row.number;
+  ruling = row.ruling;
+  text = row.text;
+  token = row.key.token;
 }
 
 -- the verdict that a reply to a Submit tells: none where the round is sealed

@@ -32,7 +32,9 @@ pub use desk::Desk;
 pub use law::{law_accepted_answers, law_sanity, law_tokens};
 pub use opening::opening_store;
 pub use planned::Plan;
-pub use reply::{AnswerLine, PuzzleLine, Reply, RoundLine, ShownPuzzle, ShownRound, StateName};
+pub use reply::{
+    AnswerLine, ProtestLine, PuzzleLine, Reply, RoundLine, ShownPuzzle, ShownRound, StateName,
+};
 pub use rows::Rows;
 pub use search::certify;
 pub use verdict::judge;

@@ -3,7 +3,7 @@ use crate::rows::Rows;
 use hall_grid::Broken;
 use hall_policy::{
     AnswerNumber, AnswerText, Bonus, Minutes, Mode, Moment, Name, Penalty, Points, ProtestMinutes,
-    PuzzleKey, PuzzleNumber, PuzzleText, RoundId, Title, Token,
+    ProtestText, PuzzleKey, PuzzleNumber, PuzzleText, RoundId, Ruling, Title, Token,
 };
 
 /// What is told of a puzzle's state.
@@ -71,6 +71,17 @@ pub struct AnswerLine {
     pub verdict: Option<Broken>,
 }
 
+/// A protest, as it is listed.
+#[derive(Drop)]
+pub struct ProtestLine {
+    pub entrant: Name,
+    pub number: PuzzleNumber,
+    /// None while the protest is open.
+    pub ruling: Option<Ruling>,
+    pub text: ProtestText,
+    pub token: Token,
+}
+
 /// The reply to a request.
 #[derive(Drop)]
 pub enum Reply {
@@ -112,4 +123,12 @@ pub enum Reply {
     AnswerList(Rows<AnswerLine>),
     /// The solutions of the round's puzzles, by number.
     SolutionList(Rows<AnswerText>),
+    /// The token of the protest that was stored.
+    Protested(Token),
+    /// The protests that the caller sees, by entrant, then token.
+    ProtestList(Rows<ProtestLine>),
+    /// How the protest was ruled.
+    Ruled(Ruling),
+    /// The id of the round that was published.
+    Published(RoundId),
 }
