@@ -44,3 +44,4 @@ replies_whole (reply.Protested token) = refl
 replies_whole (reply.ProtestList lines) = rw (listed_whole protest_data protest_whole lines) refl
 replies_whole (reply.Ruled ruling) = ruled_whole ruling
 replies_whole (reply.Published id) = refl
+replies_whole (reply.Table text) = refl

@@ -1,6 +1,6 @@
 -- The replies of the hall: a status and a JSON body, as bytes.
-use Rattle.std.specs.Prelude.{◌≡◌, ℕ, ℤ, pos, Bool, ◌==◌, ◌++◌, List, map, if◌then◌else◌, Option, Some, None, codes, decimal, length}
-use Rattle.serde_json.specs.Data.{Data, boolean, number, string, object, array, unsigned, Members, no_members, member}
+use Rattle.std.specs.Prelude.{◌≡◌, ⊤, ℕ, ℤ, pos, Bool, ◌==◌, ◌++◌, List, map, if◌then◌else◌, Option, Some, None, codes, decimal, length}
+use Rattle.serde_json.specs.Data.{Data, null, boolean, number, string, object, array, unsigned, Members, no_members, member}
 use Rattle.serde_json.specs.View.{items_of}
 use Rattle.serde_json.specs.Find.{of_integer}
 use Rattle.serde_json.specs.Written.{compact_text}
@@ -232,7 +232,7 @@ denied_data rule = object (number_member (codes "denied") rule no_members)
 abbrev pub unavailable_data : Data
 unavailable_data = object (text_member (codes "fault") (codes "hall") no_members)
 
--- the body of a reply
+-- the JSON of a reply's body; a table has none
 abbrev pub reply_data : Reply → Data
 reply_data (reply.Denied rule) = denied_data rule
 reply_data reply.Unavailable = unavailable_data
@@ -252,6 +252,7 @@ reply_data (reply.Protested token) = protested_data token
 reply_data (reply.ProtestList lines) = protests_data lines
 reply_data (reply.Ruled ruling) = ruled_data ruling
 reply_data (reply.Published id) = published_data id
+reply_data (reply.Table text) = null
 
 -- 404 where the object isn't there, 403 for any other denial
 abbrev pub denied_status : ℕ → Status
@@ -314,8 +315,15 @@ abbrev pub fault_status : FormFault → Status
 fault_status fault.NoRoute = status.NotFound
 fault_status _ = status.BadRequest
 
--- the bytes of a reply
+-- the reply is told in JSON, and made for it: all are but a table, and want of memory, whose bytes stand ready
+abbrev pub IsJson : Reply → Type 0
+IsJson (reply.Table text) = ⊥
+IsJson reply.Unavailable = ⊥
+IsJson given = ⊤
+
+-- the bytes of a reply: a table is plain text, all else is JSON
 abbrev pub BytesOf : Reply → List ℕ → Type 0
+BytesOf (reply.Table text) bytes = bytes ≡ wire_bytes status.Ok media.Plain text
 BytesOf given bytes = bytes ≡ wire_bytes (reply_status given) media.Json (compact_text (reply_data given))
 
 -- the bytes of the reply to bytes that are no request

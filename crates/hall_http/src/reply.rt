@@ -11,7 +11,7 @@ ghost use Rattle.hall_http.specs.Reply.{ruled_data, published_data};
 ghost use Rattle.hall_http.specs.Reply.{round_data, received_data, answer_data, answers_data, denied_data};
 ghost use Rattle.hall_http.specs.Reply.{reply_data, reply_status, denied_status, field_text};
 ghost use Rattle.hall_http.specs.Reply.{form_data, field_data, place_data, puzzle_fault_data, fault_data, fault_status};
-ghost use Rattle.hall_http.specs.Reply.{head_bytes, wire_bytes, BytesOf, FaultBytesOf};
+ghost use Rattle.hall_http.specs.Reply.{head_bytes, wire_bytes, IsJson, BytesOf, FaultBytesOf};
 
 use crate::form::{Field, FormFault, PuzzleFault};
 use crate::status::{MediaType, Status};
@@ -32,9 +32,18 @@ pub(crate) const UNAVAILABLE: &str =
 pub(crate) fn reply_bytes(alloc: Global, reply: &Reply) -> Result<String, AllocError>
     ensures { IfOk result (λ bytes. BytesOf reply.now (string_bytes bytes)) }
 {
-    if let Reply::Unavailable = reply {
-        return String::from_str(alloc, UNAVAILABLE);
+    match reply {
+        Reply::Unavailable => String::from_str(alloc, UNAVAILABLE),
+        Reply::Table(text) => write_reply(alloc, Status::Ok, MediaType::Plain, text.as_str()),
+        _ => told_bytes(alloc, reply),
     }
+}
+
+/// The bytes of a reply that is told in JSON.
+fn told_bytes(alloc: Global, reply: &Reply) -> Result<String, AllocError>
+    requires { IsJson reply.now }
+    ensures { IfOk result (λ bytes. BytesOf reply.now (string_bytes bytes)) }
+{
     let body = reply_body(alloc, reply)?;
     json_bytes(alloc, reply_status(reply), &body)
 }
@@ -86,7 +95,7 @@ fn push_head(bytes: &mut String, status: Status, media: MediaType) -> Result<(),
 
 /// The status of a reply.
 fn reply_status(reply: &Reply) -> Status
-    requires { reply.now ≢ Reply.Unavailable }
+    requires { IsJson reply.now }
     ensures { result ≡ reply_status reply.now }
 {
     match reply {
@@ -108,6 +117,7 @@ fn reply_status(reply: &Reply) -> Status
         | Reply::ProtestList(_)
         | Reply::Ruled(_)
         | Reply::Published(_) => Status::Ok,
+        Reply::Table(_) => unreachable!(),
     }
 }
 
@@ -139,7 +149,7 @@ fn fault_status(fault: FormFault) -> Status
 
 /// The body of a reply.
 fn reply_body(alloc: Global, reply: &Reply) -> Result<Value, AllocError>
-    requires { reply.now ≢ Reply.Unavailable }
+    requires { IsJson reply.now }
     ensures { IfOk result (λ body. view body ≡ reply_data reply.now) }
 {
     match reply {
@@ -161,6 +171,7 @@ fn reply_body(alloc: Global, reply: &Reply) -> Result<Value, AllocError>
         Reply::ProtestList(lines) => protests_body(alloc, lines.as_slice()),
         Reply::Ruled(ruling) => ruled_body(alloc, *ruling),
         Reply::Published(round) => published_body(alloc, round.as_str()),
+        Reply::Table(_) => unreachable!(),
     }
 }
 
