@@ -34,6 +34,7 @@ pub use opening::opening_store;
 pub use planned::Plan;
 pub use reply::{
     AnswerLine, ProtestLine, PuzzleLine, Reply, RoundLine, ShownPuzzle, ShownRound, StateName,
+    TableText,
 };
 pub use rows::Rows;
 pub use search::certify;

@@ -1,10 +1,13 @@
 //! What the hall answers.
+ghost use Rattle.std.specs.Prelude.{◌≡◌, string_bytes};
+
 use crate::rows::Rows;
 use hall_grid::Broken;
 use hall_policy::{
     AnswerNumber, AnswerText, Bonus, Minutes, Mode, Moment, Name, Penalty, Points, ProtestMinutes,
     ProtestText, PuzzleKey, PuzzleNumber, PuzzleText, RoundId, Ruling, Title, Token,
 };
+use std::marker::Model;
 
 /// What is told of a puzzle's state.
 #[derive(Clone, Copy, Debug, PartialEq, Eq)]
@@ -82,6 +85,36 @@ pub struct ProtestLine {
     pub token: Token,
 }
 
+/// The text of a table; a contract sees its bytes.
+#[derive(Drop)]
+pub struct TableText {
+    text: String,
+}
+
+impl Model for TableText {
+    ghost use Rattle.std.specs.Prelude.{ℕ, List, string_bytes};
+
+    ghost Value = { List ℕ };
+
+    ghost view = { λ t. string_bytes t.text };
+}
+
+impl TableText {
+    /// This text.
+    pub fn new(text: String) -> TableText
+        ensures { result ≡ string_bytes text }
+    {
+        TableText { text }
+    }
+
+    /// The text.
+    pub fn as_str(&self) -> &str
+        ensures { result.now ≡ self.now }
+    {
+        self.text.as_str()
+    }
+}
+
 /// The reply to a request.
 #[derive(Drop)]
 pub enum Reply {
@@ -131,4 +164,6 @@ pub enum Reply {
     Ruled(Ruling),
     /// The id of the round that was published.
     Published(RoundId),
+    /// The table of a round.
+    Table(TableText),
 }

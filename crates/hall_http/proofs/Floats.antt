@@ -1,11 +1,14 @@
 -- No body of a reply has a number with a fraction.
-use Rattle.std.proofs.Common.{◌≡◌, refl, ℕ, List, [], ◌∷◌, map, false, Option, Some, None}
+use Rattle.std.proofs.Common.{◌≡◌, ◌||◌, refl, ℕ, ℤ, pos, negsuc, List, [], ◌∷◌, map, false, Option, Some, None}
 use Rattle.serde_json.specs.View.{items_of}
+use Rattle.serde_json.specs.Find.{of_integer, is_float}
+use Rattle.hall_policy.specs.declared.record.Ruling.{Ruling}
+use Rattle.hall_desk.specs.declared.reply.ProtestLine.{ProtestLine}
 use Rattle.serde_json.specs.Written.{has_float, items_have_float, members_have_float}
 use Rattle.hall_desk.specs.declared.reply.Reply.{Reply}
 use Rattle.hall_desk.specs.declared.reply.Reply.TheVariants as reply
 use Rattle.serde_json.specs.Data.{Data, string}
-use Rattle.hall_http.specs.Reply.{listed_puzzle_data, listed_round_data, puzzle_data, answer_data, verdict_member, reply_data}
+use Rattle.hall_http.specs.Reply.{listed_puzzle_data, listed_round_data, puzzle_data, answer_data, protest_data, ruled_data, ruling_points, verdict_member, reply_data}
 
 -- nor has a list of bodies, where none of them has
 listed_whole : {X : Type 0} (body : X → Data) → ((x : X) → has_float (body x) ≡ false) → (xs : List X) → items_have_float (items_of (map body xs)) ≡ false
@@ -15,6 +18,12 @@ listed_whole body whole (x ∷ xs) = rw (whole x) (listed_whole body whole xs)
 verdict_whole : (v : Option ℕ) → members_have_float (verdict_member v) ≡ false
 verdict_whole None = refl
 verdict_whole (Some names) = refl
+
+protest_whole : (line : ProtestLine) → has_float (protest_data line) ≡ false
+protest_whole line = elim (ruling_points line.ruling) as (λ (n : ℤ). (is_float (of_integer n) || false) ≡ false) [ pos n ↦ refl | negsuc n ↦ refl ]
+
+ruled_whole : (ruling : Ruling) → has_float (ruled_data ruling) ≡ false
+ruled_whole ruling = elim (ruling_points (Some ruling)) as (λ (n : ℤ). (is_float (of_integer n) || false) ≡ false) [ pos n ↦ refl | negsuc n ↦ refl ]
 
 pub replies_whole : (r : Reply) → has_float (reply_data r) ≡ false
 replies_whole (reply.Denied rule) = refl
@@ -31,3 +40,8 @@ replies_whole (reply.RoundRead round) = rw (listed_whole puzzle_data (λ puzzle.
 replies_whole (reply.Received n verdict) = verdict_whole verdict
 replies_whole (reply.AnswerList lines) = rw (listed_whole answer_data (λ line. verdict_whole line.verdict) lines) refl
 replies_whole (reply.SolutionList texts) = rw (listed_whole string (λ text. refl) texts) refl
+replies_whole (reply.Protested token) = refl
+replies_whole (reply.ProtestList lines) = rw (listed_whole protest_data protest_whole lines) refl
+replies_whole (reply.Ruled ruling) = ruled_whole ruling
+replies_whole (reply.Published id) = refl
+replies_whole (reply.Table text) = refl

@@ -1,17 +1,21 @@
 -- The replies of the hall: a status and a JSON body, as bytes.
-use Rattle.std.specs.Prelude.{◌≡◌, ℕ, Bool, ◌==◌, ◌++◌, List, map, if◌then◌else◌, Option, Some, None, codes, decimal, length}
-use Rattle.serde_json.specs.Data.{Data, boolean, number, string, object, array, unsigned, Members, no_members, member}
+use Rattle.std.specs.Prelude.{◌≡◌, ⊤, ℕ, ℤ, pos, Bool, ◌==◌, ◌++◌, List, map, if◌then◌else◌, Option, Some, None, codes, decimal, length}
+use Rattle.serde_json.specs.Data.{Data, null, boolean, number, string, object, array, unsigned, Members, no_members, member}
 use Rattle.serde_json.specs.View.{items_of}
+use Rattle.serde_json.specs.Find.{of_integer}
 use Rattle.serde_json.specs.Written.{compact_text}
 use Rattle.hall_grid.specs.Rule.{verdict_text}
 use Rattle.hall_policy.specs.declared.record.PuzzleKey.{PuzzleKey}
 use Rattle.hall_policy.specs.declared.record.Mode.{Mode}
 use Rattle.hall_policy.specs.declared.record.Mode.TheVariants.{Instant, Sealed}
+use Rattle.hall_policy.specs.declared.record.Ruling.{Ruling}
+use Rattle.hall_policy.specs.declared.record.Ruling.TheVariants.{Upheld, Rejected}
 use Rattle.hall_desk.specs.declared.reply.StateName.{StateName}
 use Rattle.hall_desk.specs.declared.reply.StateName.TheVariants as state
 use Rattle.hall_desk.specs.declared.reply.ShownPuzzle.{ShownPuzzle}
 use Rattle.hall_desk.specs.declared.reply.ShownRound.{ShownRound}
 use Rattle.hall_desk.specs.declared.reply.AnswerLine.{AnswerLine}
+use Rattle.hall_desk.specs.declared.reply.ProtestLine.{ProtestLine}
 use Rattle.hall_desk.specs.declared.reply.PuzzleLine.{PuzzleLine}
 use Rattle.hall_desk.specs.declared.reply.RoundLine.{RoundLine}
 use Rattle.hall_desk.specs.declared.reply.Reply.{Reply}
@@ -176,6 +180,50 @@ answers_data lines = object (member (codes "answers") (array (items_of (map answ
 abbrev pub solutions_data : List (List ℕ) → Data
 solutions_data texts = object (member (codes "solutions") (array (items_of (map string texts))) no_members)
 
+-- {"protest":K}
+abbrev pub protested_data : List ℕ → Data
+protested_data token = object (text_member (codes "protest") token no_members)
+
+-- what a ruling is called, and an open protest
+abbrev pub ruling_text : Option Ruling → List ℕ
+ruling_text None = codes "open"
+ruling_text (Some (Upheld points)) = codes "upheld"
+ruling_text (Some Rejected) = codes "rejected"
+
+-- the points of a ruling: 0 where the protest isn't upheld
+abbrev pub ruling_points : Option Ruling → ℤ
+ruling_points None = pos 0
+ruling_points (Some (Upheld points)) = points
+ruling_points (Some Rejected) = pos 0
+
+-- a member that is a whole number, before further members
+abbrev pub integer_member : List ℕ → ℤ → Members → Members
+integer_member name n more = member name (number (of_integer n)) more
+
+-- a protest's members in the order of their names, the last being its token
+abbrev pub protest_data : ProtestLine → Data
+protest_data p = object (
+    text_member (codes "entrant") p.entrant (
+    number_member (codes "number") p.number (
+    integer_member (codes "points") (ruling_points p.ruling) (
+    text_member (codes "ruling") (ruling_text p.ruling) (
+    text_member (codes "text") p.text (
+    text_member (codes "token") p.token no_members))))))
+
+-- {"protests":[P,..]}
+abbrev pub protests_data : List ProtestLine → Data
+protests_data lines = object (member (codes "protests") (array (items_of (map protest_data lines))) no_members)
+
+-- {"points":N,"ruled":U}
+abbrev pub ruled_data : Ruling → Data
+ruled_data ruling = object (
+    integer_member (codes "points") (ruling_points (Some ruling)) (
+    text_member (codes "ruled") (ruling_text (Some ruling)) no_members))
+
+-- {"published":R}
+abbrev pub published_data : List ℕ → Data
+published_data id = object (text_member (codes "published") id no_members)
+
 -- {"denied":K}
 abbrev pub denied_data : ℕ → Data
 denied_data rule = object (number_member (codes "denied") rule no_members)
@@ -184,7 +232,7 @@ denied_data rule = object (number_member (codes "denied") rule no_members)
 abbrev pub unavailable_data : Data
 unavailable_data = object (text_member (codes "fault") (codes "hall") no_members)
 
--- the body of a reply
+-- the JSON of a reply's body; a table has none
 abbrev pub reply_data : Reply → Data
 reply_data (reply.Denied rule) = denied_data rule
 reply_data reply.Unavailable = unavailable_data
@@ -200,6 +248,11 @@ reply_data (reply.RoundRead round) = round_data round
 reply_data (reply.Received n verdict) = received_data n verdict
 reply_data (reply.AnswerList lines) = answers_data lines
 reply_data (reply.SolutionList texts) = solutions_data texts
+reply_data (reply.Protested token) = protested_data token
+reply_data (reply.ProtestList lines) = protests_data lines
+reply_data (reply.Ruled ruling) = ruled_data ruling
+reply_data (reply.Published id) = published_data id
+reply_data (reply.Table text) = null
 
 -- 404 where the object isn't there, 403 for any other denial
 abbrev pub denied_status : ℕ → Status
@@ -262,8 +315,15 @@ abbrev pub fault_status : FormFault → Status
 fault_status fault.NoRoute = status.NotFound
 fault_status _ = status.BadRequest
 
--- the bytes of a reply
+-- the reply is told in JSON, and made for it: all are but a table, and want of memory, whose bytes stand ready
+abbrev pub IsJson : Reply → Type 0
+IsJson (reply.Table text) = ⊥
+IsJson reply.Unavailable = ⊥
+IsJson given = ⊤
+
+-- the bytes of a reply: a table is plain text, all else is JSON
 abbrev pub BytesOf : Reply → List ℕ → Type 0
+BytesOf (reply.Table text) bytes = bytes ≡ wire_bytes status.Ok media.Plain text
 BytesOf given bytes = bytes ≡ wire_bytes (reply_status given) media.Json (compact_text (reply_data given))
 
 -- the bytes of the reply to bytes that are no request

@@ -6,16 +6,20 @@ ghost use Rattle.serde_json.specs.Written.{has_float, compact_text};
 ghost use Rattle.hall_http.specs.Reply.{state_text, mode_text, imported_data, put_data, read_data, certified_data};
 ghost use Rattle.hall_http.specs.Reply.{listed_puzzle_data, puzzles_data, drafted_data, released_data, puzzle_data};
 ghost use Rattle.hall_http.specs.Reply.{listed_round_data, rounds_data, solutions_data, sheet_fault_data};
+ghost use Rattle.hall_http.specs.Reply.{protested_data, ruling_text, ruling_points, protest_data, protests_data};
+ghost use Rattle.hall_http.specs.Reply.{ruled_data, published_data};
 ghost use Rattle.hall_http.specs.Reply.{round_data, received_data, answer_data, answers_data, denied_data};
 ghost use Rattle.hall_http.specs.Reply.{reply_data, reply_status, denied_status, field_text};
 ghost use Rattle.hall_http.specs.Reply.{form_data, field_data, place_data, puzzle_fault_data, fault_data, fault_status};
-ghost use Rattle.hall_http.specs.Reply.{head_bytes, wire_bytes, BytesOf, FaultBytesOf};
+ghost use Rattle.hall_http.specs.Reply.{head_bytes, wire_bytes, IsJson, BytesOf, FaultBytesOf};
 
 use crate::form::{Field, FormFault, PuzzleFault};
 use crate::status::{MediaType, Status};
-use hall_desk::{AnswerLine, PuzzleLine, Reply, RoundLine, ShownPuzzle, ShownRound, StateName};
+use hall_desk::{
+    AnswerLine, ProtestLine, PuzzleLine, Reply, RoundLine, ShownPuzzle, ShownRound, StateName,
+};
 use hall_grid::Broken;
-use hall_policy::{AnswerNumber, AnswerText, Mode, PuzzleKey};
+use hall_policy::{AnswerNumber, AnswerText, Mode, PuzzleKey, Ruling};
 use hall_sheet::Refusal;
 use serde_json::{Value, json};
 use std::alloc::{AllocError, Global};
@@ -28,9 +32,18 @@ pub(crate) const UNAVAILABLE: &str =
 pub(crate) fn reply_bytes(alloc: Global, reply: &Reply) -> Result<String, AllocError>
     ensures { IfOk result (λ bytes. BytesOf reply.now (string_bytes bytes)) }
 {
-    if let Reply::Unavailable = reply {
-        return String::from_str(alloc, UNAVAILABLE);
+    match reply {
+        Reply::Unavailable => String::from_str(alloc, UNAVAILABLE),
+        Reply::Table(text) => write_reply(alloc, Status::Ok, MediaType::Plain, text.as_str()),
+        _ => told_bytes(alloc, reply),
     }
+}
+
+/// The bytes of a reply that is told in JSON.
+fn told_bytes(alloc: Global, reply: &Reply) -> Result<String, AllocError>
+    requires { IsJson reply.now }
+    ensures { IfOk result (λ bytes. BytesOf reply.now (string_bytes bytes)) }
+{
     let body = reply_body(alloc, reply)?;
     json_bytes(alloc, reply_status(reply), &body)
 }
@@ -82,7 +95,7 @@ fn push_head(bytes: &mut String, status: Status, media: MediaType) -> Result<(),
 
 /// The status of a reply.
 fn reply_status(reply: &Reply) -> Status
-    requires { reply.now ≢ Reply.Unavailable }
+    requires { IsJson reply.now }
     ensures { result ≡ reply_status reply.now }
 {
     match reply {
@@ -99,7 +112,12 @@ fn reply_status(reply: &Reply) -> Status
         | Reply::RoundRead(_)
         | Reply::Received { .. }
         | Reply::AnswerList(_)
-        | Reply::SolutionList(_) => Status::Ok,
+        | Reply::SolutionList(_)
+        | Reply::Protested(_)
+        | Reply::ProtestList(_)
+        | Reply::Ruled(_)
+        | Reply::Published(_) => Status::Ok,
+        Reply::Table(_) => unreachable!(),
     }
 }
 
@@ -131,7 +149,7 @@ fn fault_status(fault: FormFault) -> Status
 
 /// The body of a reply.
 fn reply_body(alloc: Global, reply: &Reply) -> Result<Value, AllocError>
-    requires { reply.now ≢ Reply.Unavailable }
+    requires { IsJson reply.now }
     ensures { IfOk result (λ body. view body ≡ reply_data reply.now) }
 {
     match reply {
@@ -149,6 +167,11 @@ fn reply_body(alloc: Global, reply: &Reply) -> Result<Value, AllocError>
         Reply::Received { n, verdict } => received_body(alloc, *n, *verdict),
         Reply::AnswerList(lines) => answers_body(alloc, lines.as_slice()),
         Reply::SolutionList(texts) => solutions_body(alloc, texts.as_slice()),
+        Reply::Protested(token) => protested_body(alloc, token.as_str()),
+        Reply::ProtestList(lines) => protests_body(alloc, lines.as_slice()),
+        Reply::Ruled(ruling) => ruled_body(alloc, *ruling),
+        Reply::Published(round) => published_body(alloc, round.as_str()),
+        Reply::Table(_) => unreachable!(),
     }
 }
 
@@ -397,6 +420,78 @@ fn solutions_body(alloc: Global, texts: &[AnswerText]) -> Result<Value, AllocErr
 {
     let solutions = solution_bodies(alloc, texts)?;
     json!(in alloc; {"solutions": solutions})
+}
+
+fn protested_body(alloc: Global, token: &str) -> Result<Value, AllocError>
+    ensures { IfOk result (λ body. view body ≡ protested_data token.now) }
+{
+    json!(in alloc; {"protest": token})
+}
+
+/// What a ruling is called, and an open protest.
+fn ruling_text(ruling: Option<Ruling>) -> &'static str
+    ensures { result.now ≡ ruling_text ruling }
+{
+    match ruling {
+        None => "open",
+        Some(Ruling::Upheld(_)) => "upheld",
+        Some(Ruling::Rejected) => "rejected",
+    }
+}
+
+/// The points of a ruling: 0 where the protest isn't upheld.
+fn ruling_points(ruling: &Option<Ruling>) -> i16
+    ensures { result ≡ ruling_points ruling.now }
+{
+    match ruling {
+        Some(Ruling::Upheld(points)) => points.get(),
+        Some(Ruling::Rejected) | None => 0,
+    }
+}
+
+fn protest_body(alloc: Global, line: &ProtestLine) -> Result<Value, AllocError>
+    ensures { IfOk result (λ body. view body ≡ protest_data line.now) }
+{
+    json!(in alloc; {
+        "entrant": (line.entrant.as_str()),
+        "number": (line.number.get()),
+        "points": (ruling_points(&line.ruling)),
+        "ruling": (ruling_text(line.ruling)),
+        "text": (line.text.as_str()),
+        "token": (line.token.as_str())
+    })
+}
+
+fn protest_bodies(alloc: Global, lines: &[ProtestLine]) -> Result<Vec<Value>, AllocError>
+    ensures { IfOk result (λ bodies. map view bodies.items ≡ map protest_data lines.now) }
+{
+    let mut bodies = Vec::new(alloc);
+    for line in lines {
+        bodies.push(protest_body(alloc, line)?)?;
+    }
+    Ok(bodies)
+}
+
+fn protests_body(alloc: Global, lines: &[ProtestLine]) -> Result<Value, AllocError>
+    ensures { IfOk result (λ body. view body ≡ protests_data lines.now) }
+{
+    let protests = protest_bodies(alloc, lines)?;
+    json!(in alloc; {"protests": protests})
+}
+
+fn ruled_body(alloc: Global, ruling: Ruling) -> Result<Value, AllocError>
+    ensures { IfOk result (λ body. view body ≡ ruled_data ruling) }
+{
+    json!(in alloc; {
+        "points": (ruling_points(&Some(ruling))),
+        "ruled": (ruling_text(Some(ruling)))
+    })
+}
+
+fn published_body(alloc: Global, round: &str) -> Result<Value, AllocError>
+    ensures { IfOk result (λ body. view body ≡ published_data round.now) }
+{
+    json!(in alloc; {"published": round})
 }
 
 /// The member that a fault names.
