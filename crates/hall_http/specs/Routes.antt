@@ -82,7 +82,7 @@ puzzle_number text =
 
 -- the route, where the method is this one
 abbrev pub by_method : List ℕ → List ℕ → Route → Result Route FormFault
-by_method name method found = if bytes_eq method name then Ok found else Err fault.NoRoute
+by_method method name found = if bytes_eq method name then Ok found else Err fault.NoRoute
 
 -- what the parameters of a route took of the path, each with its name
 abbrev pub parameters : List ℕ → RouteOf Place → List (List ℕ × List ℕ)
@@ -121,13 +121,13 @@ puzzle_key_in p =
 abbrev pub puzzle_route : List ℕ → PuzzleKey → Result Route FormFault
 puzzle_route method key =
     if bytes_eq method (codes "PUT") then Ok (route.PutPuzzle key)
-    else by_method (codes "GET") method (route.ReadPuzzle key)
+    else by_method method (codes "GET") (route.ReadPuzzle key)
 
 -- what a method asks of a round: PUT stores its draft, GET reads it
 abbrev pub round_route : List ℕ → List ℕ → Result Route FormFault
 round_route method id =
     if bytes_eq method (codes "PUT") then Ok (route.PutRound id)
-    else by_method (codes "GET") method (route.ReadRound id)
+    else by_method method (codes "GET") (route.ReadRound id)
 
 -- the answer to be handed in: its round, its puzzle's number and its token
 abbrev pub answer_route : Parts → Result Route FormFault
@@ -139,17 +139,17 @@ answer_route p =
 
 -- what the place and its parts name, by the method
 abbrev pub route_at : List ℕ → Place → Parts → Result Route FormFault
-route_at method place.People p = by_method (codes "POST") method route.Import
-route_at method place.Puzzles p = by_method (codes "GET") method route.ListPuzzles
+route_at method place.People p = by_method method (codes "POST") route.Import
+route_at method place.Puzzles p = by_method method (codes "GET") route.ListPuzzles
 route_at method place.Puzzle p = puzzle_key_in p >>= puzzle_route method
 route_at method place.Certificate p =
-    puzzle_key_in p >>= (λ key. by_method (codes "POST") method (route.Certify key))
-route_at method place.Rounds p = by_method (codes "GET") method route.ListRounds
+    puzzle_key_in p >>= (λ key. by_method method (codes "POST") (route.Certify key))
+route_at method place.Rounds p = by_method method (codes "GET") route.ListRounds
 route_at method place.Round p = word_in p.first >>= round_route method
-route_at method place.Release p = word_in p.first >>= (λ id. by_method (codes "POST") method (route.Release id))
-route_at method place.Answers p = word_in p.first >>= (λ id. by_method (codes "GET") method (route.Answers id))
-route_at method place.Answer p = answer_route p >>= by_method (codes "PUT") method
-route_at method place.Solutions p = word_in p.first >>= (λ id. by_method (codes "GET") method (route.Solutions id))
+route_at method place.Release p = word_in p.first >>= (λ id. by_method method (codes "POST") (route.Release id))
+route_at method place.Answers p = word_in p.first >>= (λ id. by_method method (codes "GET") (route.Answers id))
+route_at method place.Answer p = answer_route p >>= by_method method (codes "PUT")
+route_at method place.Solutions p = word_in p.first >>= (λ id. by_method method (codes "GET") (route.Solutions id))
 route_at method place.Protests p = Err fault.NoRoute
 route_at method place.Protest p = Err fault.NoRoute
 route_at method place.Ruling p = Err fault.NoRoute

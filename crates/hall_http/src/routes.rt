@@ -183,7 +183,7 @@ fn find<'p>(routes: &Routes, path: &'p str) -> Option<(Place, Parts<'p>)>
 
 /// The route, where the method is this one.
 fn by_method(method: &[u8], name: &[u8], route: Route) -> Result<Route, RequestFault>
-    ensures { Gives (λ r. r) result (by_method name.now method.now route) }
+    ensures { Gives (λ r. r) result (by_method method.now name.now route) }
 {
     if method == name {
         Ok(route)
