@@ -1,0 +1,7 @@
+//! The points of a contest round: an entrant's total, the standings, and their table.
+#![tactic(auto)]
+
+mod points;
+mod ranking;
+
+pub use ranking::Line;
