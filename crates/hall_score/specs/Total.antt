@@ -67,13 +67,14 @@ are_all_solved round rows = list_all (is_solved round rows) (range_with_len 1 (l
 abbrev pub last_moment : RoundRow → List AnswerRow → ℕ
 last_moment round rows = fold max 0 (map (λ row. row.moment) (filter (does_score round rows) rows))
 
--- where each puzzle is solved, the bonus for each whole minute from the last moment to the end,
--- rounded down also where the last moment lies after the end
+-- the whole minutes from the last moment to the end, rounded down also where the last moment lies after the end
+abbrev pub minutes_left : RoundRow → List AnswerRow → ℤ
+minutes_left round rows = int_div_euclid (pos (end_of round.round) -ℤ pos (last_moment round rows)) (pos 60)
+
+-- where each puzzle is solved, the bonus for each minute that is left
 abbrev pub bonus_of : RoundRow → List AnswerRow → ℤ
 bonus_of round rows =
-    if are_all_solved round rows
-    then pos round.round.bonus *ℤ int_div_euclid (pos (end_of round.round) -ℤ pos (last_moment round rows)) (pos 60)
-    else pos 0
+    if are_all_solved round rows then pos round.round.bonus *ℤ minutes_left round rows else pos 0
 
 -- the points of an upheld protest, and none of another
 abbrev pub ruling_points : Option Ruling → ℤ

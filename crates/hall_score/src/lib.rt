@@ -4,4 +4,5 @@
 mod points;
 mod ranking;
 
+pub use points::total;
 pub use ranking::Line;

@@ -1,11 +1,11 @@
 //! An entrant's points in a round.
-ghost use Rattle.std.specs.Prelude.{◌≡◌, ◌≤◌, ◌<◌, ◌*◌, ◌==◌, ◌&&◌, ◌≤ℤ◌, not, nat_lt, pos, neg_ℤ, length};
-ghost use Rattle.std.specs.Prelude.{sum_by, option_copied};
+ghost use Rattle.std.specs.Prelude.{◌≡◌, ◌≤◌, ◌<◌, ◌*◌, ◌==◌, ◌&&◌, ◌≤ℤ◌, negsuc, not, nat_lt, pos, neg_ℤ, length};
+ghost use Rattle.std.specs.Prelude.{sum_by, option_copied, unsigned_abs};
 ghost use Rattle.std.specs.List.{list_any};
 ghost use Rattle.hall_policy.specs.World.{entry_at};
 ghost use Rattle.hall_score.specs.Total.{is_right, same_puzzle, does_count, wrong_before, cost_of, points_of};
 ghost use Rattle.hall_score.specs.Total.{does_score, points_for, is_solved, are_all_solved, last_moment};
-ghost use Rattle.hall_score.specs.Total.{bonus_of, ruling_points, protest_points, total_of};
+ghost use Rattle.hall_score.specs.Total.{minutes_left, bonus_of, ruling_points, protest_points, total_of};
 
 use hall_policy::{AnswerRow, Entry, Mode, ProtestRow, PuzzleNumber, RoundRow, Ruling};
 
@@ -141,11 +141,76 @@ fn are_all_solved(round: &RoundRow, answers: &[AnswerRow]) -> bool
 
 /// The greatest moment of the answers that score, and 0 where none does.
 fn last_moment(round: &RoundRow, answers: &[AnswerRow]) -> u64
-    ensures { result ≡ last_moment round.now answers.now }
+    ensures value { result ≡ last_moment round.now answers.now }
+    ensures bound { result ≤ 4102444800 }
 {
-    answers
-        .iter()
-        .filter(|row| does_score(round, answers, row))
-        .map(|row| row.moment.get())
-        .fold(0, |last, moment| last.max(moment))
+    let mut last = 0;
+    for row in answers {
+        if does_score(round, answers, row) {
+            last = last.max(row.moment.get());
+        }
+    }
+    last
+}
+
+/// The whole minutes from the last answer that scores to the end, rounded down; below 0 where it came after the end.
+fn minutes_left(round: &RoundRow, answers: &[AnswerRow]) -> i64
+    ensures value { result ≡ minutes_left round.now answers.now }
+    ensures bound { unsigned_abs result ≤ 100000000 }
+{
+    let left = round.round.end() as i64 - last_moment(round, answers) as i64;
+    left.div_euclid(60)
+}
+
+/// The bonus for the minutes that are left, where each puzzle is solved.
+fn bonus_of(round: &RoundRow, answers: &[AnswerRow]) -> i64
+    ensures value { result ≡ bonus_of round.now answers.now }
+    ensures bound { unsigned_abs result ≤ 100000000000 }
+{
+    if are_all_solved(round, answers) {
+        round.round.bonus.get() as i64 * minutes_left(round, answers)
+    } else {
+        0
+    }
+}
+
+/// The points of an upheld protest, and none of another.
+fn ruling_points(row: &ProtestRow) -> i64
+    ensures value { result ≡ ruling_points row.now.ruling }
+    ensures least { negsuc 999 ≤ℤ result }
+    ensures most { result ≤ℤ pos 1000 }
+{
+    match &row.ruling {
+        Some(Ruling::Upheld(points)) => i64::from(points.get()),
+        _ => 0,
+    }
+}
+
+/// The points of the upheld protests together.
+fn protest_points(protests: &[ProtestRow]) -> i64
+    requires { length protests.now ≤ 4294967295 }
+    ensures value { result ≡ protest_points protests.now }
+    ensures least { neg_ℤ (pos (length protests.now * 1000)) ≤ℤ result }
+    ensures most { result ≤ℤ pos (length protests.now * 1000) }
+{
+    let mut points = 0;
+    for row in protests {
+        points += ruling_points(row);
+    }
+    points
+}
+
+/// An entrant's total in a round: the points of the puzzles, the bonus, and the points of the upheld protests.
+///
+/// The rows are all those of one entrant in this round, with their answers to a puzzle numbered in the order in which
+/// they were accepted; a right answer is one that breaks no rule. In an instant round the first right answer to a
+/// puzzle gives its points less the penalty for each wrong one before it, and never less than 0. In a sealed round
+/// the last answer gives the points where it is right. Where every puzzle of the round is solved so, each whole minute
+/// from the greatest moment of these answers to the end gives the bonus; minutes after the end count below 0.
+pub fn total(round: &RoundRow, answers: &[AnswerRow], protests: &[ProtestRow]) -> i64
+    requires answers { length answers.now ≤ 4294967295 }
+    requires protests { length protests.now ≤ 4294967295 }
+    ensures { result ≡ total_of round.now answers.now protests.now }
+{
+    puzzle_points(round, answers) as i64 + bonus_of(round, answers) + protest_points(protests)
 }
