@@ -1,14 +1,14 @@
 -- The table of a round: a line for each entrant, with the rank.
-use Rattle.std.specs.Prelude.{ℕ, ℤ, ◌+◌, List, map, count_by}
+use Rattle.std.specs.Prelude.{ℕ, ℤ, ◌+◌, List, map, count_by, int_lt}
 use Rattle.std.specs.List.Sorted.{IsSorted, IsPermutation}
-use Rattle.std.specs.Ordering.{int_cmp, nat_cmp, ordering_then, is_gt}
+use Rattle.std.specs.Ordering.{nat_cmp, ordering_then}
 use Rattle.std.specs.declared.cmp.Ordering.{Ordering}
 use Rattle.hall_policy.specs.Text.{text_cmp}
 use Rattle.hall_score.specs.declared.ranking.Line.{Line}
 
 -- 1 and the number of the greater totals
 abbrev pub rank_of : List (List ℕ × ℤ) → ℤ → ℕ
-rank_of totals total = 1 + count_by (λ other. is_gt (int_cmp other.1 total)) totals
+rank_of totals total = 1 + count_by (λ other. int_lt total other.1) totals
 
 -- the line of an entrant
 abbrev pub line_of : List (List ℕ × ℤ) → List ℕ × ℤ → Line

@@ -1,12 +1,13 @@
 -- The bytes of a table.
-use Rattle.std.specs.Prelude.{◌≡◌, ℕ, ℤ, ◌-◌, ◌++◌, List, [], ◌∷◌, length, replicate, flat_map}
+use Rattle.std.specs.Prelude.{◌≡◌, ℕ, ℤ, ◌-◌, ◌++◌, List, [], ◌∷◌, length, flat_map}
+use Rattle.std.specs.List.{repeat}
 use Rattle.std.specs.Fmt.{decimal, signed_decimal}
 use Rattle.hall_score.specs.declared.ranking.Line.{Line}
 use Rattle.hall_score.specs.Standings.{IsStandings}
 
 -- so many spaces
 abbrev pub spaces : ℕ → List ℕ
-spaces n = replicate n 32
+spaces n = repeat n (32 ∷ [])
 
 -- the text at the right end of so many places; a longer one stands whole
 abbrev pub to_right : ℕ → List ℕ → List ℕ

@@ -3,6 +3,8 @@
 
 mod points;
 mod ranking;
+mod table;
 
 pub use points::total;
-pub use ranking::Line;
+pub use ranking::{Line, standings};
+pub use table::table_text;
