@@ -1,0 +1,12 @@
+use Rattle.std.proofs.lemmas.List.{map_more}
+use Rattle.hall_score.specs.Standings.{line_of}
+use Rattle.hall_score.proofs.ranking.lines_of.Goals as goal
+
+pub loop-entrant-preserved : goal.loop-entrant-preserved
+loop-entrant-preserved c =
+    let totals = c.args.totals.now in
+    let more = map_more (line_of totals) totals c.loop-entrant.entrant-index c.entrant-item.result c.loop-entrant-test.true in
+    let item = c.entrant-item.is in
+    let made = c.in_ok-line_of.ensures in
+    let pushed = c.in_ok-push.ensures.items in
+    cc (more, item, made, pushed, c.loop-entrant.invariant)

@@ -1,0 +1,3 @@
+pub mod Total
+pub mod Standings
+pub mod Table
