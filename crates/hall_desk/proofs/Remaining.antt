@@ -248,7 +248,7 @@ allowed_remains world caller (action.Solutions id) t found given new none h = re
 allowed_remains world caller (action.Protests id) t found given new none h = remains_same world new h.2.1
 allowed_remains world caller (action.Protest id token number text) t found given new none (person, is, (told, made)) = protests_change world new _ made
 allowed_remains world caller (action.Rule id entrant token ruling) t found given new none (row, kept, told, made) = protests_change world new _ made
-allowed_remains world caller (action.Table id) t found given new none h = absurd h
+allowed_remains world caller (action.Table id) t found given new none h = remains_same world new h.1
 
 -- a step keeps them
 pub step_remains : (world : World) (t : ℕ) (request : Request) (given : Reply) (new : World) → Step world t request given new → Remains world new

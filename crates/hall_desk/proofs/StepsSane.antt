@@ -107,7 +107,7 @@ allowed_sane world caller (action.Protest id token number text) t found given ne
 allowed_sane world caller (action.Protests id) t found given new sane there timed is none h = subst Sane (sym h.2.1) sane
 allowed_sane world caller (action.Rule id entrant token ruling) t found given new sane there timed is none h = rule_step world caller id entrant token ruling t found given new sane is h
 allowed_sane world caller (action.Publish id) t found given new sane there timed is none h = publish_step world caller id t found given new sane none h
-allowed_sane world caller (action.Table id) t found given new sane there timed is none h = absurd h
+allowed_sane world caller (action.Table id) t found given new sane there timed is none h = subst Sane (sym h.1) sane
 
 -- a step keeps a sane world
 pub step_sane : (world : World) (t : ℕ) (request : Request) (given : Reply) (new : World) → IsMoment t → IsRequest request → Step world t request given new → Sane world → Sane new
