@@ -18,6 +18,8 @@ mod policy;
 #[cfg(test)]
 mod reads;
 #[cfg(test)]
+mod score;
+#[cfg(test)]
 mod sheets;
 #[cfg(test)]
 mod socket;
