@@ -19,6 +19,8 @@ mod requests;
 #[cfg(test)]
 mod reads;
 #[cfg(test)]
+mod score;
+#[cfg(test)]
 mod sheets;
 #[cfg(test)]
 mod socket;

@@ -1,0 +1,102 @@
+//! Totals of worked rows, and the table of four entrants.
+use crate::fixtures::{draft, entries, entry, number, text};
+use hall_grid::{Broken, Rule};
+use hall_policy::{
+    AnswerKey, AnswerRow, Mode, Name, ProtestKey, ProtestRow, RoundRow, Ruling, RulingPoints,
+};
+use hall_score::{Line, standings, table_text, total};
+use std::alloc::AllocGlobal;
+use std::process::Abort;
+
+/// An hour with one puzzle of 40 points; a wrong answer costs 5, and a minute that is left gives 2.
+fn round(rt: &(impl AllocGlobal + Abort), mode: Mode) -> RoundRow {
+    let mut round = draft(rt, "r1");
+    round.mode = mode;
+    RoundRow {
+        round,
+        puzzles: entries(rt, [entry(rt, "p1")]),
+    }
+}
+
+/// Eve's answer of this number, at this moment.
+fn answer(rt: &(impl AllocGlobal + Abort), n: u64, moment: u64, right: bool) -> AnswerRow {
+    let key = AnswerKey {
+        entrant: text(rt, "eve"),
+        round: text(rt, "r1"),
+        number: number(rt, 1),
+        token: text(rt, "k1"),
+    };
+    let mut verdict = Broken::new();
+    if !right {
+        verdict.insert(Rule::A0);
+    }
+    AnswerRow {
+        key,
+        n: number(rt, n),
+        moment: number(rt, moment),
+        answer: text(rt, "1234"),
+        verdict,
+    }
+}
+
+/// Eve's protest, upheld with these points.
+fn upheld(rt: &(impl AllocGlobal + Abort), points: i16) -> ProtestRow {
+    let key = ProtestKey {
+        entrant: text(rt, "eve"),
+        round: text(rt, "r1"),
+        token: text(rt, "w1"),
+    };
+    ProtestRow {
+        key,
+        number: number(rt, 1),
+        text: text(rt, "unclear"),
+        ruling: Some(Ruling::Upheld(RulingPoints::new(points).expect(rt, "points"))),
+    }
+}
+
+const TABLE: &str = "   1 ana                            40
+   1 eve                            40
+   3 fay                            30
+   4 gus                            -5
+";
+
+#[test]
+fn wrong_answer_before_the_right_one_costs(rt: HostRuntime) {
+    let answers = [
+        answer(&rt, 1, 1_777_713_000, false),
+        answer(&rt, 2, 1_777_713_630, true),
+    ];
+    assert_eq!(rt; total(&round(&rt, Mode::Instant), &answers, &[]), 113);
+    assert_eq!(rt; total(&round(&rt, Mode::Sealed), &answers, &[]), 118);
+    assert_eq!(rt;
+        total(&round(&rt, Mode::Instant), &answers, &[upheld(&rt, -200)]),
+        -87
+    );
+}
+
+#[test]
+fn minute_that_is_begun_gives_nothing(rt: HostRuntime) {
+    let answers = [answer(&rt, 1, 1_777_715_999, true)];
+    assert_eq!(rt; total(&round(&rt, Mode::Instant), &answers, &[]), 40);
+    let late = [answer(&rt, 1, 1_777_716_001, true)];
+    assert_eq!(rt; total(&round(&rt, Mode::Instant), &late, &[]), 38);
+}
+
+#[test]
+fn table_of_four(rt: HostRuntime) {
+    let totals: [(Name, i64); 4] = [
+        (text(&rt, "gus"), -5),
+        (text(&rt, "eve"), 40),
+        (text(&rt, "fay"), 30),
+        (text(&rt, "ana"), 40),
+    ];
+    let table = table_text(rt.alloc(), &totals).expect(&rt, "memory");
+    assert_eq!(rt; table.as_str(), TABLE);
+    let lines = standings(rt.alloc(), &totals).expect(&rt, "memory");
+    let last = Line {
+        rank: 4,
+        name: text(&rt, "gus"),
+        total: -5,
+    };
+    assert!(rt; lines.last() == Some(&last));
+}
