@@ -1,10 +1,9 @@
 -- A list that adds nobody leaves the world.
-use Rattle.std.proofs.Common.{◌≡◌, ◌<◌, ℕ, List, [], ◌++◌, length, ap, sym, ◌∙◌, inl, inr, arith}
+use Rattle.std.proofs.Common.{◌≡◌, ◌<◌, ℕ, List, ◌++◌, length, ap, inl, inr, arith}
 use Rattle.std.specs.Prelude.{◌≢◌, OnErr, Result, Ok, Err}
 use Rattle.std.proofs.lemmas.List.{length-append}
 use Rattle.hall_policy.specs.declared.record.Person.{Person}
 use Rattle.hall_store.specs.Store.{Content, Kept, Leads, Over}
-use Rattle.hall_desk.specs.Plans.{Seeds}
 use Rattle.hall_desk.specs.Step.{Seed}
 use Rattle.hall_desk.specs.declared.reply.Reply.{Reply}
 use Rattle.hall_desk.specs.declared.reply.Reply.TheVariants as reply

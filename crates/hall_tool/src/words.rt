@@ -22,8 +22,7 @@ const NO_BUDGET_VALUE: &str = "a value is required for '--budget <N>' but none w
 
 const NO_PEOPLE_VALUE: &str = "a value is required for '--people <L>' but none was supplied";
 
-const NO_PEOPLE: &str =
-    "the following required arguments were not provided:\n  --people <L>";
+const NO_PEOPLE: &str = "the following required arguments were not provided:\n  --people <L>";
 
 /// What the program is asked to do.
 #[derive(Debug, Drop)]
