@@ -11,10 +11,17 @@ use Rattle.hall_policy.specs.declared.record.PuzzleKey.{PuzzleKey}
 use Rattle.hall_policy.specs.declared.request.Action.{Action}
 use Rattle.hall_policy.specs.declared.request.Action.TheVariants as action
 use Rattle.hall_policy.specs.declared.request.Request.{Request}
+use Rattle.hall_sheet.specs.declared.fault.Refusal.{Refusal}
+use Rattle.hall_sheet.specs.declared.fault.SheetFault.{SheetFault}
+use Rattle.hall_sheet.specs.declared.fault.SheetFault.TheVariants as sheet_fault
+use Rattle.hall_sheet.specs.People.{people_in}
+use Rattle.hall_sheet.specs.Sheet.{sheet_in}
 use Rattle.hall_http.specs.declared.form.PuzzleFault.{PuzzleFault}
 use Rattle.hall_http.specs.declared.form.PuzzleFault.TheVariants as puzzle
 use Rattle.hall_http.specs.declared.form.FormFault.{FormFault}
 use Rattle.hall_http.specs.declared.form.FormFault.TheVariants as fault
+use Rattle.hall_http.specs.declared.form.RequestFault.{RequestFault}
+use Rattle.hall_http.specs.declared.form.RequestFault.TheVariants as unread
 use Rattle.hall_http.specs.declared.routes.Route.{Route}
 use Rattle.hall_http.specs.declared.routes.Route.TheVariants as route
 use Rattle.hall_http.specs.Body.{answer_in, text_in, budget_in}
@@ -32,6 +39,11 @@ puzzle_fault (text_fault.Cut place) = Some (puzzle.Cut place)
 puzzle_fault (text_fault.Range place) = Some (puzzle.Range place)
 puzzle_fault (text_fault.After place) = Some (puzzle.After place)
 
+-- why bytes that were not read as an entry list or a round sheet are not read as a request
+abbrev pub unread_sheet : SheetFault → RequestFault
+unread_sheet sheet_fault.Memory = unread.Memory
+unread_sheet (sheet_fault.Refused r) = unread.Form (fault.Sheet r)
+
 -- the puzzle that a text spells, to be put under the key, or the text's first fault
 abbrev pub PutOf : PuzzleKey → List ℕ → Result Action FormFault → Type 0
 PutOf key text (Ok asked) = (board : Board) × SpellsText text board × (asked ≡ action.PutPuzzle key board)
@@ -44,16 +56,29 @@ abbrev pub PutFrom : PuzzleKey → Result (List ℕ) FormFault → Result Action
 PutFrom key (Err f) outcome = outcome ≡ Err f
 PutFrom key (Ok text) outcome = PutOf key text outcome
 
+-- what an entry list or a round sheet spells; its refusal is the body's first fault
+abbrev pub of_sheet : {A : Type 0} → Result A Refusal → Result A FormFault
+of_sheet (Ok x) = Ok x
+of_sheet (Err r) = Err (fault.Sheet r)
+
 -- what a route and a body ask for, or the body's first fault
 abbrev pub ActionOf : Route → List ℕ → Result Action FormFault → Type 0
-ActionOf (route.Puzzle key) body outcome = PutFrom key (text_in body) outcome
-ActionOf (route.Certificate key) body outcome =
+ActionOf route.Import body outcome =
+    outcome ≡ (of_sheet (people_in body) >>= (λ people. Ok (action.Import people)))
+ActionOf (route.PutPuzzle key) body outcome = PutFrom key (text_in body) outcome
+ActionOf (route.ReadPuzzle key) body outcome = outcome ≡ Ok (action.ReadPuzzle key)
+ActionOf route.ListPuzzles body outcome = outcome ≡ Ok action.ListPuzzles
+ActionOf (route.Certify key) body outcome =
     outcome ≡ (budget_in body >>= (λ budget. Ok (action.Certify key budget)))
-ActionOf (route.Round id) body outcome = outcome ≡ Ok (action.ReadRound id)
+ActionOf (route.PutRound id) body outcome =
+    outcome ≡ (of_sheet (sheet_in body) >>= (λ sheet. Ok (action.PutRound id sheet)))
+ActionOf route.ListRounds body outcome = outcome ≡ Ok action.ListRounds
+ActionOf (route.ReadRound id) body outcome = outcome ≡ Ok (action.ReadRound id)
 ActionOf (route.Release id) body outcome = outcome ≡ Ok (action.Release id)
-ActionOf (route.Answer id number token) body outcome =
+ActionOf (route.Submit id number token) body outcome =
     outcome ≡ (answer_in body >>= (λ answer. Ok (action.Submit id number token answer)))
 ActionOf (route.Answers id) body outcome = outcome ≡ Ok (action.Answers id)
+ActionOf (route.Solutions id) body outcome = outcome ≡ Ok (action.Solutions id)
 
 -- the caller's key: none where the text isn't of a key's form
 abbrev pub key_in : List ℕ → Option (List ℕ)

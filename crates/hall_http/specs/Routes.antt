@@ -1,6 +1,6 @@
 -- The patterns of the hall, and the route of a path.
 use Rattle.std.specs.Prelude.{ℕ, List, [], ◌∷◌, Bool, true, false, ◌&&◌, not}
-use Rattle.std.specs.Prelude.{Option, is_some, Result, Ok, Err, codes, option_map}
+use Rattle.std.specs.Prelude.{if◌then◌else◌, Option, is_some, Result, Ok, Err, codes, option_map}
 use Rattle.matchit.specs.Rows.{RowsOf}
 use Rattle.matchit.specs.Order.{placed}
 use Rattle.matchit.specs.Router.{RouteOf, route_from, nearest}
@@ -80,9 +80,9 @@ abbrev pub puzzle_number : List ℕ → Result ℕ FormFault
 puzzle_number text =
     or_fault fault.NoRoute (number_in text) >>= (λ n. unless fault.NoRoute (nat_le 1 n && nat_le n 99) >>= (λ _. Ok n))
 
--- nothing, where the method is this one
-abbrev pub is_method : List ℕ → List ℕ → Result (Unit {0}) FormFault
-is_method name method = unless fault.NoRoute (bytes_eq method name)
+-- the route, where the method is this one
+abbrev pub by_method : List ℕ → List ℕ → Route → Result Route FormFault
+by_method method name found = if bytes_eq method name then Ok found else Err fault.NoRoute
 
 -- what the parameters of a route took of the path, each with its name
 abbrev pub parameters : List ℕ → RouteOf Place → List (List ℕ × List ℕ)
@@ -117,28 +117,39 @@ abbrev pub puzzle_key_in : Parts → Result PuzzleKey FormFault
 puzzle_key_in p =
     word_in p.first >>= (λ author. word_in p.second >>= (λ label. Ok (record { author = author; label = label })))
 
--- what the place and its parts name, by the method
-abbrev pub route_at : List ℕ → Place → Parts → Result Route FormFault
-route_at method place.Puzzle p =
-    is_method (codes "PUT") method >>= (λ _. puzzle_key_in p >>= (λ key. Ok (route.Puzzle key)))
-route_at method place.Certificate p =
-    is_method (codes "POST") method >>= (λ _. puzzle_key_in p >>= (λ key. Ok (route.Certificate key)))
-route_at method place.Round p =
-    is_method (codes "GET") method >>= (λ _. word_in p.first >>= (λ id. Ok (route.Round id)))
-route_at method place.Release p =
-    is_method (codes "POST") method >>= (λ _. word_in p.first >>= (λ id. Ok (route.Release id)))
-route_at method place.Answers p =
-    is_method (codes "GET") method >>= (λ _. word_in p.first >>= (λ id. Ok (route.Answers id)))
-route_at method place.Answer p =
-    is_method (codes "PUT") method
-    >>= (λ _. word_in p.first
+-- what a method asks of a puzzle: PUT stores it, GET reads it
+abbrev pub puzzle_route : List ℕ → PuzzleKey → Result Route FormFault
+puzzle_route method key =
+    if bytes_eq method (codes "PUT") then Ok (route.PutPuzzle key)
+    else by_method method (codes "GET") (route.ReadPuzzle key)
+
+-- what a method asks of a round: PUT stores its draft, GET reads it
+abbrev pub round_route : List ℕ → List ℕ → Result Route FormFault
+round_route method id =
+    if bytes_eq method (codes "PUT") then Ok (route.PutRound id)
+    else by_method method (codes "GET") (route.ReadRound id)
+
+-- the answer to be handed in: its round, its puzzle's number and its token
+abbrev pub answer_route : Parts → Result Route FormFault
+answer_route p =
+    word_in p.first
     >>= (λ id. puzzle_number p.second
     >>= (λ number. token_in p.third
-    >>= (λ token. Ok (route.Answer id number token)))))
-route_at method place.People p = Err fault.NoRoute
-route_at method place.Puzzles p = Err fault.NoRoute
-route_at method place.Rounds p = Err fault.NoRoute
-route_at method place.Solutions p = Err fault.NoRoute
+    >>= (λ token. Ok (route.Submit id number token))))
+
+-- what the place and its parts name, by the method
+abbrev pub route_at : List ℕ → Place → Parts → Result Route FormFault
+route_at method place.People p = by_method method (codes "POST") route.Import
+route_at method place.Puzzles p = by_method method (codes "GET") route.ListPuzzles
+route_at method place.Puzzle p = puzzle_key_in p >>= puzzle_route method
+route_at method place.Certificate p =
+    puzzle_key_in p >>= (λ key. by_method method (codes "POST") (route.Certify key))
+route_at method place.Rounds p = by_method method (codes "GET") route.ListRounds
+route_at method place.Round p = word_in p.first >>= round_route method
+route_at method place.Release p = word_in p.first >>= (λ id. by_method method (codes "POST") (route.Release id))
+route_at method place.Answers p = word_in p.first >>= (λ id. by_method method (codes "GET") (route.Answers id))
+route_at method place.Answer p = answer_route p >>= by_method method (codes "PUT")
+route_at method place.Solutions p = word_in p.first >>= (λ id. by_method method (codes "GET") (route.Solutions id))
 route_at method place.Protests p = Err fault.NoRoute
 route_at method place.Protest p = Err fault.NoRoute
 route_at method place.Ruling p = Err fault.NoRoute

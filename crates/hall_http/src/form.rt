@@ -1,10 +1,10 @@
 //! Why bytes are no request.
 ghost use Rattle.std.specs.Prelude.{◌≡◌};
 ghost use Rattle.hall_http.specs.declared.form.RequestFault.TheVariants.{Memory};
-ghost use Rattle.hall_http.specs.Request.{puzzle_fault};
+ghost use Rattle.hall_http.specs.Request.{puzzle_fault, unread_sheet};
 
 use hall_grid::TextFault;
-use hall_sheet::Refusal;
+use hall_sheet::{Refusal, SheetFault};
 use std::alloc::AllocError;
 
 /// A member of a body that a fault names.
@@ -76,5 +76,16 @@ impl From<AllocError> for RequestFault {
 
     fn from(_e: AllocError) -> RequestFault {
         RequestFault::Memory
+    }
+}
+
+impl From<SheetFault> for RequestFault {
+    ghost from_gives = { λ fault told. told ≡ unread_sheet fault };
+
+    fn from(fault: SheetFault) -> RequestFault {
+        match fault {
+            SheetFault::Memory => RequestFault::Memory,
+            SheetFault::Refused(refusal) => RequestFault::Form(FormFault::Sheet(refusal)),
+        }
     }
 }

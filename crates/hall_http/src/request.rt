@@ -10,6 +10,7 @@ use crate::routes::{Route, Routes, route_of};
 use crate::words::checked;
 use hall_grid::parse_puzzle;
 use hall_policy::{Action, Key, PuzzleKey, Request};
+use hall_sheet::{read_people, read_round};
 use std::alloc::{AllocError, Global};
 
 const NOT_WHOLE: RequestFault = RequestFault::Form(FormFault::NotWhole);
@@ -46,26 +47,35 @@ fn action_of(alloc: Global, route: Route, body: &[u8]) -> Result<Action, Request
     ensures { Finds result (ActionOf route body.now) }
 {
     match route {
-        Route::Puzzle(key) => {
+        Route::Import => {
+            let people = read_people(alloc, body)?;
+            Ok(Action::Import { people })
+        }
+        Route::PutPuzzle(key) => {
             let text = read_text(alloc, body)?;
             put_of(alloc, key, text.as_str().as_bytes())
         }
-        Route::Certificate(key) => {
+        Route::ReadPuzzle(key) => Ok(Action::ReadPuzzle { key }),
+        Route::ListPuzzles => Ok(Action::ListPuzzles),
+        Route::Certify(key) => {
             let budget = read_budget(alloc, body)?;
             Ok(Action::Certify { key, budget })
         }
-        Route::Round(round) => Ok(Action::ReadRound { round }),
-        Route::Release(round) => Ok(Action::Release { round }),
-        Route::Answer(round, number, token) => {
-            let answer = read_answer(alloc, body)?;
-            Ok(Action::Submit {
-                round,
-                number,
-                token,
-                answer,
-            })
+        Route::PutRound(round) => {
+            let sheet = read_round(alloc, body)?;
+            Ok(Action::PutRound { round, sheet })
         }
+        Route::ListRounds => Ok(Action::ListRounds),
+        Route::ReadRound(round) => Ok(Action::ReadRound { round }),
+        Route::Release(round) => Ok(Action::Release { round }),
+        Route::Submit(round, number, token) => Ok(Action::Submit {
+            round,
+            number,
+            token,
+            answer: read_answer(alloc, body)?,
+        }),
         Route::Answers(round) => Ok(Action::Answers { round }),
+        Route::Solutions(round) => Ok(Action::Solutions { round }),
     }
 }
 

@@ -6,7 +6,8 @@ ghost use Rattle.matchit.specs.Params.{walk};
 ghost use Rattle.hall_policy.specs.Reading.{of_kind};
 ghost use Rattle.hall_http.specs.Given.{Gives};
 ghost use Rattle.hall_http.specs.Routes.{routes, found, rows_from, are_free, parts_of, route_at, route_in};
-ghost use Rattle.hall_http.specs.Routes.{puzzle_key_in, puzzle_number, is_method, ascii_path};
+ghost use Rattle.hall_http.specs.Routes.{puzzle_key_in, puzzle_number, puzzle_route, round_route, answer_route};
+ghost use Rattle.hall_http.specs.Routes.{by_method, ascii_path};
 ghost use Rattle.hall_http.specs.Parts.{parts_seen, AllAscii};
 
 use crate::form::{FormFault, RequestFault};
@@ -21,18 +22,30 @@ const NO_ROUTE: RequestFault = RequestFault::Form(FormFault::NoRoute);
 /// What a method and a path name, where that is served.
 #[derive(Drop)]
 pub(crate) enum Route {
+    /// POST /people
+    Import,
     /// PUT /puzzles/{author}/{label}
-    Puzzle(PuzzleKey),
+    PutPuzzle(PuzzleKey),
+    /// GET /puzzles/{author}/{label}
+    ReadPuzzle(PuzzleKey),
+    /// GET /puzzles
+    ListPuzzles,
     /// POST /puzzles/{author}/{label}/certificate
-    Certificate(PuzzleKey),
+    Certify(PuzzleKey),
+    /// PUT /rounds/{round}
+    PutRound(RoundId),
+    /// GET /rounds
+    ListRounds,
     /// GET /rounds/{round}
-    Round(RoundId),
+    ReadRound(RoundId),
     /// POST /rounds/{round}/release
     Release(RoundId),
     /// PUT /rounds/{round}/answers/{number}/{token}
-    Answer(RoundId, PuzzleNumber, Token),
+    Submit(RoundId, PuzzleNumber, Token),
     /// GET /rounds/{round}/answers
     Answers(RoundId),
+    /// GET /rounds/{round}/solutions
+    Solutions(RoundId),
 }
 
 /// The place that a pattern names.
@@ -168,12 +181,12 @@ fn find<'p>(routes: &Routes, path: &'p str) -> Option<(Place, Parts<'p>)>
     }
 }
 
-/// Refuses another method than this one.
-fn expect_method(method: &[u8], name: &[u8]) -> Result<(), RequestFault>
-    ensures { Gives (λ r. r) result (is_method name.now method.now) }
+/// The route, where the method is this one.
+fn by_method(method: &[u8], name: &[u8], route: Route) -> Result<Route, RequestFault>
+    ensures { Gives (λ r. r) result (by_method method.now name.now route) }
 {
     if method == name {
-        Ok(())
+        Ok(route)
     } else {
         Err(NO_ROUTE)
     }
@@ -204,6 +217,38 @@ fn puzzle_key(alloc: Global, parts: &Parts) -> Result<PuzzleKey, RequestFault>
     })
 }
 
+/// What the method asks of the puzzle.
+fn puzzle_route(method: &[u8], key: PuzzleKey) -> Result<Route, RequestFault>
+    ensures { Gives (λ r. r) result (puzzle_route method.now key) }
+{
+    if method == b"PUT".as_slice() {
+        Ok(Route::PutPuzzle(key))
+    } else {
+        by_method(method, b"GET", Route::ReadPuzzle(key))
+    }
+}
+
+/// What the method asks of the round.
+fn round_route(method: &[u8], round: RoundId) -> Result<Route, RequestFault>
+    ensures { Gives (λ r. r) result (round_route method.now round) }
+{
+    if method == b"PUT".as_slice() {
+        Ok(Route::PutRound(round))
+    } else {
+        by_method(method, b"GET", Route::ReadRound(round))
+    }
+}
+
+/// The answer to be handed in.
+fn answer_route(alloc: Global, parts: &Parts) -> Result<Route, RequestFault>
+    ensures { Gives (λ r. r) result (answer_route (parts_seen parts.now)) }
+{
+    let round = word(alloc, parts.first)?;
+    let number = puzzle_number(parts.second)?;
+    let token = word(alloc, parts.third)?;
+    Ok(Route::Submit(round, number, token))
+}
+
 /// What the place and its parts name, by the method.
 fn route_at(
     alloc: Global,
@@ -214,47 +259,20 @@ fn route_at(
     ensures { Gives (λ r. r) result (route_at method.now place (parts_seen parts.now)) }
 {
     match place {
-        Place::Puzzle => {
-            expect_method(method, b"PUT")?;
-            Ok(Route::Puzzle(puzzle_key(alloc, parts)?))
+        Place::People => by_method(method, b"POST", Route::Import),
+        Place::Puzzles => by_method(method, b"GET", Route::ListPuzzles),
+        Place::Puzzle => puzzle_route(method, puzzle_key(alloc, parts)?),
+        Place::Certificate => by_method(method, b"POST", Route::Certify(puzzle_key(alloc, parts)?)),
+        Place::Rounds => by_method(method, b"GET", Route::ListRounds),
+        Place::Round => round_route(method, word(alloc, parts.first)?),
+        Place::Release => by_method(method, b"POST", Route::Release(word(alloc, parts.first)?)),
+        Place::Answers => by_method(method, b"GET", Route::Answers(word(alloc, parts.first)?)),
+        Place::Answer => by_method(method, b"PUT", answer_route(alloc, parts)?),
+        Place::Solutions => by_method(method, b"GET", Route::Solutions(word(alloc, parts.first)?)),
+        Place::Protests | Place::Protest | Place::Ruling | Place::Publish | Place::Table => {
+            Err(NO_ROUTE)
         }
-        Place::Certificate => {
-            expect_method(method, b"POST")?;
-            Ok(Route::Certificate(puzzle_key(alloc, parts)?))
-        }
-        Place::Round => {
-            expect_method(method, b"GET")?;
-            Ok(Route::Round(word(alloc, parts.first)?))
-        }
-        Place::Release => {
-            expect_method(method, b"POST")?;
-            Ok(Route::Release(word(alloc, parts.first)?))
-        }
-        Place::Answers => {
-            expect_method(method, b"GET")?;
-            Ok(Route::Answers(word(alloc, parts.first)?))
-        }
-        Place::Answer => answer_route(alloc, method, parts),
-        Place::People
-        | Place::Puzzles
-        | Place::Rounds
-        | Place::Solutions
-        | Place::Protests
-        | Place::Protest
-        | Place::Ruling
-        | Place::Publish
-        | Place::Table => Err(NO_ROUTE),
     }
-}
-
-fn answer_route(alloc: Global, method: &[u8], parts: &Parts) -> Result<Route, RequestFault>
-    ensures { Gives (λ r. r) result (route_at method.now Place.Answer (parts_seen parts.now)) }
-{
-    expect_method(method, b"PUT")?;
-    let round = word(alloc, parts.first)?;
-    let number = puzzle_number(parts.second)?;
-    let token = word(alloc, parts.third)?;
-    Ok(Route::Answer(round, number, token))
 }
 
 /// Whether each byte is ASCII.

@@ -15,6 +15,7 @@ mod limited;
 mod lists;
 #[cfg(test)]
 mod policy;
+mod requests;
 #[cfg(test)]
 mod sheets;
 #[cfg(test)]

@@ -2,8 +2,8 @@
 ghost use Rattle.std.specs.Prelude.{◌≡◌, ⊤};
 
 use hall_policy::{
-    AnswerKey, AnswerNumber, AnswerRow, Key, Name, Person, PuzzleKey, PuzzleNumber, PuzzleRow,
-    PuzzleState, RoundId, RoundRow,
+    AnswerKey, AnswerNumber, AnswerRow, Key, Name, People, Person, PuzzleKey, PuzzleNumber,
+    PuzzleRow, PuzzleState, Round, RoundId, RoundRow,
 };
 use hall_store::{MapStore, RoundFlag, Store, StoreFault};
 use std::alloc::Global;
@@ -45,6 +45,11 @@ impl Store for LimitedStore {
         self.store.person(alloc, name)
     }
 
+    fn import(&mut self, alloc: Global, people: &People) -> Result<(), StoreFault> {
+        self.spend()?;
+        self.store.import(alloc, people)
+    }
+
     fn puzzle(&mut self, alloc: Global, key: &PuzzleKey) -> Result<Option<PuzzleRow>, StoreFault> {
         self.spend()?;
         self.store.puzzle(alloc, key)
@@ -53,6 +58,11 @@ impl Store for LimitedStore {
     fn puzzles_of(&mut self, alloc: Global, author: &Name) -> Result<Vec<PuzzleRow>, StoreFault> {
         self.spend()?;
         self.store.puzzles_of(alloc, author)
+    }
+
+    fn all_puzzles(&mut self, alloc: Global) -> Result<Vec<PuzzleRow>, StoreFault> {
+        self.spend()?;
+        self.store.all_puzzles(alloc)
     }
 
     fn puzzles_put(&mut self, alloc: Global, author: &Name) -> Result<u64, StoreFault> {
@@ -78,6 +88,16 @@ impl Store for LimitedStore {
     fn round(&mut self, alloc: Global, id: &RoundId) -> Result<Option<RoundRow>, StoreFault> {
         self.spend()?;
         self.store.round(alloc, id)
+    }
+
+    fn rounds(&mut self, alloc: Global) -> Result<Vec<Round>, StoreFault> {
+        self.spend()?;
+        self.store.rounds(alloc)
+    }
+
+    fn put_round(&mut self, alloc: Global, row: RoundRow) -> Result<(), StoreFault> {
+        self.spend()?;
+        self.store.put_round(alloc, row)
     }
 
     fn set_round_flag(
