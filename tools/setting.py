@@ -76,5 +76,6 @@ def set_out(name):
         told.write_bytes(replies() + told.read_bytes())
 
 
-for name in sys.argv[1:]:
-    set_out(name)
+if __name__ == "__main__":
+    for name in sys.argv[1:]:
+        set_out(name)
