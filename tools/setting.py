@@ -61,19 +61,20 @@ def reply(value):
 def records():
     puts = [record(f"/puzzles/{author}/{label}", f"{author}-key-1", compact({"text": text}))
             for author, label, text in PUZZLES]
-    return b"".join(puts + [record(f"/rounds/{id}", "dora-key", SHEET.format(**sheet)) for id, sheet in DRAFTS])
+    return puts + [record(f"/rounds/{id}", "dora-key", SHEET.format(**sheet)) for id, sheet in DRAFTS]
 
 
 def replies():
-    return b"".join([reply({"state": "new", "text": text}) for _, _, text in PUZZLES]
-                    + [reply({"round": id}) for id, _ in DRAFTS])
+    puts = [reply({"state": "new", "text": text}) for _, _, text in PUZZLES]
+    return puts + [reply({"round": id}) for id, _ in DRAFTS]
 
 
 def set_out(name):
     asked, told = EXAMPLES / f"{name}.txt", EXAMPLES / f"{name}.out"
-    if not asked.read_bytes().startswith(records()):
-        asked.write_bytes(records() + asked.read_bytes())
-        told.write_bytes(replies() + told.read_bytes())
+    setting = b"".join(records())
+    if not asked.read_bytes().startswith(setting):
+        asked.write_bytes(setting + asked.read_bytes())
+        told.write_bytes(b"".join(replies()) + told.read_bytes())
 
 
 if __name__ == "__main__":

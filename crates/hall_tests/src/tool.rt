@@ -196,11 +196,7 @@ const LISTS: [Listed; 16] = [
         b"denied 20\n",
         2,
     ),
-    (
-        b"name,key,roles\neve,eve-key-1,author\n",
-        b"denied 20\n",
-        2,
-    ),
+    (b"name,key,roles\neve,eve-key-1,author\n", b"denied 20\n", 2),
     (
         b"name,key,roles\ngil,gil-key-1,entrant+director\n",
         b"denied 20\n",
@@ -213,7 +209,11 @@ const LISTS: [Listed; 16] = [
         b"refused F2 name\n",
         2,
     ),
-    (b"name,key,roles\ngil,gil-key-1,\n", b"refused F2 roles\n", 2),
+    (
+        b"name,key,roles\ngil,gil-key-1,\n",
+        b"refused F2 roles\n",
+        2,
+    ),
     (
         b"name,key,roles\ngil,gil-key,entrant\n",
         b"refused F3 key\n",
@@ -230,11 +230,7 @@ const LISTS: [Listed; 16] = [
         2,
     ),
     (b"name,key,roles\ngil,gil-key-1,entrant", b"", 0),
-    (
-        b"name,key,roles\nhal,gil-key-1,author\n",
-        b"denied 20\n",
-        2,
-    ),
+    (b"name,key,roles\nhal,gil-key-1,author\n", b"denied 20\n", 2),
 ];
 
 #[test]
@@ -283,7 +279,10 @@ fn a_store_that_fails_is_told(rt: HostRuntime) {
         let store = MapStore::new(rt.alloc());
         let mut desk = Desk::new(LimitedStore { store, left });
         let (ended, written) = seeded(rt.alloc(), &mut desk, PEOPLE);
-        assert!(rt; ended == Err(ToolFault::Store) && written.is_empty(), "calls {left}");
+        assert!(rt;
+            ended == Err(ToolFault::Store) && written.is_empty(),
+            "calls {left}"
+        );
     }
     let store = MapStore::new(rt.alloc());
     let mut desk = Desk::new(LimitedStore { store, left: 19 });

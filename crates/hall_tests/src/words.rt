@@ -28,24 +28,15 @@ const SPELLED: [Spelled; 25] = [
     (&["solve"], Wanted::Solve(200_000)),
     (&["solve", "--budget=5"], Wanted::Solve(5)),
     (&["solve", "--budget", "0"], Wanted::Solve(0)),
-    (
-        &["solve", "--budget", "200000"],
-        Wanted::Solve(200_000),
-    ),
-    (
-        &["solve", "--budget", "1000000"],
-        Wanted::Solve(1_000_000),
-    ),
+    (&["solve", "--budget", "200000"], Wanted::Solve(200_000)),
+    (&["solve", "--budget", "1000000"], Wanted::Solve(1_000_000)),
     (&["solve", "--budget", "007"], Wanted::Solve(7)),
     (&["solve", "--budget", "+7"], Wanted::Solve(7)),
     (&["--help"], Wanted::Help(Page::Hall)),
     (&["-h"], Wanted::Help(Page::Hall)),
     (&["judge", "--help"], Wanted::Help(Page::Judge)),
     (&["solve", "--help"], Wanted::Help(Page::Solve)),
-    (
-        &["solve", "--budget", "5", "-h"],
-        Wanted::Help(Page::Solve),
-    ),
+    (&["solve", "--budget", "5", "-h"], Wanted::Help(Page::Solve)),
     (&["replay", "--help"], Wanted::Help(Page::Replay)),
     (
         &["replay", "--people", "a.csv", "-h"],
@@ -67,8 +58,7 @@ const SOLVE: &str = "hall solve [--budget N] < FILE";
 
 const REPLAY: &str = "hall replay --people L < FILE";
 
-const NO_PEOPLE: &str =
-    "the following required arguments were not provided:\n  --people <L>";
+const NO_PEOPLE: &str = "the following required arguments were not provided:\n  --people <L>";
 
 const REFUSED: [Refused; 33] = [
     (&[], "a command is wanted", HALL),
@@ -216,7 +206,10 @@ fn error_text(rt: &(impl AllocGlobal + Abort), wrong: &str, usage: &str) -> Stri
 fn words_spell_a_command(rt: HostRuntime) {
     for (place, (words, wanted)) in SPELLED.iter().enumerate() {
         let read = read(&rt, words);
-        assert!(rt; matches!(&read, Ok(command) if is_wanted(command, *wanted)), "line {place}");
+        assert!(rt;
+            matches!(&read, Ok(command) if is_wanted(command, *wanted)),
+            "line {place}"
+        );
     }
 }
 
