@@ -9,7 +9,7 @@ default the one in crates/hall/out. The first table has, for a request of 10,000
 - the desk: a plan and its commit (as bench/desk.py measures them);
 - `replay` over records in memory;
 - `serve` over connections of 500 requests in memory, at most 4,096 bytes or one byte a read;
-- `hall replay` over a pipe, in the opening world, as bench/replay.py measures it: of its hand-ins all but 250 are denied.
+- `hall replay` over a pipe, with the people and rounds of bench/replay.py, as that measures it: of its hand-ins all but 250 are denied.
 
 The second has the time of one request that comes a byte a read. All are the least of ten runs, of `hall replay` of five.
 """

@@ -15,6 +15,7 @@ import tempfile
 from wire import replies
 
 HERE = os.path.dirname(os.path.abspath(__file__))
+ROOT = os.path.dirname(HERE)
 UNAVAILABLE = b'HTTP/1.1 503 Service Unavailable\r\nContent-Type: application/json\r\nContent-Length: 16\r\n\r\n{"fault":"hall"}'
 
 
@@ -39,7 +40,7 @@ class Program:
         if os.path.exists(self.mark):
             os.remove(self.mark)
         env = {"LD_PRELOAD": self.library, "REFUSE": str(refused), "REFUSE_MARK": self.mark}
-        ran = subprocess.run([self.path, *words], input=text, env=env, capture_output=True, check=False)
+        ran = subprocess.run([self.path, *words], input=text, env=env, cwd=ROOT, capture_output=True, check=False)
         return (ran.stdout, ran.returncode), os.path.exists(self.mark)
 
 

@@ -4,7 +4,7 @@
     python3 bench/replay.py [PROGRAM] [--stored N ..]
 
 PROGRAM is the built `hall`, by default the one in crates/hall/out. Each measure is made where N
-answers are stored, by default 10, 100 and 250, the most that the opening world takes: 50 by each
+answers are stored, by default 10, 100 and 250, the most that the rounds take: 50 by each
 entrant to each puzzle, from ada, eve and fay in r1 and from eve and fay in r2, whose puzzle is ada's.
 
 The time is the processor time of a run over the list that stores the answers and then makes the
@@ -19,7 +19,12 @@ import sys
 
 from wire import record, replies, request
 
-PROGRAM = os.path.join(os.path.dirname(os.path.abspath(__file__)), "..", "crates", "hall", "out", "hall")
+ROOT = os.path.dirname(os.path.dirname(os.path.abspath(__file__)))
+sys.path.append(os.path.join(ROOT, "tools"))
+import setting  # noqa: E402
+
+PROGRAM = os.path.join(ROOT, "crates", "hall", "out", "hall")
+PEOPLE = os.path.join(ROOT, "examples", "people.csv")
 RUNS = 5
 BEFORE = 1777700000
 DURING = 1777714300
@@ -43,8 +48,9 @@ def submit(place):
 
 
 def opening(stored):
-    """Certifies two puzzles, releases their rounds, and stores so many answers."""
+    """Puts puzzles and drafts, certifies two puzzles, releases their rounds, and stores so many answers."""
     return [
+        *[it.decode() for it in setting.records()],
         record(BEFORE, request("bob-key-1", "POST", "/puzzles/bob/p1/certificate", '{"budget":200000}')),
         record(BEFORE, request("ada-key-1", "POST", "/puzzles/ada/q1/certificate", '{"budget":200000}')),
         record(BEFORE, request("dora-key", "POST", "/rounds/r1/release")),
@@ -56,7 +62,8 @@ def opening(stored):
 def run(program, records):
     """The replies that are written, and the seconds of processor time."""
     before = resource.getrusage(resource.RUSAGE_CHILDREN)
-    done = subprocess.run([program, "replay"], input="".join(records).encode(), capture_output=True, check=False)
+    words = [program, "replay", "--people", PEOPLE]
+    done = subprocess.run(words, input="".join(records).encode(), capture_output=True, check=False)
     after = resource.getrusage(resource.RUSAGE_CHILDREN)
     if done.returncode:
         sys.exit(f"the replay ended with status {done.returncode}")

@@ -3,6 +3,7 @@ ghost use Rattle.std.specs.Prelude.{◌≡◌};
 ghost use Rattle.hall_sheet.specs.Fault.{name_of};
 
 use std::alloc::AllocError;
+use std::fmt;
 
 /// What a refusal names: a column of an entry list, a field of a round sheet, or the list as a whole.
 #[derive(Clone, Copy, Debug, PartialEq, Eq)]
@@ -65,6 +66,24 @@ pub enum Refusal {
     Repeated,
     /// The start is a text, but no moment's: F5.
     Start,
+}
+
+/// The code `F1` to `F5`, and after a space the field where the refusal has one.
+impl fmt::Display for Refusal {
+    ghost use Rattle.std.specs.Prelude.{Some};
+    ghost use Rattle.hall_sheet.specs.Fault.{refusal_text};
+
+    ghost output = { λ e. Some (refusal_text e) };
+
+    fn fmt<W: fmt::Write>(&self, f: &mut fmt::Formatter<W>) -> fmt::Result {
+        match self {
+            Refusal::Syntax => write!(f, "F1"),
+            Refusal::Missing(field) => write!(f, "F2 {}", field.name()),
+            Refusal::Range(field) => write!(f, "F3 {}", field.name()),
+            Refusal::Repeated => write!(f, "F4"),
+            Refusal::Start => write!(f, "F5"),
+        }
+    }
 }
 
 /// Why bytes were not read.

@@ -1,7 +1,10 @@
 //! The commands: what they write and how they end, over whole inputs and over devices that fail.
 use crate::devices::{failing_reader, failing_writer};
+use crate::limited::LimitedStore;
+use hall_desk::Desk;
 use hall_grid::Counted;
-use hall_tool::{ToolFault, judge_run, solve_run};
+use hall_store::{MapStore, Store};
+use hall_tool::{ToolFault, judge_run, seed_run, solve_run};
 use std::alloc::Global;
 use std::io::{ErrorKind, Read, Write};
 use std::test::Fail;
@@ -167,4 +170,122 @@ fn a_command_ends_at_a_device_fault(rt: HostRuntime) {
             assert!(rt; writer.failures() == 1 && writer.into_inner().asked == fails_at + 1);
         }
     }
+}
+
+const PEOPLE: &[u8] = b"name,key,roles\n\
+    dora,dora-key,director\n\
+    ada,ada-key-1,author+entrant\n\
+    bob,bob-key-1,author\n\
+    eve,eve-key-1,entrant\n\
+    fay,fay-key-1,entrant\n\
+    rex,rex-key-1,referee\n";
+
+const EVE_CHANGED: &[u8] = b"name,key,roles\neve,eve-key-2,entrant\n";
+
+/// A list, what is written of it, and the exit status.
+type Listed = (&'static [u8], &'static [u8], u8);
+
+/// One list after another, over one world that begins empty.
+const LISTS: [Listed; 16] = [
+    (b"name,key,roles\n", b"", 0),
+    (PEOPLE, b"", 0),
+    (PEOPLE, b"", 0),
+    (EVE_CHANGED, b"denied 20\n", 2),
+    (
+        b"name,key,roles\ngil,eve-key-1,entrant\n",
+        b"denied 20\n",
+        2,
+    ),
+    (b"name,key,roles\neve,eve-key-1,author\n", b"denied 20\n", 2),
+    (
+        b"name,key,roles\ngil,gil-key-1,entrant+director\n",
+        b"denied 20\n",
+        2,
+    ),
+    (b"", b"refused F1\n", 2),
+    (b"name,key\n", b"refused F1\n", 2),
+    (
+        b"name,key,roles\n,gil-key-1,entrant\n",
+        b"refused F2 name\n",
+        2,
+    ),
+    (
+        b"name,key,roles\ngil,gil-key-1,\n",
+        b"refused F2 roles\n",
+        2,
+    ),
+    (
+        b"name,key,roles\ngil,gil-key,entrant\n",
+        b"refused F3 key\n",
+        2,
+    ),
+    (
+        b"name,key,roles\ngil,gil-key-1,judge\n",
+        b"refused F3 roles\n",
+        2,
+    ),
+    (
+        b"name,key,roles\ngil,gil-key-1,entrant\ngil,gil-key-2,author\n",
+        b"refused F4\n",
+        2,
+    ),
+    (b"name,key,roles\ngil,gil-key-1,entrant", b"", 0),
+    (b"name,key,roles\nhal,gil-key-1,author\n", b"denied 20\n", 2),
+];
+
+#[test]
+fn a_list_is_seeded_or_a_line_tells_why_not(rt: HostRuntime) {
+    let mut desk = Desk::new(MapStore::new(rt.alloc()));
+    for (place, (list, line, status)) in LISTS.iter().enumerate() {
+        let mut writer = Counted::new(Vec::new(rt.alloc()));
+        let ended = seed_run(rt.alloc(), &mut desk, list, &mut writer);
+        assert!(rt; ended == Ok(*status), "list {place}");
+        assert!(rt; writer.into_inner().as_slice() == *line, "list {place}");
+    }
+}
+
+/// Seeds the desk, and what was written.
+fn seeded<S: Store>(
+    alloc: Global,
+    desk: &mut Desk<S>,
+    list: &[u8],
+) -> (Result<u8, ToolFault>, Vec<u8>) {
+    let mut writer = Counted::new(Vec::new(alloc));
+    let ended = seed_run(alloc, desk, list, &mut writer);
+    (ended, writer.into_inner())
+}
+
+#[test]
+fn a_list_is_seeded_over_a_writer_that_fails(rt: HostRuntime) {
+    for (list, line) in [(EVE_CHANGED, 10), (b"".as_slice(), 11)] {
+        let mut desk = Desk::new(MapStore::new(rt.alloc()));
+        // Nothing is written of this list, so the writer isn't asked.
+        let mut unasked = failing_writer(0, false);
+        let ended = seed_run(rt.alloc(), &mut desk, PEOPLE, &mut unasked);
+        assert!(rt; ended == Ok(0) && unasked.into_inner().asked == 0);
+        for fails_at in 0..line {
+            let mut writer = failing_writer(fails_at, fails_at % 2 == 0);
+            let ended = seed_run(rt.alloc(), &mut desk, list, &mut writer);
+            assert!(rt; ended == Err(ToolFault::Device));
+            assert!(rt; writer.failures() == 1 && writer.into_inner().asked == fails_at + 1);
+        }
+    }
+}
+
+#[test]
+fn a_store_that_fails_is_told(rt: HostRuntime) {
+    // Six times a name and a key, six times a name, and the import.
+    for left in 0..19 {
+        let store = MapStore::new(rt.alloc());
+        let mut desk = Desk::new(LimitedStore { store, left });
+        let (ended, written) = seeded(rt.alloc(), &mut desk, PEOPLE);
+        assert!(rt;
+            ended == Err(ToolFault::Store) && written.is_empty(),
+            "calls {left}"
+        );
+    }
+    let store = MapStore::new(rt.alloc());
+    let mut desk = Desk::new(LimitedStore { store, left: 19 });
+    let (ended, written) = seeded(rt.alloc(), &mut desk, PEOPLE);
+    assert!(rt; ended == Ok(0) && written.is_empty());
 }

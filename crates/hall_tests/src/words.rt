@@ -3,38 +3,48 @@ use hall_tool::{Command, Page, WordsFault, read_words};
 use std::alloc::AllocGlobal;
 use std::process::Abort;
 
-/// The words after the program's name, and the command that they spell.
-type Spelled = (&'static [&'static str], Command);
+/// A command, with its path as a text.
+#[derive(Clone, Copy)]
+enum Wanted {
+    Judge,
+    Solve(u64),
+    Replay(&'static str),
+    Help(Page),
+    Version,
+}
 
-const SPELLED: [Spelled; 19] = [
-    (&["judge"], Command::Judge),
-    (&["judge", "--"], Command::Judge),
-    (&["replay"], Command::Replay),
-    (&["solve"], Command::Solve { budget: 200_000 }),
-    (&["solve", "--budget=5"], Command::Solve { budget: 5 }),
-    (&["solve", "--budget", "0"], Command::Solve { budget: 0 }),
+/// The words after the program's name, and the command that they spell.
+type Spelled = (&'static [&'static str], Wanted);
+
+const SPELLED: [Spelled; 25] = [
+    (&["judge"], Wanted::Judge),
+    (&["judge", "--"], Wanted::Judge),
+    (&["replay", "--people", "a.csv"], Wanted::Replay("a.csv")),
+    (&["replay", "--people=a.csv"], Wanted::Replay("a.csv")),
+    (&["replay", "--people=-b"], Wanted::Replay("-b")),
+    (&["replay", "--people=--help"], Wanted::Replay("--help")),
+    (&["replay", "--people", "a b", "--"], Wanted::Replay("a b")),
+    (&["replay", "--people="], Wanted::Replay("")),
+    (&["solve"], Wanted::Solve(200_000)),
+    (&["solve", "--budget=5"], Wanted::Solve(5)),
+    (&["solve", "--budget", "0"], Wanted::Solve(0)),
+    (&["solve", "--budget", "200000"], Wanted::Solve(200_000)),
+    (&["solve", "--budget", "1000000"], Wanted::Solve(1_000_000)),
+    (&["solve", "--budget", "007"], Wanted::Solve(7)),
+    (&["solve", "--budget", "+7"], Wanted::Solve(7)),
+    (&["--help"], Wanted::Help(Page::Hall)),
+    (&["-h"], Wanted::Help(Page::Hall)),
+    (&["judge", "--help"], Wanted::Help(Page::Judge)),
+    (&["solve", "--help"], Wanted::Help(Page::Solve)),
+    (&["solve", "--budget", "5", "-h"], Wanted::Help(Page::Solve)),
+    (&["replay", "--help"], Wanted::Help(Page::Replay)),
     (
-        &["solve", "--budget", "200000"],
-        Command::Solve { budget: 200_000 },
+        &["replay", "--people", "a.csv", "-h"],
+        Wanted::Help(Page::Replay),
     ),
-    (
-        &["solve", "--budget", "1000000"],
-        Command::Solve { budget: 1_000_000 },
-    ),
-    (&["solve", "--budget", "007"], Command::Solve { budget: 7 }),
-    (&["solve", "--budget", "+7"], Command::Solve { budget: 7 }),
-    (&["--help"], Command::Help(Page::Hall)),
-    (&["-h"], Command::Help(Page::Hall)),
-    (&["judge", "--help"], Command::Help(Page::Judge)),
-    (&["solve", "--help"], Command::Help(Page::Solve)),
-    (
-        &["solve", "--budget", "5", "-h"],
-        Command::Help(Page::Solve),
-    ),
-    (&["replay", "--help"], Command::Help(Page::Replay)),
-    (&["--version"], Command::Version),
-    (&["-V"], Command::Version),
-    (&["--version", "judge"], Command::Version),
+    (&["--version"], Wanted::Version),
+    (&["-V"], Wanted::Version),
+    (&["--version", "judge"], Wanted::Version),
 ];
 
 /// The words after the program's name, what the error says of the one that is wrong, and the usage that it shows.
@@ -46,9 +56,11 @@ const JUDGE: &str = "hall judge < FILE";
 
 const SOLVE: &str = "hall solve [--budget N] < FILE";
 
-const REPLAY: &str = "hall replay < FILE";
+const REPLAY: &str = "hall replay --people L < FILE";
 
-const REFUSED: [Refused; 26] = [
+const NO_PEOPLE: &str = "the following required arguments were not provided:\n  --people <L>";
+
+const REFUSED: [Refused; 33] = [
     (&[], "a command is wanted", HALL),
     (&["--"], "a command is wanted", HALL),
     (&["migrate"], "unexpected argument 'migrate' found", HALL),
@@ -84,6 +96,33 @@ const REFUSED: [Refused; 26] = [
         &["replay", "--", "x"],
         "unexpected argument 'x' found",
         REPLAY,
+    ),
+    (
+        &["replay", "--people", "a.csv", "b.csv"],
+        "unexpected argument 'b.csv' found",
+        REPLAY,
+    ),
+    (&["replay"], NO_PEOPLE, REPLAY),
+    (&["replay", "--"], NO_PEOPLE, REPLAY),
+    (
+        &["replay", "--people"],
+        "a value is required for '--people <L>' but none was supplied",
+        REPLAY,
+    ),
+    (
+        &["replay", "--people", "-b"],
+        "unexpected argument '-b' found",
+        REPLAY,
+    ),
+    (
+        &["replay", "--people", "a.csv", "--people=b.csv"],
+        "the argument '--people <L>' cannot be used multiple times",
+        REPLAY,
+    ),
+    (
+        &["judge", "--people", "a.csv"],
+        "unexpected argument '--people' found",
+        JUDGE,
     ),
     (&["solve", "5"], "unexpected argument '5' found", SOLVE),
     (
@@ -147,6 +186,16 @@ fn read(rt: &(impl AllocGlobal + Abort), words: &[&str]) -> Result<Command, Stri
     }
 }
 
+fn is_wanted(command: &Command, wanted: Wanted) -> bool {
+    match (command, wanted) {
+        (Command::Judge, Wanted::Judge) | (Command::Version, Wanted::Version) => true,
+        (Command::Solve { budget }, Wanted::Solve(visits)) => *budget == visits,
+        (Command::Replay { people }, Wanted::Replay(path)) => people.as_str() == path,
+        (Command::Help(page), Wanted::Help(asked)) => *page == asked,
+        _ => false,
+    }
+}
+
 fn error_text(rt: &(impl AllocGlobal + Abort), wrong: &str, usage: &str) -> String {
     format!(in rt.alloc();
         "error: {wrong}\n\nUsage: {usage}\n\nFor more information, try '--help'.\n"
@@ -155,8 +204,12 @@ fn error_text(rt: &(impl AllocGlobal + Abort), wrong: &str, usage: &str) -> Stri
 
 #[test]
 fn words_spell_a_command(rt: HostRuntime) {
-    for (place, (words, command)) in SPELLED.iter().enumerate() {
-        assert!(rt; read(&rt, words) == Ok(*command), "line {place}");
+    for (place, (words, wanted)) in SPELLED.iter().enumerate() {
+        let read = read(&rt, words);
+        assert!(rt;
+            matches!(&read, Ok(command) if is_wanted(command, *wanted)),
+            "line {place}"
+        );
     }
 }
 
@@ -164,6 +217,7 @@ fn words_spell_a_command(rt: HostRuntime) {
 fn a_wrong_word_is_named(rt: HostRuntime) {
     for (place, (words, wrong, usage)) in REFUSED.iter().enumerate() {
         let text = error_text(&rt, wrong, usage);
-        assert!(rt; read(&rt, words) == Err(text), "line {place}");
+        let read = read(&rt, words);
+        assert!(rt; matches!(&read, Err(told) if *told == text), "line {place}");
     }
 }

@@ -44,10 +44,10 @@ no_command f (y ∷ ys) x e judge solve replay =
       differs (f x) (codes "replay") replay,
     ) refl
 
--- what holds of the value that clap's matches give for the budget
-pub budget_row : (f : Found) (named : Option Text) (P : Option Text → Type 0) → named ≡ first_value f (codes "budget")
-    → P named → P (first_of (codes "budget") (rows_of f))
-budget_row f named P e p = subst P (e ∙ first_value-rows f (codes "budget")) p
+-- what holds of the value that clap's matches give for an option
+pub value_row : (f : Found) (id : Text) (named : Option Text) (P : Option Text → Type 0) → named ≡ first_value f id
+    → P named → P (first_of id (rows_of f))
+value_row f id named P e p = subst P (e ∙ first_value-rows f id) p
 
 -- a claim that holds
 pub line_tells : (fault : WordsFault) (claim : Type 0) → claim → IfLine fault claim
@@ -100,7 +100,10 @@ module _ (words : List Text) where
         let read : rows ≡ matches_of (line_of pages.Solve) words =
         same ∙ ap (λ page. matches_of (line_of page) words) t.0 in
         ((t.0, fine), subst (λ (rs : List Row). IsBudget (first_of (codes "budget") rs) budget) read t.1)
-    taken_spells Replay t = (t, fine)
+    taken_spells (Replay people) t =
+        let read : rows ≡ matches_of (line_of pages.Replay) words =
+        same ∙ ap (λ page. matches_of (line_of page) words) t.0 in
+        ((t.0, fine), ap (λ (rs : List Row). first_of (codes "people") rs) (sym read) ∙ t.1)
     taken_spells (Help page) t = absurd t
     taken_spells Version t = absurd t
 
@@ -111,7 +114,10 @@ module _ (words : List Text) where
         same ∙ ap (λ page. matches_of (line_of page) words) s.0.0 in
         none (Solve budget)
         (s.0.0, subst (λ (rs : List Row). IsBudget (first_of (codes "budget") rs) budget) (sym read) s.1)
-    none_taken none Replay s = none Replay s.0
+    none_taken none (Replay people) s =
+        let read : rows ≡ matches_of (line_of pages.Replay) words =
+        same ∙ ap (λ page. matches_of (line_of page) words) s.0.0 in
+        none (Replay people) (s.0.0, ap (λ (rs : List Row). first_of (codes "people") rs) read ∙ s.1)
     none_taken none (Help page) s = absurd (none_is_some DisplayHelp (sym fine ∙ s.1))
     none_taken none Version s = absurd (none_is_some DisplayVersion (sym fine ∙ s))
 
@@ -123,7 +129,7 @@ module _ (words : List Text) where
       → AsksFor (page_of words) (kind_of e) command → Spells words command
   asked_spells e Judge has asks = absurd asks
   asked_spells e (Solve budget) has asks = absurd asks
-  asked_spells e Replay has asks = absurd asks
+  asked_spells e (Replay people) has asks = absurd asks
   asked_spells e (Help page) (inl memory) asks = let is = asks.1 in cc
   asked_spells e (Help page) (inr among) asks =
       (sym asks.0, whole (kind_of e) among ∙ ap (λ k. k ∷ []) asks.1)
@@ -134,7 +140,7 @@ module _ (words : List Text) where
   none_asked e (inl memory) asks command s = absurd (asks.0 memory)
   none_asked e (inr among) asks Judge s = absurd (none_is_some _ (sym s.1 ∙ whole (kind_of e) among))
   none_asked e (inr among) asks (Solve budget) s = absurd (none_is_some _ (sym s.0.1 ∙ whole (kind_of e) among))
-  none_asked e (inr among) asks Replay s = absurd (none_is_some _ (sym s.1 ∙ whole (kind_of e) among))
+  none_asked e (inr among) asks (Replay people) s = absurd (none_is_some _ (sym s.0.1 ∙ whole (kind_of e) among))
   none_asked e (inr among) asks (Help page) s =
       absurd (asks.1 (same_kind _ _ (sym (whole (kind_of e) among) ∙ s.1)))
   none_asked e (inr among) asks Version s = absurd (asks.2 (same_kind _ _ (sym (whole (kind_of e) among) ∙ s)))

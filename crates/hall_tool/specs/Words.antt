@@ -45,11 +45,15 @@ IsBudget (Some text) budget =
     IsNumeral 10 (without_leading_plus text) × (budget ≡ digits_value 10 (without_leading_plus text))
     × (budget ≤ 1000000)
 
--- the words spell the command
+-- the value that the words of `replay` give the option `--people`
+abbrev pub people_text : List Text → Option Text
+people_text words = first_of (codes "people") (matches_of (line_of pages.Replay) words)
+
+-- the words spell the command; `replay` without `--people` is none
 abbrev pub Spells : List Text → Command → Type 0
 Spells words Judge = Takes pages.Judge words
 Spells words (Solve budget) = Takes pages.Solve words × IsBudget (budget_text words) budget
-Spells words Replay = Takes pages.Replay words
+Spells words (Replay people) = Takes pages.Replay words × (people_text words ≡ Some people)
 Spells words (Help page) = AsksHelp page words
 Spells words Version = faults_of words ≡ DisplayVersion ∷ []
 
@@ -72,7 +76,7 @@ IsNoBudget text = (budget : ℕ) → IsBudget text budget → ⊥
 abbrev pub IsTaken : Page → List Row → Command → Type 0
 IsTaken page rows Judge = page ≡ pages.Judge
 IsTaken page rows (Solve budget) = (page ≡ pages.Solve) × IsBudget (first_of (codes "budget") rows) budget
-IsTaken page rows Replay = page ≡ pages.Replay
+IsTaken page rows (Replay people) = (page ≡ pages.Replay) × (first_of (codes "people") rows ≡ Some people)
 IsTaken page rows other = ⊥
 
 -- no command is that of the page and the rows
@@ -95,13 +99,15 @@ AsksNone kind = (kind ≢ OutOfMemory) × (kind ≢ DisplayHelp) × (kind ≢ Di
 abbrev pub SpellOneCommand : Type 0
 SpellOneCommand = (words : List Text) (one other : Command) → Spells words one → Spells words other → one ≡ other
 
--- words of each command: its name alone, and for `solve` any text of a budget; `--help` alone and after a name
+-- words of each command: its name alone, for `solve` with any text of a budget too, and for `replay` with any path;
+-- `--help` alone and after a name
 pub record AreSpelled : Type 0 where
   pub judge : Spells (codes "judge" ∷ []) Judge
   pub solve : Spells (codes "solve" ∷ []) (Solve 200000)
   pub named : (text : Text) (budget : ℕ) → IsBudget (Some text) budget
       → Spells (codes "solve" ∷ (codes "--budget=" ++ text) ∷ []) (Solve budget)
-  pub replay : Spells (codes "replay" ∷ []) Replay
+  pub replay : (path : Text) → Spells (codes "replay" ∷ (codes "--people=" ++ path) ∷ []) (Replay path)
+  pub replay_apart : Spells (codes "replay" ∷ codes "--people" ∷ codes "people.csv" ∷ []) (Replay (codes "people.csv"))
   pub hall_help : Spells (codes "--help" ∷ []) (Help pages.Hall)
   pub judge_help : Spells (codes "judge" ∷ codes "--help" ∷ []) (Help pages.Judge)
   pub solve_help : Spells (codes "solve" ∷ codes "--help" ∷ []) (Help pages.Solve)

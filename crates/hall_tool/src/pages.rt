@@ -1,7 +1,7 @@
 //! The command lines of the program, each with its page of help.
 ghost use Rattle.std.specs.Prelude.{◌≡◌, IfOk, false};
 ghost use Rattle.clap.specs.Words.{app_of, rule_of};
-ghost use Rattle.hall_tool.specs.Pages.{budget_rule, line_of};
+ghost use Rattle.hall_tool.specs.Pages.{budget_rule, line_of, people_rule};
 
 use clap::{Arg, ArgAction, Command};
 use std::alloc::{AllocError, Global};
@@ -55,18 +55,22 @@ Example:
   one 110011/101101";
 
 const REPLAY: &str = "\
-Answers recorded requests, from the opening world on.
+Answers recorded requests, beginning with the people of an entry list and nothing else.
 
 Reads records, each a line `@MOMENT LENGTH` and so many bytes of one HTTP/1.1 request. The moment is in seconds since
-1970. Writes the replies one after another.";
+1970. Writes the replies one after another. Where the list is none, it writes `refused` and the list's first fault, and
+where its people may not stand, `denied` and the rule; then it reads no record.";
 
 const REPLAY_MORE: &str = "\
-Exit status: 0 where the input is whole records and no more; 2 where it goes on with no whole record.
+Exit status: 0 where the input is whole records and no more; 2 where it goes on with no whole record, or the list is
+refused or denied.
 
 Example:
-  $ hall replay < examples/replay.txt";
+  $ hall replay --people examples/people.csv < examples/replay.txt";
 
 const BUDGET: &str = "Visit at most N partial fillings: 0 to 1000000 [default: 200000]";
+
+const PEOPLE: &str = "Begin with the people of the entry list L";
 
 /// A page of help: the program's own, or that of a command.
 #[derive(Clone, Copy, Debug, PartialEq, Eq)]
@@ -85,7 +89,7 @@ pub(crate) fn command_line<'a>(alloc: Global, page: Page) -> Result<Command<'a>,
         Page::Hall => Ok(hall_line(alloc)),
         Page::Judge => Ok(judge_line(alloc)),
         Page::Solve => solve_line(alloc),
-        Page::Replay => Ok(replay_line(alloc)),
+        Page::Replay => replay_line(alloc),
     }
 }
 
@@ -131,13 +135,25 @@ fn budget_option<'a>(alloc: Global) -> Arg<'a>
         .help(BUDGET)
 }
 
-fn replay_line<'a>(alloc: Global) -> Command<'a>
-    ensures { app_of result ≡ line_of Page.Replay }
+fn replay_line<'a>(alloc: Global) -> Result<Command<'a>, AllocError>
+    ensures { IfOk result (λ line. app_of line ≡ line_of Page.Replay) }
 {
     Command::new(alloc, "replay")
         .about(REPLAY)
-        .override_usage("hall replay < FILE")
+        .override_usage("hall replay --people L < FILE")
         .after_help(REPLAY_MORE)
+        .arg(people_option(alloc))
+}
+
+fn people_option<'a>(alloc: Global) -> Arg<'a>
+    ensures rule { rule_of result ≡ people_rule }
+    ensures local { result.global ≡ false }
+{
+    Arg::new(alloc, "people")
+        .long("people")
+        .value_name("L")
+        .action(ArgAction::Set)
+        .help(PEOPLE)
 }
 
 /// The text of a page of help: what the command does, its options with their ranges and defaults, and an example.

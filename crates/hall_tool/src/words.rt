@@ -1,9 +1,10 @@
 //! The words of the command line.
-ghost use Rattle.std.specs.Prelude.{◌≡◌, IfOk, IfErr, MatchOption, Some, map, codes, string_bytes};
+ghost use Rattle.std.specs.Prelude.{◌≡◌, IfOk, IfErr, MatchOption, None, Some, map, codes, string_bytes};
 ghost use Rattle.clap.specs.Words.{first_of, found_of, kind_of, rows_of};
 ghost use Rattle.hall_tool.specs.Words.{IfLine, SpellsNone, IsBudget, Spells, page_of};
 ghost use Rattle.hall_tool.specs.Words.{IsNoBudget, IsTaken, TakesNone, AsksFor, AsksNone};
 
+use crate::file_path::FilePath;
 use crate::pages::{Page, command_line};
 use clap::ArgMatches;
 use clap::error::{Error, ErrorKind};
@@ -17,17 +18,21 @@ const MOST_BUDGET: u64 = 1_000_000;
 
 const NO_COMMAND: &str = "a command is wanted";
 
-const NO_VALUE: &str = "a value is required for '--budget <N>' but none was supplied";
+const NO_BUDGET_VALUE: &str = "a value is required for '--budget <N>' but none was supplied";
+
+const NO_PEOPLE_VALUE: &str = "a value is required for '--people <L>' but none was supplied";
+
+const NO_PEOPLE: &str = "the following required arguments were not provided:\n  --people <L>";
 
 /// What the program is asked to do.
-#[derive(Clone, Copy, Debug, PartialEq, Eq)]
+#[derive(Debug, Drop)]
 pub enum Command {
     /// Judge the answer on standard input.
     Judge,
     /// Search for the solutions of the puzzle on standard input, in at most so many visits: 0 to 1,000,000.
     Solve { budget: u64 },
-    /// Answer the records on standard input.
-    Replay,
+    /// Answer the records on standard input, beginning with the people of the entry list at the path.
+    Replay { people: FilePath },
     /// Show a page of help.
     Help(Page),
     /// Show the version.
@@ -100,7 +105,10 @@ fn taken<'a>(
             let budget = budget_of(alloc, line, matches)?;
             Ok(Command::Solve { budget })
         }
-        Page::Replay => Ok(Command::Replay),
+        Page::Replay => {
+            let people = people_of(alloc, line, matches)?;
+            Ok(Command::Replay { people })
+        }
     }
 }
 
@@ -114,8 +122,32 @@ fn asked(line: &mut clap::Command<'_>, page: Page, error: Error) -> Result<Comma
         ErrorKind::DisplayHelp => Ok(Command::Help(page)),
         ErrorKind::DisplayVersion => Ok(Command::Version),
         // clap's own text has no usage line.
-        ErrorKind::InvalidValue => Err(refusal(line, ErrorKind::InvalidValue, NO_VALUE)),
+        ErrorKind::InvalidValue => Err(refusal(line, ErrorKind::InvalidValue, no_value(page))),
         _ => Err(WordsFault::Line(error)),
+    }
+}
+
+/// What is said of an option of the page's line that stands without its value.
+fn no_value(page: Page) -> &'static str {
+    match page {
+        Page::Replay => NO_PEOPLE_VALUE,
+        _ => NO_BUDGET_VALUE,
+    }
+}
+
+/// The path of the entry list that is named.
+fn people_of(
+    alloc: Global,
+    line: &mut clap::Command<'_>,
+    matches: &ArgMatches<'_>,
+) -> Result<FilePath, WordsFault>
+    ensures people { IfOk result (λ people. first_of (codes "people") (rows_of (found_of matches.now)) ≡ Some people) }
+    ensures fault { IfErr result (λ fault. IfLine fault
+        (first_of (codes "people") (rows_of (found_of matches.now)) ≡ None)) }
+{
+    match matches.get_str("people") {
+        Some(path) => Ok(FilePath::new(String::from_str(alloc, path)?)),
+        None => Err(refusal(line, ErrorKind::MissingRequiredArgument, NO_PEOPLE)),
     }
 }
 

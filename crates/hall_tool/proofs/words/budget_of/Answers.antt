@@ -1,18 +1,18 @@
-use Rattle.std.proofs.Common.{None, Some, refl}
+use Rattle.std.proofs.Common.{None, Some, codes, refl}
 use Rattle.clap.specs.Words.{found_of}
 use Rattle.hall_tool.specs.Words.{IsBudget, IsNoBudget}
-use Rattle.hall_tool.proofs.Spelling.{budget_row, line_tells}
+use Rattle.hall_tool.proofs.Spelling.{value_row, line_tells}
 use Rattle.hall_tool.proofs.words.budget_of.Goals as goal
 
 pub returns-in-None-clause-budget : goal.returns-in-None-clause-budget
 returns-in-None-clause-budget c =
-    budget_row (found_of c.args.matches.now) None (λ named. IsBudget named 200000) c.in-None.ensures refl
+    value_row (found_of c.args.matches.now) (codes "budget") None (λ named. IsBudget named 200000) c.in-None.ensures refl
 
 pub returns-in-Some-named_budget-clause-budget : goal.returns-in-Some-named_budget-clause-budget
-returns-in-Some-named_budget-clause-budget c = budget_row (found_of c.args.matches.now) (Some c.in-Some.text.now)
+returns-in-Some-named_budget-clause-budget c = value_row (found_of c.args.matches.now) (codes "budget") (Some c.in-Some.text.now)
     (λ named. IsBudget named c.in-Some-named_budget.budget) c.in-Some.ensures c.in-Some-named_budget.ensures
 
 pub returns-in-None-named_budget-clause-fault : goal.returns-in-None-named_budget-clause-fault
 returns-in-None-named_budget-clause-fault c = line_tells c.no_budget.result _
-    (budget_row (found_of c.args.matches.now) (Some c.in-Some.text.now) IsNoBudget c.in-Some.ensures
+    (value_row (found_of c.args.matches.now) (codes "budget") (Some c.in-Some.text.now) IsNoBudget c.in-Some.ensures
     c.in-None-named_budget.ensures)

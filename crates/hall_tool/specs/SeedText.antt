@@ -1,0 +1,50 @@
+-- What an entry list that stands before any request makes of a world, what is written of it, and the exit status.
+use Rattle.std.specs.Prelude.{◌≡◌, ℕ, ⊤, List, [], ◌++◌, codes, decimal, Ok, Err}
+use Rattle.hall_policy.specs.declared.record.Person.{Person}
+use Rattle.hall_store.specs.Store.{Content, Kept}
+use Rattle.hall_desk.specs.Plans.{Seeds}
+use Rattle.hall_desk.specs.declared.reply.Reply.{Reply}
+use Rattle.hall_desk.specs.declared.reply.Reply.TheVariants as reply
+use Rattle.hall_sheet.specs.Fault.{refusal_text}
+use Rattle.hall_sheet.specs.People.{people_in}
+use Rattle.hall_tool.specs.declared.seed.Seeded.{Seeded}
+use Rattle.hall_tool.specs.declared.seed.Seeded.TheVariants.{Refused, Denied, Added}
+use Rattle.hall_tool.specs.JudgeText.{line_of, refusal_of}
+
+-- the list spells people, and where the device was honest, the desk answered their import so
+abbrev pub IsAnswered : List ℕ → Content → Content → Reply → Type 0
+IsAnswered list old new given =
+    (people : List Person) × (people_in list ≡ Ok people) × (new.honest → Seeds old people given new)
+
+-- this came of the list: its first fault, which leaves the world, or what the desk answered
+abbrev pub IsSeeded : List ℕ → Content → Content → Seeded → Type 0
+IsSeeded list old new (Refused refusal) = (people_in list ≡ Err refusal) × Kept old new
+IsSeeded list old new (Denied rule) = IsAnswered list old new (reply.Denied rule)
+IsSeeded list old new (Added count) = IsAnswered list old new (reply.Imported count)
+
+-- the list was refused or denied
+abbrev pub AddsNobody : Seeded → Type 0
+AddsNobody (Refused refusal) = ⊤
+AddsNobody (Denied rule) = ⊤
+AddsNobody (Added count) = ⊥
+
+-- a denial on a line of its own
+abbrev pub denial_of : ℕ → List ℕ
+denial_of rule = codes "denied " ++ line_of (decimal rule)
+
+-- a refusal or denial as it is written; of an import nothing is
+abbrev pub seeded_line : Seeded → List ℕ
+seeded_line (Refused refusal) = refusal_of (refusal_text refusal)
+seeded_line (Denied rule) = denial_of rule
+seeded_line (Added count) = []
+
+-- 0 for an import, 2 for a refusal or denial
+abbrev pub seeded_status : Seeded → ℕ
+seeded_status (Refused refusal) = 2
+seeded_status (Denied rule) = 2
+seeded_status (Added count) = 0
+
+-- what came of the list, as it is written, and the exit status
+abbrev pub SeedText : List ℕ → Content → Content → List ℕ → ℕ → Type 0
+SeedText list old new line status =
+    (seeded : Seeded) × IsSeeded list old new seeded × (line ≡ seeded_line seeded) × (status ≡ seeded_status seeded)
