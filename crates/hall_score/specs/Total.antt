@@ -94,7 +94,8 @@ ruling_points None = pos 0
 abbrev pub protest_points : List ProtestRow → ℤ
 protest_points rows = fold (λ sum row. sum +ℤ ruling_points row.ruling) (pos 0) rows
 
--- an entrant's total, from that entrant's rows of the round
+-- an entrant's total, from that entrant's rows of the round; the sum over the answers is one over the puzzles,
+-- since of the answers to one puzzle those that count have one number (proofs/Once.antt)
 abbrev pub total_of : RoundRow → List AnswerRow → List ProtestRow → ℤ
 total_of round answers protests =
     (pos (sum_by (points_for round answers) answers) +ℤ bonus_of round answers) +ℤ protest_points protests
