@@ -1,2 +1,3 @@
 pub mod Widths
 mod Worked
+mod Once

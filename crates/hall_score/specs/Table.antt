@@ -17,10 +17,11 @@ to_right width text = spaces (width - length text) ++ text
 abbrev pub to_left : ℕ → List ℕ → List ℕ
 to_left width text = text ++ spaces (width - length text)
 
--- a line: the rank in 4 places, the name in 24, the total in 8, with a space between each two and a line feed at the end
+-- a line: the rank right in 4 places, a space, the name left in 24, a space, the total right in 8, a line feed
 abbrev pub line_bytes : Line → List ℕ
 line_bytes line =
-    to_right 4 (decimal line.rank) ++ (32 ∷ (to_left 24 line.name ++ (32 ∷ (to_right 8 (signed_decimal line.total) ++ (10 ∷ [])))))
+    to_right 4 (decimal line.rank)
+    ++ (32 ∷ (to_left 24 line.name ++ (32 ∷ (to_right 8 (signed_decimal line.total) ++ (10 ∷ [])))))
 
 -- the bytes of the table of these totals
 abbrev pub IsTable : List (List ℕ × ℤ) → List ℕ → Type 0

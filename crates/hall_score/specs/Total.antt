@@ -22,11 +22,19 @@ is_right row = row.verdict == 0
 abbrev pub same_puzzle : AnswerRow → AnswerRow → Bool
 same_puzzle a b = a.key.number == b.key.number
 
+-- whether a right answer to the same puzzle came before
+abbrev pub has_right_before : List AnswerRow → AnswerRow → Bool
+has_right_before rows row =
+    list_any (λ other. same_puzzle other row && (is_right other && nat_lt other.n row.n)) rows
+
+-- whether an answer to the same puzzle came later
+abbrev pub has_later : List AnswerRow → AnswerRow → Bool
+has_later rows row = list_any (λ other. same_puzzle other row && nat_lt row.n other.n) rows
+
 -- the answer that counts for its puzzle: in an instant round the first right one, in a sealed round the last one
 abbrev pub does_count : Mode → List AnswerRow → AnswerRow → Bool
-does_count Instant rows row =
-    is_right row && not (list_any (λ other. same_puzzle other row && (is_right other && nat_lt other.n row.n)) rows)
-does_count Sealed rows row = not (list_any (λ other. same_puzzle other row && nat_lt row.n other.n) rows)
+does_count Instant rows row = is_right row && not (has_right_before rows row)
+does_count Sealed rows row = not (has_later rows row)
 
 -- the wrong answers to the same puzzle that came before
 abbrev pub wrong_before : List AnswerRow → AnswerRow → ℕ
@@ -86,7 +94,8 @@ ruling_points None = pos 0
 abbrev pub protest_points : List ProtestRow → ℤ
 protest_points rows = fold (λ sum row. sum +ℤ ruling_points row.ruling) (pos 0) rows
 
--- an entrant's total, from that entrant's rows of the round
+-- an entrant's total, from that entrant's rows of the round; the sum over the answers is one over the puzzles,
+-- since of the answers to one puzzle those that count have one number (proofs/Once.antt)
 abbrev pub total_of : RoundRow → List AnswerRow → List ProtestRow → ℤ
 total_of round answers protests =
     (pos (sum_by (points_for round answers) answers) +ℤ bonus_of round answers) +ℤ protest_points protests

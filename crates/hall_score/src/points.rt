@@ -1,11 +1,11 @@
 //! An entrant's points in a round.
-ghost use Rattle.std.specs.Prelude.{◌≡◌, ◌≤◌, ◌<◌, ◌*◌, ◌==◌, ◌&&◌, ◌≤ℤ◌, negsuc, not, nat_lt, pos, neg_ℤ, length};
+ghost use Rattle.std.specs.Prelude.{◌≡◌, ◌≤◌, ◌*◌, ◌≤ℤ◌, negsuc, pos, neg_ℤ, length};
 ghost use Rattle.std.specs.Prelude.{sum_by, option_copied, unsigned_abs};
-ghost use Rattle.std.specs.List.{list_any};
 ghost use Rattle.hall_policy.specs.World.{entry_at};
-ghost use Rattle.hall_score.specs.Total.{is_right, same_puzzle, does_count, wrong_before, cost_of, points_of};
-ghost use Rattle.hall_score.specs.Total.{does_score, points_for, is_solved, are_all_solved, last_moment};
-ghost use Rattle.hall_score.specs.Total.{minutes_left, bonus_of, ruling_points, protest_points, total_of};
+ghost use Rattle.hall_score.specs.Total.{is_right, same_puzzle, has_right_before, has_later, does_count};
+ghost use Rattle.hall_score.specs.Total.{wrong_before, cost_of, points_of, does_score, points_for};
+ghost use Rattle.hall_score.specs.Total.{is_solved, are_all_solved, last_moment, minutes_left, bonus_of};
+ghost use Rattle.hall_score.specs.Total.{ruling_points, protest_points, total_of};
 
 use hall_policy::{AnswerRow, Entry, Mode, ProtestRow, PuzzleNumber, RoundRow, Ruling};
 
@@ -25,7 +25,7 @@ fn is_same_puzzle(a: &AnswerRow, b: &AnswerRow) -> bool
 
 /// Whether a right answer to the same puzzle came before.
 fn has_right_before(answers: &[AnswerRow], row: &AnswerRow) -> bool
-    ensures { result ≡ list_any (λ other. same_puzzle other row.now && (is_right other && nat_lt other.n row.now.n)) answers.now }
+    ensures { result ≡ has_right_before answers.now row.now }
 {
     answers.iter().any(|other| is_same_puzzle(other, row)
         && (is_right(other) && other.n.get() < row.n.get()))
@@ -33,7 +33,7 @@ fn has_right_before(answers: &[AnswerRow], row: &AnswerRow) -> bool
 
 /// Whether an answer to the same puzzle came later.
 fn has_later(answers: &[AnswerRow], row: &AnswerRow) -> bool
-    ensures { result ≡ list_any (λ other. same_puzzle other row.now && nat_lt row.now.n other.n) answers.now }
+    ensures { result ≡ has_later answers.now row.now }
 {
     answers.iter().any(|other| is_same_puzzle(other, row) && row.n.get() < other.n.get())
 }
