@@ -15,9 +15,9 @@ mod limited;
 mod lists;
 #[cfg(test)]
 mod policy;
-mod requests;
 #[cfg(test)]
 mod reads;
+mod requests;
 #[cfg(test)]
 mod score;
 #[cfg(test)]
