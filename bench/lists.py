@@ -3,8 +3,9 @@
 
     python3 bench/lists.py [PROGRAM]
 
-PROGRAM is the built `hall`, by default the one in crates/hall/out. Each is measured at a tenth of its size and at all of it; the time
-is the processor time of a run with what is measured, less that of a run without it: the least of nine runs of each.
+PROGRAM is the built `hall`, by default the one in crates/hall/out. Each is measured at a tenth of its size and at all
+of it; the time is the processor time of a run with what is measured, less that of a run without it: the least of nine
+runs of each.
 An import is by `--people`, into an empty world, and then by the same list's requests in parts, which add nobody. The
 script checks that all replies are as wanted.
 """

@@ -1,6 +1,6 @@
 """Puts three puzzles and three drafts in front of the replays of examples/.
 
-`python3 tools/setting.py NAME..` changes examples/NAME.txt and NAME.out: six records stand in front of the input, by
+`python3 examples/setting.py NAME..` changes examples/NAME.txt and NAME.out: six records stand in front of the input, by
 which the authors put their puzzles and the director the drafts, and six replies in front of the output. The replies
 come from the rules in plain words and not from the program. A replay that begins with the six records stays as it is.
 """
@@ -8,7 +8,7 @@ import json
 import sys
 from pathlib import Path
 
-EXAMPLES = Path(__file__).resolve().parent.parent / "examples"
+EXAMPLES = Path(__file__).resolve().parent
 MOMENT = 1777699990
 
 SHEET = """version = 1
