@@ -7,7 +7,7 @@ replies (examples/round.out): they come from the rules in plain words and not fr
 """
 import sys
 
-from setting import DRAFTS, PUZZLES, SHEET, compact
+from setting import DRAFTS, MORNING, PUZZLES, SHEET, compact
 
 LIST = open(__file__.replace("round.py", "people.csv"), encoding="ascii").read()
 DAY_BEFORE, START, END, LATE_END = 1777626000, 1777712400, 1777716000, 1777717800
@@ -45,6 +45,18 @@ def draft(name, sheet):
     return DAY_BEFORE, DORA, "PUT", f"/rounds/{name}", SHEET.format(**sheet), 200, {"round": name}
 
 
+def sheet_with(old, new):
+    return SHEET.format(**MORNING).replace(old, new)
+
+
+def wrong_sheet(old, new, told):
+    return DAY_BEFORE, DORA, "PUT", "/rounds/r5", sheet_with(old, new), 400, told
+
+
+def listed(lines, status, told):
+    return DAY_BEFORE, DORA, "POST", "/people", "\r\n".join(["name,key,roles", *lines]), status, told
+
+
 def release(moment, name, status, told):
     return moment, DORA, "POST", f"/rounds/{name}/release", "", status, told
 
@@ -61,6 +73,9 @@ def answer(moment, entrant, text, verdict=None):
     told = {"answer": text, "entrant": entrant, "moment": moment, "n": 1, "number": 1, "token": "t1"}
     return told | ({"verdict": verdict} if verdict else {})
 
+
+INLINE = "# By dora\n" + sheet_with('\n[[puzzle]]\nauthor = "bob"\nlabel = "p1"\npoints = 40\n', "")
+INLINE += 'puzzle = [{ author = "bob", label = "p1", points = 40 }] # one\n'
 
 SETTING = [
     *[put(*puzzle) for puzzle in PUZZLES],
@@ -81,9 +96,22 @@ RELEASES = [
     draft("r4", DRAFTS[0][1]),
     release(DAY_BEFORE, "r4", *denied(11)),
     (DAY_BEFORE, DORA, "PUT", "/rounds/r1", SHEET.format(**DRAFTS[0][1]), *denied(13)),
-    # The draft r4 takes another puzzle.
+    # The draft r4 takes the puzzle of the draft r3, and then the first one again; r3 stays as it is.
     draft("r4", DRAFTS[2][1]),
     release(DAY_BEFORE, "r4", *denied(12)),
+    draft("r4", DRAFTS[0][1]),
+    release(DAY_BEFORE, "r4", *denied(11)),
+    release(DAY_BEFORE, "r3", *denied(12)),
+    # A puzzle that nobody put, a director's action, and sheets that are none.
+    (DAY_BEFORE, DORA, "PUT", "/rounds/r5", sheet_with("p1", "zz"), *denied(4)),
+    (DAY_BEFORE, BOB, "PUT", "/rounds/r5", SHEET.format(**MORNING), *denied(2)),
+    wrong_sheet("minutes = 60", 'minutes = "60"', {"field": "minutes", "form": "F2"}),
+    wrong_sheet("points = 40", "points = 0", {"field": "points", "form": "F3"}),
+    wrong_sheet("2026-05-02T09:00:00Z", "2026-02-30T09:00:00Z", {"form": "F5"}),
+    wrong_sheet("bonus = 2", 'bonus = 2\nzone = "UTC0"', {"form": "F1"}),
+    # The same sheet with a comment, its puzzle in an inline table.
+    (DAY_BEFORE, DORA, "PUT", "/rounds/r4", INLINE, 200, {"round": "r4"}),
+    read(DAY_BEFORE, DORA, "/rounds/r4", 200, {**R1, "id": "r4"}),
 ]
 ENTRY_LIST = [
     (DAY_BEFORE, DORA, "POST", "/people", LIST, 200, {"added": 0}),
@@ -91,7 +119,16 @@ ENTRY_LIST = [
      *denied(20)),
     (DAY_BEFORE, DORA, "POST", "/people", "name,key,roles\nada,ada-key-1,author+author\n",
      400, {"field": "roles", "form": "F3"}),
+    # A key of another person, in each order; one key twice; roles that don't go together.
+    listed(["gus,eve-key-1,entrant"], *denied(20)),
+    listed(["gus,eve-key-1,entrant", "eve,eve-key-2,entrant"], *denied(20)),
+    listed(["eve,eve-key-2,entrant", "gus,eve-key-1,entrant"], *denied(20)),
+    listed(["gus,gus-key-1,entrant", "hal,gus-key-1,entrant"], 400, {"form": "F4"}),
+    listed(["gus,gus-key-1,director+entrant"], *denied(20)),
+    listed(['"eve",eve-key-1,"entrant"', "rex,rex-key-1,referee"], 200, {"added": 0}),
+    (DAY_BEFORE, EVE, "POST", "/people", LIST, *denied(2)),
     read(DAY_BEFORE, "gus-key-1", "/rounds", *denied(1)),
+    listed(["gus,gus-key-1,author", "eve,eve-key-1,entrant", "hal,hal-key-1,entrant"], 200, {"added": 2}),
 ]
 READS = [
     read(DAY_BEFORE, ADA, "/puzzles/bob/p1", *denied(3)),
@@ -99,7 +136,9 @@ READS = [
     read(DAY_BEFORE, ADA, "/rounds/r2", *denied(5)),
     read(DAY_BEFORE, BOB, "/puzzles", 200, {"puzzles": [
         {"author": "bob", "label": "p1", "state": "one"}, {"author": "bob", "label": "v", "state": "gave up"}]}),
-    read(DAY_BEFORE, EVE, "/rounds", 200, {"rounds": ROUNDS}),
+    *[read(DAY_BEFORE, key, "/rounds", 200, {"rounds": ROUNDS}) for key in (ADA, BOB, EVE, REX, "gus-key-1")],
+    read(DAY_BEFORE, "gus-key-1", "/puzzles", 200, {"puzzles": []}),
+    read(DAY_BEFORE, REX, "/puzzles", *denied(2)),
     read(DAY_BEFORE, DORA, "/rounds", 200, {"rounds": [*ROUNDS, DRAFT, DRAFT | {"id": "r4"}]}),
     read(START - 1, EVE, "/rounds/r1", *denied(7)),
     read(START, EVE, "/rounds/r1", 200, R1),
