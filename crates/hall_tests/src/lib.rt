@@ -17,6 +17,7 @@ mod lists;
 mod policy;
 #[cfg(test)]
 mod reads;
+#[cfg(test)]
 mod requests;
 #[cfg(test)]
 mod score;
