@@ -38,8 +38,8 @@ points = 40
 
 
 def people(count):
-    """So many entrants."""
-    return [f"entrant-{place},key-of-{place},entrant\n" for place in range(count)]
+    """Entrants, so many people with the staff."""
+    return [f"entrant-{place},key-of-{place},entrant\n" for place in range(count - len(STAFF))]
 
 
 def run(program, lines, records):
@@ -80,7 +80,7 @@ def import_time(program, count):
 def again_time(program, count):
     """The same list by requests of 500 people, where all of them are known."""
     lines = people(count)
-    parts = [HEAD + "".join(lines[at : at + 500]) for at in range(0, count, 500)]
+    parts = [HEAD + "".join(lines[at : at + 500]) for at in range(0, len(lines), 500)]
     records = [ask("dora-key", "POST", "/people", part) for part in parts]
     return spent(program, STAFF + lines, records) - spent(program, STAFF + lines, [])
 
