@@ -53,7 +53,8 @@ planned_seed old mid new people plan given kept opened made leads told done h op
           (subst (λ (w : World). Seed mid.world people plan.reply w) (sym after.1) (made before serves).seeded)),
     )
 
-seed_sane : (world : World) (people : List Person) (given : Reply) (new : World) → ArePeople people → All IsPerson people → Seed world people given new → Sane world → Sane new
+-- it keeps a sane world
+pub seed_sane : (world : World) (people : List Person) (given : Reply) (new : World) → ArePeople people → All IsPerson people → Seed world people given new → Sane world → Sane new
 seed_sane world people given new are each (inl h) sane = subst Sane (sym h.1) sane
 seed_sane world people given new are each (inr (inl h)) sane = subst Sane (sym h.2) sane
 seed_sane world people given new are each (inr (inr h)) sane =

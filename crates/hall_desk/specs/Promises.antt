@@ -6,7 +6,8 @@ use Rattle.hall_grid.specs.Board.{Board}
 use Rattle.hall_grid.specs.Rule.{Names}
 use Rattle.hall_grid.specs.Answer.{Verdict}
 use Rattle.hall_policy.specs.World.{World}
-use Rattle.hall_policy.specs.Ranges.{IsMoment, IsRequest}
+use Rattle.hall_policy.specs.Lists.{ArePeople}
+use Rattle.hall_policy.specs.Ranges.{IsPerson, IsMoment, IsRequest}
 use Rattle.hall_policy.specs.Rules.{StandsReleased}
 use Rattle.hall_policy.specs.declared.record.AnswerRow.{AnswerRow}
 use Rattle.hall_policy.specs.declared.record.Person.{Person}
@@ -17,9 +18,10 @@ use Rattle.hall_policy.specs.declared.record.Round.{Round}
 use Rattle.hall_policy.specs.declared.request.Action.TheVariants.{Submit}
 use Rattle.hall_policy.specs.declared.request.Request.{Request}
 use Rattle.hall_store.specs.Caller.{caller_of}
+use Rattle.hall_store.specs.Maps.{empty_world}
 use Rattle.hall_desk.specs.Sane.{Sane, Solves}
 use Rattle.hall_desk.specs.Shown.{told_verdict}
-use Rattle.hall_desk.specs.Step.{Step}
+use Rattle.hall_desk.specs.Step.{Step, Seed}
 use Rattle.hall_desk.specs.Run.{IsTimed, Run}
 use Rattle.hall_desk.specs.declared.reply.Reply.{Reply}
 use Rattle.hall_desk.specs.declared.reply.Reply.TheVariants as reply
@@ -46,9 +48,12 @@ RightAnswersAreSolutions world =
     row.state ≡ state.One solution →
     Verdict row.puzzle answer names → NamesNoRule names ↔ (answer ≡ solution)
 
--- a sane world keeps the promises to directors and entrants, and each step and run of the hall, for moments and
--- requests of their types, leads from sane worlds to sane ones
+-- a sane world keeps the promises to directors and entrants; the empty world is one; and a list before any request, each
+-- step and each run of the hall, for people, moments and requests of their types, lead from sane worlds to sane ones
 pub record SanityKeepsPromises : Type 0 where
+  pub opens : Sane empty_world
+  pub seeds : (world new : World) (people : List Person) (given : Reply) → ArePeople people → All IsPerson people →
+      Sane world → Seed world people given new → Sane new
   pub unique : (world : World) → Sane world → HasUniqueSolutions world
   pub right : (world : World) → Sane world → RightAnswersAreSolutions world
   pub steps : (world new : World) (t : ℕ) (request : Request) (given : Reply) → IsMoment t → IsRequest request →

@@ -1,9 +1,13 @@
+use Rattle.hall_desk.proofs.OpeningSane.{empty_sane}
+use Rattle.hall_desk.proofs.Seeding.{seed_sane}
 use Rattle.hall_desk.proofs.StepsSane.{step_sane, run_sane}
 use Rattle.hall_desk.proofs.Promises.{unique_solutions, right_answers}
 use Rattle.hall_desk.proofs.law.law_sanity.Goals as goal
 
 pub returns : goal.returns
 returns c = record {
+  opens = empty_sane;
+  seeds = λ world new people given are each sane seed. seed_sane world people given new are each seed sane;
   unique = unique_solutions;
   right = right_answers;
   steps = λ world new t request given timed is sane step. step_sane world t request given new timed is step sane;
