@@ -3,9 +3,14 @@ pub mod Releases
 pub mod Telling
 pub mod Runs
 pub mod Showing
+pub mod LinesTaken
 pub mod Submitting
-pub mod OpeningSane
+pub mod Protesting
+pub mod RulingProtest
+pub mod EmptySane
 mod Planning
+pub mod TablePlans
+pub mod Totalled
 pub mod Truths
 pub mod Saneness
 pub mod CertifySane
@@ -18,6 +23,8 @@ pub mod DraftSane
 pub mod StepsSane
 pub mod Promises
 pub mod Tokens
+pub mod ProtestTokens
+pub mod Rulings
 pub mod Remaining
 pub mod Retries
 pub mod Answered

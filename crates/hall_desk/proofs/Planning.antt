@@ -1,9 +1,9 @@
 -- From facts and a decision to a plan.
-use Rattle.std.proofs.Common.{◌≡◌, ◌≢◌, ◌⊎◌, ◌&&◌, ℕ, zero, suc, Bool, true, false, List, [], ◌∷◌, slice_get, Option, Some, None, IsTrue, Result, Ok, Err, IfOk, inl, refl, sym, ◌∙◌, ap, subst, inr, cond}
+use Rattle.std.proofs.Common.{◌≡◌, ◌≢◌, ◌⊎◌, ◌&&◌, ◌||◌, ℕ, zero, suc, Bool, true, false, List, [], ◌∷◌, slice_get, map, Option, Some, None, IsTrue, Result, Ok, Err, IfOk, inl, refl, sym, ◌∙◌, ap, subst, inr, cond}
 use Rattle.std.specs.List.{filter}
 use Rattle.hall_grid.specs.Board.{Board}
 use Rattle.hall_grid.specs.Canonical.{CanonicalText}
-use Rattle.hall_policy.specs.World.{World, IsRoundAt}
+use Rattle.hall_policy.specs.World.{World, IsRoundAt, same_text}
 use Rattle.hall_policy.specs.First.{First}
 use Rattle.hall_policy.specs.Facts.{TrueUpTo, IsRoundFound}
 use Rattle.hall_policy.specs.Decided.{IsDecided}
@@ -21,15 +21,18 @@ use Rattle.hall_policy.specs.declared.request.Request.{Request}
 use Rattle.hall_policy.specs.declared.request.Action.{Action}
 use Rattle.hall_policy.specs.declared.request.Action.TheVariants as action
 use Rattle.hall_store.specs.Caller.{caller_of}
-use Rattle.hall_store.specs.declared.fault.StoreFault.{StoreFault}
 use Rattle.hall_desk.specs.Found.{IsCaller}
 use Rattle.hall_store.specs.Change.{changed, CanMake, with_flag}
 use Rattle.hall_desk.specs.Step.{Decided}
-use Rattle.hall_store.specs.Store.{Content, Kept, Told, Asks}
-use Rattle.hall_desk.specs.Plans.{IsPlanFor, IsAllowedPlan, IsMadePlan, Planned, FailsIn}
+use Rattle.hall_store.specs.Store.{Content, Kept, Told, Served, Asks, IsListing}
+use Rattle.hall_policy.specs.declared.record.AnswerRow.{AnswerRow}
+use Rattle.hall_desk.specs.Plans.{IsPlanFor, IsAllowedPlan, IsMadePlan, Planned}
 use Rattle.hall_desk.specs.declared.planned.Plan.{Plan}
 use Rattle.hall_desk.specs.declared.reply.Reply.{Reply}
-use Rattle.hall_desk.specs.declared.reply.Reply.TheVariants.{PuzzlePut, Released}
+use Rattle.hall_desk.specs.declared.reply.Reply.TheVariants.{PuzzlePut, Published, Released, AnswerList}
+use Rattle.hall_desk.specs.declared.reply.AnswerLine.{AnswerLine}
+use Rattle.hall_desk.specs.Shown.{sees_all, shows_verdict, answer_line}
+use Rattle.hall_desk.specs.Lines.{AreLinesOf}
 use Rattle.hall_desk.specs.declared.reply.StateName.TheVariants as name
 use Rattle.hall_store.specs.declared.change.Change.{Change}
 use Rattle.hall_store.specs.declared.change.Change.TheVariants as change
@@ -96,13 +99,15 @@ pub told_plan : {E : Type 0} (r : Result Plan E) (mid new : Content) (t : ℕ) (
 told_plan (Ok plan) mid new t request kept served told = inl (λ h. let s = told.0 h (served (kept.honest h)) in (s, told.1 h s))
 told_plan (Err fault) mid new t request kept served told = tt
 
--- what fails for one cause alone fails for that or another
-pub fails_wider : {R : Type 0} (r : Result R StoreFault) (cause other : Type 0) (new : Content) → FailsIn cause new r → FailsIn (cause ⊎ other) new r
-fails_wider (Ok x) cause other new fails = tt
-fails_wider (Err e) cause other new fails = λ failed. elim (fails failed) [
-  | inl h ↦ inl (inl h)
-  | inr h ↦ inr h
-]
+-- what is served is told, wherever the store stood before
+pub told_served : {R E : Type 0} (r : Result R E) (M : World → R → Type 0) (old new : Content) → Served new r M → Told old new r M
+told_served (Ok x) M old new served = ((λ h s. (served h).0), (λ h s. (served h).1))
+told_served (Err fault) M old new served = tt
+
+-- what is served of a plan
+pub served_plan : {E : Type 0} (r : Result Plan E) (new : Content) (t : ℕ) (request : Request) → Served new r (λ world plan. IsPlanFor world t request plan) → Planned new t request r
+served_plan (Ok plan) new t request served = inl served
+served_plan (Err fault) new t request served = tt
 
 -- the plan of a round that is released
 pub released : (world : World) (facts : Facts) (t : ℕ) (id shown kept : List ℕ) (row : RoundRow) →
@@ -118,6 +123,20 @@ released world facts t id shown kept row same_shown same_kept told seen =
       can = (row.round, at.head);
     })) told
 
+-- the plan of a round that is published
+pub published : (world : World) (facts : Facts) (t : ℕ) (id shown kept : List ℕ) (row : RoundRow) →
+    shown ≡ id → kept ≡ id → TrueUpTo 20 facts world (action.Publish id) → facts.round ≡ Some row →
+    IsAllowedPlan world facts.caller (action.Publish id) t (record { reply = Published shown; change = change.SetRoundFlag kept flag.Published })
+published world facts t id shown kept row same_shown same_kept told seen =
+    subst (λ (x : List ℕ). TrueUpTo 20 facts world (action.Publish id) → IsAllowedPlan world facts.caller (action.Publish id) t (record { reply = Published x; change = change.SetRoundFlag kept flag.Published })) (sym same_shown)
+    (subst (λ (x : List ℕ). TrueUpTo 20 facts world (action.Publish id) → IsAllowedPlan world facts.caller (action.Publish id) t (record { reply = Published id; change = change.SetRoundFlag x flag.Published })) (sym same_kept)
+    (λ all.
+    let at : IsRoundAt world id row = subst (λ (o : Option RoundRow). IsRoundFound world (Some id) o) seen all.1.1.0 in
+    record {
+      allowed = λ found. (row.round, at.head, refl, ap (with_flag world id flag.Published) at.head);
+      can = (row.round, at.head);
+    })) told
+
 -- ---- the answers that a caller sees
 and_true : (b : Bool) → (b && true) ≡ b
 and_true true = refl
@@ -126,3 +145,31 @@ and_true false = refl
 pub filter_alike : {X : Type 0} (p q : X → Bool) → ((x : X) → p x ≡ q x) → (xs : List X) → filter p xs ≡ filter q xs
 filter_alike p q same [] = refl
 filter_alike {X} p q same (x ∷ xs) = λ i. cond (same x i) (x ∷ filter_alike p q same xs i) (filter_alike p q same xs i)
+
+-- the plan of a listing of answers
+pub listing_plan : (world : World) (facts : Facts) (id : List ℕ) (t : ℕ) (person : Person) (row : RoundRow) (all shows : Bool) (lines : List AnswerLine) (plan : Plan) →
+    TrueUpTo 20 facts world (action.Answers id) → facts.caller ≡ Some person → facts.round ≡ Some row →
+    all ≡ sees_all person row.round t → shows ≡ shows_verdict person row.round t →
+    AreLinesOf world (λ answer. same_text answer.key.round id && (all || same_text answer.key.entrant person.name)) shows lines →
+    plan ≡ record { reply = AnswerList lines; change = Nothing } → IsMadePlan world facts.caller (action.Answers id) t plan
+listing_plan world facts id t person row all shows lines plan told caller found same_all same listed is =
+    let at : IsRoundAt world id row = subst (λ (o : Option RoundRow). IsRoundFound world (Some id) o) found told.1.1.0 in
+    let rows : List AnswerRow = listed.0 in
+    subst (λ (p : Plan). IsMadePlan world facts.caller (action.Answers id) t p) (sym is) (record {
+      found = state.New;
+      allowed = (
+        person,
+        caller,
+        (
+          (
+            row.round,
+            rows,
+            at.head,
+            subst (λ (a : Bool). IsListing world (λ answer. same_text answer.key.round id && (a || same_text answer.key.entrant person.name)) rows) same_all listed.1,
+            ap AnswerList (listed.2 ∙ ap (λ (s : Bool). map (answer_line s) rows) same),
+          ),
+          refl,
+        ),
+      );
+      can = tt;
+    })

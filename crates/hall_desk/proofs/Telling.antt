@@ -1,13 +1,14 @@
 -- What was found tells all that the rules asked of the action read, up to a rule.
-use Rattle.std.proofs.Common.{◌≡◌, ◌↔◌, ℕ, List, Option, Some, None, IsTrue, Contains, refl, sym, subst, lit<}
+use Rattle.std.proofs.Common.{◌≡◌, ◌↔◌, ℕ, List, Option, Some, None, IsTrue, Contains, refl, sym, ◌∙◌, subst, lit<}
 use Rattle.std.specs.FinMap.{get}
 use Rattle.hall_grid.specs.Board.{Board}
 use Rattle.hall_policy.specs.World.{World}
 use Rattle.hall_policy.specs.Facts.{TrueUpTo, IsRoundFound}
-use Rattle.hall_policy.specs.Rules.{Lists, StandsReleased, Conflicts, puzzles_put, answers_given}
+use Rattle.hall_policy.specs.Rules.{Lists, StandsReleased, Conflicts, IsInvolved, puzzles_put, answers_given, protests_made}
 use Rattle.hall_policy.specs.declared.record.Person.{Person}
 use Rattle.hall_policy.specs.declared.record.PuzzleKey.{PuzzleKey}
 use Rattle.hall_policy.specs.declared.record.Entry.{Entry}
+use Rattle.hall_policy.specs.declared.record.Ruling.{Ruling}
 use Rattle.hall_policy.specs.declared.request.Sheet.{Sheet}
 use Rattle.hall_policy.specs.declared.request.Action.{Action}
 use Rattle.hall_policy.specs.declared.request.Action.TheVariants.{Import, PutPuzzle, ReadPuzzle, ListPuzzles, Certify, PutRound, Release, ListRounds, ReadRound, Submit, Answers, Solutions, Protest, Protests, Rule, Publish, Table}
@@ -16,7 +17,7 @@ use Rattle.hall_policy.specs.Actions.{rules_asked}
 use Rattle.hall_policy.specs.Decided.{PassesUpTo}
 use Rattle.hall_policy.specs.declared.rule.Rule.TheVariants as rule
 use Rattle.hall_store.specs.Maps.{empty_world}
-use Rattle.hall_desk.specs.Plans.{IsUnserved}
+use Rattle.hall_store.specs.Store.{IsProtestOpen}
 use Rattle.hall_desk.specs.Found.{HasAuthor, HasFaultyEntry}
 use Rattle.hall_desk.specs.declared.entry_fault.EntryFault.TheVariants.{Shared, Uncertified}
 
@@ -44,25 +45,25 @@ caller_told facts world (Table round) = (tt, (tt, tt))
 without_caller : (facts : Facts) (action : Action) (t : ℕ) → Contains (rules_asked action) rule.UnknownKey → PassesUpTo 3 facts action t → facts.caller ≡ None → ⊥
 without_caller facts action t asked passes none = (passes empty_world (caller_told facts empty_world action) rule.UnknownKey (lit< tt)).0 (asked, none)
 
--- where there is no caller, and the rules on the caller let the action pass, it isn't served yet
-pub unserved_without_caller : (facts : Facts) (action : Action) (t : ℕ) → PassesUpTo 3 facts action t → facts.caller ≡ None → IsUnserved action
-unserved_without_caller facts (PutPuzzle key puzzle) t passes none = without_caller facts (PutPuzzle key puzzle) t (0, lit< tt, refl) passes none
-unserved_without_caller facts (Certify key budget) t passes none = without_caller facts (Certify key budget) t (0, lit< tt, refl) passes none
-unserved_without_caller facts (Release round) t passes none = without_caller facts (Release round) t (0, lit< tt, refl) passes none
-unserved_without_caller facts (ReadRound round) t passes none = without_caller facts (ReadRound round) t (0, lit< tt, refl) passes none
-unserved_without_caller facts (Submit round number token answer) t passes none = without_caller facts (Submit round number token answer) t (0, lit< tt, refl) passes none
-unserved_without_caller facts (Answers round) t passes none = without_caller facts (Answers round) t (0, lit< tt, refl) passes none
-unserved_without_caller facts (Import people) t passes none = without_caller facts (Import people) t (0, lit< tt, refl) passes none
-unserved_without_caller facts (ReadPuzzle key) t passes none = without_caller facts (ReadPuzzle key) t (0, lit< tt, refl) passes none
-unserved_without_caller facts ListPuzzles t passes none = without_caller facts ListPuzzles t (0, lit< tt, refl) passes none
-unserved_without_caller facts (PutRound round sheet) t passes none = without_caller facts (PutRound round sheet) t (0, lit< tt, refl) passes none
-unserved_without_caller facts ListRounds t passes none = without_caller facts ListRounds t (0, lit< tt, refl) passes none
-unserved_without_caller facts (Solutions round) t passes none = without_caller facts (Solutions round) t (0, lit< tt, refl) passes none
-unserved_without_caller facts (Protest round token number text) t passes none = tt
-unserved_without_caller facts (Protests round) t passes none = tt
-unserved_without_caller facts (Rule round entrant token ruling) t passes none = tt
-unserved_without_caller facts (Publish round) t passes none = tt
-unserved_without_caller facts (Table round) t passes none = tt
+-- where there is no caller, and the rules on the caller let the action pass, it asks for a table
+pub table_without_caller : (facts : Facts) (action : Action) (t : ℕ) → PassesUpTo 3 facts action t → facts.caller ≡ None → (round : List ℕ) × (action ≡ Table round)
+table_without_caller facts (Import people) t passes none = absurd (without_caller facts (Import people) t (0, lit< tt, refl) passes none)
+table_without_caller facts (PutPuzzle key puzzle) t passes none = absurd (without_caller facts (PutPuzzle key puzzle) t (0, lit< tt, refl) passes none)
+table_without_caller facts (ReadPuzzle key) t passes none = absurd (without_caller facts (ReadPuzzle key) t (0, lit< tt, refl) passes none)
+table_without_caller facts ListPuzzles t passes none = absurd (without_caller facts ListPuzzles t (0, lit< tt, refl) passes none)
+table_without_caller facts (Certify key budget) t passes none = absurd (without_caller facts (Certify key budget) t (0, lit< tt, refl) passes none)
+table_without_caller facts (PutRound round sheet) t passes none = absurd (without_caller facts (PutRound round sheet) t (0, lit< tt, refl) passes none)
+table_without_caller facts (Release round) t passes none = absurd (without_caller facts (Release round) t (0, lit< tt, refl) passes none)
+table_without_caller facts ListRounds t passes none = absurd (without_caller facts ListRounds t (0, lit< tt, refl) passes none)
+table_without_caller facts (ReadRound round) t passes none = absurd (without_caller facts (ReadRound round) t (0, lit< tt, refl) passes none)
+table_without_caller facts (Submit round number token answer) t passes none = absurd (without_caller facts (Submit round number token answer) t (0, lit< tt, refl) passes none)
+table_without_caller facts (Answers round) t passes none = absurd (without_caller facts (Answers round) t (0, lit< tt, refl) passes none)
+table_without_caller facts (Solutions round) t passes none = absurd (without_caller facts (Solutions round) t (0, lit< tt, refl) passes none)
+table_without_caller facts (Protest round token number text) t passes none = absurd (without_caller facts (Protest round token number text) t (0, lit< tt, refl) passes none)
+table_without_caller facts (Protests round) t passes none = absurd (without_caller facts (Protests round) t (0, lit< tt, refl) passes none)
+table_without_caller facts (Rule round entrant token ruling) t passes none = absurd (without_caller facts (Rule round entrant token ruling) t (0, lit< tt, refl) passes none)
+table_without_caller facts (Publish round) t passes none = absurd (without_caller facts (Publish round) t (0, lit< tt, refl) passes none)
+table_without_caller facts (Table round) t passes none = (round, refl)
 
 module _ (world : World) (facts : Facts) (action : Action) where
   -- a puzzle that is put: its author, then its rounds, then how many puzzles there are
@@ -107,6 +108,29 @@ module _ (world : World) (facts : Facts) (action : Action) where
       pub submit_told : ((person : Person) → facts.caller ≡ Some person → facts.count ≡ answers_given world person.name id number) → TrueUpTo 20 facts world action
       submit_told given = subst (λ (a : Action). TrueUpTo 20 facts world a) (sym is)
           (tt, (tt, (round, (round, ((standing, tt), (round, (round, (round, (given, tt)))))))))
+
+  -- a protest: its round, then what the caller protested
+  module _ (id token : List ℕ) (number : ℕ) (text : List ℕ) (is : action ≡ Protest id token number text) (round : IsRoundFound world (Some id) facts.round) where
+    pub protest_place_told : TrueUpTo 5 facts world action
+    protest_place_told = subst (λ (a : Action). TrueUpTo 5 facts world a) (sym is) (tt, (tt, (round, (round, (tt, (tt, (tt, (tt, (tt, tt)))))))))
+
+    module _ (standing : (person : Person) → facts.caller ≡ Some person → facts.protest ≡ get world.protests (record { entrant = person.name; round = id; token = token })) where
+      pub protest_token_told : TrueUpTo 15 facts world action
+      protest_token_told = subst (λ (a : Action). TrueUpTo 15 facts world a) (sym is)
+          (tt, (tt, (round, (round, ((tt, standing), (round, (round, (round, (tt, tt)))))))))
+
+      pub protest_told : ((person : Person) → facts.caller ≡ Some person → facts.count ≡ protests_made world person.name id) → TrueUpTo 20 facts world action
+      protest_told made = subst (λ (a : Action). TrueUpTo 20 facts world a) (sym is)
+          (tt, (tt, (round, (round, ((tt, standing), (round, (round, (round, (made, tt)))))))))
+
+  -- a protest that is ruled: its round and itself, then who rules
+  module _ (id entrant token : List ℕ) (ruling : Ruling) (is : action ≡ Rule id entrant token ruling) (round : IsRoundFound world (Some id) facts.round)
+      (standing : facts.protest ≡ get world.protests (record { entrant = entrant; round = id; token = token })) where
+    pub protest_there_told : TrueUpTo 4 facts world action
+    protest_there_told = subst (λ (a : Action). TrueUpTo 4 facts world a) (sym is) (tt, (tt, ((round, standing), (tt, (tt, tt)))))
+
+    pub rule_told : (IsTrue facts.involved ↔ IsInvolved world facts.caller (Rule id entrant token ruling)) → TrueUpTo 20 facts world action
+    rule_told involved = subst (λ (a : Action). TrueUpTo 20 facts world a) (sym is) (tt, (tt, ((round, standing), (involved, (standing, tt)))))
 
   -- a round that is released: itself, then its entries' faults
   module _ (id : List ℕ) (is : action ≡ Release id) (round : IsRoundFound world (Some id) facts.round) where
@@ -170,3 +194,40 @@ module _ (world : World) (facts : Facts) (action : Action) where
   -- a round whose solutions are told
   pub solutions_told : (id : List ℕ) → action ≡ Solutions id → IsRoundFound world (Some id) facts.round → TrueUpTo 20 facts world action
   solutions_told id is found = subst (λ (a : Action). TrueUpTo 20 facts world a) (sym is) (tt, (tt, (found, (found, tt))))
+
+  -- a round whose protests are listed
+  pub protests_list_told : (id : List ℕ) → action ≡ Protests id → IsRoundFound world (Some id) facts.round → TrueUpTo 20 facts world action
+  protests_list_told id is found = subst (λ (a : Action). TrueUpTo 20 facts world a) (sym is) (tt, (tt, (found, tt)))
+
+  -- a round that is published: its row, then whether a protest of it is open
+  module _ (id : List ℕ) (is : action ≡ Publish id) (found : IsRoundFound world (Some id) facts.round) where
+    pub ended_told : TrueUpTo 15 facts world action
+    ended_told = subst (λ (a : Action). TrueUpTo 15 facts world a) (sym is) (tt, (tt, (found, (found, (found, (tt, tt))))))
+
+    pub publish_told : IsTrue facts.open_protest ↔ IsProtestOpen world id → TrueUpTo 20 facts world action
+    publish_told open_one = subst (λ (a : Action). TrueUpTo 20 facts world a) (sym is) (
+      tt,
+      (
+        tt,
+        (
+          found,
+          (
+            found,
+            (
+              found,
+              (
+                (
+                  (λ t. let f = open_one.0 t in (id, f.0, f.1, refl, f.2, f.3, f.4)),
+                  (λ f. let same : id ≡ f.0 = let named = f.3 in cc in open_one.1 (f.1, f.2, f.4 ∙ sym same, f.5, f.6)),
+                ),
+                tt,
+              ),
+            ),
+          ),
+        ),
+      ),
+    )
+
+  -- a round whose table is read
+  pub table_told : (id : List ℕ) → action ≡ Table id → IsRoundFound world (Some id) facts.round → TrueUpTo 20 facts world action
+  table_told id is found = subst (λ (a : Action). TrueUpTo 20 facts world a) (sym is) (found, (found, tt))

@@ -19,7 +19,7 @@ use Rattle.hall_desk.specs.declared.reply.Reply.{Reply}
 use Rattle.hall_desk.specs.declared.reply.Reply.TheVariants as reply
 
 -- a rule with a number up to 6 comes before the token's, or is the token's
-up_to_token : (r : Rule) → ¬ (6 < number_of r) → (number_of r ≤ 5) ⊎ (r ≡ rule.TokenTaken)
+pub up_to_token : (r : Rule) → ¬ (6 < number_of r) → (number_of r ≤ 5) ⊎ (r ≡ rule.TokenTaken)
 up_to_token rule.UnknownKey few = inl (lit≤ tt)
 up_to_token rule.NoRole few = inl (lit≤ tt)
 up_to_token rule.OtherAuthor few = inl (lit≤ tt)

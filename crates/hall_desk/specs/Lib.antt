@@ -1,6 +1,7 @@
 pub mod Desk
 pub mod Found
 pub mod Shown
+pub mod Lines
 pub mod Totals
 pub mod Step
 pub mod Run

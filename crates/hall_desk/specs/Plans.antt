@@ -1,8 +1,8 @@
 -- What a plan promises, and what a step over a store leaves.
-use Rattle.std.specs.Prelude.{◌≡◌, ◌⊎◌, ℕ, List, Option, Some, None, ◌≢◌, ⊤, Result, Ok, Err, IfErr, Contains}
+use Rattle.std.specs.Prelude.{◌≡◌, ◌⊎◌, ◌≤◌, ℕ, List, Option, Some, None, ◌≢◌, Result, Ok, Err, IfErr, Contains, count_by}
 use Rattle.hall_store.specs.declared.change.Change.TheVariants as change
 use Rattle.hall_store.specs.declared.change.Change.TheVariants.{Nothing}
-use Rattle.std.specs.FinMap.{get}
+use Rattle.std.specs.FinMap.{get, values}
 use Rattle.hall_grid.specs.Answer.{Verdict}
 use Rattle.hall_policy.specs.World.{World, entry_at}
 use Rattle.hall_policy.specs.Rules.{IsCertified}
@@ -12,18 +12,16 @@ use Rattle.hall_policy.specs.declared.record.PuzzleRow.{PuzzleRow}
 use Rattle.hall_policy.specs.declared.record.RoundRow.{RoundRow}
 use Rattle.hall_policy.specs.declared.record.PuzzleState.{PuzzleState}
 use Rattle.hall_policy.specs.declared.request.Action.{Action}
-use Rattle.hall_policy.specs.declared.request.Action.TheVariants.{Import, PutPuzzle, ReadPuzzle, ListPuzzles, Certify}
-use Rattle.hall_policy.specs.declared.request.Action.TheVariants.{PutRound, Release, ListRounds, ReadRound, Submit}
-use Rattle.hall_policy.specs.declared.request.Action.TheVariants.{Answers, Solutions, Protest, Protests, Rule, Publish, Table}
+use Rattle.hall_policy.specs.declared.request.Action.TheVariants.{Table}
 use Rattle.hall_policy.specs.declared.facts.Facts.{Facts}
 use Rattle.hall_policy.specs.declared.record.AnswerRow.{AnswerRow}
-use Rattle.hall_store.specs.Store.{Content, Over, IsListing}
+use Rattle.hall_store.specs.Store.{Content, Over, is_in, is_protest_in}
 use Rattle.hall_store.specs.declared.fault.StoreFault.{StoreFault}
 use Rattle.hall_store.specs.declared.fault.StoreFault.TheVariants.{Failed}
 use Rattle.hall_policy.specs.Facts.{TrueUpTo}
 use Rattle.hall_desk.specs.Sane.{Sane}
 use Rattle.hall_grid.specs.Board.{Board}
-use Rattle.hall_desk.specs.Shown.{sees_answer, state_name}
+use Rattle.hall_desk.specs.Shown.{state_name}
 use Rattle.hall_desk.specs.declared.reply.StateName.{StateName}
 use Rattle.hall_policy.specs.declared.request.Request.{Request}
 use Rattle.hall_policy.specs.declared.rule.Decision.TheVariants.{Allow}
@@ -77,35 +75,26 @@ pub record IsSeedPlan (world : World) (people : List Person) (plan : Plan) : Typ
   pub seeded : Seed world people plan.reply (changed plan.change world)
   pub can : CanMake plan.change world
 
--- the desk doesn't serve the action yet
-abbrev pub IsUnserved : Action → Type 0
-IsUnserved (PutPuzzle key puzzle) = ⊥
-IsUnserved (Certify key budget) = ⊥
-IsUnserved (Release round) = ⊥
-IsUnserved (ReadRound round) = ⊥
-IsUnserved (Submit round number token answer) = ⊥
-IsUnserved (Answers round) = ⊥
-IsUnserved (Import people) = ⊥
-IsUnserved (ReadPuzzle key) = ⊥
-IsUnserved ListPuzzles = ⊥
-IsUnserved (PutRound round sheet) = ⊥
-IsUnserved ListRounds = ⊥
-IsUnserved (Solutions round) = ⊥
-IsUnserved (Protest round token number text) = ⊤
-IsUnserved (Protests round) = ⊤
-IsUnserved (Rule round entrant token ruling) = ⊤
-IsUnserved (Publish round) = ⊤
-IsUnserved (Table round) = ⊤
+-- the request has no key and asks for no table, so nobody may make it
+abbrev pub IsNobodys : Request → Type 0
+IsNobodys request = (request.key ≡ None) × ((round : List ℕ) → request.action ≢ Table round)
 
--- The plan for a request without a key changes nothing, and there is one for each action that is served.
-abbrev pub IsKeylessPlan : {E : Type 0} → Action → Result Plan E → Type 0
-IsKeylessPlan action (Ok plan) = plan.change ≡ Nothing
-IsKeylessPlan action (Err fault) = IsUnserved action
+-- there is a plan, and it changes nothing
+abbrev pub IsQuietPlan : {E : Type 0} → Result Plan E → Type 0
+IsQuietPlan (Ok plan) = plan.change ≡ Nothing
+IsQuietPlan (Err fault) = ⊥
 
--- Failed is answered for such a cause alone, or where the store's world isn't sane.
+-- no round has more answers, or more protests, than a sink takes
+abbrev pub HasFewRows : World → Type 0
+HasFewRows world =
+    (id : List ℕ) → (count_by (is_in id) (values world.answers) ≤ 4294967295)
+    × (count_by (is_protest_in id) (values world.protests) ≤ 4294967295)
+
+-- Failed is answered for such a cause alone, or where the store's world isn't sane or has too many rows in a round.
 abbrev pub FailsIn : {R : Type 0} → Type 0 → Content → Result R StoreFault → Type 0
 FailsIn cause new result =
-    IfErr result (λ fault. fault ≡ Failed → cause ⊎ (new.honest → new.serves × ¬ (Sane new.world)))
+    IfErr result (λ fault. fault ≡ Failed → cause
+    ⊎ (new.honest → new.serves × ¬ (Sane new.world × HasFewRows new.world)))
 
 -- the entries' puzzles are kept
 abbrev pub AreKept : World → List Entry → Type 0
@@ -147,10 +136,3 @@ abbrev pub IsJudgedAt : World → RoundRow → ℕ → List ℕ → ℕ → Type
 IsJudgedAt world row number answer verdict =
     (entry : Entry) × (puzzle : PuzzleRow) × (entry_at row.puzzles number ≡ Some entry)
     × (get world.puzzles entry.puzzle ≡ Some puzzle) × Verdict puzzle.puzzle answer verdict
-
--- the rows are the answers that the caller sees
-abbrev pub AreRowsFor : World → Facts → Action → ℕ → List AnswerRow → Type 0
-AreRowsFor world facts (Answers id) t rows =
-    (person : Person) × (row : RoundRow) × (facts.caller ≡ Some person) × (facts.round ≡ Some row)
-    × IsListing world (sees_answer person row.round id t) rows
-AreRowsFor world facts _ t rows = ⊥

@@ -5,17 +5,19 @@ use Rattle.hall_grid.specs.declared.rule.Rule.{Rule as Broken}
 use Rattle.hall_grid.specs.Board.{Board}
 use Rattle.hall_grid.specs.Rule.{Names}
 use Rattle.hall_grid.specs.Answer.{Verdict}
-use Rattle.hall_policy.specs.World.{World}
+use Rattle.hall_policy.specs.World.{World, protest_of}
 use Rattle.hall_policy.specs.Lists.{ArePeople}
 use Rattle.hall_policy.specs.Ranges.{IsPerson, IsMoment, IsRequest}
 use Rattle.hall_policy.specs.Rules.{StandsReleased}
 use Rattle.hall_policy.specs.declared.record.AnswerRow.{AnswerRow}
 use Rattle.hall_policy.specs.declared.record.Person.{Person}
+use Rattle.hall_policy.specs.declared.record.ProtestRow.{ProtestRow}
 use Rattle.hall_policy.specs.declared.record.PuzzleKey.{PuzzleKey}
 use Rattle.hall_policy.specs.declared.record.PuzzleRow.{PuzzleRow}
 use Rattle.hall_policy.specs.declared.record.PuzzleState.TheVariants as state
 use Rattle.hall_policy.specs.declared.record.Round.{Round}
-use Rattle.hall_policy.specs.declared.request.Action.TheVariants.{Submit}
+use Rattle.hall_policy.specs.declared.record.Ruling.{Ruling}
+use Rattle.hall_policy.specs.declared.request.Action.TheVariants.{Submit, Protest, Rule}
 use Rattle.hall_policy.specs.declared.request.Request.{Request}
 use Rattle.hall_store.specs.Caller.{caller_of}
 use Rattle.hall_store.specs.Maps.{empty_world}
@@ -87,6 +89,47 @@ TokensActOnce =
     get world.answers (record { entrant = person.name; round = id; number = number; token = token }) ≡ Some row →
     Step world t (record { key = key; action = Submit id number token answer }) given new →
     (new ≡ world) × IsRetryAnswered world id row answer given
+
+-- the protest is about this number, with this text
+abbrev pub IsSameProtest : ProtestRow → ℕ → List ℕ → Type 0
+IsSameProtest row number text = (row.number ≡ number) × (row.text ≡ text)
+
+-- what a protest gets that comes under a token that stands: no service; the denial of a rule before the token's; the
+-- denial of the token's rule, which is for another number or text alone; or the first reply, which is for the same alone
+abbrev pub IsProtestRetryAnswered : ProtestRow → List ℕ → ℕ → List ℕ → Reply → Type 0
+IsProtestRetryAnswered row token number text given =
+    (given ≡ reply.Unavailable)
+    ⊎ (((k : ℕ) × (given ≡ reply.Denied k) × (k ≤ 5))
+    ⊎ (((given ≡ reply.Denied 6) × ¬ (IsSameProtest row number text))
+    ⊎ (IsSameProtest row number text × (given ≡ reply.Protested token))))
+
+-- a token whose protest was stored acts once: a protest that comes under a token that stands changes nothing, at
+-- whatever moment it comes
+abbrev pub ProtestTokensActOnce : Type 0
+ProtestTokensActOnce =
+    (world : World) (t : ℕ) (key : Option (List ℕ)) (person : Person) (id token : List ℕ) (number : ℕ)
+    (text : List ℕ) (row : ProtestRow) (given : Reply) (new : World) →
+    caller_of world key ≡ Some person → protest_of world person.name id token ≡ Some row →
+    Step world t (record { key = key; action = Protest id token number text }) given new →
+    (new ≡ world) × IsProtestRetryAnswered row token number text given
+
+-- what a ruling gets of a protest that is ruled: no service; the denial of a rule before the one on rulings; the denial
+-- of that rule, which is for another ruling alone; or the first reply, which is for the same ruling alone
+abbrev pub IsRulingRetryAnswered : Ruling → Ruling → Reply → Type 0
+IsRulingRetryAnswered ruled ruling given =
+    (given ≡ reply.Unavailable)
+    ⊎ (((k : ℕ) × (given ≡ reply.Denied k) × (k ≤ 17))
+    ⊎ (((given ≡ reply.Denied 18) × (ruled ≢ ruling))
+    ⊎ ((ruled ≡ ruling) × (given ≡ reply.Ruled ruled))))
+
+-- a ruling acts once: a ruling of a protest that is ruled changes nothing, at whatever moment it comes
+abbrev pub RulingsActOnce : Type 0
+RulingsActOnce =
+    (world : World) (t : ℕ) (key : Option (List ℕ)) (id entrant token : List ℕ) (ruling ruled : Ruling)
+    (row : ProtestRow) (given : Reply) (new : World) →
+    protest_of world entrant id token ≡ Some row → row.ruling ≡ Some ruled →
+    Step world t (record { key = key; action = Rule id entrant token ruling }) given new →
+    (new ≡ world) × IsRulingRetryAnswered ruled ruling given
 
 -- the reply to the request of an accepted answer when it comes again, or comes with another text: no service; for
 -- another text alone, the denial of the token's rule; for the same text alone, the first reply

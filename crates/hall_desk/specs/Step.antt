@@ -267,7 +267,20 @@ FirstReply world caller (Protest id token number text) given =
 FirstReply world caller (Rule id entrant token ruling) given =
     (row : ProtestRow) × (ruled : Ruling) × (protest_of world entrant id token ≡ Some row) × (row.ruling ≡ Some ruled)
     × (given ≡ reply.Ruled ruled)
-FirstReply world caller _ given = ⊥
+FirstReply world caller (Import people) given = ⊥
+FirstReply world caller (PutPuzzle key puzzle) given = ⊥
+FirstReply world caller (ReadPuzzle key) given = ⊥
+FirstReply world caller ListPuzzles given = ⊥
+FirstReply world caller (Certify key budget) given = ⊥
+FirstReply world caller (PutRound id sheet) given = ⊥
+FirstReply world caller (Release id) given = ⊥
+FirstReply world caller ListRounds given = ⊥
+FirstReply world caller (ReadRound id) given = ⊥
+FirstReply world caller (Answers id) given = ⊥
+FirstReply world caller (Solutions id) given = ⊥
+FirstReply world caller (Protests id) given = ⊥
+FirstReply world caller (Publish id) given = ⊥
+FirstReply world caller (Table id) given = ⊥
 
 -- what each decision answers and changes: a denial and a repetition leave the world
 abbrev pub Decided : Decision → World → Option Person → Action → ℕ → PuzzleState → Reply → World → Type 0

@@ -7,6 +7,7 @@ use Rattle.hall_policy.specs.declared.record.AnswerRow.{AnswerRow}
 use Rattle.hall_policy.specs.declared.record.ProtestRow.{ProtestRow}
 use Rattle.hall_policy.specs.declared.record.RoundRow.{RoundRow}
 use Rattle.hall_score.specs.Total.{total_of}
+use Rattle.hall_score.specs.Table.{IsTable}
 use Rattle.hall_store.specs.Store.{is_of}
 
 -- the entrant's answers in the round
@@ -29,3 +30,7 @@ pub record AreTotals (world : World) (id : List ℕ) (row : RoundRow) (totals : 
       HasAnswered world id entrant ↔ ((total : ℤ) × Contains totals (entrant, total))
   pub right : (entrant : List ℕ) (total : ℤ) → Contains totals (entrant, total) →
       total ≡ total_of row (answers_by world id entrant) (protests_by world id entrant)
+
+-- the text is the table of the round's totals
+abbrev pub IsTableOf : World → List ℕ → RoundRow → List ℕ → Type 0
+IsTableOf world id row text = (totals : List (List ℕ × ℤ)) × AreTotals world id row totals × IsTable totals text

@@ -1,19 +1,17 @@
 //! Answers: the answers of a round that the caller sees.
 ghost use Rattle.std.specs.Prelude.{◌≡◌, ◌&&◌, ◌||◌, IfOk, map};
-ghost use Rattle.hall_policy.specs.World.{World, same_text};
-ghost use Rattle.hall_policy.specs.Facts.{TrueUpTo};
-ghost use Rattle.hall_policy.specs.Implies.{IsAllowable};
-ghost use Rattle.hall_policy.specs.declared.request.Action.TheVariants.{Answers};
-ghost use Rattle.hall_store.specs.Store.{Kept, Served, Fails, IsListing};
+ghost use Rattle.hall_policy.specs.World.{same_text};
+ghost use Rattle.hall_store.specs.Store.{Kept, Served, Fails, is_in, is_of};
 ghost use Rattle.hall_desk.specs.Shown.{is_sealed, sees_all, shows_verdict, answer_line};
-ghost use Rattle.hall_desk.specs.Plans.{IsAllowedPlan, AreRowsFor};
+ghost use Rattle.hall_desk.specs.Lines.{AreLinesOf};
 
 use crate::handler::Handler;
 use crate::planned::Plan;
 use crate::reply::{AnswerLine, Reply};
 use crate::rows::{Rows, push};
 use hall_policy::{
-    Action, AnswerRow, Decision, Facts, Mode, Moment, Name, Person, Round, RoundId, decide,
+    Action, AnswerRow, AnswerSink, Decision, Facts, Mode, Moment, Name, Person, Round, RoundId,
+    SinkFault, decide,
 };
 use hall_store::{Store, StoreFault};
 use std::alloc::{AllocError, Global};
@@ -41,8 +39,8 @@ impl<'a> Handler for Listing<'a> {
         Ok(decide(facts, action, t))
     }
 
-    fn first_reply(&self, _facts: &Facts) -> Option<Reply> {
-        None
+    fn first_reply(&self, _facts: &Facts) -> Result<Option<Reply>, AllocError> {
+        Ok(None)
     }
 
     /// The rows that the caller sees.
@@ -60,32 +58,10 @@ impl<'a> Handler for Listing<'a> {
             unreachable!()
         };
         let all = sees_all(person, &row.round, t);
-        let rows = find_answers(alloc, store, self.round, &person.name, all)?;
-        Ok(listed(alloc, t, facts, self.round, rows.as_slice())?)
+        let shows = shows_verdict(person, &row.round, t);
+        let lines = list_answers(alloc, store, self.round, &person.name, all, shows)?;
+        Ok(Plan::of(Reply::AnswerList(lines)))
     }
-}
-
-/// The plan that lists the rows.
-fn listed(
-    alloc: Global,
-    t: Moment,
-    facts: &Facts,
-    _round: &RoundId,
-    rows: &[AnswerRow],
-) -> Result<Plan, AllocError>
-    requires { IsAllowable facts.now (Answers _round.now) }
-    ensures { IfOk result (λ plan. (world : World) → TrueUpTo 20 facts.now world (Answers _round.now) →
-        AreRowsFor world facts.now (Answers _round.now) t rows.now →
-        IsAllowedPlan world facts.now.caller (Answers _round.now) t plan) }
-{
-    let Some(person) = &facts.caller else {
-        unreachable!()
-    };
-    let Some(row) = &facts.round else {
-        unreachable!()
-    };
-    let lines = show_answers(alloc, rows, shows_verdict(person, &row.round, t))?;
-    Ok(Plan::of(Reply::AnswerList(lines)))
 }
 
 /// Whether the person sees the answers of all entrants.
@@ -112,24 +88,85 @@ fn is_sealed(mode: Mode) -> bool
     }
 }
 
-/// The answers of the round: all of them, or those of the entrant.
-fn find_answers<S: Store>(
+/// Lines of answers, to which a store gives the rows one at a time.
+#[derive(Drop)]
+struct Lines {
+    lines: Rows<AnswerLine>,
+    /// Whether verdicts are told.
+    shows: bool,
+}
+
+impl AnswerSink for Lines {
+    ghost use Rattle.hall_desk.specs.Lines.{IsLineAdded};
+
+    ghost takes = { IsLineAdded };
+
+    ghost refuses = { λ _ _. ⊥ };
+
+    fn take(&mut self, row: &AnswerRow) -> Result<(), SinkFault> {
+        let line = show_answer(row, self.shows)?;
+        self.lines.push(line)?;
+        Ok(())
+    }
+}
+
+/// The answers of the round as they are listed: all of them, or those of the entrant.
+fn list_answers<S: Store>(
     alloc: Global,
     store: &mut S,
     round: &RoundId,
     name: &Name,
     all: bool,
-) -> Result<Vec<AnswerRow>, StoreFault>
+    shows: bool,
+) -> Result<Rows<AnswerLine>, StoreFault>
     ensures kept { Kept (S.content store.old) (S.content store.new) }
     ensures fault { Fails S.can_fail result }
-    ensures served { Served (S.content store.new) result (λ world rows. IsListing world
-        (λ row. same_text row.key.round round.now && (all || same_text row.key.entrant name.now)) rows.items) }
+    ensures served { Served (S.content store.new) result (λ world lines. AreLinesOf world
+        (λ row. same_text row.key.round round.now && (all || same_text row.key.entrant name.now)) shows lines) }
 {
     if all {
-        store.answers_in(alloc, round)
+        list_all(alloc, store, round, shows)
     } else {
-        store.answers_of(alloc, name, round)
+        list_own(alloc, store, round, name, shows)
     }
+}
+
+/// All answers of the round as they are listed. Each row is let go once its line is made.
+fn list_all<S: Store>(
+    alloc: Global,
+    store: &mut S,
+    round: &RoundId,
+    shows: bool,
+) -> Result<Rows<AnswerLine>, StoreFault>
+    ensures kept { Kept (S.content store.old) (S.content store.new) }
+    ensures fault { Fails S.can_fail result }
+    ensures served { Served (S.content store.new) result
+        (λ world lines. AreLinesOf world (is_in round.now) shows lines) }
+{
+    let mut lines = Lines {
+        lines: Rows::new(Vec::new(alloc)),
+        shows,
+    };
+    store.feed_answers(alloc, round, &mut lines)?;
+    let Lines { lines, .. } = lines;
+    Ok(lines)
+}
+
+/// The entrant's answers in the round as they are listed.
+fn list_own<S: Store>(
+    alloc: Global,
+    store: &mut S,
+    round: &RoundId,
+    name: &Name,
+    shows: bool,
+) -> Result<Rows<AnswerLine>, StoreFault>
+    ensures kept { Kept (S.content store.old) (S.content store.new) }
+    ensures fault { Fails S.can_fail result }
+    ensures served { Served (S.content store.new) result
+        (λ world lines. AreLinesOf world (is_of name.now round.now) shows lines) }
+{
+    let rows = store.answers_of(alloc, name, round)?;
+    Ok(show_answers(alloc, rows.as_slice(), shows)?)
 }
 
 /// The answers as they are listed.

@@ -3,6 +3,7 @@ ghost use Rattle.std.specs.Prelude.{◌≡◌, IfOk};
 ghost use Rattle.hall_grid.specs.Answer.{AnswerText as Says, IsFilling};
 ghost use Rattle.hall_policy.specs.Implies.{IsAllowable};
 ghost use Rattle.hall_policy.specs.declared.request.Action.TheVariants.{Certify};
+ghost use Rattle.hall_desk.specs.Handler.{certify_action};
 ghost use Rattle.hall_desk.specs.Step.{is_open, IsFound};
 ghost use Rattle.hall_desk.specs.Plans.{IsSearchPlanOf};
 ghost use Rattle.hall_desk.specs.Shown.{state_name};
@@ -27,6 +28,15 @@ pub(crate) struct Certifying<'a> {
     pub(crate) budget: Budget,
 }
 
+impl<'a> Certifying<'a> {
+    /// The puzzle under the key, by a search of at most so many visits.
+    pub(crate) fn of(key: &'a PuzzleKey, budget: Budget) -> Certifying<'a>
+        ensures { certify_action result ≡ Certify key.now budget }
+    {
+        Certifying { key, budget }
+    }
+}
+
 impl<'a> Handler for Certifying<'a> {
     ghost use Rattle.hall_desk.specs.Handler.{certify_action};
 
@@ -44,8 +54,8 @@ impl<'a> Handler for Certifying<'a> {
         Ok(decide(facts, action, t))
     }
 
-    fn first_reply(&self, _facts: &Facts) -> Option<Reply> {
-        None
+    fn first_reply(&self, _facts: &Facts) -> Result<Option<Reply>, AllocError> {
+        Ok(None)
     }
 
     /// The puzzle is searched where no search of it came to an end yet.

@@ -1,5 +1,5 @@
 //! The desk: requests, answered over the world of a store.
-ghost use Rattle.std.specs.Prelude.{◌≡◌, ◌⊎◌, IfOk, IsOk, OnErr, None};
+ghost use Rattle.std.specs.Prelude.{◌≡◌, IfOk, IsOk, OnErr};
 ghost use Rattle.hall_store.specs.Store.{Kept, Leads, Makes, Asks, Fails};
 ghost use Rattle.hall_store.specs.Change.{changed, CanMake};
 ghost use Rattle.hall_store.specs.declared.change.Change.{Change};
@@ -7,7 +7,7 @@ ghost use Rattle.hall_desk.specs.Desk.{kept_by, SaneThen};
 ghost use Rattle.hall_desk.specs.Sane.{Sane};
 ghost use Rattle.hall_desk.specs.Promises.{HasUniqueSolutions, RightAnswersAreSolutions};
 ghost use Rattle.hall_desk.specs.Plan.{planned_reply, planned_change};
-ghost use Rattle.hall_desk.specs.Plans.{Planned, Steps, Seeds, Runs, FailsIn, IsUnserved, IsKeylessPlan};
+ghost use Rattle.hall_desk.specs.Plans.{Planned, Steps, Seeds, Runs, FailsIn, IsNobodys, IsQuietPlan};
 
 use crate::plan::make_plan;
 use crate::planned::Plan;
@@ -32,14 +32,14 @@ impl<S: Store> Desk<S> {
         Desk { store }
     }
 
-    /// What the request will be answered, and what it will change. Reads only, and of a request without a key not
-    /// even that. It fails only where a call of the store did, where the world isn't sane, or where the action isn't
-    /// served yet.
+    /// What the request will be answered, and what it will change. Reads only, and for a request without a key, other
+    /// than for a table, not even that. It fails only where a call of the store did, where the world isn't sane, or
+    /// where a round has more than 4,294,967,295 answers or protests.
     pub fn plan(&mut self, alloc: Global, t: Moment, request: &Request) -> Result<Plan, StoreFault>
         ensures kept { Kept (S.content (kept_by self.old)) (S.content (kept_by self.new)) }
-        ensures untouched { request.now.key ≡ None → kept_by self.new ≡ kept_by self.old }
-        ensures keyless { request.now.key ≡ None → IsKeylessPlan request.now.action result }
-        ensures fault { FailsIn (S.can_fail ⊎ IsUnserved request.now.action) (S.content (kept_by self.new)) result }
+        ensures untouched { IsNobodys request.now → kept_by self.new ≡ kept_by self.old }
+        ensures keyless { IsNobodys request.now → IsQuietPlan result }
+        ensures fault { FailsIn S.can_fail (S.content (kept_by self.new)) result }
         ensures planned { Planned (S.content (kept_by self.new)) t request.now result }
         ensures sane { IfOk result (λ plan. Asks (S.content (kept_by self.new))
             (λ world. Sane world → Sane (changed (planned_change plan) world))) }

@@ -3,7 +3,7 @@ use crate::planned::Plan;
 use crate::reply::Reply;
 use hall_policy::{Action, Decision, Facts, Moment};
 use hall_store::{Store, StoreFault};
-use std::alloc::Global;
+use std::alloc::{AllocError, Global};
 
 /// An action with what it names: what its rules read, and what it answers and changes where it is allowed.
 pub(crate) trait Handler {
@@ -42,11 +42,12 @@ pub(crate) trait Handler {
             (λ world decision. IsDecided world facts.new action.now t decision) };
 
     /// The reply that the same request got when it was first made; none where it repeats no other.
-    fn first_reply(&self, facts: &Facts) -> Option<Reply>
-        ensures some { IfSome result (λ reply. (world : World) → IsRepetition facts.now (action_of self.now) →
+    fn first_reply(&self, facts: &Facts) -> Result<Option<Reply>, AllocError>
+        ensures some { IfOk result (λ found. IfSome found (λ reply. (world : World) →
+            IsRepetition facts.now (action_of self.now) →
             TrueUpTo (deciding (action_of self.now) Repeat) facts.now world (action_of self.now) →
-            FirstReply world facts.now.caller (action_of self.now) reply) }
-        ensures none { IfNone result (¬ (IsRepetition facts.now (action_of self.now))) };
+            FirstReply world facts.now.caller (action_of self.now) reply)) }
+        ensures none { IfOk result (λ found. IfNone found (¬ (IsRepetition facts.now (action_of self.now)))) };
 
     /// The plan of the action, which is allowed.
     fn plan<S: Store>(

@@ -11,7 +11,7 @@ use crate::planned::Plan;
 use crate::reply::Reply;
 use hall_policy::{Action, Decision, Facts, Moment, People, Person, decide};
 use hall_store::{Change, Store, StoreFault};
-use std::alloc::Global;
+use std::alloc::{AllocError, Global};
 
 /// What is imported: a list of people.
 #[derive(Clone, Copy)]
@@ -36,8 +36,8 @@ impl<'a> Handler for Importing<'a> {
         Ok(decide(facts, action, t))
     }
 
-    fn first_reply(&self, _facts: &Facts) -> Option<Reply> {
-        None
+    fn first_reply(&self, _facts: &Facts) -> Result<Option<Reply>, AllocError> {
+        Ok(None)
     }
 
     fn plan<S: Store>(

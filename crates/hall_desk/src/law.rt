@@ -1,14 +1,17 @@
 //! Laws of the definitions, each the contract of a function that does nothing.
 ghost use Rattle.hall_desk.specs.Promises.{SanityKeepsPromises, TokensActOnce, AcceptedAnswersStay, RetriesAreAnswered};
+ghost use Rattle.hall_desk.specs.Promises.{ProtestTokensActOnce, RulingsActOnce};
 
 /// A sane world keeps the promises, and steps and runs keep worlds sane.
 pub fn law_sanity()
     ensures { SanityKeepsPromises }
 {}
 
-/// A token whose answer was accepted acts once.
+/// A token whose answer was accepted, or whose protest was stored, acts once, and so does a ruling.
 pub fn law_tokens()
-    ensures { TokensActOnce }
+    ensures answers { TokensActOnce }
+    ensures protests { ProtestTokensActOnce }
+    ensures rulings { RulingsActOnce }
 {}
 
 /// An accepted answer stays accepted, whatever comes between, and a retry of it can be answered.

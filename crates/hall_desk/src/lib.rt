@@ -9,18 +9,22 @@ mod found;
 mod handler;
 mod import_people;
 mod law;
+mod list_protests;
 mod list_puzzles;
 mod list_rounds;
-mod opening;
 mod plan;
 mod planned;
+mod protest;
+mod publish;
 mod put_puzzle;
 mod put_round;
 mod read_puzzle;
 mod read_round;
+mod read_table;
 mod release;
 mod reply;
 mod rows;
+mod rule_protest;
 mod search;
 mod seed;
 mod step;
@@ -30,7 +34,6 @@ mod verdict;
 
 pub use desk::Desk;
 pub use law::{law_accepted_answers, law_sanity, law_tokens};
-pub use opening::opening_store;
 pub use planned::Plan;
 pub use reply::{
     AnswerLine, ProtestLine, PuzzleLine, Reply, RoundLine, ShownPuzzle, ShownRound, StateName,

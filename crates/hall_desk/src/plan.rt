@@ -1,31 +1,44 @@
 //! From a request to its plan: the caller, what the rules read, the decision, and what an allowed action answers and
 //! changes.
-ghost use Rattle.std.specs.Prelude.{◌≡◌, ◌⊎◌, IfOk, IfSome, IfNone, None};
+ghost use Rattle.std.specs.Prelude.{◌≡◌, IfSome, IfNone, None};
 ghost use Rattle.hall_policy.specs.World.{World};
 ghost use Rattle.hall_policy.specs.Decided.{IsDecidedUpTo, PassesUpTo};
 ghost use Rattle.hall_policy.specs.declared.rule.Decision.TheVariants.{Deny};
 ghost use Rattle.hall_store.specs.Store.{Asks, Kept, Told};
 ghost use Rattle.hall_desk.specs.Found.{IsCaller};
-ghost use Rattle.hall_desk.specs.Plans.{IsPlanFor, Planned, FailsIn, IsUnserved, IsKeylessPlan};
+ghost use Rattle.hall_desk.specs.Plans.{IsPlanFor, Planned, FailsIn, IsNobodys, IsQuietPlan};
 
 use crate::answers::Listing;
 use crate::certify_puzzle::Certifying;
 use crate::handler::Handler;
 use crate::import_people::Importing;
+use crate::list_protests::ListingProtests;
 use crate::list_puzzles::ListingPuzzles;
 use crate::list_rounds::ListingRounds;
 use crate::planned::Plan;
+use crate::protest::Protesting;
+use crate::publish::Publishing;
 use crate::put_puzzle::Putting;
 use crate::put_round::Drafting;
 use crate::read_puzzle::ReadingPuzzle;
 use crate::read_round::Reading;
+use crate::read_table::plan_table;
 use crate::release::Releasing;
 use crate::reply::Reply;
+use crate::rule_protest::RulingOn;
 use crate::submit::Handed;
 use crate::tell_solutions::TellingSolutions;
 use hall_policy::{Action, Decision, Facts, Moment, Request, Rule, decide_up_to};
 use hall_store::{Store, StoreFault};
 use std::alloc::Global;
+
+/// A request that is being answered: at which moment, and by which allocator.
+#[derive(Clone, Copy)]
+pub(crate) struct Turn<'a> {
+    pub(crate) alloc: Global,
+    pub(crate) t: Moment,
+    pub(crate) request: &'a Request,
+}
 
 /// What the request will be answered, and what it will change. Reads only, and for a denial nothing that a later rule
 /// asks.
@@ -36,13 +49,13 @@ pub(crate) fn make_plan<S: Store>(
     request: &Request,
 ) -> Result<Plan, StoreFault>
     ensures kept { Kept (S.content store.old) (S.content store.new) }
-    ensures untouched { request.now.key ≡ None → store.new ≡ store.old }
-    ensures keyless { request.now.key ≡ None → IsKeylessPlan request.now.action result }
-    ensures fault { FailsIn (S.can_fail ⊎ IsUnserved request.now.action) (S.content store.new) result }
+    ensures untouched { IsNobodys request.now → store.new ≡ store.old }
+    ensures keyless { IsNobodys request.now → IsQuietPlan result }
+    ensures fault { FailsIn S.can_fail (S.content store.new) result }
     ensures planned { Planned (S.content store.new) t request.now result }
 {
     let mut facts = no_facts();
-    let plan = plan_with(alloc, store, t, request, &mut facts);
+    let plan = plan_with(&Turn { alloc, t, request }, store, &mut facts);
     drop(facts);
     plan
 }
@@ -69,39 +82,45 @@ fn no_facts() -> Facts
 }
 
 /// The plan, with the facts that it rests on.
-fn plan_with<S: Store>(
-    alloc: Global,
-    store: &mut S,
-    t: Moment,
-    request: &Request,
-    facts: &mut Facts,
-) -> Result<Plan, StoreFault>
+fn plan_with<S: Store>(turn: &Turn, store: &mut S, facts: &mut Facts) -> Result<Plan, StoreFault>
     requires { facts.old.caller ≡ None }
     ensures kept { Kept (S.content store.old) (S.content store.new) }
-    ensures untouched { request.now.key ≡ None → store.new ≡ store.old }
-    ensures keyless { request.now.key ≡ None → IsKeylessPlan request.now.action result }
-    ensures fault { FailsIn (S.can_fail ⊎ IsUnserved request.now.action) (S.content store.new) result }
-    ensures planned { Planned (S.content store.new) t request.now result }
+    ensures untouched { IsNobodys turn.now.request.now → store.new ≡ store.old }
+    ensures keyless { IsNobodys turn.now.request.now → IsQuietPlan result }
+    ensures fault { FailsIn S.can_fail (S.content store.new) result }
+    ensures planned { Planned (S.content store.new) turn.now.t turn.now.request.now result }
 {
-    match &request.key {
+    match &turn.request.key {
         Some(key) => {
-            facts.caller = store.person_by_key(alloc, key)?;
-            plan_for_caller(alloc, store, t, request, facts)
+            facts.caller = store.person_by_key(turn.alloc, key)?;
+            plan_for_caller(turn, store, facts)
         }
-        None => plan_without_key(t, request, facts),
+        None => plan_without_key(turn, store, facts),
     }
 }
 
-/// The plan for a request without a key, which asks nothing of the store.
-fn plan_without_key(t: Moment, request: &Request, facts: &Facts) -> Result<Plan, StoreFault>
-    requires key { request.now.key ≡ None }
-    requires caller { facts.now.caller ≡ None }
-    ensures keyless { IsKeylessPlan request.now.action result }
-    ensures planned { IfOk result (λ plan. (world : World) → IsPlanFor world t request.now plan) }
+/// The plan for a request without a key: a denial, which asks nothing of the store, or a table.
+fn plan_without_key<S: Store>(
+    turn: &Turn,
+    store: &mut S,
+    facts: &mut Facts,
+) -> Result<Plan, StoreFault>
+    requires key { turn.now.request.now.key ≡ None }
+    requires caller { facts.old.caller ≡ None }
+    ensures kept { Kept (S.content store.old) (S.content store.new) }
+    ensures untouched { IsNobodys turn.now.request.now → store.new ≡ store.old }
+    ensures keyless { IsNobodys turn.now.request.now → IsQuietPlan result }
+    ensures fault { FailsIn S.can_fail (S.content store.new) result }
+    ensures planned { Planned (S.content store.new) turn.now.t turn.now.request.now result }
 {
-    match caller_rule(facts, &request.action, t) {
+    match caller_rule(facts, &turn.request.action, turn.t) {
         Some(rule) => Ok(Plan::of(Reply::Denied(rule))),
-        None => Err(StoreFault::Failed),
+        None => {
+            let Action::Table { round } = &turn.request.action else {
+                unreachable!()
+            };
+            plan_table(turn, store, round, facts)
+        }
     }
 }
 
@@ -117,113 +136,93 @@ fn caller_rule(facts: &Facts, action: &Action, t: Moment) -> Option<u8>
     }
 }
 
-/// The plan where the caller is known. The rules on the caller are asked before anything else is read.
+/// The plan where the caller was looked up. The rules on the caller are asked before anything else is read.
 fn plan_for_caller<S: Store>(
-    alloc: Global,
+    turn: &Turn,
     store: &mut S,
-    t: Moment,
-    request: &Request,
     facts: &mut Facts,
 ) -> Result<Plan, StoreFault>
-    requires { Asks (S.content store.old) (λ world. IsCaller world request.now.key facts.old.caller) }
+    requires { Asks (S.content store.old) (λ world. IsCaller world turn.now.request.now.key facts.old.caller) }
     ensures kept { Kept (S.content store.old) (S.content store.new) }
-    ensures fault { FailsIn (S.can_fail ⊎ IsUnserved request.now.action) (S.content store.new) result }
+    ensures fault { FailsIn S.can_fail (S.content store.new) result }
     ensures told { Told (S.content store.old) (S.content store.new) result
-        (λ world plan. IsPlanFor world t request.now plan) }
+        (λ world plan. IsPlanFor world turn.now.t turn.now.request.now plan) }
 {
-    match caller_rule(facts, &request.action, t) {
+    match caller_rule(facts, &turn.request.action, turn.t) {
         Some(rule) => Ok(Plan::of(Reply::Denied(rule))),
-        None => dispatch(alloc, store, t, request, facts),
+        None => dispatch(turn, store, facts),
     }
 }
 
 /// The plan of the request's action, by its handler.
-fn dispatch<S: Store>(
-    alloc: Global,
-    store: &mut S,
-    t: Moment,
-    request: &Request,
-    facts: &mut Facts,
-) -> Result<Plan, StoreFault>
-    requires caller { Asks (S.content store.old) (λ world. IsCaller world request.now.key facts.old.caller) }
-    requires passed { PassesUpTo 3 facts.old request.now.action t }
+fn dispatch<S: Store>(turn: &Turn, store: &mut S, facts: &mut Facts) -> Result<Plan, StoreFault>
+    requires caller { Asks (S.content store.old) (λ world. IsCaller world turn.now.request.now.key facts.old.caller) }
+    requires passed { PassesUpTo 3 facts.old turn.now.request.now.action turn.now.t }
     ensures kept { Kept (S.content store.old) (S.content store.new) }
-    ensures fault { FailsIn (S.can_fail ⊎ IsUnserved request.now.action) (S.content store.new) result }
+    ensures fault { FailsIn S.can_fail (S.content store.new) result }
     ensures told { Told (S.content store.old) (S.content store.new) result
-        (λ world plan. IsPlanFor world t request.now plan) }
+        (λ world plan. IsPlanFor world turn.now.t turn.now.request.now plan) }
 {
-    match &request.action {
-        Action::Import { people } => handle(alloc, store, t, request, &Importing { people }, facts),
-        Action::PutPuzzle { key, puzzle } => {
-            handle(alloc, store, t, request, &Putting { key, puzzle }, facts)
-        }
-        Action::ReadPuzzle { key } => {
-            handle(alloc, store, t, request, &ReadingPuzzle { key }, facts)
-        }
-        Action::ListPuzzles => handle(alloc, store, t, request, &ListingPuzzles {}, facts),
-        Action::Certify { key, budget } => {
-            let certified = Certifying {
-                key,
-                budget: *budget,
-            };
-            handle(alloc, store, t, request, &certified, facts)
-        }
-        Action::PutRound { round, sheet } => {
-            handle(alloc, store, t, request, &Drafting { round, sheet }, facts)
-        }
-        Action::Release { round } => handle(alloc, store, t, request, &Releasing { round }, facts),
-        Action::ListRounds => handle(alloc, store, t, request, &ListingRounds {}, facts),
-        Action::ReadRound { round } => handle(alloc, store, t, request, &Reading { round }, facts),
+    match &turn.request.action {
+        Action::Import { people } => turn.handle(store, &Importing { people }, facts),
+        Action::PutPuzzle { key, puzzle } => turn.handle(store, &Putting { key, puzzle }, facts),
+        Action::ReadPuzzle { key } => turn.handle(store, &ReadingPuzzle { key }, facts),
+        Action::ListPuzzles => turn.handle(store, &ListingPuzzles {}, facts),
+        Action::Certify { key, budget } => turn.handle(store, &Certifying::of(key, *budget), facts),
+        Action::PutRound { round, sheet } => turn.handle(store, &Drafting { round, sheet }, facts),
+        Action::Release { round } => turn.handle(store, &Releasing { round }, facts),
+        Action::ListRounds => turn.handle(store, &ListingRounds {}, facts),
+        Action::ReadRound { round } => turn.handle(store, &Reading { round }, facts),
         Action::Submit {
             round,
             number,
             token,
             answer,
-        } => {
-            let handed = Handed {
-                round,
-                number: *number,
-                token,
-                answer,
-            };
-            handle(alloc, store, t, request, &handed, facts)
-        }
-        Action::Answers { round } => handle(alloc, store, t, request, &Listing { round }, facts),
-        Action::Solutions { round } => {
-            handle(alloc, store, t, request, &TellingSolutions { round }, facts)
-        }
-        Action::Protest { .. }
-        | Action::Protests { .. }
-        | Action::Rule { .. }
-        | Action::Publish { .. }
-        | Action::Table { .. } => Err(StoreFault::Failed),
+        } => turn.handle(store, &Handed::of(round, *number, token, answer), facts),
+        Action::Answers { round } => turn.handle(store, &Listing { round }, facts),
+        Action::Solutions { round } => turn.handle(store, &TellingSolutions { round }, facts),
+        Action::Protest {
+            round,
+            token,
+            number,
+            text,
+        } => turn.handle(store, &Protesting::of(round, token, *number, text), facts),
+        Action::Protests { round } => turn.handle(store, &ListingProtests { round }, facts),
+        Action::Rule {
+            round,
+            entrant,
+            token,
+            ruling,
+        } => turn.handle(store, &RulingOn::of(round, entrant, token, *ruling), facts),
+        Action::Publish { round } => turn.handle(store, &Publishing { round }, facts),
+        Action::Table { round } => plan_table(turn, store, round, facts),
     }
 }
 
-/// The plan by the action's handler: as it decides.
-fn handle<H: Handler, S: Store>(
-    alloc: Global,
-    store: &mut S,
-    t: Moment,
-    request: &Request,
-    handler: &H,
-    facts: &mut Facts,
-) -> Result<Plan, StoreFault>
-    requires same { request.now.action ≡ H.action_of handler.now }
-    requires caller { Asks (S.content store.old) (λ world. IsCaller world request.now.key facts.old.caller) }
-    requires passed { PassesUpTo 3 facts.old request.now.action t }
-    ensures kept { Kept (S.content store.old) (S.content store.new) }
-    ensures fault { FailsIn (S.can_fail ⊎ IsUnserved request.now.action) (S.content store.new) result }
-    ensures told { Told (S.content store.old) (S.content store.new) result
-        (λ world plan. IsPlanFor world t request.now plan) }
-{
-    let decision = handler.decision(alloc, store, t, &request.action, facts)?;
-    match decision {
-        Decision::Deny(rule) => Ok(Plan::of(Reply::Denied(rule))),
-        Decision::Repeat => match handler.first_reply(facts) {
-            Some(reply) => Ok(Plan::of(reply)),
-            None => unreachable!(),
-        },
-        Decision::Allow => handler.plan(alloc, store, t, facts),
+impl<'a> Turn<'a> {
+    /// The plan by the action's handler: as it decides.
+    fn handle<H: Handler, S: Store>(
+        &self,
+        store: &mut S,
+        handler: &H,
+        facts: &mut Facts,
+    ) -> Result<Plan, StoreFault>
+        requires same { self.now.request.now.action ≡ H.action_of handler.now }
+        requires caller { Asks (S.content store.old) (λ world. IsCaller world self.now.request.now.key facts.old.caller) }
+        requires passed { PassesUpTo 3 facts.old self.now.request.now.action self.now.t }
+        ensures kept { Kept (S.content store.old) (S.content store.new) }
+        ensures fault { FailsIn S.can_fail (S.content store.new) result }
+        ensures told { Told (S.content store.old) (S.content store.new) result
+            (λ world plan. IsPlanFor world self.now.t self.now.request.now plan) }
+    {
+        let decision = handler.decision(self.alloc, store, self.t, &self.request.action, facts)?;
+        match decision {
+            Decision::Deny(rule) => Ok(Plan::of(Reply::Denied(rule))),
+            Decision::Repeat => match handler.first_reply(facts)? {
+                Some(reply) => Ok(Plan::of(reply)),
+                None => unreachable!(),
+            },
+            Decision::Allow => handler.plan(self.alloc, store, self.t, facts),
+        }
     }
 }

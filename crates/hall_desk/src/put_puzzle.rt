@@ -55,8 +55,8 @@ impl<'a> Handler for Putting<'a> {
         Ok(decide(facts, action, t))
     }
 
-    fn first_reply(&self, _facts: &Facts) -> Option<Reply> {
-        None
+    fn first_reply(&self, _facts: &Facts) -> Result<Option<Reply>, AllocError> {
+        Ok(None)
     }
 
     /// The same puzzle again changes nothing, another one is stored as new.

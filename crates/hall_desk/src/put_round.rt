@@ -43,8 +43,8 @@ impl<'a> Handler for Drafting<'a> {
         Ok(decide(facts, action, t))
     }
 
-    fn first_reply(&self, _facts: &Facts) -> Option<Reply> {
-        None
+    fn first_reply(&self, _facts: &Facts) -> Result<Option<Reply>, AllocError> {
+        Ok(None)
     }
 
     fn plan<S: Store>(

@@ -15,7 +15,7 @@ use hall_policy::{
     Action, Decision, Entry, Facts, Moment, PuzzleNumber, RoundId, RoundRow, decide,
 };
 use hall_store::{Change, Store, StoreFault};
-use std::alloc::Global;
+use std::alloc::{AllocError, Global};
 
 /// What is read: the round of this id.
 #[derive(Clone, Copy)]
@@ -40,8 +40,8 @@ impl<'a> Handler for Reading<'a> {
         Ok(decide(facts, action, t))
     }
 
-    fn first_reply(&self, _facts: &Facts) -> Option<Reply> {
-        None
+    fn first_reply(&self, _facts: &Facts) -> Result<Option<Reply>, AllocError> {
+        Ok(None)
     }
 
     /// The round with its puzzles' texts.

@@ -50,8 +50,8 @@ impl<'a> Handler for Releasing<'a> {
         Ok(decide(facts, action, t))
     }
 
-    fn first_reply(&self, _facts: &Facts) -> Option<Reply> {
-        None
+    fn first_reply(&self, _facts: &Facts) -> Result<Option<Reply>, AllocError> {
+        Ok(None)
     }
 
     fn plan<S: Store>(

@@ -1,5 +1,5 @@
 //! Lists in replies.
-ghost use Rattle.std.specs.Prelude.{◌≡◌, ◌++◌, ◌∷◌, [], List, OnOk};
+ghost use Rattle.std.specs.Prelude.{◌≡◌, ◌++◌, ◌∷◌, [], List, OnOk, OnErr};
 
 use std::alloc::AllocError;
 use std::marker::Model;
@@ -27,6 +27,17 @@ impl<T> Rows<T> {
         ensures { result ≡ list.items }
     {
         Rows { list }
+    }
+
+    /// Puts the row at the end; refused, it leaves the others.
+    pub(crate) fn push(&mut self, row: T) -> Result<(), AllocError>
+    where
+        T: Drop,
+        ensures ok { OnOk result (self.new ≡ self.old ++ row ∷ []) }
+        ensures err { OnErr result (self.new ≡ self.old) }
+    {
+        self.list.push(row)?;
+        Ok(())
     }
 
     /// The rows in their order.

@@ -21,8 +21,8 @@ pub fn certify(alloc: Global, puzzle: &Puzzle, budget: u64) -> Result<Outcome, A
 
 /// Where a search of the puzzle starts.
 fn start(alloc: Global, puzzle: &Puzzle) -> Result<Partial, AllocError>
-    ensures start { IfOk result (λ start. start ≡ start_of puzzle.now.kind puzzle.now) }
-    ensures partial { IfOk result (IsPartial (question_of puzzle.now.kind puzzle.now)) }
+    ensures start { IfOk result (λ start. start.places ≡ start_of puzzle.now.kind puzzle.now) }
+    ensures partial { IfOk result (λ start. IsPartial (question_of puzzle.now.kind puzzle.now) start.places) }
 {
     match puzzle.kind() {
         Kind::Sudoku => hall_sudoku::start(alloc, puzzle),
@@ -38,8 +38,8 @@ fn search_from(
     start: &Partial,
     budget: u64,
 ) -> Result<Outcome, AllocError>
-    requires start { start.now ≡ start_of puzzle.now.kind puzzle.now }
-    requires partial { IsPartial (question_of puzzle.now.kind puzzle.now) start.now }
+    requires start { start.now.places ≡ start_of puzzle.now.kind puzzle.now }
+    requires partial { IsPartial (question_of puzzle.now.kind puzzle.now) start.now.places }
     ensures { IfOk result (OutcomeOfPuzzle puzzle.now budget) }
 {
     match puzzle.kind() {

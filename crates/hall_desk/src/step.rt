@@ -46,6 +46,8 @@ fn make<S: Store>(alloc: Global, store: &mut S, change: Change) -> Result<(), St
         Change::PutRound(row) => store.put_round(alloc, row),
         Change::SetRoundFlag { round, flag } => store.set_round_flag(alloc, &round, flag),
         Change::AddAnswer(row) => store.add_answer(alloc, row),
+        Change::AddProtest(row) => store.add_protest(alloc, row),
+        Change::RuleProtest { key, ruling } => store.rule_protest(alloc, &key, ruling),
     }
 }
 

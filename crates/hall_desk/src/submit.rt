@@ -4,11 +4,12 @@ ghost use Rattle.hall_grid.specs.Answer.{Verdict};
 ghost use Rattle.hall_policy.specs.World.{entry_at};
 ghost use Rattle.hall_policy.specs.Implies.{EntryIsThere};
 ghost use Rattle.hall_policy.specs.declared.record.Entry.{Entry};
+ghost use Rattle.hall_policy.specs.declared.request.Action.TheVariants.{Submit};
 ghost use Rattle.hall_store.specs.Store.{Asks, Kept, Served, Told, Fails};
 ghost use Rattle.hall_store.specs.declared.change.Change.{Change};
 ghost use Rattle.hall_desk.specs.Sane.{Sane};
 ghost use Rattle.hall_desk.specs.Shown.{told_verdict};
-ghost use Rattle.hall_desk.specs.Handler.{handed_key, handed_row, IsAnswerOf, IsCountOf};
+ghost use Rattle.hall_desk.specs.Handler.{handed_action, handed_key, handed_row, IsAnswerOf, IsCountOf};
 ghost use Rattle.hall_desk.specs.Plans.{IsJudgedAt, FailsIn, AreKept};
 
 use crate::handler::Handler;
@@ -30,6 +31,25 @@ pub(crate) struct Handed<'a> {
     pub(crate) number: PuzzleNumber,
     pub(crate) token: &'a Token,
     pub(crate) answer: &'a AnswerText,
+}
+
+impl<'a> Handed<'a> {
+    /// An answer to the round's puzzle of that number, under a token.
+    pub(crate) fn of(
+        round: &'a RoundId,
+        number: PuzzleNumber,
+        token: &'a Token,
+        answer: &'a AnswerText,
+    ) -> Handed<'a>
+        ensures { handed_action result ≡ Submit round.now number token.now answer.now }
+    {
+        Handed {
+            round,
+            number,
+            token,
+            answer,
+        }
+    }
 }
 
 impl<'a> Handler for Handed<'a> {
@@ -59,10 +79,10 @@ impl<'a> Handler for Handed<'a> {
         Ok(decide(facts, action, t))
     }
 
-    fn first_reply(&self, facts: &Facts) -> Option<Reply> {
+    fn first_reply(&self, facts: &Facts) -> Result<Option<Reply>, AllocError> {
         match (&facts.round, &facts.answer) {
-            (Some(row), Some(answer)) => Some(received(&row.round, answer.n, answer.verdict)),
-            _ => None,
+            (Some(row), Some(answer)) => Ok(Some(received(&row.round, answer.n, answer.verdict))),
+            _ => Ok(None),
         }
     }
 

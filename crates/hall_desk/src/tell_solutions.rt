@@ -13,7 +13,7 @@ use hall_policy::{
     Action, AnswerText, Decision, Entry, Facts, Moment, PuzzleRow, PuzzleState, RoundId, decide,
 };
 use hall_store::{Store, StoreFault};
-use std::alloc::Global;
+use std::alloc::{AllocError, Global};
 
 /// What is told: the solutions of the round of this id.
 #[derive(Clone, Copy)]
@@ -38,8 +38,8 @@ impl<'a> Handler for TellingSolutions<'a> {
         Ok(decide(facts, action, t))
     }
 
-    fn first_reply(&self, _facts: &Facts) -> Option<Reply> {
-        None
+    fn first_reply(&self, _facts: &Facts) -> Result<Option<Reply>, AllocError> {
+        Ok(None)
     }
 
     /// The stored solutions of the round's puzzles.

@@ -2,13 +2,14 @@
 use Rattle.std.proofs.Common.{◌≡◌, ◌||◌, refl, ℕ, ℤ, pos, negsuc, List, [], ◌∷◌, map, false, Option, Some, None}
 use Rattle.serde_json.specs.View.{items_of}
 use Rattle.serde_json.specs.Find.{of_integer, is_float}
+use Rattle.hall_policy.specs.World.{ruling_points}
 use Rattle.hall_policy.specs.declared.record.Ruling.{Ruling}
 use Rattle.hall_desk.specs.declared.reply.ProtestLine.{ProtestLine}
 use Rattle.serde_json.specs.Written.{has_float, items_have_float, members_have_float}
 use Rattle.hall_desk.specs.declared.reply.Reply.{Reply}
 use Rattle.hall_desk.specs.declared.reply.Reply.TheVariants as reply
 use Rattle.serde_json.specs.Data.{Data, string}
-use Rattle.hall_http.specs.Reply.{listed_puzzle_data, listed_round_data, puzzle_data, answer_data, protest_data, ruled_data, ruling_points, verdict_member, reply_data}
+use Rattle.hall_http.specs.Reply.{listed_puzzle_data, listed_round_data, puzzle_data, answer_data, protest_data, ruled_data, verdict_member, reply_data}
 
 -- nor has a list of bodies, where none of them has
 listed_whole : {X : Type 0} (body : X → Data) → ((x : X) → has_float (body x) ≡ false) → (xs : List X) → items_have_float (items_of (map body xs)) ≡ false

@@ -6,14 +6,14 @@ use Rattle.std.specs.Str.{bytes_eq}
 use Rattle.std.specs.declared.alloc.Global.{Global}
 use Rattle.serde_json.specs.View.{members_view}
 use Rattle.serde_json.specs.declared.value.Value.{Value}
-use Rattle.hall_http.specs.Body.{only_members, object_in, text_at, integer_at}
+use Rattle.hall_http.specs.Body.{only_members, object_in, text_at, integer_at, flag_at}
 use Rattle.hall_http.specs.declared.form.FormFault.TheVariants as fault
 use Rattle.std.specs.Str.{IsUtf8, is_utf8}
 use Rattle.std.proofs.lemmas.Str.{IsUtf8-from_is_utf8, is_utf8-from_IsUtf8}
 use Rattle.std.specs.Prelude.{Some, None, option_and_then, Ok, Err, if◌then◌else◌, ℤ}
 use Rattle.serde_json.specs.Read.{read}
 use Rattle.serde_json.specs.Data.{Data, Members, object}
-use Rattle.serde_json.specs.Find.{get_member, as_str, as_number, as_integer}
+use Rattle.serde_json.specs.Find.{get_member, as_bool, as_str, as_number, as_integer}
 use Rattle.hall_http.specs.declared.form.Field.{Field}
 
 any_named : (names : List (Bor (List ℕ))) (name : List ℕ)
@@ -63,3 +63,15 @@ wrong_integer f name ms d e other = rw (e, other) refl
 pub integer_member : (f : Field) (name : List ℕ) (ms : Members) (d : Data) (z : ℤ) → get_member name ms ≡ Some d
     → option_and_then as_integer (as_number d) ≡ Some z → integer_at f name ms ≡ Ok z
 integer_member f name ms d z e is = rw (e, is) refl
+
+pub missing_flag : (f : Field) (name : List ℕ) (ms : Members) → get_member name ms ≡ None
+    → flag_at f name ms ≡ Err (fault.Missing f)
+missing_flag f name ms e = rw e refl
+
+pub wrong_flag : (f : Field) (name : List ℕ) (ms : Members) (d : Data) → get_member name ms ≡ Some d
+    → as_bool d ≡ None → flag_at f name ms ≡ Err (fault.Missing f)
+wrong_flag f name ms d e other = rw (e, other) refl
+
+pub flag_member : (f : Field) (name : List ℕ) (ms : Members) (d : Data) (b : Bool) → get_member name ms ≡ Some d
+    → as_bool d ≡ Some b → flag_at f name ms ≡ Ok b
+flag_member f name ms d b e is = rw (e, is) refl

@@ -1,12 +1,14 @@
 -- What the JSON body of a request spells, or the first thing wrong with it.
-use Rattle.std.specs.Prelude.{ℕ, nat_le, ℤ, pos, negsuc, Bool, true, ◌&&◌, List, [], ◌∷◌, option_and_then, Result, Ok}
+use Rattle.std.specs.Prelude.{ℕ, zero, suc, nat_le, ℤ, pos, negsuc, Bool, true, false, ◌&&◌, List, [], ◌∷◌, option_and_then, Result, Ok}
 use Rattle.std.specs.Prelude.{Err, codes}
 use Rattle.std.specs.List.{list_any}
 use Rattle.std.specs.Str.{bytes_eq, is_utf8}
 use Rattle.serde_json.specs.Data.{Members, no_members, member}
 use Rattle.serde_json.specs.Read.{read}
-use Rattle.serde_json.specs.Find.{get_member, as_object, as_str, as_number, as_integer}
+use Rattle.serde_json.specs.Find.{get_member, as_object, as_bool, as_str, as_number, as_integer}
 use Rattle.hall_policy.specs.Text.{is_printable}
+use Rattle.hall_policy.specs.declared.record.Ruling.{Ruling}
+use Rattle.hall_policy.specs.declared.record.Ruling.TheVariants.{Upheld, Rejected}
 use Rattle.hall_policy.specs.Reading.{◌>>=◌, or_fault, unless, of_kind}
 use Rattle.hall_http.specs.declared.form.Field.{Field}
 use Rattle.hall_http.specs.declared.form.Field.TheVariants as field
@@ -39,6 +41,10 @@ abbrev pub in_range : FormFault → ℕ → ℕ → ℤ → Result ℕ FormFault
 in_range f least most (pos n) = unless f (nat_le least n && nat_le n most) >>= (λ _. Ok n)
 in_range f least most (negsuc n) = Err f
 
+-- whether a member is true or false
+abbrev pub flag_at : Field → List ℕ → Members → Result Bool FormFault
+flag_at f name ms = or_fault (fault.Missing f) (option_and_then as_bool (get_member name ms))
+
 -- the answer text of a body: 0 to 4,000 printable bytes
 abbrev pub answer_in : List ℕ → Result (List ℕ) FormFault
 answer_in body =
@@ -59,3 +65,34 @@ budget_in body =
     object_in (codes "budget" ∷ []) body
     >>= integer_at field.Budget (codes "budget")
     >>= in_range (fault.Range field.Budget) 0 1000000
+
+-- the number and the text of a protest: 1 to 99, and 1 to 200 printable bytes
+abbrev pub protest_in : List ℕ → Result (ℕ × List ℕ) FormFault
+protest_in body =
+    object_in (codes "number" ∷ codes "text" ∷ []) body
+    >>= (λ ms. integer_at field.Number (codes "number") ms
+    >>= in_range (fault.Range field.Number) 1 99
+    >>= (λ number. text_at field.Text (codes "text") ms
+    >>= of_kind (fault.Range field.Text) 1 200 is_printable
+    >>= (λ text. Ok (number, text))))
+
+-- the points of a ruling: -1,000 to 1,000
+abbrev pub points_in : ℤ → Result ℤ FormFault
+points_in (pos n) = unless (fault.Range field.Points) (nat_le n 1000) >>= (λ _. Ok (pos n))
+points_in (negsuc n) = unless (fault.Range field.Points) (nat_le (suc n) 1000) >>= (λ _. Ok (negsuc n))
+
+-- the ruling of these points: where the protest isn't upheld there are none
+abbrev pub ruling_from : ℤ → Bool → Result Ruling FormFault
+ruling_from points true = Ok (Upheld points)
+ruling_from (pos zero) false = Ok Rejected
+ruling_from (pos (suc n)) false = Err (fault.Range field.Points)
+ruling_from (negsuc n) false = Err (fault.Range field.Points)
+
+-- the ruling of a body: its points, and whether the protest is upheld
+abbrev pub ruling_in : List ℕ → Result Ruling FormFault
+ruling_in body =
+    object_in (codes "points" ∷ codes "upheld" ∷ []) body
+    >>= (λ ms. integer_at field.Points (codes "points") ms
+    >>= points_in
+    >>= (λ points. flag_at field.Upheld (codes "upheld") ms
+    >>= ruling_from points))

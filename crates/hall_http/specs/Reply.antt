@@ -1,10 +1,11 @@
 -- The replies of the hall: a status and a JSON body, as bytes.
-use Rattle.std.specs.Prelude.{◌≡◌, ⊤, ℕ, ℤ, pos, Bool, ◌==◌, ◌++◌, List, map, if◌then◌else◌, Option, Some, None, codes, decimal, length}
+use Rattle.std.specs.Prelude.{◌≡◌, ⊤, ℕ, ℤ, Bool, ◌==◌, ◌++◌, List, map, if◌then◌else◌, Option, Some, None, codes, decimal, length}
 use Rattle.serde_json.specs.Data.{Data, null, boolean, number, string, object, array, unsigned, Members, no_members, member}
 use Rattle.serde_json.specs.View.{items_of}
 use Rattle.serde_json.specs.Find.{of_integer}
 use Rattle.serde_json.specs.Written.{compact_text}
 use Rattle.hall_grid.specs.Rule.{verdict_text}
+use Rattle.hall_policy.specs.World.{ruling_points}
 use Rattle.hall_policy.specs.declared.record.PuzzleKey.{PuzzleKey}
 use Rattle.hall_policy.specs.declared.record.Mode.{Mode}
 use Rattle.hall_policy.specs.declared.record.Mode.TheVariants.{Instant, Sealed}
@@ -190,12 +191,6 @@ ruling_text None = codes "open"
 ruling_text (Some (Upheld points)) = codes "upheld"
 ruling_text (Some Rejected) = codes "rejected"
 
--- the points of a ruling: 0 where the protest isn't upheld
-abbrev pub ruling_points : Option Ruling → ℤ
-ruling_points None = pos 0
-ruling_points (Some (Upheld points)) = points
-ruling_points (Some Rejected) = pos 0
-
 -- a member that is a whole number, before further members
 abbrev pub integer_member : List ℕ → ℤ → Members → Members
 integer_member name n more = member name (number (of_integer n)) more
@@ -269,6 +264,9 @@ abbrev pub field_text : Field → List ℕ
 field_text field.Answer = codes "answer"
 field_text field.Text = codes "text"
 field_text field.Budget = codes "budget"
+field_text field.Number = codes "number"
+field_text field.Points = codes "points"
+field_text field.Upheld = codes "upheld"
 
 -- {"form":F}
 abbrev pub form_data : List ℕ → Data

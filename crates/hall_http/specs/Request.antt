@@ -24,7 +24,7 @@ use Rattle.hall_http.specs.declared.form.RequestFault.{RequestFault}
 use Rattle.hall_http.specs.declared.form.RequestFault.TheVariants as unread
 use Rattle.hall_http.specs.declared.routes.Route.{Route}
 use Rattle.hall_http.specs.declared.routes.Route.TheVariants as route
-use Rattle.hall_http.specs.Body.{answer_in, text_in, budget_in}
+use Rattle.hall_http.specs.Body.{answer_in, text_in, budget_in, protest_in, ruling_in}
 use Rattle.hall_http.specs.Head.{IsRequest, IsWhole, shown_key}
 use Rattle.hall_http.specs.Routes.{route_in}
 
@@ -79,6 +79,13 @@ ActionOf (route.Submit id number token) body outcome =
     outcome ≡ (answer_in body >>= (λ answer. Ok (action.Submit id number token answer)))
 ActionOf (route.Answers id) body outcome = outcome ≡ Ok (action.Answers id)
 ActionOf (route.Solutions id) body outcome = outcome ≡ Ok (action.Solutions id)
+ActionOf (route.Protest id token) body outcome =
+    outcome ≡ (protest_in body >>= (λ protest. Ok (action.Protest id token protest.0 protest.1)))
+ActionOf (route.Protests id) body outcome = outcome ≡ Ok (action.Protests id)
+ActionOf (route.Rule id entrant token) body outcome =
+    outcome ≡ (ruling_in body >>= (λ ruling. Ok (action.Rule id entrant token ruling)))
+ActionOf (route.Publish id) body outcome = outcome ≡ Ok (action.Publish id)
+ActionOf (route.Table id) body outcome = outcome ≡ Ok (action.Table id)
 
 -- the caller's key: none where the text isn't of a key's form
 abbrev pub key_in : List ℕ → Option (List ℕ)

@@ -137,6 +137,19 @@ answer_route p =
     >>= (λ number. token_in p.third
     >>= (λ token. Ok (route.Submit id number token))))
 
+-- the protest to be made: its round and its token
+abbrev pub protest_route : Parts → Result Route FormFault
+protest_route p =
+    word_in p.first >>= (λ id. token_in p.second >>= (λ token. Ok (route.Protest id token)))
+
+-- the protest to be ruled: its round, its entrant and its token
+abbrev pub ruling_route : Parts → Result Route FormFault
+ruling_route p =
+    word_in p.first
+    >>= (λ id. word_in p.second
+    >>= (λ entrant. token_in p.third
+    >>= (λ token. Ok (route.Rule id entrant token))))
+
 -- what the place and its parts name, by the method
 abbrev pub route_at : List ℕ → Place → Parts → Result Route FormFault
 route_at method place.People p = by_method method (codes "POST") route.Import
@@ -150,11 +163,11 @@ route_at method place.Release p = word_in p.first >>= (λ id. by_method method (
 route_at method place.Answers p = word_in p.first >>= (λ id. by_method method (codes "GET") (route.Answers id))
 route_at method place.Answer p = answer_route p >>= by_method method (codes "PUT")
 route_at method place.Solutions p = word_in p.first >>= (λ id. by_method method (codes "GET") (route.Solutions id))
-route_at method place.Protests p = Err fault.NoRoute
-route_at method place.Protest p = Err fault.NoRoute
-route_at method place.Ruling p = Err fault.NoRoute
-route_at method place.Publish p = Err fault.NoRoute
-route_at method place.Table p = Err fault.NoRoute
+route_at method place.Protests p = word_in p.first >>= (λ id. by_method method (codes "GET") (route.Protests id))
+route_at method place.Protest p = protest_route p >>= by_method method (codes "PUT")
+route_at method place.Ruling p = ruling_route p >>= by_method method (codes "PUT")
+route_at method place.Publish p = word_in p.first >>= (λ id. by_method method (codes "POST") (route.Publish id))
+route_at method place.Table p = word_in p.first >>= (λ id. by_method method (codes "GET") (route.Table id))
 
 -- the path, where it is ASCII
 abbrev pub ascii_path : List ℕ → Result (List ℕ) FormFault

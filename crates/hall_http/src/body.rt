@@ -5,11 +5,14 @@ ghost use Rattle.std.specs.Str.{bytes_eq};
 ghost use Rattle.serde_json.specs.Errors.{IsMemory};
 ghost use Rattle.serde_json.specs.View.{members_view};
 ghost use Rattle.hall_http.specs.Given.{Gives};
-ghost use Rattle.hall_http.specs.Body.{object_in, answer_in, text_in, budget_in, text_at, integer_at, in_range};
+ghost use Rattle.hall_http.specs.Body.{object_in, answer_in, text_in, budget_in, protest_in, ruling_in};
+ghost use Rattle.hall_http.specs.Body.{text_at, integer_at, flag_at, in_range, points_in, ruling_from};
 
 use crate::form::{Field, FormFault, RequestFault};
 use crate::words::checked;
-use hall_policy::{AnswerText, Budget, PuzzleText, Within};
+use hall_policy::{
+    AnswerText, Budget, ProtestText, PuzzleNumber, PuzzleText, Ruling, RulingPoints, Within,
+};
 use serde_json::{Error, Map, Number, Value};
 use std::alloc::Global;
 
@@ -97,6 +100,19 @@ fn integer_at(members: &Map<String, Value>, name: &str, field: Field) -> Result<
     }
 }
 
+/// Whether a member is true or false.
+fn flag_at(members: &Map<String, Value>, name: &str, field: Field) -> Result<bool, RequestFault>
+    ensures { Gives (λ b. b) result (flag_at field name.now (members_view members.now.entries)) }
+{
+    let Some(value) = members.get(name) else {
+        return Err(RequestFault::Form(FormFault::Missing(field)));
+    };
+    match value.as_bool() {
+        Some(flag) => Ok(flag),
+        None => Err(RequestFault::Form(FormFault::Missing(field))),
+    }
+}
+
 /// The number in its range, or the fault where it lies outside.
 fn in_range<const LEAST: u64, const MOST: u64>(
     integer: i128,
@@ -136,4 +152,53 @@ pub(crate) fn read_budget(alloc: Global, body: &[u8]) -> Result<Budget, RequestF
     let members = read_object(alloc, body, &["budget"])?;
     let budget = integer_at(&members, "budget", Field::Budget)?;
     in_range(budget, FormFault::Range(Field::Budget))
+}
+
+/// The number and the text of a protest that a body spells.
+pub(crate) fn read_protest(
+    alloc: Global,
+    body: &[u8],
+) -> Result<(PuzzleNumber, ProtestText), RequestFault>
+    ensures { Gives (λ protest. protest) result (protest_in body.now) }
+{
+    let members = read_object(alloc, body, &["number", "text"])?;
+    let number = integer_at(&members, "number", Field::Number)?;
+    let number = in_range(number, FormFault::Range(Field::Number))?;
+    let text = text_at(&members, "text", Field::Text)?;
+    let text = checked(alloc, text.as_bytes(), FormFault::Range(Field::Text))?;
+    Ok((number, text))
+}
+
+/// The points of a ruling.
+fn points_of(integer: i128) -> Result<RulingPoints, RequestFault>
+    ensures { Gives (λ points. points) result (points_in integer) }
+{
+    let outside = RequestFault::Form(FormFault::Range(Field::Points));
+    let Ok(points) = i16::try_from(integer) else {
+        return Err(outside);
+    };
+    RulingPoints::new(points).ok_or(outside)
+}
+
+/// The ruling of these points; where the protest isn't upheld there are none.
+fn ruling_of(points: RulingPoints, upheld: bool) -> Result<Ruling, RequestFault>
+    ensures { Gives (λ ruling. ruling) result (ruling_from points upheld) }
+{
+    if upheld {
+        Ok(Ruling::Upheld(points))
+    } else if points.get() == 0 {
+        Ok(Ruling::Rejected)
+    } else {
+        Err(RequestFault::Form(FormFault::Range(Field::Points)))
+    }
+}
+
+/// The ruling that a body spells.
+pub(crate) fn read_ruling(alloc: Global, body: &[u8]) -> Result<Ruling, RequestFault>
+    ensures { Gives (λ ruling. ruling) result (ruling_in body.now) }
+{
+    let members = read_object(alloc, body, &["points", "upheld"])?;
+    let points = points_of(integer_at(&members, "points", Field::Points)?)?;
+    let upheld = flag_at(&members, "upheld", Field::Upheld)?;
+    ruling_of(points, upheld)
 }

@@ -13,6 +13,9 @@ pub(crate) enum Field {
     Answer,
     Text,
     Budget,
+    Number,
+    Points,
+    Upheld,
 }
 
 /// The first thing that keeps a text from being a puzzle. A place is an offset in the body of the text.

@@ -15,6 +15,7 @@ mod record;
 mod reply;
 mod request;
 mod routes;
+mod row;
 mod session;
 mod socket;
 mod status;

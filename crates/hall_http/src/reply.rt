@@ -1,25 +1,23 @@
 //! The bytes of replies.
-ghost use Rattle.std.specs.Prelude.{◌≡◌, ◌≢◌, ◌++◌, [], false, IfOk, OnOk, map, string_bytes};
-ghost use Rattle.serde_json.specs.Data.{string};
+ghost use Rattle.std.specs.Prelude.{◌≡◌, ◌≢◌, ◌++◌, [], false, IfOk, OnOk, string_bytes};
 ghost use Rattle.serde_json.specs.View.{view};
 ghost use Rattle.serde_json.specs.Written.{has_float, compact_text};
 ghost use Rattle.hall_http.specs.Reply.{state_text, mode_text, imported_data, put_data, read_data, certified_data};
-ghost use Rattle.hall_http.specs.Reply.{listed_puzzle_data, puzzles_data, drafted_data, released_data, puzzle_data};
-ghost use Rattle.hall_http.specs.Reply.{listed_round_data, rounds_data, solutions_data, sheet_fault_data};
-ghost use Rattle.hall_http.specs.Reply.{protested_data, ruling_text, ruling_points, protest_data, protests_data};
+ghost use Rattle.hall_http.specs.Reply.{puzzles_data, drafted_data, released_data};
+ghost use Rattle.hall_http.specs.Reply.{rounds_data, solutions_data, sheet_fault_data};
+ghost use Rattle.hall_http.specs.Reply.{protested_data, ruling_text, protests_data};
 ghost use Rattle.hall_http.specs.Reply.{ruled_data, published_data};
-ghost use Rattle.hall_http.specs.Reply.{round_data, received_data, answer_data, answers_data, denied_data};
+ghost use Rattle.hall_http.specs.Reply.{round_data, received_data, answers_data, denied_data};
 ghost use Rattle.hall_http.specs.Reply.{reply_data, reply_status, denied_status, field_text};
 ghost use Rattle.hall_http.specs.Reply.{form_data, field_data, place_data, puzzle_fault_data, fault_data, fault_status};
 ghost use Rattle.hall_http.specs.Reply.{head_bytes, wire_bytes, IsJson, BytesOf, FaultBytesOf};
 
 use crate::form::{Field, FormFault, PuzzleFault};
+use crate::row::row_bodies;
 use crate::status::{MediaType, Status};
-use hall_desk::{
-    AnswerLine, ProtestLine, PuzzleLine, Reply, RoundLine, ShownPuzzle, ShownRound, StateName,
-};
+use hall_desk::{AnswerLine, ProtestLine, PuzzleLine, Reply, RoundLine, ShownRound, StateName};
 use hall_grid::Broken;
-use hall_policy::{AnswerNumber, AnswerText, Mode, PuzzleKey, Ruling};
+use hall_policy::{AnswerNumber, AnswerText, Mode, PuzzleKey, Ruling, ruling_points};
 use hall_sheet::Refusal;
 use serde_json::{Value, json};
 use std::alloc::{AllocError, Global};
@@ -182,7 +180,7 @@ fn denied_body(alloc: Global, rule: u8) -> Result<Value, AllocError>
 }
 
 /// What a puzzle's state is called.
-fn state_text(state: StateName) -> &'static str
+pub(crate) fn state_text(state: StateName) -> &'static str
     ensures { result.now ≡ state_text state }
 {
     match state {
@@ -195,7 +193,7 @@ fn state_text(state: StateName) -> &'static str
 }
 
 /// What a round's mode is called.
-fn mode_text(mode: Mode) -> &'static str
+pub(crate) fn mode_text(mode: Mode) -> &'static str
     ensures { result.now ≡ mode_text mode }
 {
     match mode {
@@ -232,30 +230,10 @@ fn read_body(
     })
 }
 
-fn listed_puzzle(alloc: Global, line: &PuzzleLine) -> Result<Value, AllocError>
-    ensures { IfOk result (λ body. view body ≡ listed_puzzle_data line.now) }
-{
-    json!(in alloc; {
-        "author": (line.key.author.as_str()),
-        "label": (line.key.label.as_str()),
-        "state": (state_text(line.state))
-    })
-}
-
-fn listed_puzzles(alloc: Global, lines: &[PuzzleLine]) -> Result<Vec<Value>, AllocError>
-    ensures { IfOk result (λ bodies. map view bodies.items ≡ map listed_puzzle_data lines.now) }
-{
-    let mut bodies = Vec::new(alloc);
-    for line in lines {
-        bodies.push(listed_puzzle(alloc, line)?)?;
-    }
-    Ok(bodies)
-}
-
 fn puzzles_body(alloc: Global, lines: &[PuzzleLine]) -> Result<Value, AllocError>
     ensures { IfOk result (λ body. view body ≡ puzzles_data lines.now) }
 {
-    let puzzles = listed_puzzles(alloc, lines)?;
+    let puzzles = row_bodies(alloc, lines)?;
     json!(in alloc; {"puzzles": puzzles})
 }
 
@@ -277,61 +255,17 @@ fn released_body(alloc: Global, round: &str) -> Result<Value, AllocError>
     json!(in alloc; {"released": round})
 }
 
-fn listed_round(alloc: Global, line: &RoundLine) -> Result<Value, AllocError>
-    ensures { IfOk result (λ body. view body ≡ listed_round_data line.now) }
-{
-    json!(in alloc; {
-        "id": (line.id.as_str()),
-        "minutes": (line.minutes.get()),
-        "mode": (mode_text(line.mode)),
-        "published": (line.published),
-        "released": (line.released),
-        "start": (line.start.get()),
-        "title": (line.title.as_str())
-    })
-}
-
-fn listed_rounds(alloc: Global, lines: &[RoundLine]) -> Result<Vec<Value>, AllocError>
-    ensures { IfOk result (λ bodies. map view bodies.items ≡ map listed_round_data lines.now) }
-{
-    let mut bodies = Vec::new(alloc);
-    for line in lines {
-        bodies.push(listed_round(alloc, line)?)?;
-    }
-    Ok(bodies)
-}
-
 fn rounds_body(alloc: Global, lines: &[RoundLine]) -> Result<Value, AllocError>
     ensures { IfOk result (λ body. view body ≡ rounds_data lines.now) }
 {
-    let rounds = listed_rounds(alloc, lines)?;
+    let rounds = row_bodies(alloc, lines)?;
     json!(in alloc; {"rounds": rounds})
-}
-
-fn puzzle_body(alloc: Global, puzzle: &ShownPuzzle) -> Result<Value, AllocError>
-    ensures { IfOk result (λ body. view body ≡ puzzle_data puzzle.now) }
-{
-    json!(in alloc; {
-        "number": (puzzle.number.get()),
-        "points": (puzzle.points.get()),
-        "text": (puzzle.text.as_str())
-    })
-}
-
-fn puzzle_bodies(alloc: Global, puzzles: &[ShownPuzzle]) -> Result<Vec<Value>, AllocError>
-    ensures { IfOk result (λ bodies. map view bodies.items ≡ map puzzle_data puzzles.now) }
-{
-    let mut bodies = Vec::new(alloc);
-    for puzzle in puzzles {
-        bodies.push(puzzle_body(alloc, puzzle)?)?;
-    }
-    Ok(bodies)
 }
 
 fn round_body(alloc: Global, round: &ShownRound) -> Result<Value, AllocError>
     ensures { IfOk result (λ body. view body ≡ round_data round.now) }
 {
-    let puzzles = puzzle_bodies(alloc, round.puzzles.as_slice())?;
+    let puzzles = row_bodies(alloc, round.puzzles.as_slice())?;
     json!(in alloc; {
         "bonus": (round.bonus.get()),
         "id": (round.id.as_str()),
@@ -361,64 +295,17 @@ fn received_body(
     }
 }
 
-fn answer_body(alloc: Global, line: &AnswerLine) -> Result<Value, AllocError>
-    ensures { IfOk result (λ body. view body ≡ answer_data line.now) }
-{
-    match line.verdict {
-        None => json!(in alloc; {
-            "answer": (line.answer.as_str()),
-            "entrant": (line.entrant.as_str()),
-            "moment": (line.moment.get()),
-            "n": (line.n.get()),
-            "number": (line.number.get()),
-            "token": (line.token.as_str())
-        }),
-        Some(names) => {
-            let verdict = format!(in alloc; "{names}")?;
-            json!(in alloc; {
-                "answer": (line.answer.as_str()),
-                "entrant": (line.entrant.as_str()),
-                "moment": (line.moment.get()),
-                "n": (line.n.get()),
-                "number": (line.number.get()),
-                "token": (line.token.as_str()),
-                "verdict": verdict
-            })
-        }
-    }
-}
-
-fn answer_bodies(alloc: Global, lines: &[AnswerLine]) -> Result<Vec<Value>, AllocError>
-    ensures { IfOk result (λ bodies. map view bodies.items ≡ map answer_data lines.now) }
-{
-    let mut bodies = Vec::new(alloc);
-    for line in lines {
-        bodies.push(answer_body(alloc, line)?)?;
-    }
-    Ok(bodies)
-}
-
 fn answers_body(alloc: Global, lines: &[AnswerLine]) -> Result<Value, AllocError>
     ensures { IfOk result (λ body. view body ≡ answers_data lines.now) }
 {
-    let answers = answer_bodies(alloc, lines)?;
+    let answers = row_bodies(alloc, lines)?;
     json!(in alloc; {"answers": answers})
-}
-
-fn solution_bodies(alloc: Global, texts: &[AnswerText]) -> Result<Vec<Value>, AllocError>
-    ensures { IfOk result (λ bodies. map view bodies.items ≡ map string texts.now) }
-{
-    let mut bodies = Vec::new(alloc);
-    for text in texts {
-        bodies.push(json!(in alloc; (text.as_str()))?)?;
-    }
-    Ok(bodies)
 }
 
 fn solutions_body(alloc: Global, texts: &[AnswerText]) -> Result<Value, AllocError>
     ensures { IfOk result (λ body. view body ≡ solutions_data texts.now) }
 {
-    let solutions = solution_bodies(alloc, texts)?;
+    let solutions = row_bodies(alloc, texts)?;
     json!(in alloc; {"solutions": solutions})
 }
 
@@ -429,7 +316,7 @@ fn protested_body(alloc: Global, token: &str) -> Result<Value, AllocError>
 }
 
 /// What a ruling is called, and an open protest.
-fn ruling_text(ruling: Option<Ruling>) -> &'static str
+pub(crate) fn ruling_text(ruling: Option<Ruling>) -> &'static str
     ensures { result.now ≡ ruling_text ruling }
 {
     match ruling {
@@ -439,43 +326,10 @@ fn ruling_text(ruling: Option<Ruling>) -> &'static str
     }
 }
 
-/// The points of a ruling: 0 where the protest isn't upheld.
-fn ruling_points(ruling: &Option<Ruling>) -> i16
-    ensures { result ≡ ruling_points ruling.now }
-{
-    match ruling {
-        Some(Ruling::Upheld(points)) => points.get(),
-        Some(Ruling::Rejected) | None => 0,
-    }
-}
-
-fn protest_body(alloc: Global, line: &ProtestLine) -> Result<Value, AllocError>
-    ensures { IfOk result (λ body. view body ≡ protest_data line.now) }
-{
-    json!(in alloc; {
-        "entrant": (line.entrant.as_str()),
-        "number": (line.number.get()),
-        "points": (ruling_points(&line.ruling)),
-        "ruling": (ruling_text(line.ruling)),
-        "text": (line.text.as_str()),
-        "token": (line.token.as_str())
-    })
-}
-
-fn protest_bodies(alloc: Global, lines: &[ProtestLine]) -> Result<Vec<Value>, AllocError>
-    ensures { IfOk result (λ bodies. map view bodies.items ≡ map protest_data lines.now) }
-{
-    let mut bodies = Vec::new(alloc);
-    for line in lines {
-        bodies.push(protest_body(alloc, line)?)?;
-    }
-    Ok(bodies)
-}
-
 fn protests_body(alloc: Global, lines: &[ProtestLine]) -> Result<Value, AllocError>
     ensures { IfOk result (λ body. view body ≡ protests_data lines.now) }
 {
-    let protests = protest_bodies(alloc, lines)?;
+    let protests = row_bodies(alloc, lines)?;
     json!(in alloc; {"protests": protests})
 }
 
@@ -502,6 +356,9 @@ fn field_text(field: Field) -> &'static str
         Field::Answer => "answer",
         Field::Text => "text",
         Field::Budget => "budget",
+        Field::Number => "number",
+        Field::Points => "points",
+        Field::Upheld => "upheld",
     }
 }
 

@@ -3,7 +3,7 @@ ghost use Rattle.std.specs.Prelude.{◌≡◌, IfOk, Ok, option_and_then, option
 ghost use Rattle.hall_http.specs.Given.{Finds};
 ghost use Rattle.hall_http.specs.Request.{key_in, ActionOf, PutOf, RequestOf};
 
-use crate::body::{read_answer, read_budget, read_text};
+use crate::body::{read_answer, read_budget, read_protest, read_ruling, read_text};
 use crate::form::{FormFault, RequestFault, puzzle_fault};
 use crate::head::read_whole;
 use crate::routes::{Route, Routes, route_of};
@@ -76,6 +76,24 @@ fn action_of(alloc: Global, route: Route, body: &[u8]) -> Result<Action, Request
         }),
         Route::Answers(round) => Ok(Action::Answers { round }),
         Route::Solutions(round) => Ok(Action::Solutions { round }),
+        Route::Protest(round, token) => {
+            let (number, text) = read_protest(alloc, body)?;
+            Ok(Action::Protest {
+                round,
+                token,
+                number,
+                text,
+            })
+        }
+        Route::Protests(round) => Ok(Action::Protests { round }),
+        Route::Rule(round, entrant, token) => Ok(Action::Rule {
+            round,
+            entrant,
+            token,
+            ruling: read_ruling(alloc, body)?,
+        }),
+        Route::Publish(round) => Ok(Action::Publish { round }),
+        Route::Table(round) => Ok(Action::Table { round }),
     }
 }
 

@@ -7,19 +7,19 @@ ghost use Rattle.hall_policy.specs.Reading.{of_kind};
 ghost use Rattle.hall_http.specs.Given.{Gives};
 ghost use Rattle.hall_http.specs.Routes.{routes, found, rows_from, are_free, parts_of, route_at, route_in};
 ghost use Rattle.hall_http.specs.Routes.{puzzle_key_in, puzzle_number, puzzle_route, round_route, answer_route};
-ghost use Rattle.hall_http.specs.Routes.{by_method, ascii_path};
+ghost use Rattle.hall_http.specs.Routes.{protest_route, ruling_route, by_method, ascii_path};
 ghost use Rattle.hall_http.specs.Parts.{parts_seen, AllAscii};
 
 use crate::form::{FormFault, RequestFault};
 use crate::words::{checked, read_decimal};
-use hall_policy::{Checked, PuzzleKey, PuzzleNumber, RoundId, TextKind, Token};
+use hall_policy::{Checked, Name, PuzzleKey, PuzzleNumber, RoundId, TextKind, Token};
 use matchit::{InsertError, Params, Router};
 use std::alloc::{AllocError, Global};
 use std::marker::Model;
 
 const NO_ROUTE: RequestFault = RequestFault::Form(FormFault::NoRoute);
 
-/// What a method and a path name, where that is served.
+/// What a method and a path name.
 #[derive(Drop)]
 pub(crate) enum Route {
     /// POST /people
@@ -46,6 +46,16 @@ pub(crate) enum Route {
     Answers(RoundId),
     /// GET /rounds/{round}/solutions
     Solutions(RoundId),
+    /// PUT /rounds/{round}/protests/{token}
+    Protest(RoundId, Token),
+    /// GET /rounds/{round}/protests
+    Protests(RoundId),
+    /// PUT /rounds/{round}/rulings/{entrant}/{token}
+    Rule(RoundId, Name, Token),
+    /// POST /rounds/{round}/publish
+    Publish(RoundId),
+    /// GET /rounds/{round}/table
+    Table(RoundId),
 }
 
 /// The place that a pattern names.
@@ -249,6 +259,25 @@ fn answer_route(alloc: Global, parts: &Parts) -> Result<Route, RequestFault>
     Ok(Route::Submit(round, number, token))
 }
 
+/// The protest to be made.
+fn protest_route(alloc: Global, parts: &Parts) -> Result<Route, RequestFault>
+    ensures { Gives (λ r. r) result (protest_route (parts_seen parts.now)) }
+{
+    let round = word(alloc, parts.first)?;
+    let token = word(alloc, parts.second)?;
+    Ok(Route::Protest(round, token))
+}
+
+/// The protest to be ruled.
+fn ruling_route(alloc: Global, parts: &Parts) -> Result<Route, RequestFault>
+    ensures { Gives (λ r. r) result (ruling_route (parts_seen parts.now)) }
+{
+    let round = word(alloc, parts.first)?;
+    let entrant = word(alloc, parts.second)?;
+    let token = word(alloc, parts.third)?;
+    Ok(Route::Rule(round, entrant, token))
+}
+
 /// What the place and its parts name, by the method.
 fn route_at(
     alloc: Global,
@@ -269,9 +298,11 @@ fn route_at(
         Place::Answers => by_method(method, b"GET", Route::Answers(word(alloc, parts.first)?)),
         Place::Answer => by_method(method, b"PUT", answer_route(alloc, parts)?),
         Place::Solutions => by_method(method, b"GET", Route::Solutions(word(alloc, parts.first)?)),
-        Place::Protests | Place::Protest | Place::Ruling | Place::Publish | Place::Table => {
-            Err(NO_ROUTE)
-        }
+        Place::Protests => by_method(method, b"GET", Route::Protests(word(alloc, parts.first)?)),
+        Place::Protest => by_method(method, b"PUT", protest_route(alloc, parts)?),
+        Place::Ruling => by_method(method, b"PUT", ruling_route(alloc, parts)?),
+        Place::Publish => by_method(method, b"POST", Route::Publish(word(alloc, parts.first)?)),
+        Place::Table => by_method(method, b"GET", Route::Table(word(alloc, parts.first)?)),
     }
 }
 

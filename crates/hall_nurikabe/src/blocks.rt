@@ -38,9 +38,9 @@ fn block_at(size: Size, cell: usize) -> Option<[usize; 4]>
 impl Blocks<'_> {
     /// What follows for the cell `a` of a block from the three others.
     fn last_of(&self, partial: &Partial, a: usize, b: usize, c: usize, d: usize) -> Finding
-        requires partial { IsPartial (question_of Nurikabe self.now.puzzle.now) partial.now }
+        requires partial { IsPartial (question_of Nurikabe self.now.puzzle.now) partial.now.places }
         requires block { MakePool self.now.puzzle.now.size a b c d }
-        ensures { IsSound (question_of Nurikabe self.now.puzzle.now) partial.now result }
+        ensures { IsSound (question_of Nurikabe self.now.puzzle.now) partial.now.places result }
     {
         let wall = Some(WALL);
         if partial.get(b) != wall || partial.get(c) != wall || partial.get(d) != wall {
@@ -63,7 +63,12 @@ impl Look for Blocks<'_> {
         self.puzzle.cells()
     }
 
-    fn look(&self, _alloc: Global, partial: &Partial, spot: usize) -> Result<Finding, AllocError> {
+    fn look(
+        &self,
+        _alloc: Global,
+        partial: &mut Partial,
+        spot: usize,
+    ) -> Result<Finding, AllocError> {
         let Some(block) = block_at(self.puzzle.size(), spot) else {
             return Ok(Finding::Nothing);
         };

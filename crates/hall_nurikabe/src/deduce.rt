@@ -4,6 +4,7 @@ ghost use Rattle.hall_grid.specs.Board.{cells, IsSize, Touch};
 ghost use Rattle.hall_grid.specs.Component.{AreComponents};
 ghost use Rattle.hall_solve.specs.Question.{Question, IsPartial, IsHopeless, Narrows};
 ghost use Rattle.hall_solve.specs.Deduction.{IsDeduced};
+ghost use Rattle.hall_solve.specs.Trail.{Grows};
 ghost use Rattle.hall_grid.specs.declared.board.Kind.TheVariants.{Nurikabe};
 ghost use Rattle.hall_solve.specs.Puzzle.{question_of};
 ghost use Rattle.hall_nurikabe.specs.Forced.{AreForced, AreOwners, AreRegions, IsOpenTo, IsSetTo};
@@ -55,10 +56,11 @@ fn sweep_forced(
     partial: &mut Partial,
     values: &[Option<u8>],
 ) -> Result<Pass, AllocError>
-    requires partial { IsPartial (question_of Nurikabe puzzle.now) partial.old }
-    requires forced { AreForced puzzle.now partial.old values.now }
-    ensures deduced { IfOk result (IsDeduced (question_of Nurikabe puzzle.now) partial.old partial.new) }
-    ensures err { OnErr result (Narrows (question_of Nurikabe puzzle.now) partial.old partial.new) }
+    requires partial { IsPartial (question_of Nurikabe puzzle.now) partial.old.places }
+    requires forced { AreForced puzzle.now partial.old.places values.now }
+    ensures deduced { IfOk result (IsDeduced (question_of Nurikabe puzzle.now) partial.old.places partial.new.places) }
+    ensures err { OnErr result (Narrows (question_of Nurikabe puzzle.now) partial.old.places partial.new.places) }
+    ensures grows { Grows partial.old partial.new }
 {
     sweep(alloc, &Forced { puzzle, values }, partial)
 }
@@ -70,9 +72,9 @@ fn forced_by_regions(
     partial: &Partial,
 ) -> Result<Option<Vec<Option<u8>>>, AllocError>
     requires kind { puzzle.now.kind ≡ Nurikabe }
-    requires partial { IsPartial (question_of Nurikabe puzzle.now) partial.now }
-    ensures { IfOk result (λ found. MatchOption found (IsHopeless (question_of Nurikabe puzzle.now) partial.now)
-        (λ forced. AreForced puzzle.now partial.now forced.items)) }
+    requires partial { IsPartial (question_of Nurikabe puzzle.now) partial.now.places }
+    ensures { IfOk result (λ found. MatchOption found (IsHopeless (question_of Nurikabe puzzle.now) partial.now.places)
+        (λ forced. AreForced puzzle.now partial.now.places forced.items)) }
 {
     let mut forced = vec![in alloc; None; puzzle.cells()]?;
     let position = Position { puzzle, partial };
@@ -94,7 +96,7 @@ fn forced_by_regions(
 /// Whether two walls can't be joined any more.
 fn are_walls_apart(alloc: Global, position: &Position) -> Result<bool, AllocError>
     ensures { IfOk result (λ apart. IsTrue apart
-        → IsHopeless (question_of Nurikabe position.now.puzzle.now) position.now.partial.now) }
+        → IsHopeless (question_of Nurikabe position.now.puzzle.now) position.now.partial.now.places) }
 {
     let open = places_open_to(alloc, position.partial, WHITE)?;
     let mut labels = regions(alloc, position.puzzle.size(), &open)?;
@@ -108,10 +110,10 @@ fn look_at_groups(
     position: &Position,
     forced: &mut [Option<u8>],
 ) -> Result<bool, AllocError>
-    requires forced { AreForced position.now.puzzle.now position.now.partial.now forced.old }
+    requires forced { AreForced position.now.puzzle.now position.now.partial.now.places forced.old }
     ensures dead { IfOk result (λ dead. IsTrue dead
-        → IsHopeless (question_of Nurikabe position.now.puzzle.now) position.now.partial.now) }
-    ensures forced { OnOk result (AreForced position.now.puzzle.now position.now.partial.now forced.new) }
+        → IsHopeless (question_of Nurikabe position.now.puzzle.now) position.now.partial.now.places) }
+    ensures forced { OnOk result (AreForced position.now.puzzle.now position.now.partial.now.places forced.new) }
 {
     let white = places_set_to(alloc, position.partial, WHITE)?;
     let groups = Regions::new(alloc, position.puzzle.size(), &white)?;
@@ -126,12 +128,12 @@ fn force_groups(
     sizes: &[usize],
     forced: &mut [Option<u8>],
 ) -> Result<bool, AllocError>
-    requires groups { AreRegions position.now.puzzle.now.size (IsSetTo position.now.partial.now 0)
+    requires groups { AreRegions position.now.puzzle.now.size (IsSetTo position.now.partial.now.places 0)
         labels.now sizes.now }
-    requires forced { AreForced position.now.puzzle.now position.now.partial.now forced.old }
+    requires forced { AreForced position.now.puzzle.now position.now.partial.now.places forced.old }
     ensures dead { IfOk result (λ dead. IsTrue dead
-        → IsHopeless (question_of Nurikabe position.now.puzzle.now) position.now.partial.now) }
-    ensures forced { OnOk result (AreForced position.now.puzzle.now position.now.partial.now forced.new) }
+        → IsHopeless (question_of Nurikabe position.now.puzzle.now) position.now.partial.now.places) }
+    ensures forced { OnOk result (AreForced position.now.puzzle.now position.now.partial.now.places forced.new) }
 {
     let Some(owners) = owners(alloc, position.puzzle, labels)? else {
         return Ok(true);
@@ -151,10 +153,10 @@ fn look_at_walls(
     position: &Position,
     forced: &mut [Option<u8>],
 ) -> Result<bool, AllocError>
-    requires forced { AreForced position.now.puzzle.now position.now.partial.now forced.old }
+    requires forced { AreForced position.now.puzzle.now position.now.partial.now.places forced.old }
     ensures dead { IfOk result (λ dead. IsTrue dead
-        → IsHopeless (question_of Nurikabe position.now.puzzle.now) position.now.partial.now) }
-    ensures forced { OnOk result (AreForced position.now.puzzle.now position.now.partial.now forced.new) }
+        → IsHopeless (question_of Nurikabe position.now.puzzle.now) position.now.partial.now.places) }
+    ensures forced { OnOk result (AreForced position.now.puzzle.now position.now.partial.now.places forced.new) }
 {
     let walls = places_set_to(alloc, position.partial, WALL)?;
     let labels = regions(alloc, position.puzzle.size(), &walls)?;
@@ -172,10 +174,10 @@ fn look_at_reaches(
     position: &Position,
     forced: &mut [Option<u8>],
 ) -> Result<bool, AllocError>
-    requires forced { AreForced position.now.puzzle.now position.now.partial.now forced.old }
+    requires forced { AreForced position.now.puzzle.now position.now.partial.now.places forced.old }
     ensures dead { IfOk result (λ dead. IsTrue dead
-        → IsHopeless (question_of Nurikabe position.now.puzzle.now) position.now.partial.now) }
-    ensures forced { OnOk result (AreForced position.now.puzzle.now position.now.partial.now forced.new) }
+        → IsHopeless (question_of Nurikabe position.now.puzzle.now) position.now.partial.now.places) }
+    ensures forced { OnOk result (AreForced position.now.puzzle.now position.now.partial.now.places forced.new) }
 {
     let open = places_open_to(alloc, position.partial, WALL)?;
     let left = steps_left(alloc, position.puzzle, &open)?;
@@ -186,9 +188,9 @@ fn look_at_reaches(
 
 /// Forces walls where no number comes.
 fn wall_far_cells(position: &Position, left: &[usize], forced: &mut [Option<u8>])
-    requires left { AreStepsLeft position.now.puzzle.now (IsOpenTo position.now.partial.now 1) left.now }
-    requires forced { AreForced position.now.puzzle.now position.now.partial.now forced.old }
-    ensures { AreForced position.now.puzzle.now position.now.partial.now forced.new }
+    requires left { AreStepsLeft position.now.puzzle.now (IsOpenTo position.now.partial.now.places 1) left.now }
+    requires forced { AreForced position.now.puzzle.now position.now.partial.now.places forced.old }
+    ensures { AreForced position.now.puzzle.now position.now.partial.now.places forced.new }
 {
     for cell in 0..position.puzzle.cells() {
         if left[cell] == 0 {
@@ -205,10 +207,10 @@ fn part_groups(
     forced: &mut [Option<u8>],
 )
     requires labels { AreComponents (cells position.now.puzzle.now.size) (Touch position.now.puzzle.now.size)
-        (IsSetTo position.now.partial.now 0) labels.now }
+        (IsSetTo position.now.partial.now.places 0) labels.now }
     requires owners { AreOwners position.now.puzzle.now labels.now owners.now }
-    requires forced { AreForced position.now.puzzle.now position.now.partial.now forced.old }
-    ensures { AreForced position.now.puzzle.now position.now.partial.now forced.new }
+    requires forced { AreForced position.now.puzzle.now position.now.partial.now.places forced.old }
+    ensures { AreForced position.now.puzzle.now position.now.partial.now.places forced.new }
 {
     let size = position.puzzle.size();
     for cell in 0..position.puzzle.cells() {
@@ -225,11 +227,11 @@ fn close_groups(
     sizes: &[usize],
     forced: &mut [Option<u8>],
 ) -> bool
-    requires groups { AreRegions position.now.puzzle.now.size (IsSetTo position.now.partial.now 0)
+    requires groups { AreRegions position.now.puzzle.now.size (IsSetTo position.now.partial.now.places 0)
         labels.now sizes.now }
-    requires forced { AreForced position.now.puzzle.now position.now.partial.now forced.old }
-    ensures dead { IsTrue result → IsHopeless (question_of Nurikabe position.now.puzzle.now) position.now.partial.now }
-    ensures forced { AreForced position.now.puzzle.now position.now.partial.now forced.new }
+    requires forced { AreForced position.now.puzzle.now position.now.partial.now.places forced.old }
+    ensures dead { IsTrue result → IsHopeless (question_of Nurikabe position.now.puzzle.now) position.now.partial.now.places }
+    ensures forced { AreForced position.now.puzzle.now position.now.partial.now.places forced.new }
 {
     for cell in 0..position.puzzle.cells() {
         if let Clue::Number(given) = position.puzzle.clue(cell) {
@@ -254,11 +256,11 @@ fn fill_reaches(
     sizes: &[usize],
     forced: &mut [Option<u8>],
 ) -> bool
-    requires reaches { AreRegions position.now.puzzle.now.size (IsOpenTo position.now.partial.now 1)
+    requires reaches { AreRegions position.now.puzzle.now.size (IsOpenTo position.now.partial.now.places 1)
         labels.now sizes.now }
-    requires forced { AreForced position.now.puzzle.now position.now.partial.now forced.old }
-    ensures dead { IsTrue result → IsHopeless (question_of Nurikabe position.now.puzzle.now) position.now.partial.now }
-    ensures forced { AreForced position.now.puzzle.now position.now.partial.now forced.new }
+    requires forced { AreForced position.now.puzzle.now position.now.partial.now.places forced.old }
+    ensures dead { IsTrue result → IsHopeless (question_of Nurikabe position.now.puzzle.now) position.now.partial.now.places }
+    ensures forced { AreForced position.now.puzzle.now position.now.partial.now.places forced.new }
 {
     for cell in 0..position.puzzle.cells() {
         if let Clue::Number(given) = position.puzzle.clue(cell) {

@@ -65,7 +65,7 @@ pub(crate) fn exits_of(
 ) -> Result<Vec<Exits>, AllocError>
     requires exact { length labels.now ≡ cells position.now.puzzle.now.size }
     requires labels { AreCells labels.now }
-    ensures { IfOk result (λ exits. KnowsExits position.now.puzzle.now.size position.now.partial.now labels.now
+    ensures { IfOk result (λ exits. KnowsExits position.now.puzzle.now.size position.now.partial.now.places labels.now
         (cells position.now.puzzle.now.size) exits.items) }
 {
     let size = position.puzzle.size();
@@ -160,16 +160,16 @@ pub(crate) fn force_exits(
     forced: &mut [Option<u8>],
 ) -> bool
     requires labels { AreComponents (cells position.now.puzzle.now.size) (Touch position.now.puzzle.now.size)
-        (IsSetTo position.now.partial.now value) labels.now }
-    requires exits { KnowsExits position.now.puzzle.now.size position.now.partial.now labels.now
+        (IsSetTo position.now.partial.now.places value) labels.now }
+    requires exits { KnowsExits position.now.puzzle.now.size position.now.partial.now.places labels.now
         (cells position.now.puzzle.now.size) exits.now }
     requires value { value < 2 }
     requires marks { length growing.now ≡ cells position.now.puzzle.now.size }
     requires growing { (label : ℕ) → IsMarked growing.now label
-        → MustGrow position.now.puzzle.now position.now.partial.now value labels.now label }
-    requires forced { AreForced position.now.puzzle.now position.now.partial.now forced.old }
-    ensures dead { IsTrue result → IsHopeless (question_of Nurikabe position.now.puzzle.now) position.now.partial.now }
-    ensures forced { AreForced position.now.puzzle.now position.now.partial.now forced.new }
+        → MustGrow position.now.puzzle.now position.now.partial.now.places value labels.now label }
+    requires forced { AreForced position.now.puzzle.now position.now.partial.now.places forced.old }
+    ensures dead { IsTrue result → IsHopeless (question_of Nurikabe position.now.puzzle.now) position.now.partial.now.places }
+    ensures forced { AreForced position.now.puzzle.now position.now.partial.now.places forced.new }
 {
     for label in 0..position.puzzle.cells() {
         if growing[label] {

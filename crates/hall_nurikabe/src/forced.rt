@@ -32,7 +32,12 @@ impl Look for Forced<'_> {
         self.values.len()
     }
 
-    fn look(&self, _alloc: Global, partial: &Partial, spot: usize) -> Result<Finding, AllocError> {
+    fn look(
+        &self,
+        _alloc: Global,
+        partial: &mut Partial,
+        spot: usize,
+    ) -> Result<Finding, AllocError> {
         let Some(value) = self.values[spot] else {
             return Ok(Finding::Nothing);
         };
@@ -55,9 +60,9 @@ pub(crate) fn force_label(
     requires labels { length labels.now ≡ cells position.now.puzzle.now.size }
     requires value { value < 2 }
     requires always { (cell : ℕ) → IsLabelled labels.now cell label
-        → HasAlways (question_of Nurikabe position.now.puzzle.now) position.now.partial.now cell value }
-    requires forced { AreForced position.now.puzzle.now position.now.partial.now forced.old }
-    ensures { AreForced position.now.puzzle.now position.now.partial.now forced.new }
+        → HasAlways (question_of Nurikabe position.now.puzzle.now) position.now.partial.now.places cell value }
+    requires forced { AreForced position.now.puzzle.now position.now.partial.now.places forced.old }
+    ensures { AreForced position.now.puzzle.now position.now.partial.now.places forced.new }
 {
     for cell in 0..position.puzzle.cells() {
         if labels[cell] == Some(label) {
@@ -94,9 +99,9 @@ pub(crate) fn force_walls_beside(
     requires always { (cell : ℕ) → cell < cells position.now.puzzle.now.size
         → slice_index_or labels.now cell None ≡ None
         → IsBeside position.now.puzzle.now.size labels.now cell label
-        → HasAlways (question_of Nurikabe position.now.puzzle.now) position.now.partial.now cell 1 }
-    requires forced { AreForced position.now.puzzle.now position.now.partial.now forced.old }
-    ensures { AreForced position.now.puzzle.now position.now.partial.now forced.new }
+        → HasAlways (question_of Nurikabe position.now.puzzle.now) position.now.partial.now.places cell 1 }
+    requires forced { AreForced position.now.puzzle.now position.now.partial.now.places forced.old }
+    ensures { AreForced position.now.puzzle.now position.now.partial.now.places forced.new }
 {
     let size = position.puzzle.size();
     for cell in 0..position.puzzle.cells() {

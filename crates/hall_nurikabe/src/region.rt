@@ -49,7 +49,7 @@ pub(crate) fn places_set_to(
     partial: &Partial,
     value: u8,
 ) -> Result<Vec<bool>, AllocError>
-    ensures { IfOk result (λ marks. MarksWhere (IsSetTo partial.now value) (length partial.now) marks.items) }
+    ensures { IfOk result (λ marks. MarksWhere (IsSetTo partial.now.places value) (length partial.now.places) marks.items) }
 {
     have_value(alloc, partial.as_slice(), value)
 }
@@ -60,7 +60,7 @@ pub(crate) fn places_open_to(
     partial: &Partial,
     value: u8,
 ) -> Result<Vec<bool>, AllocError>
-    ensures { IfOk result (λ marks. MarksWhere (IsOpenTo partial.now value) (length partial.now) marks.items) }
+    ensures { IfOk result (λ marks. MarksWhere (IsOpenTo partial.now.places value) (length partial.now.places) marks.items) }
 {
     lack_value(alloc, partial.as_slice(), value)
 }
@@ -151,8 +151,8 @@ fn owned_label(
 
 /// Takes their labels from the places that aren't set to the value.
 pub(crate) fn keep_labels(partial: &Partial, value: u8, labels: &mut [Option<usize>])
-    requires { length labels.old ≡ length partial.now }
-    ensures { AreKept partial.now value labels.old labels.new }
+    requires { length labels.old ≡ length partial.now.places }
+    ensures { AreKept partial.now.places value labels.old labels.new }
 {
     for place in 0..labels.len() {
         if partial.get(place) != Some(value) {

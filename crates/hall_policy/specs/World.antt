@@ -1,5 +1,5 @@
 -- What the hall keeps: finite maps from keys to rows, the keys' orders, and what a round's row says.
-use Rattle.std.specs.Prelude.{nat_eq, ◌≡◌, ◌+◌, ◌*◌, ℕ, zero, suc, Bool, List, Option, Some, None, slice_get}
+use Rattle.std.specs.Prelude.{nat_eq, ◌≡◌, ◌+◌, ◌*◌, ℕ, ℤ, pos, zero, suc, Bool, List, Option, Some, None, slice_get}
 use Rattle.std.specs.declared.cmp.Ordering.{Ordering}
 use Rattle.std.specs.Ordering.{nat_cmp, ordering_then}
 use Rattle.std.specs.Cmp.Lexicographic.{pointwise}
@@ -16,6 +16,8 @@ use Rattle.hall_policy.specs.declared.record.AnswerKey.{AnswerKey}
 use Rattle.hall_policy.specs.declared.record.AnswerRow.{AnswerRow}
 use Rattle.hall_policy.specs.declared.record.ProtestKey.{ProtestKey}
 use Rattle.hall_policy.specs.declared.record.ProtestRow.{ProtestRow}
+use Rattle.hall_policy.specs.declared.record.Ruling.{Ruling}
+use Rattle.hall_policy.specs.declared.record.Ruling.TheVariants.{Upheld, Rejected}
 
 -- the order of puzzles' keys: by author, then label
 abbrev pub puzzle_cmp : PuzzleKey → PuzzleKey → Ordering
@@ -65,6 +67,12 @@ protest_of world entrant round token = get world.protests (record { entrant = en
 -- whether two texts are one
 abbrev pub same_text : List ℕ → List ℕ → Bool
 same_text = pointwise nat_eq
+
+-- the points of an upheld protest, and none of another
+abbrev pub ruling_points : Option Ruling → ℤ
+ruling_points (Some (Upheld points)) = points
+ruling_points (Some Rejected) = pos 0
+ruling_points None = pos 0
 
 -- the second at which the round is over
 abbrev pub end_of : Round → ℕ

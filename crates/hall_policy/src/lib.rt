@@ -10,6 +10,7 @@ mod ranges;
 mod record;
 mod request;
 mod rule;
+mod sink;
 mod text;
 
 pub use decision::{decide, decide_up_to};
@@ -21,10 +22,11 @@ pub use number::{
 };
 pub use record::{
     AnswerKey, AnswerRow, Entry, Mode, Person, PlaceKey, ProtestKey, ProtestRow, PuzzleKey,
-    PuzzleRow, PuzzleState, Roles, Round, RoundRow, Ruling,
+    PuzzleRow, PuzzleState, Roles, Round, RoundRow, Ruling, ruling_points,
 };
 pub use request::{Action, Request, Sheet};
 pub use rule::{Decision, Rule};
+pub use sink::{AnswerSink, ProtestSink, SinkFault};
 pub use text::{
     AnswerText, Checked, Key, Label, Name, ProtestText, PuzzleText, RoundId, TextKind, Title, Token,
 };

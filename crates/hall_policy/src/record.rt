@@ -1,6 +1,6 @@
 //! The records that the hall keeps.
-ghost use Rattle.std.specs.Prelude.{◌≡◌, ◌↔◌, ◌+◌, ◌*◌, ◌≤◌, IsTrue};
-ghost use Rattle.hall_policy.specs.World.{end_of, close_of};
+ghost use Rattle.std.specs.Prelude.{◌≡◌, ◌↔◌, ◌+◌, ◌*◌, ◌≤◌, ◌≤ℤ◌, pos, negsuc, IsTrue};
+ghost use Rattle.hall_policy.specs.World.{end_of, close_of, ruling_points};
 
 use crate::list::Entries;
 use crate::number::{
@@ -191,7 +191,7 @@ impl Clone for AnswerRow {
 }
 
 /// Where a protest is kept.
-#[derive(PartialEq, Eq, PartialOrd, Ord, Drop)]
+#[derive(Clone, PartialEq, Eq, PartialOrd, Ord, Drop)]
 pub struct ProtestKey {
     pub entrant: Name,
     pub round: RoundId,
@@ -205,8 +205,20 @@ pub enum Ruling {
     Rejected,
 }
 
+/// The points of an upheld protest, and none of another.
+pub fn ruling_points(ruling: &Option<Ruling>) -> i16
+    ensures value { result ≡ ruling_points ruling.now }
+    ensures least { negsuc 999 ≤ℤ result }
+    ensures most { result ≤ℤ pos 1000 }
+{
+    match ruling {
+        Some(Ruling::Upheld(points)) => points.get(),
+        Some(Ruling::Rejected) | None => 0,
+    }
+}
+
 /// A protest of an entrant.
-#[derive(Drop)]
+#[derive(Clone, Drop)]
 pub struct ProtestRow {
     pub key: ProtestKey,
     pub number: PuzzleNumber,

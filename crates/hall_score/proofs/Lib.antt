@@ -1,3 +1,11 @@
 pub mod Widths
+pub mod Gains
+pub mod Apart
+pub mod Scores
+pub mod Tried
+pub mod Works
+pub mod Tallies
+pub mod Permuted
+pub mod Ranks
 mod Worked
 mod Once

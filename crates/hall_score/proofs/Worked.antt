@@ -32,6 +32,9 @@ wrong_then_right = refl
 right_in_the_last_second : total_of (round Instant) (answer 1 1777715999 0 ∷ []) [] ≡ pos 40
 right_in_the_last_second = refl
 
+right_at_the_end : total_of (round Instant) (answer 1 1777716000 0 ∷ []) [] ≡ pos 40
+right_at_the_end = refl
+
 -- one second past the end is a minute begun, and taken off
 right_after_the_end : total_of (round Instant) (answer 1 1777716001 0 ∷ []) [] ≡ pos 38
 right_after_the_end = refl
@@ -63,3 +66,8 @@ laid_out = refl
 longer_than_its_places : line_bytes (record { rank = 12345; name = codes "gus"; total = negsuc 122345678 }) ≡ codes "12345 gus                      -122345679\n"
 unfolding digits
 longer_than_its_places = refl
+
+-- a name of 24 bytes, and a total that stands whole beside it
+long_name : line_bytes (record { rank = 1; name = codes "an-entrant-of-24-letters"; total = pos 1000000000 }) ≡ codes "   1 an-entrant-of-24-letters 1000000000\n"
+unfolding digits
+long_name = refl

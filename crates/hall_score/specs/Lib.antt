@@ -1,3 +1,6 @@
 pub mod Total
 pub mod Standings
 pub mod Table
+pub mod Work
+pub mod Ruled
+pub mod Tally

@@ -4,13 +4,11 @@ use Rattle.std.specs.Prelude.{Bool, if◌then◌else◌, List, length, map, filt
 use Rattle.std.specs.Prelude.{Option, Some, None, is_some}
 use Rattle.std.specs.Int.{int_div_euclid}
 use Rattle.std.specs.List.{list_any, list_all, range_with_len}
-use Rattle.hall_policy.specs.World.{end_of, entry_at}
+use Rattle.hall_policy.specs.World.{end_of, entry_at, ruling_points}
 use Rattle.hall_policy.specs.declared.record.Entry.{Entry}
 use Rattle.hall_policy.specs.declared.record.RoundRow.{RoundRow}
 use Rattle.hall_policy.specs.declared.record.AnswerRow.{AnswerRow}
 use Rattle.hall_policy.specs.declared.record.ProtestRow.{ProtestRow}
-use Rattle.hall_policy.specs.declared.record.Ruling.{Ruling}
-use Rattle.hall_policy.specs.declared.record.Ruling.TheVariants.{Upheld, Rejected}
 use Rattle.hall_policy.specs.declared.record.Mode.{Mode}
 use Rattle.hall_policy.specs.declared.record.Mode.TheVariants.{Instant, Sealed}
 
@@ -75,27 +73,25 @@ are_all_solved round rows = list_all (is_solved round rows) (range_with_len 1 (l
 abbrev pub last_moment : RoundRow → List AnswerRow → ℕ
 last_moment round rows = fold max 0 (map (λ row. row.moment) (filter (does_score round rows) rows))
 
--- the whole minutes from the last moment to the end, rounded down also where the last moment lies after the end
-abbrev pub minutes_left : RoundRow → List AnswerRow → ℤ
-minutes_left round rows = int_div_euclid (pos (end_of round.round) -ℤ pos (last_moment round rows)) (pos 60)
+-- the whole minutes from the moment to the end, rounded down also where the moment lies after the end
+abbrev pub minutes_left : RoundRow → ℕ → ℤ
+minutes_left round moment = int_div_euclid (pos (end_of round.round) -ℤ pos moment) (pos 60)
 
--- where each puzzle is solved, the bonus for each minute that is left
+-- where each puzzle is solved, the bonus for each minute that is left from the last moment on
 abbrev pub bonus_of : RoundRow → List AnswerRow → ℤ
 bonus_of round rows =
-    if are_all_solved round rows then pos round.round.bonus *ℤ minutes_left round rows else pos 0
+    if are_all_solved round rows then pos round.round.bonus *ℤ minutes_left round (last_moment round rows) else pos 0
 
--- the points of an upheld protest, and none of another
-abbrev pub ruling_points : Option Ruling → ℤ
-ruling_points (Some (Upheld points)) = points
-ruling_points (Some Rejected) = pos 0
-ruling_points None = pos 0
+-- what an entrant's answers of the round give, the bonus included; the sum over the answers is one over the puzzles,
+-- since of the answers to one puzzle those that count have one number (proofs/Once.antt)
+abbrev pub answer_points : RoundRow → List AnswerRow → ℤ
+answer_points round answers = pos (sum_by (points_for round answers) answers) +ℤ bonus_of round answers
 
 -- the sum of the points of the upheld protests
 abbrev pub protest_points : List ProtestRow → ℤ
 protest_points rows = fold (λ sum row. sum +ℤ ruling_points row.ruling) (pos 0) rows
 
--- an entrant's total, from that entrant's rows of the round; the sum over the answers is one over the puzzles,
--- since of the answers to one puzzle those that count have one number (proofs/Once.antt)
+-- an entrant's total, from that entrant's rows of the round
 abbrev pub total_of : RoundRow → List AnswerRow → List ProtestRow → ℤ
 total_of round answers protests =
-    (pos (sum_by (points_for round answers) answers) +ℤ bonus_of round answers) +ℤ protest_points protests
+    answer_points round answers +ℤ protest_points protests

@@ -1,10 +1,18 @@
 //! The points of a contest round: an entrant's total, the standings, and their table.
 #![tactic(auto)]
 
+mod held;
 mod points;
 mod ranking;
+mod ruled;
 mod table;
+mod taking;
+mod tally;
+mod totals;
+mod tries;
+mod work;
 
 pub use points::total;
 pub use ranking::{Line, standings};
 pub use table::table_text;
+pub use tally::Tally;

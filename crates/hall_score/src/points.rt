@@ -1,16 +1,16 @@
 //! An entrant's points in a round.
-ghost use Rattle.std.specs.Prelude.{◌≡◌, ◌≤◌, ◌*◌, ◌≤ℤ◌, negsuc, pos, neg_ℤ, length};
+ghost use Rattle.std.specs.Prelude.{◌≡◌, ◌≤◌, ◌*◌, ◌*ℤ◌, ◌≤ℤ◌, pos, neg_ℤ, length};
 ghost use Rattle.std.specs.Prelude.{sum_by, option_copied, unsigned_abs};
 ghost use Rattle.hall_policy.specs.World.{entry_at};
 ghost use Rattle.hall_score.specs.Total.{is_right, same_puzzle, has_right_before, has_later, does_count};
 ghost use Rattle.hall_score.specs.Total.{wrong_before, cost_of, points_of, does_score, points_for};
 ghost use Rattle.hall_score.specs.Total.{is_solved, are_all_solved, last_moment, minutes_left, bonus_of};
-ghost use Rattle.hall_score.specs.Total.{ruling_points, protest_points, total_of};
+ghost use Rattle.hall_score.specs.Total.{protest_points, total_of};
 
-use hall_policy::{AnswerRow, Entry, Mode, ProtestRow, PuzzleNumber, RoundRow, Ruling};
+use hall_policy::{AnswerRow, Entry, Mode, ProtestRow, PuzzleNumber, RoundRow, ruling_points};
 
 /// Whether the answer breaks no rule.
-fn is_right(row: &AnswerRow) -> bool
+pub(crate) fn is_right(row: &AnswerRow) -> bool
     ensures { result ≡ is_right row.now }
 {
     row.verdict.bits() == 0
@@ -73,7 +73,7 @@ fn cost_of(round: &RoundRow, answers: &[AnswerRow], row: &AnswerRow) -> u64
 }
 
 /// The entry with this number.
-fn entry_at(entries: &[Entry], number: PuzzleNumber) -> Option<&Entry>
+pub(crate) fn entry_at(entries: &[Entry], number: PuzzleNumber) -> Option<&Entry>
     ensures { option_copied result ≡ entry_at entries.now number }
 {
     entries.get(number.get() as usize - 1)
@@ -153,13 +153,23 @@ fn last_moment(round: &RoundRow, answers: &[AnswerRow]) -> u64
     last
 }
 
-/// The whole minutes from the last answer that scores to the end, rounded down; below 0 where it came after the end.
-fn minutes_left(round: &RoundRow, answers: &[AnswerRow]) -> i64
-    ensures value { result ≡ minutes_left round.now answers.now }
+/// The whole minutes from the moment to the end, rounded down; below 0 where it lies after the end.
+fn minutes_left(round: &RoundRow, moment: u64) -> i64
+    requires { moment ≤ 4102444800 }
+    ensures value { result ≡ minutes_left round.now moment }
     ensures bound { unsigned_abs result ≤ 100000000 }
 {
-    let left = round.round.end() as i64 - last_moment(round, answers) as i64;
+    let left = round.round.end() as i64 - moment as i64;
     left.div_euclid(60)
+}
+
+/// The bonus for the minutes that are left from the moment on.
+pub(crate) fn bonus_from(round: &RoundRow, moment: u64) -> i64
+    requires { moment ≤ 4102444800 }
+    ensures value { result ≡ pos round.now.round.bonus *ℤ minutes_left round.now moment }
+    ensures bound { unsigned_abs result ≤ 100000000000 }
+{
+    round.round.bonus.get() as i64 * minutes_left(round, moment)
 }
 
 /// The bonus for the minutes that are left, where each puzzle is solved.
@@ -168,21 +178,9 @@ fn bonus_of(round: &RoundRow, answers: &[AnswerRow]) -> i64
     ensures bound { unsigned_abs result ≤ 100000000000 }
 {
     if are_all_solved(round, answers) {
-        round.round.bonus.get() as i64 * minutes_left(round, answers)
+        bonus_from(round, last_moment(round, answers))
     } else {
         0
-    }
-}
-
-/// The points of an upheld protest, and none of another.
-fn ruling_points(row: &ProtestRow) -> i64
-    ensures value { result ≡ ruling_points row.now.ruling }
-    ensures least { negsuc 999 ≤ℤ result }
-    ensures most { result ≤ℤ pos 1000 }
-{
-    match &row.ruling {
-        Some(Ruling::Upheld(points)) => i64::from(points.get()),
-        _ => 0,
     }
 }
 
@@ -195,7 +193,7 @@ fn protest_points(protests: &[ProtestRow]) -> i64
 {
     let mut points = 0;
     for row in protests {
-        points += ruling_points(row);
+        points += i64::from(ruling_points(&row.ruling));
     }
     points
 }

@@ -1,6 +1,8 @@
 //! The lines of a table, ranked.
-ghost use Rattle.std.specs.Prelude.{◌≡◌, map, IfOk};
-ghost use Rattle.hall_score.specs.Standings.{rank_of, line_of, IsStandings};
+ghost use Rattle.std.specs.Prelude.{◌≡◌, ◌+◌, ℕ, ℤ, List, map, IfOk, count_by, int_lt};
+ghost use Rattle.std.specs.List.Sorted.{IsSorted, IsPermutation};
+ghost use Rattle.std.specs.Ordering.{int_cmp};
+ghost use Rattle.hall_score.specs.Standings.{line_of, IsStandings};
 
 use hall_policy::Name;
 use std::alloc::{AllocError, Global};
@@ -14,31 +16,50 @@ pub struct Line {
     pub total: i64,
 }
 
-/// 1 and the number of the greater totals.
-fn rank_of(totals: &[(Name, i64)], total: i64) -> u64
-    ensures { result ≡ rank_of totals.now total }
+/// The totals without their entrants, in rising order.
+fn rising(alloc: Global, totals: &[(Name, i64)]) -> Result<Vec<i64>, AllocError>
+    ensures moved { IfOk result (λ rising. IsPermutation (map (λ entrant. entrant.1) totals.now) rising.items) }
+    ensures sorted { IfOk result (λ rising. IsSorted int_cmp rising.items) }
 {
-    1 + totals.iter().filter(|other| other.1 > total).count() as u64
+    let mut rising = Vec::with_capacity(alloc, totals.len())?;
+    for entrant in totals {
+        rising.push(entrant.1)?;
+    }
+    rising.sort()?;
+    Ok(rising)
+}
+
+/// 1 and the number of the greater ones among these, which rise.
+fn rank_of(rising: &[i64], total: i64) -> u64
+    requires { IsSorted int_cmp rising.now }
+    ensures { result ≡ 1 + count_by (λ other. int_lt total other) rising.now }
+{
+    let greater = rising.len() - rising.partition_point(|other| !(*other > total));
+    1 + greater as u64
 }
 
 /// The line of an entrant.
-fn line_of(totals: &[(Name, i64)], entrant: &(Name, i64)) -> Result<Line, AllocError>
-    ensures { IfOk result (λ line. line ≡ line_of totals.now entrant.now) }
+fn line_of(rising: &[i64], entrant: &(Name, i64)) -> Result<Line, AllocError>
+    requires { IsSorted int_cmp rising.now }
+    ensures { IfOk result (λ line. (totals : List (List ℕ × ℤ)) →
+        IsPermutation (map (λ other. other.1) totals) rising.now → line ≡ line_of totals entrant.now) }
 {
     Ok(Line {
-        rank: rank_of(totals, entrant.1),
+        rank: rank_of(rising, entrant.1),
         name: entrant.0.clone()?,
         total: entrant.1,
     })
 }
 
 /// The lines in the order of the totals.
-fn lines_of(alloc: Global, totals: &[(Name, i64)]) -> Result<Vec<Line>, AllocError>
+fn lines_of(alloc: Global, totals: &[(Name, i64)], rising: &[i64]) -> Result<Vec<Line>, AllocError>
+    requires sorted { IsSorted int_cmp rising.now }
+    requires moved { IsPermutation (map (λ entrant. entrant.1) totals.now) rising.now }
     ensures { IfOk result (λ lines. lines.items ≡ map (line_of totals.now) totals.now) }
 {
     let mut lines = Vec::with_capacity(alloc, totals.len())?;
     for entrant in totals {
-        lines.push(line_of(totals, entrant)?)?;
+        lines.push(line_of(rising, entrant)?)?;
     }
     Ok(lines)
 }
@@ -48,7 +69,8 @@ fn lines_of(alloc: Global, totals: &[(Name, i64)]) -> Result<Vec<Line>, AllocErr
 pub fn standings(alloc: Global, totals: &[(Name, i64)]) -> Result<Vec<Line>, AllocError>
     ensures { IfOk result (λ lines. IsStandings totals.now lines.items) }
 {
-    let mut lines = lines_of(alloc, totals)?;
+    let rising = rising(alloc, totals)?;
+    let mut lines = lines_of(alloc, totals, rising.as_slice())?;
     lines.sort()?;
     Ok(lines)
 }

@@ -35,7 +35,7 @@ impl Ends {
 
 /// The lines so far: 1 for a line, 0 for none and for an open side.
 pub(crate) fn lines_so_far(alloc: Global, partial: &Partial) -> Result<Vec<u8>, AllocError>
-    ensures { IfOk result (λ lines. AreLines partial.now lines.items) }
+    ensures { IfOk result (λ lines. AreLines partial.now.places lines.items) }
 {
     let mut lines = vec![in alloc; 0; partial.len()]?;
     for side in 0..partial.len() {

@@ -4,6 +4,7 @@ ghost use Rattle.hall_grid.specs.Slither.{all_sides, HasOtherCount};
 ghost use Rattle.hall_solve.specs.Question.{IsPartial, IsHopeless, Narrows};
 ghost use Rattle.hall_solve.specs.Deduction.{IsDeduced};
 ghost use Rattle.hall_solve.specs.Puzzle.{question_of};
+ghost use Rattle.hall_solve.specs.Trail.{Grows};
 ghost use Rattle.hall_slither.specs.Close.{HasLoop};
 
 use crate::chain::{Ends, chain_ends, first_line, lines_so_far};
@@ -77,9 +78,9 @@ impl<'a> Chains<'a> {
 
     fn new(alloc: Global, puzzle: &'a Puzzle, partial: &Partial) -> Result<Chains<'a>, AllocError>
         requires kind { puzzle.now.kind ≡ Kind.Slither }
-        requires partial { IsPartial (question_of Kind.Slither puzzle.now) partial.now }
+        requires partial { IsPartial (question_of Kind.Slither puzzle.now) partial.now.places }
         ensures board { IfOk result (λ c. c.board ≡ puzzle.now) }
-        ensures lines { IfOk result (λ c. AreLines partial.now c.lines) }
+        ensures lines { IfOk result (λ c. AreLines partial.now.places c.lines) }
     {
         let size = puzzle.size();
         let lines = lines_so_far(alloc, partial)?;
@@ -138,7 +139,12 @@ impl<'a> Look for Chains<'a> {
         self.lines.len()
     }
 
-    fn look(&self, alloc: Global, partial: &Partial, spot: usize) -> Result<Finding, AllocError> {
+    fn look(
+        &self,
+        alloc: Global,
+        partial: &mut Partial,
+        spot: usize,
+    ) -> Result<Finding, AllocError> {
         if partial.get(spot).is_some() || self.lines[spot] == 1 {
             return Ok(Finding::Nothing);
         }
@@ -162,9 +168,10 @@ pub(crate) fn close_chains(
     partial: &mut Partial,
 ) -> Result<Pass, AllocError>
     requires kind { puzzle.now.kind ≡ Kind.Slither }
-    requires partial { IsPartial (question_of Kind.Slither puzzle.now) partial.old }
-    ensures deduced { IfOk result (IsDeduced (question_of Kind.Slither puzzle.now) partial.old partial.new) }
-    ensures err { OnErr result (Narrows (question_of Kind.Slither puzzle.now) partial.old partial.new) }
+    requires partial { IsPartial (question_of Kind.Slither puzzle.now) partial.old.places }
+    ensures deduced { IfOk result (IsDeduced (question_of Kind.Slither puzzle.now) partial.old.places partial.new.places) }
+    ensures err { OnErr result (Narrows (question_of Kind.Slither puzzle.now) partial.old.places partial.new.places) }
+    ensures grows { Grows partial.old partial.new }
 {
     let chains = Chains::new(alloc, puzzle, partial)?;
     if chains.has_wrong_loop() {

@@ -77,10 +77,10 @@ pub(crate) fn demand_at(puzzle: &Puzzle, centre: Centre) -> Demand
 
 /// How many of the sides are lines, and how many are open.
 pub(crate) fn lines_and_open(partial: &Partial, sides: &[Option<usize>]) -> (usize, usize)
-    requires below { AreBelow (length partial.now) sides.now }
+    requires below { AreBelow (length partial.now.places) sides.now }
     requires few { length sides.now ≤ 4 }
-    ensures lines { result.0 ≡ count_sides (has_line partial.now) sides.now }
-    ensures unset { result.1 ≡ count_sides (is_open partial.now) sides.now }
+    ensures lines { result.0 ≡ count_sides (has_line partial.now.places) sides.now }
+    ensures unset { result.1 ≡ count_sides (is_open partial.now.places) sides.now }
     ensures few { result.0 + result.1 ≤ 4 }
 {
     let mut lines = 0;
@@ -137,11 +137,11 @@ fn exact_consequence(number: usize, lines: usize, unset: usize) -> Consequence
 /// What follows for the open sides at the centre.
 pub(crate) fn consequence_at(puzzle: &Puzzle, partial: &Partial, centre: Centre) -> Consequence
     requires kind { puzzle.now.kind ≡ Kind.Slither }
-    requires partial { IsPartial (question_of Kind.Slither puzzle.now) partial.now }
+    requires partial { IsPartial (question_of Kind.Slither puzzle.now) partial.now.places }
     requires centre { IsCentre puzzle.now.size centre }
-    ensures told { IsTold (question_of Kind.Slither puzzle.now) partial.now
+    ensures told { IsTold (question_of Kind.Slither puzzle.now) partial.now.places
         (sides_round puzzle.now.size centre) result }
-    ensures silent { result ≡ Consequence.Nothing → IsSilent puzzle.now partial.now centre }
+    ensures silent { result ≡ Consequence.Nothing → IsSilent puzzle.now partial.now.places centre }
 {
     let (lines, unset) = lines_and_open(partial, &sides_round(puzzle.size(), centre));
     consequence_of(demand_at(puzzle, centre), lines, unset)

@@ -5,6 +5,7 @@ ghost use Rattle.hall_grid.specs.Slither.{all_sides};
 ghost use Rattle.hall_solve.specs.Question.{IsPartial, Narrows};
 ghost use Rattle.hall_solve.specs.Deduction.{IsDeduced};
 ghost use Rattle.hall_solve.specs.Puzzle.{question_of};
+ghost use Rattle.hall_solve.specs.Trail.{Grows};
 ghost use Rattle.hall_slither.specs.Dot.{AreBelow};
 ghost use Rattle.hall_slither.specs.Count.{IsCentre, AreSilent};
 ghost use Rattle.hall_slither.specs.Follow.{SetsAmong, AreSet, HasAll, work};
@@ -79,13 +80,14 @@ fn set_open(
     stack: &mut Vec<Centre>,
 ) -> Result<(), AllocError>
     requires size { IsSize size }
-    requires partial { length partial.old ≡ all_sides size }
+    requires partial { length partial.old.places ≡ all_sides size }
     requires below { AreBelow (all_sides size) sides.now }
     requires centres { All (IsCentre size) stack.old.items }
-    ensures among { SetsAmong sides.now value partial.old partial.new }
-    ensures set { OnOk result (AreSet sides.now partial.new) }
+    ensures among { SetsAmong sides.now value partial.old.places partial.new.places }
+    ensures grows { Grows partial.old partial.new }
+    ensures set { OnOk result (AreSet sides.now partial.new.places) }
     ensures centres { OnOk result (All (IsCentre size) stack.new.items) }
-    ensures work { OnOk result (work partial.new stack.new.items ≤ work partial.old stack.old.items) }
+    ensures work { OnOk result (work partial.new.places stack.new.items ≤ work partial.old.places stack.old.items) }
 {
     for side in sides {
         if let Some(side) = *side {
@@ -121,12 +123,13 @@ fn follow_stack(
     stack: &mut Vec<Centre>,
 ) -> Result<Pass, AllocError>
     requires kind { puzzle.now.kind ≡ Kind.Slither }
-    requires partial { IsPartial (question_of Kind.Slither puzzle.now) partial.old }
+    requires partial { IsPartial (question_of Kind.Slither puzzle.now) partial.old.places }
     requires centres { All (IsCentre puzzle.now.size) stack.old.items }
     requires all { HasAll puzzle.now.size stack.old.items }
-    ensures silent { IfOk result (λ pass. pass ≡ Pass.Settled → AreSilent puzzle.now partial.new) }
-    ensures deduced { IfOk result (IsDeduced (question_of Kind.Slither puzzle.now) partial.old partial.new) }
-    ensures err { OnErr result (Narrows (question_of Kind.Slither puzzle.now) partial.old partial.new) }
+    ensures silent { IfOk result (λ pass. pass ≡ Pass.Settled → AreSilent puzzle.now partial.new.places) }
+    ensures deduced { IfOk result (IsDeduced (question_of Kind.Slither puzzle.now) partial.old.places partial.new.places) }
+    ensures err { OnErr result (Narrows (question_of Kind.Slither puzzle.now) partial.old.places partial.new.places) }
+    ensures grows { Grows partial.old partial.new }
 {
     let size = puzzle.size();
     let mut pass = Pass::Settled;
@@ -150,10 +153,11 @@ pub(crate) fn follow_counts(
     partial: &mut Partial,
 ) -> Result<Pass, AllocError>
     requires kind { puzzle.now.kind ≡ Kind.Slither }
-    requires partial { IsPartial (question_of Kind.Slither puzzle.now) partial.old }
-    ensures silent { IfOk result (λ pass. pass ≡ Pass.Settled → AreSilent puzzle.now partial.new) }
-    ensures deduced { IfOk result (IsDeduced (question_of Kind.Slither puzzle.now) partial.old partial.new) }
-    ensures err { OnErr result (Narrows (question_of Kind.Slither puzzle.now) partial.old partial.new) }
+    requires partial { IsPartial (question_of Kind.Slither puzzle.now) partial.old.places }
+    ensures silent { IfOk result (λ pass. pass ≡ Pass.Settled → AreSilent puzzle.now partial.new.places) }
+    ensures deduced { IfOk result (IsDeduced (question_of Kind.Slither puzzle.now) partial.old.places partial.new.places) }
+    ensures err { OnErr result (Narrows (question_of Kind.Slither puzzle.now) partial.old.places partial.new.places) }
+    ensures grows { Grows partial.old partial.new }
 {
     let mut stack = Vec::new(alloc);
     push_all(puzzle.size(), &mut stack)?;

@@ -72,19 +72,22 @@ impl<'a> Trials<'a> {
     fn fails(
         &self,
         alloc: Global,
-        partial: &Partial,
+        partial: &mut Partial,
         side: usize,
         value: u8,
     ) -> Result<bool, AllocError>
-        requires partial { IsPartial (question_of Kind.Slither self.now) partial.now }
-        requires side { IsOpen partial.now side }
+        requires partial { IsPartial (question_of Kind.Slither self.now) partial.old.places }
+        requires side { IsOpen partial.old.places side }
         requires value { value < 2 }
-        ensures { IfOk result (λ fails. IsTrue fails
-            → IsHopeless (question_of Kind.Slither self.now) (slice_set partial.now side (Some value))) }
+        ensures fails { IfOk result (λ fails. IsTrue fails
+            → IsHopeless (question_of Kind.Slither self.now) (slice_set partial.old.places side (Some value))) }
+        ensures kept { partial.new ≡ partial.old }
     {
-        let mut trial = partial.copy()?;
-        trial.set(side, value);
-        Ok(settle(alloc, &self.deductions, &mut trial)? == Step::Dead)
+        let mark = partial.mark();
+        partial.set(side, value);
+        let step = settle(alloc, &self.deductions, partial);
+        partial.undo_to(mark);
+        Ok(step? == Step::Dead)
     }
 }
 
@@ -99,7 +102,12 @@ impl<'a> Look for Trials<'a> {
         self.deductions.puzzle.size().all_sides()
     }
 
-    fn look(&self, alloc: Global, partial: &Partial, spot: usize) -> Result<Finding, AllocError> {
+    fn look(
+        &self,
+        alloc: Global,
+        partial: &mut Partial,
+        spot: usize,
+    ) -> Result<Finding, AllocError> {
         if partial.get(spot).is_some() {
             return Ok(Finding::Nothing);
         }
@@ -208,9 +216,9 @@ impl<'a> Rules for SlitherRules<'a> {
 /// The partial filling where a search begins: no side is given.
 pub fn start(alloc: Global, puzzle: &Puzzle) -> Result<Partial, AllocError>
     requires { puzzle.now.kind ≡ Kind.Slither }
-    ensures start { IfOk result (λ p. p ≡ start_of Kind.Slither puzzle.now) }
-    ensures partial { IfOk result (IsPartial (question_of Kind.Slither puzzle.now)) }
-    ensures solutions { IfOk result (AllExtend Kind.Slither puzzle.now) }
+    ensures start { IfOk result (λ p. p.places ≡ start_of Kind.Slither puzzle.now) }
+    ensures partial { IfOk result (λ p. IsPartial (question_of Kind.Slither puzzle.now) p.places) }
+    ensures solutions { IfOk result (λ p. AllExtend Kind.Slither puzzle.now p.places) }
 {
     Partial::new(alloc, puzzle.size().all_sides())
 }

@@ -6,6 +6,7 @@
 ghost use Rattle.std.specs.Prelude.{◌≡◌, ℕ, ◌<◌, List, Option, IfOk, OnErr};
 ghost use Rattle.hall_solve.specs.Question.{Question, IsPartial, IsHopeless, Narrows};
 ghost use Rattle.hall_solve.specs.Deduction.{IsSound, IsDeduced};
+ghost use Rattle.hall_solve.specs.Trail.{Grows};
 
 use crate::partial::Partial;
 use crate::rules::Step;
@@ -45,11 +46,12 @@ pub trait Look {
     fn spots(&self) -> usize
         ensures { result ≡ spots self.now };
 
-    /// What follows at the spot.
-    fn look(&self, alloc: Global, partial: &Partial, spot: usize) -> Result<Finding, AllocError>
-        requires partial { IsPartial (question self.now) partial.now }
+    /// What follows at the spot. It may try values, and leaves the partial filling as it was.
+    fn look(&self, alloc: Global, partial: &mut Partial, spot: usize) -> Result<Finding, AllocError>
+        requires partial { IsPartial (question self.now) partial.old.places }
         requires spot { spot < spots self.now }
-        ensures { IfOk result (IsSound (question self.now) partial.now) };
+        ensures sound { IfOk result (IsSound (question self.now) partial.old.places) }
+        ensures kept { partial.new ≡ partial.old };
 }
 
 /// Deductions about a partial filling.
@@ -62,10 +64,11 @@ pub trait Deduce {
 
     /// One pass: sets places that follow.
     fn pass(&self, alloc: Global, partial: &mut Partial) -> Result<Pass, AllocError>
-        requires { IsPartial (question self.now) partial.old }
-        ensures deduced { IfOk result (IsDeduced (question self.now) partial.old partial.new) }
-        ensures settled { IfOk result (λ pass. pass ≡ Pass.Settled → settled self.now partial.new) }
-        ensures err { OnErr result (Narrows (question self.now) partial.old partial.new) };
+        requires { IsPartial (question self.now) partial.old.places }
+        ensures deduced { IfOk result (IsDeduced (question self.now) partial.old.places partial.new.places) }
+        ensures settled { IfOk result (λ pass. pass ≡ Pass.Settled → settled self.now partial.new.places) }
+        ensures err { OnErr result (Narrows (question self.now) partial.old.places partial.new.places) }
+        ensures grows { Grows partial.old partial.new };
 }
 
 /// Looks at each spot once, and sets at once what each look finds.
@@ -74,9 +77,10 @@ pub fn sweep<L: Look>(
     deduction: &L,
     partial: &mut Partial,
 ) -> Result<Pass, AllocError>
-    requires { IsPartial (L.question deduction.now) partial.old }
-    ensures deduced { IfOk result (IsDeduced (L.question deduction.now) partial.old partial.new) }
-    ensures err { OnErr result (Narrows (L.question deduction.now) partial.old partial.new) }
+    requires { IsPartial (L.question deduction.now) partial.old.places }
+    ensures deduced { IfOk result (IsDeduced (L.question deduction.now) partial.old.places partial.new.places) }
+    ensures err { OnErr result (Narrows (L.question deduction.now) partial.old.places partial.new.places) }
+    ensures grows { Grows partial.old partial.new }
 {
     let mut pass = Pass::Settled;
     for spot in 0..deduction.spots() {
@@ -98,12 +102,13 @@ pub fn settle<D: Deduce>(
     deductions: &D,
     partial: &mut Partial,
 ) -> Result<Step, AllocError>
-    requires { IsPartial (D.question deductions.now) partial.old }
+    requires { IsPartial (D.question deductions.now) partial.old.places }
     ensures live { IfOk result (λ step. step ≡ Step.Live
-        → Narrows (D.question deductions.now) partial.old partial.new) }
-    ensures settled { IfOk result (λ step. step ≡ Step.Live → D.settled deductions.now partial.new) }
-    ensures dead { IfOk result (λ step. step ≡ Step.Dead → IsHopeless (D.question deductions.now) partial.old) }
-    ensures err { OnErr result (Narrows (D.question deductions.now) partial.old partial.new) }
+        → Narrows (D.question deductions.now) partial.old.places partial.new.places) }
+    ensures settled { IfOk result (λ step. step ≡ Step.Live → D.settled deductions.now partial.new.places) }
+    ensures dead { IfOk result (λ step. step ≡ Step.Dead → IsHopeless (D.question deductions.now) partial.old.places) }
+    ensures err { OnErr result (Narrows (D.question deductions.now) partial.old.places partial.new.places) }
+    ensures grows { Grows partial.old partial.new }
 {
     'settling: loop {
         match deductions.pass(alloc, partial)? {

@@ -1,12 +1,16 @@
-//! The search by recursion: a visit, then a branch for each value of one open place.
-ghost use Rattle.std.specs.Prelude.{◌≡◌, ◌≤◌, ◌<◌, ◌+◌, ◌^◌, ◌-◌, IfOk};
-ghost use Rattle.hall_solve.specs.Question.{IsPartial, IsSame, IsWhole, Solves, plain_tree, open_places};
-ghost use Rattle.hall_solve.specs.Answer.{IsTrueOf, OutcomeOf, fewest_visits};
-ghost use Rattle.hall_solve.specs.Explored.{Explored};
+//! The search over one board: a visit, then the next value of the newest choice that has one.
+ghost use Rattle.std.specs.Prelude.{◌≡◌, ◌≤◌, ◌<◌, ◌+◌, ◌↔◌, ◌⊎◌, ℕ, false, List, None, Some, IfOk, IsTrue};
+ghost use Rattle.std.specs.Prelude.{length, slice_index_or, slice_set};
+ghost use Rattle.hall_solve.specs.Question.{IsPartial, IsSame, IsOpen, plain_tree, open_places};
+ghost use Rattle.hall_solve.specs.Answer.{OutcomeOf, fewest_visits};
+ghost use Rattle.hall_solve.specs.Trail.{IsTrailed};
+ghost use Rattle.hall_solve.specs.Choices.{AreMade, AwaitsTurn, InRange, IsAhead, visits_left, visits_ahead};
 
+use crate::choice::Choice;
 use crate::outcome::Outcome;
 use crate::partial::Partial;
-use crate::rules::{Rules, Step};
+use crate::rules::Rules;
+use crate::visit::{Visited, visit};
 use hall_grid::Filling;
 use std::alloc::{AllocError, Global};
 
@@ -22,83 +26,105 @@ pub fn search<R: Rules>(
 ) -> Result<Outcome, AllocError>
     requires fresh { R.visits rules.old ≡ 0 }
     requires not_asked { R.asked rules.old ≡ 0 }
-    requires start { IsPartial (R.question rules.old) start.now }
-    ensures outcome { IfOk result (OutcomeOf (R.question rules.old) start.now budget) }
+    requires start { IsPartial (R.question rules.old) start.now.places }
+    ensures outcome { IfOk result (OutcomeOf (R.question rules.old) start.now.places budget) }
 
     // How many visits it made.
     ensures spent { IfOk result (λ o. o ≡ Outcome.GaveUp → R.visits rules.new ≡ budget) }
     ensures took { IfOk result (λ o. fewest_visits o ≤ R.visits rules.new) }
     ensures frugal { IfOk result
-        (λ _. R.visits rules.new ≤ plain_tree (R.question rules.old).values (open_places start.now)) }
+        (λ _. R.visits rules.new ≤ plain_tree (R.question rules.old).values (open_places start.now.places)) }
     ensures within { R.visits rules.new ≤ budget }
     ensures at_visits { R.asked rules.new ≤ R.visits rules.new }
 
     ensures same { IsSame (R.question rules.old) (R.question rules.new) }
 {
-    let board = start.copy()?;
-    explore(alloc, rules, board, budget)
-}
-
-/// Searches below one partial filling.
-fn explore<R: Rules>(
-    alloc: Global,
-    rules: &mut R,
-    mut partial: Partial,
-    budget: u64,
-) -> Result<Outcome, AllocError>
-    requires partial { IsPartial (R.question rules.old) partial }
-    requires within { R.visits rules.old ≤ budget }
-    requires at_visits { R.asked rules.old ≤ R.visits rules.old }
-    ensures explored { IfOk result
-        (Explored (R.question rules.old) partial budget (R.visits rules.old) (R.visits rules.new)) }
-    ensures within { R.visits rules.new ≤ budget }
-    ensures at_visits { R.asked rules.new ≤ R.visits rules.new }
-    ensures same { IsSame (R.question rules.old) (R.question rules.new) }
-{
-    if rules.visits() == budget {
-        return Ok(Outcome::GaveUp);
-    }
-    match rules.propagate(alloc, &mut partial)? {
-        Step::Dead => return Ok(Outcome::None),
-        Step::Live => {}
-    }
-    let Some(place) = rules.branch_place(&partial) else {
-        return judge(alloc, rules, &partial);
-    };
+    let mut board = own_board(alloc, start)?;
+    let mut stack = Vec::with_capacity(alloc, board.len())?;
     let mut found: Option<Filling> = None;
-    for value in 0..rules.values() {
-        let mut branch = partial.copy()?;
-        branch.set(place, value);
-        match explore(alloc, rules, branch, budget)? {
-            Outcome::None => {}
-            Outcome::One(filling) => match found.take() {
+    'visiting: while rules.visits() < budget {
+        match visit(alloc, rules, &mut board)? {
+            Visited::Open(place) => {
+                descend(&mut board, &mut stack, place)?;
+                continue;
+            }
+            Visited::Closed => {}
+            Visited::Whole(filling) => match found.take() {
                 None => found = Some(filling),
                 Some(first) => return Ok(Outcome::More(first, filling)),
             },
-            rest => return Ok(rest),
+        }
+        if !advance(&mut board, &mut stack, rules.values()) {
+            return Ok(match found {
+                None => Outcome::None,
+                Some(filling) => Outcome::One(filling),
+            });
         }
     }
-    match found {
-        None => Ok(Outcome::None),
-        Some(filling) => Ok(Outcome::One(filling)),
-    }
+    Ok(Outcome::GaveUp)
 }
 
-/// Asks whether a partial filling whose places are all set is right.
-fn judge<R: Rules>(alloc: Global, rules: &mut R, whole: &Partial) -> Result<Outcome, AllocError>
-    requires whole { IsWhole whole.now }
-    requires partial { IsPartial (R.question rules.old) whole.now }
-    requires countable { R.asked rules.old < 2 ^ 64 - 1 }
-    ensures answer { IfOk result (IsTrueOf (Solves (R.question rules.old) whole.now)) }
-    ensures one { IfOk result (λ o. fewest_visits o ≡ 1) }
-    ensures asked { R.asked rules.new ≤ R.asked rules.old + 1 }
-    ensures visits { R.visits rules.new ≡ R.visits rules.old }
-    ensures same { IsSame (R.question rules.old) (R.question rules.new) }
+/// A board with what the start has.
+fn own_board(alloc: Global, start: &Partial) -> Result<Partial, AllocError>
+    ensures places { IfOk result (λ b. b.places ≡ start.now.places) }
+    ensures trailed { IfOk result IsTrailed }
 {
-    let filling = whole.filling(alloc)?;
-    if rules.accepts(alloc, &filling)? {
-        Ok(Outcome::One(filling))
-    } else {
-        Ok(Outcome::None)
+    let mut board = Partial::new(alloc, start.len())?;
+    for place in 0..start.len() {
+        if let Some(value) = start.get(place) {
+            board.set(place, value);
+        }
     }
+    Ok(board)
+}
+
+/// Chooses the first value for a place.
+fn descend(board: &mut Partial, stack: &mut Vec<Choice>, place: usize) -> Result<(), AllocError>
+    requires unset { IsOpen board.old.places place }
+    requires made { AreMade board.old stack.old.items }
+    ensures made { IfOk result (λ _. AreMade board.new stack.new.items) }
+    ensures ahead { IfOk result (λ _. (f : List ℕ)
+        → IsAhead board.old stack.old.items f ↔ IsAhead board.new stack.new.items f) }
+    ensures paid { IfOk result (λ _. (k : ℕ) → 0 < k
+        → visits_ahead k board.new stack.new.items + 1 ≡ visits_ahead k board.old stack.old.items) }
+    ensures places { board.new.places ≡ slice_set board.old.places place (Some 0) }
+    ensures trailed { IfOk result (λ _. IsTrailed board.new) }
+{
+    let mark = board.mark();
+    board.set(place, 0);
+    stack.push(Choice {
+        mark,
+        place,
+        value: 0,
+    })?;
+    Ok(())
+}
+
+/// Goes to the next value of the newest choice that has one.
+fn advance(board: &mut Partial, stack: &mut Vec<Choice>, values: u8) -> bool
+    requires made { AreMade board.old stack.old.items }
+    ensures made { IsTrue result → AreMade board.new stack.new.items }
+    ensures ahead { IsTrue result → (f : List ℕ) → InRange (length board.old.places) values f
+        → AwaitsTurn board.old stack.old.items f ↔ IsAhead board.new stack.new.items f }
+    ensures paid { IsTrue result
+        → visits_ahead values board.new stack.new.items ≤ visits_left (length board.old.places) values stack.old.items }
+    ensures over { result ≡ false → (f : List ℕ) → InRange (length board.old.places) values f
+        → AwaitsTurn board.old stack.old.items f → ⊥ }
+    ensures size { length board.new.places ≡ length board.old.places }
+    ensures values { IsTrue result → (i v : ℕ) → slice_index_or board.new.places i None ≡ Some v
+        → (slice_index_or board.old.places i None ≡ Some v) ⊎ (v < values) }
+    ensures trailed { IsTrue result → IsTrailed board.new }
+{
+    'popping: while let Some(choice) = stack.pop() {
+        board.undo_to(choice.mark);
+        if choice.value < values.saturating_sub(1) {
+            board.set(choice.place, choice.value + 1);
+            let _ = stack.push(Choice {
+                value: choice.value + 1,
+                ..choice
+            });
+            return true;
+        }
+    }
+    false
 }

@@ -3,14 +3,16 @@
 //! A kind of puzzle says what is right by an `impl Rules`; [`search`] is proved once, for every kind.
 #![tactic(auto)]
 
+mod choice;
 mod deduce;
 mod explore;
 mod outcome;
 mod partial;
 mod rules;
+mod visit;
 
 pub use deduce::{Deduce, Finding, Look, Pass, settle, sweep};
 pub use explore::search;
 pub use outcome::Outcome;
-pub use partial::Partial;
+pub use partial::{Mark, Partial};
 pub use rules::{Rules, Step};

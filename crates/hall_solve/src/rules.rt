@@ -2,6 +2,7 @@
 ghost use Rattle.std.specs.Prelude.{◌≡◌, ◌↔◌, ℕ, ◌+◌, ◌-◌, ◌^◌, ◌<◌, List, Option, IfOk, OnErr, IfSome, IfNone, IsTrue};
 ghost use Rattle.hall_solve.specs.Question.{Question, IsSame, IsFilling, IsPartial};
 ghost use Rattle.hall_solve.specs.Question.{IsHopeless, IsOpen, IsWhole, Narrows};
+ghost use Rattle.hall_solve.specs.Trail.{Grows};
 
 use crate::partial::Partial;
 use hall_grid::Filling;
@@ -49,14 +50,16 @@ pub trait Rules {
 
     /// Visits a partial filling: sets what follows from what is set, or finds that nothing solves it.
     ///
-    /// Where memory is refused it is a partial filling that `Live` could have left.
+    /// Where memory is refused it is a partial filling that `Live` could have left. Whatever it answers,
+    /// what was set keeps its value, and its place on the trail.
     fn propagate(&mut self, alloc: Global, partial: &mut Partial) -> Result<Step, AllocError>
         requires countable { visits self.old < 2 ^ 64 - 1 }
-        requires partial { IsPartial (question self.old) partial.old }
-        ensures live { IfOk result (λ step. step ≡ Step.Live → Narrows (question self.old) partial.old partial.new) }
-        ensures settled { IfOk result (λ step. step ≡ Step.Live → settled self.old partial.new) }
-        ensures dead { IfOk result (λ step. step ≡ Step.Dead → IsHopeless (question self.old) partial.old) }
-        ensures err { OnErr result (Narrows (question self.old) partial.old partial.new) }
+        requires partial { IsPartial (question self.old) partial.old.places }
+        ensures live { IfOk result (λ step. step ≡ Step.Live → Narrows (question self.old) partial.old.places partial.new.places) }
+        ensures settled { IfOk result (λ step. step ≡ Step.Live → settled self.old partial.new.places) }
+        ensures dead { IfOk result (λ step. step ≡ Step.Dead → IsHopeless (question self.old) partial.old.places) }
+        ensures err { OnErr result (Narrows (question self.old) partial.old.places partial.new.places) }
+        ensures grows { Grows partial.old partial.new }
         ensures counted { visits self.new ≡ visits self.old + 1 }
         ensures not_asked { asked self.new ≡ asked self.old }
         ensures same { IsSame (question self.old) (question self.new) };
@@ -74,9 +77,9 @@ pub trait Rules {
     ///
     /// Any place that isn't set will do. The one with the fewest values left keeps a search short.
     fn branch_place(&self, partial: &Partial) -> Option<usize>
-        requires partial { IsPartial (question self.now) partial.now }
-        ensures unset { IfSome result (IsOpen partial.now) }
-        ensures whole { IfNone result (IsWhole partial.now) }
+        requires partial { IsPartial (question self.now) partial.now.places }
+        ensures unset { IfSome result (IsOpen partial.now.places) }
+        ensures whole { IfNone result (IsWhole partial.now.places) }
     {
         partial.first_unset()
     }

@@ -14,12 +14,15 @@ use Rattle.std.proofs.lemmas.Bool.Decides.{nat_tests}
 use Rattle.std.proofs.lemmas.Cmp.{then_total, on_total, nat_cmp_total}
 use Rattle.std.proofs.lemmas.List.Elements.{All-head}
 use Rattle.hall_policy.specs.Text.{text_cmp, is_word_byte, IsOfKind}
-use Rattle.hall_policy.specs.World.{same_text, puzzle_cmp}
+use Rattle.hall_policy.specs.World.{same_text, puzzle_cmp, protest_cmp}
 use Rattle.hall_policy.specs.declared.record.PuzzleKey.{PuzzleKey}
 use Rattle.hall_policy.specs.declared.record.PuzzleRow.{PuzzleRow}
 use Rattle.hall_policy.specs.declared.record.AnswerRow.{AnswerRow}
-use Rattle.hall_policy.proofs.Orders.{text_total, same_texts, puzzle_total, tied_then}
-use Rattle.hall_store.specs.Keyed.{Each, IsPuzzleKept, IsUseKept, IsAnswerKept, IsFirst, agree, slot_cmp, slot_of, use_cmp, use_of, is_use_of, least_word}
+use Rattle.hall_policy.specs.declared.record.ProtestKey.{ProtestKey}
+use Rattle.hall_policy.specs.declared.record.ProtestRow.{ProtestRow}
+use Rattle.hall_policy.proofs.Orders.{text_total, same_texts, puzzle_total, protest_total, tied_then}
+use Rattle.hall_store.specs.Keyed.{Each, IsPuzzleKept, IsUseKept, IsAnswerKept, IsProtestKept, IsFirst, agree, slot_cmp, slot_of, use_cmp, use_of, is_use_of, least_word}
+use Rattle.hall_store.specs.Store.{is_protest_of}
 use Rattle.hall_store.specs.declared.slot.AnswerSlot.{AnswerSlot}
 use Rattle.hall_store.specs.declared.slot.UseKey.{UseKey}
 use Rattle.hall_store.specs.declared.slot.Part.{Part}
@@ -31,7 +34,7 @@ use Rattle.hall_store.proofs.Ranges.{all_of_each, values_filtered, stand_togethe
 pub slot_total : IsTotalOrder slot_cmp
 slot_total =
     then_total (on_total (λ s. s.round) text_total)
-    (then_total (on_total (λ s. s.entrant) text_total) (then_total (on_total (λ s. s.number) nat_cmp_total) (on_total (λ s. s.token) text_total)))
+    (then_total (on_total (λ s. s.entrant) text_total) (then_total (on_total (λ s. s.number) nat_cmp_total) (on_total (λ s. s.n) nat_cmp_total)))
 
 pub use_total : IsTotalOrder use_cmp
 use_total = then_total (on_total (λ u. u.author) text_total) (then_total (on_total (λ u. u.label) text_total) (on_total (λ u. u.round) text_total))
@@ -39,14 +42,14 @@ use_total = then_total (on_total (λ u. u.author) text_total) (then_total (on_to
 pub same_slots : IsAntisymmetric slot_cmp
 same_slots a b e =
     let t = tied_then (text_cmp a.round b.round)
-    (ordering_then (text_cmp a.entrant b.entrant) (ordering_then (nat_cmp a.number b.number) (text_cmp a.token b.token))) e in
-    let u = tied_then (text_cmp a.entrant b.entrant) (ordering_then (nat_cmp a.number b.number) (text_cmp a.token b.token)) t.1 in
-    let v = tied_then (nat_cmp a.number b.number) (text_cmp a.token b.token) u.1 in
+    (ordering_then (text_cmp a.entrant b.entrant) (ordering_then (nat_cmp a.number b.number) (nat_cmp a.n b.n))) e in
+    let u = tied_then (text_cmp a.entrant b.entrant) (ordering_then (nat_cmp a.number b.number) (nat_cmp a.n b.n)) t.1 in
+    let v = tied_then (nat_cmp a.number b.number) (nat_cmp a.n b.n) u.1 in
     let round : a.round ≡ b.round = same_texts a.round b.round t.0 in
     let entrant : a.entrant ≡ b.entrant = same_texts a.entrant b.entrant u.0 in
     let number : a.number ≡ b.number = nat_cmp-IsAntisymmetric a.number b.number v.0 in
-    let token : a.token ≡ b.token = same_texts a.token b.token v.1 in
-    λ i. record { round = round i; entrant = entrant i; number = number i; token = token i }
+    let n : a.n ≡ b.n = nat_cmp-IsAntisymmetric a.n b.n v.1 in
+    λ i. record { round = round i; entrant = entrant i; number = number i; n = n i }
 
 pub same_uses : IsAntisymmetric use_cmp
 same_uses a b e =
@@ -108,6 +111,9 @@ word_from_dash b h = grind (arith, nat_tests)
 
 one_up : (a b : ℕ) → a ≤ b → is_le (nat_cmp a b) ≡ true
 one_up a b h = grind (arith, nat_tests)
+
+least_number : (a b : ℕ) → a ≡ 1 → 1 ≤ b → is_le (nat_cmp a b) ≡ true
+least_number a b is low = subst (λ n. is_le (nat_cmp n b) ≡ true) (sym is) (one_up 1 b low)
 
 shorter_le : (bs : List ℕ) → is_le (text_cmp [] bs) ≡ true
 shorter_le [] = refl
@@ -176,11 +182,11 @@ module _ (key : PuzzleKey) where
       (all_of_each use_total (λ used _. is_use_of key used ≡ true → is_le (use_cmp first_use used) ≡ true) es sorted (λ used it found. use_low used (kept used it found)))
 
 -- ---- answers
-abbrev by_token : AnswerSlot → AnswerSlot → Ordering
-by_token a b = text_cmp a.token b.token
+abbrev by_n : AnswerSlot → AnswerSlot → Ordering
+by_n a b = nat_cmp a.n b.n
 
 abbrev by_number : AnswerSlot → AnswerSlot → Ordering
-by_number a b = ordering_then (nat_cmp a.number b.number) (by_token a b)
+by_number a b = ordering_then (nat_cmp a.number b.number) (by_n a b)
 
 abbrev by_entrant : AnswerSlot → AnswerSlot → Ordering
 by_entrant a b = ordering_then (text_cmp a.entrant b.entrant) (by_number a b)
@@ -210,20 +216,17 @@ module _ (first : AnswerSlot) where
       let number : b.number ≡ first.number = (unsigned_Decides b.number first.number).0 (and_second (one_round b first && one_entrant b first) (b.number == first.number) own) in
       let one = squeezed text_total same_texts first.round a.round b.round (by_entrant first a) (by_entrant a b) low (ap is_le less) round in
       let two = squeezed text_total same_texts first.entrant a.entrant b.entrant (by_number first a) (by_number a b) one.above one.below entrant in
-      let three = squeezed nat_cmp_total nat_cmp-IsAntisymmetric first.number a.number b.number (by_token first a) (by_token a b) two.above two.below number in
+      let three = squeezed nat_cmp_total nat_cmp-IsAntisymmetric first.number a.number b.number (by_n first a) (by_n a b) two.above two.below number in
       and_both (one_round a first && one_entrant a first) (a.number == first.number)
       (and_both (one_round a first) (one_entrant a first) ((text_decides a.round first.round).1 one.same) ((text_decides a.entrant first.entrant).1 two.same))
       ((unsigned_Decides a.number first.number).1 three.same)
 
   -- the slot's parts, each not below the first slot's
   not_below : (slot : AnswerSlot) → is_le (text_cmp first.round slot.round) ≡ true → is_le (text_cmp first.entrant slot.entrant) ≡ true →
-      is_le (nat_cmp first.number slot.number) ≡ true → is_le (text_cmp first.token slot.token) ≡ true → is_le (slot_cmp first slot) ≡ true
-  not_below slot round entrant number token =
+      is_le (nat_cmp first.number slot.number) ≡ true → is_le (nat_cmp first.n slot.n) ≡ true → is_le (slot_cmp first slot) ≡ true
+  not_below slot round entrant number n =
       both_le (text_cmp first.round slot.round) (by_entrant first slot) round
-      (both_le (text_cmp first.entrant slot.entrant) (by_number first slot) entrant (both_le (nat_cmp first.number slot.number) (by_token first slot) number token))
-
-  least_number : (slot : AnswerSlot) → first.number ≡ 1 → 1 ≤ slot.number → is_le (nat_cmp first.number slot.number) ≡ true
-  least_number slot is low = subst (λ n. is_le (nat_cmp n slot.number) ≡ true) (sym is) (one_up 1 slot.number low)
+      (both_le (text_cmp first.entrant slot.entrant) (by_number first slot) entrant (both_le (nat_cmp first.number slot.number) (by_n first slot) number n))
 
   texts_le : (a b : List ℕ) → same_text a b ≡ true → is_le (text_cmp b a) ≡ true
   texts_le a b same = itself text_total same_texts b a (sym ((text_decides a b).0 same))
@@ -231,24 +234,66 @@ module _ (first : AnswerSlot) where
   slot_low : (part : Part) → IsFirst part first → (slot : AnswerSlot) (row : AnswerRow) → IsAnswerKept slot row → agree part slot first ≡ true → is_le (slot_cmp first slot) ≡ true
   slot_low Round is slot row kept own =
       not_below slot (texts_le slot.round first.round own) (least_le 24 first.entrant slot.entrant is.0 kept.entrant)
-      (least_number slot is.1 kept.number) (least_le 32 first.token slot.token is.2 kept.token)
+      (least_number first.number slot.number is.1 kept.number) (least_number first.n slot.n is.2 kept.n)
   slot_low Entrant is slot row kept own =
       not_below slot (texts_le slot.round first.round (and_first (one_round slot first) (one_entrant slot first) own))
       (texts_le slot.entrant first.entrant (and_second (one_round slot first) (one_entrant slot first) own))
-      (least_number slot is.0 kept.number) (least_le 32 first.token slot.token is.1 kept.token)
+      (least_number first.number slot.number is.0 kept.number) (least_number first.n slot.n is.1 kept.n)
   slot_low Puzzle is slot row kept own =
       let both = and_first (one_round slot first && one_entrant slot first) (slot.number == first.number) own in
       let number : slot.number ≡ first.number = (unsigned_Decides slot.number first.number).0 (and_second (one_round slot first && one_entrant slot first) (slot.number == first.number) own) in
       not_below slot (texts_le slot.round first.round (and_first (one_round slot first) (one_entrant slot first) both))
       (texts_le slot.entrant first.entrant (and_second (one_round slot first) (one_entrant slot first) both))
-      (itself nat_cmp_total nat_cmp-IsAntisymmetric first.number slot.number (sym number)) (least_le 32 first.token slot.token is kept.token)
+      (itself nat_cmp_total nat_cmp-IsAntisymmetric first.number slot.number (sym number)) (least_number first.n slot.n is kept.n)
 
-  pub answers_together : (part : Part) → IsFirst part first → (es : List (AnswerSlot × AnswerRow)) → IsStrictlySortedBy slot_cmp (keys_of es) → Each slot_cmp es IsAnswerKept →
-      filter (λ row. agree part (slot_of row.key) first) (values_of es)
+  answers_together : (part : Part) → IsFirst part first → (es : List (AnswerSlot × AnswerRow)) → IsStrictlySortedBy slot_cmp (keys_of es) → Each slot_cmp es IsAnswerKept →
+      filter (λ row. agree part (slot_of row) first) (values_of es)
       ≡ values_of (take_while (λ (e : AnswerSlot × AnswerRow). agree part e.0 first) (entries_between slot_cmp (Included first) Unbounded es))
   answers_together part is es sorted kept =
-      values_filtered (λ slot. agree part slot first) (λ row. agree part (slot_of row.key) first) es
-      (all_of_each slot_total (λ slot row. agree part slot first ≡ agree part (slot_of row.key) first) es sorted
+      values_filtered (λ slot. agree part slot first) (λ row. agree part (slot_of row) first) es
+      (all_of_each slot_total (λ slot row. agree part slot first ≡ agree part (slot_of row) first) es sorted
       (λ slot row found. ap (λ (s : AnswerSlot). agree part s first) (sym (kept slot row found).own)))
       ∙ ap values_of (stand_together first (λ slot. agree part slot first) (slot_between part) es sorted
       (all_of_each slot_total (λ slot row. agree part slot first ≡ true → is_le (slot_cmp first slot) ≡ true) es sorted (λ slot row found. slot_low part is slot row (kept slot row found))))
+
+  -- the same of the entries that a range from the first slot on gives
+  pub answers_ahead : (part : Part) → IsFirst part first → (es : List (AnswerSlot × AnswerRow)) → IsStrictlySortedBy slot_cmp (keys_of es) → Each slot_cmp es IsAnswerKept →
+      (ahead : List (AnswerSlot × AnswerRow)) → ahead ≡ entries_between slot_cmp (Included first) Unbounded es →
+      filter (λ row. agree part (slot_of row) first) (values_of es) ≡ values_of (take_while (λ (e : AnswerSlot × AnswerRow). agree part e.0 first) ahead)
+  answers_ahead part is es sorted kept ahead from =
+      answers_together part is es sorted kept
+      ∙ ap (λ (es : List (AnswerSlot × AnswerRow)). values_of (take_while (λ (e : AnswerSlot × AnswerRow). agree part e.0 first) es)) (sym from)
+
+-- ---- protests
+-- both keys are of one entrant in one round
+abbrev pub is_beside : ProtestKey → ProtestKey → Bool
+is_beside first key = same_text key.round first.round && same_text key.entrant first.entrant
+
+module _ (first : ProtestKey) (is_first : first.token ≡ least_word) where
+  beside_between : (a b : ProtestKey) → is_le (protest_cmp first a) ≡ true → protest_cmp a b ≡ Less → is_beside first b ≡ true → is_beside first a ≡ true
+  beside_between a b low less own =
+      let round : b.round ≡ first.round = (text_decides b.round first.round).0 (and_first (same_text b.round first.round) (same_text b.entrant first.entrant) own) in
+      let entrant : b.entrant ≡ first.entrant = (text_decides b.entrant first.entrant).0 (and_second (same_text b.round first.round) (same_text b.entrant first.entrant) own) in
+      let one = squeezed text_total same_texts first.entrant a.entrant b.entrant (ordering_then (text_cmp first.round a.round) (text_cmp first.token a.token))
+      (ordering_then (text_cmp a.round b.round) (text_cmp a.token b.token)) low (ap is_le less) entrant in
+      let two = squeezed text_total same_texts first.round a.round b.round (text_cmp first.token a.token) (text_cmp a.token b.token) one.above one.below round in
+      and_both (same_text a.round first.round) (same_text a.entrant first.entrant) ((text_decides a.round first.round).1 two.same) ((text_decides a.entrant first.entrant).1 one.same)
+
+  beside_low : (key : ProtestKey) → IsOfKind 1 32 is_word_byte key.token → is_beside first key ≡ true → is_le (protest_cmp first key) ≡ true
+  beside_low key token own =
+      let round : key.round ≡ first.round = (text_decides key.round first.round).0 (and_first (same_text key.round first.round) (same_text key.entrant first.entrant) own) in
+      let entrant : key.entrant ≡ first.entrant = (text_decides key.entrant first.entrant).0 (and_second (same_text key.round first.round) (same_text key.entrant first.entrant) own) in
+      both_le (text_cmp first.entrant key.entrant) (ordering_then (text_cmp first.round key.round) (text_cmp first.token key.token))
+      (itself text_total same_texts first.entrant key.entrant (sym entrant))
+      (both_le (text_cmp first.round key.round) (text_cmp first.token key.token)
+      (itself text_total same_texts first.round key.round (sym round)) (least_le 32 first.token key.token is_first token))
+
+  pub protests_together : (es : List (ProtestKey × ProtestRow)) → IsStrictlySortedBy protest_cmp (keys_of es) → Each protest_cmp es IsProtestKept →
+      filter (is_protest_of first.entrant first.round) (values_of es)
+      ≡ values_of (take_while (λ (e : ProtestKey × ProtestRow). is_beside first e.0) (entries_between protest_cmp (Included first) Unbounded es))
+  protests_together es sorted kept =
+      values_filtered (is_beside first) (is_protest_of first.entrant first.round) es
+      (all_of_each protest_total (λ key row. is_beside first key ≡ is_protest_of first.entrant first.round row) es sorted
+      (λ key row found. ap (λ (k : ProtestKey). is_beside first k) (sym (kept key row found).own)))
+      ∙ ap values_of (stand_together first (is_beside first) beside_between es sorted
+      (all_of_each protest_total (λ key row. is_beside first key ≡ true → is_le (protest_cmp first key) ≡ true) es sorted (λ key row found. beside_low key (kept key row found).token)))

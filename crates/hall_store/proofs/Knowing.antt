@@ -1,5 +1,5 @@
 -- What was found stays true over calls that leave the world.
-use Rattle.std.proofs.Common.{◌⊎◌, inl, inr, subst, sym, ◌∙◌, refl, Result, Ok, Err, IfOk}
+use Rattle.std.proofs.Common.{inl, inr, subst, sym, ◌∙◌, refl, Result, Ok, Err, IfOk}
 use Rattle.hall_policy.specs.World.{World}
 use Rattle.hall_store.specs.Store.{Content, Kept, Told, Served, Over}
 

@@ -5,9 +5,10 @@ pub mod MapWorlds
 pub mod RoundWorlds
 pub mod AnswerWorlds
 pub mod UsingRounds
-pub mod Sorting
 pub mod Inserts
 pub mod Knowing
 pub mod Adding
 pub mod Changes
 pub mod Imports
+pub mod Feeds
+pub mod ProtestWorlds

@@ -109,6 +109,13 @@ taken p x xs h = take_while-cons p x xs ∙ ap (λ b. cond b (x ∷ take_while p
 pub left : {X : Type 0} (p : X → Bool) (x : X) (xs : List X) → p x ≡ false → take_while p (x ∷ xs) ≡ []
 left p x xs h = take_while-cons p x xs ∙ ap (λ b. cond b (x ∷ take_while p xs) []) h
 
+-- what passes at the head is kept with the rest, and what doesn't is not
+pub kept_first : {X : Type 0} (p : X → Bool) (x : X) (xs : List X) → p x ≡ true → filter p (x ∷ xs) ≡ x ∷ filter p xs
+kept_first p x xs h = ap (λ b. cond b (x ∷ filter p xs) (filter p xs)) h
+
+pub passed_over : {X : Type 0} (p : X → Bool) (x : X) (xs : List X) → p x ≡ false → filter p (x ∷ xs) ≡ filter p xs
+passed_over p x xs h = ap (λ b. cond b (x ∷ filter p xs) (filter p xs)) h
+
 pub length-values : {K X : Type 0} (es : List (K × X)) → length (values_of es) ≡ length es
 length-values [] = refl
 length-values (e ∷ es) = ap suc (length-values es)

@@ -159,3 +159,9 @@ all-false {X} p (y ∷ ys) h =
       | true ↦ λ e f. let r = all-false p ys f in let at = placed ys r.0 r.1 in (r.0, contained (y ∷ ys) r.0 (suc at.0) at.1, r.2)
       | false ↦ λ e f. (y, contained (y ∷ ys) y 0 refl, e)
     ] refl h
+
+pub and_turned : (a b : Bool) → (a && b) ≡ (b && a)
+and_turned true true = refl
+and_turned true false = refl
+and_turned false true = refl
+and_turned false false = refl

@@ -7,6 +7,9 @@ use Rattle.hall_policy.specs.Rules.{Conflicts}
 use Rattle.hall_policy.specs.declared.record.Person.{Person}
 use Rattle.hall_policy.specs.declared.record.Entry.{Entry}
 use Rattle.hall_policy.specs.declared.record.AnswerRow.{AnswerRow}
+use Rattle.hall_policy.specs.declared.record.ProtestKey.{ProtestKey}
+use Rattle.hall_policy.specs.declared.record.ProtestRow.{ProtestRow}
+use Rattle.hall_policy.specs.declared.record.Ruling.{Ruling}
 use Rattle.hall_policy.specs.declared.record.PuzzleKey.{PuzzleKey}
 use Rattle.hall_policy.specs.declared.record.PuzzleRow.{PuzzleRow}
 use Rattle.hall_policy.specs.declared.record.PuzzleState.{PuzzleState}
@@ -14,7 +17,7 @@ use Rattle.hall_policy.specs.declared.record.Round.{Round}
 use Rattle.hall_policy.specs.declared.record.RoundRow.{RoundRow}
 use Rattle.hall_store.specs.declared.change.Change.{Change}
 use Rattle.hall_store.specs.declared.change.Change.TheVariants.{Nothing, Import, PutPuzzle, SetState}
-use Rattle.hall_store.specs.declared.change.Change.TheVariants.{PutRound, SetRoundFlag, AddAnswer}
+use Rattle.hall_store.specs.declared.change.Change.TheVariants.{PutRound, SetRoundFlag, AddAnswer, AddProtest, RuleProtest}
 use Rattle.hall_store.specs.declared.change.RoundFlag.{RoundFlag}
 use Rattle.hall_store.specs.declared.change.RoundFlag.TheVariants.{Released, Published}
 
@@ -57,6 +60,12 @@ abbrev pub with_flag : World → List ℕ → RoundFlag → Option Round → Wor
 with_flag world id flag None = world
 with_flag world id flag (Some round) = record world { rounds = insert world.rounds id (flagged flag round) }
 
+-- the protests, that of the key ruled so
+abbrev pub with_ruling : World → ProtestKey → Ruling → Option ProtestRow → World
+with_ruling world key ruling None = world
+with_ruling world key ruling (Some row) =
+    record world { protests = insert world.protests key (record row { ruling = Some ruling }) }
+
 -- the world after a change
 abbrev pub changed : Change → World → World
 changed Nothing world = world
@@ -69,6 +78,8 @@ changed (PutRound row) world = record world {
 }
 changed (SetRoundFlag id flag) world = with_flag world id flag (get world.rounds id)
 changed (AddAnswer row) world = record world { answers = insert world.answers row.key row }
+changed (AddProtest row) world = record world { protests = insert world.protests row.key row }
+changed (RuleProtest key ruling) world = with_ruling world key ruling (get world.protests key)
 
 -- nobody in the list contradicts what is known
 abbrev pub CanImport : World → List Person → Type 0
@@ -101,6 +112,17 @@ pub record CanAddAnswer (world : World) (row : AnswerRow) : Type 0 where
       (record { entrant = row.key.entrant; round = row.key.round; number = row.key.number; token = token })
       ≡ Some other → other.n ≢ row.n
 
+-- the key is new, and what the row refers to is there
+pub record CanAddProtest (world : World) (row : ProtestRow) : Type 0 where
+  pub fresh : get world.protests row.key ≡ None
+  pub entrant : (person : Person) × (get world.people row.key.entrant ≡ Some person)
+  pub place : (entry : Entry)
+      × (get world.places (record { round = row.key.round; number = row.number }) ≡ Some entry)
+
+-- the protest is there
+abbrev pub CanRuleProtest : World → ProtestKey → Type 0
+CanRuleProtest world key = (row : ProtestRow) × (get world.protests key ≡ Some row)
+
 -- the change may be made
 abbrev pub CanMake : Change → World → Type 0
 CanMake Nothing world = Unit {0}
@@ -110,3 +132,5 @@ CanMake (SetState key state) world = CanSetState world key
 CanMake (PutRound row) world = CanPutRound world row
 CanMake (SetRoundFlag id flag) world = CanSetFlag world id
 CanMake (AddAnswer row) world = CanAddAnswer world row
+CanMake (AddProtest row) world = CanAddProtest world row
+CanMake (RuleProtest key ruling) world = CanRuleProtest world key

@@ -2,12 +2,12 @@
 use Rattle.std.specs.Prelude.{◌≡◌, ◌==◌, ◌&&◌, ◌≤◌, ℕ, Bool, false, cond, List, [], ◌∷◌, map, Contains}
 use Rattle.std.specs.Prelude.{Option, Some, None}
 use Rattle.std.specs.declared.cmp.Ordering.{Ordering}
-use Rattle.std.specs.Ordering.{nat_cmp, ordering_then}
-use Rattle.std.specs.List.{list_any, filter}
+use Rattle.std.specs.Ordering.{eq_by_cmp, nat_cmp, ordering_then}
+use Rattle.std.specs.List.{IsDistinct, list_any, filter}
 use Rattle.std.specs.Map.{lookup}
 use Rattle.std.specs.BTreeMap.{is_at}
 use Rattle.hall_policy.specs.Text.{text_cmp, is_word_byte, IsOfKind}
-use Rattle.hall_policy.specs.World.{same_text}
+use Rattle.hall_policy.specs.World.{answer_cmp, same_text}
 use Rattle.hall_policy.specs.declared.record.Person.{Person}
 use Rattle.hall_policy.specs.declared.record.PuzzleKey.{PuzzleKey}
 use Rattle.hall_policy.specs.declared.record.PuzzleRow.{PuzzleRow}
@@ -15,6 +15,8 @@ use Rattle.hall_policy.specs.declared.record.Entry.{Entry}
 use Rattle.hall_policy.specs.declared.record.RoundRow.{RoundRow}
 use Rattle.hall_policy.specs.declared.record.AnswerKey.{AnswerKey}
 use Rattle.hall_policy.specs.declared.record.AnswerRow.{AnswerRow}
+use Rattle.hall_policy.specs.declared.record.ProtestKey.{ProtestKey}
+use Rattle.hall_policy.specs.declared.record.ProtestRow.{ProtestRow}
 use Rattle.hall_store.specs.declared.slot.AnswerSlot.{AnswerSlot}
 use Rattle.hall_store.specs.declared.slot.UseKey.{UseKey}
 use Rattle.hall_store.specs.declared.slot.Part.{Part}
@@ -23,6 +25,10 @@ use Rattle.hall_store.specs.declared.slot.Part.TheVariants.{Round, Entrant, Puzz
 -- each row and its key have P
 abbrev pub Each : {K X : Type 0} → (K → K → Ordering) → List (K × X) → (K → X → Type 0) → Type 0
 Each {K} {X} R rows P = (key : K) (row : X) → lookup (is_at (R key)) rows ≡ Some row → P key row
+
+-- the list isn't empty
+abbrev pub HasAny : {X : Type 0} → List X → Type 0
+HasAny {X} xs = (x : X) × Contains xs x
 
 -- the least word
 abbrev pub least_word : List ℕ
@@ -121,27 +127,31 @@ ids_using rounds key uses =
     map (λ used. used.0.round) (filter (is_use_true rounds key) (filter (λ used. is_use_of key used.0) uses))
 
 -- ---- answers
--- the order of slots: by round, entrant, number, then token
+-- the order of slots: by round, entrant, number, then n
 abbrev pub slot_cmp : AnswerSlot → AnswerSlot → Ordering
 slot_cmp a b =
     ordering_then (text_cmp a.round b.round)
     (ordering_then (text_cmp a.entrant b.entrant)
-    (ordering_then (nat_cmp a.number b.number) (text_cmp a.token b.token)))
+    (ordering_then (nat_cmp a.number b.number) (nat_cmp a.n b.n)))
 
--- the slot of the answer with the key
-abbrev pub slot_of : AnswerKey → AnswerSlot
-slot_of key = record { round = key.round; entrant = key.entrant; number = key.number; token = key.token }
+-- the answer's slot
+abbrev pub slot_of : AnswerRow → AnswerSlot
+slot_of row = record { round = row.key.round; entrant = row.key.entrant; number = row.key.number; n = row.n }
 
--- the key of the answer in the slot
-abbrev pub key_of : AnswerSlot → AnswerKey
-key_of slot = record { entrant = slot.entrant; round = slot.round; number = slot.number; token = slot.token }
+-- an answer under its key
+abbrev pub answer_in : AnswerSlot × AnswerRow → AnswerKey × AnswerRow
+answer_in entry = (entry.1.key, entry.1)
+
+-- no answer has the key of another
+abbrev pub AreKeysDistinct : List (AnswerSlot × AnswerRow) → Type 0
+AreKeysDistinct entries = IsDistinct (eq_by_cmp answer_cmp) (map (λ entry. entry.1.key) entries)
 
 -- the answer stands in its own slot, whose parts are in their limits
 pub record IsAnswerKept (slot : AnswerSlot) (row : AnswerRow) : Type 0 where
-  pub own : slot_of row.key ≡ slot
+  pub own : slot_of row ≡ slot
   pub entrant : IsOfKind 1 24 is_word_byte slot.entrant
   pub number : 1 ≤ slot.number
-  pub token : IsOfKind 1 32 is_word_byte slot.token
+  pub n : 1 ≤ slot.n
 
 -- both slots are of one round, of one entrant in it, or of one entrant to one puzzle of it
 abbrev pub agree : Part → AnswerSlot → AnswerSlot → Bool
@@ -151,10 +161,28 @@ agree Puzzle a b = (same_text a.round b.round && same_text a.entrant b.entrant) 
 
 -- the least slot that an answer of the entrant to the round's puzzle of the number can have
 abbrev pub first_slot : List ℕ → List ℕ → ℕ → AnswerSlot
-first_slot round entrant number = record { round = round; entrant = entrant; number = number; token = least_word }
+first_slot round entrant number = record { round = round; entrant = entrant; number = number; n = 1 }
 
 -- no slot of the part is below this one
 abbrev pub IsFirst : Part → AnswerSlot → Type 0
-IsFirst Round slot = (slot.entrant ≡ least_word) × (slot.number ≡ 1) × (slot.token ≡ least_word)
-IsFirst Entrant slot = (slot.number ≡ 1) × (slot.token ≡ least_word)
-IsFirst Puzzle slot = slot.token ≡ least_word
+IsFirst Round slot = (slot.entrant ≡ least_word) × (slot.number ≡ 1) × (slot.n ≡ 1)
+IsFirst Entrant slot = (slot.number ≡ 1) × (slot.n ≡ 1)
+IsFirst Puzzle slot = slot.n ≡ 1
+
+-- ---- protests
+-- the protest stands under its own key, whose token is a word
+pub record IsProtestKept (key : ProtestKey) (row : ProtestRow) : Type 0 where
+  pub own : row.key ≡ key
+  pub token : IsOfKind 1 32 is_word_byte key.token
+
+-- the least key that a protest of the entrant in the round can have
+abbrev pub first_protest : List ℕ → List ℕ → ProtestKey
+first_protest entrant round = record { entrant = entrant; round = round; token = least_word }
+
+-- the protest is one of the round, and open
+abbrev pub IsOpenIn : List ℕ → ProtestRow → Type 0
+IsOpenIn round row = (row.key.round ≡ round) × (row.ruling ≡ None)
+
+-- one of the protests is one of the round, and open
+abbrev pub HasOpen : List ℕ → List ProtestRow → Type 0
+HasOpen round rows = (row : ProtestRow) × Contains rows row × IsOpenIn round row

@@ -1,19 +1,24 @@
 -- What the calls of a store say, where its device was honest and the store still serves.
-use Rattle.std.specs.Prelude.{◌≡◌, ◌↔◌, ◌⊎◌, ◌&&◌, ℕ, Bool, List, Result, Ok, Err, IfErr, Option, Some, None, Contains}
+use Rattle.std.specs.Prelude.{◌≡◌, ◌↔◌, ◌⊎◌, ◌&&◌, ◌++◌, ℕ, Bool, List, [], ◌∷◌, Result, Ok, Err, IfErr, Option, Some, None, Contains}
 use Rattle.std.specs.List.{filter}
 use Rattle.std.specs.List.Sorted.{IsSorted, IsPermutation}
 use Rattle.std.specs.Ordering.{nat_cmp, ordering_then}
 use Rattle.std.specs.declared.cmp.Ordering.{Ordering}
 use Rattle.std.specs.FinMap.{get, values}
 use Rattle.hall_policy.specs.Text.{text_cmp}
-use Rattle.hall_policy.specs.World.{World, same_text}
+use Rattle.hall_policy.specs.World.{World, answer_of, same_text}
 use Rattle.hall_policy.specs.Rules.{Lists}
 use Rattle.hall_policy.specs.Facts.{IsRoundFound}
+use Rattle.hall_policy.specs.Sink.{HasTaken}
 use Rattle.hall_policy.specs.declared.record.PuzzleKey.{PuzzleKey}
 use Rattle.hall_policy.specs.declared.record.PuzzleRow.{PuzzleRow}
 use Rattle.hall_policy.specs.declared.record.Entry.{Entry}
 use Rattle.hall_policy.specs.declared.record.AnswerRow.{AnswerRow}
+use Rattle.hall_policy.specs.declared.record.ProtestKey.{ProtestKey}
+use Rattle.hall_policy.specs.declared.record.ProtestRow.{ProtestRow}
 use Rattle.hall_policy.specs.declared.record.RoundRow.{RoundRow}
+use Rattle.hall_policy.specs.declared.sink.SinkFault.{SinkFault}
+use Rattle.hall_policy.specs.declared.sink.SinkFault.TheVariants.{Refused}
 use Rattle.hall_store.specs.declared.change.Change.{Change}
 use Rattle.hall_store.specs.declared.fault.StoreFault.{StoreFault}
 use Rattle.hall_store.specs.declared.fault.StoreFault.TheVariants.{Failed}
@@ -109,6 +114,17 @@ IsNumberTaken world entrant round number n =
     × (get world.answers (record { entrant = entrant; round = round; number = number; token = token }) ≡ Some row)
     × (row.n ≡ n)
 
+-- the entrant has an answer in the round
+abbrev pub HasSubmitted : World → List ℕ → List ℕ → Type 0
+HasSubmitted world entrant round =
+    (number : ℕ) × (token : List ℕ) × (row : AnswerRow) × (answer_of world entrant round number token ≡ Some row)
+
+-- a protest of the round is open
+abbrev pub IsProtestOpen : World → List ℕ → Type 0
+IsProtestOpen world round =
+    (key : ProtestKey) × (row : ProtestRow) × (key.round ≡ round) × (get world.protests key ≡ Some row)
+    × (row.ruling ≡ None)
+
 -- the ids of the rounds that have the puzzle
 abbrev pub AreUsing : World → PuzzleKey → List (List ℕ) → Type 0
 AreUsing world key ids =
@@ -117,3 +133,43 @@ AreUsing world key ids =
 -- the author's puzzles, in the order of their keys
 abbrev pub puzzles_of : World → List ℕ → List PuzzleRow
 puzzles_of world author = filter (λ row. same_text row.key.author author) (values world.puzzles)
+
+-- the protest belongs to the round
+abbrev pub is_protest_in : List ℕ → ProtestRow → Bool
+is_protest_in round row = same_text row.key.round round
+
+-- the protest is the entrant's, in the round
+abbrev pub is_protest_of : List ℕ → List ℕ → ProtestRow → Bool
+is_protest_of entrant round row = same_text row.key.round round && same_text row.key.entrant entrant
+
+-- the protests of the round, by entrant, then token
+abbrev pub protests_in : World → List ℕ → List ProtestRow
+protests_in world round = filter (is_protest_in round) (values world.protests)
+
+-- the entrant's protests in the round, by token
+abbrev pub protests_of : World → List ℕ → List ℕ → List ProtestRow
+protests_of world entrant round = filter (is_protest_of entrant round) (values world.protests)
+
+-- the sink took the first rows and not the next one, which it refuses where it says so
+pub record Stops {K X : Type 0} (Takes : K → X → K → Type 0) (Refuses : K → X → Type 0) (before : K) (rows : List X)
+    (after : K) (fault : SinkFault) : Type 0 where
+  pub taken : List X
+  pub row : X
+  pub left : List X
+  pub whole : rows ≡ taken ++ row ∷ left
+  pub took : HasTaken Takes before taken after
+  pub refused : fault ≡ Refused → Refuses after row
+
+-- The sink has taken all the rows; or, where the call is refused, some of the first ones.
+abbrev pub Fed : {K X E : Type 0} → (K → X → K → Type 0) → (World → List X → Type 0) → Content → K → Result (Unit {0}) E → K → Type 0
+Fed {K} {X} Takes AreRows new before (Ok done) after =
+    new.honest → new.serves × ((rows : List X) × AreRows new.world rows × HasTaken Takes before rows after)
+Fed {K} {X} Takes AreRows new before (Err fault) after =
+    (taken : List X) × HasTaken Takes before taken after
+    × ((taken ≡ []) ⊎ (new.honest → new.serves → (left : List X) × AreRows new.world (taken ++ left)))
+
+-- the sink has taken the first rows, and refuses the next one
+abbrev pub IsRefusedNext : {K X : Type 0} → (K → X → K → Type 0) → (K → X → Type 0) → (World → List X → Type 0) → Content → K → K → Type 0
+IsRefusedNext {K} {X} Takes Refuses AreRows new before after =
+    (taken : List X) × (row : X) × HasTaken Takes before taken after × Refuses after row
+    × (new.honest → new.serves × ((left : List X) × AreRows new.world (taken ++ row ∷ left)))

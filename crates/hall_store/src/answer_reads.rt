@@ -1,30 +1,21 @@
 //! What the map of answers answers.
-ghost use Rattle.std.specs.Prelude.{◌≡◌, ◌==◌, ◌&&◌, IfOk, count_by};
-ghost use Rattle.std.specs.List.{filter, list_any};
-ghost use Rattle.std.specs.List.Sorted.{IsPermutation, IsSorted};
+ghost use Rattle.std.specs.Prelude.{◌≡◌, ◌↔◌, IsTrue, IfOk, IfErr, OnOk, count_by, find, is_some};
+ghost use Rattle.std.specs.List.{filter};
 ghost use Rattle.std.specs.BTreeMap as tree;
-ghost use Rattle.hall_store.specs.Store.{listing_cmp};
+ghost use Rattle.hall_policy.specs.World.{same_text};
+ghost use Rattle.hall_store.specs.Store.{Stops};
+ghost use Rattle.hall_policy.specs.Sink.{HasTaken};
 ghost use Rattle.hall_store.specs.Keyed.{Each, IsAnswerKept, IsFirst, slot_cmp, slot_of, first_slot, agree, least_word};
-ghost use Rattle.hall_store.specs.declared.slot.Part.TheVariants.{Puzzle as ToPuzzle};
+ghost use Rattle.hall_store.specs.Keyed.{HasAny};
+ghost use Rattle.hall_store.specs.declared.slot.Part.TheVariants.{Entrant as ToEntrant, Puzzle as ToPuzzle, Round as ToRound};
 
 use crate::slot::{AnswerSlot, Part};
 use crate::writes::push;
-use hall_policy::{AnswerKey, AnswerNumber, AnswerRow, Name, PuzzleNumber, RoundId, Token};
+use hall_policy::{
+    AnswerNumber, AnswerRow, AnswerSink, Name, PuzzleNumber, RoundId, SinkFault, Token,
+};
 use std::alloc::{AllocError, Global};
-use std::cmp::Ordering;
 use std::collections::BTreeMap;
-
-/// The slot of the answer with the key.
-fn slot_of(key: &AnswerKey) -> Result<AnswerSlot, AllocError>
-    ensures { IfOk result (λ slot. slot ≡ slot_of key.now) }
-{
-    Ok(AnswerSlot {
-        round: key.round.clone()?,
-        entrant: key.entrant.clone()?,
-        number: key.number,
-        token: key.token.clone()?,
-    })
-}
 
 /// The answer's slot.
 pub(crate) fn own_slot(row: &AnswerRow) -> Result<AnswerSlot, AllocError>
@@ -33,22 +24,26 @@ pub(crate) fn own_slot(row: &AnswerRow) -> Result<AnswerSlot, AllocError>
     // They are read for the limits that their types keep.
     let _entrant = row.key.entrant.as_str();
     let _number = row.key.number.get();
-    let _token = row.key.token.as_str();
-    slot_of(&row.key)
+    let _n = row.n.get();
+    slot_at(&row.key.entrant, &row.key.round, row.key.number, row.n)
 }
 
-/// A copy of the answer under the key.
-pub(crate) fn answer_at(
-    answers: &BTreeMap<AnswerSlot, AnswerRow>,
-    key: &AnswerKey,
-) -> Result<Option<AnswerRow>, AllocError>
-    ensures { IfOk result (λ found. found ≡ tree.get slot_cmp answers.now (slot_of key.now)) }
+/// The slot of the entrant's n-th answer to the round's puzzle of that number.
+pub(crate) fn slot_at(
+    entrant: &Name,
+    round: &RoundId,
+    number: PuzzleNumber,
+    n: AnswerNumber,
+) -> Result<AnswerSlot, AllocError>
+    ensures { IfOk result
+        (λ slot. slot ≡ record { round = round.now; entrant = entrant.now; number = number; n = n }) }
 {
-    let slot = slot_of(key)?;
-    match answers.get(&slot) {
-        Some(row) => Ok(Some(row.clone()?)),
-        None => Ok(None),
-    }
+    Ok(AnswerSlot {
+        round: round.clone()?,
+        entrant: entrant.clone()?,
+        number,
+        n,
+    })
 }
 
 /// The least slot that an answer in the round can have.
@@ -58,41 +53,31 @@ pub(crate) fn first_in(alloc: Global, round: &RoundId) -> Result<AnswerSlot, All
     let Some(entrant) = Name::new(String::from_str(alloc, "-")?) else {
         unreachable!()
     };
-    first_of(alloc, &entrant, round)
+    first_of(&entrant, round)
 }
 
 /// The least slot that an answer of the entrant in the round can have.
-pub(crate) fn first_of(
-    alloc: Global,
-    entrant: &Name,
-    round: &RoundId,
-) -> Result<AnswerSlot, AllocError>
+pub(crate) fn first_of(entrant: &Name, round: &RoundId) -> Result<AnswerSlot, AllocError>
     ensures { IfOk result (λ slot. slot ≡ first_slot round.now entrant.now 1) }
 {
     let Some(number) = PuzzleNumber::new(1) else {
         unreachable!()
     };
-    first_to(alloc, entrant, round, number)
+    first_to(entrant, round, number)
 }
 
 /// The least slot that an answer of the entrant to the round's puzzle of that number can have.
 pub(crate) fn first_to(
-    alloc: Global,
     entrant: &Name,
     round: &RoundId,
     number: PuzzleNumber,
 ) -> Result<AnswerSlot, AllocError>
     ensures { IfOk result (λ slot. slot ≡ first_slot round.now entrant.now number) }
 {
-    let Some(token) = Token::new(String::from_str(alloc, "-")?) else {
+    let Some(n) = AnswerNumber::new(1) else {
         unreachable!()
     };
-    Ok(AnswerSlot {
-        round: round.clone()?,
-        entrant: entrant.clone()?,
-        number,
-        token,
-    })
+    slot_at(entrant, round, number, n)
 }
 
 /// Whether both slots are of the same round, entrant or puzzle, as the part says.
@@ -116,7 +101,7 @@ pub(crate) fn answer_rows(
     requires kept { Each slot_cmp answers.now.entries IsAnswerKept }
     requires first { IsFirst part first.now }
     ensures rows { IfOk result (λ rows. rows.items
-        ≡ filter (λ row. agree part (slot_of row.key) first.now) (tree.values answers.now)) }
+        ≡ filter (λ row. agree part (slot_of row) first.now) (tree.values answers.now)) }
     ensures ordered { tree.IsOrdered slot_cmp answers.now }
 {
     let mut rows = Vec::new(alloc);
@@ -133,7 +118,7 @@ pub(crate) fn answer_rows(
 pub(crate) fn count_answers(answers: &BTreeMap<AnswerSlot, AnswerRow>, first: &AnswerSlot) -> u64
     requires kept { Each slot_cmp answers.now.entries IsAnswerKept }
     requires first { IsFirst ToPuzzle first.now }
-    ensures count { result ≡ count_by (λ row. agree ToPuzzle (slot_of row.key) first.now) (tree.values answers.now) }
+    ensures count { result ≡ count_by (λ row. agree ToPuzzle (slot_of row) first.now) (tree.values answers.now) }
     ensures ordered { tree.IsOrdered slot_cmp answers.now }
 {
     let mut count = 0;
@@ -146,45 +131,71 @@ pub(crate) fn count_answers(answers: &BTreeMap<AnswerSlot, AnswerRow>, first: &A
     count
 }
 
-/// Whether one of the entrant's answers to the puzzle, from its first slot on, is the n-th.
-pub(crate) fn has_number(
+/// Whether the entrant has an answer in the round, from the first slot on.
+pub(crate) fn has_answer(answers: &BTreeMap<AnswerSlot, AnswerRow>, first: &AnswerSlot) -> bool
+    requires kept { Each slot_cmp answers.now.entries IsAnswerKept }
+    requires first { IsFirst ToEntrant first.now }
+    ensures has { IsTrue result ↔ HasAny
+        (filter (λ row. agree ToEntrant (slot_of row) first.now) (tree.values answers.now)) }
+    ensures ordered { tree.IsOrdered slot_cmp answers.now }
+{
+    match answers.range(first..).next() {
+        Some((slot, _)) => agree(Part::Entrant, slot, first),
+        None => false,
+    }
+}
+
+/// A copy of the entrant's answer to the puzzle with the token, from its first slot on.
+pub(crate) fn answer_with(
     answers: &BTreeMap<AnswerSlot, AnswerRow>,
     first: &AnswerSlot,
-    n: AnswerNumber,
-) -> bool
+    token: &Token,
+) -> Result<Option<AnswerRow>, AllocError>
     requires kept { Each slot_cmp answers.now.entries IsAnswerKept }
     requires first { IsFirst ToPuzzle first.now }
-    ensures has { result ≡ list_any (λ row. row.n == n)
-        (filter (λ row. agree ToPuzzle (slot_of row.key) first.now) (tree.values answers.now)) }
-    ensures ordered { tree.IsOrdered slot_cmp answers.now }
+    ensures { IfOk result (λ found. found ≡ find (λ row. same_text row.key.token token.now)
+        (filter (λ row. agree ToPuzzle (slot_of row) first.now) (tree.values answers.now))) }
 {
     for (slot, row) in answers.range(first..) {
         if !agree(Part::Puzzle, slot, first) {
-            return false;
+            return Ok(None);
         }
-        if row.n == n {
-            return true;
+        if row.key.token == *token {
+            return Ok(Some(row.clone()?));
         }
     }
-    false
+    Ok(None)
 }
 
-/// Puts the answers into the order of listings.
-pub(crate) fn sort_answers(rows: &mut Vec<AnswerRow>)
-    ensures permutation { IsPermutation rows.old.items rows.new.items }
-    ensures sorted { IsSorted listing_cmp rows.new.items }
+/// Whether an answer stands in the slot.
+pub(crate) fn is_taken(answers: &BTreeMap<AnswerSlot, AnswerRow>, slot: &AnswerSlot) -> bool
+    ensures taken { result ≡ is_some (tree.get slot_cmp answers.now slot.now) }
+    ensures ordered { tree.IsOrdered slot_cmp answers.now }
 {
-    rows.sort_unstable_by(compare_answers);
+    // The map's order is told by any call, and is needed with what is found.
+    let _count = answers.len();
+    answers.contains_key(slot)
 }
 
-/// The order of listings: by entrant, number, n, then token.
-fn compare_answers(a: &AnswerRow, b: &AnswerRow) -> Ordering
-    ensures { result ≡ listing_cmp a.now b.now }
+/// Gives the sink the round's answers, one after another, from its first slot on.
+pub(crate) fn feed_answers<K: AnswerSink>(
+    answers: &BTreeMap<AnswerSlot, AnswerRow>,
+    first: &AnswerSlot,
+    sink: &mut K,
+) -> Result<(), SinkFault>
+    requires kept { Each slot_cmp answers.now.entries IsAnswerKept }
+    requires first { IsFirst ToRound first.now }
+    ensures fed { OnOk result (HasTaken K.takes sink.old
+        (filter (λ row. agree ToRound (slot_of row) first.now) (tree.values answers.now)) sink.new) }
+    ensures stopped { IfErr result (λ fault. Stops K.takes K.refuses sink.old
+        (filter (λ row. agree ToRound (slot_of row) first.now) (tree.values answers.now)) sink.new fault) }
+    ensures ordered { tree.IsOrdered slot_cmp answers.now }
 {
-    a.key
-        .entrant
-        .cmp(&b.key.entrant)
-        .then(a.key.number.get().cmp(&b.key.number.get()))
-        .then(a.n.get().cmp(&b.n.get()))
-        .then(a.key.token.cmp(&b.key.token))
+    for (slot, row) in answers.range(first..) {
+        if !agree(Part::Round, slot, first) {
+            break;
+        }
+        sink.take(row)?;
+    }
+    Ok(())
 }

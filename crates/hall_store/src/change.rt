@@ -1,5 +1,8 @@
 //! A change of the world.
-use hall_policy::{AnswerRow, People, PuzzleKey, PuzzleRow, PuzzleState, RoundId, RoundRow};
+use hall_policy::{
+    AnswerRow, People, ProtestKey, ProtestRow, PuzzleKey, PuzzleRow, PuzzleState, RoundId,
+    RoundRow, Ruling,
+};
 
 /// What a director sets on a round, and nobody takes back.
 #[derive(Clone, Copy, Debug, PartialEq, Eq)]
@@ -24,4 +27,8 @@ pub enum Change {
     SetRoundFlag { round: RoundId, flag: RoundFlag },
     /// Stores one more answer.
     AddAnswer(AnswerRow),
+    /// Stores one more protest.
+    AddProtest(ProtestRow),
+    /// Rules the protest under the key.
+    RuleProtest { key: ProtestKey, ruling: Ruling },
 }

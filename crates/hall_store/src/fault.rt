@@ -1,4 +1,5 @@
 //! Why a store refuses.
+use hall_policy::SinkFault;
 use std::alloc::AllocError;
 
 /// The store refused, or memory did; the world is as it was.
@@ -18,5 +19,20 @@ impl From<AllocError> for StoreFault {
 
     fn from(_: AllocError) -> StoreFault {
         StoreFault::Memory
+    }
+}
+
+impl From<SinkFault> for StoreFault {
+    ghost use Rattle.std.specs.Prelude.{◌≡◌, ◌↔◌};
+    ghost use Rattle.hall_policy.specs.declared.sink.SinkFault.TheVariants.{Refused};
+    ghost use Rattle.hall_store.specs.declared.fault.StoreFault.TheVariants.{Failed};
+
+    ghost from_gives = { λ fault e. e ≡ Failed ↔ fault ≡ Refused };
+
+    fn from(fault: SinkFault) -> StoreFault {
+        match fault {
+            SinkFault::Memory => StoreFault::Memory,
+            SinkFault::Refused => StoreFault::Failed,
+        }
     }
 }

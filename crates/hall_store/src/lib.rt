@@ -8,6 +8,7 @@ mod map_adds;
 mod map_calls;
 mod map_reads;
 mod map_store;
+mod protest_reads;
 mod slot;
 mod store;
 mod writes;

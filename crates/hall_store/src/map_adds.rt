@@ -1,21 +1,18 @@
 //! How a world in ordered maps begins, and what is added to it.
-ghost use Rattle.std.specs.Prelude.{◌≡◌, ◌↔◌, IsTrue, IfOk, OnOk, OnErr, Some, is_some};
-ghost use Rattle.std.specs.List.{list_all};
+ghost use Rattle.std.specs.Prelude.{◌≡◌, IfOk, OnOk, OnErr, Some};
 ghost use Rattle.std.specs.BTreeMap as tree;
 ghost use Rattle.std.specs.FinMap.{from_entries};
 ghost use Rattle.hall_policy.specs.Text.{text_cmp};
-ghost use Rattle.hall_policy.specs.World.{puzzle_cmp};
 ghost use Rattle.hall_policy.specs.Lists.{ArePeopleDifferent};
 ghost use Rattle.hall_store.specs.Change.{with_people};
 ghost use Rattle.hall_store.specs.Keyed.{Each, IsRoundIndexed, IsUseKept, UsesStay, use_cmp, use_of};
 ghost use Rattle.hall_store.specs.Keyed.{AgreedStay, AreLed};
-ghost use Rattle.hall_store.specs.Maps.{world_of, empty_world, IsTaken, IsUnfit, PersonAdded, DraftAdded};
+ghost use Rattle.hall_store.specs.Maps.{world_of, empty_world};
 
-use crate::map_reads::find_holder;
 use crate::map_store::MapStore;
 use crate::slot::UseKey;
 use crate::writes::put;
-use hall_policy::{Entry, Key, Name, Person, PuzzleKey, PuzzleRow, RoundId, RoundRow};
+use hall_policy::{Key, Name, Person, PuzzleKey, RoundId, RoundRow};
 use std::alloc::{AllocError, Global};
 use std::collections::BTreeMap;
 
@@ -33,56 +30,6 @@ impl MapStore {
             answers: BTreeMap::new(alloc),
             protests: BTreeMap::new(alloc),
         }
-    }
-
-    /// Adds the person; false, and no change, where the name or the key is taken.
-    pub fn add_person(&mut self, person: Person) -> Result<bool, AllocError>
-        ensures ok { IfOk result (λ added. PersonAdded (world_of self.old) (world_of self.new) person added) }
-        ensures err { OnErr result (world_of self.new ≡ world_of self.old) }
-    {
-        if self.is_taken(&person) {
-            return Ok(false);
-        }
-        index_person(&mut self.keys, &person)?;
-        put_person(&mut self.people, person)?;
-        Ok(true)
-    }
-
-    /// Whether the name or the key is taken.
-    fn is_taken(&self, person: &Person) -> bool
-        ensures { IsTrue result ↔ IsTaken (world_of self.now) person.now }
-    {
-        self.people.contains_key(&person.name)
-            || find_holder(&self.people, &self.keys, &person.key).is_some()
-    }
-
-    /// Adds the draft; false, and no change, where it is no draft, its id is taken or a puzzle of it isn't kept.
-    pub fn add_draft(&mut self, row: RoundRow) -> Result<bool, AllocError>
-        ensures ok { IfOk result (λ added. DraftAdded (world_of self.old) (world_of self.new) row added) }
-        ensures err { OnErr result (world_of self.new ≡ world_of self.old) }
-    {
-        if self.is_unfit(&row) {
-            return Ok(false);
-        }
-        index_round(&mut self.uses, &row)?;
-        put_round(&mut self.rounds, row)?;
-        Ok(true)
-    }
-
-    /// Whether the row is no draft, its id is taken or a puzzle of it isn't kept.
-    fn is_unfit(&self, row: &RoundRow) -> bool
-        ensures { IsTrue result ↔ IsUnfit (world_of self.now) row.now }
-    {
-        if row.round.released {
-            return true;
-        }
-        if row.round.published {
-            return true;
-        }
-        if self.rounds.contains_key(&row.round.id) {
-            return true;
-        }
-        !are_kept(&self.puzzles, row.puzzles.as_slice())
     }
 }
 
@@ -190,18 +137,4 @@ pub(crate) fn put_round(
 {
     let id = row.round.id.clone()?;
     put(rounds, id, row)
-}
-
-/// Whether each entry's puzzle is kept.
-fn are_kept(puzzles: &BTreeMap<PuzzleKey, PuzzleRow>, entries: &[Entry]) -> bool
-    ensures { result ≡ list_all (λ entry. is_some (tree.get puzzle_cmp puzzles.now entry.puzzle)) entries.now }
-{
-    entries.iter().all(|entry| is_kept(puzzles, entry))
-}
-
-/// Whether the entry's puzzle is kept.
-fn is_kept(puzzles: &BTreeMap<PuzzleKey, PuzzleRow>, entry: &Entry) -> bool
-    ensures { result ≡ is_some (tree.get puzzle_cmp puzzles.now entry.now.puzzle) }
-{
-    puzzles.contains_key(&entry.puzzle)
 }

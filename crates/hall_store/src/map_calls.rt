@@ -3,8 +3,8 @@ ghost use Rattle.std.specs.Prelude.{◌≡◌};
 ghost use Rattle.hall_store.specs.Change.{flagged};
 
 use crate::answer_reads::{
-    answer_at, answer_rows, count_answers, first_in, first_of, first_to, has_number, own_slot,
-    sort_answers,
+    answer_rows, answer_with, count_answers, feed_answers, first_in, first_of, first_to,
+    has_answer, is_taken, own_slot, slot_at,
 };
 use crate::change::RoundFlag;
 use crate::fault::StoreFault;
@@ -14,12 +14,17 @@ use crate::map_reads::{
     person_at, puzzle_at, puzzle_rows, round_at,
 };
 use crate::map_store::MapStore;
+use crate::protest_reads::{
+    count_protests, feed_protests, first_protest, has_open, own_protest_key, protest_at,
+    protest_rows, protest_rows_in,
+};
 use crate::slot::Part;
 use crate::store::Store;
 use crate::writes::put;
 use hall_policy::{
-    AnswerKey, AnswerNumber, AnswerRow, Key, Name, People, Person, PuzzleKey, PuzzleNumber,
-    PuzzleRow, PuzzleState, Round, RoundId, RoundRow,
+    AnswerKey, AnswerNumber, AnswerRow, AnswerSink, Key, Name, People, Person, ProtestKey,
+    ProtestRow, ProtestSink, PuzzleKey, PuzzleNumber, PuzzleRow, PuzzleState, Round, RoundId,
+    RoundRow, Ruling,
 };
 use std::alloc::Global;
 
@@ -121,30 +126,31 @@ impl Store for MapStore {
     }
 
     fn answer(&mut self, _alloc: Global, key: &AnswerKey) -> Result<Option<AnswerRow>, StoreFault> {
-        Ok(answer_at(&self.answers, key)?)
+        let first = first_to(&key.entrant, &key.round, key.number)?;
+        Ok(answer_with(&self.answers, &first, &key.token)?)
     }
 
     fn answers_given(
         &mut self,
-        alloc: Global,
+        _alloc: Global,
         entrant: &Name,
         round: &RoundId,
         number: PuzzleNumber,
     ) -> Result<u64, StoreFault> {
-        let first = first_to(alloc, entrant, round, number)?;
+        let first = first_to(entrant, round, number)?;
         Ok(count_answers(&self.answers, &first))
     }
 
     fn is_number_taken(
         &mut self,
-        alloc: Global,
+        _alloc: Global,
         entrant: &Name,
         round: &RoundId,
         number: PuzzleNumber,
         n: AnswerNumber,
     ) -> Result<bool, StoreFault> {
-        let first = first_to(alloc, entrant, round, number)?;
-        Ok(has_number(&self.answers, &first, n))
+        let slot = slot_at(entrant, round, number, n)?;
+        Ok(is_taken(&self.answers, &slot))
     }
 
     fn answers_of(
@@ -153,23 +159,109 @@ impl Store for MapStore {
         entrant: &Name,
         round: &RoundId,
     ) -> Result<Vec<AnswerRow>, StoreFault> {
-        let first = first_of(alloc, entrant, round)?;
-        let mut rows = answer_rows(alloc, &self.answers, Part::Entrant, &first)?;
-        sort_answers(&mut rows);
-        Ok(rows)
+        let first = first_of(entrant, round)?;
+        Ok(answer_rows(alloc, &self.answers, Part::Entrant, &first)?)
     }
 
     fn answers_in(&mut self, alloc: Global, round: &RoundId) -> Result<Vec<AnswerRow>, StoreFault> {
         let first = first_in(alloc, round)?;
-        let mut rows = answer_rows(alloc, &self.answers, Part::Round, &first)?;
-        sort_answers(&mut rows);
-        Ok(rows)
+        Ok(answer_rows(alloc, &self.answers, Part::Round, &first)?)
     }
 
     fn add_answer(&mut self, _alloc: Global, row: AnswerRow) -> Result<(), StoreFault> {
         let slot = own_slot(&row)?;
         put(&mut self.answers, slot, row)?;
         Ok(())
+    }
+
+    fn feed_answers<K: AnswerSink>(
+        &mut self,
+        alloc: Global,
+        round: &RoundId,
+        sink: &mut K,
+    ) -> Result<(), StoreFault> {
+        let first = first_in(alloc, round)?;
+        Ok(feed_answers(&self.answers, &first, sink)?)
+    }
+
+    fn has_answered(
+        &mut self,
+        _alloc: Global,
+        entrant: &Name,
+        round: &RoundId,
+    ) -> Result<bool, StoreFault> {
+        let first = first_of(entrant, round)?;
+        Ok(has_answer(&self.answers, &first))
+    }
+
+    fn protest(
+        &mut self,
+        _alloc: Global,
+        key: &ProtestKey,
+    ) -> Result<Option<ProtestRow>, StoreFault> {
+        Ok(protest_at(&self.protests, key)?)
+    }
+
+    fn protests_made(
+        &mut self,
+        alloc: Global,
+        entrant: &Name,
+        round: &RoundId,
+    ) -> Result<u64, StoreFault> {
+        let first = first_protest(alloc, entrant, round)?;
+        Ok(count_protests(&self.protests, &first))
+    }
+
+    fn has_open_protest(&mut self, _alloc: Global, round: &RoundId) -> Result<bool, StoreFault> {
+        Ok(has_open(&self.protests, round))
+    }
+
+    fn protests_of(
+        &mut self,
+        alloc: Global,
+        entrant: &Name,
+        round: &RoundId,
+    ) -> Result<Vec<ProtestRow>, StoreFault> {
+        let first = first_protest(alloc, entrant, round)?;
+        Ok(protest_rows(alloc, &self.protests, &first)?)
+    }
+
+    fn protests_in(
+        &mut self,
+        alloc: Global,
+        round: &RoundId,
+    ) -> Result<Vec<ProtestRow>, StoreFault> {
+        Ok(protest_rows_in(alloc, &self.protests, round)?)
+    }
+
+    fn add_protest(&mut self, _alloc: Global, row: ProtestRow) -> Result<(), StoreFault> {
+        let key = own_protest_key(&row)?;
+        put(&mut self.protests, key, row)?;
+        Ok(())
+    }
+
+    fn rule_protest(
+        &mut self,
+        _alloc: Global,
+        key: &ProtestKey,
+        ruling: Ruling,
+    ) -> Result<(), StoreFault> {
+        match self.protests.get_mut(key) {
+            Some(row) => {
+                row.ruling = Some(ruling);
+                Ok(())
+            }
+            None => unreachable!(),
+        }
+    }
+
+    fn feed_protests<K: ProtestSink>(
+        &mut self,
+        _alloc: Global,
+        round: &RoundId,
+        sink: &mut K,
+    ) -> Result<(), StoreFault> {
+        Ok(feed_protests(&self.protests, round, sink)?)
     }
 }
 

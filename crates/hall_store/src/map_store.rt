@@ -1,8 +1,9 @@
 //! The world in ordered maps.
+ghost use Rattle.std.proofs.Props.{props};
 ghost use Rattle.hall_policy.specs.Text.{text_cmp};
-ghost use Rattle.hall_policy.specs.World.{puzzle_cmp};
+ghost use Rattle.hall_policy.specs.World.{protest_cmp, puzzle_cmp};
 ghost use Rattle.hall_store.specs.Keyed.{Each, IsPersonIndexed, IsPuzzleKept, IsRoundIndexed, IsUseKept};
-ghost use Rattle.hall_store.specs.Keyed.{IsAnswerKept, slot_cmp, use_cmp};
+ghost use Rattle.hall_store.specs.Keyed.{AreKeysDistinct, IsAnswerKept, IsProtestKept, slot_cmp, use_cmp};
 
 use crate::slot::{AnswerSlot, UseKey};
 use hall_policy::{
@@ -29,4 +30,6 @@ pub struct MapStore {
     ghost rounds_indexed: { Each text_cmp rounds.entries (IsRoundIndexed uses.entries) },
     ghost uses_kept: { Each use_cmp uses.entries IsUseKept },
     ghost answers_kept: { Each slot_cmp answers.entries IsAnswerKept },
+    ghost answer_keys_distinct: { AreKeysDistinct answers.entries } by { Prim.hlevel props },
+    ghost protests_kept: { Each protest_cmp protests.entries IsProtestKept },
 }

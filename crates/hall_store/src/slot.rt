@@ -1,13 +1,13 @@
 //! The keys of the maps of answers and of uses, whose orders put side by side what is asked for together.
-use hall_policy::{Label, Name, PuzzleNumber, RoundId, Token};
+use hall_policy::{AnswerNumber, Label, Name, PuzzleNumber, RoundId};
 
-/// Where an answer is kept.
+/// Where an answer is kept: a round's slots are in the order of listings.
 #[derive(PartialEq, Eq, PartialOrd, Ord, Drop)]
 pub(crate) struct AnswerSlot {
     pub(crate) round: RoundId,
     pub(crate) entrant: Name,
     pub(crate) number: PuzzleNumber,
-    pub(crate) token: Token,
+    pub(crate) n: AnswerNumber,
 }
 
 /// Which answers are asked for together.

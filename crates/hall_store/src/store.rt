@@ -2,8 +2,9 @@
 use crate::change::RoundFlag;
 use crate::fault::StoreFault;
 use hall_policy::{
-    AnswerKey, AnswerNumber, AnswerRow, Key, Name, People, Person, PuzzleKey, PuzzleNumber,
-    PuzzleRow, PuzzleState, Round, RoundId, RoundRow,
+    AnswerKey, AnswerNumber, AnswerRow, AnswerSink, Key, Name, People, Person, ProtestKey,
+    ProtestRow, ProtestSink, PuzzleKey, PuzzleNumber, PuzzleRow, PuzzleState, Round, RoundId,
+    RoundRow, Ruling,
 };
 use std::alloc::Global;
 
@@ -14,15 +15,18 @@ use std::alloc::Global;
 /// store that a fault of its device has shut answers nothing more.
 /// A call is refused for want of memory, or as failed, which only a store that can fail does.
 pub trait Store: Drop {
-    ghost use Rattle.std.specs.Prelude.{◌≡◌, ◌↔◌, IsTrue};
+    ghost use Rattle.std.specs.Prelude.{◌≡◌, ◌↔◌, ◌⊎◌, IsTrue, IfErr};
     ghost use Rattle.std.specs.FinMap.{get, values};
-    ghost use Rattle.hall_policy.specs.Rules.{answers_given, puzzles_put};
+    ghost use Rattle.hall_policy.specs.Rules.{answers_given, protests_made, puzzles_put};
     ghost use Rattle.hall_store.specs.Store.{Content, Kept, Served, Fails, Asks, Makes, puzzles_of, IsRoundKept};
     ghost use Rattle.hall_store.specs.Store.{AreUsing, IsNumberTaken, IsListing, is_of, is_in};
+    ghost use Rattle.hall_store.specs.Store.{HasSubmitted, IsProtestOpen, protests_of, protests_in, Fed, IsRefusedNext};
     ghost use Rattle.hall_store.specs.Caller.{IsKeyHolder};
     ghost use Rattle.hall_store.specs.Change.{CanImport, CanPutPuzzle, CanSetState, CanPutRound, CanSetFlag, CanAddAnswer};
+    ghost use Rattle.hall_store.specs.Change.{CanAddProtest, CanRuleProtest};
     ghost use Rattle.hall_store.specs.declared.change.Change.TheVariants.{Import, PutPuzzle, SetState, PutRound};
-    ghost use Rattle.hall_store.specs.declared.change.Change.TheVariants.{SetRoundFlag, AddAnswer};
+    ghost use Rattle.hall_store.specs.declared.change.Change.TheVariants.{SetRoundFlag, AddAnswer, AddProtest, RuleProtest};
+    ghost use Rattle.hall_store.specs.declared.fault.StoreFault.TheVariants.{Failed};
 
     // The world, and while it can be told.
     ghost content: { Self → Content };
@@ -180,4 +184,104 @@ pub trait Store: Drop {
         requires { Asks (content self.old) (λ world. CanAddAnswer world row) }
         ensures makes { Makes (AddAnswer row) (content self.old) (content self.new) result }
         ensures fault { Fails can_fail result };
+
+    /// Gives the sink the answers of the round, one after another, by entrant, number, then n. It fails where the sink
+    /// refuses one, and has then taken those before.
+    fn feed_answers<K: AnswerSink>(
+        &mut self,
+        alloc: Global,
+        round: &RoundId,
+        sink: &mut K,
+    ) -> Result<(), StoreFault>
+        ensures kept { Kept (content self.old) (content self.new) }
+        ensures fed { Fed K.takes (λ world rows. IsListing world (is_in round.now) rows) (content self.new)
+            sink.old result sink.new }
+        ensures fault { IfErr result (λ fault. fault ≡ Failed → can_fail ⊎ IsRefusedNext K.takes K.refuses
+            (λ world rows. IsListing world (is_in round.now) rows) (content self.new) sink.old sink.new) };
+
+    /// Whether the entrant has an answer in the round.
+    fn has_answered(
+        &mut self,
+        alloc: Global,
+        entrant: &Name,
+        round: &RoundId,
+    ) -> Result<bool, StoreFault>
+        ensures kept { Kept (content self.old) (content self.new) }
+        ensures served { Served (content self.new) result
+            (λ world found. IsTrue found ↔ HasSubmitted world entrant.now round.now) }
+        ensures fault { Fails can_fail result };
+
+    /// The protest under the key.
+    fn protest(&mut self, alloc: Global, key: &ProtestKey) -> Result<Option<ProtestRow>, StoreFault>
+        ensures kept { Kept (content self.old) (content self.new) }
+        ensures served { Served (content self.new) result (λ world found. found ≡ get world.protests key.now) }
+        ensures fault { Fails can_fail result };
+
+    /// How many protests of the entrant in the round are kept.
+    fn protests_made(
+        &mut self,
+        alloc: Global,
+        entrant: &Name,
+        round: &RoundId,
+    ) -> Result<u64, StoreFault>
+        ensures kept { Kept (content self.old) (content self.new) }
+        ensures served { Served (content self.new) result
+            (λ world count. count ≡ protests_made world entrant.now round.now) }
+        ensures fault { Fails can_fail result };
+
+    /// Whether a protest of the round is open.
+    fn has_open_protest(&mut self, alloc: Global, round: &RoundId) -> Result<bool, StoreFault>
+        ensures kept { Kept (content self.old) (content self.new) }
+        ensures served { Served (content self.new) result
+            (λ world found. IsTrue found ↔ IsProtestOpen world round.now) }
+        ensures fault { Fails can_fail result };
+
+    /// The entrant's protests in the round, by token.
+    fn protests_of(
+        &mut self,
+        alloc: Global,
+        entrant: &Name,
+        round: &RoundId,
+    ) -> Result<Vec<ProtestRow>, StoreFault>
+        ensures kept { Kept (content self.old) (content self.new) }
+        ensures served { Served (content self.new) result
+            (λ world rows. rows.items ≡ protests_of world entrant.now round.now) }
+        ensures fault { Fails can_fail result };
+
+    /// The protests of the round, by entrant, then token.
+    fn protests_in(&mut self, alloc: Global, round: &RoundId) -> Result<Vec<ProtestRow>, StoreFault>
+        ensures kept { Kept (content self.old) (content self.new) }
+        ensures served { Served (content self.new) result (λ world rows. rows.items ≡ protests_in world round.now) }
+        ensures fault { Fails can_fail result };
+
+    /// Stores one more protest.
+    fn add_protest(&mut self, alloc: Global, row: ProtestRow) -> Result<(), StoreFault>
+        requires { Asks (content self.old) (λ world. CanAddProtest world row) }
+        ensures makes { Makes (AddProtest row) (content self.old) (content self.new) result }
+        ensures fault { Fails can_fail result };
+
+    /// Rules the protest under the key.
+    fn rule_protest(
+        &mut self,
+        alloc: Global,
+        key: &ProtestKey,
+        ruling: Ruling,
+    ) -> Result<(), StoreFault>
+        requires { Asks (content self.old) (λ world. CanRuleProtest world key.now) }
+        ensures makes { Makes (RuleProtest key.now ruling) (content self.old) (content self.new) result }
+        ensures fault { Fails can_fail result };
+
+    /// Gives the sink the protests of the round, one after another, by entrant, then token. It fails where the sink
+    /// refuses one, and has then taken those before.
+    fn feed_protests<K: ProtestSink>(
+        &mut self,
+        alloc: Global,
+        round: &RoundId,
+        sink: &mut K,
+    ) -> Result<(), StoreFault>
+        ensures kept { Kept (content self.old) (content self.new) }
+        ensures fed { Fed K.takes (λ world rows. rows ≡ protests_in world round.now) (content self.new)
+            sink.old result sink.new }
+        ensures fault { IfErr result (λ fault. fault ≡ Failed → can_fail ⊎ IsRefusedNext K.takes K.refuses
+            (λ world rows. rows ≡ protests_in world round.now) (content self.new) sink.old sink.new) };
 }

@@ -20,13 +20,13 @@ struct Taken {
 
 /// The values that stand in each unit, `None` where one stands there twice.
 fn taken_in(units: &[u8], partial: &Partial) -> Option<[Values; MOST_UNITS]>
-    requires exact { length units.now ≡ length partial.now }
+    requires exact { length units.now ≡ length partial.now.places }
     requires units { (cell : ℕ) → cell < length units.now → slice_index units.now cell < MOST_UNITS }
-    requires values { (cell v : ℕ) → slice_index_or partial.now cell None ≡ Some v → v < 32 }
+    requires values { (cell v : ℕ) → slice_index_or partial.now.places cell None ≡ Some v → v < 32 }
     ensures size { IfSome result (λ t. length t ≡ MOST_UNITS) }
-    ensures some { IfSome result (AreTaken (slice_index units.now) partial.now) }
-    ensures apart { IfSome result (λ _. Clashes (slice_index units.now) partial.now → ⊥) }
-    ensures none { IfNone result (Clashes (slice_index units.now) partial.now) }
+    ensures some { IfSome result (AreTaken (slice_index units.now) partial.now.places) }
+    ensures apart { IfSome result (λ _. Clashes (slice_index units.now) partial.now.places → ⊥) }
+    ensures none { IfNone result (Clashes (slice_index units.now) partial.now.places) }
 {
     let mut taken = [Values::none(); MOST_UNITS];
     for (cell, unit) in units.iter().enumerate() {
@@ -43,13 +43,13 @@ fn taken_in(units: &[u8], partial: &Partial) -> Option<[Values; MOST_UNITS]>
 
 /// The values that the cell may still have.
 fn left_at(units: &Units, taken: &Taken, partial: &Partial, cell: usize) -> Values
-    requires partial { IsPartial (units_question units.now) partial.now }
+    requires partial { IsPartial (units_question units.now) partial.now.places }
     requires cell { cell < cells units.now }
-    requires taken { AreAllTaken units.now partial.now taken.now }
+    requires taken { AreAllTaken units.now partial.now.places taken.now }
     requires rows { length taken.now.rows ≡ MOST_UNITS }
     requires columns { length taken.now.columns ≡ MOST_UNITS }
     requires boxes { length taken.now.boxes ≡ MOST_UNITS }
-    ensures { IsLeft units.now partial.now cell result }
+    ensures { IsLeft units.now partial.now.places cell result }
 {
     let side = units.side();
     match partial.get(cell) {
@@ -63,12 +63,12 @@ fn left_at(units: &Units, taken: &Taken, partial: &Partial, cell: usize) -> Valu
 
 /// The values that each cell may still have, `None` where there is no solution.
 pub(crate) fn candidates(units: &Units, partial: &Partial) -> Option<[Values; MOST_CELLS]>
-    requires { IsPartial (units_question units.now) partial.now }
+    requires { IsPartial (units_question units.now) partial.now.places }
     ensures room { IfSome result (λ c. cells units.now ≤ length c) }
-    ensures some { IfSome result (AreCandidates units.now partial.now) }
+    ensures some { IfSome result (AreCandidates units.now partial.now.places) }
     ensures filled { IfSome result (AreFilled units.now) }
-    ensures apart { IfSome result (λ _. HaveNoClash units.now partial.now) }
-    ensures none { IfNone result (IsHopeless (units_question units.now) partial.now) }
+    ensures apart { IfSome result (λ _. HaveNoClash units.now partial.now.places) }
+    ensures none { IfNone result (IsHopeless (units_question units.now) partial.now.places) }
 {
     let taken = Taken {
         rows: taken_in(units.rows(), partial)?,
@@ -88,9 +88,9 @@ pub(crate) fn candidates(units: &Units, partial: &Partial) -> Option<[Values; MO
 
 /// The open cell with the fewest candidates.
 pub(crate) fn fewest(candidates: &[Values], partial: &Partial) -> Option<usize>
-    requires { length partial.now ≤ length candidates.now }
-    ensures unset { IfSome result (IsOpen partial.now) }
-    ensures whole { IfNone result (IsWhole partial.now) }
+    requires { length partial.now.places ≤ length candidates.now }
+    ensures unset { IfSome result (IsOpen partial.now.places) }
+    ensures whole { IfNone result (IsWhole partial.now.places) }
 {
     let mut best: Option<usize> = None;
     let mut fewest = u32::MAX;

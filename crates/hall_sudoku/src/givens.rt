@@ -10,9 +10,9 @@ use std::alloc::{AllocError, Global};
 /// The partial filling that has exactly the givens, each a number less 1.
 pub fn start(alloc: Global, puzzle: &Puzzle) -> Result<Partial, AllocError>
     requires { puzzle.now.kind ≡ Kind.Sudoku }
-    ensures givens { IfOk result (λ p. p ≡ start_of Kind.Sudoku puzzle.now) }
-    ensures partial { IfOk result (IsPartial (question_of Kind.Sudoku puzzle.now)) }
-    ensures solutions { IfOk result (AllExtend Kind.Sudoku puzzle.now) }
+    ensures givens { IfOk result (λ p. p.places ≡ start_of Kind.Sudoku puzzle.now) }
+    ensures partial { IfOk result (λ p. IsPartial (question_of Kind.Sudoku puzzle.now) p.places) }
+    ensures solutions { IfOk result (λ p. AllExtend Kind.Sudoku puzzle.now p.places) }
 {
     let mut partial = Partial::new(alloc, puzzle.cells())?;
     for cell in 0..puzzle.cells() {

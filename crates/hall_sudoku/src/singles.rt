@@ -3,6 +3,7 @@ ghost use Rattle.std.specs.Prelude.{◌≡◌, ◌≤◌, ◌<◌, ℕ, false, I
 ghost use Rattle.hall_grid.specs.Board.{cells};
 ghost use Rattle.hall_solve.specs.Question.{IsPartial, IsHopeless};
 ghost use Rattle.hall_solve.specs.Deduction.{HasAlways, IsDeduced};
+ghost use Rattle.hall_solve.specs.Trail.{Grows};
 ghost use Rattle.hall_sudoku.specs.Units.{units_question};
 ghost use Rattle.hall_sudoku.specs.Settled.{IsSettled};
 ghost use Rattle.hall_sudoku.specs.Candidates.{AreCandidates, AreFilled, AreSeen, AreShared, AreAllShared, AreComplete};
@@ -83,14 +84,14 @@ fn shared_in(units: &[u8], candidates: &[Values], side: u8) -> Option<[Values; M
 /// The values that several cells of each row, column and box may have, `None` where there is no solution.
 fn all_shared(units: &Units, candidates: &[Values], partial: &Partial) -> Option<Shared>
     requires room { cells units.now ≤ length candidates.now }
-    requires partial { IsPartial (units_question units.now) partial.now }
-    requires candidates { AreCandidates units.now partial.now candidates.now }
+    requires partial { IsPartial (units_question units.now) partial.now.places }
+    requires candidates { AreCandidates units.now partial.now.places candidates.now }
     ensures rows { IfSome result (λ s. length s.rows ≡ MOST_UNITS) }
     ensures columns { IfSome result (λ s. length s.columns ≡ MOST_UNITS) }
     ensures boxes { IfSome result (λ s. length s.boxes ≡ MOST_UNITS) }
     ensures some { IfSome result (AreAllShared units.now candidates.now) }
     ensures complete { IfSome result (λ _. AreAllComplete units.now candidates.now) }
-    ensures none { IfNone result (IsHopeless (units_question units.now) partial.now) }
+    ensures none { IfNone result (IsHopeless (units_question units.now) partial.now.places) }
 {
     let side = units.side();
     Some(Shared {
@@ -124,15 +125,16 @@ fn sole_at(units: &Units, candidates: &[Values], shared: &Shared, cell: usize) -
 /// Sets each open cell whose value follows.
 fn set_soles(units: &Units, candidates: &[Values], shared: &Shared, partial: &mut Partial) -> Pass
     requires room { cells units.now ≤ length candidates.now }
-    requires partial { IsPartial (units_question units.now) partial.old }
-    requires candidates { AreCandidates units.now partial.old candidates.now }
+    requires partial { IsPartial (units_question units.now) partial.old.places }
+    requires candidates { AreCandidates units.now partial.old.places candidates.now }
     requires filled { AreFilled units.now candidates.now }
     requires shared { AreAllShared units.now candidates.now shared.now }
     requires rows { length shared.now.rows ≡ MOST_UNITS }
     requires columns { length shared.now.columns ≡ MOST_UNITS }
     requires boxes { length shared.now.boxes ≡ MOST_UNITS }
-    ensures deduced { IsDeduced (units_question units.now) partial.old partial.new result }
-    ensures settled { result ≡ Pass.Settled → HaveNoSole units.now partial.old candidates.now shared.now }
+    ensures deduced { IsDeduced (units_question units.now) partial.old.places partial.new.places result }
+    ensures grows { Grows partial.old partial.new }
+    ensures settled { result ≡ Pass.Settled → HaveNoSole units.now partial.old.places candidates.now shared.now }
 {
     let mut pass = Pass::Settled;
     for cell in 0..units.cells() {

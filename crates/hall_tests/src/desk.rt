@@ -1,8 +1,9 @@
 //! Calls of the desk: a plan and its commit, a list of requests, what they ask of the store, certificates with their
 //! budgets, verdicts.
-use crate::fixtures::{number, puzzle, puzzle_key, text};
-use crate::limited::LimitedStore;
-use hall_desk::{Desk, Reply, StateName, certify, judge, opening_store};
+use crate::fixtures::{number, puzzle, puzzle_key, request, text};
+use crate::opening::{limited_desk, opening_desk};
+use crate::requests::{CONFLICT, LIST, SHEET, SHEET_OF_NONE};
+use hall_desk::{Desk, Reply, StateName, certify, judge};
 use hall_http::{Routes, answer_bytes};
 use hall_policy::{Action, Moment, Request};
 use hall_solve::Outcome;
@@ -86,7 +87,7 @@ fn released(rt: &(impl AllocGlobal + Abort), desk: &mut Desk<MapStore>, t: Momen
 #[test]
 fn plans_are_committed_and_lists_run(rt: HostRuntime) {
     let t = number(&rt, 1_777_712_399);
-    let mut desk = Desk::new(opening_store(rt.alloc()).expect(&rt, "opening"));
+    let mut desk = opening_desk(&rt);
     assert!(rt; certified(&rt, &mut desk, t));
     assert!(rt; released(&rt, &mut desk, t));
     let replies = desk.run(rt.alloc(), &requests(&rt)).expect(&rt, "run");
@@ -108,8 +109,11 @@ type Asked = (
     &'static str,
 );
 
+/// A newcomer with eve's key.
+const TAKEN_KEY: &str = "name,key,roles\ngil,eve-key-1,entrant\n";
+
 /// Requests to the opening world.
-const ASKED: [Asked; 10] = [
+const ASKED: [Asked; 17] = [
     (1, "", "GET /rounds/r1", "", 0, "403", "{\"denied\":1}"),
     (
         1,
@@ -184,6 +188,69 @@ const ASKED: [Asked; 10] = [
         "200",
         "{",
     ),
+    (
+        1,
+        "ada-key-1",
+        "POST /people",
+        LIST,
+        1,
+        "403",
+        "{\"denied\":2}",
+    ),
+    (
+        1,
+        "dora-key",
+        "POST /people",
+        CONFLICT,
+        2,
+        "403",
+        "{\"denied\":20}",
+    ),
+    (
+        1,
+        "dora-key",
+        "POST /people",
+        TAKEN_KEY,
+        3,
+        "403",
+        "{\"denied\":20}",
+    ),
+    (
+        1,
+        "dora-key",
+        "POST /people",
+        LIST,
+        8,
+        "200",
+        "{\"added\":1}",
+    ),
+    (
+        1,
+        "bob-key-1",
+        "PUT /rounds/r4",
+        SHEET,
+        1,
+        "403",
+        "{\"denied\":2}",
+    ),
+    (
+        1,
+        "dora-key",
+        "PUT /rounds/r4",
+        SHEET_OF_NONE,
+        2,
+        "404",
+        "{\"denied\":4}",
+    ),
+    (
+        1,
+        "dora-key",
+        "PUT /rounds/r4",
+        SHEET,
+        5,
+        "200",
+        "{\"round\":\"r4\"}",
+    ),
 ];
 
 /// Certifies the puzzle of the round r1, releases the round and answers it.
@@ -218,7 +285,16 @@ const BEFORE: [Asked; 3] = [
 ];
 
 /// Requests after those.
-const ASKED_LATER: [Asked; 11] = [
+const ASKED_LATER: [Asked; 12] = [
+    (
+        1_777_715_999,
+        "dora-key",
+        "PUT /rounds/r1",
+        SHEET,
+        4,
+        "403",
+        "{\"denied\":13}",
+    ),
     (
         1_777_715_999,
         "eve-key-1",
@@ -320,6 +396,218 @@ const ASKED_LATER: [Asked; 11] = [
     ),
 ];
 
+/// Eve's protest.
+const PROTESTED: [Asked; 1] = [(
+    1_777_716_000,
+    "eve-key-1",
+    "PUT /rounds/r1/protests/w1",
+    "{\"number\":1,\"text\":\"unclear\"}",
+    0,
+    "200",
+    "{\"protest\":\"w1\"}",
+)];
+
+/// Requests after it.
+const ASKED_OF_PROTESTS: [Asked; 13] = [
+    (
+        1_777_716_000,
+        "eve-key-1",
+        "PUT /rounds/r1/protests/w1",
+        "{\"number\":1,\"text\":\"unclear\"}",
+        3,
+        "200",
+        "{\"protest\":\"w1\"}",
+    ),
+    (
+        1_777_716_000,
+        "eve-key-1",
+        "PUT /rounds/r1/protests/w1",
+        "{\"number\":1,\"text\":\"wrong\"}",
+        3,
+        "403",
+        "{\"denied\":6}",
+    ),
+    (
+        1_777_716_000,
+        "eve-key-1",
+        "PUT /rounds/r1/protests/w2",
+        "{\"number\":2,\"text\":\"unclear\"}",
+        2,
+        "404",
+        "{\"denied\":4}",
+    ),
+    (
+        1_777_715_999,
+        "eve-key-1",
+        "PUT /rounds/r1/protests/w2",
+        "{\"number\":1,\"text\":\"unclear\"}",
+        3,
+        "403",
+        "{\"denied\":9}",
+    ),
+    (
+        1_777_717_800,
+        "eve-key-1",
+        "PUT /rounds/r1/protests/w2",
+        "{\"number\":1,\"text\":\"unclear\"}",
+        3,
+        "403",
+        "{\"denied\":10}",
+    ),
+    (
+        1_777_716_000,
+        "eve-key-1",
+        "PUT /rounds/r1/protests/w2",
+        "{\"number\":1,\"text\":\"unclear\"}",
+        5,
+        "200",
+        "{\"protest\":\"w2\"}",
+    ),
+    (
+        1_777_716_000,
+        "rex-key-1",
+        "GET /rounds/r1/protests",
+        "",
+        3,
+        "200",
+        "{\"protests\":[{\"entrant\":\"eve\"",
+    ),
+    (
+        1_777_716_000,
+        "dora-key",
+        "PUT /rounds/r1/rulings/eve/w1",
+        "{\"points\":3,\"upheld\":true}",
+        1,
+        "403",
+        "{\"denied\":2}",
+    ),
+    (
+        1_777_716_000,
+        "rex-key-1",
+        "PUT /rounds/r1/rulings/fay/w1",
+        "{\"points\":3,\"upheld\":true}",
+        3,
+        "404",
+        "{\"denied\":4}",
+    ),
+    (
+        1_777_716_000,
+        "rex-key-1",
+        "PUT /rounds/r1/rulings/eve/w1",
+        "{\"points\":3,\"upheld\":true}",
+        5,
+        "200",
+        "{\"points\":3,\"ruled\":\"upheld\"}",
+    ),
+    (
+        1_777_717_799,
+        "dora-key",
+        "POST /rounds/r1/publish",
+        "",
+        2,
+        "403",
+        "{\"denied\":9}",
+    ),
+    (
+        1_777_717_800,
+        "dora-key",
+        "POST /rounds/r1/publish",
+        "",
+        3,
+        "403",
+        "{\"denied\":16}",
+    ),
+    (
+        1_777_717_800,
+        "",
+        "GET /rounds/r1/table",
+        "",
+        1,
+        "403",
+        "{\"denied\":15}",
+    ),
+];
+
+/// Its ruling, and the round's publication.
+const PUBLISHED: [Asked; 2] = [
+    (
+        1_777_716_000,
+        "rex-key-1",
+        "PUT /rounds/r1/rulings/eve/w1",
+        "{\"points\":3,\"upheld\":true}",
+        0,
+        "200",
+        "{\"points\":3,\"ruled\":\"upheld\"}",
+    ),
+    (
+        1_777_717_800,
+        "dora-key",
+        "POST /rounds/r1/publish",
+        "",
+        0,
+        "200",
+        "{\"published\":\"r1\"}",
+    ),
+];
+
+/// Requests after those.
+const ASKED_AT_LAST: [Asked; 6] = [
+    (
+        1_777_717_800,
+        "rex-key-1",
+        "PUT /rounds/r1/rulings/eve/w1",
+        "{\"points\":3,\"upheld\":true}",
+        4,
+        "200",
+        "{\"points\":3,\"ruled\":\"upheld\"}",
+    ),
+    (
+        1_777_717_800,
+        "rex-key-1",
+        "PUT /rounds/r1/rulings/eve/w1",
+        "{\"points\":0,\"upheld\":false}",
+        4,
+        "403",
+        "{\"denied\":18}",
+    ),
+    (
+        1_777_717_800,
+        "dora-key",
+        "POST /rounds/r1/publish",
+        "",
+        2,
+        "403",
+        "{\"denied\":15}",
+    ),
+    (
+        1_777_717_800,
+        "",
+        "GET /rounds/r1/table",
+        "",
+        3,
+        "200",
+        "   1 eve ",
+    ),
+    (
+        1_777_717_800,
+        "no-such-key",
+        "GET /rounds/r1/table",
+        "",
+        4,
+        "200",
+        "   1 eve ",
+    ),
+    (
+        1_777_717_800,
+        "eve-key-1",
+        "GET /rounds/r3/table",
+        "",
+        2,
+        "404",
+        "{\"denied\":4}",
+    ),
+];
+
 /// Whether the request is answered with this status and a body that begins so.
 fn is_answered<S: Store>(
     rt: &(impl AllocGlobal + Abort),
@@ -329,11 +617,7 @@ fn is_answered<S: Store>(
     reply: &str,
 ) -> bool {
     let (moment, key, line, body, _, _, _) = asked;
-    let request = format!(in rt.alloc();
-        "{line} HTTP/1.1\r\nHall-Key: {key}\r\nContent-Length: {}\r\n\r\n{body}",
-        body.len()
-    );
-    let request = request.expect(rt, "memory");
+    let request = request(rt, key, line, body);
     let routes = Routes::new(rt.alloc()).expect(rt, "memory");
     let moment = number(rt, *moment);
     let answer = answer_bytes(rt.alloc(), &routes, desk, moment, request.as_bytes());
@@ -349,27 +633,28 @@ fn is_answered<S: Store>(
     }
 }
 
-/// Whether these requests are answered so over a store that answers so many calls, and then this one with this status
+/// Whether these requests are answered so over a store that answers so many calls more, and then this one with this status
 /// and a body that begins so.
 fn goes_on(
     rt: &(impl AllocGlobal + Abort),
-    before: &[Asked],
+    before: &[&[Asked]],
     left: u64,
     asked: &Asked,
     status: &str,
     reply: &str,
 ) -> bool {
-    let store = opening_store(rt.alloc()).expect(rt, "opening");
-    let mut desk = Desk::new(LimitedStore { store, left });
+    let mut desk = limited_desk(rt, left);
     let mut goes = true;
-    for earlier in before {
-        goes = goes && is_answered(rt, &mut desk, earlier, earlier.5, earlier.6);
+    for part in before {
+        for earlier in *part {
+            goes = goes && is_answered(rt, &mut desk, earlier, earlier.5, earlier.6);
+        }
     }
     goes && is_answered(rt, &mut desk, asked, status, reply)
 }
 
 /// Whether each request is answered so where the store answers so many calls, and by 503 where it answers fewer.
-fn asks(rt: &(impl AllocGlobal + Abort), before: &[Asked], spent: u64, asked: &[Asked]) -> bool {
+fn asks(rt: &(impl AllocGlobal + Abort), before: &[&[Asked]], spent: u64, asked: &[Asked]) -> bool {
     let mut asks = true;
     for row in asked {
         let (_, _, _, _, calls, status, reply) = row;
@@ -385,7 +670,14 @@ fn asks(rt: &(impl AllocGlobal + Abort), before: &[Asked], spent: u64, asked: &[
 #[test]
 fn a_request_asks_the_store_for_what_its_rules_read(rt: HostRuntime) {
     assert!(rt; asks(&rt, &[], 0, ASKED.as_slice()));
-    assert!(rt; asks(&rt, BEFORE.as_slice(), 15, ASKED_LATER.as_slice()));
+    let before: [&[Asked]; 3] = [
+        BEFORE.as_slice(),
+        PROTESTED.as_slice(),
+        PUBLISHED.as_slice(),
+    ];
+    assert!(rt; asks(&rt, &before[..1], 15, ASKED_LATER.as_slice()));
+    assert!(rt; asks(&rt, &before[..2], 20, ASKED_OF_PROTESTS.as_slice()));
+    assert!(rt; asks(&rt, &before, 29, ASKED_AT_LAST.as_slice()));
 }
 
 #[test]

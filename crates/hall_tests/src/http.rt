@@ -1,6 +1,6 @@
 //! Bytes to bytes: replays, and connections.
 use crate::devices::{endless_reader, failing_reader, failing_writer};
-use hall_desk::{Desk, opening_store};
+use crate::opening::opening_desk;
 use hall_grid::Counted;
 use hall_http::{Clock, ReplayFault, ServeEnd, replay, serve};
 use hall_policy::Moment;
@@ -57,7 +57,7 @@ fn replayed<R: Read, W: Write>(
     reader: &mut Counted<R>,
     writer: &mut Counted<W>,
 ) -> Result<(), ReplayFault> {
-    let mut desk = Desk::new(opening_store(rt.alloc()).expect(rt, "opening"));
+    let mut desk = opening_desk(rt);
     replay(rt.alloc(), &mut desk, reader, writer)
 }
 
@@ -303,7 +303,7 @@ fn served<R: Read, W: Write>(
     writer: &mut Counted<W>,
     clock: &mut Telling<'_>,
 ) -> ServeEnd {
-    let mut desk = Desk::new(opening_store(rt.alloc()).expect(rt, "opening"));
+    let mut desk = opening_desk(rt);
     serve(rt.alloc(), &mut desk, reader, writer, clock).expect(rt, "serve")
 }
 

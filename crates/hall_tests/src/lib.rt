@@ -14,6 +14,8 @@ mod limited;
 #[cfg(test)]
 mod lists;
 #[cfg(test)]
+mod opening;
+#[cfg(test)]
 mod policy;
 #[cfg(test)]
 mod reads;

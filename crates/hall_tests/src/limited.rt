@@ -2,8 +2,9 @@
 ghost use Rattle.std.specs.Prelude.{◌≡◌, ⊤};
 
 use hall_policy::{
-    AnswerKey, AnswerNumber, AnswerRow, Key, Name, People, Person, PuzzleKey, PuzzleNumber,
-    PuzzleRow, PuzzleState, Round, RoundId, RoundRow,
+    AnswerKey, AnswerNumber, AnswerRow, AnswerSink, Key, Name, People, Person, ProtestKey,
+    ProtestRow, ProtestSink, PuzzleKey, PuzzleNumber, PuzzleRow, PuzzleState, Round, RoundId,
+    RoundRow, Ruling,
 };
 use hall_store::{MapStore, RoundFlag, Store, StoreFault};
 use std::alloc::Global;
@@ -161,5 +162,93 @@ impl Store for LimitedStore {
     fn add_answer(&mut self, alloc: Global, row: AnswerRow) -> Result<(), StoreFault> {
         self.spend()?;
         self.store.add_answer(alloc, row)
+    }
+
+    fn feed_answers<K: AnswerSink>(
+        &mut self,
+        alloc: Global,
+        round: &RoundId,
+        sink: &mut K,
+    ) -> Result<(), StoreFault> {
+        self.spend()?;
+        self.store.feed_answers(alloc, round, sink)
+    }
+
+    fn has_answered(
+        &mut self,
+        alloc: Global,
+        entrant: &Name,
+        round: &RoundId,
+    ) -> Result<bool, StoreFault> {
+        self.spend()?;
+        self.store.has_answered(alloc, entrant, round)
+    }
+
+    fn protest(
+        &mut self,
+        alloc: Global,
+        key: &ProtestKey,
+    ) -> Result<Option<ProtestRow>, StoreFault> {
+        self.spend()?;
+        self.store.protest(alloc, key)
+    }
+
+    fn protests_made(
+        &mut self,
+        alloc: Global,
+        entrant: &Name,
+        round: &RoundId,
+    ) -> Result<u64, StoreFault> {
+        self.spend()?;
+        self.store.protests_made(alloc, entrant, round)
+    }
+
+    fn has_open_protest(&mut self, alloc: Global, round: &RoundId) -> Result<bool, StoreFault> {
+        self.spend()?;
+        self.store.has_open_protest(alloc, round)
+    }
+
+    fn protests_of(
+        &mut self,
+        alloc: Global,
+        entrant: &Name,
+        round: &RoundId,
+    ) -> Result<Vec<ProtestRow>, StoreFault> {
+        self.spend()?;
+        self.store.protests_of(alloc, entrant, round)
+    }
+
+    fn protests_in(
+        &mut self,
+        alloc: Global,
+        round: &RoundId,
+    ) -> Result<Vec<ProtestRow>, StoreFault> {
+        self.spend()?;
+        self.store.protests_in(alloc, round)
+    }
+
+    fn add_protest(&mut self, alloc: Global, row: ProtestRow) -> Result<(), StoreFault> {
+        self.spend()?;
+        self.store.add_protest(alloc, row)
+    }
+
+    fn rule_protest(
+        &mut self,
+        alloc: Global,
+        key: &ProtestKey,
+        ruling: Ruling,
+    ) -> Result<(), StoreFault> {
+        self.spend()?;
+        self.store.rule_protest(alloc, key, ruling)
+    }
+
+    fn feed_protests<K: ProtestSink>(
+        &mut self,
+        alloc: Global,
+        round: &RoundId,
+        sink: &mut K,
+    ) -> Result<(), StoreFault> {
+        self.spend()?;
+        self.store.feed_protests(alloc, round, sink)
     }
 }

@@ -1,8 +1,9 @@
 //! Reads of puzzles, rounds and solutions: what each caller is told, and what it takes of the store.
 use crate::fixtures::{number, puzzle_key, text};
 use crate::limited::LimitedStore;
+use crate::opening::limited_desk;
 use Asked::{Puzzle, Puzzles, Rounds, Solutions};
-use hall_desk::{Desk, PuzzleLine, Reply, RoundLine, StateName, opening_store};
+use hall_desk::{Desk, PuzzleLine, Reply, RoundLine, StateName};
 use hall_policy::{Action, AnswerText, Moment, Request};
 use std::alloc::AllocGlobal;
 use std::process::Abort;
@@ -109,11 +110,7 @@ fn answer(
 /// The opening world over a store that answers so many calls more, after dora has certified bob's puzzle and released
 /// its round.
 fn released(rt: &(impl AllocGlobal + Abort), left: u64) -> Desk<LimitedStore> {
-    let store = opening_store(rt.alloc()).expect(rt, "opening");
-    let mut desk = Desk::new(LimitedStore {
-        store,
-        left: left.wrapping_add(8),
-    });
+    let mut desk = limited_desk(rt, left.wrapping_add(8));
     let t = number(rt, 1_777_700_000);
     let certify = Action::Certify {
         key: puzzle_key(rt, "bob", "p1"),

@@ -1,5 +1,7 @@
 //! Requests to the hall as bytes, and the whole replies to them.
-use hall_desk::{Desk, opening_store};
+use crate::fixtures::request;
+use crate::opening::opening_desk;
+use hall_desk::Desk;
 use hall_http::{Routes, answer_bytes};
 use hall_policy::Moment;
 use hall_store::MapStore;
@@ -20,23 +22,15 @@ type Asked = (
 /// Whether the desk gives the reply.
 fn gives(rt: &(impl AllocGlobal + Abort), desk: &mut Desk<MapStore>, asked: &Asked) -> bool {
     let (moment, key, line, body, status, reply) = asked;
-    let request = format!(in rt.alloc();
-        "{line} HTTP/1.1\r\nHall-Key: {key}\r\nContent-Length: {}\r\n\r\n{body}",
-        body.len()
-    );
+    let request = request(rt, key, line, body);
     let wanted = format!(in rt.alloc();
         "HTTP/1.1 {status}\r\nContent-Type: application/json\r\nContent-Length: {}\r\n\r\n{reply}",
         reply.len()
     );
-    let request = request.expect(rt, "memory");
     let routes = Routes::new(rt.alloc()).expect(rt, "memory");
     let moment = Moment::new(*moment).expect(rt, "moment");
     let answer = answer_bytes(rt.alloc(), &routes, desk, moment, request.as_bytes());
     answer.as_bytes() == wanted.expect(rt, "memory").as_bytes()
-}
-
-fn opening_desk(rt: &(impl AllocGlobal + Abort)) -> Desk<MapStore> {
-    Desk::new(opening_store(rt.alloc()).expect(rt, "opening"))
 }
 
 const OK: &str = "200 OK";
@@ -48,12 +42,13 @@ const FORBIDDEN: &str = "403 Forbidden";
 const NOT_FOUND: &str = "404 Not Found";
 
 /// A newcomer, and a person who is known already.
-const LIST: &str = "name,key,roles\ngil,gil-key-1,entrant+author\neve,eve-key-1,entrant\n";
+pub(crate) const LIST: &str =
+    "name,key,roles\ngil,gil-key-1,entrant+author\neve,eve-key-1,entrant\n";
 
 /// Eve with another key.
-const CONFLICT: &str = "name,key,roles\neve,eve-key-2,entrant\n";
+pub(crate) const CONFLICT: &str = "name,key,roles\neve,eve-key-2,entrant\n";
 
-const SHEET: &str = "\
+pub(crate) const SHEET: &str = "\
     version = 1\n\
     title = \"Noon\"\n\
     start = \"2026-05-02T14:00:00+02:00\"\n\
@@ -72,7 +67,7 @@ const SHEET: &str = "\
     points = 10\n";
 
 /// A sheet of a puzzle that isn't kept.
-const SHEET_OF_NONE: &str = "\
+pub(crate) const SHEET_OF_NONE: &str = "\
     version = 1\n\
     title = \"Noon\"\n\
     start = \"2026-05-02T12:00:00Z\"\n\
@@ -473,7 +468,7 @@ fn malformed_bodies_are_refused_before_the_policy_is_asked(rt: HostRuntime) {
     }
 }
 
-/// Methods that aren't one of the place's, parameters that aren't of their form, and what isn't served yet.
+/// Methods that aren't one of the place's, and parameters that aren't of their form.
 const NO_ROUTES: [&str; 27] = [
     "GET /people",
     "PUT /people",
@@ -497,11 +492,11 @@ const NO_ROUTES: [&str; 27] = [
     "PUT /rounds/r1/solutions",
     "POST /rounds/r1/solutions",
     "GET /rounds/R1/solutions",
-    "PUT /rounds/r1/protests/w1",
-    "GET /rounds/r1/protests",
-    "PUT /rounds/r1/rulings/eve/w1",
-    "POST /rounds/r1/publish",
-    "GET /rounds/r1/table",
+    "POST /rounds/r1/protests/w1",
+    "PUT /rounds/r1/protests",
+    "PUT /rounds/r1/rulings/eve",
+    "GET /rounds/r1/publish",
+    "PUT /rounds/r1/table",
 ];
 
 #[test]

@@ -2,9 +2,10 @@
 use crate::fixtures::{draft, entries, entry, number, text};
 use hall_grid::{Broken, Rule};
 use hall_policy::{
-    AnswerKey, AnswerRow, Mode, Name, ProtestKey, ProtestRow, RoundRow, Ruling, RulingPoints,
+    AnswerKey, AnswerRow, AnswerSink, Mode, Name, ProtestKey, ProtestRow, ProtestSink, RoundRow,
+    Ruling, RulingPoints,
 };
-use hall_score::{Line, standings, table_text, total};
+use hall_score::{Line, Tally, standings, table_text, total};
 use std::alloc::AllocGlobal;
 use std::process::Abort;
 
@@ -20,8 +21,19 @@ fn round(rt: &(impl AllocGlobal + Abort), mode: Mode) -> RoundRow {
 
 /// Eve's answer of this number, at this moment.
 fn answer(rt: &(impl AllocGlobal + Abort), n: u64, moment: u64, right: bool) -> AnswerRow {
+    answer_of(rt, "eve", n, moment, right)
+}
+
+/// The entrant's answer of this number, at this moment.
+fn answer_of(
+    rt: &(impl AllocGlobal + Abort),
+    entrant: &str,
+    n: u64,
+    moment: u64,
+    right: bool,
+) -> AnswerRow {
     let key = AnswerKey {
-        entrant: text(rt, "eve"),
+        entrant: text(rt, entrant),
         round: text(rt, "r1"),
         number: number(rt, 1),
         token: text(rt, "k1"),
@@ -58,6 +70,10 @@ const TABLE: &str = "   1 ana                            40
    1 eve                            40
    3 fay                            30
    4 gus                            -5
+";
+
+const TABLE_OF_TWO: &str = "   1 fay                           113
+   2 eve                            43
 ";
 
 #[test]
@@ -99,4 +115,30 @@ fn table_of_four(rt: HostRuntime) {
         total: -5,
     };
     assert!(rt; lines.last() == Some(&last));
+}
+
+/// Gives the sink the protest.
+fn protest_to<K: ProtestSink>(rt: &impl Abort, sink: &mut K, row: &ProtestRow) {
+    sink.take(row).expect(rt, "protest");
+}
+
+/// Gives the sink the answer.
+fn answer_to<K: AnswerSink>(rt: &impl Abort, sink: &mut K, row: &AnswerRow) {
+    sink.take(row).expect(rt, "answer");
+}
+
+#[test]
+fn a_tally_gives_the_totals_of_a_round(rt: HostRuntime) {
+    let mut tally = Tally::new(rt.alloc(), round(&rt, Mode::Instant));
+    protest_to(&rt, &mut tally, &upheld(&rt, 3));
+    for (entrant, n, moment, right) in [
+        ("eve", 1, 1_777_715_999, true),
+        ("fay", 1, 1_777_713_000, false),
+        ("fay", 2, 1_777_713_630, true),
+    ] {
+        answer_to(&rt, &mut tally, &answer_of(&rt, entrant, n, moment, right));
+    }
+    let totals = tally.totals().expect(&rt, "memory");
+    let table = table_text(rt.alloc(), totals.as_slice()).expect(&rt, "memory");
+    assert_eq!(rt; table.as_str(), TABLE_OF_TWO);
 }

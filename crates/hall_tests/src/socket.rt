@@ -1,5 +1,5 @@
 //! Connections over sockets.
-use hall_desk::{Desk, opening_store};
+use crate::opening::opening_desk;
 use hall_http::{Clock, ServeEnd, SystemClock, serve_socket};
 use std::io;
 use std::io::Write;
@@ -13,7 +13,7 @@ fn the_last_reply_reaches_a_client_that_sends_more(rt: HostRuntime) -> Result<()
     client.write_all(b"GET /nothing HTTP/1.1\r\n\r\nno request\r\n\r\n")?;
     client.write_all(&[b'x'; 60_000])?;
     let (stream, _) = listener.accept()?;
-    let mut desk = Desk::new(opening_store(rt.alloc())?);
+    let mut desk = opening_desk(&rt);
     let mut clock = SystemClock::new(&rt);
     let ended = serve_socket(rt.alloc(), &mut desk, &stream, &mut clock)?;
     assert!(rt; ended == ServeEnd::BadHead);

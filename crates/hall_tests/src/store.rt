@@ -30,16 +30,6 @@ fn person(rt: &(impl AllocGlobal + Abort), name: &str, key: &str) -> Person {
     }
 }
 
-/// Whom a store is asked to add, by name and key, whether it does, and whether ada and bob are there then.
-const PEOPLE: [(&str, &str, bool, bool, bool); 6] = [
-    ("ada", "ada-key-1", true, true, false),
-    ("bob", "ada-key-1", false, true, false),
-    ("ada", "bob-key-1", false, true, false),
-    ("ada", "ada-key-1", false, true, false),
-    ("bob", "bob-key-1", true, true, true),
-    ("bob", "ada-key-1", false, true, true),
-];
-
 /// Whether it is the person of the name and key that was found, where one is wanted, and else nobody.
 fn is_person(found: &Option<Person>, name: &str, key: &str, is_wanted: bool) -> bool {
     match found {
@@ -67,33 +57,10 @@ fn finds(
         && is_person(&by_name.expect(rt, "memory"), name, key, is_wanted)
 }
 
-#[test]
-fn people_have_names_and_keys_of_their_own(rt: HostRuntime) {
-    let mut store = MapStore::new(rt.alloc());
-    for (place, (name, key, is_added, ada, bob)) in PEOPLE.iter().enumerate() {
-        let added = store.add_person(person(&rt, name, key));
-        assert!(rt; added.expect(&rt, "memory") == *is_added, "row {place}");
-        assert!(rt;
-            finds(&rt, &mut store, "ada", "ada-key-1", *ada),
-            "row {place}: ada"
-        );
-        assert!(rt;
-            finds(&rt, &mut store, "bob", "bob-key-1", *bob),
-            "row {place}: bob"
-        );
-        assert!(rt;
-            finds(&rt, &mut store, "al", "key-of-al", false),
-            "row {place}: al"
-        );
-    }
-}
-
 /// A store of people with these names and keys.
-fn store_of(rt: &(impl AllocGlobal + Abort), names: [(&str, &str); 3]) -> MapStore {
+fn store_of(rt: &(impl AllocGlobal + Abort), names: &[(&str, &str)]) -> MapStore {
     let mut store = MapStore::new(rt.alloc());
-    for (name, key) in names {
-        assert!(rt; store.add_person(person(rt, name, key)).expect(rt, "memory"));
-    }
+    import(rt, &mut store, &people(rt, names));
     store
 }
 
@@ -183,7 +150,7 @@ fn store_with_puzzles(rt: &(impl AllocGlobal + Abort)) -> MapStore {
         ("bo", "bo-key-01"),
         ("bobo", "bobo-key-1"),
     ];
-    let mut store = store_of(rt, people);
+    let mut store = store_of(rt, &people);
     for (place, (author, label, puzzle, count)) in PUZZLES.iter().enumerate() {
         put(rt, &mut store, puzzle_row(rt, author, label, puzzle));
         let counted = store.puzzles_put(rt.alloc(), &text(rt, author));
@@ -284,29 +251,18 @@ fn round_text(rt: &(impl AllocGlobal + Abort), store: &mut MapStore, id: &str) -
     words
 }
 
-/// Which drafts a store is asked to add: the id, two puzzles, whether it is released or published, whether the store
-/// adds it; and which rounds then use p1 and p2.
-const DRAFTS: [(&str, (&str, &str), (bool, bool), bool, &str, &str); 9] = [
-    ("r1", ("p2", "p1"), (true, false), false, "", ""),
-    ("r1", ("p2", "p1"), (false, true), false, "", ""),
-    ("r1", ("p2", "p3"), (false, false), false, "", ""),
-    ("r1", ("p9", "p2"), (false, false), false, "", ""),
-    ("r1", ("p2", "p1"), (false, false), true, "r1", "r1"),
-    ("r1", ("p1", "p10"), (false, false), false, "r1", "r1"),
-    ("r2", ("p2", "p"), (false, false), false, "r1", "r1"),
-    ("r0", ("p10", "p2"), (false, false), true, "r1", "r0 r1"),
-    ("r3", ("p1", "p10"), (false, false), true, "r1 r3", "r0 r1"),
+/// Drafts put in turn, by id and puzzles; and which rounds use p1 and p2 then.
+const DRAFTS: [(&str, (&str, &str), &str, &str); 3] = [
+    ("r1", ("p2", "p1"), "r1", "r1"),
+    ("r0", ("p10", "p2"), "r1", "r0 r1"),
+    ("r3", ("p1", "p10"), "r1 r3", "r0 r1"),
 ];
 
 /// A store with the drafts r0, r1 and r3.
 fn store_with_drafts(rt: &(impl AllocGlobal + Abort)) -> MapStore {
     let mut store = store_with_puzzles(rt);
-    for (place, (id, labels, flags, is_added, p1, p2)) in DRAFTS.iter().enumerate() {
-        let mut row = round_row(rt, id, *labels);
-        row.round.released = flags.0;
-        row.round.published = flags.1;
-        let added = store.add_draft(row).expect(rt, "memory");
-        assert!(rt; added == *is_added, "row {place}");
+    for (place, (id, labels, p1, p2)) in DRAFTS.iter().enumerate() {
+        put_round(rt, &mut store, round_row(rt, id, *labels));
         assert_eq!(rt;
             rounds_using(rt, &mut store, "p1").as_str(),
             *p1,
@@ -322,7 +278,7 @@ fn store_with_drafts(rt: &(impl AllocGlobal + Abort)) -> MapStore {
 }
 
 #[test]
-fn drafts_are_of_puzzles_that_are_kept(rt: HostRuntime) {
+fn drafts_are_kept_with_their_puzzles(rt: HostRuntime) {
     let mut store = store_with_drafts(&rt);
     for (id, words) in [
         ("r0", "draft p10 p2"),
@@ -569,7 +525,7 @@ fn a_list_adds_those_who_are_unknown(rt: HostRuntime) {
         ("bo", "bo-key-01"),
         ("ada", "ada-key-1"),
     ];
-    let mut store = store_of(&rt, known);
+    let mut store = store_of(&rt, &known);
     for (list, wanted) in [
         (0, "ada bo bob dee"),
         (0, "ada bo bob dee"),

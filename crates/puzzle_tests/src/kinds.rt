@@ -1,5 +1,5 @@
 //! Puzzles of any kind, by their texts: judged, searched and visited.
-ghost use Rattle.std.specs.Prelude.{◌≡◌};
+ghost use Rattle.std.specs.Prelude.{◌≡◌, ◌<◌, ◌+◌, ◌-◌, ◌^◌, IfOk};
 ghost use Rattle.hall_grid.specs.Answer.{IsFilling};
 ghost use Rattle.hall_solve.specs.Question.{IsPartial};
 
@@ -56,7 +56,7 @@ fn search_fresh<R: Rules + Drop>(
 ) -> Result<(Outcome, u64), AllocError>
     requires fresh { R.visits rules ≡ 0 }
     requires not_asked { R.asked rules ≡ 0 }
-    requires start { IsPartial (R.question rules) start.now }
+    requires start { IsPartial (R.question rules) start.now.places }
 {
     let outcome = search(alloc, &mut rules, start, budget)?;
     Ok((outcome, rules.visits()))
@@ -136,8 +136,8 @@ fn value_of(kind: Kind, letter: u8) -> Option<u8> {
 
 /// Sets the place where it is open and may have the value.
 fn set_place<R: Rules>(rules: &R, partial: &mut Partial, place: usize, value: u8)
-    requires { IsPartial (R.question rules.now) partial.old }
-    ensures { IsPartial (R.question rules.now) partial.new }
+    requires { IsPartial (R.question rules.now) partial.old.places }
+    ensures { IsPartial (R.question rules.now) partial.new.places }
 {
     if place < partial.len() && partial.get(place).is_none() && value < rules.values() {
         partial.set(place, value);
@@ -146,8 +146,8 @@ fn set_place<R: Rules>(rules: &R, partial: &mut Partial, place: usize, value: u8
 
 /// Sets the open places whose letters say a value.
 fn set_places<R: Rules>(rules: &R, partial: &mut Partial, kind: Kind, text: &[u8])
-    requires { IsPartial (R.question rules.now) partial.old }
-    ensures { IsPartial (R.question rules.now) partial.new }
+    requires { IsPartial (R.question rules.now) partial.old.places }
+    ensures { IsPartial (R.question rules.now) partial.new.places }
 {
     let mut place: usize = 0;
     for letter in text {
@@ -160,6 +160,23 @@ fn set_places<R: Rules>(rules: &R, partial: &mut Partial, kind: Kind, text: &[u8
     }
 }
 
+/// A visit that leaves the partial board as it was.
+fn visit_undone<R: Rules>(
+    alloc: Global,
+    rules: &mut R,
+    partial: &mut Partial,
+) -> Result<(), AllocError>
+    requires countable { R.visits rules.old < 2 ^ 64 - 1 }
+    requires partial { IsPartial (R.question rules.old) partial.old.places }
+    ensures partial { IfOk result (λ _. IsPartial (R.question rules.new) partial.new.places) }
+    ensures counted { R.visits rules.new ≡ R.visits rules.old + 1 }
+{
+    let mark = partial.mark();
+    rules.propagate(alloc, partial)?;
+    partial.undo_to(mark);
+    Ok(())
+}
+
 /// What the last of several visits with fresh rules to a partial board leaves, or nothing where that finds no solution.
 fn visit_fresh<R: Rules + Drop>(
     alloc: Global,
@@ -170,12 +187,11 @@ fn visit_fresh<R: Rules + Drop>(
     visits: u8,
 ) -> Result<Option<Partial>, AllocError>
     requires fresh { R.visits rules ≡ 0 }
-    requires start { IsPartial (R.question rules) partial }
+    requires start { IsPartial (R.question rules) partial.places }
 {
     set_places(&rules, &mut partial, kind, text);
     for _ in 1..visits {
-        let mut copy = partial.copy()?;
-        rules.propagate(alloc, &mut copy)?;
+        visit_undone(alloc, &mut rules, &mut partial)?;
     }
     match rules.propagate(alloc, &mut partial)? {
         Step::Dead => Ok(None),

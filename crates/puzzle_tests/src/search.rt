@@ -136,3 +136,47 @@ fn finds_what_trying_all_fillings_finds(rt: HostRuntime) -> Result<(), Fail> {
     assert_eq!(rt; seen, [true; 3]);
     Ok(())
 }
+
+/// Puzzles, the least budget with which a search of them doesn't give up, and what it finds with it and with any larger one.
+const OUTCOMES: [(&str, u64, &str); 13] = [
+    ("sudoku/4/4/g2g4g4g221434321", 4, "more"),
+    ("sudoku/4/4/v", 16, "more"),
+    (
+        "sudoku/9/9/53h7j6h195j98j6g8i6i34h8g3h17i2i6g6j28j419h5j8h79",
+        1,
+        "one",
+    ),
+    ("slither/1/1/a", 1, "none"),
+    ("slither/1/1/g", 3, "one"),
+    ("slither/2/2/222c", 1, "one"),
+    ("slither/3/3/21210121c", 1, "one"),
+    ("nurikabe/2/1/.g", 3, "more"),
+    ("nurikabe/2/2/1i", 1, "one"),
+    ("nurikabe/2/2/2i", 3, "more"),
+    ("nurikabe/2/2/j", 1, "none"),
+    ("nurikabe/5/5/-19zj", 1, "one"),
+    ("nurikabe/6/6/1zu", 1, "none"),
+];
+
+/// The kind of an outcome.
+fn kind_of(outcome: &Outcome) -> &'static str {
+    match outcome {
+        Outcome::None => "none",
+        Outcome::One(_) => "one",
+        Outcome::More(_, _) => "more",
+        Outcome::GaveUp => "gave up",
+    }
+}
+
+#[test]
+fn finds_the_same_with_each_budget(rt: HostRuntime) -> Result<(), Fail> {
+    for (text, least, found) in OUTCOMES {
+        let puzzle = parse_puzzle(rt.alloc(), text.as_bytes())?;
+        for budget in 0..51 {
+            let (outcome, _) = search_puzzle(rt.alloc(), &puzzle, budget)?;
+            let expected = if budget < least { "gave up" } else { found };
+            assert_eq!(rt; kind_of(&outcome), expected, "{text} {budget}");
+        }
+    }
+    Ok(())
+}

@@ -27,7 +27,12 @@ impl Look for Below {
         1
     }
 
-    fn look(&self, _alloc: Global, partial: &Partial, spot: usize) -> Result<Finding, AllocError> {
+    fn look(
+        &self,
+        _alloc: Global,
+        partial: &mut Partial,
+        spot: usize,
+    ) -> Result<Finding, AllocError> {
         let found = match partial.get(spot) {
             Some(value) if value >= self.limit => Finding::Impossible,
             None if self.limit == 0 => Finding::Impossible,
@@ -178,20 +183,22 @@ fn wastes_no_visits(rt: HostRuntime) -> Result<(), Fail> {
 }
 
 #[test]
-fn sets_and_copies_places(rt: HostRuntime) -> Result<(), Fail> {
+fn sets_and_undoes_places(rt: HostRuntime) -> Result<(), Fail> {
     let mut board = Partial::new(rt.alloc(), 3)?;
     assert_eq!(rt; board.len(), 3);
     assert_eq!(rt; board.first_unset(), Some(0));
     board.set(0, 7);
+    let mark = board.mark();
     board.set(2, 9);
-    let mut other = board.copy()?;
-    assert_eq!(rt; other.first_unset(), Some(1));
-    other.set(1, 8);
-    assert_eq!(rt; other.first_unset(), None);
-    assert_eq!(rt; board.get(1), None);
-    assert_eq!(rt; board.get(2), Some(9));
-    let filling = other.filling(rt.alloc())?;
+    board.set(1, 8);
+    assert_eq!(rt; board.first_unset(), None);
+    let filling = board.filling(rt.alloc())?;
     assert_eq!(rt; filling.as_slice(), [7, 8, 9].as_slice());
+    board.undo_to(mark);
+    assert_eq!(rt; board.as_slice(), [Some(7), None, None].as_slice());
+    assert_eq!(rt; board.first_unset(), Some(1));
+    board.set(1, 4);
+    assert_eq!(rt; board.as_slice(), [Some(7), Some(4), None].as_slice());
     assert_eq!(rt; filling.into_vec().as_slice(), [7, 8, 9].as_slice());
     Ok(())
 }

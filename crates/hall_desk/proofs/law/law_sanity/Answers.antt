@@ -1,4 +1,4 @@
-use Rattle.hall_desk.proofs.OpeningSane.{empty_sane}
+use Rattle.hall_desk.proofs.EmptySane.{empty_sane}
 use Rattle.hall_desk.proofs.Seeding.{seed_sane}
 use Rattle.hall_desk.proofs.StepsSane.{step_sane, run_sane}
 use Rattle.hall_desk.proofs.Promises.{unique_solutions, right_answers}

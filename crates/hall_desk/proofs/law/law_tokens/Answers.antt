@@ -1,5 +1,13 @@
 use Rattle.hall_desk.proofs.Tokens.{tokens_act_once}
+use Rattle.hall_desk.proofs.ProtestTokens.{protest_tokens_act_once}
+use Rattle.hall_desk.proofs.Rulings.{rulings_act_once}
 use Rattle.hall_desk.proofs.law.law_tokens.Goals as goal
 
-pub returns : goal.returns
-returns c = tokens_act_once
+pub returns-clause-answers : goal.returns-clause-answers
+returns-clause-answers c = tokens_act_once
+
+pub returns-clause-protests : goal.returns-clause-protests
+returns-clause-protests c = protest_tokens_act_once
+
+pub returns-clause-rulings : goal.returns-clause-rulings
+returns-clause-rulings c = rulings_act_once

@@ -5,12 +5,12 @@ use Rattle.hall_nurikabe.proofs.deduce.fill_reaches.Goals as goal
 
 pub returns-then-size-from-clause-dead : goal.returns-then-size-from-clause-dead
 returns-then-size-from-clause-dead c = λ _.
-    small_hopeless c.args.position.now.puzzle.now c.args.position.now.kind c.args.position.now.partial.now c.args.position.now.fits c.cells-cell-end.ensures.board.clues c.loop-cell.cell c.in-Number.given c.in-Number.ensures
+    small_hopeless c.args.position.now.puzzle.now c.args.position.now.kind c.args.position.now.partial.now.places c.args.position.now.fits c.cells-cell-end.ensures.board.clues c.loop-cell.cell c.in-Number.given c.in-Number.ensures
     c.args.labels.now c.args.sizes.now c.requires.reaches c.in-Some.label c.in-Some.is (let e = c.from.ensures in omega arith)
 
 pub force_label-requires-clause-always : goal.force_label-requires-clause-always
 force_label-requires-clause-always c =
-    tight_forced c.args.position.now.puzzle.now c.args.position.now.kind c.args.position.now.partial.now c.args.position.now.fits c.cells-cell-end.ensures.board.clues c.loop-cell.cell c.in-Number.given c.in-Number.ensures
+    tight_forced c.args.position.now.puzzle.now c.args.position.now.kind c.args.position.now.partial.now.places c.args.position.now.fits c.cells-cell-end.ensures.board.clues c.loop-cell.cell c.in-Number.given c.in-Number.ensures
     c.args.labels.now c.args.sizes.now c.requires.reaches c.in-Some.label c.in-Some.is (let e = c.from-in-Some.ensures in c.if-size-from-2.true ∙ e)
 
 pub bounds-sizes-label : goal.bounds-sizes-label

@@ -8,7 +8,7 @@ owners-requires-clause-labels c = AreCells-from_regions _ c.args.position.now.pu
 
 pub returns-in_default-clause-dead : goal.returns-in_default-clause-dead
 returns-in_default-clause-dead c = λ _.
-    two_hopeless c.args.position.now.puzzle.now c.args.position.now.kind c.args.position.now.partial.now c.args.position.now.fits c.args.labels.now
+    two_hopeless c.args.position.now.puzzle.now c.args.position.now.kind c.args.position.now.partial.now.places c.args.position.now.fits c.args.labels.now
     c.requires.groups.components (rw c.in_default.is at c.in_ok-owners.ensures)
 
 pub exits_of-requires-clause-labels : goal.exits_of-requires-clause-labels
@@ -20,5 +20,5 @@ force_exits-requires-clause-growing c =
     let g = (rw c.deref-2.ensures.value at c.in_ok-growing.ensures) in
     rw c.deref-4.ensures.value
     (λ label h. let k = g.marked label h in
-    group_grows c.args.position.now.puzzle.now c.args.position.now.kind c.args.position.now.partial.now c.args.position.now.fits
+    group_grows c.args.position.now.puzzle.now c.args.position.now.kind c.args.position.now.partial.now.places c.args.position.now.fits
     c.args.position.now.clues c.args.labels.now c.args.sizes.now c.in-Some.owners.items c.requires.groups o label k.0 k.1)

@@ -5,5 +5,5 @@ use Rattle.hall_nurikabe.proofs.deduce.look_at_groups.Goals as goal
 pub force_groups-requires-clause-groups : goal.force_groups-requires-clause-groups
 force_groups-requires-clause-groups c =
     rw (c.deref-2.ensures.value, c.deref-3.ensures.value)
-    (AreRegions-members c.args.position.now.puzzle.now.size _ (IsSetTo c.args.position.now.partial.now 0) _ _ c.in_ok-white.ensures.marked
+    (AreRegions-members c.args.position.now.puzzle.now.size _ (IsSetTo c.args.position.now.partial.now.places 0) _ _ c.in_ok-white.ensures.marked
     (rw (c.size.ensures.size, c.deref.ensures.value) at c.in_ok-groups.ensures))

@@ -11,14 +11,14 @@ exits_of-requires-clause-labels c = rw c.deref-3.ensures.value (AreCells-from_re
 pub force_exits-requires-clause-labels : goal.force_exits-requires-clause-labels
 force_exits-requires-clause-labels c =
     rw c.deref-5.ensures.value
-    (AreComponents-members _ _ _ (IsSetTo c.args.position.now.partial.now 1) _ c.in_ok-walls.ensures.marked (rw (c.size.ensures.size, c.deref.ensures.value) at c.in_ok-labels.ensures))
+    (AreComponents-members _ _ _ (IsSetTo c.args.position.now.partial.now.places 1) _ c.in_ok-walls.ensures.marked (rw (c.size.ensures.size, c.deref.ensures.value) at c.in_ok-labels.ensures))
 
 pub force_exits-requires-clause-growing : goal.force_exits-requires-clause-growing
 force_exits-requires-clause-growing c =
-    let a = AreComponents-members _ _ _ (IsSetTo c.args.position.now.partial.now 1) _ c.in_ok-walls.ensures.marked
+    let a = AreComponents-members _ _ _ (IsSetTo c.args.position.now.partial.now.places 1) _ c.in_ok-walls.ensures.marked
     (rw (c.size.ensures.size, c.deref.ensures.value) at c.in_ok-labels.ensures) in
     let two : c.labels_differ.result ≡ true = search rules in
     let apart = (rw c.deref-2.ensures.value at (c.labels_differ.ensures.0 two)) in
     let g = (rw c.deref-4.ensures.value at c.in_ok-growing.ensures) in
     rw (c.deref-5.ensures.value, c.deref-7.ensures.value)
-    (λ label h. wall_grows c.args.position.now.puzzle.now c.args.position.now.kind c.args.position.now.partial.now c.args.position.now.fits c.in_ok-labels.labels.items a apart label (g.marked label h))
+    (λ label h. wall_grows c.args.position.now.puzzle.now c.args.position.now.kind c.args.position.now.partial.now.places c.args.position.now.fits c.in_ok-labels.labels.items a apart label (g.marked label h))

@@ -13,8 +13,8 @@ loop-cell-preserved c = elim c.if-is_between.branch [
   | then-is_between w ↦
       let all = c.cells-cell-end.ensures.cells in
       rw w.forced-is
-      (AreForced-set c.args.position.now.puzzle.now c.args.position.now.partial.now c.loop-cell.forced c.loop-cell.cell 1 (omega arith) (omega arith)
-      (between_forced c.args.position.now.puzzle.now c.args.position.now.kind c.args.position.now.partial.now c.args.position.now.fits c.args.labels.now c.requires.labels c.args.owners.now c.loop-cell.cell (omega arith)
+      (AreForced-set c.args.position.now.puzzle.now c.args.position.now.partial.now.places c.loop-cell.forced c.loop-cell.cell 1 (omega arith) (omega arith)
+      (between_forced c.args.position.now.puzzle.now c.args.position.now.kind c.args.position.now.partial.now.places c.args.position.now.fits c.args.labels.now c.requires.labels c.args.owners.now c.loop-cell.cell (omega arith)
       c.requires.owners (rw c.size-size.ensures.size at (c.is_between.ensures w.if-is_between.true)))
       c.loop-cell.invariant)
   | else-is_between w ↦ rw w.forced-is c.loop-cell.invariant

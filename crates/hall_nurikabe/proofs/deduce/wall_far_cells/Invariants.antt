@@ -2,4 +2,4 @@ use Rattle.hall_nurikabe.specs.Forced.{AreForced}
 use Rattle.hall_nurikabe.proofs.deduce.wall_far_cells.Given as goal
 
 abbrev pub invariant-loop-cell : goal.invariant-loop-cell
-invariant-loop-cell l = AreForced l.position.puzzle.now l.position.partial.now l.forced
+invariant-loop-cell l = AreForced l.position.puzzle.now l.position.partial.now.places l.forced

@@ -11,18 +11,18 @@ loop-cell-preserved c =
     let size = c.loop-cell.invariant.size in
     elim c.if-is_number.branch [
       | then-is_number w ↦
-          rw (w.partial-is, w.set.ensures)
-          (Begun-set c.args.puzzle.now c.loop-cell.partial c.loop-cell.cell c.clue.result c.clue.ensures (c.is_number.ensures.0 w.if-is_number.true)
+          rw (w.partial-is, w.set.ensures.places)
+          (Begun-set c.args.puzzle.now c.loop-cell.partial.places c.loop-cell.cell c.clue.result c.clue.ensures (c.is_number.ensures.0 w.if-is_number.true)
           (omega (arith, c.cells-cell-end.ensures.cells)) c.loop-cell.invariant)
       | else-is_number w ↦
           rw w.partial-is
-          (Begun-skip c.args.puzzle.now c.loop-cell.partial c.loop-cell.cell c.clue.result c.clue.ensures (λ h.
+          (Begun-skip c.args.puzzle.now c.loop-cell.partial.places c.loop-cell.cell c.clue.result c.clue.ensures (λ h.
           let yes : c.is_number.result ≡ true = c.is_number.ensures.1 h in
           let no : c.is_number.result ≡ false = w.if-is_number.false in
           absurd (cc)) c.loop-cell.invariant)
     ]
 
-is : (c : goal.After-loop-cell) → c.loop-cell.partial ≡ start_of Nurikabe c.args.puzzle.now
+is : (c : goal.After-loop-cell) → c.loop-cell.partial.places ≡ start_of Nurikabe c.args.puzzle.now
 is c =
     let all = c.cells-cell-end.ensures.cells in
     start_is _ _ c.loop-cell.cell c.cells-cell-end.ensures.board.clues (omega arith) c.loop-cell.invariant

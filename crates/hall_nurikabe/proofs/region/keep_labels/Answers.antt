@@ -7,7 +7,7 @@ use Rattle.hall_nurikabe.proofs.region.keep_labels.Goals.{then-ne, else-ne}
 
 pub loop-place-preserved : goal.loop-place-preserved
 loop-place-preserved c =
-    let p = c.args.partial.now in
+    let p = c.args.partial.now.places in
     let place = c.loop-place.place in
     let small : place < length c.loop-place.labels = omega (arith, c.loop-place-test.true, c.loop-place.invariant.exact) in
     elim c.if-ne.branch [
@@ -26,5 +26,5 @@ loop-place-preserved c =
 
 pub returns : goal.returns
 returns c =
-    AreKept-from_below c.args.partial.now c.args.value c.loop-place.place c.args.labels.now c.loop-place.labels
+    AreKept-from_below c.args.partial.now.places c.args.value c.loop-place.place c.args.labels.now c.loop-place.labels
     (omega (arith, c.loop-place-test.false)) c.loop-place.invariant

@@ -1,5 +1,5 @@
 use Rattle.std.proofs.Common.{◌≡◌, ◌*◌, take, pos, ◌+ℤ◌, neg_ℤ, ◌≤ℤ◌, fold}
-use Rattle.hall_score.specs.Total.{ruling_points}
+use Rattle.hall_policy.specs.World.{ruling_points}
 use Rattle.hall_score.proofs.points.protest_points.Given as goal
 
 -- the points of the protests so far, at most 1,000 each

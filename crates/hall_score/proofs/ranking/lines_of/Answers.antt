@@ -7,6 +7,6 @@ loop-entrant-preserved c =
     let totals = c.args.totals.now in
     let more = map_more (line_of totals) totals c.loop-entrant.entrant-index c.entrant-item.result c.loop-entrant-test.true in
     let item = c.entrant-item.is in
-    let made = c.in_ok-line_of.ensures in
+    let made = c.in_ok-line_of.ensures totals c.requires.moved in
     let pushed = c.in_ok-push.ensures.items in
     cc (more, item, made, pushed, c.loop-entrant.invariant)

@@ -24,16 +24,16 @@ OnErr-puzzle layout board old new (Err x) e are h = subst (λ b. Narrows (questi
 
 pub returns-clause-deduced : goal.returns-clause-deduced
 returns-clause-deduced c =
-    IfOk-puzzle c.in_ok-chains.chains c.args.puzzle.now c.args.partial.now c.sweep.new.partial c.sweep.result c.in_ok-chains.ensures.board c.in_ok-chains.ensures.lines
+    IfOk-puzzle c.in_ok-chains.chains c.args.puzzle.now c.args.partial.now.places c.sweep.new.partial.places c.sweep.result c.in_ok-chains.ensures.board c.in_ok-chains.ensures.lines
     c.sweep.ensures.deduced
 
 pub returns-clause-err : goal.returns-clause-err
 returns-clause-err c =
-    OnErr-puzzle c.in_ok-chains.chains c.args.puzzle.now c.args.partial.now c.sweep.new.partial c.sweep.result c.in_ok-chains.ensures.board c.in_ok-chains.ensures.lines
+    OnErr-puzzle c.in_ok-chains.chains c.args.puzzle.now c.args.partial.now.places c.sweep.new.partial.places c.sweep.result c.in_ok-chains.ensures.board c.in_ok-chains.ensures.lines
     c.sweep.ensures.err
 
 pub returns-then-has_wrong_loop-clause-deduced : goal.returns-then-has_wrong_loop-clause-deduced
 returns-then-has_wrong_loop-clause-deduced c =
-    subst (λ b. IsDeduced (question_of Slither b) c.args.partial.now c.args.partial.now Dead) c.in_ok-chains.ensures.board
-    (IsDeduced-puzzle c.in_ok-chains.chains c.args.partial.now c.in_ok-chains.ensures.lines c.args.partial.now Dead
-    (c.has_wrong_loop.ensures.hopeless c.if-has_wrong_loop.true c.args.partial.now))
+    subst (λ b. IsDeduced (question_of Slither b) c.args.partial.now.places c.args.partial.now.places Dead) c.in_ok-chains.ensures.board
+    (IsDeduced-puzzle c.in_ok-chains.chains c.args.partial.now.places c.in_ok-chains.ensures.lines c.args.partial.now.places Dead
+    (c.has_wrong_loop.ensures.hopeless c.if-has_wrong_loop.true c.args.partial.now.places))

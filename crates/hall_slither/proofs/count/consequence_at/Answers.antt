@@ -22,13 +22,13 @@ pub returns-clause-told : goal.returns-clause-told
 returns-clause-told c =
     let sides_are : c.sides_round.result ≡ sides_round c.args.puzzle.now.size c.args.centre =
     c.sides_round.ensures.sides ∙ ap (λ size. sides_round size c.args.centre) c.size.ensures.size in
-    let room : all_sides c.size.result ≡ length c.args.partial.now = ap all_sides c.size.ensures.size ∙ sym c.requires.partial.size in
-    let below : AreBelow (length c.args.partial.now) c.sides_round.result = subst (λ n. AreBelow n c.sides_round.result) room c.sides_round.ensures.below in
-    IsTold-from_counts (question_of Slither c.args.puzzle.now) c.args.partial.now (sides_round c.args.puzzle.now.size c.args.centre) c.demand_at.result
+    let room : all_sides c.size.result ≡ length c.args.partial.now.places = ap all_sides c.size.ensures.size ∙ sym c.requires.partial.size in
+    let below : AreBelow (length c.args.partial.now.places) c.sides_round.result = subst (λ n. AreBelow n c.sides_round.result) room c.sides_round.ensures.below in
+    IsTold-from_counts (question_of Slither c.args.puzzle.now) c.args.partial.now.places (sides_round c.args.puzzle.now.size c.args.centre) c.demand_at.result
     c.lines_and_open-lines.result.0 c.lines_and_open-lines.result.1 refl c.requires.partial.size
-    (subst (λ sides. AreBelow (length c.args.partial.now) sides) sides_are below)
-    (c.lines_and_open-lines.ensures.lines ∙ ap (λ sides. count_sides (has_line c.args.partial.now) sides) sides_are)
-    (c.lines_and_open-lines.ensures.unset ∙ ap (λ sides. count_sides (is_open c.args.partial.now) sides) sides_are)
+    (subst (λ sides. AreBelow (length c.args.partial.now.places) sides) sides_are below)
+    (c.lines_and_open-lines.ensures.lines ∙ ap (λ sides. count_sides (has_line c.args.partial.now.places) sides) sides_are)
+    (c.lines_and_open-lines.ensures.unset ∙ ap (λ sides. count_sides (is_open c.args.partial.now.places) sides) sides_are)
     (λ f s. c.demand_at.ensures.meets f s.right)
     c.consequence_of.result c.consequence_of.ensures
 
@@ -36,8 +36,8 @@ pub returns-clause-silent : goal.returns-clause-silent
 returns-clause-silent c = λ nothing.
     let sides_are : c.sides_round.result ≡ sides_round c.args.puzzle.now.size c.args.centre =
     c.sides_round.ensures.sides ∙ ap (λ size. sides_round size c.args.centre) c.size.ensures.size in
-    IsSilent-from c.args.puzzle.now c.args.partial.now c.args.centre c.demand_at.result c.lines_and_open-lines.result.0 c.lines_and_open-lines.result.1
+    IsSilent-from c.args.puzzle.now c.args.partial.now.places c.args.centre c.demand_at.result c.lines_and_open-lines.result.0 c.lines_and_open-lines.result.1
     c.demand_at.ensures.demand
-    (c.lines_and_open-lines.ensures.lines ∙ ap (λ sides. count_sides (has_line c.args.partial.now) sides) sides_are)
-    (c.lines_and_open-lines.ensures.unset ∙ ap (λ sides. count_sides (is_open c.args.partial.now) sides) sides_are)
+    (c.lines_and_open-lines.ensures.lines ∙ ap (λ sides. count_sides (has_line c.args.partial.now.places) sides) sides_are)
+    (c.lines_and_open-lines.ensures.unset ∙ ap (λ sides. count_sides (is_open c.args.partial.now.places) sides) sides_are)
     (subst (Follows c.demand_at.result c.lines_and_open-lines.result.0 c.lines_and_open-lines.result.1) nothing c.consequence_of.ensures)

@@ -4,7 +4,7 @@ use Rattle.hall_slither.proofs.count.lines_and_open.Given as goal
 
 abbrev pub invariant-loop-side : goal.invariant-loop-side
 invariant-loop-side l = record {
-  lines : l.lines ≡ count_sides (has_line l.partial) (take l.side-index l.sides);
-  unset : l.unset ≡ count_sides (is_open l.partial) (take l.side-index l.sides);
+  lines : l.lines ≡ count_sides (has_line l.partial.places) (take l.side-index l.sides);
+  unset : l.unset ≡ count_sides (is_open l.partial.places) (take l.side-index l.sides);
   few : l.lines + l.unset ≤ l.side-index;
 }

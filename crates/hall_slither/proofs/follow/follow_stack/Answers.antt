@@ -3,6 +3,7 @@ use Rattle.std.specs.Prelude.{Contains}
 use Rattle.std.proofs.lemmas.List.Elements.{All-pop, Contains-push_cases}
 use Rattle.hall_solve.specs.Question.{Narrows}
 use Rattle.hall_solve.proofs.Boards.{open-keeps}
+use Rattle.hall_solve.proofs.Trails.{Grows-twice}
 use Rattle.hall_solve.specs.declared.deduce.Pass.TheVariants.{Settled, Advanced, Dead}
 use Rattle.hall_slither.specs.Count.{sides_round, IsCentre, IsTold, IsSilent}
 use Rattle.hall_grid.specs.declared.board.Kind.TheVariants.{Slither}
@@ -16,17 +17,18 @@ loop-centre-preserved c =
     let q = question_of Slither c.args.puzzle.now in
     let sides_are : c.sides_round.result ≡ sides_round c.args.puzzle.now.size c.in-Some.centre =
     c.sides_round.ensures.sides ∙ ap (λ size. sides_round size c.in-Some.centre) c.size-size.ensures.size in
-    let told : IsTold q c.loop-centre.partial c.sides_round.result (AllBe c.in-AllBe.value) =
-    subst (λ sides. IsTold q c.loop-centre.partial sides (AllBe c.in-AllBe.value)) (sym sides_are) c.in-AllBe.ensures.told in
+    let told : IsTold q c.loop-centre.partial.places c.sides_round.result (AllBe c.in-AllBe.value) =
+    subst (λ sides. IsTold q c.loop-centre.partial.places sides (AllBe c.in-AllBe.value)) (sym sides_are) c.in-AllBe.ensures.told in
     let among = c.set_open.ensures.among in
-    let narrows = Narrows-among q c.args.partial.now c.loop-centre.partial c.set_open.new.partial c.sides_round.result c.in-AllBe.value refl
+    let narrows = Narrows-among q c.args.partial.now.places c.loop-centre.partial.places c.set_open.new.partial.places c.sides_round.result c.in-AllBe.value refl
     c.loop-centre.invariant.narrows told among in
-    let fewer = fewer_open q c.loop-centre.partial c.set_open.new.partial c.sides_round.result c.in-AllBe.value told among c.in_ok-set_open-in-AllBe.ensures.set in
-    let le = open-keeps c.args.partial.now c.loop-centre.partial (c.requires.partial.size ∙ sym c.loop-centre.invariant.narrows.partial.size)
+    let fewer = fewer_open q c.loop-centre.partial.places c.set_open.new.partial.places c.sides_round.result c.in-AllBe.value told among c.in_ok-set_open-in-AllBe.ensures.set in
+    let le = open-keeps c.args.partial.now.places c.loop-centre.partial.places (c.requires.partial.size ∙ sym c.loop-centre.invariant.narrows.partial.size)
     c.loop-centre.invariant.narrows.keeps in
     record {
       narrows = narrows;
       deduced = (narrows, omega arith);
+      grows = Grows-twice c.args.partial.now c.loop-centre.partial c.set_open.new.partial c.loop-centre.invariant.grows c.set_open.ensures.grows;
       alive = λ (e : Advanced ≡ Dead). cc;
       silent = λ (e : Advanced ≡ Settled). absurd (cc);
       centres = c.in_ok-set_open-in-AllBe.ensures.centres;
@@ -37,11 +39,15 @@ returns-in_err-set_open-in-AllBe-clause-err c =
     let q = question_of Slither c.args.puzzle.now in
     let sides_are : c.sides_round.result ≡ sides_round c.args.puzzle.now.size c.in-Some.centre =
     c.sides_round.ensures.sides ∙ ap (λ size. sides_round size c.in-Some.centre) c.size-size.ensures.size in
-    let told : IsTold q c.loop-centre.partial c.sides_round.result (AllBe c.in-AllBe.value) =
-    subst (λ sides. IsTold q c.loop-centre.partial sides (AllBe c.in-AllBe.value)) (sym sides_are) c.in-AllBe.ensures.told in
-    OnErr-from c.from_residual.result (Narrows q c.args.partial.now c.set_open.new.partial)
-    (Narrows-among q c.args.partial.now c.loop-centre.partial c.set_open.new.partial c.sides_round.result c.in-AllBe.value refl
+    let told : IsTold q c.loop-centre.partial.places c.sides_round.result (AllBe c.in-AllBe.value) =
+    subst (λ sides. IsTold q c.loop-centre.partial.places sides (AllBe c.in-AllBe.value)) (sym sides_are) c.in-AllBe.ensures.told in
+    OnErr-from c.from_residual.result (Narrows q c.args.partial.now.places c.set_open.new.partial.places)
+    (Narrows-among q c.args.partial.now.places c.loop-centre.partial.places c.set_open.new.partial.places c.sides_round.result c.in-AllBe.value refl
     c.loop-centre.invariant.narrows told c.set_open.ensures.among)
+
+pub returns-in_err-set_open-in-AllBe-clause-grows : goal.returns-in_err-set_open-in-AllBe-clause-grows
+returns-in_err-set_open-in-AllBe-clause-grows c =
+    Grows-twice c.args.partial.now c.loop-centre.partial c.set_open.new.partial c.loop-centre.invariant.grows c.set_open.ensures.grows
 
 pub loop-centre-preserved-in-Nothing : goal.loop-centre-preserved-in-Nothing
 loop-centre-preserved-in-Nothing c =
@@ -50,12 +56,13 @@ loop-centre-preserved-in-Nothing c =
     record {
       narrows = before.narrows;
       deduced = before.deduced;
+      grows = before.grows;
       alive = before.alive;
       centres = popped.0;
       silent = λ settled x is. elim (before.silent settled x is) [
         | inl has ↦ elim (Contains-push_cases c.pop.new.self.items c.in-Some.centre x (subst (λ xs. Contains xs x) c.in-Some.ensures.items has)) [
           | inl still ↦ inl still
-          | inr e ↦ inr (subst (IsSilent c.args.puzzle.now c.loop-centre.partial) e (c.in-Nothing.ensures.silent refl))
+          | inr e ↦ inr (subst (IsSilent c.args.puzzle.now c.loop-centre.partial.places) e (c.in-Nothing.ensures.silent refl))
         ]
         | inr silent ↦ inr silent
       ];

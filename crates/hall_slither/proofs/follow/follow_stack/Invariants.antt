@@ -2,6 +2,7 @@ use Rattle.std.proofs.Common.{◌≡◌, ◌≢◌, ◌⊎◌}
 use Rattle.std.specs.Prelude.{All, Contains}
 use Rattle.hall_solve.specs.Question.{Narrows}
 use Rattle.hall_solve.specs.Deduction.{IsDeduced}
+use Rattle.hall_solve.specs.Trail.{Grows}
 use Rattle.hall_solve.specs.declared.deduce.Pass.TheVariants.{Settled, Dead}
 use Rattle.hall_slither.specs.Count.{IsCentre, IsSilent}
 use Rattle.hall_slither.specs.declared.count.Centre.{Centre}
@@ -12,12 +13,13 @@ use Rattle.hall_slither.proofs.follow.follow_stack.Given as goal
 
 abbrev pub invariant-loop-centre : goal.invariant-loop-centre
 invariant-loop-centre l = record {
-  narrows : Narrows (question_of Slither l.puzzle) l.fn.partial l.partial;
-  deduced : IsDeduced (question_of Slither l.puzzle) l.fn.partial l.partial l.pass;
+  narrows : Narrows (question_of Slither l.puzzle) l.fn.partial.places l.partial.places;
+  deduced : IsDeduced (question_of Slither l.puzzle) l.fn.partial.places l.partial.places l.pass;
+  grows : Grows l.fn.partial l.partial;
   alive : l.pass ≢ Dead;
   centres : All (IsCentre l.size) l.stack.items;
-  silent : l.pass ≡ Settled → (centre : Centre) → IsCentre l.puzzle.size centre → Contains l.stack.items centre ⊎ IsSilent l.puzzle l.partial centre;
+  silent : l.pass ≡ Settled → (centre : Centre) → IsCentre l.puzzle.size centre → Contains l.stack.items centre ⊎ IsSilent l.puzzle l.partial.places centre;
 }
 
 abbrev pub decreases-loop-centre : goal.decreases-loop-centre
-decreases-loop-centre l = work l.partial l.stack.items
+decreases-loop-centre l = work l.partial.places l.stack.items

@@ -5,7 +5,7 @@ use Rattle.std.proofs.lemmas.List.{append-nil}
 use Rattle.hall_policy.specs.declared.record.AnswerRow.{AnswerRow}
 use Rattle.hall_store.specs.Keyed.{agree}
 use Rattle.hall_store.specs.declared.slot.AnswerSlot.{AnswerSlot}
-use Rattle.hall_store.proofs.Firsts.{answers_together}
+use Rattle.hall_store.proofs.Firsts.{answers_ahead}
 use Rattle.hall_store.proofs.Ranges.{taken, left}
 use Rattle.hall_store.proofs.answer_reads.answer_rows.Goals as goal
 use Rattle.hall_store.proofs.answer_reads.answer_rows.Goals.{in-None, in-Some+then-not-agree}
@@ -16,8 +16,8 @@ ended rows e = sym (e ∙ append-nil rows)
 pub loop-slot-init : goal.loop-slot-init
 loop-slot-init c =
     let test : AnswerSlot × AnswerRow → Bool = λ e. agree c.args.part e.0 c.args.first.now in
-    answers_together c.args.first.now c.args.part c.requires.first c.args.answers.now.entries c.range-slot-items.ensures.ordered c.requires.kept
-    ∙ ap (λ (es : List (AnswerSlot × AnswerRow)). values_of (take_while test es)) (sym (c.into_iter-slot-iterator.ensures.into_iter_gives ∙ c.range-slot-items.ensures.between tt))
+    answers_ahead c.args.first.now c.args.part c.requires.first c.args.answers.now.entries c.range-slot-items.ensures.ordered c.requires.kept
+    c.into_iter-slot-iterator.result (c.into_iter-slot-iterator.ensures.into_iter_gives ∙ c.range-slot-items.ensures.between tt)
     ∙ ap (λ (rows : List AnswerRow). rows ++ values_of (take_while test c.into_iter-slot-iterator.result)) (sym c.new-rows.ensures.items)
 
 pub loop-slot-preserved : goal.loop-slot-preserved

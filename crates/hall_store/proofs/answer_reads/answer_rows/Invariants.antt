@@ -7,5 +7,5 @@ use Rattle.hall_store.proofs.answer_reads.answer_rows.Given as goal
 -- the rows so far, and those that agree at the head of the rest, are all that agree
 abbrev pub invariant-loop-slot : goal.invariant-loop-slot
 invariant-loop-slot l =
-    filter (λ row. agree l.part (slot_of row.key) l.first) (values_of l.answers.entries)
+    filter (λ row. agree l.part (slot_of row) l.first) (values_of l.answers.entries)
     ≡ l.rows.items ++ values_of (take_while (λ e. agree l.part e.0 l.first) l.slot-iterator)

@@ -6,21 +6,20 @@ use Rattle.hall_policy.specs.declared.record.AnswerRow.{AnswerRow}
 use Rattle.hall_store.specs.Keyed.{agree, slot_of}
 use Rattle.hall_store.specs.declared.slot.AnswerSlot.{AnswerSlot}
 use Rattle.hall_store.specs.declared.slot.Part.TheVariants.{Puzzle}
-use Rattle.hall_store.proofs.Firsts.{answers_together}
+use Rattle.hall_store.proofs.Firsts.{answers_ahead}
 use Rattle.hall_store.proofs.Ranges.{taken, left, length-values}
 use Rattle.hall_store.proofs.answer_reads.count_answers.Goals as goal
 
 pub loop-slot-init : goal.loop-slot-init
 loop-slot-init c =
     let test : AnswerSlot × AnswerRow → Bool = λ e. agree Puzzle e.0 c.args.first.now in
-    let ours : AnswerRow → Bool = λ row. agree Puzzle (slot_of row.key) c.args.first.now in
+    let ours : AnswerRow → Bool = λ row. agree Puzzle (slot_of row) c.args.first.now in
     let from = c.into_iter-slot-iterator.ensures.into_iter_gives ∙ c.range-slot-items.ensures.between tt in
     let small = c.range-slot-items.ensures.fits in
     record {
       all =
           sym (length-filter ours (values_of c.args.answers.now.entries))
-          ∙ ap length (answers_together c.args.first.now Puzzle c.requires.first c.args.answers.now.entries c.range-slot-items.ensures.ordered c.requires.kept)
-          ∙ ap (λ (es : List (AnswerSlot × AnswerRow)). length (values_of (take_while test es))) (sym from)
+          ∙ ap length (answers_ahead c.args.first.now Puzzle c.requires.first c.args.answers.now.entries c.range-slot-items.ensures.ordered c.requires.kept c.into_iter-slot-iterator.result from)
           ∙ length-values (take_while test c.into_iter-slot-iterator.result)
           ∙ sym (zero-add (length (take_while test c.into_iter-slot-iterator.result)));
       fits = search rules;

@@ -21,31 +21,31 @@ taken_in-requires-3-clause-values c = λ cell v h. omega (arith, c.requires.in_r
 pub returns-in_err-taken_in-clause-none : goal.returns-in_err-taken_in-clause-none
 returns-in_err-taken_in-clause-none c =
     let size = c.args.units.now in
-    let clash = clash_of size (row size) c.rows.result.now c.rows.ensures.division c.args.partial.now c.requires.size c.in_err-taken_in.ensures.none in
+    let clash = clash_of size (row size) c.rows.result.now c.rows.ensures.division c.args.partial.now.places c.requires.size c.in_err-taken_in.ensures.none in
     rw c.from_residual.ensures
-    (λ f s. no_clash size (row size) (λ u k. u * size.cols + k) (row_unit size (square_of size c.rows.ensures.sudoku)) c.args.partial.now c.requires.size f s s.right.rows clash)
+    (λ f s. no_clash size (row size) (λ u k. u * size.cols + k) (row_unit size (square_of size c.rows.ensures.sudoku)) c.args.partial.now.places c.requires.size f s s.right.rows clash)
 
 pub returns-in_err-taken_in-2-clause-none : goal.returns-in_err-taken_in-2-clause-none
 returns-in_err-taken_in-2-clause-none c =
     let size = c.args.units.now in
-    let clash = clash_of size (col size) c.columns.result.now c.columns.ensures.division c.args.partial.now c.requires.size c.in_err-taken_in-2.ensures.none in
+    let clash = clash_of size (col size) c.columns.result.now c.columns.ensures.division c.args.partial.now.places c.requires.size c.in_err-taken_in-2.ensures.none in
     rw c.from_residual-in_err-taken_in-2.ensures
-    (λ f s. no_clash size (col size) (λ u k. k * size.cols + u) (column_unit size (square_of size c.rows.ensures.sudoku)) c.args.partial.now c.requires.size f s s.right.columns clash)
+    (λ f s. no_clash size (col size) (λ u k. k * size.cols + u) (column_unit size (square_of size c.rows.ensures.sudoku)) c.args.partial.now.places c.requires.size f s s.right.columns clash)
 
 pub returns-in_err-taken_in-3-clause-none : goal.returns-in_err-taken_in-3-clause-none
 returns-in_err-taken_in-3-clause-none c =
     let size = c.args.units.now in
-    let clash = clash_of size (box size) c.boxes.result.now c.boxes.ensures.division c.args.partial.now c.requires.size c.in_err-taken_in-3.ensures.none in
+    let clash = clash_of size (box size) c.boxes.result.now c.boxes.ensures.division c.args.partial.now.places c.requires.size c.in_err-taken_in-3.ensures.none in
     rw c.from_residual-in_err-taken_in-3.ensures
-    (λ f s. no_clash size (box size) (box_cell size) (box_unit size (square_of size c.rows.ensures.sudoku)) c.args.partial.now c.requires.size f s s.right.boxes clash)
+    (λ f s. no_clash size (box size) (box_cell size) (box_unit size (square_of size c.rows.ensures.sudoku)) c.args.partial.now.places c.requires.size f s s.right.boxes clash)
 
 pub left_at-left-requires-clause-taken : goal.left_at-left-requires-clause-taken
 left_at-left-requires-clause-taken c =
     let size = c.args.units.now in
     record {
-      rows = taken_of size (row size) c.rows.result.now c.rows.ensures.division c.args.partial.now c.in_ok-taken_in.field-0 c.requires.size c.in_ok-taken_in.ensures.some;
-      columns = taken_of size (col size) c.columns.result.now c.columns.ensures.division c.args.partial.now c.in_ok-taken_in-2.field-0 c.requires.size c.in_ok-taken_in-2.ensures.some;
-      boxes = taken_of size (box size) c.boxes.result.now c.boxes.ensures.division c.args.partial.now c.in_ok-taken_in-3.field-0 c.requires.size c.in_ok-taken_in-3.ensures.some;
+      rows = taken_of size (row size) c.rows.result.now c.rows.ensures.division c.args.partial.now.places c.in_ok-taken_in.field-0 c.requires.size c.in_ok-taken_in.ensures.some;
+      columns = taken_of size (col size) c.columns.result.now c.columns.ensures.division c.args.partial.now.places c.in_ok-taken_in-2.field-0 c.requires.size c.in_ok-taken_in-2.ensures.some;
+      boxes = taken_of size (box size) c.boxes.result.now c.boxes.ensures.division c.args.partial.now.places c.in_ok-taken_in-3.field-0 c.requires.size c.in_ok-taken_in-3.ensures.some;
     }
 
 pub returns-then-is_empty-clause-none : goal.returns-then-is_empty-clause-none
@@ -65,7 +65,7 @@ loop-cell-preserved c =
     let small : c.loop-cell.cell < length c.loop-cell.candidates = omega (arith, c.loop-cell-test.true, c.len-cell-end.ensures, c.requires.size, c.loop-cell.invariant.size, (square_of c.args.units.now c.rows.ensures.sudoku).room) in
     record {
       size = length-set _ _ _ ∙ c.loop-cell.invariant.size;
-      left = at_more (λ k left. IsLeft c.args.units.now c.args.partial.now k left) c.loop-cell.cell c.left_at-left.result c.loop-cell.candidates c.loop-cell.invariant.left small c.left_at-left.ensures;
+      left = at_more (λ k left. IsLeft c.args.units.now c.args.partial.now.places k left) c.loop-cell.cell c.left_at-left.result c.loop-cell.candidates c.loop-cell.invariant.left small c.left_at-left.ensures;
       filled = at_more (λ k left. ((v : ℕ) → Has left v → ⊥) → ⊥) c.loop-cell.cell c.left_at-left.result c.loop-cell.candidates c.loop-cell.invariant.filled small (λ none. let yes = c.is_empty.ensures.1 none in cc);
     }
 
@@ -76,7 +76,7 @@ pub returns-clause-apart : goal.returns-clause-apart
 returns-clause-apart c =
     let size = c.args.units.now in
     record {
-      rows = apart_of size (row size) c.rows.result.now c.rows.ensures.division c.args.partial.now c.requires.size c.in_ok-taken_in.ensures.apart;
-      columns = apart_of size (col size) c.columns.result.now c.columns.ensures.division c.args.partial.now c.requires.size c.in_ok-taken_in-2.ensures.apart;
-      boxes = apart_of size (box size) c.boxes.result.now c.boxes.ensures.division c.args.partial.now c.requires.size c.in_ok-taken_in-3.ensures.apart;
+      rows = apart_of size (row size) c.rows.result.now c.rows.ensures.division c.args.partial.now.places c.requires.size c.in_ok-taken_in.ensures.apart;
+      columns = apart_of size (col size) c.columns.result.now c.columns.ensures.division c.args.partial.now.places c.requires.size c.in_ok-taken_in-2.ensures.apart;
+      boxes = apart_of size (box size) c.boxes.result.now c.boxes.ensures.division c.args.partial.now.places c.requires.size c.in_ok-taken_in-3.ensures.apart;
     }

@@ -2,4 +2,4 @@ use Rattle.hall_sudoku.proofs.Tables.{IsBest}
 use Rattle.hall_sudoku.proofs.candidates.fewest.Given as goal
 
 abbrev pub invariant-loop-cell : goal.invariant-loop-cell
-invariant-loop-cell l = IsBest l.partial l.cell l.best
+invariant-loop-cell l = IsBest l.partial.places l.cell l.best

@@ -26,26 +26,26 @@ loop-cell-preserved c =
     elim c.match-get.branch [
       | in-Some+else-contains w ↦ rw w.taken-is (record {
         size = length-set _ _ _ ∙ c.loop-cell.invariant.size;
-        below = taken_more unit c.args.partial.now c.loop-cell.cell w.in-Some.value w.or.result c.loop-cell.taken c.loop-cell.invariant.below
+        below = taken_more unit c.args.partial.now.places c.loop-cell.cell w.in-Some.value w.or.result c.loop-cell.taken c.loop-cell.invariant.below
             (omega (arith, c.loop-cell-test.true, c.requires.exact))
             small
             (sym c.get.ensures ∙ w.in-Some.is)
             (λ v h. elim ((w.or.ensures v).0 h) [ inl old ↦ inl ((read_has c.loop-cell.taken (get_or c.args.units.now c.loop-cell.cell 0) w.index-taken-unit-in-Some.result v small).0 old) | inr new ↦ inr ((w.of.ensures v).0 new) ]);
-        takes = takes_more unit c.args.partial.now c.loop-cell.cell w.in-Some.value w.or.result c.loop-cell.taken c.loop-cell.invariant.takes small
+        takes = takes_more unit c.args.partial.now.places c.loop-cell.cell w.in-Some.value w.or.result c.loop-cell.taken c.loop-cell.invariant.takes small
             (sym c.get.ensures ∙ w.in-Some.is)
             (λ v old. (w.or.ensures v).1 (inl ((read_has c.loop-cell.taken (get_or c.args.units.now c.loop-cell.cell 0) w.index-taken-unit-in-Some.result v small).1 old)))
             ((w.or.ensures w.in-Some.value).1 (inr ((w.of.ensures w.in-Some.value).1 refl)));
-        apart = apart_more unit c.args.partial.now c.loop-cell.cell w.in-Some.value c.loop-cell.taken c.loop-cell.invariant.apart c.loop-cell.invariant.takes
+        apart = apart_more unit c.args.partial.now.places c.loop-cell.cell w.in-Some.value c.loop-cell.taken c.loop-cell.invariant.apart c.loop-cell.invariant.takes
             (sym c.get.ensures ∙ w.in-Some.is)
             (λ had.
             let yes = w.contains.ensures.1 ((read_has c.loop-cell.taken (get_or c.args.units.now c.loop-cell.cell 0) w.index-taken-unit.result w.in-Some.value small).1 had) in
             let no = w.if-contains.false in cc);
       })
-      | in_default w ↦ rw w.taken-is (record { size = c.loop-cell.invariant.size; below = taken_skip unit c.args.partial.now c.loop-cell.cell c.loop-cell.taken c.loop-cell.invariant.below; takes = takes_skip unit c.args.partial.now c.loop-cell.cell c.loop-cell.taken c.loop-cell.invariant.takes (sym c.get.ensures ∙ none_from c.get.result w.in_default.not-Some); apart = apart_skip unit c.args.partial.now c.loop-cell.cell c.loop-cell.invariant.apart (sym c.get.ensures ∙ none_from c.get.result w.in_default.not-Some) })
+      | in_default w ↦ rw w.taken-is (record { size = c.loop-cell.invariant.size; below = taken_skip unit c.args.partial.now.places c.loop-cell.cell c.loop-cell.taken c.loop-cell.invariant.below; takes = takes_skip unit c.args.partial.now.places c.loop-cell.cell c.loop-cell.taken c.loop-cell.invariant.takes (sym c.get.ensures ∙ none_from c.get.result w.in_default.not-Some); apart = apart_skip unit c.args.partial.now.places c.loop-cell.cell c.loop-cell.invariant.apart (sym c.get.ensures ∙ none_from c.get.result w.in_default.not-Some) })
     ]
 
 pub returns-clause-some : goal.returns-clause-some
-returns-clause-some c = taken_both (λ k. get_or c.args.units.now k 0) c.args.partial.now c.loop-cell.cell c.loop-cell.taken (omega (arith, c.loop-cell-test.false, c.requires.exact)) c.loop-cell.invariant.below c.loop-cell.invariant.takes
+returns-clause-some c = taken_both (λ k. get_or c.args.units.now k 0) c.args.partial.now.places c.loop-cell.cell c.loop-cell.taken (omega (arith, c.loop-cell-test.false, c.requires.exact)) c.loop-cell.invariant.below c.loop-cell.invariant.takes
 
 pub returns-clause-apart : goal.returns-clause-apart
 returns-clause-apart c = λ h. c.loop-cell.invariant.apart h (omega (arith, h.within, c.loop-cell-test.false, c.requires.exact))

@@ -5,7 +5,7 @@ use Rattle.hall_sudoku.proofs.givens.start.Given as goal
 
 abbrev pub invariant-loop-cell : goal.invariant-loop-cell
 invariant-loop-cell l = record {
-  size : length l.partial ≡ cells l.puzzle.size;
-  later : (c : ℕ) → l.cell ≤ c → get_or l.partial c None ≡ None;
-  begin : BeginBelow l.puzzle l.cell l.partial;
+  size : length l.partial.places ≡ cells l.puzzle.size;
+  later : (c : ℕ) → l.cell ≤ c → get_or l.partial.places c None ≡ None;
+  begin : BeginBelow l.puzzle l.cell l.partial.places;
 }

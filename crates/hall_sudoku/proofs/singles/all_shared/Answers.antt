@@ -13,7 +13,7 @@ returns-in_err-shared_in-clause-none c =
     let found = missing_of size (row size) c.rows.result.now c.rows.ensures.division c.args.candidates.now c.side-side.result c.in_err-shared_in.ensures.none in
     let missing : IsMissing (row size) (cells size) c.args.candidates.now size.cols = subst (λ n. IsMissing (row size) (cells size) c.args.candidates.now n) c.side-side.ensures.side found in
     rw c.from_residual.ensures
-    (λ f s. none_missing size (row size) (λ u k. u * size.cols + k) (row_unit size (square_of size c.side-side.ensures.sudoku)) c.args.partial.now c.requires.partial.size f s s.right.rows c.args.candidates.now c.requires.candidates missing)
+    (λ f s. none_missing size (row size) (λ u k. u * size.cols + k) (row_unit size (square_of size c.side-side.ensures.sudoku)) c.args.partial.now.places c.requires.partial.size f s s.right.rows c.args.candidates.now c.requires.candidates missing)
 
 pub returns-in_err-shared_in-2-clause-none : goal.returns-in_err-shared_in-2-clause-none
 returns-in_err-shared_in-2-clause-none c =
@@ -21,7 +21,7 @@ returns-in_err-shared_in-2-clause-none c =
     let found = missing_of size (col size) c.columns.result.now c.columns.ensures.division c.args.candidates.now c.side-side.result c.in_err-shared_in-2.ensures.none in
     let missing : IsMissing (col size) (cells size) c.args.candidates.now size.cols = subst (λ n. IsMissing (col size) (cells size) c.args.candidates.now n) c.side-side.ensures.side found in
     rw c.from_residual-in_err-shared_in-2.ensures
-    (λ f s. none_missing size (col size) (λ u k. k * size.cols + u) (column_unit size (square_of size c.side-side.ensures.sudoku)) c.args.partial.now c.requires.partial.size f s s.right.columns c.args.candidates.now c.requires.candidates missing)
+    (λ f s. none_missing size (col size) (λ u k. k * size.cols + u) (column_unit size (square_of size c.side-side.ensures.sudoku)) c.args.partial.now.places c.requires.partial.size f s s.right.columns c.args.candidates.now c.requires.candidates missing)
 
 pub returns-in_err-shared_in-3-clause-none : goal.returns-in_err-shared_in-3-clause-none
 returns-in_err-shared_in-3-clause-none c =
@@ -29,7 +29,7 @@ returns-in_err-shared_in-3-clause-none c =
     let found = missing_of size (box size) c.boxes.result.now c.boxes.ensures.division c.args.candidates.now c.side-side.result c.in_err-shared_in-3.ensures.none in
     let missing : IsMissing (box size) (cells size) c.args.candidates.now size.cols = subst (λ n. IsMissing (box size) (cells size) c.args.candidates.now n) c.side-side.ensures.side found in
     rw c.from_residual-in_err-shared_in-3.ensures
-    (λ f s. none_missing size (box size) (box_cell size) (box_unit size (square_of size c.side-side.ensures.sudoku)) c.args.partial.now c.requires.partial.size f s s.right.boxes c.args.candidates.now c.requires.candidates missing)
+    (λ f s. none_missing size (box size) (box_cell size) (box_unit size (square_of size c.side-side.ensures.sudoku)) c.args.partial.now.places c.requires.partial.size f s s.right.boxes c.args.candidates.now c.requires.candidates missing)
 
 pub returns-clause-some : goal.returns-clause-some
 returns-clause-some c =

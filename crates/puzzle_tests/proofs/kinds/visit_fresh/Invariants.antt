@@ -6,5 +6,5 @@ abbrev pub invariant-loop : goal.invariant-loop
 invariant-loop g l = record {
   few : g.R.Rules.visits l.rules ≤ l.counter;
   small : l.counter ≤ 255;
-  partial : IsPartial (g.R.Rules.question l.rules) l.partial-inside.places.items;
+  partial : IsPartial (g.R.Rules.question l.rules) l.partial.places;
 }

@@ -7,5 +7,5 @@ pub returns-in-Settled-clause-settled : goal.returns-in-Settled-clause-settled
 returns-in-Settled-clause-settled c =
     let board = c.self.inside.puzzle.now in
     rw (← c.self.view_is)
-    (silent_still (question_of Slither board) board c.follow_counts.new.partial c.close_chains.new.partial c.close_chains.result
+    (silent_still (question_of Slither board) board c.follow_counts.new.partial.places c.close_chains.new.partial.places c.close_chains.result
     (c.in_ok-pass.ensures.silent c.in-Settled.is) c.close_chains.ensures.deduced)

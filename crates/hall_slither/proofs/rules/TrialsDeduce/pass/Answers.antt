@@ -9,5 +9,5 @@ use Rattle.hall_slither.proofs.rules.TrialsDeduce.pass.Goals as goal
 pub returns-in-Settled-clause-settled : goal.returns-in-Settled-clause-settled
 returns-in-Settled-clause-settled c =
     let board = c.args.self.now in
-    silent_still (question_of Slither board) board c.pass.new.partial c.sweep.new.partial c.sweep.result
-    (subst (λ (b : Board). AreSilent b c.pass.new.partial) c.self.view_is (c.in_ok-pass.ensures.settled c.in-Settled.is)) c.sweep.ensures.deduced
+    silent_still (question_of Slither board) board c.pass.new.partial.places c.sweep.new.partial.places c.sweep.result
+    (subst (λ (b : Board). AreSilent b c.pass.new.partial.places) c.self.view_is (c.in_ok-pass.ensures.settled c.in-Settled.is)) c.sweep.ensures.deduced

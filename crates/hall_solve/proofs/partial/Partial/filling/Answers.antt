@@ -1,10 +1,11 @@
 use Rattle.std.proofs.Common.{◌≡◌, ◌∙◌, Some, None, get_or, ap, arith}
+use Rattle.hall_solve.specs.Trail.{Trailed}
 use Rattle.hall_solve.proofs.Boards.{set_within}
 use Rattle.hall_solve.proofs.partial.Partial.filling.Goals as goal
 
 pub returns-clause-extends : goal.returns-clause-extends
 returns-clause-extends c = λ i v h.
-    let there : get_or c.self.inside.places.items i None ≡ Some v = (rw c.self.view_is h) in
+    let there : get_or c.self.inside.places.items i None ≡ Some v = (rw (ap (λ (b : Trailed). b.places) c.self.view_is) h) in
     let here : get_or c.deref-place-items.result.now i None ≡ Some v = ap (λ ps. get_or ps i None) c.deref-place-items.ensures.value ∙ there in
     let within = set_within c.deref-place-items.result.now i v here in
     rw c.new.ensures (c.loop-place.invariant.same i v (omega arith) here)

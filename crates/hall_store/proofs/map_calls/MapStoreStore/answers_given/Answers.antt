@@ -8,12 +8,12 @@ use Rattle.hall_store.proofs.AnswerWorlds.{counted}
 use Rattle.hall_store.proofs.map_calls.MapStoreStore.answers_given.Goals as goal
 
 pub count_answers-requires-clause-first : goal.count_answers-requires-clause-first
-count_answers-requires-clause-first c = ap (λ (s : AnswerSlot). s.token) c.in_ok-first.ensures
+count_answers-requires-clause-first c = ap (λ (s : AnswerSlot). s.n) c.in_ok-first.ensures
 
 pub returns-clause-served : goal.returns-clause-served
 returns-clause-served c = λ _. (
   tt,
   c.count_answers.ensures.count
-      ∙ ap (λ (s : AnswerSlot). count_by (λ (row : AnswerRow). agree Puzzle (slot_of row.key) s) (values_of c.args.self.now.answers.entries)) c.in_ok-first.ensures
-      ∙ counted c.args.self.now c.count_answers.ensures.ordered c.args.entrant.now c.args.round.now c.args.number,
+      ∙ ap (λ (s : AnswerSlot). count_by (λ (row : AnswerRow). agree Puzzle (slot_of row) s) (values_of c.args.self.now.answers.entries)) c.in_ok-first.ensures
+      ∙ counted c.args.self.now c.args.entrant.now c.args.round.now c.args.number,
 )

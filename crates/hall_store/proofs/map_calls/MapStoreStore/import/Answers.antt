@@ -16,6 +16,8 @@ invariant_of-self c =
       rounds_indexed = old.rounds_indexed;
       uses_kept = old.uses_kept;
       answers_kept = old.answers_kept;
+      answer_keys_distinct = old.answer_keys_distinct;
+      protests_kept = old.protests_kept;
     }
 
 pub invariant_of-self-2 : goal.invariant_of-self-2
@@ -30,4 +32,6 @@ invariant_of-self-2 c =
       rounds_indexed = old.rounds_indexed;
       uses_kept = old.uses_kept;
       answers_kept = old.answers_kept;
+      answer_keys_distinct = old.answer_keys_distinct;
+      protests_kept = old.protests_kept;
     }

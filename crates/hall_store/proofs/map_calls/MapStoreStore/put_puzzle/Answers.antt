@@ -29,4 +29,6 @@ invariant_of-self c =
       rounds_indexed = c.args.self.now.rounds_indexed;
       uses_kept = c.args.self.now.uses_kept;
       answers_kept = c.args.self.now.answers_kept;
+      answer_keys_distinct = c.args.self.now.answer_keys_distinct;
+      protests_kept = c.args.self.now.protests_kept;
     }

@@ -32,4 +32,6 @@ invariant_of-self-2 c =
           (λ id row found. indexed_stays old.uses.entries c.index_round.new.uses.entries id row c.index_round.ensures.stay (old.rounds_indexed id row found));
       uses_kept = c.index_round.ensures.kept;
       answers_kept = old.answers_kept;
+      answer_keys_distinct = old.answer_keys_distinct;
+      protests_kept = old.protests_kept;
     }

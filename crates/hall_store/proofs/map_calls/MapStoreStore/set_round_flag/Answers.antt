@@ -62,4 +62,6 @@ invariant_of-self c =
           ((c.get_mut.follows.holds new).3 (search rules)).0 (c.args.self.now.rounds_indexed id row seen) c.args.self.now.rounds_indexed;
       uses_kept = c.args.self.now.uses_kept;
       answers_kept = c.args.self.now.answers_kept;
+      answer_keys_distinct = c.args.self.now.answer_keys_distinct;
+      protests_kept = c.args.self.now.protests_kept;
     }

@@ -9,6 +9,6 @@ use Rattle.hall_sudoku.proofs.singles.UnitsDeduce.pass.Goals as goal
 pub returns-clause-settled : goal.returns-clause-settled
 returns-clause-settled c = λ eq.
     let size = c.args.self.now in
-    let same = subst (λ (x : Pass). IsDeduced (units_question size) c.args.partial.now c.set_soles.new.partial x) eq c.set_soles.ensures.deduced in
+    let same = subst (λ (x : Pass). IsDeduced (units_question size) c.args.partial.now.places c.set_soles.new.partial.places x) eq c.set_soles.ensures.deduced in
     subst (λ q. IsSettled size q) (sym same)
-    (settled_of size c.args.partial.now c.in-Some.candidates c.requires.size c.in-Some.ensures.some c.in-Some.ensures.apart c.in-Some-all_shared.shared c.in-Some-all_shared.ensures.some c.in-Some-all_shared.ensures.complete (c.set_soles.ensures.settled eq))
+    (settled_of size c.args.partial.now.places c.in-Some.candidates c.requires.size c.in-Some.ensures.some c.in-Some.ensures.apart c.in-Some-all_shared.shared c.in-Some-all_shared.ensures.some c.in-Some-all_shared.ensures.complete (c.set_soles.ensures.settled eq))

@@ -1,0 +1,67 @@
+-- The plan of a table.
+use Rattle.std.proofs.Common.{◌≡◌, ◌≢◌, ℕ, List, Option, Some, refl, sym, ap, ◌∙◌, subst}
+use Rattle.hall_policy.specs.World.{World, IsRoundAt}
+use Rattle.hall_policy.specs.Facts.{TrueUpTo, IsRoundFound}
+use Rattle.hall_policy.specs.Decided.{IsDecided, IsDecidedUpTo}
+use Rattle.hall_policy.specs.declared.facts.Facts.{Facts}
+use Rattle.hall_policy.specs.declared.record.RoundRow.{RoundRow}
+use Rattle.hall_policy.specs.declared.record.PuzzleState.TheVariants as state
+use Rattle.hall_policy.specs.declared.request.Action.{Action}
+use Rattle.hall_policy.specs.declared.request.Action.TheVariants.{Table}
+use Rattle.hall_policy.specs.declared.request.Request.{Request}
+use Rattle.hall_policy.specs.declared.rule.Decision.{Decision}
+use Rattle.hall_policy.specs.declared.rule.Decision.TheVariants.{Allow, Deny}
+use Rattle.hall_store.specs.Store.{Content, Kept, Asks, IsRoundKept}
+use Rattle.hall_store.specs.declared.change.Change.TheVariants.{Nothing}
+use Rattle.hall_store.proofs.Knowing.{carried, kept_then}
+use Rattle.hall_desk.specs.Found.{IsCaller}
+use Rattle.hall_desk.specs.Totals.{IsTableOf}
+use Rattle.hall_desk.specs.Step.{Allowed}
+use Rattle.hall_desk.specs.Plans.{IsPlanFor}
+use Rattle.hall_desk.specs.declared.planned.Plan.{Plan}
+use Rattle.hall_desk.specs.declared.reply.Reply.TheVariants as reply
+use Rattle.hall_desk.proofs.Planning.{planned}
+use Rattle.hall_desk.proofs.Telling.{table_told}
+
+module _ (old mid : Content) (facts : Facts) (t : ℕ) (request : Request) (id : List ℕ) (is : request.action ≡ Table id)
+    (caller : Asks old (λ world. IsCaller world request.key facts.caller)) (kept : Kept old mid)
+    (read : mid.honest → mid.serves × IsRoundKept mid.world id facts.round) where
+  -- what the rules read was found
+  found : mid.honest → TrueUpTo 20 facts mid.world request.action
+  found h = table_told mid.world facts request.action id is (read h).1.row
+
+  -- the caller was found before
+  caller_there : mid.honest → IsCaller mid.world request.key facts.caller
+  caller_there h = carried (λ w. IsCaller w request.key facts.caller) old mid kept caller h (read h).0
+
+  module _ (decision : Decision) (decided : IsDecidedUpTo 20 facts request.action t decision) where
+    -- a table that is denied
+    pub table_denied : (rule : ℕ) (plan : Plan) → decision ≡ Deny rule → plan ≡ record { reply = reply.Denied rule; change = Nothing } →
+        mid.honest → mid.serves × IsPlanFor mid.world t request plan
+    table_denied rule plan denied made h = (
+      (read h).0,
+      subst (λ (p : Plan). IsPlanFor mid.world t request p) (sym made)
+          (planned facts mid.world t request (Deny rule) (reply.Denied rule) Nothing (caller_there h)
+          (subst (λ (d : Decision). IsDecided mid.world facts request.action t d) denied (decided mid.world (found h))) state.GaveUp (refl, refl) tt (λ _. refl)),
+    )
+
+    -- a table that is answered
+    pub table_planned : (new : Content) (row : RoundRow) (text : List ℕ) (plan : Plan) → decision ≡ Allow → facts.round ≡ Some row → Kept mid new →
+        (new.honest → new.serves × IsTableOf new.world id row text) → plan ≡ record { reply = reply.Table text; change = Nothing } →
+        new.honest → new.serves × IsPlanFor new.world t request plan
+    table_planned new row text plan allowed seen left served made h =
+        let s : new.serves = (served h).0 in
+        let table = (served h).1 in
+        let at : IsRoundAt new.world id row =
+        carried (λ w. IsRoundAt w id row) mid new left (λ h0 s0. subst (λ (o : Option RoundRow). IsRoundFound mid.world (Some id) o) seen (read h0).1.row) h s in (
+          s,
+          subst (λ (p : Plan). IsPlanFor new.world t request p) (sym made)
+              (planned facts new.world t request Allow (reply.Table text) Nothing
+              (carried (λ w. IsCaller w request.key facts.caller) mid new left (λ h0 s0. caller_there h0) h s)
+              (carried (λ w. IsDecided w facts request.action t Allow) mid new left
+              (λ h0 s0. subst (λ (d : Decision). IsDecided mid.world facts request.action t d) allowed (decided mid.world (found h0))) h s)
+              state.GaveUp
+              (subst (λ (a : Action). Allowed new.world facts.caller a t state.GaveUp (reply.Table text) new.world) (sym is)
+              ((row, table.0, text, at, table.1, table.2, refl), refl))
+              tt (λ no. absurd (no refl))),
+        )

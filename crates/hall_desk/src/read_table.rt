@@ -1,0 +1,76 @@
+//! Table: the totals of a published round, ranked.
+ghost use Rattle.std.specs.Prelude.{◌≡◌};
+ghost use Rattle.hall_policy.specs.declared.request.Action.TheVariants.{Table};
+ghost use Rattle.hall_store.specs.Store.{Asks, Kept, Served};
+ghost use Rattle.hall_desk.specs.Found.{IsCaller};
+ghost use Rattle.hall_desk.specs.Totals.{AreTotals, IsTableOf};
+ghost use Rattle.hall_desk.specs.Plans.{IsPlanFor, FailsIn};
+
+use crate::plan::Turn;
+use crate::planned::Plan;
+use crate::reply::{Reply, TableText};
+use hall_policy::{Decision, Facts, Name, RoundId, RoundRow, decide};
+use hall_score::{Tally, table_text};
+use hall_store::{Store, StoreFault};
+use std::alloc::Global;
+
+/// The plan for the round's table, which is anyone's, with a key or without.
+pub(crate) fn plan_table<S: Store>(
+    turn: &Turn,
+    store: &mut S,
+    round: &RoundId,
+    facts: &mut Facts,
+) -> Result<Plan, StoreFault>
+    requires action { turn.now.request.now.action ≡ Table round.now }
+    requires caller { Asks (S.content store.old) (λ world. IsCaller world turn.now.request.now.key facts.old.caller) }
+    ensures kept { Kept (S.content store.old) (S.content store.new) }
+    ensures fault { FailsIn S.can_fail (S.content store.new) result }
+    ensures served { Served (S.content store.new) result
+        (λ world plan. IsPlanFor world turn.now.t turn.now.request.now plan) }
+{
+    facts.round = store.round(turn.alloc, round)?;
+    match decide(facts, &turn.request.action, turn.t) {
+        Decision::Deny(rule) => Ok(Plan::of(Reply::Denied(rule))),
+        Decision::Repeat => unreachable!(),
+        Decision::Allow => {
+            let Some(row) = &facts.round else {
+                unreachable!()
+            };
+            let text = make_table(turn.alloc, store, round, row)?;
+            Ok(Plan::of(Reply::Table(text)))
+        }
+    }
+}
+
+/// The table of the round.
+fn make_table<S: Store>(
+    alloc: Global,
+    store: &mut S,
+    round: &RoundId,
+    row: &RoundRow,
+) -> Result<TableText, StoreFault>
+    ensures kept { Kept (S.content store.old) (S.content store.new) }
+    ensures fault { FailsIn S.can_fail (S.content store.new) result }
+    ensures served { Served (S.content store.new) result (λ world text. IsTableOf world round.now row.now text) }
+{
+    let totals = find_totals(alloc, store, round, row)?;
+    Ok(TableText::new(table_text(alloc, totals.as_slice())?))
+}
+
+/// The totals of the round's entrants, from its rows, which are given one at a time.
+fn find_totals<S: Store>(
+    alloc: Global,
+    store: &mut S,
+    round: &RoundId,
+    row: &RoundRow,
+) -> Result<Vec<(Name, i64)>, StoreFault>
+    ensures kept { Kept (S.content store.old) (S.content store.new) }
+    ensures fault { FailsIn S.can_fail (S.content store.new) result }
+    ensures served { Served (S.content store.new) result
+        (λ world totals. AreTotals world round.now row.now totals.items) }
+{
+    let mut tally = Tally::new(alloc, row.clone()?);
+    store.feed_protests(alloc, round, &mut tally)?;
+    store.feed_answers(alloc, round, &mut tally)?;
+    Ok(tally.totals()?)
+}

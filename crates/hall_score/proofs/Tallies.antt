@@ -1,0 +1,340 @@
+-- What a tally has taken, row by row.
+use Rattle.std.proofs.Common.{arith, ◌≡◌, ◌<◌, ◌+◌, ◌+ℤ◌, ◌⊎◌, inl, inr, ℕ, ℤ, pos, Bool, true, false, List, [], ◌∷◌, ◌++◌, length, All, Contains, Option, Some, None, refl, sym, ap, subst, get_or, ◌∙◌, append_assoc, filter}
+use Rattle.std.specs.BTreeMap.{is_at}
+use Rattle.std.specs.Ordering.{nat_cmp, ordering_then, ordering_reverse, is_eq}
+use Rattle.std.specs.declared.cmp.Ordering.{Ordering}
+use Rattle.std.specs.declared.cmp.Ordering.TheVariants.{Less, Equal, Greater}
+use Rattle.std.specs.FinMap.{nat_cmp-IsAntisymmetric}
+use Rattle.std.proofs.lemmas.List.{append-nil, length_push}
+use Rattle.std.proofs.lemmas.List.Quantifiers.{all_pairs_push}
+use Rattle.std.proofs.lemmas.List.Sums.{fold_push}
+use Rattle.std.proofs.lemmas.List.Elements.{All-push, All-append, All-head, All-tail, All-contains, Contains-push, Contains-get_or, Contains-append_left, Contains-append_right, Contains-append_cases, Contains-push_cases, filter-append}
+use Rattle.std.proofs.lemmas.Bool.Decides.{nat_tests}
+use Rattle.std.specs.Bool.{Decides}
+use Rattle.std.specs.Cmp.{unsigned_Decides}
+use Rattle.std.specs.Cmp.Lexicographic.{pointwise_decides}
+use Rattle.hall_policy.specs.Text.{text_cmp}
+use Rattle.hall_policy.specs.World.{same_text, ruling_points}
+use Rattle.hall_policy.specs.Sink.{HasTaken}
+use Rattle.hall_policy.specs.declared.record.AnswerRow.{AnswerRow}
+use Rattle.hall_policy.specs.declared.record.ProtestRow.{ProtestRow}
+use Rattle.hall_policy.specs.declared.record.RoundRow.{RoundRow}
+use Rattle.hall_policy.proofs.Orders.{text_total, same_texts}
+use Rattle.hall_score.specs.Total.{total_of, answer_points, protest_points}
+use Rattle.hall_score.specs.Work.{IsWorkOf, IsAhead}
+use Rattle.hall_score.specs.Tally.{answers_by, protests_by, AreTotalsOf, turn_cmp, AreRulingsOf, IsLastOf, AreHeld, IsTallyOf, TakesAnswer, RefusesAnswer, TakesProtest, IsLater, IsNextOf, IsPastOf}
+use Rattle.hall_score.specs.Ruled.{ruled_at, points_ruled, count_ruled}
+use Rattle.hall_score.specs.declared.held.Work.{Work}
+use Rattle.hall_score.specs.declared.held.Rulings.{Rulings}
+use Rattle.hall_score.specs.declared.held.Entrant.{Entrant}
+use Rattle.hall_score.specs.declared.tally.Tally.{Tally}
+use Rattle.hall_score.proofs.Tried.{alone}
+
+-- ---- names
+text_decides : (a b : List ℕ) → Decides (same_text a b) (a ≡ b)
+text_decides a b = pointwise_decides unsigned_Decides a b
+
+not_true : (b : Bool) → (b ≡ true → ⊥) → b ≡ false
+not_true true h = absurd (h refl)
+not_true false h = refl
+
+same_name : (a b : List ℕ) → a ≡ b → same_text a b ≡ true
+same_name a b e = (text_decides a b).1 e
+
+other_name : (a b : List ℕ) → (a ≡ b → ⊥) → same_text a b ≡ false
+other_name a b apart = not_true (same_text a b) (λ e. apart ((text_decides a b).0 e))
+
+is_equal : (o : Ordering) → is_eq o ≡ true → o ≡ Equal
+is_equal Less e = absurd (cc)
+is_equal Equal e = refl
+is_equal Greater e = absurd (cc)
+
+pub true_not_false : (b : Bool) → b ≡ true → b ≡ false → ⊥
+true_not_false b e f = absurd (cc)
+
+by_test : (P : Type 0) (b : Bool) → (b ≡ true → P) → (b ≡ false → P) → P
+by_test P true here there = here refl
+by_test P false here there = there refl
+
+-- another name is at another place
+pub not_at : (name other : List ℕ) → (other ≡ name → ⊥) → is_at (text_cmp name) other ≡ false
+not_at name other apart = not_true (is_at (text_cmp name) other) (λ e. apart (sym (same_texts name other (is_equal (text_cmp name other) e))))
+
+self_reverse : (o : Ordering) → o ≡ ordering_reverse o → o ≡ Equal
+self_reverse Less e = absurd (cc)
+self_reverse Equal e = refl
+self_reverse Greater e = absurd (cc)
+
+text_same : (a : List ℕ) → text_cmp a a ≡ Equal
+text_same a = self_reverse (text_cmp a a) (text_total.antisymm a a)
+
+-- a name below another one is another name
+below_other : (a b : List ℕ) → text_cmp a b ≡ Less → a ≡ b → ⊥
+below_other a b less same =
+    let tie : text_cmp a b ≡ Equal = subst (λ x. text_cmp a x ≡ Equal) same (text_same a) in
+    absurd (cc)
+
+filter_none : {X : Type 0} (p : X → Bool) (xs : List X) → All (λ x. p x ≡ false) xs → filter p xs ≡ []
+filter_none p [] none = refl
+filter_none p (x ∷ xs) none =
+    let here = All-head (λ x. p x ≡ false) x xs none in
+    let rest = filter_none p xs (All-tail (λ x. p x ≡ false) x xs none) in
+    rw here rest
+
+filter_all : {X : Type 0} (p : X → Bool) (xs : List X) → All (λ x. p x ≡ true) xs → filter p xs ≡ xs
+filter_all p [] all = refl
+filter_all p (x ∷ xs) all =
+    let here = All-head (λ x. p x ≡ true) x xs all in
+    let rest = filter_all p xs (All-tail (λ x. p x ≡ true) x xs all) in
+    rw here (ap (λ l. x ∷ l) rest)
+
+-- ---- an entrant's rows among all
+none_own : (earlier : List AnswerRow) (name : List ℕ) → All (λ row. text_cmp row.key.entrant name ≡ Less) earlier → answers_by name earlier ≡ []
+none_own earlier name below = filter_none (λ row. same_text row.key.entrant name) earlier
+    (λ k d within. other_name (get_or earlier k d).key.entrant name (below_other (get_or earlier k d).key.entrant name (below k d within)))
+
+all_own : (own : List AnswerRow) (name : List ℕ) → All (λ row. row.key.entrant ≡ name) own → answers_by name own ≡ own
+all_own own name is = filter_all (λ row. same_text row.key.entrant name) own (λ k d within. same_name (get_or own k d).key.entrant name (is k d within))
+
+others_own : (own : List AnswerRow) (name other : List ℕ) → All (λ row. row.key.entrant ≡ name) own → text_cmp other name ≡ Less → answers_by other own ≡ []
+others_own own name other is less = filter_none (λ row. same_text row.key.entrant other) own
+    (λ k d within. other_name (get_or own k d).key.entrant other (λ e. below_other other name less (sym e ∙ is k d within)))
+
+-- ---- an entrant's total after those before
+own_reached : (round : RoundRow) (own : List AnswerRow) (work : Entrant) (is : IsWorkOf round own work.work) → Contains own is.reached.0
+own_reached round own work is = subst (λ l. Contains l is.reached.0) (sym is.whole) (Contains-append_right is.closed is.current is.reached.0 is.reached.1)
+
+answered : (round : RoundRow) (protests : List ProtestRow) (answers : List AnswerRow) (totals : List (List ℕ × ℤ)) (entrant : Entrant) (points : ℤ) (is : IsLastOf round protests answers totals entrant) (other : List ℕ) (row : AnswerRow) → Contains answers row → row.key.entrant ≡ other → (total : ℤ) × Contains (totals ++ (entrant.name, points) ∷ []) (other, total)
+answered round protests answers totals entrant points is other row among named =
+    elim (Contains-append_cases is.earlier is.own row (subst (λ l. Contains l row) is.whole among)) [
+      | inl before ↦ let found = (is.totals_are.listed other).0 (row, before, named) in (found.0, Contains-append_left totals ((entrant.name, points) ∷ []) (other, found.0) found.1)
+      | inr here ↦
+          let same : entrant.name ≡ other = sym (All-contains (λ r. r.key.entrant ≡ entrant.name) is.own row is.is_own here) ∙ named in
+          (points, subst (λ n. Contains (totals ++ (entrant.name, points) ∷ []) (n, points)) same (Contains-push totals (entrant.name, points)))
+    ]
+
+listed_in : (round : RoundRow) (protests : List ProtestRow) (answers : List AnswerRow) (totals : List (List ℕ × ℤ)) (entrant : Entrant) (points : ℤ) (is : IsLastOf round protests answers totals entrant) (other : List ℕ) (total : ℤ) → Contains (totals ++ (entrant.name, points) ∷ []) (other, total) → (row : AnswerRow) × Contains answers row × (row.key.entrant ≡ other)
+listed_in round protests answers totals entrant points is other total among =
+    elim (Contains-push_cases totals (entrant.name, points) (other, total) among) [
+      | inl before ↦ let row = (is.totals_are.listed other).1 (total, before) in (row.0, subst (λ l. Contains l row.0) (sym is.whole) (Contains-append_left is.earlier is.own row.0 row.1), row.2)
+      | inr same ↦
+          let row = is.work.reached.0 in
+          let here = own_reached round is.own entrant is.work in
+          let named : row.key.entrant ≡ entrant.name = All-contains (λ r. r.key.entrant ≡ entrant.name) is.own row is.is_own here in
+          (row, subst (λ l. Contains l row) (sym is.whole) (Contains-append_right is.earlier is.own row here), named ∙ ap (λ (p : List ℕ × ℤ). p.0) same)
+    ]
+
+right_in : (round : RoundRow) (protests : List ProtestRow) (answers : List AnswerRow) (totals : List (List ℕ × ℤ)) (entrant : Entrant) (points : ℤ) (is : IsLastOf round protests answers totals entrant) → points ≡ total_of round is.own (protests_by entrant.name protests) → ((other : List ℕ) (total : ℤ) → Contains totals (other, total) → text_cmp other entrant.name ≡ Less) → (other : List ℕ) (total : ℤ) → Contains totals (other, total) ⊎ (◌≡◌ {A = List ℕ × ℤ} (entrant.name, points) (other, total)) → total ≡ total_of round (answers_by other answers) (protests_by other protests)
+right_in round protests answers totals entrant points is value lower other total (inl before) =
+    let rows : answers_by other answers ≡ answers_by other is.earlier =
+    ap (answers_by other) is.whole ∙ (filter-append (λ row. same_text row.key.entrant other) is.earlier is.own
+    ∙ (ap (λ l. answers_by other is.earlier ++ l) (others_own is.own entrant.name other is.is_own (lower other total before)) ∙ append-nil (answers_by other is.earlier))) in
+    is.totals_are.right other total before ∙ ap (λ l. total_of round l (protests_by other protests)) (sym rows)
+right_in round protests answers totals entrant points is value lower other total (inr same) =
+    let rows : answers_by entrant.name answers ≡ is.own =
+    ap (answers_by entrant.name) is.whole ∙ (filter-append (λ row. same_text row.key.entrant entrant.name) is.earlier is.own
+    ∙ (ap (λ l. l ++ answers_by entrant.name is.own) (none_own is.earlier entrant.name is.before) ∙ all_own is.own entrant.name is.is_own)) in
+    let named : entrant.name ≡ other = ap (λ (p : List ℕ × ℤ). p.0) same in
+    let summed : points ≡ total = ap (λ (p : List ℕ × ℤ). p.1) same in
+    subst (λ n. total ≡ total_of round (answers_by n answers) (protests_by n protests)) named
+    (sym summed ∙ (value ∙ ap (λ l. total_of round l (protests_by entrant.name protests)) (sym rows)))
+
+pub close_totals : (round : RoundRow) (protests : List ProtestRow) (answers : List AnswerRow) (totals : List (List ℕ × ℤ)) (entrant : Entrant) (points : ℤ) (is : IsLastOf round protests answers totals entrant) → points ≡ total_of round is.own (protests_by entrant.name protests) → AreTotalsOf round protests answers (totals ++ (entrant.name, points) ∷ [])
+close_totals round protests answers totals entrant points is value =
+    let name = entrant.name in
+    let earlier = is.earlier in
+    let own = is.own in
+    let lower : (other : List ℕ) (total : ℤ) → Contains totals (other, total) → text_cmp other name ≡ Less = λ other total among.
+    let row = (is.totals_are.listed other).1 (total, among) in
+    subst (λ n. text_cmp n name ≡ Less) row.2 (All-contains (λ r. text_cmp r.key.entrant name ≡ Less) earlier row.0 is.before row.1) in
+    record {
+      in_order = all_pairs_push (λ a b. text_cmp a.0 b.0 ≡ Less) totals (name, points) is.totals_are.in_order
+          (λ k d within. lower (get_or totals k d).0 (get_or totals k d).1 (Contains-get_or totals k d within));
+      listed = λ other. (
+        (λ found. answered round protests answers totals entrant points is other found.0 found.1 found.2),
+        (λ found. listed_in round protests answers totals entrant points is other found.0 found.1),
+      );
+      right = λ other total among. right_in round protests answers totals entrant points is value lower other total (Contains-push_cases totals (name, points) (other, total) among);
+    }
+
+-- ---- the next answer
+text_less_trans : (a b c : List ℕ) → text_cmp a b ≡ Less → text_cmp b c ≡ Less → text_cmp a c ≡ Less
+text_less_trans a b c p q = text_total.trans a b c p q
+
+-- all that was taken is below a later entrant
+all_below : (round : RoundRow) (protests : List ProtestRow) (answers : List AnswerRow) (totals : List (List ℕ × ℤ)) (last : Option Entrant) (row : AnswerRow) → AreHeld round protests answers totals last → IsLater last row → All (λ r. text_cmp r.key.entrant row.key.entrant ≡ Less) answers
+all_below round protests answers totals None row held later = subst (λ l. All (λ r. text_cmp r.key.entrant row.key.entrant ≡ Less) l) (sym held.0) (λ k d within. absurd (omega arith))
+all_below round protests answers totals (Some entrant) row held later =
+    subst (λ l. All (λ r. text_cmp r.key.entrant row.key.entrant ≡ Less) l) (sym held.whole)
+    (All-append (λ r. text_cmp r.key.entrant row.key.entrant ≡ Less) held.earlier held.own
+    (λ k d within. text_less_trans (get_or held.earlier k d).key.entrant entrant.name row.key.entrant (held.before k d within) later)
+    (λ k d within. subst (λ n. text_cmp n row.key.entrant ≡ Less) (sym (held.is_own k d within)) later))
+
+pub begin_takes : (before after : Tally) (row : AnswerRow) (entrant : Entrant) → IsLater before.last row → after.round ≡ before.round → after.ruled ≡ before.ruled → after.last ≡ Some entrant → entrant.name ≡ row.key.entrant → IsWorkOf before.round (row ∷ []) entrant.work → ((round : RoundRow) (protests : List ProtestRow) (answers : List AnswerRow) → IsTallyOf round protests answers before → AreTotalsOf round protests answers after.totals) → TakesAnswer before row after
+begin_takes before after row entrant later same_round same_ruled last named work closed round protests answers is = record {
+  round_is = same_round ∙ is.round_is;
+  rulings_are = subst (λ r. AreRulingsOf protests (ruled_at r)) (sym same_ruled) is.rulings_are;
+  answers_are = subst (AreHeld round protests (answers ++ row ∷ []) after.totals) (sym last) (record {
+    earlier = answers;
+    own = row ∷ [];
+    whole = refl;
+    before = subst (λ n. All (λ r. text_cmp r.key.entrant n ≡ Less) answers) (sym named) (all_below round protests answers before.totals before.last row is.answers_are later);
+    is_own = alone (λ r. r.key.entrant ≡ entrant.name) row (sym named);
+    work = subst (λ r. IsWorkOf r (row ∷ []) entrant.work) is.round_is work;
+    totals_are = closed round protests answers is;
+  });
+}
+
+pub next_takes : (before after : Tally) (row : AnswerRow) (entrant next : Entrant) → before.last ≡ Some entrant → entrant.name ≡ row.key.entrant → after.round ≡ before.round → after.ruled ≡ before.ruled → after.totals ≡ before.totals → after.last ≡ Some next → next.name ≡ entrant.name → ((rows : List AnswerRow) → IsWorkOf before.round rows entrant.work → IsWorkOf before.round (rows ++ row ∷ []) next.work) → TakesAnswer before row after
+next_takes before after row entrant next last named same_round same_ruled same_totals now_last still_named more round protests answers is =
+    let held : IsLastOf round protests answers before.totals entrant = subst (AreHeld round protests answers before.totals) last is.answers_are in
+    record {
+      round_is = same_round ∙ is.round_is;
+      rulings_are = subst (λ r. AreRulingsOf protests (ruled_at r)) (sym same_ruled) is.rulings_are;
+      answers_are = subst (AreHeld round protests (answers ++ row ∷ []) after.totals) (sym now_last) (record {
+        earlier = held.earlier;
+        own = held.own ++ row ∷ [];
+        whole = ap (λ l. l ++ row ∷ []) held.whole ∙ append_assoc held.earlier held.own (row ∷ []);
+        before = subst (λ n. All (λ r. text_cmp r.key.entrant n ≡ Less) held.earlier) (sym still_named) held.before;
+        is_own = subst (λ n. All (λ r. r.key.entrant ≡ n) (held.own ++ row ∷ [])) (sym still_named) (All-push (λ r. r.key.entrant ≡ entrant.name) held.own row held.is_own (sym named));
+        work = subst (λ r. IsWorkOf r (held.own ++ row ∷ []) next.work) is.round_is (more held.own (subst (λ r. IsWorkOf r held.own entrant.work) (sym is.round_is) held.work));
+        totals_are = subst (AreTotalsOf round protests held.earlier) (sym same_totals) held.totals_are;
+      });
+    }
+
+-- ---- an answer that isn't the next
+then_equal : (a b : Ordering) → a ≡ Equal → ordering_then a b ≡ Less → b ≡ Less
+then_equal Less b e f = absurd (cc)
+then_equal Equal b e f = f
+then_equal Greater b e f = absurd (cc)
+
+then_greater : (a b : Ordering) → a ≡ Greater → ordering_then a b ≡ Less → ⊥
+then_greater Less b e f = absurd (cc)
+then_greater Equal b e f = absurd (cc)
+then_greater Greater b e f = absurd (cc)
+
+then_less : (a b : Ordering) → ordering_then a b ≡ Less → (a ≡ Less) ⊎ ((a ≡ Equal) × (b ≡ Less))
+then_less Less b f = inl refl
+then_less Equal b f = inr (refl, f)
+then_less Greater b f = absurd (cc)
+
+nat_less : (a b : ℕ) → nat_cmp a b ≡ Less → a < b
+nat_less a b e = grind (arith, nat_tests)
+
+nat_same : (a b : ℕ) → nat_cmp a b ≡ Equal → a ≡ b
+nat_same a b e = nat_cmp-IsAntisymmetric a b e
+
+-- of one entrant, an answer after the one reached is ahead of the work
+ahead_of : (own row : AnswerRow) (work : Work) → own.key.entrant ≡ row.key.entrant → own.key.number ≡ work.number → own.n ≡ work.n → turn_cmp own row ≡ Less → IsAhead work row
+ahead_of own row work entrant number n less =
+    let tie : text_cmp own.key.entrant row.key.entrant ≡ Equal = subst (λ e. text_cmp own.key.entrant e ≡ Equal) entrant (text_same own.key.entrant) in
+    let rest = then_equal (text_cmp own.key.entrant row.key.entrant) (ordering_then (nat_cmp own.key.number row.key.number) (nat_cmp own.n row.n)) tie less in
+    elim (then_less (nat_cmp own.key.number row.key.number) (nat_cmp own.n row.n) rest) [
+      | inl lower ↦ inl (subst (λ k. k < row.key.number) number (nat_less own.key.number row.key.number lower))
+      | inr same ↦ inr (sym number ∙ nat_same own.key.number row.key.number same.0, subst (λ k. k < row.n) n (nat_less own.n row.n same.1))
+    ]
+
+pub past_refuses : (tally : Tally) (row : AnswerRow) (entrant : Entrant) → tally.last ≡ Some entrant → (text_cmp entrant.name row.key.entrant ≡ Greater) ⊎ ((entrant.name ≡ row.key.entrant) × (¬ (IsAhead entrant.work row))) → RefusesAnswer tally row
+past_refuses tally row entrant last past round protests answers is next =
+    let held : IsLastOf round protests answers tally.totals entrant = subst (AreHeld round protests answers tally.totals) last is.answers_are in
+    let own = held.work.reached.0 in
+    let among = own_reached round held.own entrant held.work in
+    let named : own.key.entrant ≡ entrant.name = All-contains (λ r. r.key.entrant ≡ entrant.name) held.own own held.is_own among in
+    let below : turn_cmp own row ≡ Less = All-contains (λ r. turn_cmp r row ≡ Less) answers own next (subst (λ l. Contains l own) (sym held.whole) (Contains-append_right held.earlier held.own own among)) in
+    elim past [
+      | inl greater ↦ then_greater (text_cmp own.key.entrant row.key.entrant) (ordering_then (nat_cmp own.key.number row.key.number) (nat_cmp own.n row.n)) (subst (λ e. text_cmp e row.key.entrant ≡ Greater) (sym named) greater) below
+      | inr same ↦ same.1 (ahead_of own row entrant.work (named ∙ same.0) (All-contains (λ r. r.key.number ≡ entrant.work.number) held.work.current own held.work.here held.work.reached.1) held.work.reached.2 below)
+    ]
+
+-- ---- protests
+protest_push : (protests : List ProtestRow) (row : ProtestRow) (name : List ℕ) → row.key.entrant ≡ name → protests_by name (protests ++ row ∷ []) ≡ protests_by name protests ++ row ∷ []
+protest_push protests row name same =
+    let here : protests_by name (row ∷ []) ≡ row ∷ [] = filter_all (λ r. same_text r.key.entrant name) (row ∷ []) (alone (λ r. same_text r.key.entrant name ≡ true) row (same_name row.key.entrant name same)) in
+    filter-append (λ r. same_text r.key.entrant name) protests (row ∷ []) ∙ ap (λ l. protests_by name protests ++ l) here
+
+protest_other : (protests : List ProtestRow) (row : ProtestRow) (name : List ℕ) → (row.key.entrant ≡ name → ⊥) → protests_by name (protests ++ row ∷ []) ≡ protests_by name protests
+protest_other protests row name apart =
+    let here : protests_by name (row ∷ []) ≡ [] = filter_none (λ r. same_text r.key.entrant name) (row ∷ []) (alone (λ r. same_text r.key.entrant name ≡ false) row (other_name row.key.entrant name apart)) in
+    filter-append (λ r. same_text r.key.entrant name) protests (row ∷ []) ∙ (ap (λ l. protests_by name protests ++ l) here ∙ append-nil (protests_by name protests))
+
+by_name : (P : Type 0) (a b : List ℕ) → (a ≡ b → P) → ((a ≡ b → ⊥) → P) → P
+by_name P a b same other = by_test P (same_text a b) (λ e. same ((text_decides a b).0 e)) (λ e. other (λ f. true_not_false (same_text a b) ((text_decides a b).1 f) e))
+
+next_points : (protests : List ProtestRow) (row : ProtestRow) (old new : List ℕ → Option Rulings) (next : Rulings) → AreRulingsOf protests old → next.points ≡ points_ruled (old row.key.entrant) +ℤ ruling_points row.ruling → new row.key.entrant ≡ Some next → ((other : List ℕ) → ¬ (other ≡ row.key.entrant) → new other ≡ old other) → (name : List ℕ) → points_ruled (new name) ≡ protest_points (protests_by name (protests ++ row ∷ []))
+next_points protests row old new next is points here others name = by_name (points_ruled (new name) ≡ protest_points (protests_by name (protests ++ row ∷ []))) row.key.entrant name
+    (λ same.
+    let at : new name ≡ Some next = subst (λ n. new n ≡ Some next) same here in
+    let sum : protest_points (protests_by name protests ++ row ∷ []) ≡ protest_points (protests_by name protests) +ℤ ruling_points row.ruling = fold_push (λ s r. s +ℤ ruling_points r.ruling) (pos 0) (protests_by name protests) row in
+    ap points_ruled at ∙ (points ∙ (ap (λ n. points_ruled (old n) +ℤ ruling_points row.ruling) same ∙ (ap (λ z. z +ℤ ruling_points row.ruling) (is.points name) ∙ (sym sum ∙ ap protest_points (sym (protest_push protests row name same)))))))
+    (λ apart.
+    let at : new name ≡ old name = others name (λ e. apart (sym e)) in
+    ap points_ruled at ∙ (is.points name ∙ ap protest_points (sym (protest_other protests row name apart))))
+
+next_count : (protests : List ProtestRow) (row : ProtestRow) (old new : List ℕ → Option Rulings) (next : Rulings) → AreRulingsOf protests old → next.count ≡ count_ruled (old row.key.entrant) + 1 → new row.key.entrant ≡ Some next → ((other : List ℕ) → ¬ (other ≡ row.key.entrant) → new other ≡ old other) → (name : List ℕ) → count_ruled (new name) ≡ length (protests_by name (protests ++ row ∷ []))
+next_count protests row old new next is count here others name = by_name (count_ruled (new name) ≡ length (protests_by name (protests ++ row ∷ []))) row.key.entrant name
+    (λ same.
+    let at : new name ≡ Some next = subst (λ n. new n ≡ Some next) same here in
+    ap count_ruled at ∙ (count ∙ (ap (λ n. count_ruled (old n) + 1) same ∙ (ap (λ n. n + 1) (is.count name) ∙ (sym (length_push (protests_by name protests) row) ∙ ap length (sym (protest_push protests row name same)))))))
+    (λ apart.
+    let at : new name ≡ old name = others name (λ e. apart (sym e)) in
+    ap count_ruled at ∙ (is.count name ∙ ap length (sym (protest_other protests row name apart))))
+
+nothing_held : (round : RoundRow) (protests more : List ProtestRow) (totals : List (List ℕ × ℤ)) (last : Option Entrant) → AreHeld round protests [] totals last → AreHeld round more [] totals last
+nothing_held round protests more totals None held = held
+nothing_held round protests more totals (Some entrant) held =
+    let among = own_reached round held.own entrant held.work in
+    let all : Contains [] held.work.reached.0 = subst (λ l. Contains l held.work.reached.0) (sym held.whole) (Contains-append_right held.earlier held.own held.work.reached.0 among) in
+    absurd (omega (arith, all.1))
+
+pub protest_takes : (before after : Tally) (row : ProtestRow) (next : Rulings) → after.round ≡ before.round → after.totals ≡ before.totals → after.last ≡ before.last → next.points ≡ points_ruled (ruled_at before.ruled row.key.entrant) +ℤ ruling_points row.ruling → next.count ≡ count_ruled (ruled_at before.ruled row.key.entrant) + 1 → ruled_at after.ruled row.key.entrant ≡ Some next → ((other : List ℕ) → ¬ (other ≡ row.key.entrant) → ruled_at after.ruled other ≡ ruled_at before.ruled other) → TakesProtest before row after
+protest_takes before after row next same_round same_totals same_last points count here others round protests is = record {
+  round_is = same_round ∙ is.round_is;
+  rulings_are = record {
+    points = next_points protests row (ruled_at before.ruled) (ruled_at after.ruled) next is.rulings_are points here others;
+    count = next_count protests row (ruled_at before.ruled) (ruled_at after.ruled) next is.rulings_are count here others;
+  };
+  answers_are = subst (λ l. AreHeld round (protests ++ row ∷ []) [] after.totals l) (sym same_last)
+      (subst (λ t. AreHeld round (protests ++ row ∷ []) [] t before.last) (sym same_totals) (nothing_held round protests (protests ++ row ∷ []) before.totals before.last is.answers_are));
+}
+
+-- ---- rows one after another
+pub took_answers : (round : RoundRow) (protests : List ProtestRow) (before : Tally) (taken answers : List AnswerRow) (after : Tally) → IsTallyOf round protests taken before → HasTaken TakesAnswer before answers after → IsTallyOf round protests (taken ++ answers) after
+took_answers round protests before taken [] after is chain = subst (λ l. IsTallyOf round protests l after) (sym (append-nil taken)) (subst (IsTallyOf round protests taken) (sym chain) is)
+took_answers round protests before taken (row ∷ answers) after is chain =
+    subst (λ l. IsTallyOf round protests l after) (append_assoc taken (row ∷ []) answers)
+    (took_answers round protests chain.0 (taken ++ row ∷ []) answers after (chain.1 round protests taken is) chain.2)
+
+pub took_protests : (round : RoundRow) (before : Tally) (taken protests : List ProtestRow) (after : Tally) → IsTallyOf round taken [] before → HasTaken TakesProtest before protests after → IsTallyOf round (taken ++ protests) [] after
+took_protests round before taken [] after is chain = subst (λ l. IsTallyOf round l [] after) (sym (append-nil taken)) (subst (IsTallyOf round taken []) (sym chain) is)
+took_protests round before taken (row ∷ protests) after is chain =
+    subst (λ l. IsTallyOf round l [] after) (append_assoc taken (row ∷ []) protests)
+    (took_protests round chain.0 (taken ++ row ∷ []) protests after (chain.1 round taken is) chain.2)
+
+-- ---- the calls
+pub closed_last : (tally : Tally) (entrant : Entrant) (name : List ℕ) (v z : ℤ) (totals : List (List ℕ × ℤ)) → tally.last ≡ Some entrant → name ≡ entrant.name → z ≡ v +ℤ points_ruled (ruled_at tally.ruled entrant.name) → ((rows : List AnswerRow) → IsWorkOf tally.round rows entrant.work → v ≡ answer_points tally.round rows) → totals ≡ tally.totals ++ (name, z) ∷ [] → (round : RoundRow) (protests : List ProtestRow) (answers : List AnswerRow) → IsTallyOf round protests answers tally → AreTotalsOf round protests answers totals
+closed_last tally entrant name v z totals last named value points pushed round protests answers is =
+    let held : IsLastOf round protests answers tally.totals entrant = subst (AreHeld round protests answers tally.totals) last is.answers_are in
+    let work : v ≡ answer_points round held.own = subst (λ r. v ≡ answer_points r held.own) is.round_is (points held.own (subst (λ r. IsWorkOf r held.own entrant.work) (sym is.round_is) held.work)) in
+    let ruled : points_ruled (ruled_at tally.ruled entrant.name) ≡ protest_points (protests_by entrant.name protests) = is.rulings_are.points entrant.name in
+    let whole : z ≡ total_of round held.own (protests_by entrant.name protests) = value ∙ (ap (λ a. a +ℤ points_ruled (ruled_at tally.ruled entrant.name)) work ∙ ap (λ b. answer_points round held.own +ℤ b) ruled) in
+    subst (AreTotalsOf round protests answers) (sym (pushed ∙ ap (λ n. tally.totals ++ (n, z) ∷ []) named))
+    (close_totals round protests answers tally.totals entrant z held whole)
+
+pub turn_next : (last : Option Entrant) (entrant : Entrant) (row : AnswerRow) → last ≡ Some entrant → text_cmp entrant.name row.key.entrant ≡ Equal → IsAhead entrant.work row → IsNextOf last row
+turn_next last entrant row is tie ahead = subst (λ l. IsNextOf l row) (sym is) (same_texts entrant.name row.key.entrant tie, ahead)
+
+pub turn_late : (last : Option Entrant) (entrant : Entrant) (row : AnswerRow) → last ≡ Some entrant → text_cmp entrant.name row.key.entrant ≡ Equal → ¬ (IsAhead entrant.work row) → IsPastOf last row
+turn_late last entrant row is tie behind = subst (λ l. IsPastOf l row) (sym is) (inr (same_texts entrant.name row.key.entrant tie, behind))
+
+pub turn_past : (last : Option Entrant) (entrant : Entrant) (row : AnswerRow) → last ≡ Some entrant → text_cmp entrant.name row.key.entrant ≡ Greater → IsPastOf last row
+turn_past last entrant row is greater = subst (λ l. IsPastOf l row) (sym is) (inl greater)
+
+refused : (tally : Tally) (row : AnswerRow) (last : Option Entrant) → tally.last ≡ last → IsPastOf last row → RefusesAnswer tally row
+refused tally row None same past = absurd past
+refused tally row (Some entrant) same past = past_refuses tally row entrant same past
+
+pub turn_refuses : (tally : Tally) (row : AnswerRow) → IsPastOf tally.last row → RefusesAnswer tally row
+turn_refuses tally row past = refused tally row tally.last refl past
+
+pub next_at : (last : Option Entrant) (entrant : Entrant) (row : AnswerRow) → last ≡ Some entrant → IsNextOf last row → (entrant.name ≡ row.key.entrant) × IsAhead entrant.work row
+next_at last entrant row is next = subst (λ l. IsNextOf l row) is next

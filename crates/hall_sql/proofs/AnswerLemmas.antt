@@ -1,0 +1,236 @@
+-- What the statements on answers say of the world.
+use Rattle.std.proofs.Common.{◌&&◌, flat_map, option_to_list, Bool, true, sym, subst, ◌∙◌, ◌≡◌, ◌≤◌, ℕ, pos, List, [], ◌∷◌, length, map, slice_get, Option, Some, None, refl, ap}
+use Rattle.std.specs.List.{list_all}
+use Rattle.std.specs.Ordering.{eq_by_cmp}
+use Rattle.std.specs.FinMap.{get}
+use Rattle.sqlite.specs.declared.types.Value.TheVariants.{Int, Text}
+use Rattle.sqlite.specs.Order.{Row}
+use Rattle.sqlite_value.specs.Order.{column}
+use Rattle.sqlite.specs.Term.{holds}
+use Rattle.sqlite.specs.State.{State, Shown}
+use Rattle.hall_grid.specs.FormReading.{◌>>=◌}
+use Rattle.hall_policy.specs.Text.{is_word_byte, is_printable}
+use Rattle.hall_policy.specs.World.{answer_cmp}
+use Rattle.std.specs.Ordering.{nat_cmp}
+use Rattle.std.specs.declared.cmp.Ordering.{Ordering}
+use Rattle.std.specs.Cmp.Lexicographic.{slice_cmp}
+use Rattle.std.specs.List.{AllByRecursion}
+use Rattle.std.specs.List.Sorted.{IsPermutation}
+use Rattle.std.specs.FinMap.{values}
+use Rattle.sqlite_value.proofs.OrderLemmas.{then-Equal}
+use Rattle.sqlite_value.specs.Keys.{plain, first_key}
+use Rattle.sqlite_value.proofs.OrderLemmas.{value_cmp-Text, value_cmp-Int}
+use Rattle.sqlite_schema.specs.declared.schema.Constraint.TheVariants.{Unique}
+use Rattle.sqlite_schema.specs.Rules.{agree, passes}
+use Rattle.sqlite_rules.proofs.ListLemmas.{all_has}
+use Rattle.sqlite.specs.Effect.{IsDatabase}
+use Rattle.sqlite.specs.Query.{output, output_cmp}
+use Rattle.sqlite.specs.Table.{Table}
+use Rattle.sqlite.specs.Term.{Term}
+use Rattle.sqlite.specs.Tree.{Trees}
+use Rattle.hall_store.specs.Store.{IsListing, listing_cmp, is_in, is_of}
+use Rattle.hall_sql.specs.Tables.{answers_table}
+use Rattle.hall_sql.specs.Rows.{columns_from}
+use Rattle.hall_sql.specs.Standing.{AreKeyed, IsSelection}
+use Rattle.hall_sql.specs.Statements.{plain_query, answers_in_text, answers_of_text}
+use Rattle.hall_sql.proofs.AnswerTexts.{listing_order, answers_in_is, answers_of_is}
+use Rattle.hall_sql.proofs.CallLemmas.{answers_selection}
+use Rattle.hall_sql.proofs.ColumnLemmas.{int_as_nat, and_true, column_same}
+use Rattle.hall_sql.proofs.PeopleTexts.{equals}
+use Rattle.hall_sql.proofs.SortedLemmas.{sorted_records, selection_of_values}
+use Rattle.hall_sql.proofs.UniqueLemmas.{equal_texts, equal_numbers, first_not, records_listed}
+use Rattle.hall_policy.proofs.Orders.{answer_total, same_answer_keys}
+use Rattle.hall_policy.specs.declared.record.AnswerKey.{AnswerKey}
+use Rattle.hall_policy.specs.declared.record.AnswerRow.{AnswerRow}
+use Rattle.hall_sql.specs.Tables.{hall_schema}
+use Rattle.hall_sql.specs.Statements.{answer_text}
+use Rattle.hall_sql.specs.Values.{name_in, token_in, within, kind_in}
+use Rattle.hall_sql.specs.Rows.{answer_in, answer_of, world_of}
+use Rattle.hall_sql.proofs.AnswerTexts.{key_terms, answer_columns, answer_is}
+use Rattle.hall_sql.proofs.ColumnLemmas.{kind_column, number_column, column_equals, column_is, last_equal, more_equal}
+use Rattle.hall_sql.proofs.FoundLemmas.{asked_found}
+
+abbrev of_parts : List ℕ → List ℕ → ℕ → List ℕ → ℕ → ℕ → List ℕ → ℕ → AnswerRow
+of_parts entrant round number token n moment answer verdict = record {
+  key = record { entrant = entrant; round = round; number = number; token = token };
+  n = n;
+  moment = moment;
+  answer = answer;
+  verdict = verdict;
+}
+
+record PartsOf (row : AnswerRow) (a b : Option (List ℕ)) (c : Option ℕ) (d : Option (List ℕ)) (e : Option ℕ) : Type 0 where
+  entrant : a ≡ Some row.key.entrant
+  round : b ≡ Some row.key.round
+  number : c ≡ Some row.key.number
+  token : d ≡ Some row.key.token
+  n : e ≡ Some row.n
+
+-- an answer that is read has its parts in the columns
+parts : (a : Option (List ℕ)) (b : Option (List ℕ)) (c : Option (ℕ)) (d : Option (List ℕ)) (e : Option (ℕ)) (f : Option (ℕ)) (g : Option (List ℕ)) (h : Option (ℕ)) (row : AnswerRow)
+    → (a >>= (λ entrant. b >>= (λ round. c >>= (λ number. d >>= (λ token. e >>= (λ n. f >>= (λ moment. g >>= (λ answer. h >>= (λ verdict. Some (of_parts entrant round number token n moment answer verdict)))))))))) ≡ Some row
+    → PartsOf row a b c d e
+parts None b c d e f g h row is = absurd cc
+parts (Some a) None c d e f g h row is = absurd cc
+parts (Some a) (Some b) None d e f g h row is = absurd cc
+parts (Some a) (Some b) (Some c) None e f g h row is = absurd cc
+parts (Some a) (Some b) (Some c) (Some d) None f g h row is = absurd cc
+parts (Some a) (Some b) (Some c) (Some d) (Some e) None g h row is = absurd cc
+parts (Some a) (Some b) (Some c) (Some d) (Some e) (Some f) None h row is = absurd cc
+parts (Some a) (Some b) (Some c) (Some d) (Some e) (Some f) (Some g) None row is = absurd cc
+parts (Some a) (Some b) (Some c) (Some d) (Some e) (Some f) (Some g) (Some h) row is =
+    let same : of_parts a b c d e f g h ≡ row = cc in
+    record {
+      entrant = ap (λ (x : AnswerRow). Some x.key.entrant) same;
+      round = ap (λ (x : AnswerRow). Some x.key.round) same;
+      number = ap (λ (x : AnswerRow). Some x.key.number) same;
+      token = ap (λ (x : AnswerRow). Some x.key.token) same;
+      n = ap (λ (x : AnswerRow). Some x.n) same;
+    }
+
+-- the columns of an answer that listings are ordered by
+pub record HasColumns (r : Row) (row : AnswerRow) : Type 0 where
+  pub entrant : column r 1 ≡ Text row.key.entrant
+  pub round : column r 2 ≡ Text row.key.round
+  pub number : column r 3 ≡ Int (pos row.key.number)
+  pub token : column r 4 ≡ Text row.key.token
+  pub n : column r 5 ≡ Int (pos row.n)
+
+pub has_columns : (r : Row) (row : AnswerRow) → answer_of r ≡ Some row → HasColumns r row
+has_columns r row is =
+    let it = parts (name_in (column r 1)) (name_in (column r 2)) (within 1 99 (column r 3)) (token_in (column r 4)) (within 1 50 (column r 5))
+    (within 0 4102444800 (column r 6)) (kind_in 0 4000 is_printable (column r 7)) (within 0 65535 (column r 8)) row is in
+    record {
+      entrant = kind_column 1 24 is_word_byte (column r 1) row.key.entrant it.entrant;
+      round = kind_column 1 24 is_word_byte (column r 2) row.key.round it.round;
+      number = number_column 1 99 (column r 3) row.key.number it.number;
+      token = kind_column 1 32 is_word_byte (column r 4) row.key.token it.token;
+      n = number_column 1 50 (column r 5) row.n it.n;
+    }
+
+abbrev pub key_params : AnswerKey → Row
+key_params key = Text key.entrant ∷ Text key.round ∷ Int (pos key.number) ∷ Text key.token ∷ []
+
+-- WHERE entrant = ?1 AND round = ?2 AND number = ?3 AND token = ?4 asks for the key
+agrees : (key : AnswerKey) (r : Row) (row : AnswerRow) → answer_of r ≡ Some row
+    → list_all (holds (key_params key ∷ r ∷ [])) key_terms ≡ eq_by_cmp answer_cmp row.key key
+agrees key r row is =
+    let it = has_columns r row is in
+    more_equal _ _ _ _ (column_equals (column r 1) row.key.entrant key.entrant it.entrant)
+    (more_equal _ _ _ _ (column_equals (column r 2) row.key.round key.round it.round)
+    (more_equal _ _ _ _ (column_is (column r 3) row.key.number key.number it.number)
+    (last_equal _ _ (column_equals (column r 4) row.key.token key.token it.token))))
+
+pub answer_found : (key : AnswerKey) (old new : State) (rows : List Row) (out : List AnswerRow) → old.now.schema ≡ hall_schema
+    → Shown answer_text (key_params key) old new rows → map answer_in rows ≡ map Some out → length out ≤ 1
+    → slice_get out 0 ≡ get (world_of old.now.trees).answers key
+answer_found key =
+    asked_found answer_total same_answer_keys (λ (row : AnswerRow). row.key) answer_in 8 key answer_text (key_params key) 9 key_terms answer_columns _
+    answer_is.0 answer_is.1 answer_is.2 (λ db. refl) (λ r. refl) (agrees key)
+
+-- ---- listings
+
+-- two rows of one key agree on the columns of the primary key
+agreeing : (r y : Row) (x z : AnswerRow) → answer_of r ≡ Some x → answer_of y ≡ Some z → x.key ≡ z.key
+    → agree plain (1 ∷ 2 ∷ 3 ∷ 4 ∷ []) y (1 ∷ 2 ∷ 3 ∷ 4 ∷ []) r ≡ true
+unfolding first_key
+agreeing r y x z p q e =
+    let one = has_columns r x p in
+    let two = has_columns y z q in
+    rw (
+      one.entrant,
+      one.round,
+      one.number,
+      one.token,
+      two.entrant,
+      two.round,
+      two.number,
+      two.token,
+      equal_texts z.key.entrant x.key.entrant (ap (λ (k : AnswerKey). k.entrant) (sym e)),
+      equal_texts z.key.round x.key.round (ap (λ (k : AnswerKey). k.round) (sym e)),
+      equal_numbers z.key.number x.key.number (ap (λ (k : AnswerKey). k.number) (sym e)),
+      equal_texts z.key.token x.key.token (ap (λ (k : AnswerKey). k.token) (sym e)),
+    )
+
+abbrev pub answers_there : Table
+answers_there = record answers_table { tree = 9 }
+
+-- the table's records are the world's answers, each once
+pub answers_listed : (db : Trees) → AreKeyed (db 9) → IsDatabase (record { schema = hall_schema; trees = db })
+    → IsPermutation (flat_map (λ r. option_to_list (answer_of r)) (db 9)) (values (world_of db).answers)
+answers_listed db keyed sound =
+    let rule : AllByRecursion (λ row. passes Unique hall_schema db answers_there row ≡ true) (db 9) = (sound.obeys.rules Unique).1.1.1.1.0 in
+    records_listed answer_total same_answer_keys (λ (row : AnswerRow). row.key) answer_of (1 ∷ 2 ∷ 3 ∷ 4 ∷ []) (db 9) keyed agreeing
+    (λ r h. first_not _ _ (all_has _ (db 9) r rule h))
+
+-- ORDER BY entrant, number, n, token
+abbrev by_order : Row → List Term → Row → Row → Ordering
+by_order params terms a b =
+    let q = plain_query 9 terms answer_columns listing_order in
+    output_cmp q (output q (params ∷ a ∷ [])) (output q (params ∷ b ∷ []))
+
+-- it is the order of listings
+same_order : (params : Row) (terms : List Term) (a b : Row) (x y : AnswerRow) → answer_of a ≡ Some x → answer_of b ≡ Some y
+    → by_order params terms a b ≡ listing_cmp x y
+same_order params terms a b x y p q =
+    let one = has_columns a x p in
+    let two = has_columns b y q in
+    rw (
+      one.entrant,
+      one.number,
+      one.n,
+      one.token,
+      two.entrant,
+      two.number,
+      two.n,
+      two.token,
+      value_cmp-Text x.key.entrant y.key.entrant,
+      value_cmp-Int (pos x.key.number) (pos y.key.number),
+      value_cmp-Int (pos x.n) (pos y.n),
+      value_cmp-Text x.key.token y.key.token,
+      int_as_nat x.key.number y.key.number,
+      int_as_nat x.n y.n,
+      then-Equal (slice_cmp nat_cmp x.key.token y.key.token),
+    )
+
+-- what a query in the order of listings gives of the world's answers
+module _ (old new : State) (has : old.now.schema ≡ hall_schema) (keyed : AreKeyed (old.now.trees 9)) (sound : IsDatabase old.now)
+    (rows : List Row) (out : List AnswerRow) (is : map answer_in rows ≡ map Some out) where
+  listed_by : (params : Row) (terms : List Term) (test : AnswerRow → Bool)
+      → ((r : Row) (x : AnswerRow) → answer_of r ≡ Some x → list_all (holds (params ∷ r ∷ [])) terms ≡ test x)
+      → IsSelection (plain_query 9 terms answer_columns listing_order) (old.now.trees 9) params rows → IsListing (world_of old.now.trees) test out
+  listed_by params terms test agrees sel =
+      let shown : map answer_in (map (columns_from 1 8) sel.found) ≡ map Some out = subst (λ l. map answer_in l ≡ map Some out) sel.shown is in
+      let db = old.now.trees in
+      let whole = answers_listed db keyed (subst (λ s. IsDatabase (record { schema = s; trees = db })) has sound) in
+      record {
+        whole = selection_of_values answer_in (columns_from 1 8) (λ r. list_all (holds (params ∷ r ∷ [])) terms) test agrees (db 9) sel.found out (values (world_of db).answers) sel.same shown whole;
+        in_order = sorted_records answer_of (by_order params terms) listing_cmp (same_order params terms) sel.found out (read_through sel.found ∙ shown) sel.sorted;
+      }
+    where
+      read_through : (l : List Row) → map answer_of l ≡ map answer_in (map (columns_from 1 8) l)
+      read_through [] = refl
+      read_through (r ∷ l) = ap (λ k. answer_of r ∷ k) (read_through l)
+
+  in_agrees : (round : List ℕ) (r : Row) (x : AnswerRow) → answer_of r ≡ Some x
+      → list_all (holds ((Text round ∷ []) ∷ r ∷ [])) (equals 2 0 ∷ []) ≡ is_in round x
+  in_agrees round r x h = and_true _ ∙ column_same (column r 2) x.key.round round (has_columns r x h).round
+
+  of_agrees : (entrant round : List ℕ) (r : Row) (x : AnswerRow) → answer_of r ≡ Some x
+      → list_all (holds ((Text entrant ∷ Text round ∷ []) ∷ r ∷ [])) (equals 2 1 ∷ equals 1 0 ∷ []) ≡ is_of entrant round x
+  of_agrees entrant round r x h =
+      let it = has_columns r x h in
+      ap (λ b. b && (list_all (holds ((Text entrant ∷ Text round ∷ []) ∷ r ∷ [])) (equals 1 0 ∷ []))) (column_same (column r 2) x.key.round round it.round)
+      ∙ ap (λ b. is_in round x && b) (and_true _ ∙ column_same (column r 1) x.key.entrant entrant it.entrant)
+
+  pub answers_in_listed : (round : List ℕ) → Shown answers_in_text (Text round ∷ []) old new rows
+      → IsListing (world_of old.now.trees) (is_in round) out
+  answers_in_listed round shown =
+      listed_by (Text round ∷ []) (equals 2 0 ∷ []) (is_in round) (in_agrees round)
+      (answers_selection answers_in_text (Text round ∷ []) old new 9 (equals 2 0 ∷ []) answer_columns listing_order _ answers_in_is.0 answers_in_is.1 answers_in_is.2 refl has rows shown)
+
+  pub answers_of_listed : (entrant round : List ℕ) → Shown answers_of_text (Text entrant ∷ Text round ∷ []) old new rows
+      → IsListing (world_of old.now.trees) (is_of entrant round) out
+  answers_of_listed entrant round shown =
+      listed_by (Text entrant ∷ Text round ∷ []) (equals 2 1 ∷ equals 1 0 ∷ []) (is_of entrant round) (of_agrees entrant round)
+      (answers_selection answers_of_text (Text entrant ∷ Text round ∷ []) old new 9 (equals 2 1 ∷ equals 1 0 ∷ []) answer_columns listing_order _ answers_of_is.0 answers_of_is.1 answers_of_is.2 refl has rows shown)

@@ -1,0 +1,100 @@
+-- What the statement that adds an answer leaves.
+use Rattle.std.proofs.Common.{◌≡◌, ◌≢◌, ◌&&◌, ℕ, [], ◌∷◌, flat_map, option_to_list, true, IsTrue, Some, None, Ok, refl, ap, arith}
+use Rattle.std.specs.Prelude.{nat_le}
+use Rattle.std.proofs.lemmas.Bool.{and_from, le-leb}
+use Rattle.std.specs.List.{AllByRecursion}
+use Rattle.std.specs.FinMap.{FinMap, from_entries, get, insert}
+use Rattle.sqlite.specs.declared.types.Value.{Value}
+use Rattle.sqlite.specs.declared.types.Value.TheVariants.{Null, Int}
+use Rattle.sqlite_value.specs.Keys.{joined}
+use Rattle.sqlite_schema.specs.Names.{same_name}
+use Rattle.sqlite_schema.specs.declared.schema.Keys.TheVariants.{Enforced}
+use Rattle.sqlite_rules.specs.Action.{works}
+use Rattle.sqlite_rules.specs.Cast.{cast_row}
+use Rattle.sqlite_rules.specs.Edit.{next_rowid}
+use Rattle.sqlite.specs.Order.{Row}
+use Rattle.sqlite.specs.Table.{Table}
+use Rattle.sqlite.specs.Tree.{Trees}
+use Rattle.sqlite.specs.Source.TheVariants.{Values}
+use Rattle.sqlite.specs.Command.TheVariants.{Insert}
+use Rattle.sqlite.specs.State.{State, HasCleanDisk, Executes}
+use Rattle.sqlite.proofs.Callers.{runs_as}
+use Rattle.hall_policy.specs.Text.{text_cmp, is_word_byte, is_printable}
+use Rattle.hall_policy.specs.World.{puzzle_cmp, answer_cmp, protest_cmp}
+use Rattle.hall_policy.specs.Ranges.{IsAnswerRow, IsWithin}
+use Rattle.hall_policy.specs.declared.record.AnswerRow.{AnswerRow}
+use Rattle.hall_policy.proofs.Orders.{answer_total, same_answer_keys}
+use Rattle.hall_policy.proofs.Reading.{kind_holds}
+use Rattle.hall_store.specs.declared.change.Change.TheVariants.{AddAnswer}
+use Rattle.hall_sql.specs.Tables.{hall_schema}
+use Rattle.hall_sql.specs.Statements.{add_answer_text}
+use Rattle.hall_sql.specs.Columns.{answer_params}
+use Rattle.hall_sql.specs.Rows.{kept, person_of, puzzle_row_of, round_of, place_of, answer_of, protest_of, world_of}
+use Rattle.hall_sql.specs.Standing.{IsHall, HasMade}
+use Rattle.hall_sql.proofs.AnswerTexts.{added_terms, add_answer_is}
+use Rattle.hall_sql.proofs.AnswerLemmas.{answers_there}
+use Rattle.hall_sql.proofs.CallLemmas.{executed_open}
+use Rattle.hall_sql.proofs.InsertLemmas.{inserts}
+use Rattle.hall_sql.proofs.KeyedLemmas.{keyed_after, added_keyed}
+use Rattle.hall_sql.proofs.MapLemmas.{put_new}
+use Rattle.hall_sql.proofs.WriteLemmas.{writes_hall, same_worlds, cast_null, cast_number}
+
+is_within : (least most n : ℕ) → IsWithin least most n → nat_le least n && nat_le n most ≡ true
+is_within least most n h = and_from _ _ (le-leb _ _ h.0) (le-leb _ _ h.1)
+
+-- they are read as the answer, whatever its rowid is
+answer_reads : (row : AnswerRow) → IsAnswerRow row → (id : Value) → answer_of (id ∷ answer_params row) ≡ Some row
+answer_reads row is id = rw (
+  kind_holds 1 24 is_word_byte row.key.entrant is.key.entrant,
+  kind_holds 1 24 is_word_byte row.key.round is.key.round,
+  is_within 1 99 row.key.number is.key.number,
+  kind_holds 1 32 is_word_byte row.key.token is.key.token,
+  is_within 1 50 row.n is.n,
+  is_within 0 4102444800 row.moment is.moment,
+  kind_holds 0 4000 is_printable row.answer is.answer,
+  is_within 0 65535 row.verdict (omega arith, omega (arith, is.verdict)),
+)
+
+answer_casts : (row : AnswerRow) → cast_row answers_there (Null ∷ answer_params row) ≡ Null ∷ answer_params row
+answer_casts row = rw (cast_null, cast_number row.key.number, cast_number row.n, cast_number row.moment, cast_number row.verdict)
+
+-- no foreign key acts
+quiet : (new : Row) → works hall_schema Enforced 0 9 [] (new ∷ []) ≡ []
+unfolding same_name joined
+quiet new = refl
+
+-- where the table of answers alone was written, the answers alone are changed
+pub answers_alone : (old new : Trees) (answers : FinMap answer_cmp AnswerRow)
+    → AllByRecursion (λ (t : Table). t.tree ≢ 9 → new t.tree ≡ old t.tree) hall_schema.tables
+    → kept answer_cmp (λ (row : AnswerRow). row.key) answer_of (new 9) ≡ answers
+    → world_of new ≡ record (world_of old) { answers = answers }
+answers_alone old new answers others is =
+    same_worlds (world_of new) (record (world_of old) { answers = answers })
+    (ap (kept text_cmp (λ person. person.name) person_of) (others.0 (λ same. absurd (omega (arith, same)))))
+    (ap (kept puzzle_cmp (λ row. row.key) puzzle_row_of) (others.1.0 (λ same. absurd (omega (arith, same)))))
+    (ap (kept text_cmp (λ round. round.id) round_of) (others.1.1.0 (λ same. absurd (omega (arith, same)))))
+    (ap (λ rows. from_entries (flat_map (λ row. option_to_list (place_of row)) rows)) (others.1.1.1.0 (λ same. absurd (omega (arith, same)))))
+    is
+    (ap (kept protest_cmp (λ row. row.key) protest_of) (others.1.1.1.1.1.0 (λ same. absurd (omega (arith, same)))))
+
+-- the INSERT of an answer under a new key
+pub answer_added : (row : AnswerRow) → IsAnswerRow row → (old new : State) (count : ℕ) → IsHall old → HasCleanDisk old
+    → (IsTrue old.is_open → get (world_of old.now.trees).answers row.key ≡ None)
+    → Executes add_answer_text (answer_params row) old new (Ok count) → HasMade (AddAnswer row) old new
+answer_added row is old new count hall clean fresh ran =
+    let params = answer_params row in
+    let mode = hall.autocommit clean in
+    let was = executed_open old new add_answer_text params count mode ran in
+    let has = (hall.settled clean was).1 in
+    let keyed = hall.keyed clean was in
+    let w = runs_as add_answer_text params old new hall_schema has (Insert 4 (Values added_terms 9)) add_answer_is.0 add_answer_is.1 count ran in
+    let it = inserts hall_schema 4 answers_there refl refl added_terms 9 params (Null ∷ params) params refl refl (answer_casts row) quiet old new _ count has w in
+    let id = next_rowid (old.now.trees 9) in
+    let after = added_keyed id params (old.now.trees 9) (new.now.trees 9) it.put it.free keyed.1.1.1.1.0 in
+    record {
+      hall = writes_hall old new _ _ _ count mode w it.same (keyed_after 9 old.now.trees new.now.trees hall_schema.tables after it.others keyed);
+      was_open = was;
+      serves = w.shown.is_open;
+      world = answers_alone old.now.trees new.now.trees (insert (world_of old.now.trees).answers row.key row) it.others
+          (put_new answer_total same_answer_keys (λ (x : AnswerRow). x.key) answer_of row (Int id ∷ params) (old.now.trees 9) (new.now.trees 9) it.put (answer_reads row is (Int id)) it.free (fresh was));
+    }

@@ -1,0 +1,64 @@
+-- What the statements on puzzles mean under the hall's tables.
+use Rattle.std.proofs.Common.{◌≡◌, List, ℕ, codes, refl, false, [], ◌∷◌}
+use Rattle.sqlite_tied.specs.Compute.{everything}
+use Rattle.sqlite.specs.Term.{Term, lit, col}
+use Rattle.sqlite.specs.declared.types.Value.TheVariants.{Null}
+use Rattle.sqlite.specs.Source.TheVariants.{Values}
+use Rattle.sqlite.specs.Table.{Table}
+use Rattle.sqlite.specs.Tree.{Trees}
+use Rattle.sqlite.specs.Program.{overlay}
+use Rattle.sqlite.specs.Listing.{understood, reads_listing}
+use Rattle.sqlite.specs.Command.TheVariants.{Select, Insert, Update}
+use Rattle.sqlite.proofs.Callers.{IsPlain, command_of}
+use Rattle.hall_sql.specs.Tables.{hall_schema, puzzles_table}
+use Rattle.hall_sql.specs.Statements.{plain_query, puzzle_text, look_puzzle_text, add_puzzle_text, replace_puzzle_text}
+use Rattle.hall_sql.proofs.UpdateLemmas.{update}
+use Rattle.hall_sql.proofs.PeopleTexts.{equals}
+
+abbrev pub puzzle_columns : List Term
+puzzle_columns = col 1 1 ∷ col 1 2 ∷ col 1 3 ∷ col 1 4 ∷ col 1 5 ∷ []
+
+-- author = ?1 AND label = ?2
+abbrev pub key_terms : List Term
+key_terms = equals 1 0 ∷ equals 2 1 ∷ []
+
+abbrev pub puzzle_names : List (List ℕ)
+puzzle_names = codes "author" ∷ codes "label" ∷ codes "body" ∷ codes "state" ∷ codes "solution" ∷ []
+
+pub puzzle_is : (command_of (understood hall_schema puzzle_text)
+    ≡ Select (record { lets = []; body = plain_query 3 key_terms puzzle_columns [] }) puzzle_names)
+    × (reads_listing hall_schema puzzle_text ≡ false) × IsPlain (understood hall_schema puzzle_text)
+unfolding understood everything
+puzzle_is = (refl, refl, (refl, refl))
+
+-- as the schema has it
+abbrev pub puzzles_there : Table
+puzzles_there = record puzzles_table { tree = 3 }
+
+pub look_puzzle_is : (command_of (understood hall_schema look_puzzle_text)
+    ≡ Select (record { lets = []; body = plain_query 3 key_terms (col 1 1 ∷ []) [] }) (codes "author" ∷ []))
+    × (reads_listing hall_schema look_puzzle_text ≡ false) × IsPlain (understood hall_schema look_puzzle_text)
+unfolding understood everything
+look_puzzle_is = (refl, refl, (refl, refl))
+
+-- the rowid that is chosen, and each parameter
+abbrev pub added_terms : List Term
+added_terms = lit Null ∷ col 0 0 ∷ col 0 1 ∷ col 0 2 ∷ col 0 3 ∷ col 0 4 ∷ []
+
+pub add_puzzle_is : (command_of (understood hall_schema add_puzzle_text) ≡ Insert 1 (Values added_terms 6))
+    × IsPlain (understood hall_schema add_puzzle_text)
+unfolding understood everything
+add_puzzle_is = (refl, (refl, refl))
+
+-- the rowid and the key that stay, and the parameters of the others
+abbrev pub replaced_terms : List Term
+replaced_terms = col 1 0 ∷ col 1 1 ∷ col 1 2 ∷ col 0 2 ∷ col 0 3 ∷ col 0 4 ∷ []
+
+pub apart : (db : Trees) → overlay db [] puzzles_there.tree ≡ db puzzles_there.tree
+apart db = refl
+
+pub replace_puzzle_is : (command_of (understood hall_schema replace_puzzle_text)
+    ≡ Update 1 (update hall_schema puzzles_there key_terms replaced_terms apart))
+    × IsPlain (understood hall_schema replace_puzzle_text)
+unfolding understood everything
+replace_puzzle_is = (refl, (refl, refl))

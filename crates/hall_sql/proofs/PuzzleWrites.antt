@@ -1,0 +1,217 @@
+-- What the statements that write a puzzle leave.
+use Rattle.std.proofs.Common.{None, ◌≡◌, ◌≢◌, inl, ℕ, pos, List, [], ◌∷◌, length, flat_map, option_to_list, Bool, true, IsTrue, Some, Ok, refl, sym, ap, subst, ◌∙◌, arith}
+use Rattle.std.proofs.lemmas.Bool.{and_parts}
+use Rattle.std.proofs.lemmas.List.{length-map}
+use Rattle.std.proofs.lemmas.List.Sorted.{length_permutation}
+use Rattle.std.specs.List.{AllByRecursion}
+use Rattle.std.specs.Ordering.{eq_by_cmp}
+use Rattle.std.specs.FinMap.{FinMap, from_entries, get, insert}
+use Rattle.sqlite.specs.declared.types.Value.{Value}
+use Rattle.sqlite.specs.declared.types.Value.TheVariants.{Null, Int, Real, Text, Blob}
+use Rattle.sqlite_sql.specs.declared.ops.BinaryOp.TheVariants.{Compare}
+use Rattle.sqlite_sql.specs.declared.ops.CompareOp.TheVariants.{Eq}
+use Rattle.sqlite.specs.Collation.TheVariants.{Binary}
+use Rattle.sqlite_sql.specs.Ops.{binary, is_true}
+use Rattle.sqlite_value.specs.Order.{column, value_cmp}
+use Rattle.sqlite_value.specs.Keys.{joined}
+use Rattle.sqlite_schema.specs.Names.{same_name}
+use Rattle.sqlite_schema.specs.declared.schema.Keys.TheVariants.{Enforced}
+use Rattle.sqlite_rules.specs.Action.{works}
+use Rattle.sqlite_rules.specs.Cast.{cast_row}
+use Rattle.sqlite_rules.specs.Edit.{next_rowid}
+use Rattle.sqlite_rules.specs.Lists.{Has}
+use Rattle.sqlite_rules.proofs.ListLemmas.{has_filtered}
+use Rattle.sqlite.specs.Order.{Row}
+use Rattle.sqlite.specs.Table.{Table}
+use Rattle.sqlite.specs.Term.{col, eval_all}
+use Rattle.sqlite.specs.Tree.{Trees}
+use Rattle.sqlite.specs.Source.TheVariants.{Values}
+use Rattle.sqlite.specs.Command.TheVariants.{Insert, Update}
+use Rattle.sqlite.specs.State.{State, HasCleanDisk, Executes, Shown}
+use Rattle.sqlite.proofs.Callers.{runs_as}
+use Rattle.hall_grid.specs.Text.{SpellsText}
+use Rattle.hall_policy.specs.Text.{text_cmp, is_word_byte, is_printable}
+use Rattle.hall_policy.specs.World.{puzzle_cmp, answer_cmp, protest_cmp}
+use Rattle.hall_policy.specs.Ranges.{IsPuzzleKey, IsState}
+use Rattle.hall_policy.specs.declared.record.PuzzleKey.{PuzzleKey}
+use Rattle.hall_policy.specs.declared.record.PuzzleRow.{PuzzleRow}
+use Rattle.hall_policy.specs.declared.record.PuzzleState.{PuzzleState}
+use Rattle.hall_policy.specs.declared.record.PuzzleState.TheVariants.{New, One, NoSolution, More, GaveUp}
+use Rattle.hall_policy.proofs.Orders.{puzzle_total, same_puzzle_keys, same_texts}
+use Rattle.hall_policy.proofs.Reading.{kind_holds}
+use Rattle.hall_store.specs.Change.{changed, with_state}
+use Rattle.hall_store.specs.declared.change.Change.TheVariants.{PutPuzzle, SetState}
+use Rattle.hall_sql.proofs.UniqueLemmas.{kept_keyed}
+use Rattle.hall_sql.specs.Tables.{hall_schema}
+use Rattle.hall_sql.specs.Statements.{look_puzzle_text, add_puzzle_text, replace_puzzle_text}
+use Rattle.hall_sql.specs.Values.{state_in}
+use Rattle.hall_sql.specs.Columns.{puzzle_params, HasSoMany, state_code, solution_of}
+use Rattle.hall_sql.specs.Rows.{kept, person_of, puzzle_row_of, round_of, place_of, answer_of, protest_of, world_of}
+use Rattle.hall_sql.specs.Standing.{IsHall, HasMade}
+use Rattle.hall_sql.proofs.PuzzleTexts.{puzzles_there, key_terms, added_terms, replaced_terms, apart, look_puzzle_is, add_puzzle_is, replace_puzzle_is}
+use Rattle.hall_sql.proofs.PuzzleLemmas.{key_columns}
+use Rattle.hall_sql.proofs.CallLemmas.{executed_open, answers_selection}
+use Rattle.hall_sql.proofs.ColumnLemmas.{texts_equal, column_equals, last_equal, more_equal, spelled}
+use Rattle.hall_sql.proofs.InsertLemmas.{inserts}
+use Rattle.hall_sql.proofs.KeyedLemmas.{keyed_after, added_keyed}
+use Rattle.hall_sql.proofs.MapLemmas.{equal_is}
+use Rattle.hall_sql.proofs.QuietLemmas.{no_works, two_stay}
+use Rattle.hall_sql.proofs.ReplaceLemmas.{replaced_one, added_one}
+use Rattle.hall_sql.proofs.UpdateLemmas.{update, updates, passes_with, made_with}
+use Rattle.hall_sql.proofs.WriteLemmas.{writes_hall, same_worlds, cast_null, cast_number}
+
+-- a state is read from its code and its solution
+state_reads : (state : PuzzleState) → IsState state → state_in (Int (pos (state_code state))) (Text (solution_of state)) ≡ Some state
+state_reads New is = refl
+state_reads (One solution) is = rw (kind_holds 0 4000 is_printable solution is)
+state_reads NoSolution is = refl
+state_reads More is = refl
+state_reads GaveUp is = refl
+
+texts_tie : (s t : List ℕ) → is_true (binary (Compare Eq Binary) (Text s) (Text t)) ≡ true → s ≡ t
+texts_tie s t h = same_texts s t (equal_is _ (sym (texts_equal s t) ∙ h))
+
+-- what equals a text is that text
+text_is : (v : Value) (t : List ℕ) → is_true (binary (Compare Eq Binary) v (Text t)) ≡ true → v ≡ Text t
+unfolding binary value_cmp
+text_is Null t h = absurd cc
+text_is (Int n) t h = absurd cc
+text_is (Real x) t h = absurd cc
+text_is (Text s) t h = ap Text (texts_tie s t h)
+text_is (Blob b) t h = absurd cc
+
+-- where the table of puzzles alone was written, the puzzles alone are changed
+puzzles_alone : (old new : Trees) (puzzles : FinMap puzzle_cmp PuzzleRow)
+    → AllByRecursion (λ (t : Table). t.tree ≢ 3 → new t.tree ≡ old t.tree) hall_schema.tables
+    → kept puzzle_cmp (λ (row : PuzzleRow). row.key) puzzle_row_of (new 3) ≡ puzzles
+    → world_of new ≡ record (world_of old) { puzzles = puzzles }
+puzzles_alone old new puzzles others is =
+    same_worlds (world_of new) (record (world_of old) { puzzles = puzzles })
+    (ap (kept text_cmp (λ person. person.name) person_of) (others.0 (λ same. absurd (omega (arith, same)))))
+    is
+    (ap (kept text_cmp (λ round. round.id) round_of) (others.1.1.0 (λ same. absurd (omega (arith, same)))))
+    (ap (λ rows. from_entries (flat_map (λ row. option_to_list (place_of row)) rows)) (others.1.1.1.0 (λ same. absurd (omega (arith, same)))))
+    (ap (kept answer_cmp (λ row. row.key) answer_of) (others.1.1.1.1.0 (λ same. absurd (omega (arith, same)))))
+    (ap (kept protest_cmp (λ row. row.key) protest_of) (others.1.1.1.1.1.0 (λ same. absurd (omega (arith, same)))))
+
+no_rows : {A : Type 0} (xs : List A) → length xs ≡ 0 → xs ≡ []
+no_rows [] e = refl
+no_rows (x ∷ xs) e = absurd (omega (arith, e))
+
+-- how many rows the look finds
+pub puzzle_looked : (key : PuzzleKey) (old new : State) (rows : List Row) → old.now.schema ≡ hall_schema
+    → Shown look_puzzle_text (Text key.author ∷ Text key.label ∷ []) old new rows → HasSoMany key old (length rows)
+puzzle_looked key old new rows has shown =
+    let given = Text key.author ∷ Text key.label ∷ [] in
+    let sel = answers_selection look_puzzle_text given old new 3 key_terms (col 1 1 ∷ []) [] _ look_puzzle_is.0 look_puzzle_is.1 look_puzzle_is.2 refl has rows shown in
+    sym (length_permutation _ sel.found sel.same) ∙ sym (length-map sel.found (λ r. eval_all (col 1 1 ∷ []) (given ∷ r ∷ []))) ∙ ap length (sym sel.shown)
+
+module _ (text : List ℕ) (row : PuzzleRow) (spells : SpellsText text row.puzzle) (in_key : IsPuzzleKey row.key) (in_state : IsState row.state) where
+  abbrev params : Row
+  params = puzzle_params text row
+
+  -- the columns are read as the puzzle, whatever its rowid is
+  puzzle_reads : (id : Value) → puzzle_row_of (id ∷ params) ≡ Some row
+  puzzle_reads id = rw (
+    kind_holds 1 24 is_word_byte row.key.author in_key.author,
+    kind_holds 1 24 is_word_byte row.key.label in_key.label,
+    spelled text row.puzzle spells,
+    state_reads row.state in_state,
+  )
+
+  puzzle_casts : cast_row puzzles_there (Null ∷ params) ≡ Null ∷ params
+  puzzle_casts = rw (cast_null, cast_number (state_code row.state))
+
+  abbrev has_key : Row → Bool
+  has_key = passes_with hall_schema puzzles_there key_terms replaced_terms apart params
+
+  abbrev made : Row → Row
+  made = made_with hall_schema puzzles_there key_terms replaced_terms apart params
+
+  -- WHERE author = ?1 AND label = ?2 asks for the key
+  agrees : (r : Row) (x : PuzzleRow) → puzzle_row_of r ≡ Some x → has_key r ≡ eq_by_cmp puzzle_cmp x.key row.key
+  agrees r x is =
+      let columns = key_columns r x is in
+      more_equal _ _ _ _ (column_equals (column r 1) x.key.author row.key.author columns.0)
+      (last_equal _ _ (column_equals (column r 2) x.key.label row.key.label columns.1))
+
+  quiet : (new : Row) → works hall_schema Enforced 0 3 [] (new ∷ []) ≡ []
+  unfolding same_name joined
+  quiet new = refl
+
+  module _ (r : Row) (taken : has_key r ≡ true) where
+    author_is : column r 1 ≡ Text row.key.author
+    author_is = text_is (column r 1) row.key.author (and_parts _ _ taken).0
+
+    label_is : column r 2 ≡ Text row.key.label
+    label_is = text_is (column r 2) row.key.label (and_parts _ _ (and_parts _ _ taken).1).0
+
+    made_reads : puzzle_row_of (made r) ≡ Some row
+    made_reads = rw (
+      author_is,
+      label_is,
+      cast_number (state_code row.state),
+      kind_holds 1 24 is_word_byte row.key.author in_key.author,
+      kind_holds 1 24 is_word_byte row.key.label in_key.label,
+      spelled text row.puzzle spells,
+      state_reads row.state in_state,
+    )
+
+    -- the key stays, so no foreign key acts
+    made_quiet : works hall_schema Enforced 0 3 (r ∷ []) (made r ∷ []) ≡ []
+    unfolding same_name joined
+    made_quiet =
+        let stays = two_stay _ 1 2 r (made r) (rw author_is) (rw label_is) in
+        no_works hall_schema Enforced 0 3 (r ∷ []) (made r ∷ []) (tt, ((refl, tt), (tt, ((refl, (stays, tt)), ((refl, (refl, tt)), ((refl, (refl, tt)), tt))))))
+
+  module _ (old new : State) (count : ℕ) (hall : IsHall old) (clean : HasCleanDisk old) where
+    -- the INSERT of a puzzle under a new key
+    pub puzzle_added : (IsTrue old.is_open → HasSoMany row.key old 0) → Executes add_puzzle_text params old new (Ok count) → HasMade (PutPuzzle row) old new
+    puzzle_added nobody ran =
+        let mode = hall.autocommit clean in
+        let was = executed_open old new add_puzzle_text params count mode ran in
+        let has = (hall.settled clean was).1 in
+        let keyed = hall.keyed clean was in
+        let w = runs_as add_puzzle_text params old new hall_schema has (Insert 1 (Values added_terms 6)) add_puzzle_is.0 add_puzzle_is.1 count ran in
+        let it = inserts hall_schema 1 puzzles_there refl refl added_terms 6 params (Null ∷ params) params refl refl puzzle_casts quiet old new _ count has w in
+        let id = next_rowid (old.now.trees 3) in
+        let after = added_keyed id params (old.now.trees 3) (new.now.trees 3) it.put it.free keyed.1.0 in
+        record {
+          hall = writes_hall old new _ _ _ count mode w it.same (keyed_after 3 old.now.trees new.now.trees hall_schema.tables after it.others keyed);
+          was_open = was;
+          serves = w.shown.is_open;
+          world = puzzles_alone old.now.trees new.now.trees (insert (world_of old.now.trees).puzzles row.key row) it.others
+              (added_one puzzle_total same_puzzle_keys (λ (x : PuzzleRow). x.key) puzzle_row_of row.key has_key agrees (old.now.trees 3) (new.now.trees 3) (Int id ∷ params) row (no_rows _ (nobody was)) it.free it.put refl (puzzle_reads (Int id)));
+        }
+
+    -- the UPDATE of the puzzle under the key
+    pub puzzle_replaced : (IsTrue old.is_open → HasSoMany row.key old 1) → Executes replace_puzzle_text params old new (Ok count) → HasMade (PutPuzzle row) old new
+    puzzle_replaced single ran =
+        let mode = hall.autocommit clean in
+        let was = executed_open old new replace_puzzle_text params count mode ran in
+        let has = (hall.settled clean was).1 in
+        let keyed = hall.keyed clean was in
+        let w = runs_as replace_puzzle_text params old new hall_schema has (Update 1 (update hall_schema puzzles_there key_terms replaced_terms apart)) replace_puzzle_is.0 replace_puzzle_is.1 count ran in
+        let it = updates hall_schema puzzles_there key_terms replaced_terms apart 1 refl params made_quiet old new _ count has keyed.1.0 w (single was) in
+        let one = it.rows.one in
+        let there = has_filtered has_key (old.now.trees 3) one (subst (λ l. Has l one) (sym it.rows.found) (inl refl)) in
+        record {
+          hall = writes_hall old new _ _ _ count mode w it.same (keyed_after 3 old.now.trees new.now.trees hall_schema.tables it.keyed it.others keyed);
+          was_open = was;
+          serves = w.shown.is_open;
+          world = puzzles_alone old.now.trees new.now.trees (insert (world_of old.now.trees).puzzles row.key row) it.others
+              (replaced_one puzzle_total same_puzzle_keys (λ (x : PuzzleRow). x.key) puzzle_row_of row.key has_key agrees made (old.now.trees 3) (new.now.trees 3) row keyed.1.0 it.rows refl (made_reads one there.1));
+        }
+
+-- a puzzle stands under its own key, so to put it in a state is to set the state under the key
+pub put_sets : (key : PuzzleKey) (state : PuzzleState) (trees : Trees) (row : PuzzleRow) → Some row ≡ get (world_of trees).puzzles key
+    → changed (PutPuzzle (record row { state = state })) (world_of trees) ≡ changed (SetState key state) (world_of trees)
+put_sets key state trees row found =
+    let own : row.key ≡ key = kept_keyed puzzle_total same_puzzle_keys (λ (x : PuzzleRow). x.key) puzzle_row_of (trees 3) key row (sym found) in
+    subst (λ k. record (world_of trees) { puzzles = insert (world_of trees).puzzles k (record row { state = state }) } ≡ changed (SetState key state) (world_of trees)) (sym own)
+    (subst (λ o. with_state (world_of trees) key state (Some row) ≡ with_state (world_of trees) key state o) found refl)
+
+-- where no puzzle stands under the key, there is nothing to set
+pub sets_nothing : (key : PuzzleKey) (state : PuzzleState) (trees : Trees) → None ≡ get (world_of trees).puzzles key
+    → changed (SetState key state) (world_of trees) ≡ world_of trees
+sets_nothing key state trees found = subst (λ o. with_state (world_of trees) key state o ≡ world_of trees) found refl

@@ -1,0 +1,128 @@
+-- From what a statement that writes leaves to what the trait of stores says.
+use Rattle.std.proofs.Common.{◌≡◌, ◌≤◌, ℕ, pos, List, Bool, true, false, cond, if◌then◌else◌, IsTrue, Result, Ok, Err, None, refl, sym, ap, ◌∙◌, arith}
+use Rattle.sqlite_trees.specs.View.{doubt}
+use Rattle.sqlite.specs.declared.types.Value.{Value}
+use Rattle.sqlite.specs.declared.types.Value.TheVariants.{Null, Int}
+use Rattle.sqlite.specs.Cast.{cast}
+use Rattle.sqlite.specs.Kind.TheVariants.{Integer}
+use Rattle.sqlite.specs.Ops.{unary}
+use Rattle.sqlite.specs.Order.{Row}
+use Rattle.sqlite.specs.Effect.{Database}
+use Rattle.sqlite.specs.State.{State, HasCleanDisk, Writes}
+use Rattle.sqlite_schema.specs.declared.command.Command.{Command}
+use Rattle.hall_policy.specs.World.{World}
+use Rattle.hall_store.specs.Store.{Made}
+use Rattle.hall_store.specs.Change.{changed}
+use Rattle.hall_store.specs.declared.change.Change.{Change}
+use Rattle.hall_sql.specs.Tables.{hall_schema}
+use Rattle.hall_sql.specs.Rows.{world_of}
+use Rattle.hall_sql.specs.Standing.{AreAllKeyed, IsHall, Rested, HasMade, Wrote, content_of}
+
+-- a write outside a transaction is committed
+pub writes_hall : (old new : State) (command : Command) (text : List ℕ) (given : Row) (count : ℕ) → old.in_transaction ≡ false
+    → (w : Writes old new None command text given count) → new.now.schema ≡ hall_schema → AreAllKeyed new.now.trees → IsHall new
+writes_hall old new command text given count mode w has keyed = record {
+  autocommit = λ clean. w.shown.mode ∙ mode;
+  keyed = λ clean opens. keyed;
+  settled = λ clean opens. (sym (w.shown.committed_is ∙ ap (λ b. if b then old.committed else new.now) mode), has);
+}
+
+-- a statement that ran makes the change
+pub made_wrote : {R E : Type 0} (change : Change) (old new : State) (done : R) → doubt old.is_clean ≤ doubt new.is_clean
+    → (HasCleanDisk old → HasCleanDisk new → HasMade change old new) → Wrote {E = E} change old new (Ok done)
+made_wrote change old new done falls made =
+    let before = λ (clean : HasCleanDisk new). let was : HasCleanDisk old = omega (arith, falls, clean) in was in
+    let it = λ (clean : HasCleanDisk new). made (before clean) clean in
+    record {
+      hall = record {
+        autocommit = λ clean. (it clean).hall.autocommit clean;
+        settled = λ clean opens. (it clean).hall.settled clean opens;
+        keyed = λ clean opens. (it clean).hall.keyed clean opens;
+      };
+      makes = record {
+        leads = record { honest = before; serves = λ clean opens. (it clean).was_open };
+        made = λ clean opened. ((it clean).serves, (it clean).world);
+      };
+    }
+
+-- and one that is refused leaves the world
+pub rested_wrote : {R E : Type 0} (change : Change) (old new : State) (fault : E) → Rested old new → Wrote {R = R} change old new (Err fault)
+rested_wrote change old new fault rested = record {
+  hall = rested.hall;
+  makes = record {
+    leads = record {
+      honest = λ clean. let was : HasCleanDisk old = omega (arith, rested.follows.clean, clean) in was;
+      serves = λ clean opens. rested.follows.opened clean opens;
+    };
+    made = λ clean opens. ap (λ (d : Database). world_of d.trees) (rested.same clean opens);
+  };
+}
+
+-- a write after a query that left the world
+pub rested_then : {R E : Type 0} (change : Change) (old mid new : State) (result : Result R E) → Rested old mid
+    → (HasCleanDisk mid → IsTrue mid.is_open) → Wrote change mid new result → Wrote change old new result
+rested_then {R} {E} change old mid new result rested serves wrote =
+    let before = wrote.makes.leads.honest in
+    let first = λ (clean : HasCleanDisk new). let mid_clean = before clean in let was : HasCleanDisk old = omega (arith, rested.follows.clean, mid_clean) in was in
+    let world = λ (clean : HasCleanDisk new). ap (λ (d : Database). world_of d.trees) (rested.same (before clean) (serves (before clean))) in
+    record {
+      hall = wrote.hall;
+      makes = record {
+        leads = record { honest = first; serves = λ clean opens. rested.follows.opened (before clean) (serves (before clean)) };
+        made = by result wrote.makes.made before world;
+      };
+    }
+  where
+    by : (result : Result R E) → Made change (content_of mid) (content_of new) result → (HasCleanDisk new → HasCleanDisk mid)
+        → (HasCleanDisk new → world_of mid.now.trees ≡ world_of old.now.trees) → Made change (content_of old) (content_of new) result
+    by (Ok done) made before world = λ clean opened. let it = made clean (serves (before clean)) in (it.0, it.1 ∙ ap (changed change) (world clean))
+    by (Err fault) made before world = λ clean opens. made clean opens ∙ world clean
+
+-- a query that left the world made a change that changes nothing
+pub rested_made : {R E : Type 0} (change : Change) (old new : State) (done : R) → Rested old new → (HasCleanDisk new → IsTrue new.is_open)
+    → (HasCleanDisk new → changed change (world_of new.now.trees) ≡ world_of new.now.trees) → Wrote {E = E} change old new (Ok done)
+rested_made change old new done rested serves nothing = record {
+  hall = rested.hall;
+  makes = record {
+    leads = record {
+      honest = λ clean. let was : HasCleanDisk old = omega (arith, rested.follows.clean, clean) in was;
+      serves = λ clean opens. rested.follows.opened clean opens;
+    };
+    made = λ clean opened.
+        let world = ap (λ (d : Database). world_of d.trees) (rested.same clean (serves clean)) in
+        (serves clean, sym (nothing clean) ∙ ap (changed change) world);
+  };
+}
+
+-- a write that made one change made another that is the same of its world
+pub wrote_too : {R E : Type 0} (change other : Change) (old new : State) (result : Result R E)
+    → (HasCleanDisk old → changed change (world_of old.now.trees) ≡ changed other (world_of old.now.trees))
+    → Wrote change old new result → Wrote other old new result
+wrote_too {R} {E} change other old new result same wrote = record {
+  hall = wrote.hall;
+  makes = record { leads = record { honest = wrote.makes.leads.honest; serves = wrote.makes.leads.serves }; made = by result wrote.makes.made wrote.makes.leads.honest };
+}
+  where
+    by : (result : Result R E) → Made change (content_of old) (content_of new) result → (HasCleanDisk new → HasCleanDisk old)
+        → Made other (content_of old) (content_of new) result
+    by (Ok done) made before = λ clean opened. let it = made clean opened in (it.0, it.1 ∙ same (before clean))
+    by (Err fault) made before = made
+
+-- worlds are one where their maps are
+pub same_worlds : (a b : World) → a.people ≡ b.people → a.puzzles ≡ b.puzzles → a.rounds ≡ b.rounds → a.places ≡ b.places → a.answers ≡ b.answers
+    → a.protests ≡ b.protests → a ≡ b
+same_worlds a b people puzzles rounds places answers protests =
+    λ i. record { people = people i; puzzles = puzzles i; rounds = rounds i; places = places i; answers = answers i; protests = protests i }
+
+either : (b : Bool) (x : Value) → cond b x x ≡ x
+either true x = refl
+either false x = refl
+
+-- casts that change nothing
+pub cast_null : cast Integer Null ≡ Null
+unfolding unary
+cast_null = either _ Null
+
+pub cast_number : (n : ℕ) → cast Integer (Int (pos n)) ≡ Int (pos n)
+unfolding unary
+cast_number n = either _ (Int (pos n))

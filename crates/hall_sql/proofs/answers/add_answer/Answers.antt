@@ -1,0 +1,10 @@
+use Rattle.sqlite.specs.Held.{state}
+use Rattle.hall_store.specs.declared.change.Change.TheVariants.{AddAnswer}
+use Rattle.hall_sql.proofs.AnswerWrites.{answer_added}
+use Rattle.hall_sql.proofs.WriteLemmas.{made_wrote}
+use Rattle.hall_sql.proofs.answers.add_answer.Goals as goal
+
+pub returns-in-Ok : goal.returns-in-Ok
+returns-in-Ok g c =
+    made_wrote (AddAnswer c.args.row.now) (state g.S.Store c.args.conn.now) (state g.S.Store c.write.new.conn) tt c.write.ensures.clean
+    (λ was clean. answer_added c.args.row.now c.in_range.ensures _ _ _ c.requires.hall was (λ opened. (c.requires.can was opened).fresh) (c.in-Ok.ensures.runs clean))

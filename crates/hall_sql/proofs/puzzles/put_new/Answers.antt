@@ -1,0 +1,10 @@
+use Rattle.sqlite.specs.Held.{state}
+use Rattle.hall_store.specs.declared.change.Change.TheVariants.{PutPuzzle}
+use Rattle.hall_sql.proofs.PuzzleWrites.{puzzle_added}
+use Rattle.hall_sql.proofs.WriteLemmas.{made_wrote}
+use Rattle.hall_sql.proofs.puzzles.put_new.Goals as goal
+
+pub returns-in-Ok-clause-wrote : goal.returns-in-Ok-clause-wrote
+returns-in-Ok-clause-wrote g c =
+    made_wrote (PutPuzzle c.args.row.now) (state g.S.Store c.args.conn.now) (state g.S.Store c.add.new.conn) tt c.add.ensures.clean
+    (λ was clean. puzzle_added c.args.text.now c.args.row.now c.requires.spells c.in_range.ensures c.add.ensures.in_range _ _ _ c.requires.hall was (λ opened. c.requires.found was) (c.in-Ok.ensures.runs clean))

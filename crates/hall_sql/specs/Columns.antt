@@ -1,0 +1,53 @@
+-- The columns that a record is written in, and the rows under its key.
+use Rattle.std.specs.Prelude.{◌≡◌, ℕ, pos, Bool, List, [], ◌∷◌, length}
+use Rattle.std.specs.List.{filter, list_all}
+use Rattle.sqlite.specs.declared.types.Value.TheVariants.{Int, Text}
+use Rattle.sqlite.specs.Order.{Row}
+use Rattle.sqlite_sql.specs.declared.ops.BinaryOp.TheVariants.{Compare}
+use Rattle.sqlite_sql.specs.declared.ops.CompareOp.TheVariants.{Eq}
+use Rattle.sqlite.specs.Collation.TheVariants.{Binary}
+use Rattle.sqlite.specs.Term.{holds, col, op2}
+use Rattle.sqlite.specs.State.{State}
+use Rattle.hall_policy.specs.declared.record.PuzzleKey.{PuzzleKey}
+use Rattle.hall_policy.specs.declared.record.PuzzleRow.{PuzzleRow}
+use Rattle.hall_policy.specs.declared.record.PuzzleState.{PuzzleState}
+use Rattle.hall_policy.specs.declared.record.PuzzleState.TheVariants.{New, One, NoSolution, More, GaveUp}
+use Rattle.hall_policy.specs.declared.record.AnswerRow.{AnswerRow}
+
+-- the columns of an answer: entrant, round, number, token, n, moment, answer, verdict
+abbrev pub answer_params : AnswerRow → Row
+answer_params row =
+    Text row.key.entrant ∷ Text row.key.round ∷ Int (pos row.key.number) ∷ Text row.key.token ∷ Int (pos row.n)
+    ∷ Int (pos row.moment) ∷ Text row.answer ∷ Int (pos row.verdict) ∷ []
+
+-- the code of a state: 0 new, 1 one, 2 none, 3 more, 4 gave up
+abbrev pub state_code : PuzzleState → ℕ
+state_code New = 0
+state_code (One solution) = 1
+state_code NoSolution = 2
+state_code More = 3
+state_code GaveUp = 4
+
+-- the solution of a state, and the empty text where it has none
+abbrev pub solution_of : PuzzleState → List ℕ
+solution_of New = []
+solution_of (One solution) = solution
+solution_of NoSolution = []
+solution_of More = []
+solution_of GaveUp = []
+
+-- the columns of a puzzle that this text spells: author, label, body, state, solution
+abbrev pub puzzle_params : List ℕ → PuzzleRow → Row
+puzzle_params text row =
+    Text row.key.author ∷ Text row.key.label ∷ Text text ∷ Int (pos (state_code row.state))
+    ∷ Text (solution_of row.state) ∷ []
+
+-- the row stands under the key, as SQL compares
+abbrev pub stands_under : PuzzleKey → Row → Bool
+stands_under key row =
+    list_all (holds ((Text key.author ∷ Text key.label ∷ []) ∷ row ∷ []))
+    (op2 (Compare Eq Binary) (col 1 1) (col 0 0) ∷ op2 (Compare Eq Binary) (col 1 2) (col 0 1) ∷ [])
+
+-- so many rows of the table of puzzles stand under the key
+abbrev pub HasSoMany : PuzzleKey → State → ℕ → Type 0
+HasSoMany key s count = length (filter (stands_under key) (s.now.trees 3)) ≡ count

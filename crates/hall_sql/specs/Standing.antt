@@ -1,0 +1,106 @@
+-- What the store keeps true of its connection, what a call leaves, and the content that a connection shows.
+use Rattle.std.specs.Prelude.{◌≡◌, ◌≢◌, ◌≤◌, ◌⊎◌, ℕ, Bool, false, List, [], ◌∷◌, map, IsTrue, Result}
+use Rattle.std.specs.List.{AllByRecursion, filter, list_all}
+use Rattle.std.specs.List.Sorted.{IsPermutation, IsSorted}
+use Rattle.std.specs.declared.cmp.Ordering.TheVariants.{Equal}
+use Rattle.sqlite_value.specs.Order.{value_cmp}
+use Rattle.sqlite_trees.specs.Tree.{rowid, put_row, without_rowid}
+use Rattle.sqlite_rules.specs.Edit.{next_rowid, is_taken, id_in}
+use Rattle.sqlite.specs.declared.types.Value.TheVariants.{Int}
+use Rattle.sqlite.specs.Effect.{Database}
+use Rattle.sqlite.specs.Schema.{Schema}
+use Rattle.sqlite_trees.specs.View.{doubt, is_int}
+use Rattle.sqlite.specs.Order.{Row}
+use Rattle.sqlite.specs.Tree.{Trees}
+use Rattle.sqlite.specs.Term.{holds, eval_all}
+use Rattle.sqlite.specs.Query.{Query, output, output_cmp}
+use Rattle.sqlite.specs.State.{State, HasCleanDisk, IsUnchanged, IsRolledBack}
+use Rattle.hall_store.specs.Store.{Content, Makes}
+use Rattle.hall_store.specs.Change.{changed}
+use Rattle.hall_store.specs.declared.change.Change.{Change}
+use Rattle.hall_sql.specs.Tables.{hall_schema}
+use Rattle.hall_sql.specs.Rows.{world_of}
+
+-- the rowids of the two rows differ
+abbrev pub Apart : Row → Row → Type 0
+Apart a b = value_cmp (rowid a) (rowid b) ≢ Equal
+
+-- no two of the rows have one rowid
+abbrev pub AreDistinct : List Row → Type 0
+AreDistinct [] = Unit {0}
+AreDistinct (row ∷ rows) = AllByRecursion (Apart row) rows × AreDistinct rows
+
+-- the rowids are integers, and none stands twice
+pub record AreKeyed (rows : List Row) : Type 0 where
+  pub ints : AllByRecursion (λ row. IsTrue (is_int (rowid row))) rows
+  pub distinct : AreDistinct rows
+
+-- The rowids of each table are integers, and none stands twice in it. No clause of a connection says so.
+abbrev pub AreAllKeyed : Trees → Type 0
+AreAllKeyed trees = AllByRecursion (λ table. AreKeyed (trees table.tree)) hall_schema.tables
+
+-- No transaction is open. Where the store still serves, all is committed, and the tables are the hall's.
+pub record IsHall (s : State) : Type 0 where
+  pub autocommit : HasCleanDisk s → s.in_transaction ≡ false
+  pub settled : HasCleanDisk s → IsTrue s.is_open → (s.now ≡ s.committed) × (s.now.schema ≡ hall_schema)
+  pub keyed : HasCleanDisk s → IsTrue s.is_open → AreAllKeyed s.now.trees
+
+-- no fault is forgotten, and a store that is shut stays so
+pub record Follows (old new : State) : Type 0 where
+  pub clean : doubt old.is_clean ≤ doubt new.is_clean
+  pub opened : HasCleanDisk new → IsTrue new.is_open → IsTrue old.is_open
+
+-- the connection was left as it was, or it was rolled back
+abbrev pub Rests : State → State → Type 0
+Rests old new = IsUnchanged old new ⊎ IsRolledBack old new
+
+-- the tables are as they were, while the store serves
+pub record Rested (old new : State) : Type 0 where
+  pub hall : IsHall new
+  pub follows : Follows old new
+  pub same : HasCleanDisk new → IsTrue new.is_open → new.now ≡ old.now
+
+-- the rows of a table that meet WHERE, in an order that ORDER BY allows, as the columns that are shown
+pub record IsSelection (q : Query) (table : List Row) (params : Row) (rows : List Row) : Type 0 where
+  pub found : List Row
+  pub same : IsPermutation (filter (λ row. list_all (holds (params ∷ row ∷ [])) q.filter) table) found
+  pub sorted : IsSorted (λ a b. output_cmp q (output q (params ∷ a ∷ [])) (output q (params ∷ b ∷ []))) found
+  pub shown : rows ≡ map (λ row. eval_all q.project (params ∷ row ∷ [])) found
+
+-- The content of a connection: it is honest while its disk is clean, serves while it is open, and its world is what its
+-- tables hold.
+abbrev pub content_of : State → Content
+content_of s = record { honest = HasCleanDisk s; serves = IsTrue s.is_open; world = world_of s.now.trees }
+
+-- the table in this tree has one row more, with a rowid of its own, and each other table is as it was
+pub record HasAdded (schema : Schema) (tree : ℕ) (values : Row) (old new : Database) : Type 0 where
+  pub same : new.schema ≡ schema
+  pub free : is_taken (old.trees tree) (Int (next_rowid (old.trees tree)) ∷ values) ≡ false
+  pub put : new.trees tree ≡ put_row (Int (next_rowid (old.trees tree)) ∷ values) (old.trees tree)
+  pub others : AllByRecursion (λ table. table.tree ≢ tree → new.trees table.tree ≡ old.trees table.tree) schema.tables
+
+-- the one row that passes was taken out, and what is made of it was put in
+pub record IsReplaced (keeps : Row → Bool) (made : Row → Row) (rows out : List Row) : Type 0 where
+  pub one : Row
+  pub found : filter keeps rows ≡ one ∷ []
+  pub free : is_taken (without_rowid (id_in (rowid one)) rows) (made one) ≡ false
+  pub put : out ≡ put_row (made one) (without_rowid (id_in (rowid one)) rows)
+
+-- so it was done to the table in this tree, and each other table is as it was
+pub record HasReplaced (schema : Schema) (tree : ℕ) (keeps : Row → Bool) (made : Row → Row) (old new : Database) : Type 0 where
+  pub same : new.schema ≡ schema
+  pub rows : IsReplaced keeps made (old.trees tree) (new.trees tree)
+  pub keyed : AreKeyed (new.trees tree)
+  pub others : AllByRecursion (λ table. table.tree ≢ tree → new.trees table.tree ≡ old.trees table.tree) schema.tables
+
+-- a statement ran and made the change
+pub record HasMade (change : Change) (old new : State) : Type 0 where
+  pub hall : IsHall new
+  pub was_open : IsTrue old.is_open
+  pub serves : IsTrue new.is_open
+  pub world : world_of new.now.trees ≡ changed change (world_of old.now.trees)
+
+-- a call that writes: the hall stands, and it made the change, or was refused and left the world
+pub record Wrote {R E : Type 0} (change : Change) (old new : State) (result : Result R E) : Type 0 where
+  pub hall : IsHall new
+  pub makes : Makes change (content_of old) (content_of new) result

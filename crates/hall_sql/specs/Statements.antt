@@ -1,0 +1,56 @@
+-- The texts of the statements.
+use Rattle.std.specs.Prelude.{codes, List, [], ℕ, pos, negsuc, None, false}
+use Rattle.sqlite.specs.declared.types.Value.TheVariants.{Int}
+use Rattle.sqlite_value.specs.declared.keys.Key.{Key}
+use Rattle.sqlite.specs.Term.{Term, lit}
+use Rattle.sqlite.specs.Query.{Query, inner, end}
+
+-- a query of one table, with no grouping and all its rows
+abbrev pub plain_query : ℕ → List Term → List Term → List (Term × Key) → Query
+plain_query tree filter project order = record {
+  from = inner tree end;
+  filter = filter;
+  group = None;
+  project = project;
+  distinct = false;
+  collations = [];
+  order = order;
+  limit = lit (Int (negsuc 0));
+  offset = lit (Int (pos 0));
+}
+
+-- the person of a name
+abbrev pub person_text : List ℕ
+person_text = codes "SELECT name, pass, roles FROM people WHERE name = ?1"
+
+-- the puzzle under a key
+abbrev pub puzzle_text : List ℕ
+puzzle_text = codes "SELECT author, label, body, state, solution FROM puzzles WHERE author = ?1 AND label = ?2"
+
+-- the answer under a key
+abbrev pub answer_text : List ℕ
+answer_text = codes "SELECT entrant, round, number, token, n, moment, answer, verdict FROM answers WHERE entrant = ?1 AND round = ?2 AND number = ?3 AND token = ?4"
+
+-- the entrant's answers in the round, in the order of listings
+abbrev pub answers_of_text : List ℕ
+answers_of_text = codes "SELECT entrant, round, number, token, n, moment, answer, verdict FROM answers WHERE round = ?2 AND entrant = ?1 ORDER BY entrant, number, n, token"
+
+-- the answers of the round, in the order of listings
+abbrev pub answers_in_text : List ℕ
+answers_in_text = codes "SELECT entrant, round, number, token, n, moment, answer, verdict FROM answers WHERE round = ?1 ORDER BY entrant, number, n, token"
+
+-- one more answer
+abbrev pub add_answer_text : List ℕ
+add_answer_text = codes "INSERT INTO answers (entrant, round, number, token, n, moment, answer, verdict) VALUES (?1, ?2, ?3, ?4, ?5, ?6, ?7, ?8)"
+
+-- the rows under a puzzle's key
+abbrev pub look_puzzle_text : List ℕ
+look_puzzle_text = codes "SELECT author FROM puzzles WHERE author = ?1 AND label = ?2"
+
+-- a puzzle under a new key
+abbrev pub add_puzzle_text : List ℕ
+add_puzzle_text = codes "INSERT INTO puzzles (author, label, body, state, solution) VALUES (?1, ?2, ?3, ?4, ?5)"
+
+-- a puzzle in the place of the one under its key
+abbrev pub replace_puzzle_text : List ℕ
+replace_puzzle_text = codes "UPDATE puzzles SET body = ?3, state = ?4, solution = ?5 WHERE author = ?1 AND label = ?2"

@@ -1,0 +1,147 @@
+//! The table of answers.
+ghost use Rattle.std.specs.Prelude.{◌≡◌, ◌≤◌, Ok, IfOk, OnErr};
+ghost use Rattle.std.specs.FinMap.{get};
+ghost use Rattle.sqlite.specs.Held.{state};
+ghost use Rattle.hall_store.specs.Store.{Served, IsListing, is_of, is_in, Asks};
+ghost use Rattle.hall_store.specs.Change.{CanAddAnswer};
+ghost use Rattle.hall_store.specs.declared.change.Change.TheVariants.{AddAnswer};
+ghost use Rattle.hall_policy.specs.Ranges.{IsAnswerRow};
+ghost use Rattle.sqlite_trees.specs.View.{doubt};
+ghost use Rattle.sqlite.specs.State.{HasCleanDisk, Executes};
+ghost use Rattle.hall_sql.specs.Statements.{add_answer_text};
+ghost use Rattle.hall_sql.specs.Columns.{answer_params};
+ghost use Rattle.hall_sql.specs.Standing.{IsHall, Rested, Wrote, content_of};
+
+use crate::calls::{ask, run};
+use crate::record::{at_most_one, read_all};
+use hall_policy::{AnswerKey, AnswerRow, Name, RoundId};
+use hall_store::StoreFault;
+use sqlite::{Alter, Connection, params};
+use std::alloc::Global;
+
+const ANSWER: &str =
+    "SELECT entrant, round, number, token, n, moment, answer, verdict FROM answers \
+    WHERE entrant = ?1 AND round = ?2 AND number = ?3 AND token = ?4";
+
+/// The answer under the key.
+pub(crate) fn answer<S: Alter>(
+    conn: &mut Connection<S>,
+    alloc: Global,
+    key: &AnswerKey,
+) -> Result<Option<AnswerRow>, StoreFault>
+    requires hall { IsHall (state S.Store conn.old) }
+    ensures rested { Rested (state S.Store conn.old) (state S.Store conn.new) }
+    ensures served { Served (content_of (state S.Store conn.new)) result
+        (λ world found. found ≡ get world.answers key.now) }
+{
+    let rows = ask(
+        conn,
+        ANSWER,
+        params![
+            key.entrant.as_str(),
+            key.round.as_str(),
+            key.number.get() as u32,
+            key.token.as_str()
+        ],
+    )?;
+    at_most_one(read_all(alloc, &rows)?)
+}
+
+const ANSWERS_OF: &str =
+    "SELECT entrant, round, number, token, n, moment, answer, verdict FROM answers \
+    WHERE round = ?2 AND entrant = ?1 ORDER BY entrant, number, n, token";
+
+/// The entrant's answers in the round, by number, then n.
+pub(crate) fn answers_of<S: Alter>(
+    conn: &mut Connection<S>,
+    alloc: Global,
+    entrant: &Name,
+    round: &RoundId,
+) -> Result<Vec<AnswerRow>, StoreFault>
+    requires hall { IsHall (state S.Store conn.old) }
+    ensures rested { Rested (state S.Store conn.old) (state S.Store conn.new) }
+    ensures served { Served (content_of (state S.Store conn.new)) result
+        (λ world rows. IsListing world (is_of entrant.now round.now) rows.items) }
+{
+    let _schema = conn.schema();
+    let rows = ask(conn, ANSWERS_OF, params![entrant.as_str(), round.as_str()])?;
+    read_all(alloc, &rows)
+}
+
+const ANSWERS_IN: &str =
+    "SELECT entrant, round, number, token, n, moment, answer, verdict FROM answers \
+    WHERE round = ?1 ORDER BY entrant, number, n, token";
+
+/// The answers of the round, by entrant, number, then n.
+pub(crate) fn answers_in<S: Alter>(
+    conn: &mut Connection<S>,
+    alloc: Global,
+    round: &RoundId,
+) -> Result<Vec<AnswerRow>, StoreFault>
+    requires hall { IsHall (state S.Store conn.old) }
+    ensures rested { Rested (state S.Store conn.old) (state S.Store conn.new) }
+    ensures served { Served (content_of (state S.Store conn.new)) result
+        (λ world rows. IsListing world (is_in round.now) rows.items) }
+{
+    let _schema = conn.schema();
+    let rows = ask(conn, ANSWERS_IN, params![round.as_str()])?;
+    read_all(alloc, &rows)
+}
+
+/// Tells a proof that the answer lies in the ranges of its types.
+fn in_range(row: &AnswerRow)
+    ensures { IsAnswerRow row.now }
+{
+    let _entrant = row.key.entrant.as_str();
+    let _round = row.key.round.as_str();
+    let _number = row.key.number.get();
+    let _token = row.key.token.as_str();
+    let _n = row.n.get();
+    let _moment = row.moment.get();
+    let _answer = row.answer.as_str();
+    let _verdict = row.verdict.bits();
+}
+
+const ADD_ANSWER: &str =
+    "INSERT INTO answers (entrant, round, number, token, n, moment, answer, verdict) \
+    VALUES (?1, ?2, ?3, ?4, ?5, ?6, ?7, ?8)";
+
+/// Writes the columns of an answer.
+fn write<S: Alter>(conn: &mut Connection<S>, row: &AnswerRow) -> Result<usize, StoreFault>
+    requires hall { IsHall (state S.Store conn.old) }
+    ensures clean { doubt (state S.Store conn.old).is_clean ≤ doubt (state S.Store conn.new).is_clean }
+    ensures refused { OnErr result (Rested (state S.Store conn.old) (state S.Store conn.new)) }
+    ensures runs { HasCleanDisk (state S.Store conn.new) → IfOk result (λ count.
+        Executes add_answer_text (answer_params row.now) (state S.Store conn.old) (state S.Store conn.new) (Ok count)) }
+{
+    run(
+        conn,
+        ADD_ANSWER,
+        params![
+            row.key.entrant.as_str(),
+            row.key.round.as_str(),
+            row.key.number.get() as u32,
+            row.key.token.as_str(),
+            row.n.get() as u32,
+            row.moment.get() as u32,
+            row.answer.as_str(),
+            u32::from(row.verdict.bits())
+        ],
+    )
+}
+
+/// Stores one more answer.
+pub(crate) fn add_answer<S: Alter>(
+    conn: &mut Connection<S>,
+    row: &AnswerRow,
+) -> Result<(), StoreFault>
+    requires hall { IsHall (state S.Store conn.old) }
+    requires can { Asks (content_of (state S.Store conn.old)) (λ world. CanAddAnswer world row.now) }
+    ensures { Wrote (AddAnswer row.now) (state S.Store conn.old) (state S.Store conn.new) result }
+{
+    in_range(row);
+    match write(conn, row) {
+        Ok(_) => Ok(()),
+        Err(fault) => Err(fault),
+    }
+}

@@ -1,0 +1,60 @@
+//! One statement each: what it leaves of the connection.
+ghost use Rattle.std.specs.Prelude.{◌≡◌, ◌≤◌, IsTrue, Ok, IfOk, OnErr};
+ghost use Rattle.sqlite.specs.Values.{bound};
+ghost use Rattle.sqlite.specs.Held.{state};
+ghost use Rattle.sqlite.specs.Given.{IsPlain};
+ghost use Rattle.sqlite.specs.Listing.{understood};
+ghost use Rattle.sqlite.specs.State.{HasCleanDisk, Shown, Executes};
+ghost use Rattle.sqlite_trees.specs.View.{doubt};
+ghost use Rattle.hall_sql.specs.Tables.{hall_schema};
+ghost use Rattle.hall_sql.specs.Standing.{IsHall, Rested};
+
+use hall_store::StoreFault;
+use sqlite::types::ValueRef;
+use sqlite::{Alter, Connection, Error, ErrorCode, Row};
+
+/// Want of memory, or that the store failed.
+pub(crate) fn fault_of(error: &Error) -> StoreFault {
+    match error {
+        Error::SqliteFailure(ErrorCode::OutOfMemory) => StoreFault::Memory,
+        _ => StoreFault::Failed,
+    }
+}
+
+/// All rows of a query, which changes nothing.
+pub(crate) fn ask<S: Alter>(
+    conn: &mut Connection<S>,
+    sql: &str,
+    params: &[ValueRef<'_>],
+) -> Result<Vec<Row>, StoreFault>
+    requires plain { IsPlain (understood hall_schema sql.now) }
+    requires hall { IsHall (state S.Store conn.old) }
+    ensures rested { Rested (state S.Store conn.old) (state S.Store conn.new) }
+    ensures serves { HasCleanDisk (state S.Store conn.new) → IfOk result
+        (λ _. IsTrue (state S.Store conn.new).is_open) }
+    ensures shown { HasCleanDisk (state S.Store conn.new) → IfOk result
+        (λ rows. Shown sql.now (bound params.now) (state S.Store conn.old) (state S.Store conn.new) rows.items) }
+{
+    match conn.query_all(sql, params) {
+        Ok(rows) => Ok(rows),
+        Err(error) => Err(fault_of(&error)),
+    }
+}
+
+/// Runs a statement that is no query. Refused, it changes nothing.
+pub(crate) fn run<S: Alter>(
+    conn: &mut Connection<S>,
+    sql: &str,
+    params: &[ValueRef<'_>],
+) -> Result<usize, StoreFault>
+    requires hall { IsHall (state S.Store conn.old) }
+    ensures clean { doubt (state S.Store conn.old).is_clean ≤ doubt (state S.Store conn.new).is_clean }
+    ensures refused { OnErr result (Rested (state S.Store conn.old) (state S.Store conn.new)) }
+    ensures runs { HasCleanDisk (state S.Store conn.new) → IfOk result (λ count.
+        Executes sql.now (bound params.now) (state S.Store conn.old) (state S.Store conn.new) (Ok count)) }
+{
+    match conn.execute(sql, params) {
+        Ok(count) => Ok(count),
+        Err(error) => Err(fault_of(&error)),
+    }
+}

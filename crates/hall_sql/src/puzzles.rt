@@ -1,0 +1,252 @@
+//! The table of puzzles.
+ghost use Rattle.std.specs.Prelude.{◌≡◌, ◌≤◌, IsTrue, Ok, IfOk, OnErr};
+ghost use Rattle.std.specs.FinMap.{get};
+ghost use Rattle.sqlite.specs.Held.{state};
+ghost use Rattle.hall_store.specs.Store.{Served};
+ghost use Rattle.sqlite_trees.specs.View.{doubt};
+ghost use Rattle.sqlite.specs.State.{HasCleanDisk, Executes};
+ghost use Rattle.hall_grid.specs.Text.{SpellsText};
+ghost use Rattle.hall_policy.specs.Ranges.{IsPuzzleKey, IsState};
+ghost use Rattle.hall_store.specs.declared.change.Change.TheVariants.{PutPuzzle, SetState};
+ghost use Rattle.hall_sql.specs.Statements.{add_puzzle_text, replace_puzzle_text};
+ghost use Rattle.hall_sql.specs.Columns.{puzzle_params, HasSoMany, state_code, solution_of};
+ghost use Rattle.hall_sql.specs.Standing.{IsHall, Rested, Wrote, content_of};
+
+use crate::calls::{ask, run};
+use crate::record::{at_most_one, read_all};
+use hall_grid::write_puzzle;
+use hall_policy::{PuzzleKey, PuzzleRow, PuzzleState};
+use hall_store::StoreFault;
+use sqlite::{Alter, Connection, params};
+use std::alloc::Global;
+
+const PUZZLE: &str =
+    "SELECT author, label, body, state, solution FROM puzzles WHERE author = ?1 AND label = ?2";
+
+/// The puzzle under the key.
+pub(crate) fn puzzle<S: Alter>(
+    conn: &mut Connection<S>,
+    alloc: Global,
+    key: &PuzzleKey,
+) -> Result<Option<PuzzleRow>, StoreFault>
+    requires hall { IsHall (state S.Store conn.old) }
+    ensures rested { Rested (state S.Store conn.old) (state S.Store conn.new) }
+    ensures served { Served (content_of (state S.Store conn.new)) result
+        (λ world found. found ≡ get world.puzzles key.now) }
+{
+    let rows = ask(
+        conn,
+        PUZZLE,
+        params![key.author.as_str(), key.label.as_str()],
+    )?;
+    at_most_one(read_all(alloc, &rows)?)
+}
+
+/// The code of a state.
+fn state_code(state: &PuzzleState) -> u32
+    ensures { result ≡ state_code state.now }
+{
+    match state {
+        PuzzleState::New => 0,
+        PuzzleState::One(_) => 1,
+        PuzzleState::NoSolution => 2,
+        PuzzleState::More => 3,
+        PuzzleState::GaveUp => 4,
+    }
+}
+
+/// The solution of a state, and the empty text where it has none.
+fn solution_of(state: &PuzzleState) -> &str
+    ensures text { result.now ≡ solution_of state.now }
+    ensures in_range { IsState state.now }
+{
+    match state {
+        PuzzleState::One(solution) => solution.as_str(),
+        PuzzleState::New | PuzzleState::NoSolution | PuzzleState::More | PuzzleState::GaveUp => "",
+    }
+}
+
+/// Tells a proof that the key lies in the ranges of its types.
+fn in_range(key: &PuzzleKey)
+    ensures { IsPuzzleKey key.now }
+{
+    let _author = key.author.as_str();
+    let _label = key.label.as_str();
+}
+
+const LOOK: &str = "SELECT author FROM puzzles WHERE author = ?1 AND label = ?2";
+
+/// How many rows stand under the key: none or one, unless the table is no world's.
+fn look<S: Alter>(conn: &mut Connection<S>, key: &PuzzleKey) -> Result<usize, StoreFault>
+    requires hall { IsHall (state S.Store conn.old) }
+    ensures rested { Rested (state S.Store conn.old) (state S.Store conn.new) }
+    ensures serves { HasCleanDisk (state S.Store conn.new) → IfOk result
+        (λ _. IsTrue (state S.Store conn.new).is_open) }
+    ensures found { HasCleanDisk (state S.Store conn.new) → IfOk result
+        (HasSoMany key.now (state S.Store conn.new)) }
+{
+    Ok(ask(conn, LOOK, params![key.author.as_str(), key.label.as_str()])?.len())
+}
+
+const ADD: &str =
+    "INSERT INTO puzzles (author, label, body, state, solution) VALUES (?1, ?2, ?3, ?4, ?5)";
+
+const REPLACE: &str =
+    "UPDATE puzzles SET body = ?3, state = ?4, solution = ?5 WHERE author = ?1 AND label = ?2";
+
+/// Writes the columns of a puzzle under a new key.
+fn add<S: Alter>(conn: &mut Connection<S>, row: &PuzzleRow, text: &str) -> Result<usize, StoreFault>
+    requires hall { IsHall (state S.Store conn.old) }
+    ensures in_range { IsState row.now.state }
+    ensures clean { doubt (state S.Store conn.old).is_clean ≤ doubt (state S.Store conn.new).is_clean }
+    ensures refused { OnErr result (Rested (state S.Store conn.old) (state S.Store conn.new)) }
+    ensures runs { HasCleanDisk (state S.Store conn.new) → IfOk result (λ count. Executes add_puzzle_text
+        (puzzle_params text.now row.now) (state S.Store conn.old) (state S.Store conn.new) (Ok count)) }
+{
+    let solution = solution_of(&row.state);
+    run(
+        conn,
+        ADD,
+        params![
+            row.key.author.as_str(),
+            row.key.label.as_str(),
+            text,
+            state_code(&row.state),
+            solution
+        ],
+    )
+}
+
+/// Writes the columns of a puzzle in the place of the one under its key.
+fn replace<S: Alter>(
+    conn: &mut Connection<S>,
+    row: &PuzzleRow,
+    text: &str,
+) -> Result<usize, StoreFault>
+    requires hall { IsHall (state S.Store conn.old) }
+    ensures in_range { IsState row.now.state }
+    ensures clean { doubt (state S.Store conn.old).is_clean ≤ doubt (state S.Store conn.new).is_clean }
+    ensures refused { OnErr result (Rested (state S.Store conn.old) (state S.Store conn.new)) }
+    ensures runs { HasCleanDisk (state S.Store conn.new) → IfOk result (λ count. Executes replace_puzzle_text
+        (puzzle_params text.now row.now) (state S.Store conn.old) (state S.Store conn.new) (Ok count)) }
+{
+    let solution = solution_of(&row.state);
+    run(
+        conn,
+        REPLACE,
+        params![
+            row.key.author.as_str(),
+            row.key.label.as_str(),
+            text,
+            state_code(&row.state),
+            solution
+        ],
+    )
+}
+
+/// Stores a puzzle under a new key.
+fn put_new<S: Alter>(
+    conn: &mut Connection<S>,
+    row: &PuzzleRow,
+    text: &str,
+) -> Result<(), StoreFault>
+    requires hall { IsHall (state S.Store conn.old) }
+    requires spells { SpellsText text.now row.now.puzzle }
+    requires found { HasCleanDisk (state S.Store conn.old) → HasSoMany row.now.key (state S.Store conn.old) 0 }
+    ensures clean { doubt (state S.Store conn.old).is_clean ≤ doubt (state S.Store conn.new).is_clean }
+    ensures wrote { Wrote (PutPuzzle row.now) (state S.Store conn.old) (state S.Store conn.new) result }
+{
+    in_range(&row.key);
+    match add(conn, row, text) {
+        Ok(_) => Ok(()),
+        Err(fault) => Err(fault),
+    }
+}
+
+/// Stores a puzzle in the place of the one under its key.
+fn put_over<S: Alter>(
+    conn: &mut Connection<S>,
+    row: &PuzzleRow,
+    text: &str,
+) -> Result<(), StoreFault>
+    requires hall { IsHall (state S.Store conn.old) }
+    requires spells { SpellsText text.now row.now.puzzle }
+    requires found { HasCleanDisk (state S.Store conn.old) → HasSoMany row.now.key (state S.Store conn.old) 1 }
+    ensures clean { doubt (state S.Store conn.old).is_clean ≤ doubt (state S.Store conn.new).is_clean }
+    ensures wrote { Wrote (PutPuzzle row.now) (state S.Store conn.old) (state S.Store conn.new) result }
+{
+    in_range(&row.key);
+    match replace(conn, row, text) {
+        Ok(_) => Ok(()),
+        Err(fault) => Err(fault),
+    }
+}
+
+/// Stores the puzzle that the text spells, under whose key so many rows stand.
+fn put_found<S: Alter>(
+    conn: &mut Connection<S>,
+    row: &PuzzleRow,
+    text: &str,
+    count: usize,
+) -> Result<(), StoreFault>
+    requires hall { IsHall (state S.Store conn.old) }
+    requires spells { SpellsText text.now row.now.puzzle }
+    requires found { HasCleanDisk (state S.Store conn.old) → HasSoMany row.now.key (state S.Store conn.old) count }
+    ensures clean { doubt (state S.Store conn.old).is_clean ≤ doubt (state S.Store conn.new).is_clean }
+    ensures wrote { Wrote (PutPuzzle row.now) (state S.Store conn.old) (state S.Store conn.new) result }
+{
+    match count {
+        0 => put_new(conn, row, text),
+        1 => put_over(conn, row, text),
+        _ => Err(StoreFault::Failed),
+    }
+}
+
+/// Stores the puzzle, in the place of the one under its key.
+pub(crate) fn put_puzzle<S: Alter>(
+    conn: &mut Connection<S>,
+    alloc: Global,
+    row: &PuzzleRow,
+) -> Result<(), StoreFault>
+    requires hall { IsHall (state S.Store conn.old) }
+    ensures { Wrote (PutPuzzle row.now) (state S.Store conn.old) (state S.Store conn.new) result }
+{
+    let text = write_puzzle(alloc, &row.puzzle)?;
+    let count = look(conn, &row.key)?;
+    put_found(conn, row, text.as_str(), count)
+}
+
+/// Stores the puzzle in another state.
+fn put_state<S: Alter>(
+    conn: &mut Connection<S>,
+    alloc: Global,
+    row: PuzzleRow,
+    known: PuzzleState,
+) -> Result<(), StoreFault>
+    requires hall { IsHall (state S.Store conn.old) }
+    ensures { Wrote (PutPuzzle (record row { state = known })) (state S.Store conn.old) (state S.Store conn.new)
+        result }
+{
+    let row = PuzzleRow {
+        key: row.key,
+        puzzle: row.puzzle,
+        state: known,
+    };
+    put_puzzle(conn, alloc, &row)
+}
+
+/// Sets the state of the puzzle under the key.
+pub(crate) fn set_state<S: Alter>(
+    conn: &mut Connection<S>,
+    alloc: Global,
+    key: &PuzzleKey,
+    known: PuzzleState,
+) -> Result<(), StoreFault>
+    requires hall { IsHall (state S.Store conn.old) }
+    ensures { Wrote (SetState key.now known) (state S.Store conn.old) (state S.Store conn.new) result }
+{
+    match puzzle(conn, alloc, key)? {
+        Some(row) => put_state(conn, alloc, row, known),
+        None => Ok(()),
+    }
+}

@@ -1,0 +1,213 @@
+//! How a row of a table gives a record.
+ghost use Rattle.std.specs.Prelude.{◌≡◌, ◌≤◌, List, map, length, slice_get, Option, Some, IfOk};
+ghost use Rattle.sqlite.specs.Order.{Row as Columns};
+ghost use Rattle.sqlite_value.specs.Order.{column};
+ghost use Rattle.hall_sql.specs.Values.{board_of, number_in, kind_in, within, roles_in, puzzle_in, unsolved_of, state_in};
+ghost use Rattle.hall_grid.proofs.SpellsOrHasFault.{spells_or_fault};
+ghost use Rattle.hall_sql.specs.Rows.{person_in, puzzle_row_in, IsAnswerKeyIn, answer_in};
+
+use crate::calls::fault_of;
+use hall_grid::{Broken, Puzzle, TextFault, parse_puzzle};
+use hall_policy::{
+    AnswerKey, AnswerRow, AnswerText, Checked, Person, PuzzleKey, PuzzleRow, PuzzleState, Roles,
+    TextKind, Within,
+};
+use hall_store::StoreFault;
+use sqlite::Row;
+use std::alloc::Global;
+
+/// A record that a row of a query gives.
+pub(crate) trait Record: Sized {
+    // The record whose columns these are.
+    ghost read: { Columns → Option Self };
+
+    /// Refused where the columns are no record of this kind.
+    fn from_row(alloc: Global, row: &Row) -> Result<Self, StoreFault>
+        ensures { IfOk result (λ one. read row.now ≡ Some one) };
+}
+
+/// The text of a kind in a column.
+#[tactic(auto, using(crate::proofs::ColumnLemmas::of_kind))]
+fn text_at<K: TextKind>(row: &Row, at: usize) -> Result<Checked<K>, StoreFault>
+    ensures { IfOk result (λ text. kind_in K.LEAST K.MOST K.allows (column row.now at) ≡ Some text) }
+{
+    match row.get::<String>(at) {
+        Ok(text) => Checked::new(text).ok_or(StoreFault::Failed),
+        Err(error) => Err(fault_of(&error)),
+    }
+}
+
+/// The number in a column.
+fn number_at<const LEAST: u64, const MOST: u64>(
+    row: &Row,
+    at: usize,
+) -> Result<Within<LEAST, MOST>, StoreFault>
+    ensures { IfOk result (λ number. within LEAST MOST (column row.now at) ≡ Some number) }
+{
+    match row.get::<u32>(at) {
+        Ok(number) => Within::new(u64::from(number)).ok_or(StoreFault::Failed),
+        Err(error) => Err(fault_of(&error)),
+    }
+}
+
+/// The roles whose sum stands in a column.
+fn roles_at(row: &Row, at: usize) -> Result<Roles, StoreFault>
+    ensures { IfOk result (λ roles. roles_in (column row.now at) ≡ Some roles) }
+{
+    let sum = number_at::<0, 15>(row, at)?.get();
+    Ok(Roles {
+        director: sum % 2 == 1,
+        author: sum / 2 % 2 == 1,
+        referee: sum / 4 % 2 == 1,
+        entrant: sum / 8 % 2 == 1,
+    })
+}
+
+/// The puzzle that a text spells.
+fn spelled(alloc: Global, text: &str) -> Result<Puzzle, StoreFault>
+    ensures { IfOk result (λ puzzle. board_of (spells_or_fault text.now) ≡ Some puzzle) }
+{
+    match parse_puzzle(alloc, text.as_bytes()) {
+        Ok(puzzle) => Ok(puzzle),
+        Err(TextFault::Memory) => Err(StoreFault::Memory),
+        Err(_) => Err(StoreFault::Failed),
+    }
+}
+
+/// The puzzle whose text stands in a column.
+fn puzzle_at(alloc: Global, row: &Row, at: usize) -> Result<Puzzle, StoreFault>
+    ensures { IfOk result (λ puzzle. puzzle_in (column row.now at) ≡ Some puzzle) }
+{
+    match row.get::<String>(at) {
+        Ok(text) => spelled(alloc, text.as_str()),
+        Err(error) => Err(fault_of(&error)),
+    }
+}
+
+/// The code that stands in a column.
+fn code_at(row: &Row, at: usize) -> Result<u32, StoreFault>
+    ensures { IfOk result (λ code. number_in (column row.now at) ≡ Some code) }
+{
+    match row.get::<u32>(at) {
+        Ok(code) => Ok(code),
+        Err(error) => Err(fault_of(&error)),
+    }
+}
+
+/// The state of a code that has no solution.
+fn unsolved(code: u32) -> Option<PuzzleState>
+    ensures { result ≡ unsolved_of code }
+{
+    match code {
+        0 => Some(PuzzleState::New),
+        2 => Some(PuzzleState::NoSolution),
+        3 => Some(PuzzleState::More),
+        4 => Some(PuzzleState::GaveUp),
+        _ => None,
+    }
+}
+
+/// The state whose code and solution stand in two columns.
+fn state_at(row: &Row, code_at_place: usize, solution_at: usize) -> Result<PuzzleState, StoreFault>
+    ensures { IfOk result (λ state. state_in (column row.now code_at_place) (column row.now solution_at) ≡ Some state) }
+{
+    let code = code_at(row, code_at_place)?;
+    let solution: AnswerText = text_at(row, solution_at)?;
+    if code == 1 {
+        return Ok(PuzzleState::One(solution));
+    }
+    if solution.as_str().len() != 0 {
+        return Err(StoreFault::Failed);
+    }
+    unsolved(code).ok_or(StoreFault::Failed)
+}
+
+impl Record for Person {
+    ghost read = { person_in };
+
+    fn from_row(_: Global, row: &Row) -> Result<Person, StoreFault> {
+        Ok(Person {
+            name: text_at(row, 0)?,
+            key: text_at(row, 1)?,
+            roles: roles_at(row, 2)?,
+        })
+    }
+}
+
+impl Record for PuzzleRow {
+    ghost read = { puzzle_row_in };
+
+    fn from_row(alloc: Global, row: &Row) -> Result<PuzzleRow, StoreFault> {
+        let author = text_at(row, 0)?;
+        let label = text_at(row, 1)?;
+        let puzzle = puzzle_at(alloc, row, 2)?;
+        let state = state_at(row, 3, 4)?;
+        Ok(PuzzleRow {
+            key: PuzzleKey { author, label },
+            puzzle,
+            state,
+        })
+    }
+}
+
+/// The key of an answer, in the first four columns.
+fn answer_key_at(row: &Row) -> Result<AnswerKey, StoreFault>
+    ensures { IfOk result (IsAnswerKeyIn row.now) }
+{
+    Ok(AnswerKey {
+        entrant: text_at(row, 0)?,
+        round: text_at(row, 1)?,
+        number: number_at(row, 2)?,
+        token: text_at(row, 3)?,
+    })
+}
+
+/// The verdict whose bits stand in a column.
+fn verdict_at(row: &Row, at: usize) -> Result<Broken, StoreFault>
+    ensures { IfOk result (λ verdict. within 0 65535 (column row.now at) ≡ Some verdict) }
+{
+    Ok(Broken::from_bits(number_at::<0, 65535>(row, at)?.get() as u16))
+}
+
+impl Record for AnswerRow {
+    ghost read = { answer_in };
+
+    fn from_row(_: Global, row: &Row) -> Result<AnswerRow, StoreFault> {
+        let key = answer_key_at(row)?;
+        let n = number_at(row, 4)?;
+        let moment = number_at(row, 5)?;
+        let answer = text_at(row, 6)?;
+        let verdict = verdict_at(row, 7)?;
+        Ok(AnswerRow {
+            key,
+            n,
+            moment,
+            answer,
+            verdict,
+        })
+    }
+}
+
+/// All rows as records.
+pub(crate) fn read_all<T: Record + Drop>(alloc: Global, rows: &[Row]) -> Result<Vec<T>, StoreFault>
+    ensures { IfOk result (λ records. map T.Record.read rows.now ≡ map Some records.items) }
+{
+    let mut records = Vec::new(alloc);
+    for row in rows {
+        let record = T::from_row(alloc, row)?;
+        if records.push(record).is_err() {
+            return Err(StoreFault::Memory);
+        }
+    }
+    Ok(records)
+}
+
+/// The one record, if there is any. More than one under a key is no world.
+pub(crate) fn at_most_one<T: Drop>(mut records: Vec<T>) -> Result<Option<T>, StoreFault>
+    ensures { IfOk result (λ one. (length records.items ≤ 1) × (one ≡ slice_get records.items 0)) }
+{
+    if 1 < records.len() {
+        return Err(StoreFault::Failed);
+    }
+    Ok(records.pop())
+}

@@ -1,0 +1,45 @@
+use Rattle.std.proofs.Common.{◌≡◌, ◌++◌, ◌∷◌, [], List, Bool, true, false, ap, sym, ◌∙◌, append_assoc, rules}
+use Rattle.std.specs.List.{take_while}
+use Rattle.std.specs.Map.{values_of}
+use Rattle.std.proofs.lemmas.List.{append-nil}
+use Rattle.hall_policy.specs.declared.record.ProtestRow.{ProtestRow}
+use Rattle.hall_policy.specs.declared.record.ProtestKey.{ProtestKey}
+use Rattle.hall_store.proofs.Firsts.{is_beside, protests_together}
+use Rattle.hall_store.proofs.Ranges.{taken, left}
+use Rattle.hall_store.proofs.protest_reads.protest_rows.Goals as goal
+use Rattle.hall_store.proofs.protest_reads.protest_rows.Goals.{in-None, in-Some+then-not-is_beside}
+
+ended : {all : List ProtestRow} (rows : List ProtestRow) → all ≡ rows ++ [] → rows ≡ all
+ended rows e = sym (e ∙ append-nil rows)
+
+pub loop-key-init : goal.loop-key-init
+loop-key-init c =
+    let test : ProtestKey × ProtestRow → Bool = λ e. is_beside c.args.first.now e.0 in
+    protests_together c.args.first.now c.requires.first c.args.protests.now.entries c.range-key-items.ensures.ordered c.requires.kept
+    ∙ ap (λ (es : List (ProtestKey × ProtestRow)). values_of (take_while test es)) (sym (c.into_iter-key-iterator.ensures.into_iter_gives ∙ c.range-key-items.ensures.between tt))
+    ∙ ap (λ (rows : List ProtestRow). rows ++ values_of (take_while test c.into_iter-key-iterator.result)) (sym c.new-rows.ensures.items)
+
+pub loop-key-preserved : goal.loop-key-preserved
+loop-key-preserved c =
+    let test : ProtestKey × ProtestRow → Bool = λ e. is_beside c.args.first.now e.0 in
+    let old : List ProtestRow = c.loop-key.rows.items in
+    let row : ProtestRow = c.in-Some.row.now in
+    let rest : List (ProtestKey × ProtestRow) = c.next.new.self in
+    let cloned : c.in_ok-clone.field-0 ≡ row = search rules in
+    let passes : test (c.in-Some.key.now, row) ≡ true = search rules in
+    c.loop-key.invariant
+    ∙ ap (λ (es : List (ProtestKey × ProtestRow)). old ++ values_of es) (ap (take_while test) c.in-Some.ensures.steps ∙ taken test (c.in-Some.key.now, row) rest passes)
+    ∙ sym (append_assoc old (row ∷ []) (values_of (take_while test rest)))
+    ∙ ap (λ (rows : List ProtestRow). rows ++ values_of (take_while test rest)) (ap (λ (r : ProtestRow). old ++ r ∷ []) (sym cloned) ∙ sym c.in_ok-push.ensures)
+
+pub returns-clause-rows : goal.returns-clause-rows
+returns-clause-rows c =
+    let test : ProtestKey × ProtestRow → Bool = λ e. is_beside c.args.first.now e.0 in
+    let old : List ProtestRow = c.loop-key.rows.items in
+    elim c.match-next.branch [
+      | in-None w ↦ ended old (c.loop-key.invariant ∙ ap (λ (es : List (ProtestKey × ProtestRow)). old ++ values_of (take_while test es)) w.in-None.ensures.steps.0)
+      | in-Some+then-not-is_beside w ↦
+          let fails : test (w.in-Some.key.now, w.in-Some.row.now) ≡ false = search rules in
+          ended old (c.loop-key.invariant
+          ∙ ap (λ (es : List (ProtestKey × ProtestRow)). old ++ values_of es) (ap (take_while test) w.in-Some.ensures.steps ∙ left test (w.in-Some.key.now, w.in-Some.row.now) c.next.new.self fails))
+    ]

@@ -1,0 +1,110 @@
+//! The world that most tests begin with: six people, three puzzles that nobody certified yet, and three drafts.
+use crate::fixtures::request;
+use crate::limited::LimitedStore;
+use hall_desk::{Desk, Reply};
+use hall_http::{Routes, answer_bytes};
+use hall_policy::Moment;
+use hall_sheet::read_people;
+use hall_store::{MapStore, Store};
+use std::alloc::AllocGlobal;
+use std::process::Abort;
+
+const PEOPLE: &str = "\
+    name,key,roles\n\
+    dora,dora-key,director\n\
+    ada,ada-key-1,author+entrant\n\
+    bob,bob-key-1,author\n\
+    eve,eve-key-1,entrant\n\
+    fay,fay-key-1,entrant\n\
+    rex,rex-key-1,referee\n";
+
+/// From nine o'clock on 2 May 2026.
+const MORNING: &str = "\
+    version = 1\n\
+    title = \"Morning\"\n\
+    start = \"2026-05-02T09:00:00Z\"\n\
+    minutes = 60\n\
+    protest_minutes = 30\n\
+    mode = \"instant\"\n\
+    penalty = 5\n\
+    bonus = 2\n\
+    puzzle = [{author = \"bob\", label = \"p1\", points = 40}]\n";
+
+/// From half past nine.
+const LATE: &str = "\
+    version = 1\n\
+    title = \"Late\"\n\
+    start = \"2026-05-02T09:30:00Z\"\n\
+    minutes = 60\n\
+    protest_minutes = 30\n\
+    mode = \"sealed\"\n\
+    penalty = 0\n\
+    bonus = 0\n\
+    puzzle = [{author = \"ada\", label = \"q1\", points = 30}]\n";
+
+/// The morning's round with a puzzle that has many solutions.
+const UNCERTAIN: &str = "\
+    version = 1\n\
+    title = \"Morning\"\n\
+    start = \"2026-05-02T09:00:00Z\"\n\
+    minutes = 60\n\
+    protest_minutes = 30\n\
+    mode = \"instant\"\n\
+    penalty = 5\n\
+    bonus = 2\n\
+    puzzle = [{author = \"bob\", label = \"v\", points = 40}]\n";
+
+/// What is put: the key that is shown, the method and path, and the body.
+const PUTS: [(&str, &str, &str); 6] = [
+    (
+        "bob-key-1",
+        "PUT /puzzles/bob/p1",
+        "{\"text\":\"sudoku/4/4/123434122143432g\"}",
+    ),
+    (
+        "ada-key-1",
+        "PUT /puzzles/ada/q1",
+        "{\"text\":\"nurikabe/2/2/1i\"}",
+    ),
+    (
+        "bob-key-1",
+        "PUT /puzzles/bob/v",
+        "{\"text\":\"sudoku/4/4/v\"}",
+    ),
+    ("dora-key", "PUT /rounds/r1", MORNING),
+    ("dora-key", "PUT /rounds/r2", LATE),
+    ("dora-key", "PUT /rounds/r3", UNCERTAIN),
+];
+
+/// How many calls of its store the opening makes.
+const CALLS: u64 = 49;
+
+/// A hall over the store, which held nothing before.
+fn open<S: Store>(rt: &(impl AllocGlobal + Abort), store: S) -> Desk<S> {
+    let mut desk = Desk::new(store);
+    let people = read_people(rt.alloc(), PEOPLE.as_bytes()).expect(rt, "people");
+    let reply = desk.seed(rt.alloc(), &people);
+    assert!(rt; matches!(&reply, Reply::Imported(6)));
+    let routes = Routes::new(rt.alloc()).expect(rt, "memory");
+    let t = Moment::new(0).expect(rt, "moment");
+    for (key, line, body) in &PUTS {
+        let put = request(rt, key, line, body);
+        let answer = answer_bytes(rt.alloc(), &routes, &mut desk, t, put.as_bytes());
+        assert!(rt; answer.as_bytes().starts_with(b"HTTP/1.1 200 OK"), "{line}");
+    }
+    desk
+}
+
+/// A hall in ordered maps.
+pub(crate) fn opening_desk(rt: &(impl AllocGlobal + Abort)) -> Desk<MapStore> {
+    open(rt, MapStore::new(rt.alloc()))
+}
+
+/// A hall over a store that answers so many calls more.
+pub(crate) fn limited_desk(rt: &(impl AllocGlobal + Abort), left: u64) -> Desk<LimitedStore> {
+    let store = LimitedStore {
+        store: MapStore::new(rt.alloc()),
+        left: left.wrapping_add(CALLS),
+    };
+    open(rt, store)
+}
