@@ -208,7 +208,8 @@ impl<'a> Turn<'a> {
         facts: &mut Facts,
     ) -> Result<Plan, StoreFault>
         requires same { self.now.request.now.action ≡ H.action_of handler.now }
-        requires caller { Asks (S.content store.old) (λ world. IsCaller world self.now.request.now.key facts.old.caller) }
+        requires caller { Asks (S.content store.old)
+            (λ world. IsCaller world self.now.request.now.key facts.old.caller) }
         requires passed { PassesUpTo 3 facts.old self.now.request.now.action self.now.t }
         ensures kept { Kept (S.content store.old) (S.content store.new) }
         ensures fault { FailsIn S.can_fail (S.content store.new) result }

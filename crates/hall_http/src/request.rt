@@ -9,7 +9,7 @@ use crate::head::read_whole;
 use crate::routes::{Route, Routes, route_of};
 use crate::words::checked;
 use hall_grid::parse_puzzle;
-use hall_policy::{Action, Key, PuzzleKey, Request};
+use hall_policy::{Action, Key, Name, PuzzleKey, PuzzleNumber, Request, RoundId, Token};
 use hall_sheet::{read_people, read_round};
 use std::alloc::{AllocError, Global};
 
@@ -42,6 +42,62 @@ fn put_of(alloc: Global, key: PuzzleKey, text: &[u8]) -> Result<Action, RequestF
     }
 }
 
+/// The answer that a body tells, for the place and under the token.
+fn submit_of(
+    alloc: Global,
+    round: RoundId,
+    number: PuzzleNumber,
+    token: Token,
+    body: &[u8],
+) -> Result<Action, RequestFault>
+    ensures { Finds result (ActionOf (Route.Submit round number token) body.now) }
+{
+    let answer = read_answer(alloc, body)?;
+    Ok(Action::Submit {
+        round,
+        number,
+        token,
+        answer,
+    })
+}
+
+/// The protest that a body tells, in the round and under the token.
+fn protest_of(
+    alloc: Global,
+    round: RoundId,
+    token: Token,
+    body: &[u8],
+) -> Result<Action, RequestFault>
+    ensures { Finds result (ActionOf (Route.Protest round token) body.now) }
+{
+    let (number, text) = read_protest(alloc, body)?;
+    Ok(Action::Protest {
+        round,
+        token,
+        number,
+        text,
+    })
+}
+
+/// The ruling that a body tells, of the entrant's protest with the token.
+fn rule_of(
+    alloc: Global,
+    round: RoundId,
+    entrant: Name,
+    token: Token,
+    body: &[u8],
+) -> Result<Action, RequestFault>
+    ensures { Finds result (ActionOf (Route.Rule round entrant token) body.now) }
+{
+    let ruling = read_ruling(alloc, body)?;
+    Ok(Action::Rule {
+        round,
+        entrant,
+        token,
+        ruling,
+    })
+}
+
 /// What a route and a body ask for.
 fn action_of(alloc: Global, route: Route, body: &[u8]) -> Result<Action, RequestFault>
     ensures { Finds result (ActionOf route body.now) }
@@ -68,30 +124,12 @@ fn action_of(alloc: Global, route: Route, body: &[u8]) -> Result<Action, Request
         Route::ListRounds => Ok(Action::ListRounds),
         Route::ReadRound(round) => Ok(Action::ReadRound { round }),
         Route::Release(round) => Ok(Action::Release { round }),
-        Route::Submit(round, number, token) => Ok(Action::Submit {
-            round,
-            number,
-            token,
-            answer: read_answer(alloc, body)?,
-        }),
+        Route::Submit(round, number, token) => submit_of(alloc, round, number, token, body),
         Route::Answers(round) => Ok(Action::Answers { round }),
         Route::Solutions(round) => Ok(Action::Solutions { round }),
-        Route::Protest(round, token) => {
-            let (number, text) = read_protest(alloc, body)?;
-            Ok(Action::Protest {
-                round,
-                token,
-                number,
-                text,
-            })
-        }
+        Route::Protest(round, token) => protest_of(alloc, round, token, body),
         Route::Protests(round) => Ok(Action::Protests { round }),
-        Route::Rule(round, entrant, token) => Ok(Action::Rule {
-            round,
-            entrant,
-            token,
-            ruling: read_ruling(alloc, body)?,
-        }),
+        Route::Rule(round, entrant, token) => rule_of(alloc, round, entrant, token, body),
         Route::Publish(round) => Ok(Action::Publish { round }),
         Route::Table(round) => Ok(Action::Table { round }),
     }

@@ -230,7 +230,8 @@ fn close_groups(
     requires groups { AreRegions position.now.puzzle.now.size (IsSetTo position.now.partial.now.places 0)
         labels.now sizes.now }
     requires forced { AreForced position.now.puzzle.now position.now.partial.now.places forced.old }
-    ensures dead { IsTrue result → IsHopeless (question_of Nurikabe position.now.puzzle.now) position.now.partial.now.places }
+    ensures dead { IsTrue result
+        → IsHopeless (question_of Nurikabe position.now.puzzle.now) position.now.partial.now.places }
     ensures forced { AreForced position.now.puzzle.now position.now.partial.now.places forced.new }
 {
     for cell in 0..position.puzzle.cells() {
@@ -259,7 +260,8 @@ fn fill_reaches(
     requires reaches { AreRegions position.now.puzzle.now.size (IsOpenTo position.now.partial.now.places 1)
         labels.now sizes.now }
     requires forced { AreForced position.now.puzzle.now position.now.partial.now.places forced.old }
-    ensures dead { IsTrue result → IsHopeless (question_of Nurikabe position.now.puzzle.now) position.now.partial.now.places }
+    ensures dead { IsTrue result
+        → IsHopeless (question_of Nurikabe position.now.puzzle.now) position.now.partial.now.places }
     ensures forced { AreForced position.now.puzzle.now position.now.partial.now.places forced.new }
 {
     for cell in 0..position.puzzle.cells() {

@@ -168,7 +168,8 @@ pub(crate) fn force_exits(
     requires growing { (label : ℕ) → IsMarked growing.now label
         → MustGrow position.now.puzzle.now position.now.partial.now.places value labels.now label }
     requires forced { AreForced position.now.puzzle.now position.now.partial.now.places forced.old }
-    ensures dead { IsTrue result → IsHopeless (question_of Nurikabe position.now.puzzle.now) position.now.partial.now.places }
+    ensures dead { IsTrue result
+        → IsHopeless (question_of Nurikabe position.now.puzzle.now) position.now.partial.now.places }
     ensures forced { AreForced position.now.puzzle.now position.now.partial.now.places forced.new }
 {
     for label in 0..position.puzzle.cells() {

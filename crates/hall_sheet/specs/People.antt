@@ -67,7 +67,8 @@ roles_named words = record {
 -- the roles that a text names, where each of its words is a role and none stands twice
 abbrev pub roles_in : List ℕ → Option Roles
 roles_in text =
-    if list_all is_role (words_in text) && are_distinct (words_in text) then Some (roles_named (words_in text)) else None
+    if list_all is_role (words_in text) && are_distinct (words_in text) then Some (roles_named (words_in text))
+    else None
 
 -- the person that a line spells: first no field is empty, then each has its form, from the left
 abbrev pub spelled_in : Fields → Result Person Refusal

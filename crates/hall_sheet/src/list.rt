@@ -104,7 +104,8 @@ impl Listed {
     /// Adds the person, and tells whether name and key were new; where they weren't, the list is of no more use.
     fn add(&mut self, person: Person) -> Result<bool, AllocError>
         requires { length self.old.people.items < 5000 }
-        ensures { (before : List Person) → IsListed self.old before → IfOk result (λ new. Adds new before person self.new) }
+        ensures { (before : List Person) → IsListed self.old before
+            → IfOk result (λ new. Adds new before person self.new) }
     {
         if !is_new(&mut self.names, &person.name)? || !is_new(&mut self.keys, &person.key)? {
             return Ok(false);

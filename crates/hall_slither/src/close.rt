@@ -169,7 +169,8 @@ pub(crate) fn close_chains(
 ) -> Result<Pass, AllocError>
     requires kind { puzzle.now.kind ≡ Kind.Slither }
     requires partial { IsPartial (question_of Kind.Slither puzzle.now) partial.old.places }
-    ensures deduced { IfOk result (IsDeduced (question_of Kind.Slither puzzle.now) partial.old.places partial.new.places) }
+    ensures deduced { IfOk result
+        (IsDeduced (question_of Kind.Slither puzzle.now) partial.old.places partial.new.places) }
     ensures err { OnErr result (Narrows (question_of Kind.Slither puzzle.now) partial.old.places partial.new.places) }
     ensures grows { Grows partial.old partial.new }
 {

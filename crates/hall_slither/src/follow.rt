@@ -127,7 +127,8 @@ fn follow_stack(
     requires centres { All (IsCentre puzzle.now.size) stack.old.items }
     requires all { HasAll puzzle.now.size stack.old.items }
     ensures silent { IfOk result (λ pass. pass ≡ Pass.Settled → AreSilent puzzle.now partial.new.places) }
-    ensures deduced { IfOk result (IsDeduced (question_of Kind.Slither puzzle.now) partial.old.places partial.new.places) }
+    ensures deduced { IfOk result
+        (IsDeduced (question_of Kind.Slither puzzle.now) partial.old.places partial.new.places) }
     ensures err { OnErr result (Narrows (question_of Kind.Slither puzzle.now) partial.old.places partial.new.places) }
     ensures grows { Grows partial.old partial.new }
 {
@@ -155,7 +156,8 @@ pub(crate) fn follow_counts(
     requires kind { puzzle.now.kind ≡ Kind.Slither }
     requires partial { IsPartial (question_of Kind.Slither puzzle.now) partial.old.places }
     ensures silent { IfOk result (λ pass. pass ≡ Pass.Settled → AreSilent puzzle.now partial.new.places) }
-    ensures deduced { IfOk result (IsDeduced (question_of Kind.Slither puzzle.now) partial.old.places partial.new.places) }
+    ensures deduced { IfOk result
+        (IsDeduced (question_of Kind.Slither puzzle.now) partial.old.places partial.new.places) }
     ensures err { OnErr result (Narrows (question_of Kind.Slither puzzle.now) partial.old.places partial.new.places) }
     ensures grows { Grows partial.old partial.new }
 {

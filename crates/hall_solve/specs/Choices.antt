@@ -6,7 +6,9 @@ use Rattle.hall_solve.specs.Question.{plain_tree, Extends}
 
 -- the filling has what the first m places of the trail have
 abbrev pub Agrees : Trailed → ℕ → List ℕ → Type 0
-Agrees b m f = (k : ℕ) → k < m → slice_index_or b.places (slice_index b.trail k) None ≡ Some (slice_index f (slice_index b.trail k))
+Agrees b m f =
+    (k : ℕ) → k < m →
+    slice_index_or b.places (slice_index b.trail k) None ≡ Some (slice_index f (slice_index b.trail k))
 
 -- the choice was made when the trail had its length, and its value stands at its place
 pub record IsMade (b : Trailed) (c : Choice) : Type 0 where
@@ -47,4 +49,6 @@ visits_ahead k b stack = plain_tree k (length b.places - length b.trail) + visit
 -- the first m places of the trail are the same, and have the same values
 pub record SameBelow (m : ℕ) (old new : Trailed) : Type 0 where
   pub trail : (k : ℕ) → k < m → slice_index new.trail k ≡ slice_index old.trail k
-  pub values : (k : ℕ) → k < m → slice_index_or new.places (slice_index old.trail k) None ≡ slice_index_or old.places (slice_index old.trail k) None
+  pub values : (k : ℕ) → k < m →
+      slice_index_or new.places (slice_index old.trail k) None
+      ≡ slice_index_or old.places (slice_index old.trail k) None

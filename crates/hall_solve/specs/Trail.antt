@@ -26,4 +26,5 @@ pub record IsUndone (m : ℕ) (old new : Trailed) : Type 0 where
   pub size : length new.places ≡ length old.places
   pub trail : new.trail ≡ take m old.trail
   pub cleared : All (λ i. slice_index_or new.places i None ≡ None) (drop m old.trail)
-  pub others : (i : ℕ) → (Contains (drop m old.trail) i → ⊥) → slice_index_or new.places i None ≡ slice_index_or old.places i None
+  pub others : (i : ℕ) → (Contains (drop m old.trail) i → ⊥) →
+      slice_index_or new.places i None ≡ slice_index_or old.places i None

@@ -55,7 +55,8 @@ pub trait Rules {
     fn propagate(&mut self, alloc: Global, partial: &mut Partial) -> Result<Step, AllocError>
         requires countable { visits self.old < 2 ^ 64 - 1 }
         requires partial { IsPartial (question self.old) partial.old.places }
-        ensures live { IfOk result (λ step. step ≡ Step.Live → Narrows (question self.old) partial.old.places partial.new.places) }
+        ensures live { IfOk result (λ step. step ≡ Step.Live
+            → Narrows (question self.old) partial.old.places partial.new.places) }
         ensures settled { IfOk result (λ step. step ≡ Step.Live → settled self.old partial.new.places) }
         ensures dead { IfOk result (λ step. step ≡ Step.Dead → IsHopeless (question self.old) partial.old.places) }
         ensures err { OnErr result (Narrows (question self.old) partial.old.places partial.new.places) }

@@ -161,7 +161,8 @@ pub record Stops {K X : Type 0} (Takes : K → X → K → Type 0) (Refuses : K 
   pub refused : fault ≡ Refused → Refuses after row
 
 -- The sink has taken all the rows; or, where the call is refused, some of the first ones.
-abbrev pub Fed : {K X E : Type 0} → (K → X → K → Type 0) → (World → List X → Type 0) → Content → K → Result (Unit {0}) E → K → Type 0
+abbrev pub Fed : {K X E : Type 0} → (K → X → K → Type 0) →
+    (World → List X → Type 0) → Content → K → Result (Unit {0}) E → K → Type 0
 Fed {K} {X} Takes AreRows new before (Ok done) after =
     new.honest → new.serves × ((rows : List X) × AreRows new.world rows × HasTaken Takes before rows after)
 Fed {K} {X} Takes AreRows new before (Err fault) after =
@@ -169,7 +170,8 @@ Fed {K} {X} Takes AreRows new before (Err fault) after =
     × ((taken ≡ []) ⊎ (new.honest → new.serves → (left : List X) × AreRows new.world (taken ++ left)))
 
 -- the sink has taken the first rows, and refuses the next one
-abbrev pub IsRefusedNext : {K X : Type 0} → (K → X → K → Type 0) → (K → X → Type 0) → (World → List X → Type 0) → Content → K → K → Type 0
+abbrev pub IsRefusedNext : {K X : Type 0} → (K → X → K → Type 0) →
+    (K → X → Type 0) → (World → List X → Type 0) → Content → K → K → Type 0
 IsRefusedNext {K} {X} Takes Refuses AreRows new before after =
     (taken : List X) × (row : X) × HasTaken Takes before taken after × Refuses after row
     × (new.honest → new.serves × ((left : List X) × AreRows new.world (taken ++ row ∷ left)))
