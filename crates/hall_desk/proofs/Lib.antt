@@ -28,5 +28,8 @@ pub mod Rulings
 pub mod Remaining
 pub mod Retries
 pub mod Answered
+pub mod RulingsStay
+pub mod ProtestRetries
+pub mod ProtestAnswered
 pub mod Stepping
 pub mod Seeding

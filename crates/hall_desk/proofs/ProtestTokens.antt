@@ -1,5 +1,5 @@
 -- A token whose protest was stored acts once.
-use Rattle.std.proofs.Common.{◌≡◌, ◌<◌, ◌≤◌, inl, inr, ℕ, List, Option, Some, refl, sym, ap, ◌∙◌, subst, lit<}
+use Rattle.std.proofs.Common.{◌≡◌, ◌⊎◌, ◌<◌, ◌≤◌, inl, inr, ℕ, List, Option, Some, refl, sym, ap, ◌∙◌, subst, lit<}
 use Rattle.hall_policy.specs.World.{World, protest_of}
 use Rattle.hall_policy.specs.Actions.{number_of}
 use Rattle.hall_policy.specs.Rules.{SameContent}
@@ -20,12 +20,12 @@ use Rattle.hall_desk.proofs.Tokens.{up_to_token}
 module _ (world : World) (caller : Option Person) (t : ℕ) (person : Person) (id token : List ℕ) (number : ℕ) (text : List ℕ) (row : ProtestRow)
     (is : caller ≡ Some person) (stands : protest_of world person.name id token ≡ Some row) where
   -- no rule after the token's decides
-  token_decides : (n : ℕ) → NoneBelow n world caller (action.Protest id token number text) t → ¬ (6 < n)
+  pub token_decides : (n : ℕ) → NoneBelow n world caller (action.Protest id token number text) t → ¬ (6 < n)
   token_decides n none past =
       (none rule.TokenTaken past).0 ((4, lit< tt, refl), ((person, is, (row, stands)), λ same. (none rule.TokenTaken past).1 ((4, lit< tt, refl), same)))
 
   -- the content is the same only where number and text are
-  same_protest_stands : SameContent world caller (action.Protest id token number text) → IsSameProtest row number text
+  pub same_protest_stands : SameContent world caller (action.Protest id token number text) → IsSameProtest row number text
   same_protest_stands (other, also, (found, at, same_number, same_text)) =
       let both : Some other ≡ Some person = sym also ∙ is in
       let one : other ≡ person = cc in
@@ -35,20 +35,27 @@ module _ (world : World) (caller : Option Person) (t : ℕ) (person : Person) (i
       subst (λ (r : ProtestRow). IsSameProtest r number text) same (same_number, same_text)
 
   -- only the token's rule finds that the protest was made before
-  repeated_protest : (r : Rule) → Repeated r world caller (action.Protest id token number text) → IsSameProtest row number text
+  pub repeated_protest : (r : Rule) → Repeated r world caller (action.Protest id token number text) → IsSameProtest row number text
   repeated_protest rule.TokenTaken (asked, same) = same_protest_stands same
   repeated_protest rule.RuledOtherwise (asked, same) = absurd same
   repeated_protest _ (asked, same) = absurd same
 
   -- a rule that denies comes before the token's, or is the token's, for another protest
+  pub denied_by : (r : Rule) (k : ℕ) → number_of r ≡ k → Forbids r world caller (action.Protest id token number text) t →
+      NoneBelow k world caller (action.Protest id token number text) t → (number_of r ≤ 5) ⊎ ((k ≡ 6) × ¬ (IsSameProtest row number text))
+  denied_by r k own forbids none = elim (up_to_token r (λ past. token_decides k none (subst (λ (n : ℕ). 6 < n) own past))) [
+    | inl before ↦ inl before
+    | inr tokens ↦
+        let forbids_token : Forbids rule.TokenTaken world caller (action.Protest id token number text) t = subst (λ (x : Rule). Forbids x world caller (action.Protest id token number text) t) tokens forbids in
+        inr (sym own ∙ ap number_of tokens, λ same. forbids_token.1.1 (person, is, (row, stands, same.0, same.1)))
+  ]
+
+  -- so a denial is by a rule before the token's, or for another protest
   denied : (r : Rule) (k : ℕ) (given : Reply) → number_of r ≡ k → Forbids r world caller (action.Protest id token number text) t →
       NoneBelow k world caller (action.Protest id token number text) t → given ≡ reply.Denied k → IsProtestRetryAnswered row token number text given
-  denied r k given own forbids none told = elim (up_to_token r (λ past. token_decides k none (subst (λ (n : ℕ). 6 < n) own past))) [
+  denied r k given own forbids none told = elim (denied_by r k own forbids none) [
     | inl before ↦ inr (inl (k, told, subst (λ (n : ℕ). n ≤ 5) own before))
-    | inr tokens ↦
-        let six : k ≡ 6 = sym own ∙ ap number_of tokens in
-        let forbids_token : Forbids rule.TokenTaken world caller (action.Protest id token number text) t = subst (λ (x : Rule). Forbids x world caller (action.Protest id token number text) t) tokens forbids in
-        inr (inr (inl (told ∙ ap reply.Denied six, λ same. forbids_token.1.1 (person, is, (row, stands, same.0, same.1)))))
+    | inr (six, other) ↦ inr (inr (inl (told ∙ ap reply.Denied six, other)))
   ]
 
   -- the first reply tells the token again

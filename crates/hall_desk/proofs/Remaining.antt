@@ -1,4 +1,5 @@
--- What no step, and so no run, takes away: who has a key, the answers that stand, and the released rounds.
+-- What no step, and so no run, takes away: who has a key, the answers and protests that stand, their rulings, and the
+-- released rounds.
 use Rattle.std.proofs.Common.{◌≡◌, ◌≢◌, inl, inr, if◌then◌else◌, ℕ, suc, Bool, true, false, cond, List, [], ◌∷◌, Option, Some, None, Contains, refl, sym, ap, ◌∙◌, subst, arith, lit<}
 use Rattle.std.specs.Prelude.{find, is_some}
 use Rattle.std.specs.FinMap.{FinMap, get, insert, entries, values, put, get-entries, entries-insert}
@@ -9,7 +10,7 @@ use Rattle.std.specs.Ordering.{is_eq}
 use Rattle.std.specs.declared.cmp.Ordering.{Ordering}
 use Rattle.std.specs.declared.cmp.Ordering.TheVariants.{Less, Equal, Greater}
 use Rattle.hall_policy.specs.Text.{text_cmp}
-use Rattle.hall_policy.specs.World.{World, place_of, same_text, puzzle_cmp, place_cmp, protest_cmp}
+use Rattle.hall_policy.specs.World.{World, place_of, protest_of, same_text, puzzle_cmp, place_cmp}
 use Rattle.hall_policy.specs.Rules.{Conflicts}
 use Rattle.hall_policy.specs.First.{NoneBelow}
 use Rattle.hall_policy.specs.declared.rule.Rule.TheVariants as rule
@@ -21,16 +22,18 @@ use Rattle.hall_policy.specs.declared.record.Round.{Round}
 use Rattle.hall_policy.specs.declared.record.Entry.{Entry}
 use Rattle.hall_policy.specs.declared.record.AnswerKey.{AnswerKey}
 use Rattle.hall_policy.specs.declared.record.AnswerRow.{AnswerRow}
+use Rattle.hall_policy.specs.declared.record.ProtestKey.{ProtestKey}
 use Rattle.hall_policy.specs.declared.record.ProtestRow.{ProtestRow}
+use Rattle.hall_policy.specs.declared.record.Ruling.{Ruling}
 use Rattle.hall_policy.specs.declared.request.Sheet.{Sheet}
 use Rattle.hall_policy.specs.declared.request.Action.{Action}
 use Rattle.hall_policy.specs.declared.request.Action.TheVariants as action
 use Rattle.hall_policy.specs.declared.request.Request.{Request}
-use Rattle.hall_policy.proofs.Orders.{text_total, same_texts, answer_total, same_answer_keys}
+use Rattle.hall_policy.proofs.Orders.{text_total, same_texts, answer_total, same_answer_keys, protest_total, same_protest_keys}
 use Rattle.hall_store.specs.Caller.{with_key, caller_of}
 use Rattle.hall_store.specs.Change.{with_person, with_people, relisted}
 use Rattle.hall_desk.specs.Found.{IsReleasedRound}
-use Rattle.hall_desk.specs.Step.{Step, Allowed, draft_of, answer_row}
+use Rattle.hall_desk.specs.Step.{Step, Allowed, draft_of, answer_row, open_protest}
 use Rattle.hall_desk.specs.Run.{Run}
 use Rattle.hall_desk.specs.declared.reply.Reply.{Reply}
 use Rattle.hall_store.proofs.Changes.{with_people-known}
@@ -39,6 +42,8 @@ use Rattle.hall_store.proofs.Tests.{not_true}
 use Rattle.hall_desk.proofs.Answering.{text_decides, find-value}
 use Rattle.hall_desk.proofs.DraftSane.{puts_no_released, relisted_other}
 use Rattle.hall_desk.proofs.Tokens.{token_decides}
+use Rattle.hall_desk.proofs.ProtestTokens.{token_decides as protest_token_decides}
+use Rattle.hall_desk.proofs.Rulings.{ruling_decides}
 
 -- a released round as it stays: in its mode, and with each place
 pub record StaysReleased (world later : World) (id : List ℕ) (round : Round) : Type 0 where
@@ -48,10 +53,19 @@ pub record StaysReleased (world later : World) (id : List ℕ) (round : Round) :
   pub mode : after.mode ≡ round.mode
   pub places : (number : ℕ) → place_of later id number ≡ place_of world id number
 
--- who has a key is found by it; an answer that stands stays; a released round stays
+-- a protest as it stays: with its number and text, and with its ruling once it has one
+pub record StaysProtested (later : World) (key : ProtestKey) (row : ProtestRow) : Type 0 where
+  pub after : ProtestRow
+  pub found : get later.protests key ≡ Some after
+  pub number : after.number ≡ row.number
+  pub text : after.text ≡ row.text
+  pub ruled : (ruling : Ruling) → row.ruling ≡ Some ruling → after.ruling ≡ Some ruling
+
+-- who has a key is found by it; an answer that stands stays, and so does a protest; a released round stays
 pub record Remains (world later : World) : Type 0 where
   pub callers : (key : Option (List ℕ)) (person : Person) → caller_of world key ≡ Some person → caller_of later key ≡ Some person
   pub answers : (key : AnswerKey) (row : AnswerRow) → get world.answers key ≡ Some row → get later.answers key ≡ Some row
+  pub protests : (key : ProtestKey) (row : ProtestRow) → get world.protests key ≡ Some row → StaysProtested later key row
   pub rounds : (id : List ℕ) (round : Round) → get world.rounds id ≡ Some round → round.released ≡ true → StaysReleased world later id round
 
 -- a round that is found with its places is as it was
@@ -64,6 +78,10 @@ stays_as_found world later id round at is places = record {
   places = λ number. ap (λ (m : FinMap place_cmp Entry). get m (record { round = id; number = number })) places;
 }
 
+-- a protest that is found as it was
+protest_as_found : (later : World) (key : ProtestKey) (row : ProtestRow) → get later.protests key ≡ Some row → StaysProtested later key row
+protest_as_found later key row at = record { after = row; found = at; number = refl; text = refl; ruled = λ ruling is. is }
+
 -- the caller is told by the people alone
 callers_stay : (world later : World) → later.people ≡ world.people → (key : Option (List ℕ)) (person : Person) → caller_of world key ≡ Some person → caller_of later key ≡ Some person
 callers_stay world later same None person is = is
@@ -71,7 +89,7 @@ callers_stay world later same (Some key) person is = ap (λ (people : FinMap tex
 
 -- a world keeps what it has
 remains_itself : (world : World) → Remains world world
-remains_itself world = record { callers = λ key person is. is; answers = λ key row at. at; rounds = λ id round at is. stays_as_found world world id round at is refl }
+remains_itself world = record { callers = λ key person is. is; answers = λ key row at. at; protests = protest_as_found world; rounds = λ id round at is. stays_as_found world world id round at is refl }
 
 -- so does one that is the same
 remains_same : (world new : World) → new ≡ world → Remains world new
@@ -82,6 +100,10 @@ pub remains_on : (world mid later : World) → Remains world mid → Remains mid
 remains_on world mid later first second = record {
   callers = λ key person is. second.callers key person (first.callers key person is);
   answers = λ key row at. second.answers key row (first.answers key row at);
+  protests = λ key row at.
+      let a = first.protests key row at in
+      let b = second.protests key a.after a.found in
+      record { after = b.after; found = b.found; number = b.number ∙ a.number; text = b.text ∙ a.text; ruled = λ ruling is. b.ruled ruling (a.ruled ruling is) };
   rounds = λ id round at is.
       let a = first.rounds id round at is in
       let b = second.rounds id a.after a.found a.released in
@@ -93,14 +115,7 @@ puzzles_change : (world new : World) (puzzles : FinMap puzzle_cmp PuzzleRow) →
 puzzles_change world new puzzles made =
     let after : World = record world { puzzles = puzzles } in
     subst (λ (w : World). Remains world w) (sym made)
-    (record { callers = callers_stay world after refl; answers = λ key row at. at; rounds = λ id round at is. stays_as_found world after id round at is refl })
-
--- a world whose protests change keeps the rest
-protests_change : (world new : World) (protests : FinMap protest_cmp ProtestRow) → new ≡ record world { protests = protests } → Remains world new
-protests_change world new protests made =
-    let after : World = record world { protests = protests } in
-    subst (λ (w : World). Remains world w) (sym made)
-    (record { callers = callers_stay world after refl; answers = λ key row at. at; rounds = λ id round at is. stays_as_found world after id round at is refl })
+    (record { callers = callers_stay world after refl; answers = λ key row at. at; protests = protest_as_found after; rounds = λ id round at is. stays_as_found world after id round at is refl })
 
 -- ---- an Import
 -- who is found first stays so, as a value that fails the test is put under a new key
@@ -166,6 +181,7 @@ import_remains world caller people t found given new none (told, made) =
     subst (λ (w : World). Remains world w) (sym made) (record {
       callers = still_callers world people (λ person among conflict. (none rule.ListConflict (lit< tt)).0 ((2, lit< tt, refl), (person, among, conflict)));
       answers = λ key row at. at;
+      protests = protest_as_found after;
       rounds = λ id round at is. stays_as_found world after id round at is refl;
     })
 
@@ -179,6 +195,7 @@ put_round_remains world caller id sheet t found given new none (told, made) =
     subst (λ (w : World). Remains world w) (sym made) (record {
       callers = callers_stay world after refl;
       answers = λ key row at. at;
+      protests = protest_as_found after;
       rounds = λ q r at is.
           let other : q ≢ id = λ same. puts_no_released world caller id sheet t none (subst (IsReleasedRound world) same (r, at, is)) in
           record {
@@ -198,6 +215,7 @@ round_changes world new id round now kept stays mode made =
     subst (λ (w : World). Remains world w) (sym made) (record {
       callers = callers_stay world after refl;
       answers = λ key row at. at;
+      protests = protest_as_found after;
       rounds = λ q r at is. elim (keys_apart text_total same_texts q id) [
         | inl own ↦
             let both : Some round ≡ Some r = sym kept ∙ ap (get world.rounds) (sym own) ∙ at in
@@ -223,11 +241,53 @@ submit_remains world caller id number token answer t found given new none (perso
       callers = callers_stay world after refl;
       answers = λ key old at. others_stay answer_total same_answer_keys world.answers row.key row key old
           (λ own. token_decides world caller t person id number token answer old is (ap (get world.answers) (sym own) ∙ at) 21 none (lit< tt)) at;
+      protests = protest_as_found after;
       rounds = λ q r at is. record { after = r; found = at; released = is; mode = refl; places = λ number. refl };
     })
 
--- a PutPuzzle and a Certify change puzzles alone, a Protest and a Rule protests, a Release and a Publish one flag of
--- their round; what else takes effect is said above
+-- a Protest stores its row where none stands
+protest_remains : (world : World) (caller : Option Person) (id token : List ℕ) (number : ℕ) (text : List ℕ) (t : ℕ) (found : PuzzleState) (given : Reply) (new : World) →
+    NoneBelow 21 world caller (action.Protest id token number text) t → Allowed world caller (action.Protest id token number text) t found given new → Remains world new
+protest_remains world caller id token number text t found given new none (person, is, (told, made)) =
+    let row : ProtestRow = open_protest person id token number text in
+    let after : World = record world { protests = insert world.protests row.key row } in
+    subst (λ (w : World). Remains world w) (sym made) (record {
+      callers = callers_stay world after refl;
+      answers = λ key old at. at;
+      protests = λ key old at. protest_as_found after key old (others_stay protest_total same_protest_keys world.protests row.key row key old
+          (λ own. protest_token_decides world caller t person id token number text old is (ap (get world.protests) (sym own) ∙ at) 21 none (lit< tt)) at);
+      rounds = λ q r at is. record { after = r; found = at; released = is; mode = refl; places = λ number. refl };
+    })
+
+-- a Rule rules its protest where no ruling stands
+rule_remains : (world : World) (caller : Option Person) (id entrant token : List ℕ) (ruling : Ruling) (t : ℕ) (found : PuzzleState) (given : Reply) (new : World) →
+    NoneBelow 21 world caller (action.Rule id entrant token ruling) t → Allowed world caller (action.Rule id entrant token ruling) t found given new → Remains world new
+rule_remains world caller id entrant token ruling t found given new none (row, kept, told, made) =
+    let own_key : ProtestKey = record { entrant = entrant; round = id; token = token } in
+    let now : ProtestRow = record row { ruling = Some ruling } in
+    let after : World = record world { protests = insert world.protests own_key now } in
+    subst (λ (w : World). Remains world w) (sym made) (record {
+      callers = callers_stay world after refl;
+      answers = λ key old at. at;
+      protests = λ key old at. elim (keys_apart protest_total same_protest_keys key own_key) [
+        | inl own ↦
+            let there : protest_of world entrant id token ≡ Some old = ap (get world.protests) (sym own) ∙ at in
+            let both : Some row ≡ Some old = sym kept ∙ there in
+            let one : row ≡ old = cc in
+            record {
+              after = now;
+              found = inserted_there protest_total same_protest_keys world.protests own_key now key own;
+              number = ap (λ (r : ProtestRow). r.number) one;
+              text = ap (λ (r : ProtestRow). r.text) one;
+              ruled = λ ruled is. absurd (ruling_decides world caller t id entrant token ruling ruled old there is 21 none (lit< tt));
+            }
+        | inr other ↦ protest_as_found after key old (others_stay protest_total same_protest_keys world.protests own_key now key old other at)
+      ];
+      rounds = λ q r at is. record { after = r; found = at; released = is; mode = refl; places = λ number. refl };
+    })
+
+-- a PutPuzzle and a Certify change puzzles alone, a Release and a Publish one flag of their round; what else takes
+-- effect is said above
 allowed_remains : (world : World) (caller : Option Person) (asked : Action) (t : ℕ) (found : PuzzleState) (given : Reply) (new : World) →
     NoneBelow 21 world caller asked t → Allowed world caller asked t found given new → Remains world new
 allowed_remains world caller (action.PutPuzzle key puzzle) t found given new none (text, canonical, inl h) = remains_same world new h.4
@@ -246,8 +306,8 @@ allowed_remains world caller action.ListPuzzles t found given new none h = remai
 allowed_remains world caller action.ListRounds t found given new none h = remains_same world new h.2.1
 allowed_remains world caller (action.Solutions id) t found given new none h = remains_same world new h.1
 allowed_remains world caller (action.Protests id) t found given new none h = remains_same world new h.2.1
-allowed_remains world caller (action.Protest id token number text) t found given new none (person, is, (told, made)) = protests_change world new _ made
-allowed_remains world caller (action.Rule id entrant token ruling) t found given new none (row, kept, told, made) = protests_change world new _ made
+allowed_remains world caller (action.Protest id token number text) t found given new none h = protest_remains world caller id token number text t found given new none h
+allowed_remains world caller (action.Rule id entrant token ruling) t found given new none h = rule_remains world caller id entrant token ruling t found given new none h
 allowed_remains world caller (action.Table id) t found given new none h = remains_same world new h.1
 
 -- a step keeps them

@@ -26,7 +26,7 @@ up_to_ruling _ few = inl (lit≤ tt)
 module _ (world : World) (caller : Option Person) (t : ℕ) (id entrant token : List ℕ) (ruling ruled : Ruling) (row : ProtestRow)
     (stands : protest_of world entrant id token ≡ Some row) (so : row.ruling ≡ Some ruled) where
   -- no rule after the one on rulings decides
-  ruling_decides : (n : ℕ) → NoneBelow n world caller (action.Rule id entrant token ruling) t → ¬ (18 < n)
+  pub ruling_decides : (n : ℕ) → NoneBelow n world caller (action.Rule id entrant token ruling) t → ¬ (18 < n)
   ruling_decides n none past =
       (none rule.RuledOtherwise past).0 (
         (4, lit< tt, refl),
@@ -34,7 +34,7 @@ module _ (world : World) (caller : Option Person) (t : ℕ) (id entrant token : 
       )
 
   -- a ruling that is found for the protest is the one that stands
-  one_ruling : (found : ProtestRow) (other : Ruling) → protest_of world entrant id token ≡ Some found → found.ruling ≡ Some other → other ≡ ruled
+  pub one_ruling : (found : ProtestRow) (other : Ruling) → protest_of world entrant id token ≡ Some found → found.ruling ≡ Some other → other ≡ ruled
   one_ruling found other at is =
       let twice : Some found ≡ Some row = sym at ∙ stands in
       let one : found ≡ row = cc in
@@ -42,7 +42,7 @@ module _ (world : World) (caller : Option Person) (t : ℕ) (id entrant token : 
       cc
 
   -- only the rule on rulings finds that the protest was ruled so before
-  repeated_ruling : (r : Rule) → Repeated r world caller (action.Rule id entrant token ruling) → ruled ≡ ruling
+  pub repeated_ruling : (r : Rule) → Repeated r world caller (action.Rule id entrant token ruling) → ruled ≡ ruling
   repeated_ruling rule.TokenTaken (asked, same) = absurd same
   repeated_ruling rule.RuledOtherwise (asked, (found, at, same)) = sym (one_ruling found ruling at same)
   repeated_ruling _ (asked, same) = absurd same

@@ -7,6 +7,7 @@ pub mod Step
 pub mod Run
 pub mod Sane
 pub mod Promises
+pub mod ProtestPromises
 pub mod Plan
 pub mod Handler
 pub mod Plans

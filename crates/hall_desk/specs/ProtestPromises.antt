@@ -1,0 +1,69 @@
+-- What the hall promises to entrants who protest and to referees, over whole runs.
+use Rattle.std.specs.Prelude.{◌≡◌, ◌≢◌, ◌⊎◌, ℕ, List, Option, Some, None}
+use Rattle.hall_policy.specs.World.{World, place_of, protest_of}
+use Rattle.hall_policy.specs.declared.record.ProtestRow.{ProtestRow}
+use Rattle.hall_policy.specs.declared.record.Ruling.{Ruling}
+use Rattle.hall_policy.specs.declared.request.Action.TheVariants.{Protest, Rule}
+use Rattle.hall_policy.specs.declared.request.Request.{Request}
+use Rattle.hall_desk.specs.Promises.{IsRulingRetryAnswered}
+use Rattle.hall_desk.specs.Step.{Step}
+use Rattle.hall_desk.specs.Run.{Run}
+use Rattle.hall_desk.specs.declared.reply.Reply.{Reply}
+use Rattle.hall_desk.specs.declared.reply.Reply.TheVariants as reply
+
+-- the same number and the same text come again
+abbrev pub IsAgain : ℕ → List ℕ → ℕ → List ℕ → Type 0
+IsAgain number text again_number again_text = (number ≡ again_number) × (text ≡ again_text)
+
+-- the reply to the request of an accepted protest when it comes again, or comes with another number or text: no
+-- service; for another number alone, which the round doesn't have, the denial of rule 4; for another number or text
+-- alone, where the round has the number, the denial of the token's rule; for the same of both alone, the first reply
+abbrev pub IsProtestRetryOf : World → List ℕ → List ℕ → ℕ → List ℕ → ℕ → List ℕ → Reply → Type 0
+IsProtestRetryOf world id token number text again_number again_text given =
+    (given ≡ reply.Unavailable)
+    ⊎ (((given ≡ reply.Denied 4) × (number ≢ again_number) × (place_of world id again_number ≡ None))
+    ⊎ (((given ≡ reply.Denied 6) × ¬ (IsAgain number text again_number again_text)
+    × (place_of world id again_number ≢ None))
+    ⊎ ((given ≡ reply.Protested token) × IsAgain number text again_number again_text)))
+
+-- an accepted protest stays accepted: whatever requests come between, and at whatever moment its token comes again,
+-- the world stays, and the retry is answered as one
+abbrev pub AcceptedProtestsStay : Type 0
+AcceptedProtestsStay =
+    (world kept later new : World) (t u : ℕ) (key : Option (List ℕ)) (id token : List ℕ)
+    (number : ℕ) (text : List ℕ) (again_number : ℕ) (again_text : List ℕ)
+    (requests : List (ℕ × Request)) (replies : List Reply) (given : Reply) →
+    Step world t (record { key = key; action = Protest id token number text }) (reply.Protested token) kept →
+    Run kept requests replies later →
+    Step later u (record { key = key; action = Protest id token again_number again_text }) given new →
+    (new ≡ later) × IsProtestRetryOf later id token number text again_number again_text given
+
+-- an accepted protest's retry has its answer in every later world: the first reply for the same number and text, the
+-- denial of rule 4 for a number that the round doesn't have, the denial of the token's rule for another number or text
+-- where the round has the number, with the world as it is
+abbrev pub ProtestRetriesAreAnswered : Type 0
+ProtestRetriesAreAnswered =
+    (world kept later : World) (t u : ℕ) (key : Option (List ℕ)) (id token : List ℕ)
+    (number : ℕ) (text : List ℕ) (again_number : ℕ) (again_text : List ℕ)
+    (requests : List (ℕ × Request)) (replies : List Reply) →
+    Step world t (record { key = key; action = Protest id token number text }) (reply.Protested token) kept →
+    Run kept requests replies later →
+    let again : Request = record { key = key; action = Protest id token again_number again_text } in
+    (IsAgain number text again_number again_text → Step later u again (reply.Protested token) later)
+    × (place_of later id again_number ≡ None → Step later u again (reply.Denied 4) later)
+    × (¬ (IsAgain number text again_number again_text) → place_of later id again_number ≢ None →
+    Step later u again (reply.Denied 6) later)
+
+-- a ruling stays: whatever requests come between, its protest has the ruling that was asked for and told, and a
+-- further ruling, by whatever key and at whatever moment, changes nothing, and is answered as one of a ruled protest
+abbrev pub RulingsStay : Type 0
+RulingsStay =
+    (world kept later : World) (t : ℕ) (key : Option (List ℕ)) (id entrant token : List ℕ) (ruling told : Ruling)
+    (requests : List (ℕ × Request)) (replies : List Reply) →
+    Step world t (record { key = key; action = Rule id entrant token ruling }) (reply.Ruled told) kept →
+    Run kept requests replies later →
+    (told ≡ ruling)
+    × ((row : ProtestRow) × (protest_of later entrant id token ≡ Some row) × (row.ruling ≡ Some ruling))
+    × ((u : ℕ) (by : Option (List ℕ)) (again : Ruling) (given : Reply) (new : World) →
+    Step later u (record { key = by; action = Rule id entrant token again }) given new →
+    (new ≡ later) × IsRulingRetryAnswered ruling again given)
