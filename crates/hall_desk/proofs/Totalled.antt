@@ -54,7 +54,7 @@ took_protests : (round : RoundRow) (done rows : List ProtestRow) (before after :
 took_protests round done [] before after held taken =
     subst (λ (t : Tally). IsTallyOf round (done ++ []) [] t) (sym taken) (subst (λ (ps : List ProtestRow). IsTallyOf round ps [] before) (sym (append-nil done)) held)
 took_protests round done (row ∷ rows) before after held (next, takes, taken) =
-    subst (λ (ps : List ProtestRow). IsTallyOf round ps [] after) (append_assoc done (row ∷ []) rows) (took_protests round (done ++ row ∷ []) rows next after (takes round done held) taken)
+    subst (λ (ps : List ProtestRow). IsTallyOf round ps [] after) (append_assoc done (row ∷ []) rows) (took_protests round (done ++ row ∷ []) rows next after (takes.1 round done held) taken)
 
 took_answers : (round : RoundRow) (protests : List ProtestRow) (done rows : List AnswerRow) (before after : Tally) → IsTallyOf round protests done before → HasTaken TakesAnswer before rows after → IsTallyOf round protests (done ++ rows) after
 took_answers round protests done [] before after held taken =
