@@ -1,8 +1,8 @@
 -- What a plan promises, and what a step over a store leaves.
-use Rattle.std.specs.Prelude.{◌≡◌, ◌⊎◌, ◌≤◌, ℕ, List, Option, Some, None, ◌≢◌, Result, Ok, Err, IfErr, Contains, count_by}
+use Rattle.std.specs.Prelude.{◌≡◌, ◌⊎◌, ℕ, List, Option, Some, None, ◌≢◌, Result, Ok, Err, IfErr, Contains}
 use Rattle.hall_store.specs.declared.change.Change.TheVariants as change
 use Rattle.hall_store.specs.declared.change.Change.TheVariants.{Nothing}
-use Rattle.std.specs.FinMap.{get, values}
+use Rattle.std.specs.FinMap.{get}
 use Rattle.hall_grid.specs.Answer.{Verdict}
 use Rattle.hall_policy.specs.World.{World, entry_at}
 use Rattle.hall_policy.specs.Rules.{IsCertified}
@@ -15,7 +15,7 @@ use Rattle.hall_policy.specs.declared.request.Action.{Action}
 use Rattle.hall_policy.specs.declared.request.Action.TheVariants.{Table}
 use Rattle.hall_policy.specs.declared.facts.Facts.{Facts}
 use Rattle.hall_policy.specs.declared.record.AnswerRow.{AnswerRow}
-use Rattle.hall_store.specs.Store.{Content, Over, is_in, is_protest_in}
+use Rattle.hall_store.specs.Store.{Content, Over}
 use Rattle.hall_store.specs.declared.fault.StoreFault.{StoreFault}
 use Rattle.hall_store.specs.declared.fault.StoreFault.TheVariants.{Failed}
 use Rattle.hall_policy.specs.Facts.{TrueUpTo}
@@ -84,17 +84,10 @@ abbrev pub IsQuietPlan : {E : Type 0} → Result Plan E → Type 0
 IsQuietPlan (Ok plan) = plan.change ≡ Nothing
 IsQuietPlan (Err fault) = ⊥
 
--- no round has more answers, or more protests, than a sink takes
-abbrev pub HasFewRows : World → Type 0
-HasFewRows world =
-    (id : List ℕ) → (count_by (is_in id) (values world.answers) ≤ 4294967295)
-    × (count_by (is_protest_in id) (values world.protests) ≤ 4294967295)
-
--- Failed is answered for such a cause alone, or where the store's world isn't sane or has too many rows in a round.
+-- Failed is answered for such a cause alone, or where the store's world isn't sane.
 abbrev pub FailsIn : {R : Type 0} → Type 0 → Content → Result R StoreFault → Type 0
 FailsIn cause new result =
-    IfErr result (λ fault. fault ≡ Failed → cause
-    ⊎ (new.honest → new.serves × ¬ (Sane new.world × HasFewRows new.world)))
+    IfErr result (λ fault. fault ≡ Failed → cause ⊎ (new.honest → new.serves × ¬ (Sane new.world)))
 
 -- the entries' puzzles are kept
 abbrev pub AreKept : World → List Entry → Type 0
