@@ -12,7 +12,8 @@ use Rattle.hall_policy.specs.declared.record.PuzzleRow.{PuzzleRow}
 use Rattle.hall_policy.specs.declared.record.RoundRow.{RoundRow}
 use Rattle.hall_policy.specs.declared.record.PuzzleState.{PuzzleState}
 use Rattle.hall_policy.specs.declared.request.Action.{Action}
-use Rattle.hall_policy.specs.declared.request.Action.TheVariants.{Table}
+use Rattle.hall_policy.specs.declared.request.Action.TheVariants.{ReadPuzzle, ListPuzzles, ListRounds, ReadRound}
+use Rattle.hall_policy.specs.declared.request.Action.TheVariants.{Answers, Solutions, Protests, Table}
 use Rattle.hall_policy.specs.declared.facts.Facts.{Facts}
 use Rattle.hall_policy.specs.declared.record.AnswerRow.{AnswerRow}
 use Rattle.hall_store.specs.Store.{Content, Over}
@@ -33,6 +34,18 @@ use Rattle.hall_desk.specs.declared.reply.Reply.{Reply}
 use Rattle.hall_desk.specs.declared.reply.Reply.TheVariants as reply
 use Rattle.hall_desk.specs.declared.planned.Plan.{Plan}
 
+-- the action only reads
+abbrev pub IsReading : Action → Type 0
+IsReading (ReadPuzzle key) = Unit {0}
+IsReading ListPuzzles = Unit {0}
+IsReading ListRounds = Unit {0}
+IsReading (ReadRound round) = Unit {0}
+IsReading (Answers round) = Unit {0}
+IsReading (Solutions round) = Unit {0}
+IsReading (Protests round) = Unit {0}
+IsReading (Table round) = Unit {0}
+IsReading _ = ⊥
+
 -- the plan's reply and change are those of the request as it is decided, for what the search would find, and the
 -- change may be made
 pub record IsPlanFor (world : World) (t : ℕ) (request : Request) (plan : Plan) : Type 0 where
@@ -40,25 +53,28 @@ pub record IsPlanFor (world : World) (t : ℕ) (request : Request) (plan : Plan)
       × IsAnswered world (record { moment = t; request = request; found = found })
       (planned_reply plan) (changed (planned_change plan) world)
   pub can : CanMake (planned_change plan) world
-  -- a denial or a repetition has nothing to change
-  pub quiet : answered.1.0 ≢ Allow → planned_change plan ≡ Nothing
+  -- a denial, a repetition and an action that only reads have nothing to change
+  pub quiet : (answered.1.0 ≢ Allow) ⊎ IsReading request.action → planned_change plan ≡ Nothing
 
 -- the plan's reply and change are those of the allowed action, whatever the search would find, and the change may be
--- made
+-- made; an action that only reads has nothing to change
 pub record IsAllowedPlan (world : World) (caller : Option Person) (action : Action) (t : ℕ) (plan : Plan) : Type 0 where
   pub allowed : (found : PuzzleState) → Allowed world caller action t found plan.reply (changed plan.change world)
   pub can : CanMake plan.change world
+  pub quiet : IsReading action → plan.change ≡ Nothing
 
 -- the plan is that of the allowed action in each world that the facts are true of
 abbrev pub IsPlanOf : Facts → Action → Plan → Type 0
 IsPlanOf facts action plan =
     (world : World) → TrueUpTo 20 facts world action → (t : ℕ) → IsAllowedPlan world facts.caller action t plan
 
--- the plan's reply and change are those of the allowed action, with what its search found, and the change may be made
+-- the plan's reply and change are those of the allowed action, with what its search found, and the change may be
+-- made; an action that only reads has nothing to change
 pub record IsMadePlan (world : World) (caller : Option Person) (action : Action) (t : ℕ) (plan : Plan) : Type 0 where
   pub found : PuzzleState
   pub allowed : Allowed world caller action t found plan.reply (changed plan.change world)
   pub can : CanMake plan.change world
+  pub quiet : IsReading action → plan.change ≡ Nothing
 
 -- the plan is that of the allowed action, with what its search found, in each world that the facts are true of
 abbrev pub IsSearchPlanOf : Facts → Action → Plan → Type 0
