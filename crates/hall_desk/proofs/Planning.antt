@@ -26,7 +26,7 @@ use Rattle.hall_store.specs.Change.{changed, CanMake, with_flag}
 use Rattle.hall_desk.specs.Step.{Decided}
 use Rattle.hall_store.specs.Store.{Content, Kept, Told, Served, Asks, IsListing}
 use Rattle.hall_policy.specs.declared.record.AnswerRow.{AnswerRow}
-use Rattle.hall_desk.specs.Plans.{IsPlanFor, IsAllowedPlan, IsMadePlan, Planned}
+use Rattle.hall_desk.specs.Plans.{IsPlanFor, IsAllowedPlan, IsMadePlan, IsReading, Planned}
 use Rattle.hall_desk.specs.declared.planned.Plan.{Plan}
 use Rattle.hall_desk.specs.declared.reply.Reply.{Reply}
 use Rattle.hall_desk.specs.declared.reply.Reply.TheVariants.{PuzzlePut, Published, Released, AnswerList}
@@ -43,7 +43,7 @@ use Rattle.hall_store.proofs.Knowing.{pure_told, told_turn}
 pub planned : (facts : Facts) (world : World) (t : ℕ) (request : Request) (decision : Decision) (given : Reply) (change : Change) →
     IsCaller world request.key facts.caller → IsDecided world facts request.action t decision →
     (outcome : PuzzleState) → Decided decision world facts.caller request.action t outcome given (changed change world) → CanMake change world →
-    (decision ≢ Allow → change ≡ Nothing) → IsPlanFor world t request (record { reply = given; change = change })
+    ((decision ≢ Allow) ⊎ IsReading request.action → change ≡ Nothing) → IsPlanFor world t request (record { reply = given; change = change })
 planned facts world t request decision given change caller is outcome decided can quiet =
     let same : facts.caller ≡ caller_of world request.key = caller.found in
     record {
@@ -70,11 +70,12 @@ put_new world facts t key copied_key puzzle copied text same_key same_puzzle can
     (λ all. record {
       allowed = λ found. (text, canonical, inr ((λ row kept. differ row (all.1.1.1.1.1.0.0 ∙ kept)), refl, refl));
       can = let author = all.1.1.1.0.0 there in (author.0, author.1);
+      quiet = λ reads. absurd reads;
     })) told
 
 -- a plan that is right whatever a search would find
 pub made_anyhow : (world : World) (caller : Option Person) (asked : Action) (t : ℕ) (plan : Plan) → IsAllowedPlan world caller asked t plan → IsMadePlan world caller asked t plan
-made_anyhow world caller asked t plan made = record { found = state.New; allowed = made.allowed state.New; can = made.can }
+made_anyhow world caller asked t plan made = record { found = state.New; allowed = made.allowed state.New; can = made.can; quiet = made.quiet }
 
 -- the plan that is made for an action, told of what was asked, which is that action
 module _ {E : Type 0} (facts : Facts) (asked named : Action) (t : ℕ) (is : asked ≡ named) where
@@ -121,6 +122,7 @@ released world facts t id shown kept row same_shown same_kept told seen =
     record {
       allowed = λ found. (row.round, at.head, refl, ap (with_flag world id flag.Released) at.head);
       can = (row.round, at.head);
+      quiet = λ reads. absurd reads;
     })) told
 
 -- the plan of a round that is published
@@ -135,6 +137,7 @@ published world facts t id shown kept row same_shown same_kept told seen =
     record {
       allowed = λ found. (row.round, at.head, refl, ap (with_flag world id flag.Published) at.head);
       can = (row.round, at.head);
+      quiet = λ reads. absurd reads;
     })) told
 
 -- ---- the answers that a caller sees
@@ -172,4 +175,5 @@ listing_plan world facts id t person row all shows lines plan told caller found 
         ),
       );
       can = tt;
+      quiet = λ _. refl;
     })

@@ -34,4 +34,5 @@ protested world facts asked person t plan caller fresh place told there replied 
       found = state.New;
       allowed = (person, caller, (replied, ap (λ (change : Change). changed change world) changes));
       can = subst (λ (change : Change). CanMake change world) (sym changes) given;
+      quiet = λ reads. absurd reads;
     }

@@ -73,4 +73,5 @@ module _ (world : World) (facts : Facts) (handed : Handed) (person : Person) (n 
             ),
           );
           can = subst (λ (change : Change). CanMake change world) (sym changes) given;
+          quiet = λ reads. absurd reads;
         }

@@ -63,5 +63,5 @@ module _ (old mid : Content) (facts : Facts) (t : ℕ) (request : Request) (id :
               state.GaveUp
               (subst (λ (a : Action). Allowed new.world facts.caller a t state.GaveUp (reply.Table text) new.world) (sym is)
               ((row, table.0, text, at, table.1, table.2, refl), refl))
-              tt (λ no. absurd (no refl))),
+              tt (λ _. refl)),
         )

@@ -1,6 +1,6 @@
 -- The totals of a round, from what a tally took.
-use Rattle.std.proofs.Common.{◌≡◌, ◌≢◌, ◌⊎◌, ◌↔◌, ◌++◌, ◌+◌, ◌<◌, ◌≤◌, ◌&&◌, inl, inr, ℕ, zero, suc, ℤ, Bool, true, false, not, cond, List, [], ◌∷◌, map, length, Some, Contains, IsTrue, refl, sym, ap, ◌∙◌, subst, arith}
-use Rattle.std.specs.List.{filter, count_by, All, AllPairs, AllByRecursion, IsDistinct}
+use Rattle.std.proofs.Common.{◌≡◌, ◌≢◌, ◌⊎◌, ◌↔◌, ◌++◌, ◌+◌, ◌<◌, ◌&&◌, inl, inr, ℕ, zero, suc, ℤ, Bool, true, false, not, cond, List, [], ◌∷◌, map, length, Some, Contains, IsTrue, refl, sym, ap, ◌∙◌, subst, arith}
+use Rattle.std.specs.List.{filter, All, AllPairs, AllByRecursion, IsDistinct}
 use Rattle.std.specs.List.Sorted.{IsPermutation, IsSorted}
 use Rattle.std.specs.Map.{keys_of, values_of}
 use Rattle.std.specs.FinMap.{get, values, entries, entries_sorted}
@@ -11,9 +11,9 @@ use Rattle.std.specs.Cmp.{IsTotalOrder, IsEquivalence}
 use Rattle.std.specs.FinMap.{nat_cmp-IsAntisymmetric}
 use Rattle.std.proofs.lemmas.Cmp.{tied_itself, eq_by_cmp_equiv, then_total, on_total, nat_cmp_total}
 use Rattle.std.proofs.lemmas.List.{append-nil, append_assoc, length-append, get_or_append_left, get_or_at, get_or_default}
-use Rattle.std.proofs.lemmas.List.Sums.{length-filter, count_by-le-length}
+use Rattle.std.proofs.lemmas.List.Sums.{length-filter}
 use Rattle.std.proofs.lemmas.List.Sorted.{IsPermutation-refl, IsPermutation-cons, IsPermutation-trans, IsPermutation-swap, IsPermutation-keeps, IsPermutation-sym, IsPermutation-map, Contains-permutation, ranks_by, sorted_far}
-use Rattle.std.proofs.lemmas.List.Elements.{Contains-append_left, Contains-append_right, Contains-get_or, All-from_recursion, recursion_from_All}
+use Rattle.std.proofs.lemmas.List.Elements.{Contains-append_left, Contains-append_right, Contains-get_or, All-from_recursion, recursion_from_All, filter-append}
 use Rattle.std.proofs.lemmas.Map.Keys.{IsDistinct-from_sorted, IsDistinct-IsPermutation}
 use Rattle.hall_policy.specs.Sink.{HasTaken}
 use Rattle.hall_policy.specs.Text.{text_cmp}
@@ -28,13 +28,12 @@ use Rattle.hall_score.specs.Tally.{AreTotalsOf, IsTallyOf, TakesAnswer, RefusesA
 use Rattle.hall_score.specs.Tally as tally
 use Rattle.hall_score.specs.declared.tally.Tally.{Tally}
 use Rattle.hall_store.specs.Store.{Content, Kept, IsListing, IsRefusedNext, listing_cmp, is_in, is_of, is_protest_in, protests_in}
-use Rattle.hall_store.proofs.Tests.{filter-Contains, Contains-filter, text_decides, and_first, and_second, and_both}
+use Rattle.hall_store.proofs.Tests.{filter-Contains, Contains-filter, text_decides, and_first, and_second, and_both, and_turned}
 use Rattle.hall_store.specs.declared.fault.StoreFault.{StoreFault}
 use Rattle.hall_store.specs.declared.fault.StoreFault.TheVariants.{Failed}
 use Rattle.std.specs.Result.{IsErrAnd}
 use Rattle.std.proofs.Common.{Result, Ok, Err, IfErr}
 use Rattle.hall_desk.specs.Sane.{Sane}
-use Rattle.hall_desk.specs.Plans.{HasFewRows}
 use Rattle.hall_desk.specs.Totals.{AreTotals, HasAnswered, protests_by}
 use Rattle.hall_score.specs.Total.{total_of}
 use Rattle.std.proofs.lemmas.Map.Entries.{lookup_from_place}
@@ -42,6 +41,8 @@ use Rattle.std.proofs.lemmas.Option.{slice_get-get_or}
 use Rattle.std.proofs.Common.{get_or, set}
 use Rattle.std.specs.List.{swap}
 use Rattle.hall_score.proofs.Permuted.{total_of_permutes}
+use Rattle.hall_policy.specs.Rules.{protests_made}
+use Rattle.hall_desk.proofs.Planning.{filter_alike}
 
 -- the order of listings is total
 listing_total : IsTotalOrder listing_cmp
@@ -54,27 +55,13 @@ took_protests : (round : RoundRow) (done rows : List ProtestRow) (before after :
 took_protests round done [] before after held taken =
     subst (λ (t : Tally). IsTallyOf round (done ++ []) [] t) (sym taken) (subst (λ (ps : List ProtestRow). IsTallyOf round ps [] before) (sym (append-nil done)) held)
 took_protests round done (row ∷ rows) before after held (next, takes, taken) =
-    subst (λ (ps : List ProtestRow). IsTallyOf round ps [] after) (append_assoc done (row ∷ []) rows) (took_protests round (done ++ row ∷ []) rows next after (takes round done held) taken)
+    subst (λ (ps : List ProtestRow). IsTallyOf round ps [] after) (append_assoc done (row ∷ []) rows) (took_protests round (done ++ row ∷ []) rows next after (takes.1 round done held) taken)
 
 took_answers : (round : RoundRow) (protests : List ProtestRow) (done rows : List AnswerRow) (before after : Tally) → IsTallyOf round protests done before → HasTaken TakesAnswer before rows after → IsTallyOf round protests (done ++ rows) after
 took_answers round protests done [] before after held taken =
     subst (λ (t : Tally). IsTallyOf round protests (done ++ []) t) (sym taken) (subst (λ (rs : List AnswerRow). IsTallyOf round protests rs before) (sym (append-nil done)) held)
 took_answers round protests done (row ∷ rows) before after held (next, takes, taken) =
     subst (λ (rs : List AnswerRow). IsTallyOf round protests rs after) (append_assoc done (row ∷ []) rows) (took_answers round protests (done ++ row ∷ []) rows next after (takes round protests done held) taken)
-
--- ---- a protest that is refused
-pub too_many_protests : (world : World) (id : List ℕ) (round : RoundRow) (taken left : List ProtestRow) (next : ProtestRow) (fresh after : Tally) →
-    IsTallyOf round [] [] fresh → HasTaken TakesProtest fresh taken after → RefusesProtest after next → taken ++ next ∷ left ≡ protests_in world id → HasFewRows world → ⊥
-too_many_protests world id round taken left next fresh after held took refuses whole few =
-    let own : ProtestRow → Bool = λ row. same_text row.key.entrant next.key.entrant in
-    let full : length (filter own taken) ≡ 4294967295 = refuses round taken (took_protests round [] taken fresh after held took) in
-    let part : count_by own taken ≤ length taken = count_by-le-length own taken in
-    let counted : length (filter own taken) ≡ count_by own taken = length-filter own taken in
-    let all : length (taken ++ next ∷ left) ≡ length taken + suc (length left) = length-append taken (next ∷ left) in
-    let kept : length (taken ++ next ∷ left) ≡ length (protests_in world id) = ap length whole in
-    let bound : count_by (is_protest_in id) (values world.protests) ≤ 4294967295 = (few id).1 in
-    let same : length (protests_in world id) ≡ count_by (is_protest_in id) (values world.protests) = length-filter (is_protest_in id) (values world.protests) in
-    omega (arith, full, part, counted, all, kept, bound, same)
 
 -- ---- an answer that is refused
 -- the order of turns is total
@@ -266,6 +253,22 @@ filter_twice {X} p q (x ∷ xs) =
       | false ↦ rest
     ]
 
+-- a tally refuses no protest of a round of a sane world
+pub too_many_protests : (world : World) (id : List ℕ) (round : RoundRow) (taken left : List ProtestRow) (next : ProtestRow) (fresh after : Tally) →
+    IsTallyOf round [] [] fresh → HasTaken TakesProtest fresh taken after → RefusesProtest after next → taken ++ next ∷ left ≡ protests_in world id → Sane world → ⊥
+too_many_protests world id round taken left next fresh after held took refuses whole sane =
+    let own : ProtestRow → Bool = λ row. same_text row.key.entrant next.key.entrant in
+    let all : List ProtestRow = values world.protests in
+    let full : length (filter own taken) ≡ 4294967295 = refuses round taken (took_protests round [] taken fresh after held took) in
+    let parts : filter own (taken ++ next ∷ left) ≡ filter own taken ++ filter own (next ∷ left) = filter-append own taken (next ∷ left) in
+    let sum : length (filter own taken ++ filter own (next ∷ left)) ≡ length (filter own taken) + length (filter own (next ∷ left)) = length-append (filter own taken) (filter own (next ∷ left)) in
+    let kept : filter own (taken ++ next ∷ left) ≡ filter (λ row. own row && is_protest_in id row) all =
+    ap (filter own) whole ∙ (filter_twice own (is_protest_in id) all
+    ∙ filter_alike (λ row. is_protest_in id row && own row) (λ row. own row && is_protest_in id row) (λ row. and_turned (is_protest_in id row) (own row)) all) in
+    let counted : length (filter (λ row. own row && is_protest_in id row) all) ≡ protests_made world next.key.entrant id = length-filter (λ row. own row && is_protest_in id row) all in
+    let shared : length (filter own taken ++ filter own (next ∷ left)) ≡ protests_made world next.key.entrant id = ap length (sym parts ∙ kept) ∙ counted in
+    omega (arith, full, sum, shared, sane.few_protests next.key.entrant id)
+
 module _ (world : World) (id : List ℕ) (row : RoundRow) (answers : List AnswerRow) (listing : IsListing world (is_in id) answers)
     (totals : List (List ℕ × ℤ)) (are : AreTotalsOf row (protests_in world id) answers totals) where
   answered : (entrant : List ℕ) → HasAnswered world id entrant → (r : AnswerRow) × Contains answers r × (r.key.entrant ≡ entrant)
@@ -313,24 +316,24 @@ fails_as (Ok x) Why fault is why = tt
 fails_as (Err e) Why fault is why = λ failed. why (sym is ∙ failed)
 
 module _ (cause : Type 0) (id : List ℕ) (round : RoundRow) (fresh : Tally) (held : IsTallyOf round [] [] fresh) where
-  -- feeding protests fails for such a cause alone, or in a world with too many
+  -- feeding protests fails for such a cause alone, or in a world that isn't sane
   pub protests_fail : (new : Content) (after : Tally) → cause ⊎ IsRefusedNext TakesProtest RefusesProtest (λ world rows. rows ≡ protests_in world id) new fresh after →
-      cause ⊎ (new.honest → new.serves × ¬ (Sane new.world × HasFewRows new.world))
+      cause ⊎ (new.honest → new.serves × ¬ (Sane new.world))
   protests_fail new after (inl is) = inl is
   protests_fail new after (inr (taken, next, took, refuses, rest)) = inr (λ h.
       let left = rest h in
-      (left.0, λ fits. too_many_protests new.world id round taken left.1.0 next fresh after held took refuses left.1.1 fits.1))
+      (left.0, λ sane. too_many_protests new.world id round taken left.1.0 next fresh after held took refuses left.1.1 sane))
 
   module _ (mid new : Content) (between : Tally) (kept : Kept mid new)
       (first : mid.honest → mid.serves × ((rows : List ProtestRow) × (rows ≡ protests_in mid.world id) × HasTaken TakesProtest fresh rows between)) where
     -- feeding answers after them fails for such a cause alone, or in a world that isn't sane
     pub answers_fail : (after : Tally) → cause ⊎ IsRefusedNext TakesAnswer RefusesAnswer (λ world rows. IsListing world (is_in id) rows) new between after →
-        cause ⊎ (new.honest → new.serves × ¬ (Sane new.world × HasFewRows new.world))
+        cause ⊎ (new.honest → new.serves × ¬ (Sane new.world))
     answers_fail after (inl is) = inl is
     answers_fail after (inr (taken, next, took, refuses, rest)) = inr (λ h.
         let left = rest h in
         let read = first (kept.honest h) in
-        (left.0, λ fits. none_refused new.world id round read.1.0 taken left.1.0 next fresh between after held read.1.2 took refuses left.1.1 fits.0))
+        (left.0, λ sane. none_refused new.world id round read.1.0 taken left.1.0 next fresh between after held read.1.2 took refuses left.1.1 sane))
 
     -- the totals of both
     pub totals_served : (after : Tally) (totals : List (List ℕ × ℤ)) →

@@ -1,8 +1,8 @@
 -- What a plan promises, and what a step over a store leaves.
-use Rattle.std.specs.Prelude.{◌≡◌, ◌⊎◌, ◌≤◌, ℕ, List, Option, Some, None, ◌≢◌, Result, Ok, Err, IfErr, Contains, count_by}
+use Rattle.std.specs.Prelude.{◌≡◌, ◌⊎◌, ℕ, List, Option, Some, None, ◌≢◌, Result, Ok, Err, IfErr, Contains}
 use Rattle.hall_store.specs.declared.change.Change.TheVariants as change
 use Rattle.hall_store.specs.declared.change.Change.TheVariants.{Nothing}
-use Rattle.std.specs.FinMap.{get, values}
+use Rattle.std.specs.FinMap.{get}
 use Rattle.hall_grid.specs.Answer.{Verdict}
 use Rattle.hall_policy.specs.World.{World, entry_at}
 use Rattle.hall_policy.specs.Rules.{IsCertified}
@@ -12,10 +12,11 @@ use Rattle.hall_policy.specs.declared.record.PuzzleRow.{PuzzleRow}
 use Rattle.hall_policy.specs.declared.record.RoundRow.{RoundRow}
 use Rattle.hall_policy.specs.declared.record.PuzzleState.{PuzzleState}
 use Rattle.hall_policy.specs.declared.request.Action.{Action}
-use Rattle.hall_policy.specs.declared.request.Action.TheVariants.{Table}
+use Rattle.hall_policy.specs.declared.request.Action.TheVariants.{ReadPuzzle, ListPuzzles, ListRounds, ReadRound}
+use Rattle.hall_policy.specs.declared.request.Action.TheVariants.{Answers, Solutions, Protests, Table}
 use Rattle.hall_policy.specs.declared.facts.Facts.{Facts}
 use Rattle.hall_policy.specs.declared.record.AnswerRow.{AnswerRow}
-use Rattle.hall_store.specs.Store.{Content, Over, is_in, is_protest_in}
+use Rattle.hall_store.specs.Store.{Content, Over}
 use Rattle.hall_store.specs.declared.fault.StoreFault.{StoreFault}
 use Rattle.hall_store.specs.declared.fault.StoreFault.TheVariants.{Failed}
 use Rattle.hall_policy.specs.Facts.{TrueUpTo}
@@ -33,6 +34,18 @@ use Rattle.hall_desk.specs.declared.reply.Reply.{Reply}
 use Rattle.hall_desk.specs.declared.reply.Reply.TheVariants as reply
 use Rattle.hall_desk.specs.declared.planned.Plan.{Plan}
 
+-- the action only reads
+abbrev pub IsReading : Action → Type 0
+IsReading (ReadPuzzle key) = Unit {0}
+IsReading ListPuzzles = Unit {0}
+IsReading ListRounds = Unit {0}
+IsReading (ReadRound round) = Unit {0}
+IsReading (Answers round) = Unit {0}
+IsReading (Solutions round) = Unit {0}
+IsReading (Protests round) = Unit {0}
+IsReading (Table round) = Unit {0}
+IsReading _ = ⊥
+
 -- the plan's reply and change are those of the request as it is decided, for what the search would find, and the
 -- change may be made
 pub record IsPlanFor (world : World) (t : ℕ) (request : Request) (plan : Plan) : Type 0 where
@@ -40,25 +53,28 @@ pub record IsPlanFor (world : World) (t : ℕ) (request : Request) (plan : Plan)
       × IsAnswered world (record { moment = t; request = request; found = found })
       (planned_reply plan) (changed (planned_change plan) world)
   pub can : CanMake (planned_change plan) world
-  -- a denial or a repetition has nothing to change
-  pub quiet : answered.1.0 ≢ Allow → planned_change plan ≡ Nothing
+  -- a denial, a repetition and an action that only reads have nothing to change
+  pub quiet : (answered.1.0 ≢ Allow) ⊎ IsReading request.action → planned_change plan ≡ Nothing
 
 -- the plan's reply and change are those of the allowed action, whatever the search would find, and the change may be
--- made
+-- made; an action that only reads has nothing to change
 pub record IsAllowedPlan (world : World) (caller : Option Person) (action : Action) (t : ℕ) (plan : Plan) : Type 0 where
   pub allowed : (found : PuzzleState) → Allowed world caller action t found plan.reply (changed plan.change world)
   pub can : CanMake plan.change world
+  pub quiet : IsReading action → plan.change ≡ Nothing
 
 -- the plan is that of the allowed action in each world that the facts are true of
 abbrev pub IsPlanOf : Facts → Action → Plan → Type 0
 IsPlanOf facts action plan =
     (world : World) → TrueUpTo 20 facts world action → (t : ℕ) → IsAllowedPlan world facts.caller action t plan
 
--- the plan's reply and change are those of the allowed action, with what its search found, and the change may be made
+-- the plan's reply and change are those of the allowed action, with what its search found, and the change may be
+-- made; an action that only reads has nothing to change
 pub record IsMadePlan (world : World) (caller : Option Person) (action : Action) (t : ℕ) (plan : Plan) : Type 0 where
   pub found : PuzzleState
   pub allowed : Allowed world caller action t found plan.reply (changed plan.change world)
   pub can : CanMake plan.change world
+  pub quiet : IsReading action → plan.change ≡ Nothing
 
 -- the plan is that of the allowed action, with what its search found, in each world that the facts are true of
 abbrev pub IsSearchPlanOf : Facts → Action → Plan → Type 0
@@ -84,17 +100,10 @@ abbrev pub IsQuietPlan : {E : Type 0} → Result Plan E → Type 0
 IsQuietPlan (Ok plan) = plan.change ≡ Nothing
 IsQuietPlan (Err fault) = ⊥
 
--- no round has more answers, or more protests, than a sink takes
-abbrev pub HasFewRows : World → Type 0
-HasFewRows world =
-    (id : List ℕ) → (count_by (is_in id) (values world.answers) ≤ 4294967295)
-    × (count_by (is_protest_in id) (values world.protests) ≤ 4294967295)
-
--- Failed is answered for such a cause alone, or where the store's world isn't sane or has too many rows in a round.
+-- Failed is answered for such a cause alone, or where the store's world isn't sane.
 abbrev pub FailsIn : {R : Type 0} → Type 0 → Content → Result R StoreFault → Type 0
 FailsIn cause new result =
-    IfErr result (λ fault. fault ≡ Failed → cause
-    ⊎ (new.honest → new.serves × ¬ (Sane new.world × HasFewRows new.world)))
+    IfErr result (λ fault. fault ≡ Failed → cause ⊎ (new.honest → new.serves × ¬ (Sane new.world)))
 
 -- the entries' puzzles are kept
 abbrev pub AreKept : World → List Entry → Type 0

@@ -33,8 +33,7 @@ impl<S: Store> Desk<S> {
     }
 
     /// What the request will be answered, and what it will change. Reads only, and for a request without a key, other
-    /// than for a table, not even that. It fails only where a call of the store did, where the world isn't sane, or
-    /// where a round has more than 4,294,967,295 answers or protests.
+    /// than for a table, not even that. It fails only where a call of the store did, or where the world isn't sane.
     pub fn plan(&mut self, alloc: Global, t: Moment, request: &Request) -> Result<Plan, StoreFault>
         ensures kept { Kept (S.content (kept_by self.old)) (S.content (kept_by self.new)) }
         ensures untouched { IsNobodys request.now → kept_by self.new ≡ kept_by self.old }

@@ -1,5 +1,5 @@
 -- What a tally has taken, row by row.
-use Rattle.std.proofs.Common.{arith, ◌≡◌, ◌<◌, ◌+◌, ◌+ℤ◌, ◌⊎◌, inl, inr, ℕ, ℤ, pos, Bool, true, false, List, [], ◌∷◌, ◌++◌, length, All, Contains, Option, Some, None, refl, sym, ap, subst, get_or, ◌∙◌, append_assoc, filter}
+use Rattle.std.proofs.Common.{arith, ◌≡◌, ◌<◌, ◌+◌, ◌+ℤ◌, ◌⊎◌, inl, inr, ℕ, ℤ, pos, Bool, true, false, List, [], ◌∷◌, ◌++◌, length, All, Contains, Option, Some, None, refl, sym, ap, subst, get_or, ◌∙◌, append_assoc, filter, is_some}
 use Rattle.std.specs.BTreeMap.{is_at}
 use Rattle.std.specs.Ordering.{nat_cmp, ordering_then, ordering_reverse, is_eq}
 use Rattle.std.specs.declared.cmp.Ordering.{Ordering}
@@ -22,7 +22,7 @@ use Rattle.hall_policy.specs.declared.record.RoundRow.{RoundRow}
 use Rattle.hall_policy.proofs.Orders.{text_total, same_texts}
 use Rattle.hall_score.specs.Total.{total_of, answer_points, protest_points}
 use Rattle.hall_score.specs.Work.{IsWorkOf, IsAhead}
-use Rattle.hall_score.specs.Tally.{answers_by, protests_by, AreTotalsOf, turn_cmp, AreRulingsOf, IsLastOf, AreHeld, IsTallyOf, TakesAnswer, RefusesAnswer, TakesProtest, IsLater, IsNextOf, IsPastOf}
+use Rattle.hall_score.specs.Tally.{answers_by, protests_by, AreTotalsOf, turn_cmp, AreRulingsOf, IsLastOf, AreHeld, IsTallyOf, TakesAnswer, RefusesAnswer, TakesProtest, RefusesProtest, IsLater, IsNextOf, IsPastOf}
 use Rattle.hall_score.specs.Ruled.{ruled_at, points_ruled, count_ruled}
 use Rattle.hall_score.specs.declared.held.Work.{Work}
 use Rattle.hall_score.specs.declared.held.Rulings.{Rulings}
@@ -279,23 +279,40 @@ next_count protests row old new next is count here others name = by_name (count_
     let at : new name ≡ old name = others name (λ e. apart (sym e)) in
     ap count_ruled at ∙ (is.count name ∙ ap length (sym (protest_other protests row name apart))))
 
-nothing_held : (round : RoundRow) (protests more : List ProtestRow) (totals : List (List ℕ × ℤ)) (last : Option Entrant) → AreHeld round protests [] totals last → AreHeld round more [] totals last
-nothing_held round protests more totals None held = held
-nothing_held round protests more totals (Some entrant) held =
+-- a tally with a last entrant has taken an answer
+held_by_none : (round : RoundRow) (protests : List ProtestRow) (totals : List (List ℕ × ℤ)) (entrant : Entrant) → IsLastOf round protests [] totals entrant → ⊥
+held_by_none round protests totals entrant held =
     let among = own_reached round held.own entrant held.work in
     let all : Contains [] held.work.reached.0 = subst (λ l. Contains l held.work.reached.0) (sym held.whole) (Contains-append_right held.earlier held.own held.work.reached.0 among) in
-    absurd (omega (arith, all.1))
+    omega (arith, all.1)
 
-pub protest_takes : (before after : Tally) (row : ProtestRow) (next : Rulings) → after.round ≡ before.round → after.totals ≡ before.totals → after.last ≡ before.last → next.points ≡ points_ruled (ruled_at before.ruled row.key.entrant) +ℤ ruling_points row.ruling → next.count ≡ count_ruled (ruled_at before.ruled row.key.entrant) + 1 → ruled_at after.ruled row.key.entrant ≡ Some next → ((other : List ℕ) → ¬ (other ≡ row.key.entrant) → ruled_at after.ruled other ≡ ruled_at before.ruled other) → TakesProtest before row after
-protest_takes before after row next same_round same_totals same_last points count here others round protests is = record {
-  round_is = same_round ∙ is.round_is;
-  rulings_are = record {
-    points = next_points protests row (ruled_at before.ruled) (ruled_at after.ruled) next is.rulings_are points here others;
-    count = next_count protests row (ruled_at before.ruled) (ruled_at after.ruled) next is.rulings_are count here others;
-  };
-  answers_are = subst (λ l. AreHeld round (protests ++ row ∷ []) [] after.totals l) (sym same_last)
-      (subst (λ t. AreHeld round (protests ++ row ∷ []) [] t before.last) (sym same_totals) (nothing_held round protests (protests ++ row ∷ []) before.totals before.last is.answers_are));
-}
+pub protest_takes : (before after : Tally) (row : ProtestRow) (next : Rulings) → before.last ≡ None → after.round ≡ before.round → after.totals ≡ before.totals → after.last ≡ before.last → next.points ≡ points_ruled (ruled_at before.ruled row.key.entrant) +ℤ ruling_points row.ruling → next.count ≡ count_ruled (ruled_at before.ruled row.key.entrant) + 1 → ruled_at after.ruled row.key.entrant ≡ Some next → ((other : List ℕ) → ¬ (other ≡ row.key.entrant) → ruled_at after.ruled other ≡ ruled_at before.ruled other) → TakesProtest before row after
+protest_takes before after row next none same_round same_totals same_last points count here others = (
+  none,
+  λ round protests is. record {
+    round_is = same_round ∙ is.round_is;
+    rulings_are = record {
+      points = next_points protests row (ruled_at before.ruled) (ruled_at after.ruled) next is.rulings_are points here others;
+      count = next_count protests row (ruled_at before.ruled) (ruled_at after.ruled) next is.rulings_are count here others;
+    };
+    answers_are =
+        let held : AreHeld round protests [] before.totals None = subst (AreHeld round protests [] before.totals) none is.answers_are in
+        subst (AreHeld round (protests ++ row ∷ []) [] after.totals) (sym (same_last ∙ none)) (held.0, same_totals ∙ held.1);
+  },
+)
+
+-- whether there is a last entrant
+pub none_last : (last : Option Entrant) → is_some last ≡ false → last ≡ None
+none_last None none = refl
+none_last (Some entrant) none = absurd (cc)
+
+late : (tally : Tally) (row : ProtestRow) (last : Option Entrant) → tally.last ≡ last → is_some last ≡ true → RefusesProtest tally row
+late tally row None same some = absurd (cc)
+late tally row (Some entrant) same some = λ round protests is.
+    absurd (held_by_none round protests tally.totals entrant (subst (AreHeld round protests [] tally.totals) same is.answers_are))
+
+pub late_refuses : (tally : Tally) (row : ProtestRow) → is_some tally.last ≡ true → RefusesProtest tally row
+late_refuses tally row some = late tally row tally.last refl some
 
 -- ---- rows one after another
 pub took_answers : (round : RoundRow) (protests : List ProtestRow) (before : Tally) (taken answers : List AnswerRow) (after : Tally) → IsTallyOf round protests taken before → HasTaken TakesAnswer before answers after → IsTallyOf round protests (taken ++ answers) after
@@ -308,7 +325,7 @@ pub took_protests : (round : RoundRow) (before : Tally) (taken protests : List P
 took_protests round before taken [] after is chain = subst (λ l. IsTallyOf round l [] after) (sym (append-nil taken)) (subst (IsTallyOf round taken []) (sym chain) is)
 took_protests round before taken (row ∷ protests) after is chain =
     subst (λ l. IsTallyOf round l [] after) (append_assoc taken (row ∷ []) protests)
-    (took_protests round chain.0 (taken ++ row ∷ []) protests after (chain.1 round taken is) chain.2)
+    (took_protests round chain.0 (taken ++ row ∷ []) protests after (chain.1.1 round taken is) chain.2)
 
 -- ---- the calls
 pub closed_last : (tally : Tally) (entrant : Entrant) (name : List ℕ) (v z : ℤ) (totals : List (List ℕ × ℤ)) → tally.last ≡ Some entrant → name ≡ entrant.name → z ≡ v +ℤ points_ruled (ruled_at tally.ruled entrant.name) → ((rows : List AnswerRow) → IsWorkOf tally.round rows entrant.work → v ≡ answer_points tally.round rows) → totals ≡ tally.totals ++ (name, z) ∷ [] → (round : RoundRow) (protests : List ProtestRow) (answers : List AnswerRow) → IsTallyOf round protests answers tally → AreTotalsOf round protests answers totals

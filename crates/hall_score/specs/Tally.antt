@@ -83,13 +83,14 @@ RefusesAnswer tally row =
     (round : RoundRow) (protests : List ProtestRow) (answers : List AnswerRow) →
     IsTallyOf round protests answers tally → ¬ (IsNext answers row)
 
--- whatever protests the tally has taken, and no answers, it has now taken the protest too
+-- the tally has taken no answer, and whatever protests it has taken, it has now taken the protest too
 abbrev pub TakesProtest : Tally → ProtestRow → Tally → Type 0
 TakesProtest before row after =
-    (round : RoundRow) (protests : List ProtestRow) →
-    IsTallyOf round protests [] before → IsTallyOf round (protests ++ row ∷ []) [] after
+    (before.last ≡ None)
+    × ((round : RoundRow) (protests : List ProtestRow) →
+    IsTallyOf round protests [] before → IsTallyOf round (protests ++ row ∷ []) [] after)
 
--- whatever protests the tally has taken, 4,294,967,295 of them are the entrant's
+-- whatever protests the tally has taken, and no answers, 4,294,967,295 of them are the entrant's
 abbrev pub RefusesProtest : Tally → ProtestRow → Type 0
 RefusesProtest tally row =
     (round : RoundRow) (protests : List ProtestRow) →

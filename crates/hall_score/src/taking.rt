@@ -141,6 +141,9 @@ impl ProtestSink for Tally {
     ghost refuses = { RefusesProtest };
 
     fn take(&mut self, row: &ProtestRow) -> Result<(), SinkFault> {
+        if self.last.is_some() {
+            return Err(SinkFault::Refused);
+        }
         let rulings = self.ruled.at(&row.key.entrant);
         if rulings.count == u32::MAX {
             return Err(SinkFault::Refused);

@@ -3,7 +3,7 @@ use crate::fixtures::{draft, entries, entry, number, text};
 use hall_grid::{Broken, Rule};
 use hall_policy::{
     AnswerKey, AnswerRow, AnswerSink, Mode, Name, ProtestKey, ProtestRow, ProtestSink, RoundRow,
-    Ruling, RulingPoints,
+    Ruling, RulingPoints, SinkFault,
 };
 use hall_score::{Line, Tally, standings, table_text, total};
 use std::alloc::AllocGlobal;
@@ -70,6 +70,9 @@ const TABLE: &str = "   1 ana                            40
    1 eve                            40
    3 fay                            30
    4 gus                            -5
+";
+
+const TABLE_OF_ONE: &str = "   1 eve                            40
 ";
 
 const TABLE_OF_TWO: &str = "   1 fay                           113
@@ -141,4 +144,47 @@ fn a_tally_gives_the_totals_of_a_round(rt: HostRuntime) {
     let totals = tally.totals().expect(&rt, "memory");
     let table = table_text(rt.alloc(), totals.as_slice()).expect(&rt, "memory");
     assert_eq!(rt; table.as_str(), TABLE_OF_TWO);
+}
+
+/// A tally that has taken Eve's second answer, which is right and gives 40 points.
+fn begun(rt: &(impl AllocGlobal + Abort)) -> Tally {
+    let mut tally = Tally::new(rt.alloc(), round(rt, Mode::Instant));
+    answer_to(rt, &mut tally, &answer(rt, 2, 1_777_715_999, true));
+    tally
+}
+
+/// Its table is that of the one answer.
+fn assert_one_line(rt: &(impl AllocGlobal + Abort), tally: Tally) {
+    let totals = tally.totals().expect(rt, "memory");
+    let table = table_text(rt.alloc(), totals.as_slice()).expect(rt, "memory");
+    assert_eq!(rt; table.as_str(), TABLE_OF_ONE);
+}
+
+/// The sink refuses the protest.
+fn assert_refuses_protest<K: ProtestSink>(rt: &impl Abort, sink: &mut K, row: &ProtestRow) {
+    let taken = sink.take(row);
+    assert!(rt; taken == Err(SinkFault::Refused));
+}
+
+/// The sink refuses the answer.
+fn assert_refuses_answer<K: AnswerSink>(rt: &impl Abort, sink: &mut K, row: &AnswerRow) {
+    let taken = sink.take(row);
+    assert!(rt; taken == Err(SinkFault::Refused));
+}
+
+#[test]
+fn a_tally_refuses_a_protest_after_an_answer(rt: HostRuntime) {
+    let mut tally = begun(&rt);
+    assert_refuses_protest(&rt, &mut tally, &upheld(&rt, 3));
+    assert_one_line(&rt, tally);
+}
+
+#[test]
+fn a_tally_refuses_an_answer_out_of_order(rt: HostRuntime) {
+    let mut tally = begun(&rt);
+    for (entrant, n) in [("eve", 1), ("eve", 2), ("ana", 3)] {
+        let row = answer_of(&rt, entrant, n, 1_777_713_000, true);
+        assert_refuses_answer(&rt, &mut tally, &row);
+    }
+    assert_one_line(&rt, tally);
 }

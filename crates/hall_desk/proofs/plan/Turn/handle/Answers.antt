@@ -1,4 +1,4 @@
-use Rattle.std.proofs.Common.{Option, refl, sym, subst}
+use Rattle.std.proofs.Common.{Option, inl, inr, refl, sym, subst}
 use Rattle.hall_policy.specs.Decided.{IsDecided}
 use Rattle.hall_policy.specs.declared.record.Person.{Person}
 use Rattle.hall_policy.specs.declared.request.Action.{Action}
@@ -8,7 +8,7 @@ use Rattle.hall_store.specs.Store.{Kept}
 use Rattle.hall_store.specs.Change.{changed}
 use Rattle.hall_desk.specs.Found.{IsCaller}
 use Rattle.hall_desk.specs.Step.{Allowed}
-use Rattle.hall_desk.specs.Plans.{IsMadePlan, IsPlanFor}
+use Rattle.hall_desk.specs.Plans.{IsMadePlan, IsPlanFor, IsReading}
 use Rattle.hall_store.proofs.Knowing.{carried, kept_then, told_through}
 use Rattle.hall_desk.proofs.Planning.{planned}
 use Rattle.hall_desk.proofs.plan.Turn.handle.Goals as goal
@@ -30,5 +30,6 @@ returns-in-Allow-clause-told g c =
     (carried (λ w. IsCaller w request.key c.args.facts.now.caller) old new kept c.requires.caller h s))
     (carried (λ w. IsDecided w facts request.action c.args.self.now.t Allow) mid new c.plan.ensures.kept
     (λ h0 s0. subst (λ (decision : Decision). IsDecided mid.world facts request.action c.args.self.now.t decision) c.in-Allow.is (decided.told.1 h0 s0)) h s)
-    made.found (subst (λ (a : Action). Allowed new.world facts.caller a c.args.self.now.t made.found plan.reply (changed plan.change new.world)) (sym c.requires.same) made.allowed) made.can (λ no. absurd (no refl)))
+    made.found (subst (λ (a : Action). Allowed new.world facts.caller a c.args.self.now.t made.found plan.reply (changed plan.change new.world)) (sym c.requires.same) made.allowed) made.can
+    (λ why. elim why [ inl denied ↦ absurd (denied refl) | inr reads ↦ made.quiet (subst IsReading c.requires.same reads) ]))
     c.plan.ensures.told

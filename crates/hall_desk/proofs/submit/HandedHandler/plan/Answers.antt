@@ -28,7 +28,7 @@ returns-then-branch-clause-fault g c =
     λ _. inr (λ h.
     let read = c.in_ok-is_number_taken.ensures.served h in
     let told = carried (λ w. TrueUpTo 20 facts w (handed_action handed)) old new kept c.requires.told h read.0 in
-    (read.0, λ fit. number_free new.world facts handed c.in-Some-Some.person _ c.in-Some-Some.is-0 told c.number_after-n.ensures fit.0 (read.1.0 c.if-branch.true)))
+    (read.0, λ sane. number_free new.world facts handed c.in-Some-Some.person _ c.in-Some-Some.is-0 told c.number_after-n.ensures sane (read.1.0 c.if-branch.true)))
 
 pub returns-clause-told : goal.returns-clause-told
 returns-clause-told g c =
