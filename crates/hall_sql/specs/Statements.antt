@@ -1,5 +1,5 @@
 -- The texts of the statements.
-use Rattle.std.specs.Prelude.{codes, List, [], ℕ, pos, negsuc, None, false}
+use Rattle.std.specs.Prelude.{codes, ◌++◌, List, [], ℕ, pos, negsuc, None, false}
 use Rattle.sqlite.specs.declared.types.Value.TheVariants.{Int}
 use Rattle.sqlite_value.specs.declared.keys.Key.{Key}
 use Rattle.sqlite.specs.Term.{Term, lit}
@@ -29,19 +29,27 @@ puzzle_text = codes "SELECT author, label, body, state, solution FROM puzzles WH
 
 -- the answer under a key
 abbrev pub answer_text : List ℕ
-answer_text = codes "SELECT entrant, round, number, token, n, moment, answer, verdict FROM answers WHERE entrant = ?1 AND round = ?2 AND number = ?3 AND token = ?4"
+answer_text =
+    codes "SELECT entrant, round, number, token, n, moment, answer, verdict FROM answers "
+    ++ codes "WHERE entrant = ?1 AND round = ?2 AND number = ?3 AND token = ?4"
 
 -- the entrant's answers in the round, in the order of listings
 abbrev pub answers_of_text : List ℕ
-answers_of_text = codes "SELECT entrant, round, number, token, n, moment, answer, verdict FROM answers WHERE round = ?2 AND entrant = ?1 ORDER BY entrant, number, n, token"
+answers_of_text =
+    codes "SELECT entrant, round, number, token, n, moment, answer, verdict FROM answers "
+    ++ codes "WHERE round = ?2 AND entrant = ?1 ORDER BY entrant, number, n, token"
 
 -- the answers of the round, in the order of listings
 abbrev pub answers_in_text : List ℕ
-answers_in_text = codes "SELECT entrant, round, number, token, n, moment, answer, verdict FROM answers WHERE round = ?1 ORDER BY entrant, number, n, token"
+answers_in_text =
+    codes "SELECT entrant, round, number, token, n, moment, answer, verdict FROM answers "
+    ++ codes "WHERE round = ?1 ORDER BY entrant, number, n, token"
 
 -- one more answer
 abbrev pub add_answer_text : List ℕ
-add_answer_text = codes "INSERT INTO answers (entrant, round, number, token, n, moment, answer, verdict) VALUES (?1, ?2, ?3, ?4, ?5, ?6, ?7, ?8)"
+add_answer_text =
+    codes "INSERT INTO answers (entrant, round, number, token, n, moment, answer, verdict) "
+    ++ codes "VALUES (?1, ?2, ?3, ?4, ?5, ?6, ?7, ?8)"
 
 -- the rows under a puzzle's key
 abbrev pub look_puzzle_text : List ℕ

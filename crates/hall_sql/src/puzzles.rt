@@ -8,7 +8,6 @@ ghost use Rattle.sqlite.specs.State.{HasCleanDisk, Executes};
 ghost use Rattle.hall_grid.specs.Text.{SpellsText};
 ghost use Rattle.hall_policy.specs.Ranges.{IsPuzzleKey, IsState};
 ghost use Rattle.hall_store.specs.declared.change.Change.TheVariants.{PutPuzzle, SetState};
-ghost use Rattle.hall_sql.specs.Statements.{add_puzzle_text, replace_puzzle_text};
 ghost use Rattle.hall_sql.specs.Columns.{puzzle_params, HasSoMany, state_code, solution_of};
 ghost use Rattle.hall_sql.specs.Standing.{IsHall, Rested, Wrote, content_of};
 
@@ -94,32 +93,10 @@ const ADD: &str =
 const REPLACE: &str =
     "UPDATE puzzles SET body = ?3, state = ?4, solution = ?5 WHERE author = ?1 AND label = ?2";
 
-/// Writes the columns of a puzzle under a new key.
-fn add<S: Alter>(conn: &mut Connection<S>, row: &PuzzleRow, text: &str) -> Result<usize, StoreFault>
-    requires hall { IsHall (state S.Store conn.old) }
-    ensures in_range { IsState row.now.state }
-    ensures clean { doubt (state S.Store conn.old).is_clean ≤ doubt (state S.Store conn.new).is_clean }
-    ensures refused { OnErr result (Rested (state S.Store conn.old) (state S.Store conn.new)) }
-    ensures runs { HasCleanDisk (state S.Store conn.new) → IfOk result (λ count. Executes add_puzzle_text
-        (puzzle_params text.now row.now) (state S.Store conn.old) (state S.Store conn.new) (Ok count)) }
-{
-    let solution = solution_of(&row.state);
-    run(
-        conn,
-        ADD,
-        params![
-            row.key.author.as_str(),
-            row.key.label.as_str(),
-            text,
-            state_code(&row.state),
-            solution
-        ],
-    )
-}
-
-/// Writes the columns of a puzzle in the place of the one under its key.
-fn replace<S: Alter>(
+/// Runs a statement over the columns of a puzzle.
+fn write<S: Alter>(
     conn: &mut Connection<S>,
+    sql: &str,
     row: &PuzzleRow,
     text: &str,
 ) -> Result<usize, StoreFault>
@@ -127,13 +104,13 @@ fn replace<S: Alter>(
     ensures in_range { IsState row.now.state }
     ensures clean { doubt (state S.Store conn.old).is_clean ≤ doubt (state S.Store conn.new).is_clean }
     ensures refused { OnErr result (Rested (state S.Store conn.old) (state S.Store conn.new)) }
-    ensures runs { HasCleanDisk (state S.Store conn.new) → IfOk result (λ count. Executes replace_puzzle_text
+    ensures runs { HasCleanDisk (state S.Store conn.new) → IfOk result (λ count. Executes sql.now
         (puzzle_params text.now row.now) (state S.Store conn.old) (state S.Store conn.new) (Ok count)) }
 {
     let solution = solution_of(&row.state);
     run(
         conn,
-        REPLACE,
+        sql,
         params![
             row.key.author.as_str(),
             row.key.label.as_str(),
@@ -157,7 +134,7 @@ fn put_new<S: Alter>(
     ensures wrote { Wrote (PutPuzzle row.now) (state S.Store conn.old) (state S.Store conn.new) result }
 {
     in_range(&row.key);
-    match add(conn, row, text) {
+    match write(conn, ADD, row, text) {
         Ok(_) => Ok(()),
         Err(fault) => Err(fault),
     }
@@ -176,7 +153,7 @@ fn put_over<S: Alter>(
     ensures wrote { Wrote (PutPuzzle row.now) (state S.Store conn.old) (state S.Store conn.new) result }
 {
     in_range(&row.key);
-    match replace(conn, row, text) {
+    match write(conn, REPLACE, row, text) {
         Ok(_) => Ok(()),
         Err(fault) => Err(fault),
     }

@@ -2,7 +2,8 @@
 ghost use Rattle.std.specs.Prelude.{◌≡◌, ◌≤◌, List, map, length, slice_get, Option, Some, IfOk};
 ghost use Rattle.sqlite.specs.Order.{Row as Columns};
 ghost use Rattle.sqlite_value.specs.Order.{column};
-ghost use Rattle.hall_sql.specs.Values.{board_of, number_in, kind_in, within, roles_in, puzzle_in, unsolved_of, state_in};
+ghost use Rattle.hall_sql.specs.Values.{board_of, number_in, kind_in, within, roles_in, puzzle_in};
+ghost use Rattle.hall_sql.specs.Values.{unsolved_of, state_in};
 ghost use Rattle.hall_grid.proofs.SpellsOrHasFault.{spells_or_fault};
 ghost use Rattle.hall_sql.specs.Rows.{person_in, puzzle_row_in, IsAnswerKeyIn, answer_in};
 
