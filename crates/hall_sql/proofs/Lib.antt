@@ -13,8 +13,12 @@ pub mod KeyedLemmas
 pub mod ValueLemmas
 pub mod UniqueLemmas
 pub mod SortedLemmas
+pub mod RisingLemmas
+pub mod ListedLemmas
+pub mod AmongLemmas
 pub mod PeopleTexts
 pub mod PeopleLemmas
+pub mod PeopleKeys
 pub mod StoreLemmas
 pub mod PuzzleTexts
 pub mod PuzzleLemmas

@@ -62,3 +62,46 @@ add_puzzle_text = codes "INSERT INTO puzzles (author, label, body, state, soluti
 -- a puzzle in the place of the one under its key
 abbrev pub replace_puzzle_text : List ℕ
 replace_puzzle_text = codes "UPDATE puzzles SET body = ?3, state = ?4, solution = ?5 WHERE author = ?1 AND label = ?2"
+
+-- who has a key
+abbrev pub person_by_key_text : List ℕ
+person_by_key_text = codes "SELECT name, pass, roles FROM people WHERE pass = ?1"
+
+-- all puzzles, in the order of their keys
+abbrev pub all_puzzles_text : List ℕ
+all_puzzles_text = codes "SELECT author, label, body, state, solution FROM puzzles ORDER BY author, label"
+
+-- the author's puzzles, in the order of their labels
+abbrev pub puzzles_of_text : List ℕ
+puzzles_of_text =
+    codes "SELECT author, label, body, state, solution FROM puzzles WHERE author = ?1 ORDER BY author, label"
+
+-- the entrant's answers to the round's puzzle of the number
+abbrev pub answers_to_text : List ℕ
+answers_to_text =
+    codes "SELECT entrant, round, number, token, n, moment, answer, verdict FROM answers "
+    ++ codes "WHERE entrant = ?1 AND round = ?2 AND number = ?3"
+
+-- the protest under a key
+abbrev pub protest_text : List ℕ
+protest_text =
+    codes "SELECT entrant, round, token, number, body, ruling, points FROM protests "
+    ++ codes "WHERE entrant = ?1 AND round = ?2 AND token = ?3"
+
+-- the entrant's protests in the round, by token
+abbrev pub protests_of_text : List ℕ
+protests_of_text =
+    codes "SELECT entrant, round, token, number, body, ruling, points FROM protests "
+    ++ codes "WHERE round = ?2 AND entrant = ?1 ORDER BY entrant, round, token"
+
+-- the protests of the round, by entrant, then token
+abbrev pub protests_in_text : List ℕ
+protests_in_text =
+    codes "SELECT entrant, round, token, number, body, ruling, points FROM protests "
+    ++ codes "WHERE round = ?1 ORDER BY entrant, round, token"
+
+-- all rounds, in the order of their ids
+abbrev pub all_rounds_text : List ℕ
+all_rounds_text =
+    codes "SELECT id, title, start, minutes, protest_minutes, mode, penalty, bonus, released, published FROM rounds "
+    ++ codes "ORDER BY id"
