@@ -22,6 +22,7 @@ pub mod PeopleKeys
 pub mod StoreLemmas
 pub mod PuzzleTexts
 pub mod PuzzleLemmas
+pub mod PuzzleListings
 pub mod AnswerTexts
 pub mod AnswerLemmas
 pub mod AnswerWrites

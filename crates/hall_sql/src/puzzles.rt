@@ -1,8 +1,9 @@
 //! The table of puzzles.
 ghost use Rattle.std.specs.Prelude.{◌≡◌, ◌≤◌, IsTrue, Ok, IfOk, OnErr};
-ghost use Rattle.std.specs.FinMap.{get};
+ghost use Rattle.std.specs.FinMap.{get, values};
 ghost use Rattle.sqlite.specs.Held.{state};
-ghost use Rattle.hall_store.specs.Store.{Served};
+ghost use Rattle.hall_store.specs.Store.{Served, puzzles_of};
+ghost use Rattle.hall_policy.specs.Rules.{puzzles_put};
 ghost use Rattle.sqlite_trees.specs.View.{doubt};
 ghost use Rattle.sqlite.specs.State.{HasCleanDisk, Executes};
 ghost use Rattle.hall_grid.specs.Text.{SpellsText};
@@ -14,7 +15,7 @@ ghost use Rattle.hall_sql.specs.Standing.{IsHall, Rested, Wrote, content_of};
 use crate::calls::{ask, run};
 use crate::record::{at_most_one, read_all};
 use hall_grid::write_puzzle;
-use hall_policy::{PuzzleKey, PuzzleRow, PuzzleState};
+use hall_policy::{Name, PuzzleKey, PuzzleRow, PuzzleState};
 use hall_store::StoreFault;
 use sqlite::{Alter, Connection, params};
 use std::alloc::Global;
@@ -39,6 +40,58 @@ pub(crate) fn puzzle<S: Alter>(
         params![key.author.as_str(), key.label.as_str()],
     )?;
     at_most_one(read_all(alloc, &rows)?)
+}
+
+const ALL_PUZZLES: &str =
+    "SELECT author, label, body, state, solution FROM puzzles ORDER BY author, label";
+
+/// All puzzles, in the order of their keys.
+pub(crate) fn all_puzzles<S: Alter>(
+    conn: &mut Connection<S>,
+    alloc: Global,
+) -> Result<Vec<PuzzleRow>, StoreFault>
+    requires hall { IsHall (state S.Store conn.old) }
+    ensures rested { Rested (state S.Store conn.old) (state S.Store conn.new) }
+    ensures served { Served (content_of (state S.Store conn.new)) result
+        (λ world rows. rows.items ≡ values world.puzzles) }
+{
+    let _schema = conn.schema();
+    let rows = ask(conn, ALL_PUZZLES, &[])?;
+    read_all(alloc, &rows)
+}
+
+const PUZZLES_OF: &str =
+    "SELECT author, label, body, state, solution FROM puzzles WHERE author = ?1 \
+    ORDER BY author, label";
+
+/// The author's puzzles, in the order of their labels.
+pub(crate) fn puzzles_of<S: Alter>(
+    conn: &mut Connection<S>,
+    alloc: Global,
+    author: &Name,
+) -> Result<Vec<PuzzleRow>, StoreFault>
+    requires hall { IsHall (state S.Store conn.old) }
+    ensures rested { Rested (state S.Store conn.old) (state S.Store conn.new) }
+    ensures served { Served (content_of (state S.Store conn.new)) result
+        (λ world rows. rows.items ≡ puzzles_of world author.now) }
+{
+    let _schema = conn.schema();
+    let rows = ask(conn, PUZZLES_OF, params![author.as_str()])?;
+    read_all(alloc, &rows)
+}
+
+/// How many puzzles of the author are kept.
+pub(crate) fn puzzles_put<S: Alter>(
+    conn: &mut Connection<S>,
+    alloc: Global,
+    author: &Name,
+) -> Result<u64, StoreFault>
+    requires hall { IsHall (state S.Store conn.old) }
+    ensures rested { Rested (state S.Store conn.old) (state S.Store conn.new) }
+    ensures served { Served (content_of (state S.Store conn.new)) result
+        (λ world count. count ≡ puzzles_put world author.now) }
+{
+    Ok(puzzles_of(conn, alloc, author)?.len() as u64)
 }
 
 /// The code of a state.
