@@ -1,5 +1,6 @@
 -- The values of a table's map, what a query leaves of them, and whether it leaves any.
-use Rattle.std.proofs.Common.{◌≡◌, ◌≤◌, ◌↔◌, ℕ, zero, suc, length, List, [], ◌∷◌, filter, find, Bool, true, false, cond, IsTrue, Option, Some, None, Contains, slice_get, refl, sym, ap, subst, ◌∙◌, arith}
+use Rattle.std.proofs.Common.{◌≡◌, ◌≤◌, ◌↔◌, ◌==◌, not, ℕ, zero, suc, length, List, [], ◌∷◌, filter, find, Bool, true, false, cond, IsTrue, Option, Some, None, Contains, slice_get, refl, sym, ap, subst, ◌∙◌, arith}
+use Rattle.std.proofs.lemmas.Bool.Decides.{nat_tests}
 use Rattle.std.specs.Cmp.{IsTotalOrder}
 use Rattle.std.specs.declared.cmp.Ordering.{Ordering}
 use Rattle.std.specs.List.{count_by}
@@ -80,3 +81,13 @@ only_one (y ∷ []) x short among = go (placed (y ∷ []) x among)
     go (zero, is) = is
     go (suc j, is) = absurd cc
 only_one (y ∷ z ∷ out) x short among = absurd (omega (arith, short))
+
+-- what isn't empty has any
+pub any_is : (n : ℕ) (empty : Bool) (P : Type 0) → empty ≡ (n == 0) → (1 ≤ n → P) → (P → 1 ≤ n) → IsTrue (not empty) ↔ P
+any_is zero empty P is there back = (
+  (λ yes. absurd (let no : false ≡ true = sym (ap not is) ∙ yes in cc)),
+  (λ p. absurd (omega (arith, back p))),
+)
+any_is (suc n) empty P is there back =
+    let some : (suc n == 0) ≡ false = grind (arith, nat_tests) in
+    ((λ _. there (omega arith)), (λ _. ap not (is ∙ some)))

@@ -9,7 +9,8 @@ use Rattle.sqlite.specs.Listing.{understood, reads_listing}
 use Rattle.sqlite.specs.Command.TheVariants.{Select, Insert}
 use Rattle.sqlite.proofs.Callers.{IsPlain, command_of}
 use Rattle.hall_sql.specs.Tables.{hall_schema}
-use Rattle.hall_sql.specs.Statements.{plain_query, answer_text, answers_in_text, answers_of_text, answers_to_text, add_answer_text}
+use Rattle.hall_sql.specs.Statements.{plain_query, answer_text, answers_in_text, answers_of_text, add_answer_text}
+use Rattle.hall_sql.specs.Statements.{answers_given_text, number_taken_text}
 use Rattle.hall_sql.proofs.PeopleTexts.{equals, rising}
 
 abbrev pub answer_columns : List Term
@@ -51,11 +52,21 @@ answers_of_is = (refl, refl, (refl, refl))
 abbrev pub place_terms : List Term
 place_terms = equals 1 0 ∷ equals 2 1 ∷ equals 3 2 ∷ []
 
-pub answers_to_is : (command_of (understood hall_schema answers_to_text)
+pub answers_given_is : (command_of (understood hall_schema answers_given_text)
     ≡ Select (record { lets = []; body = plain_query 9 place_terms answer_columns [] }) answer_names)
-    × (reads_listing hall_schema answers_to_text ≡ false) × IsPlain (understood hall_schema answers_to_text)
+    × (reads_listing hall_schema answers_given_text ≡ false) × IsPlain (understood hall_schema answers_given_text)
 unfolding understood everything
-answers_to_is = (refl, refl, (refl, refl))
+answers_given_is = (refl, refl, (refl, refl))
+
+-- entrant = ?1 AND round = ?2 AND number = ?3 AND n = ?4
+abbrev pub nth_terms : List Term
+nth_terms = equals 1 0 ∷ equals 2 1 ∷ equals 3 2 ∷ equals 5 3 ∷ []
+
+pub number_taken_is : (command_of (understood hall_schema number_taken_text)
+    ≡ Select (record { lets = []; body = plain_query 9 nth_terms answer_columns [] }) answer_names)
+    × (reads_listing hall_schema number_taken_text ≡ false) × IsPlain (understood hall_schema number_taken_text)
+unfolding understood everything
+number_taken_is = (refl, refl, (refl, refl))
 
 -- the rowid that is chosen, and each parameter
 abbrev pub added_terms : List Term

@@ -25,5 +25,6 @@ pub mod PuzzleLemmas
 pub mod PuzzleListings
 pub mod AnswerTexts
 pub mod AnswerLemmas
+pub mod AnswerCounts
 pub mod AnswerWrites
 pub mod PuzzleWrites

@@ -77,10 +77,16 @@ puzzles_of_text =
     codes "SELECT author, label, body, state, solution FROM puzzles WHERE author = ?1 ORDER BY author, label"
 
 -- the entrant's answers to the round's puzzle of the number
-abbrev pub answers_to_text : List ℕ
-answers_to_text =
+abbrev pub answers_given_text : List ℕ
+answers_given_text =
     codes "SELECT entrant, round, number, token, n, moment, answer, verdict FROM answers "
     ++ codes "WHERE entrant = ?1 AND round = ?2 AND number = ?3"
+
+-- those of them that are the n-th
+abbrev pub number_taken_text : List ℕ
+number_taken_text =
+    codes "SELECT entrant, round, number, token, n, moment, answer, verdict FROM answers "
+    ++ codes "WHERE entrant = ?1 AND round = ?2 AND number = ?3 AND n = ?4"
 
 -- the protest under a key
 abbrev pub protest_text : List ℕ
@@ -99,6 +105,12 @@ abbrev pub protests_in_text : List ℕ
 protests_in_text =
     codes "SELECT entrant, round, token, number, body, ruling, points FROM protests "
     ++ codes "WHERE round = ?1 ORDER BY entrant, round, token"
+
+-- the open protests of the round
+abbrev pub open_protests_text : List ℕ
+open_protests_text =
+    codes "SELECT entrant, round, token, number, body, ruling, points FROM protests "
+    ++ codes "WHERE round = ?1 AND ruling = 0"
 
 -- all rounds, in the order of their ids
 abbrev pub all_rounds_text : List ℕ
