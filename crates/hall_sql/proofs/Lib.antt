@@ -28,3 +28,6 @@ pub mod AnswerLemmas
 pub mod AnswerCounts
 pub mod AnswerWrites
 pub mod PuzzleWrites
+pub mod ProtestTexts
+pub mod ProtestLemmas
+pub mod ProtestOpen

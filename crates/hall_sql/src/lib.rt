@@ -4,5 +4,6 @@
 mod answers;
 mod calls;
 mod people;
+mod protests;
 mod puzzles;
 mod record;
