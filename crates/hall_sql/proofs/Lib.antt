@@ -31,3 +31,5 @@ pub mod PuzzleWrites
 pub mod ProtestTexts
 pub mod ProtestLemmas
 pub mod ProtestOpen
+pub mod RoundTexts
+pub mod RoundLemmas

@@ -7,3 +7,4 @@ mod people;
 mod protests;
 mod puzzles;
 mod record;
+mod rounds;

@@ -4,14 +4,15 @@ ghost use Rattle.sqlite.specs.Order.{Row as Columns};
 ghost use Rattle.sqlite_value.specs.Order.{column};
 ghost use Rattle.hall_sql.specs.Values.{board_of, number_in, kind_in, within, roles_in, puzzle_in};
 ghost use Rattle.hall_sql.specs.Values.{unsolved_of, state_in, int_in, ruling_points_of, unpointed_of, ruling_in};
+ghost use Rattle.hall_sql.specs.Values.{mode_in, flag_in};
 ghost use Rattle.hall_grid.proofs.SpellsOrHasFault.{spells_or_fault};
-ghost use Rattle.hall_sql.specs.Rows.{person_in, puzzle_row_in, IsAnswerKeyIn, answer_in, protest_in};
+ghost use Rattle.hall_sql.specs.Rows.{person_in, puzzle_row_in, IsAnswerKeyIn, answer_in, protest_in, round_in};
 
 use crate::calls::fault_of;
 use hall_grid::{Broken, Puzzle, TextFault, parse_puzzle};
 use hall_policy::{
-    AnswerKey, AnswerRow, AnswerText, Checked, Person, ProtestKey, ProtestRow, PuzzleKey,
-    PuzzleRow, PuzzleState, Roles, Ruling, RulingPoints, TextKind, Within,
+    AnswerKey, AnswerRow, AnswerText, Checked, Mode, Person, ProtestKey, ProtestRow, PuzzleKey,
+    PuzzleRow, PuzzleState, Roles, Round, Ruling, RulingPoints, TextKind, Within,
 };
 use hall_store::StoreFault;
 use sqlite::Row;
@@ -260,6 +261,57 @@ impl Record for ProtestRow {
             number,
             text,
             ruling,
+        })
+    }
+}
+
+/// The mode whose code stands in a column.
+fn mode_at(row: &Row, at: usize) -> Result<Mode, StoreFault>
+    ensures { IfOk result (λ mode. mode_in (column row.now at) ≡ Some mode) }
+{
+    match code_at(row, at)? {
+        0 => Ok(Mode::Instant),
+        1 => Ok(Mode::Sealed),
+        _ => Err(StoreFault::Failed),
+    }
+}
+
+/// The flag that stands in a column as 0 or 1.
+fn flag_at(row: &Row, at: usize) -> Result<bool, StoreFault>
+    ensures { IfOk result (λ flag. flag_in (column row.now at) ≡ Some flag) }
+{
+    match code_at(row, at)? {
+        0 => Ok(false),
+        1 => Ok(true),
+        _ => Err(StoreFault::Failed),
+    }
+}
+
+impl Record for Round {
+    ghost read = { round_in };
+
+    fn from_row(_: Global, row: &Row) -> Result<Round, StoreFault> {
+        let id = text_at(row, 0)?;
+        let title = text_at(row, 1)?;
+        let start = number_at(row, 2)?;
+        let minutes = number_at(row, 3)?;
+        let protest_minutes = number_at(row, 4)?;
+        let mode = mode_at(row, 5)?;
+        let penalty = number_at(row, 6)?;
+        let bonus = number_at(row, 7)?;
+        let released = flag_at(row, 8)?;
+        let published = flag_at(row, 9)?;
+        Ok(Round {
+            id,
+            title,
+            start,
+            minutes,
+            protest_minutes,
+            mode,
+            penalty,
+            bonus,
+            released,
+            published,
         })
     }
 }
