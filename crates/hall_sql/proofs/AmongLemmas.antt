@@ -1,5 +1,5 @@
 -- The values of a table's map, what a query leaves of them, and whether it leaves any.
-use Rattle.std.proofs.Common.{◌≡◌, ◌≤◌, ◌↔◌, ◌==◌, not, ℕ, zero, suc, length, List, [], ◌∷◌, filter, find, Bool, true, false, cond, IsTrue, Option, Some, None, Contains, slice_get, refl, sym, ap, subst, ◌∙◌, arith}
+use Rattle.std.proofs.Common.{◌≡◌, ◌≤◌, ◌↔◌, ◌==◌, not, ℕ, zero, suc, length, List, [], ◌∷◌, filter, find, Bool, true, false, cond, IsTrue, Option, Some, Contains, slice_get, refl, sym, ap, subst, ◌∙◌, arith}
 use Rattle.std.proofs.lemmas.Bool.Decides.{nat_tests}
 use Rattle.std.specs.Cmp.{IsTotalOrder}
 use Rattle.std.specs.declared.cmp.Ordering.{Ordering}
@@ -10,7 +10,7 @@ use Rattle.std.proofs.lemmas.List.Sorted.{IsPermutation-sym, Contains-permutatio
 use Rattle.std.proofs.lemmas.List.Sums.{length-filter}
 use Rattle.sqlite.specs.Order.{Row}
 use Rattle.sqlite.proofs.Callers.{one_permutation}
-use Rattle.hall_policy.proofs.Maps.{get_of_value, value_of_get}
+use Rattle.hall_policy.proofs.Maps.{get_of_value}
 use Rattle.hall_store.proofs.Tests.{contained, placed, Contains-filter, filter-Contains}
 use Rattle.hall_sql.specs.Rows.{kept}
 use Rattle.hall_sql.proofs.UniqueLemmas.{kept_keyed}

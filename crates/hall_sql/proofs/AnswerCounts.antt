@@ -1,5 +1,5 @@
 -- How many answers an entrant gave to a puzzle, whether one of them is the n-th, and whether a round has any.
-use Rattle.std.proofs.Common.{◌≡◌, ◌==◌, ◌≤◌, ◌↔◌, ◌&&◌, ℕ, pos, List, [], ◌∷◌, length, map, filter, flat_map, option_to_list, Bool, true, false, not, IsTrue, Some, Contains, refl, sym, ap, ap₂, subst, ◌∙◌, arith}
+use Rattle.std.proofs.Common.{◌≡◌, ◌==◌, ◌↔◌, ◌&&◌, ℕ, pos, List, [], ◌∷◌, length, map, flat_map, option_to_list, Bool, true, not, IsTrue, Some, Contains, refl, ap, ap₂, subst, ◌∙◌, arith}
 use Rattle.std.proofs.lemmas.Bool.Decides.{nat_tests}
 use Rattle.std.specs.List.{list_all}
 use Rattle.std.specs.List.Sorted.{IsPermutation}

@@ -1,21 +1,16 @@
 -- What the statements on protests say of the world.
-use Rattle.std.proofs.Common.{◌≡◌, ◌≤◌, ◌==◌, ◌&&◌, ℕ, ℤ, pos, negsuc, zero, suc, List, [], ◌∷◌, length, map, filter, flat_map, Bool, true, false, cond, slice_get, Option, Some, None, option_to_list, is_none, refl, sym, ap, subst, ◌∙◌}
+use Rattle.std.proofs.Common.{◌≡◌, ◌≤◌, ◌&&◌, ℕ, List, [], ◌∷◌, length, map, flat_map, true, slice_get, Option, Some, None, option_to_list, refl, sym, ap, subst, ◌∙◌}
 use Rattle.std.specs.List.{list_all, AllByRecursion}
 use Rattle.std.specs.List.Sorted.{IsPermutation}
-use Rattle.std.specs.Ordering.{eq_by_cmp, int_eq}
+use Rattle.std.specs.Ordering.{eq_by_cmp}
 use Rattle.std.specs.FinMap.{get, values}
-use Rattle.sqlite.specs.declared.types.Value.{Value}
-use Rattle.sqlite.specs.declared.types.Value.TheVariants.{Null, Int, Real, Text, Blob}
+use Rattle.sqlite.specs.declared.types.Value.TheVariants.{Text}
 use Rattle.sqlite.specs.Effect.{IsDatabase}
 use Rattle.sqlite.specs.Order.{Row}
 use Rattle.sqlite.specs.State.{State, Shown}
 use Rattle.sqlite.specs.Table.{Table}
 use Rattle.sqlite.specs.Term.{Term, holds}
 use Rattle.sqlite.specs.Tree.{Trees}
-use Rattle.sqlite_sql.specs.declared.ops.BinaryOp.TheVariants.{Compare}
-use Rattle.sqlite_sql.specs.declared.ops.CompareOp.TheVariants.{Eq}
-use Rattle.sqlite.specs.Collation.TheVariants.{Binary}
-use Rattle.sqlite_sql.specs.Ops.{binary, is_true}
 use Rattle.sqlite_schema.specs.declared.schema.Constraint.TheVariants.{Unique}
 use Rattle.sqlite_schema.specs.Rules.{agree, passes}
 use Rattle.sqlite_rules.proofs.ListLemmas.{all_has}
@@ -24,14 +19,14 @@ use Rattle.sqlite_value.specs.Order.{column}
 use Rattle.sqlite_value.proofs.OrderLemmas.{then-Equal, value_cmp-Text}
 use Rattle.hall_grid.specs.FormReading.{◌>>=◌}
 use Rattle.hall_policy.specs.Text.{text_cmp, is_word_byte, is_printable}
-use Rattle.hall_policy.specs.World.{protest_cmp, same_text}
+use Rattle.hall_policy.specs.World.{protest_cmp}
 use Rattle.hall_policy.specs.declared.record.ProtestKey.{ProtestKey}
 use Rattle.hall_policy.specs.declared.record.ProtestRow.{ProtestRow}
 use Rattle.hall_policy.specs.declared.record.Ruling.{Ruling}
 use Rattle.hall_policy.proofs.Orders.{protest_total, same_protest_keys}
 use Rattle.hall_store.specs.Store.{protests_in, protests_of, is_protest_in, is_protest_of}
 use Rattle.hall_sql.specs.Tables.{hall_schema, protests_table}
-use Rattle.hall_sql.specs.Values.{name_in, token_in, within, kind_in, ruling_in, ruling_of}
+use Rattle.hall_sql.specs.Values.{name_in, token_in, within, kind_in, ruling_in}
 use Rattle.hall_sql.specs.Rows.{protest_in, protest_of, world_of}
 use Rattle.hall_sql.specs.Standing.{AreKeyed}
 use Rattle.hall_sql.specs.Statements.{protest_text, protests_of_text, protests_in_text}

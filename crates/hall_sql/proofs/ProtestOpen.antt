@@ -1,8 +1,8 @@
 -- How many protests an entrant made, and whether one of a round is open.
-use Rattle.std.proofs.Common.{◌≡◌, ◌==◌, ◌↔◌, ◌&&◌, ◌||◌, ℕ, ℤ, pos, negsuc, zero, suc, List, [], ◌∷◌, length, map, filter, Bool, true, false, cond, not, IsTrue, Option, Some, None, is_none, Contains, refl, sym, ap, ap₂, subst, ◌∙◌, arith}
+use Rattle.std.proofs.Common.{◌≡◌, ◌==◌, ◌↔◌, ◌&&◌, ℕ, ℤ, pos, negsuc, List, [], ◌∷◌, length, map, Bool, true, false, cond, not, IsTrue, Option, Some, None, is_none, Contains, refl, sym, ap, ap₂, ◌∙◌, arith}
 use Rattle.std.proofs.lemmas.List.Sums.{length-filter}
-use Rattle.std.specs.List.{list_all, count_by}
-use Rattle.std.specs.FinMap.{get, values}
+use Rattle.std.specs.List.{list_all}
+use Rattle.std.specs.FinMap.{values}
 use Rattle.std.specs.Ordering.{int_eq}
 use Rattle.sqlite.specs.declared.types.Value.{Value}
 use Rattle.sqlite.specs.declared.types.Value.TheVariants.{Null, Int, Real, Text, Blob}

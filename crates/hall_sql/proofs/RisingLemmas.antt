@@ -6,7 +6,7 @@ use Rattle.std.specs.declared.cmp.Ordering.TheVariants.{Less, Equal, Greater}
 use Rattle.std.specs.List.{AllByRecursion}
 use Rattle.std.specs.List.Sorted.{IsPermutation, IsSorted, IsStrictlySortedBy}
 use Rattle.std.specs.Map.{keys_of, values_of}
-use Rattle.std.specs.FinMap.{FinMap, IsAntisymmetric, entries, values, from_entries, empty, put, entries-insert, entries_sorted, len-empty, len-entries}
+use Rattle.std.specs.FinMap.{IsAntisymmetric, entries, values, from_entries, empty, put, entries-insert, entries_sorted, len-empty, len-entries}
 use Rattle.std.specs.FinMap.Entries.{by_order}
 use Rattle.std.specs.Ordering.{is_lt, is_gt, ordering_reverse}
 use Rattle.std.proofs.lemmas.Cmp.{on_total, tied_itself, upto, alike_right}
@@ -14,7 +14,7 @@ use Rattle.std.proofs.lemmas.List.Elements.{recursion_from_All, All-from_recursi
 use Rattle.std.proofs.lemmas.List.Sorted.{length_permutation, All-permutation}
 use Rattle.sqlite.specs.Order.{Row}
 use Rattle.sqlite_trees.specs.Tree.{IsAscending}
-use Rattle.sqlite_trees.proofs.ListLemmas.{IsPermutation-filter, all_weaker, all_of, ascending-filter, filter_all, filter_none}
+use Rattle.sqlite_trees.proofs.ListLemmas.{IsPermutation-filter, all_weaker, ascending-filter, filter_all, filter_none}
 use Rattle.hall_policy.proofs.Maps.{strictly_sorted}
 use Rattle.hall_sql.specs.Rows.{entry, kept}
 

@@ -1,5 +1,5 @@
 -- What the statements on rounds say of the world.
-use Rattle.std.proofs.Common.{◌≡◌, ℕ, List, [], ◌∷◌, map, filter, flat_map, Bool, true, Option, Some, None, option_to_list, refl, sym, ap, subst, ◌∙◌}
+use Rattle.std.proofs.Common.{◌≡◌, ℕ, List, [], ◌∷◌, map, flat_map, Bool, true, Option, Some, None, option_to_list, refl, sym, ap, subst, ◌∙◌}
 use Rattle.std.specs.List.{AllByRecursion}
 use Rattle.std.specs.List.Sorted.{IsPermutation}
 use Rattle.std.specs.FinMap.{values}
@@ -28,7 +28,6 @@ use Rattle.hall_sql.specs.Standing.{AreKeyed}
 use Rattle.hall_sql.specs.Statements.{all_rounds_text}
 use Rattle.hall_sql.proofs.ColumnLemmas.{kind_column}
 use Rattle.hall_sql.proofs.ListedLemmas.{by_order, values_asked}
-use Rattle.hall_sql.proofs.PeopleTexts.{rising}
 use Rattle.hall_sql.proofs.RoundTexts.{round_columns, id_order, all_rounds_is}
 use Rattle.hall_sql.proofs.UniqueLemmas.{equal_texts, first_not, records_listed}
 

@@ -23,15 +23,58 @@ plain_query tree filter project order = record {
 abbrev pub person_text : List ℕ
 person_text = codes "SELECT name, pass, roles FROM people WHERE name = ?1"
 
+-- who has a key
+abbrev pub person_by_key_text : List ℕ
+person_by_key_text = codes "SELECT name, pass, roles FROM people WHERE pass = ?1"
+
 -- the puzzle under a key
 abbrev pub puzzle_text : List ℕ
 puzzle_text = codes "SELECT author, label, body, state, solution FROM puzzles WHERE author = ?1 AND label = ?2"
+
+-- all puzzles, in the order of their keys
+abbrev pub all_puzzles_text : List ℕ
+all_puzzles_text = codes "SELECT author, label, body, state, solution FROM puzzles ORDER BY author, label"
+
+-- the author's puzzles, in the order of their labels
+abbrev pub puzzles_of_text : List ℕ
+puzzles_of_text =
+    codes "SELECT author, label, body, state, solution FROM puzzles WHERE author = ?1 ORDER BY author, label"
+
+-- the rows under a puzzle's key
+abbrev pub look_puzzle_text : List ℕ
+look_puzzle_text = codes "SELECT author FROM puzzles WHERE author = ?1 AND label = ?2"
+
+-- a puzzle under a new key
+abbrev pub add_puzzle_text : List ℕ
+add_puzzle_text = codes "INSERT INTO puzzles (author, label, body, state, solution) VALUES (?1, ?2, ?3, ?4, ?5)"
+
+-- a puzzle in the place of the one under its key
+abbrev pub replace_puzzle_text : List ℕ
+replace_puzzle_text = codes "UPDATE puzzles SET body = ?3, state = ?4, solution = ?5 WHERE author = ?1 AND label = ?2"
+
+-- all rounds, in the order of their ids
+abbrev pub all_rounds_text : List ℕ
+all_rounds_text =
+    codes "SELECT id, title, start, minutes, protest_minutes, mode, penalty, bonus, released, published FROM rounds "
+    ++ codes "ORDER BY id"
 
 -- the answer under a key
 abbrev pub answer_text : List ℕ
 answer_text =
     codes "SELECT entrant, round, number, token, n, moment, answer, verdict FROM answers "
     ++ codes "WHERE entrant = ?1 AND round = ?2 AND number = ?3 AND token = ?4"
+
+-- the entrant's answers to the round's puzzle of the number
+abbrev pub answers_given_text : List ℕ
+answers_given_text =
+    codes "SELECT entrant, round, number, token, n, moment, answer, verdict FROM answers "
+    ++ codes "WHERE entrant = ?1 AND round = ?2 AND number = ?3"
+
+-- those of them that are the n-th
+abbrev pub number_taken_text : List ℕ
+number_taken_text =
+    codes "SELECT entrant, round, number, token, n, moment, answer, verdict FROM answers "
+    ++ codes "WHERE entrant = ?1 AND round = ?2 AND number = ?3 AND n = ?4"
 
 -- the entrant's answers in the round, in the order of listings
 abbrev pub answers_of_text : List ℕ
@@ -50,43 +93,6 @@ abbrev pub add_answer_text : List ℕ
 add_answer_text =
     codes "INSERT INTO answers (entrant, round, number, token, n, moment, answer, verdict) "
     ++ codes "VALUES (?1, ?2, ?3, ?4, ?5, ?6, ?7, ?8)"
-
--- the rows under a puzzle's key
-abbrev pub look_puzzle_text : List ℕ
-look_puzzle_text = codes "SELECT author FROM puzzles WHERE author = ?1 AND label = ?2"
-
--- a puzzle under a new key
-abbrev pub add_puzzle_text : List ℕ
-add_puzzle_text = codes "INSERT INTO puzzles (author, label, body, state, solution) VALUES (?1, ?2, ?3, ?4, ?5)"
-
--- a puzzle in the place of the one under its key
-abbrev pub replace_puzzle_text : List ℕ
-replace_puzzle_text = codes "UPDATE puzzles SET body = ?3, state = ?4, solution = ?5 WHERE author = ?1 AND label = ?2"
-
--- who has a key
-abbrev pub person_by_key_text : List ℕ
-person_by_key_text = codes "SELECT name, pass, roles FROM people WHERE pass = ?1"
-
--- all puzzles, in the order of their keys
-abbrev pub all_puzzles_text : List ℕ
-all_puzzles_text = codes "SELECT author, label, body, state, solution FROM puzzles ORDER BY author, label"
-
--- the author's puzzles, in the order of their labels
-abbrev pub puzzles_of_text : List ℕ
-puzzles_of_text =
-    codes "SELECT author, label, body, state, solution FROM puzzles WHERE author = ?1 ORDER BY author, label"
-
--- the entrant's answers to the round's puzzle of the number
-abbrev pub answers_given_text : List ℕ
-answers_given_text =
-    codes "SELECT entrant, round, number, token, n, moment, answer, verdict FROM answers "
-    ++ codes "WHERE entrant = ?1 AND round = ?2 AND number = ?3"
-
--- those of them that are the n-th
-abbrev pub number_taken_text : List ℕ
-number_taken_text =
-    codes "SELECT entrant, round, number, token, n, moment, answer, verdict FROM answers "
-    ++ codes "WHERE entrant = ?1 AND round = ?2 AND number = ?3 AND n = ?4"
 
 -- the protest under a key
 abbrev pub protest_text : List ℕ
@@ -111,9 +117,3 @@ abbrev pub open_protests_text : List ℕ
 open_protests_text =
     codes "SELECT entrant, round, token, number, body, ruling, points FROM protests "
     ++ codes "WHERE round = ?1 AND ruling = 0"
-
--- all rounds, in the order of their ids
-abbrev pub all_rounds_text : List ℕ
-all_rounds_text =
-    codes "SELECT id, title, start, minutes, protest_minutes, mode, penalty, bonus, released, published FROM rounds "
-    ++ codes "ORDER BY id"
