@@ -70,7 +70,8 @@ module _ (db : Trees) where
         let by : row.key.entrant ≡ entrant = (text_decides row.key.entrant entrant).0 (and_first _ _ passes) in
         let at : row.key.round ≡ round = (text_decides row.key.round round).0 (and_first _ _ second) in
         let to : row.key.number ≡ number = same_number row.key.number number (and_first _ _ third) in
-        let own : row.key ≡ key_with row.key.token = λ i. record { entrant = by i; round = at i; number = to i; token = row.key.token } in (
+        let own : row.key ≡ key_with row.key.token =
+        λ i. record { entrant = by i; round = at i; number = to i; token = row.key.token } in (
           row.key.token,
           row,
           subst (λ (k : AnswerKey). get (world_of db).answers k ≡ Some row) own (answer_kept row among),
@@ -95,10 +96,15 @@ module _ (db : Trees) where
       → HasSubmitted (world_of db) entrant round
   submitted entrant round row among passes =
       let at : row.key.round ≡ round = (text_decides row.key.round round).0 (and_first _ _ passes) in
-      let by : row.key.entrant ≡ entrant = (text_decides row.key.entrant entrant).0 (and_second (same_text row.key.round round) _ passes) in
+      let by : row.key.entrant ≡ entrant =
+      (text_decides row.key.entrant entrant).0 (and_second (same_text row.key.round round) _ passes) in
       let own : row.key ≡ (let k : AnswerKey = record { entrant = entrant; round = round; number = row.key.number; token = row.key.token } in k) =
-      λ i. record { entrant = by i; round = at i; number = row.key.number; token = row.key.token } in
-      (row.key.number, row.key.token, row, subst (λ (k : AnswerKey). get (world_of db).answers k ≡ Some row) own (answer_kept row among))
+      λ i. record { entrant = by i; round = at i; number = row.key.number; token = row.key.token } in (
+        row.key.number,
+        row.key.token,
+        row,
+        subst (λ (k : AnswerKey). get (world_of db).answers k ≡ Some row) own (answer_kept row among),
+      )
 
   submission : (entrant round : List ℕ) (has : HasSubmitted (world_of db) entrant round)
       → Contains answers has.2 × (is_of entrant round has.2 ≡ true)
@@ -116,8 +122,10 @@ module _ (db : Trees) where
       → IsListing (world_of db) (is_of entrant round) rows → IsTrue (not empty) ↔ HasSubmitted (world_of db) entrant round
   listing_tells entrant round rows empty is listing =
       any_is (length rows) empty _ is
-      (λ some. let one = one_passes (is_of entrant round) answers rows listing.whole some in submitted entrant round one.0 one.1 one.2)
-      (λ has. let there = submission entrant round has in any_there (is_of entrant round) answers rows listing.whole has.2 there.0 there.1)
+      (λ some. let one = one_passes (is_of entrant round) answers rows listing.whole some in
+      submitted entrant round one.0 one.1 one.2)
+      (λ has. let there = submission entrant round has in
+      any_there (is_of entrant round) answers rows listing.whole has.2 there.0 there.1)
 
 -- what a query gives of the world's answers
 module _ (old new : State) (has : old.now.schema ≡ hall_schema) (keyed : AreKeyed (old.now.trees 9)) (sound : IsDatabase old.now)
@@ -165,4 +173,5 @@ module _ (old new : State) (has : old.now.schema ≡ hall_schema) (keyed : AreKe
       (nth_agrees entrant round number n) old new rows out has shown is (values (world_of db).answers) whole in
       any_is (length out) empty _ none
       (λ some. let one = one_passes test (answers db) out same some in passes_taken db entrant round number n one.0 one.1 one.2)
-      (λ taken. let there = taken_passes db entrant round number n taken in any_there test (answers db) out same taken.1 there.0 there.1)
+      (λ taken. let there = taken_passes db entrant round number n taken in
+      any_there test (answers db) out same taken.1 there.0 there.1)

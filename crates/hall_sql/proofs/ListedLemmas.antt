@@ -33,15 +33,18 @@ by_order tree terms project order params a b =
 -- What is asked of the text of a query is computed for each statement.
 module _ {X : Type 0} (read : Row → Option X) (count : ℕ) (text : List ℕ) (params : Row) (tree : ℕ)
     (terms project : List Term) (order : List (Term × Key)) (names : List (List ℕ))
-    (is : command_of (understood hall_schema text) ≡ Select (record { lets = []; body = plain_query tree terms project order }) names)
+    (is : command_of (understood hall_schema text)
+    ≡ Select (record { lets = []; body = plain_query tree terms project order }) names)
     (unlisted : reads_listing hall_schema text ≡ false) (plain : IsPlain (understood hall_schema text))
     (apart : (db : Trees) → overlay db [] tree ≡ db tree)
     (shows : (r : Row) → eval_all project (params ∷ r ∷ []) ≡ columns_from 1 count r) (test : X → Bool)
-    (agrees : (r : Row) (x : X) → read (columns_from 1 count r) ≡ Some x → list_all (holds (params ∷ r ∷ [])) terms ≡ test x) where
+    (agrees : (r : Row) (x : X) → read (columns_from 1 count r) ≡ Some x
+    → list_all (holds (params ∷ r ∷ [])) terms ≡ test x) where
   module _ (old new : State) (rows : List Row) (out : List X) (has : old.now.schema ≡ hall_schema)
       (shown : Shown text params old new rows) (reads : map read rows ≡ map Some out) where
     selection : IsSelection (plain_query tree terms project order) (old.now.trees tree) params rows
-    selection = answers_selection text params old new tree terms project order names is unlisted plain (apart old.now.trees) has rows shown
+    selection = answers_selection text params old new tree terms project order names is unlisted plain
+        (apart old.now.trees) has rows shown
 
     found_read : map read (map (columns_from 1 count) selection.found) ≡ map Some out
     found_read = sym (λ i. map read (map (λ r. shows r i) selection.found)) ∙ ap (map read) (sym selection.shown) ∙ reads

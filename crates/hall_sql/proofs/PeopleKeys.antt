@@ -45,7 +45,8 @@ people_there = record people_table { tree = 0 }
 people_listed : (db : Trees) → AreKeyed (db 0) → IsDatabase (record { schema = hall_schema; trees = db })
     → IsPermutation (flat_map (λ r. option_to_list (person_of r)) (db 0)) (values (world_of db).people)
 people_listed db keyed sound =
-    let rule : AllByRecursion (λ row. passes Unique hall_schema db people_there row ≡ true) (db 0) = (sound.obeys.rules Unique).0 in
+    let rule : AllByRecursion (λ row. passes Unique hall_schema db people_there row ≡ true) (db 0) =
+    (sound.obeys.rules Unique).0 in
     records_listed text_total same_texts (λ (p : Person). p.name) person_of (1 ∷ []) (db 0) keyed agreeing
     (λ r h. first_not _ _ (all_has _ (db 0) r rule h))
 
@@ -66,7 +67,8 @@ holder db key out same short =
       found = found;
       there = there (slice_get out 0) found;
       alone = λ name other kept own.
-          only_one out other short (is_among has people out same other (value_of_get (world_of db).people name other kept) ((text_decides other.key key).1 own));
+          only_one out other short (is_among has people out same other (value_of_get (world_of db).people name other kept)
+          ((text_decides other.key key).1 own));
       own = λ name other kept own. kept_keyed text_total same_texts (λ (p : Person). p.name) person_of (db 0) name other kept;
     }
   where

@@ -52,8 +52,9 @@ record PartsOf (row : ProtestRow) (a b c : Option (List ℕ)) (f : Option (Optio
   ruling : f ≡ Some row.ruling
 
 -- a protest that is read has its parts in the columns
-parts : (a b c : Option (List ℕ)) (d : Option (ℕ)) (e : Option (List ℕ)) (f : Option (Option Ruling)) (row : ProtestRow)
-    → (a >>= (λ entrant. b >>= (λ round. c >>= (λ token. d >>= (λ number. e >>= (λ text. f >>= (λ ruling. Some (of_parts entrant round token number text ruling)))))))) ≡ Some row
+parts : (a b c : Option (List ℕ)) (d : Option ℕ) (e : Option (List ℕ)) (f : Option (Option Ruling)) (row : ProtestRow)
+    → (a >>= (λ entrant. b >>= (λ round. c >>= (λ token. d >>= (λ number. e >>= (λ text. f >>= (λ ruling.
+    Some (of_parts entrant round token number text ruling)))))))) ≡ Some row
     → PartsOf row a b c f
 parts None b c d e f row is = absurd cc
 parts (Some a) None c d e f row is = absurd cc
@@ -105,7 +106,8 @@ pub protest_found : (key : ProtestKey) (old new : State) (rows : List Row) (out 
     → map protest_in rows ≡ map Some out → length out ≤ 1
     → slice_get out 0 ≡ get (world_of old.now.trees).protests key
 protest_found key =
-    asked_found protest_total same_protest_keys (λ (row : ProtestRow). row.key) protest_in 7 key protest_text (key_params key) 12 key_terms protest_columns _
+    asked_found protest_total same_protest_keys (λ (row : ProtestRow). row.key) protest_in 7 key protest_text
+    (key_params key) 12 key_terms protest_columns _
     protest_is.0 protest_is.1 protest_is.2 (λ db. refl) (λ r. refl) (agrees key)
 
 -- ---- listings
@@ -136,8 +138,10 @@ protests_there = record protests_table { tree = 12 }
 protests_listed : (db : Trees) → AreKeyed (db 12) → IsDatabase (record { schema = hall_schema; trees = db })
     → IsPermutation (flat_map (λ r. option_to_list (protest_of r)) (db 12)) (values (world_of db).protests)
 protests_listed db keyed sound =
-    let rule : AllByRecursion (λ row. passes Unique hall_schema db protests_there row ≡ true) (db 12) = (sound.obeys.rules Unique).1.1.1.1.1.0 in
-    records_listed protest_total same_protest_keys (λ (row : ProtestRow). row.key) protest_of (1 ∷ 2 ∷ 3 ∷ []) (db 12) keyed agreeing
+    let rule : AllByRecursion (λ row. passes Unique hall_schema db protests_there row ≡ true) (db 12) =
+    (sound.obeys.rules Unique).1.1.1.1.1.0 in
+    records_listed protest_total same_protest_keys (λ (row : ProtestRow). row.key) protest_of (1 ∷ 2 ∷ 3 ∷ []) (db 12)
+    keyed agreeing
     (λ r h. first_not _ _ (all_has _ (db 12) r rule h))
 
 -- ORDER BY entrant, round, token is the order of keys
@@ -162,7 +166,8 @@ same_order params terms a b x y p q =
 -- what a query gives of the world's protests
 module _ (old new : State) (has : old.now.schema ≡ hall_schema) (keyed : AreKeyed (old.now.trees 12)) (sound : IsDatabase old.now)
     (rows : List Row) (out : List ProtestRow) (is : map protest_in rows ≡ map Some out) where
-  pub whole : IsPermutation (flat_map (λ r. option_to_list (protest_of r)) (old.now.trees 12)) (values (world_of old.now.trees).protests)
+  pub whole : IsPermutation (flat_map (λ r. option_to_list (protest_of r)) (old.now.trees 12))
+      (values (world_of old.now.trees).protests)
   whole =
       let db = old.now.trees in
       protests_listed db keyed (subst (λ s. IsDatabase (record { schema = s; trees = db })) has sound)
@@ -172,10 +177,12 @@ module _ (old new : State) (has : old.now.schema ≡ hall_schema) (keyed : AreKe
   in_agrees round r x h = and_true _ ∙ column_same (column r 2) x.key.round round (has_columns r x h).round
 
   of_agrees : (entrant round : List ℕ) (r : Row) (x : ProtestRow) → protest_of r ≡ Some x
-      → list_all (holds ((Text entrant ∷ Text round ∷ []) ∷ r ∷ [])) (equals 2 1 ∷ equals 1 0 ∷ []) ≡ is_protest_of entrant round x
+      → list_all (holds ((Text entrant ∷ Text round ∷ []) ∷ r ∷ [])) (equals 2 1 ∷ equals 1 0 ∷ [])
+      ≡ is_protest_of entrant round x
   of_agrees entrant round r x h =
       let it = has_columns r x h in
-      ap (λ b. b && (list_all (holds ((Text entrant ∷ Text round ∷ []) ∷ r ∷ [])) (equals 1 0 ∷ []))) (column_same (column r 2) x.key.round round it.round)
+      ap (λ b. b && (list_all (holds ((Text entrant ∷ Text round ∷ []) ∷ r ∷ [])) (equals 1 0 ∷ [])))
+      (column_same (column r 2) x.key.round round it.round)
       ∙ ap (λ b. is_protest_in round x && b) (and_true _ ∙ column_same (column r 1) x.key.entrant entrant it.entrant)
 
   pub protests_in_listed : (round : List ℕ) → Shown protests_in_text (Text round ∷ []) old new rows

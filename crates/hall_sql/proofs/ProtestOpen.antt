@@ -48,7 +48,8 @@ protests_counted world entrant round =
     let theirs : ProtestRow → Bool = λ row. same_text row.key.entrant entrant && same_text row.key.round round in
     let rows = values world.protests in
     ap length (filter_same (is_protest_of entrant round) theirs rows
-    (all_of (λ row. is_protest_of entrant round row ≡ theirs row) (λ row. and_turned (same_text row.key.round round) (same_text row.key.entrant entrant)) rows))
+    (all_of (λ row. is_protest_of entrant round row ≡ theirs row)
+    (λ row. and_turned (same_text row.key.round round) (same_text row.key.entrant entrant)) rows))
     ∙ length-filter theirs rows
 
 -- ---- open protests
@@ -64,7 +65,8 @@ open_code : (n : ℕ) (points : ℤ) (ruling : Option Ruling) → ruling_of n po
 open_code n points ruling e = go (n == 1) (n == 0) (n == 2) (int_eq points (pos 0)) (λ h. grind (arith, nat_tests)) e
   where
     go : (one none two no_points : Bool) → (one ≡ true → none ≡ false)
-        → cond one (upheld points) (cond no_points (cond none (Some None) (cond two (Some (Some Rejected)) None)) None) ≡ Some ruling
+        → cond one (upheld points) (cond no_points (cond none (Some None) (cond two (Some (Some Rejected)) None)) None)
+        ≡ Some ruling
         → none ≡ is_none ruling
     go true none two no_points apart e = apart refl ∙ sym (points_given (ruling_points_of points) ruling e)
     go false true two true apart e = let same : None ≡ ruling = cc in ap is_none same
@@ -110,7 +112,8 @@ module _ (db : Trees) (round : List ℕ) where
   open_passes : (found : IsProtestOpen (world_of db) round) → Contains protests found.1 × (is_open_in round found.1 ≡ true)
   open_passes found =
       let row = found.1 in
-      let key = kept_keyed protest_total same_protest_keys (λ (row : ProtestRow). row.key) protest_of (db 12) found.0 row found.3 in (
+      let key = kept_keyed protest_total same_protest_keys (λ (row : ProtestRow). row.key) protest_of (db 12)
+      found.0 row found.3 in (
         value_of_get (world_of db).protests found.0 row found.3,
         and_both _ _ ((text_decides row.key.round round).1 (ap (λ (k : ProtestKey). k.round) key ∙ found.2)) (ap is_none found.4),
       )

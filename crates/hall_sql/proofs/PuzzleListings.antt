@@ -56,12 +56,14 @@ agreeing r y x z p q e =
 puzzles_listed : (db : Trees) → AreKeyed (db 3) → IsDatabase (record { schema = hall_schema; trees = db })
     → IsPermutation (flat_map (λ r. option_to_list (puzzle_row_of r)) (db 3)) (values (world_of db).puzzles)
 puzzles_listed db keyed sound =
-    let rule : AllByRecursion (λ row. passes Unique hall_schema db puzzles_there row ≡ true) (db 3) = (sound.obeys.rules Unique).1.0 in
+    let rule : AllByRecursion (λ row. passes Unique hall_schema db puzzles_there row ≡ true) (db 3) =
+    (sound.obeys.rules Unique).1.0 in
     records_listed puzzle_total same_puzzle_keys (λ (row : PuzzleRow). row.key) puzzle_row_of (1 ∷ 2 ∷ []) (db 3) keyed agreeing
     (λ r h. first_not _ _ (all_has _ (db 3) r rule h))
 
 -- ORDER BY author, label is the order of keys
-same_order : (params : Row) (terms : List Term) (a b : Row) (x y : PuzzleRow) → puzzle_row_of a ≡ Some x → puzzle_row_of b ≡ Some y
+same_order : (params : Row) (terms : List Term) (a b : Row) (x y : PuzzleRow) → puzzle_row_of a ≡ Some x
+    → puzzle_row_of b ≡ Some y
     → by_order 3 terms puzzle_columns key_order params a b ≡ puzzle_cmp x.key y.key
 same_order params terms a b x y p q =
     let one = key_columns a x p in
@@ -84,7 +86,8 @@ puzzles_counted world author =
 -- what a query in the order of keys gives of the world's puzzles
 module _ (old new : State) (has : old.now.schema ≡ hall_schema) (keyed : AreKeyed (old.now.trees 3)) (sound : IsDatabase old.now)
     (rows : List Row) (out : List PuzzleRow) (is : map puzzle_row_in rows ≡ map Some out) where
-  whole : IsPermutation (flat_map (λ r. option_to_list (puzzle_row_of r)) (old.now.trees 3)) (values (world_of old.now.trees).puzzles)
+  whole : IsPermutation (flat_map (λ r. option_to_list (puzzle_row_of r)) (old.now.trees 3))
+      (values (world_of old.now.trees).puzzles)
   whole =
       let db = old.now.trees in
       puzzles_listed db keyed (subst (λ s. IsDatabase (record { schema = s; trees = db })) has sound)

@@ -84,7 +84,8 @@ module _ {X : Type 0} (cmp : X → X → Ordering) (total : IsTotalOrder cmp) wh
       let first : filter (λ z. not (above x z)) (x ∷ xs) ≡ x ∷ [] =
       rw (here, filter_none _ xs (all_weaker _ (λ z. not (above x z) ≡ false) (λ z h. ap not h) xs all)) in
       let later : filter (above x) (x ∷ xs) ≡ xs = rw (here, filter_all _ xs all) in
-      let moved = λ (p : X → Bool) (l : List X) (e : filter p (x ∷ xs) ≡ l). subst (λ k. IsPermutation k (filter p ys)) e (IsPermutation-filter p _ _ same) in
+      let moved = λ (p : X → Bool) (l : List X) (e : filter p (x ∷ xs) ≡ l).
+      subst (λ k. IsPermutation k (filter p ys)) e (IsPermutation-filter p _ _ same) in
       let front = one x _ (moved (λ z. not (above x z)) (x ∷ []) first) in
       let back = one_order xs _ rises.1 (moved (above x) xs later) (ascending-filter AtMost _ ys up) in
       split x ys up ∙ ap₂ ◌++◌ front back
@@ -122,15 +123,19 @@ module _ {K X : Type 0} {R : K → K → Ordering} (total : IsTotalOrder R) (sam
   abbrev by_key : X → X → Ordering
   by_key a b = R (key a) (key b)
 
-  below : (k : K) (es : List (K × X)) → AreOwn es → AllByRecursion (λ y. R k y ≡ Less) (keys_of es) → AllByRecursion (λ x. R k (key x) ≡ Less) (values_of es)
+  below : (k : K) (es : List (K × X)) → AreOwn es → AllByRecursion (λ y. R k y ≡ Less) (keys_of es)
+      → AllByRecursion (λ x. R k (key x) ≡ Less) (values_of es)
   below k [] own all = tt
   below k (e ∷ es) own all = (subst (λ j. R k j ≡ Less) own.0 all.0, below k es own.1 all.1)
 
-  values_ascend : (es : List (K × X)) → AreOwn es → IsStrictlySortedBy R (keys_of es) → IsAscending (λ a b. by_key a b ≡ Less) (values_of es)
+  values_ascend : (es : List (K × X)) → AreOwn es → IsStrictlySortedBy R (keys_of es)
+      → IsAscending (λ a b. by_key a b ≡ Less) (values_of es)
   unfolding IsStrictlySortedBy
   values_ascend [] own up = tt
-  values_ascend (e ∷ es) own up =
-      (subst (λ k. AllByRecursion (λ x. R k (key x) ≡ Less) (values_of es)) own.0 (below e.0 es own.1 up.0), values_ascend es own.1 up.1)
+  values_ascend (e ∷ es) own up = (
+    subst (λ k. AllByRecursion (λ x. R k (key x) ≡ Less) (values_of es)) own.0 (below e.0 es own.1 up.0),
+    values_ascend es own.1 up.1,
+  )
 
   module _ (read : Row → Option X) (rows : List Row) where
     own_entries : (rows : List Row) → AreOwn (flat_map (λ r. entry key (read r)) rows)

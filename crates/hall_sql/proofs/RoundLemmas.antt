@@ -46,8 +46,11 @@ of_parts id title start minutes protest_minutes how penalty bonus released publi
 }
 
 -- a round that is read has its id from the first column
-id_read : (a b : Option (List ℕ)) (c d e : Option (ℕ)) (f : Option mode.Mode) (g h : Option (ℕ)) (i j : Option Bool) (row : Round)
-    → (a >>= (λ id. b >>= (λ title. c >>= (λ start. d >>= (λ minutes. e >>= (λ protest_minutes. f >>= (λ how. g >>= (λ penalty. h >>= (λ bonus. i >>= (λ released. j >>= (λ published. Some (of_parts id title start minutes protest_minutes how penalty bonus released published)))))))))))) ≡ Some row
+id_read : (a b : Option (List ℕ)) (c d e : Option ℕ) (f : Option mode.Mode) (g h : Option ℕ) (i j : Option Bool)
+    (row : Round)
+    → (a >>= (λ id. b >>= (λ title. c >>= (λ start. d >>= (λ minutes. e >>= (λ protest_minutes. f >>= (λ how.
+    g >>= (λ penalty. h >>= (λ bonus. i >>= (λ released. j >>= (λ published.
+    Some (of_parts id title start minutes protest_minutes how penalty bonus released published)))))))))))) ≡ Some row
     → a ≡ Some row.id
 id_read None b c d e f g h i j row is = absurd cc
 id_read (Some a) None c d e f g h i j row is = absurd cc
@@ -83,7 +86,8 @@ rounds_there = record rounds_table { tree = 5 }
 rounds_listed : (db : Trees) → AreKeyed (db 5) → IsDatabase (record { schema = hall_schema; trees = db })
     → IsPermutation (flat_map (λ r. option_to_list (round_of r)) (db 5)) (values (world_of db).rounds)
 rounds_listed db keyed sound =
-    let rule : AllByRecursion (λ row. passes Unique hall_schema db rounds_there row ≡ true) (db 5) = (sound.obeys.rules Unique).1.1.0 in
+    let rule : AllByRecursion (λ row. passes Unique hall_schema db rounds_there row ≡ true) (db 5) =
+    (sound.obeys.rules Unique).1.1.0 in
     records_listed text_total same_texts (λ (round : Round). round.id) round_of (1 ∷ []) (db 5) keyed agreeing
     (λ r h. first_not _ _ (all_has _ (db 5) r rule h))
 
