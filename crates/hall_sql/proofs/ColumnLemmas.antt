@@ -1,5 +1,5 @@
 -- What a column holds whose value is read, and how SQL compares it.
-use Rattle.std.proofs.Common.{◌≡◌, ◌&&◌, ◌⊎◌, inl, inr, ℕ, pos, negsuc, List, Bool, true, false, cond, Option, Some, None, refl, sym, ap, subst, ◌∙◌, arith}
+use Rattle.std.proofs.Common.{◌≡◌, ◌==◌, ◌&&◌, ◌⊎◌, inl, inr, ℕ, pos, negsuc, List, Bool, true, false, cond, Option, Some, None, refl, sym, ap, subst, ◌∙◌, arith}
 use Rattle.std.specs.Prelude.{nat_le}
 use Rattle.std.specs.declared.cmp.Ordering.{Ordering}
 use Rattle.std.specs.declared.cmp.Ordering.TheVariants.{Less, Equal, Greater}
@@ -87,6 +87,11 @@ numbers_equal m n =
 pub column_is : (v : Value) (m n : ℕ) → v ≡ Int (pos m)
     → is_true (binary (Compare Eq Binary) v (Int (pos n))) ≡ is_eq (nat_cmp m n)
 column_is v m n e = ap (λ w. is_true (binary (Compare Eq Binary) w (Int (pos n)))) e ∙ numbers_equal m n
+
+-- and so does the test of numbers
+pub column_counts : (v : Value) (m n : ℕ) → v ≡ Int (pos m)
+    → is_true (binary (Compare Eq Binary) v (Int (pos n))) ≡ (m == n)
+column_counts v m n e = column_is v m n e ∙ grind (arith, nat_tests)
 
 -- the last column of a key
 pub last_equal : (a : Bool) (x : Ordering) → a ≡ is_eq x → a && true ≡ is_eq x

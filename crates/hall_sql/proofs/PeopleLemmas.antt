@@ -9,7 +9,7 @@ use Rattle.sqlite_value.specs.Order.{column}
 use Rattle.sqlite.specs.Term.{holds}
 use Rattle.sqlite.specs.State.{State, Shown}
 use Rattle.hall_grid.specs.FormReading.{◌>>=◌}
-use Rattle.hall_policy.specs.Text.{text_cmp, is_word_byte}
+use Rattle.hall_policy.specs.Text.{text_cmp, is_word_byte, is_key_byte}
 use Rattle.hall_policy.specs.declared.record.Person.{Person}
 use Rattle.hall_policy.specs.declared.record.Roles.{Roles}
 use Rattle.hall_sql.specs.Tables.{hall_schema}
@@ -34,6 +34,9 @@ parts (Some name) (Some key) (Some roles) p is =
 
 pub name_column : (r : Row) (p : Person) → person_of r ≡ Some p → column r 1 ≡ Text p.name
 name_column r p is = kind_column 1 24 is_word_byte (column r 1) p.name (parts (name_in (column r 1)) (key_in (column r 2)) (roles_in (column r 3)) p is).0
+
+pub key_column : (r : Row) (p : Person) → person_of r ≡ Some p → column r 2 ≡ Text p.key
+key_column r p is = kind_column 8 64 is_key_byte (column r 2) p.key (parts (name_in (column r 1)) (key_in (column r 2)) (roles_in (column r 3)) p is).1
 
 -- WHERE name = ?1 asks for the name
 named : (name : List ℕ) (r : Row) (p : Person) → person_of r ≡ Some p

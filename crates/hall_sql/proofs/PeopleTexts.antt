@@ -4,15 +4,20 @@ use Rattle.sqlite_tied.specs.Compute.{everything}
 use Rattle.sqlite_sql.specs.declared.ops.BinaryOp.TheVariants.{Compare}
 use Rattle.sqlite_sql.specs.declared.ops.CompareOp.TheVariants.{Eq}
 use Rattle.sqlite.specs.Collation.TheVariants.{Binary}
+use Rattle.sqlite_value.specs.declared.keys.Key.{Key}
 use Rattle.sqlite.specs.Term.{Term, col, op2}
 use Rattle.sqlite.specs.Listing.{understood, reads_listing}
 use Rattle.sqlite.specs.Command.TheVariants.{Select}
 use Rattle.sqlite.proofs.Callers.{IsPlain, command_of}
 use Rattle.hall_sql.specs.Tables.{hall_schema}
-use Rattle.hall_sql.specs.Statements.{plain_query, person_text}
+use Rattle.hall_sql.specs.Statements.{plain_query, person_text, person_by_key_text}
 
 abbrev pub equals : ℕ → ℕ → Term
 equals place parameter = op2 (Compare Eq Binary) (col 1 place) (col 0 parameter)
+
+-- the order of a column
+abbrev pub rising : Key
+rising = record { collation = Binary; descending = false }
 
 abbrev pub person_columns : List Term
 person_columns = col 1 1 ∷ col 1 2 ∷ col 1 3 ∷ []
@@ -23,3 +28,10 @@ pub person_is : (command_of (understood hall_schema person_text)
     × (reads_listing hall_schema person_text ≡ false) × IsPlain (understood hall_schema person_text)
 unfolding understood everything
 person_is = (refl, refl, (refl, refl))
+
+pub person_by_key_is : (command_of (understood hall_schema person_by_key_text)
+    ≡ Select (record { lets = []; body = plain_query 0 (equals 2 0 ∷ []) person_columns [] })
+    (codes "name" ∷ codes "pass" ∷ codes "roles" ∷ []))
+    × (reads_listing hall_schema person_by_key_text ≡ false) × IsPlain (understood hall_schema person_by_key_text)
+unfolding understood everything
+person_by_key_is = (refl, refl, (refl, refl))

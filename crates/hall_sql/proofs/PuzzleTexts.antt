@@ -1,6 +1,7 @@
 -- What the statements on puzzles mean under the hall's tables.
 use Rattle.std.proofs.Common.{◌≡◌, List, ℕ, codes, refl, false, [], ◌∷◌}
 use Rattle.sqlite_tied.specs.Compute.{everything}
+use Rattle.sqlite_value.specs.declared.keys.Key.{Key}
 use Rattle.sqlite.specs.Term.{Term, lit, col}
 use Rattle.sqlite.specs.declared.types.Value.TheVariants.{Null}
 use Rattle.sqlite.specs.Source.TheVariants.{Values}
@@ -11,9 +12,10 @@ use Rattle.sqlite.specs.Listing.{understood, reads_listing}
 use Rattle.sqlite.specs.Command.TheVariants.{Select, Insert, Update}
 use Rattle.sqlite.proofs.Callers.{IsPlain, command_of}
 use Rattle.hall_sql.specs.Tables.{hall_schema, puzzles_table}
-use Rattle.hall_sql.specs.Statements.{plain_query, puzzle_text, look_puzzle_text, add_puzzle_text, replace_puzzle_text}
+use Rattle.hall_sql.specs.Statements.{plain_query, puzzle_text, all_puzzles_text, puzzles_of_text, look_puzzle_text}
+use Rattle.hall_sql.specs.Statements.{add_puzzle_text, replace_puzzle_text}
 use Rattle.hall_sql.proofs.UpdateLemmas.{update}
-use Rattle.hall_sql.proofs.PeopleTexts.{equals}
+use Rattle.hall_sql.proofs.PeopleTexts.{equals, rising}
 
 abbrev pub puzzle_columns : List Term
 puzzle_columns = col 1 1 ∷ col 1 2 ∷ col 1 3 ∷ col 1 4 ∷ col 1 5 ∷ []
@@ -30,6 +32,22 @@ pub puzzle_is : (command_of (understood hall_schema puzzle_text)
     × (reads_listing hall_schema puzzle_text ≡ false) × IsPlain (understood hall_schema puzzle_text)
 unfolding understood everything
 puzzle_is = (refl, refl, (refl, refl))
+
+-- the order of keys: author, label
+abbrev pub key_order : List (Term × Key)
+key_order = (col 1 1, rising) ∷ (col 1 2, rising) ∷ []
+
+pub all_puzzles_is : (command_of (understood hall_schema all_puzzles_text)
+    ≡ Select (record { lets = []; body = plain_query 3 [] puzzle_columns key_order }) puzzle_names)
+    × (reads_listing hall_schema all_puzzles_text ≡ false) × IsPlain (understood hall_schema all_puzzles_text)
+unfolding understood everything
+all_puzzles_is = (refl, refl, (refl, refl))
+
+pub puzzles_of_is : (command_of (understood hall_schema puzzles_of_text)
+    ≡ Select (record { lets = []; body = plain_query 3 (equals 1 0 ∷ []) puzzle_columns key_order }) puzzle_names)
+    × (reads_listing hall_schema puzzles_of_text ≡ false) × IsPlain (understood hall_schema puzzles_of_text)
+unfolding understood everything
+puzzles_of_is = (refl, refl, (refl, refl))
 
 -- as the schema has it
 abbrev pub puzzles_there : Table

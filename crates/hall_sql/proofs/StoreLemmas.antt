@@ -9,13 +9,20 @@ use Rattle.hall_sql.specs.Rows.{world_of}
 use Rattle.hall_sql.specs.Standing.{AreAllKeyed, IsHall, Rested, content_of}
 
 -- what a query over the hall's tables tells has its meaning in the world that stays
+pub told_so : (old new : State) (Means : World → Type 0) → IsHall old → Rested old new
+    → (HasCleanDisk new → IsTrue new.is_open)
+    → (HasCleanDisk new → IsTrue old.is_open → old.now.schema ≡ hall_schema → AreAllKeyed old.now.trees → Means (world_of old.now.trees))
+    → HasCleanDisk new → IsTrue new.is_open × Means (world_of new.now.trees)
+told_so old new Means hall rested serves means clean =
+    let opens = serves clean in
+    let was : HasCleanDisk old = omega (arith, rested.follows.clean, clean) in
+    let opened = rested.follows.opened clean opens in
+    (opens, subst (λ (d : Database). Means (world_of d.trees)) (sym (rested.same clean opens)) (means clean opened (hall.settled was opened).1 (hall.keyed was opened)))
+
+-- and so does what is made of its rows
 pub told : {R E : Type 0} (old new : State) (result : Result R E) (P : R → Type 0) (Means : World → R → Type 0) → IsHall old → Rested old new
     → (HasCleanDisk new → IsTrue new.is_open) → IfOk result P
     → ((x : R) → P x → HasCleanDisk new → IsTrue old.is_open → old.now.schema ≡ hall_schema → AreAllKeyed old.now.trees → Means (world_of old.now.trees) x)
     → Served (content_of new) result Means
-told old new (Ok x) P Means hall rested serves has means = λ clean.
-    let opens = serves clean in
-    let was : HasCleanDisk old = omega (arith, rested.follows.clean, clean) in
-    let opened = rested.follows.opened clean opens in
-    (opens, subst (λ (d : Database). Means (world_of d.trees) x) (sym (rested.same clean opens)) (means x has clean opened (hall.settled was opened).1 (hall.keyed was opened)))
+told old new (Ok x) P Means hall rested serves has means = told_so old new (λ world. Means world x) hall rested serves (means x has)
 told old new (Err e) P Means hall rested serves has means = tt

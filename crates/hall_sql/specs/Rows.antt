@@ -50,7 +50,8 @@ puzzle_row_in columns = do
 abbrev pub puzzle_row_of : Row → Option PuzzleRow
 puzzle_row_of row = puzzle_row_in (columns_from 1 5 row)
 
--- the round whose columns these are: id, title, start, minutes, minutes of protest, mode, penalty, bonus, released, published
+-- the round whose columns these are: id, title, start, minutes, minutes of protest, mode, penalty, bonus, released,
+-- published
 abbrev pub round_in : Row → Option Round
 round_in columns = do
   id ← name_in (column columns 0)

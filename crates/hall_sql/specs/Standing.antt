@@ -87,7 +87,8 @@ pub record IsReplaced (keeps : Row → Bool) (made : Row → Row) (rows out : Li
   pub put : out ≡ put_row (made one) (without_rowid (id_in (rowid one)) rows)
 
 -- so it was done to the table in this tree, and each other table is as it was
-pub record HasReplaced (schema : Schema) (tree : ℕ) (keeps : Row → Bool) (made : Row → Row) (old new : Database) : Type 0 where
+pub record HasReplaced (schema : Schema) (tree : ℕ) (keeps : Row → Bool) (made : Row → Row) (old new : Database)
+    : Type 0 where
   pub same : new.schema ≡ schema
   pub rows : IsReplaced keeps made (old.trees tree) (new.trees tree)
   pub keyed : AreKeyed (new.trees tree)

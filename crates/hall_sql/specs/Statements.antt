@@ -1,5 +1,5 @@
 -- The texts of the statements.
-use Rattle.std.specs.Prelude.{codes, List, [], ℕ, pos, negsuc, None, false}
+use Rattle.std.specs.Prelude.{codes, ◌++◌, List, [], ℕ, pos, negsuc, None, false}
 use Rattle.sqlite.specs.declared.types.Value.TheVariants.{Int}
 use Rattle.sqlite_value.specs.declared.keys.Key.{Key}
 use Rattle.sqlite.specs.Term.{Term, lit}
@@ -23,25 +23,22 @@ plain_query tree filter project order = record {
 abbrev pub person_text : List ℕ
 person_text = codes "SELECT name, pass, roles FROM people WHERE name = ?1"
 
+-- who has a key
+abbrev pub person_by_key_text : List ℕ
+person_by_key_text = codes "SELECT name, pass, roles FROM people WHERE pass = ?1"
+
 -- the puzzle under a key
 abbrev pub puzzle_text : List ℕ
 puzzle_text = codes "SELECT author, label, body, state, solution FROM puzzles WHERE author = ?1 AND label = ?2"
 
--- the answer under a key
-abbrev pub answer_text : List ℕ
-answer_text = codes "SELECT entrant, round, number, token, n, moment, answer, verdict FROM answers WHERE entrant = ?1 AND round = ?2 AND number = ?3 AND token = ?4"
+-- all puzzles, in the order of their keys
+abbrev pub all_puzzles_text : List ℕ
+all_puzzles_text = codes "SELECT author, label, body, state, solution FROM puzzles ORDER BY author, label"
 
--- the entrant's answers in the round, in the order of listings
-abbrev pub answers_of_text : List ℕ
-answers_of_text = codes "SELECT entrant, round, number, token, n, moment, answer, verdict FROM answers WHERE round = ?2 AND entrant = ?1 ORDER BY entrant, number, n, token"
-
--- the answers of the round, in the order of listings
-abbrev pub answers_in_text : List ℕ
-answers_in_text = codes "SELECT entrant, round, number, token, n, moment, answer, verdict FROM answers WHERE round = ?1 ORDER BY entrant, number, n, token"
-
--- one more answer
-abbrev pub add_answer_text : List ℕ
-add_answer_text = codes "INSERT INTO answers (entrant, round, number, token, n, moment, answer, verdict) VALUES (?1, ?2, ?3, ?4, ?5, ?6, ?7, ?8)"
+-- the author's puzzles, in the order of their labels
+abbrev pub puzzles_of_text : List ℕ
+puzzles_of_text =
+    codes "SELECT author, label, body, state, solution FROM puzzles WHERE author = ?1 ORDER BY author, label"
 
 -- the rows under a puzzle's key
 abbrev pub look_puzzle_text : List ℕ
@@ -54,3 +51,69 @@ add_puzzle_text = codes "INSERT INTO puzzles (author, label, body, state, soluti
 -- a puzzle in the place of the one under its key
 abbrev pub replace_puzzle_text : List ℕ
 replace_puzzle_text = codes "UPDATE puzzles SET body = ?3, state = ?4, solution = ?5 WHERE author = ?1 AND label = ?2"
+
+-- all rounds, in the order of their ids
+abbrev pub all_rounds_text : List ℕ
+all_rounds_text =
+    codes "SELECT id, title, start, minutes, protest_minutes, mode, penalty, bonus, released, published FROM rounds "
+    ++ codes "ORDER BY id"
+
+-- the answer under a key
+abbrev pub answer_text : List ℕ
+answer_text =
+    codes "SELECT entrant, round, number, token, n, moment, answer, verdict FROM answers "
+    ++ codes "WHERE entrant = ?1 AND round = ?2 AND number = ?3 AND token = ?4"
+
+-- the entrant's answers to the round's puzzle of the number
+abbrev pub answers_given_text : List ℕ
+answers_given_text =
+    codes "SELECT entrant, round, number, token, n, moment, answer, verdict FROM answers "
+    ++ codes "WHERE entrant = ?1 AND round = ?2 AND number = ?3"
+
+-- those of them that are the n-th
+abbrev pub number_taken_text : List ℕ
+number_taken_text =
+    codes "SELECT entrant, round, number, token, n, moment, answer, verdict FROM answers "
+    ++ codes "WHERE entrant = ?1 AND round = ?2 AND number = ?3 AND n = ?4"
+
+-- the entrant's answers in the round, in the order of listings
+abbrev pub answers_of_text : List ℕ
+answers_of_text =
+    codes "SELECT entrant, round, number, token, n, moment, answer, verdict FROM answers "
+    ++ codes "WHERE round = ?2 AND entrant = ?1 ORDER BY entrant, number, n, token"
+
+-- the answers of the round, in the order of listings
+abbrev pub answers_in_text : List ℕ
+answers_in_text =
+    codes "SELECT entrant, round, number, token, n, moment, answer, verdict FROM answers "
+    ++ codes "WHERE round = ?1 ORDER BY entrant, number, n, token"
+
+-- one more answer
+abbrev pub add_answer_text : List ℕ
+add_answer_text =
+    codes "INSERT INTO answers (entrant, round, number, token, n, moment, answer, verdict) "
+    ++ codes "VALUES (?1, ?2, ?3, ?4, ?5, ?6, ?7, ?8)"
+
+-- the protest under a key
+abbrev pub protest_text : List ℕ
+protest_text =
+    codes "SELECT entrant, round, token, number, body, ruling, points FROM protests "
+    ++ codes "WHERE entrant = ?1 AND round = ?2 AND token = ?3"
+
+-- the entrant's protests in the round, by token
+abbrev pub protests_of_text : List ℕ
+protests_of_text =
+    codes "SELECT entrant, round, token, number, body, ruling, points FROM protests "
+    ++ codes "WHERE round = ?2 AND entrant = ?1 ORDER BY entrant, round, token"
+
+-- the protests of the round, by entrant, then token
+abbrev pub protests_in_text : List ℕ
+protests_in_text =
+    codes "SELECT entrant, round, token, number, body, ruling, points FROM protests "
+    ++ codes "WHERE round = ?1 ORDER BY entrant, round, token"
+
+-- the open protests of the round
+abbrev pub open_protests_text : List ℕ
+open_protests_text =
+    codes "SELECT entrant, round, token, number, body, ruling, points FROM protests "
+    ++ codes "WHERE round = ?1 AND ruling = 0"

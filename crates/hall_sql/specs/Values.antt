@@ -1,5 +1,6 @@
 -- What a column's value stands for. A value that is no such thing stands for nothing.
-use Rattle.std.specs.Prelude.{nat_le, ◌&&◌, ◌==◌, ◌⊎◌, ◌/◌, ◌%◌, ℕ, ℤ, pos, negsuc, length, Bool, true, false, List, if◌then◌else◌, Option, Some, None}
+use Rattle.std.specs.Prelude.{nat_le, ◌&&◌, ◌==◌, ◌⊎◌, ◌/◌, ◌%◌, ℕ, ℤ, pos, negsuc, length, Bool, true, false, List}
+use Rattle.std.specs.Prelude.{if◌then◌else◌, Option, Some, None}
 use Rattle.std.proofs.Common.{inl, inr}
 use Rattle.std.specs.Ordering.{int_eq}
 use Rattle.sqlite.specs.declared.types.Value.{Value}
@@ -81,7 +82,8 @@ roles_in value = do
   Some (roles_of sum)
 
 -- the puzzle that a text spells, where it spells one and so has no fault
-abbrev pub board_of : {Spells : Board → Type 0} {HasFault : Type 0} → ((board : Board) × Spells board) ⊎ HasFault → Option Board
+abbrev pub board_of : {Spells : Board → Type 0} {HasFault : Type 0} → ((board : Board) × Spells board) ⊎ HasFault
+    → Option Board
 board_of (inl spelled) = Some spelled.0
 board_of (inr fault) = None
 

@@ -1,8 +1,9 @@
 //! The table of answers.
-ghost use Rattle.std.specs.Prelude.{◌≡◌, ◌≤◌, Ok, IfOk, OnErr};
+ghost use Rattle.std.specs.Prelude.{◌≡◌, ◌≤◌, ◌↔◌, IsTrue, Ok, IfOk, OnErr};
 ghost use Rattle.std.specs.FinMap.{get};
 ghost use Rattle.sqlite.specs.Held.{state};
-ghost use Rattle.hall_store.specs.Store.{Served, IsListing, is_of, is_in, Asks};
+ghost use Rattle.hall_store.specs.Store.{Served, IsListing, is_of, is_in, IsNumberTaken, HasSubmitted, Asks};
+ghost use Rattle.hall_policy.specs.Rules.{answers_given};
 ghost use Rattle.hall_store.specs.Change.{CanAddAnswer};
 ghost use Rattle.hall_store.specs.declared.change.Change.TheVariants.{AddAnswer};
 ghost use Rattle.hall_policy.specs.Ranges.{IsAnswerRow};
@@ -14,7 +15,7 @@ ghost use Rattle.hall_sql.specs.Standing.{IsHall, Rested, Wrote, content_of};
 
 use crate::calls::{ask, run};
 use crate::record::{at_most_one, read_all};
-use hall_policy::{AnswerKey, AnswerRow, Name, RoundId};
+use hall_policy::{AnswerKey, AnswerNumber, AnswerRow, Name, PuzzleNumber, RoundId};
 use hall_store::StoreFault;
 use sqlite::{Alter, Connection, params};
 use std::alloc::Global;
@@ -86,6 +87,79 @@ pub(crate) fn answers_in<S: Alter>(
     let _schema = conn.schema();
     let rows = ask(conn, ANSWERS_IN, params![round.as_str()])?;
     read_all(alloc, &rows)
+}
+
+const ANSWERS_GIVEN: &str =
+    "SELECT entrant, round, number, token, n, moment, answer, verdict FROM answers \
+    WHERE entrant = ?1 AND round = ?2 AND number = ?3";
+
+/// How many answers the entrant gave to the round's puzzle of that number.
+pub(crate) fn answers_given<S: Alter>(
+    conn: &mut Connection<S>,
+    alloc: Global,
+    entrant: &Name,
+    round: &RoundId,
+    number: PuzzleNumber,
+) -> Result<u64, StoreFault>
+    requires hall { IsHall (state S.Store conn.old) }
+    ensures rested { Rested (state S.Store conn.old) (state S.Store conn.new) }
+    ensures served { Served (content_of (state S.Store conn.new)) result
+        (λ world count. count ≡ answers_given world entrant.now round.now number) }
+{
+    let _schema = conn.schema();
+    let rows = ask(
+        conn,
+        ANSWERS_GIVEN,
+        params![entrant.as_str(), round.as_str(), number.get() as u32],
+    )?;
+    Ok(read_all::<AnswerRow>(alloc, &rows)?.len() as u64)
+}
+
+const NUMBER_TAKEN: &str =
+    "SELECT entrant, round, number, token, n, moment, answer, verdict FROM answers \
+    WHERE entrant = ?1 AND round = ?2 AND number = ?3 AND n = ?4";
+
+/// Whether an answer of the entrant to the round's puzzle of that number is the n-th.
+pub(crate) fn is_number_taken<S: Alter>(
+    conn: &mut Connection<S>,
+    alloc: Global,
+    entrant: &Name,
+    round: &RoundId,
+    number: PuzzleNumber,
+    n: AnswerNumber,
+) -> Result<bool, StoreFault>
+    requires hall { IsHall (state S.Store conn.old) }
+    ensures rested { Rested (state S.Store conn.old) (state S.Store conn.new) }
+    ensures served { Served (content_of (state S.Store conn.new)) result
+        (λ world taken. IsTrue taken ↔ IsNumberTaken world entrant.now round.now number n) }
+{
+    let _schema = conn.schema();
+    let rows = ask(
+        conn,
+        NUMBER_TAKEN,
+        params![
+            entrant.as_str(),
+            round.as_str(),
+            number.get() as u32,
+            n.get() as u32
+        ],
+    )?;
+    Ok(!read_all::<AnswerRow>(alloc, &rows)?.is_empty())
+}
+
+/// Whether the entrant has an answer in the round.
+pub(crate) fn has_answered<S: Alter>(
+    conn: &mut Connection<S>,
+    alloc: Global,
+    entrant: &Name,
+    round: &RoundId,
+) -> Result<bool, StoreFault>
+    requires hall { IsHall (state S.Store conn.old) }
+    ensures rested { Rested (state S.Store conn.old) (state S.Store conn.new) }
+    ensures served { Served (content_of (state S.Store conn.new)) result
+        (λ world found. IsTrue found ↔ HasSubmitted world entrant.now round.now) }
+{
+    Ok(!answers_of(conn, alloc, entrant, round)?.is_empty())
 }
 
 /// Tells a proof that the answer lies in the ranges of its types.

@@ -4,5 +4,7 @@
 mod answers;
 mod calls;
 mod people;
+mod protests;
 mod puzzles;
 mod record;
+mod rounds;

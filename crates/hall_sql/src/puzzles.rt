@@ -1,21 +1,21 @@
 //! The table of puzzles.
 ghost use Rattle.std.specs.Prelude.{◌≡◌, ◌≤◌, IsTrue, Ok, IfOk, OnErr};
-ghost use Rattle.std.specs.FinMap.{get};
+ghost use Rattle.std.specs.FinMap.{get, values};
 ghost use Rattle.sqlite.specs.Held.{state};
-ghost use Rattle.hall_store.specs.Store.{Served};
+ghost use Rattle.hall_store.specs.Store.{Served, puzzles_of};
+ghost use Rattle.hall_policy.specs.Rules.{puzzles_put};
 ghost use Rattle.sqlite_trees.specs.View.{doubt};
 ghost use Rattle.sqlite.specs.State.{HasCleanDisk, Executes};
 ghost use Rattle.hall_grid.specs.Text.{SpellsText};
 ghost use Rattle.hall_policy.specs.Ranges.{IsPuzzleKey, IsState};
 ghost use Rattle.hall_store.specs.declared.change.Change.TheVariants.{PutPuzzle, SetState};
-ghost use Rattle.hall_sql.specs.Statements.{add_puzzle_text, replace_puzzle_text};
 ghost use Rattle.hall_sql.specs.Columns.{puzzle_params, HasSoMany, state_code, solution_of};
 ghost use Rattle.hall_sql.specs.Standing.{IsHall, Rested, Wrote, content_of};
 
 use crate::calls::{ask, run};
 use crate::record::{at_most_one, read_all};
 use hall_grid::write_puzzle;
-use hall_policy::{PuzzleKey, PuzzleRow, PuzzleState};
+use hall_policy::{Name, PuzzleKey, PuzzleRow, PuzzleState};
 use hall_store::StoreFault;
 use sqlite::{Alter, Connection, params};
 use std::alloc::Global;
@@ -40,6 +40,58 @@ pub(crate) fn puzzle<S: Alter>(
         params![key.author.as_str(), key.label.as_str()],
     )?;
     at_most_one(read_all(alloc, &rows)?)
+}
+
+const ALL_PUZZLES: &str =
+    "SELECT author, label, body, state, solution FROM puzzles ORDER BY author, label";
+
+/// All puzzles, in the order of their keys.
+pub(crate) fn all_puzzles<S: Alter>(
+    conn: &mut Connection<S>,
+    alloc: Global,
+) -> Result<Vec<PuzzleRow>, StoreFault>
+    requires hall { IsHall (state S.Store conn.old) }
+    ensures rested { Rested (state S.Store conn.old) (state S.Store conn.new) }
+    ensures served { Served (content_of (state S.Store conn.new)) result
+        (λ world rows. rows.items ≡ values world.puzzles) }
+{
+    let _schema = conn.schema();
+    let rows = ask(conn, ALL_PUZZLES, &[])?;
+    read_all(alloc, &rows)
+}
+
+const PUZZLES_OF: &str =
+    "SELECT author, label, body, state, solution FROM puzzles WHERE author = ?1 \
+    ORDER BY author, label";
+
+/// The author's puzzles, in the order of their labels.
+pub(crate) fn puzzles_of<S: Alter>(
+    conn: &mut Connection<S>,
+    alloc: Global,
+    author: &Name,
+) -> Result<Vec<PuzzleRow>, StoreFault>
+    requires hall { IsHall (state S.Store conn.old) }
+    ensures rested { Rested (state S.Store conn.old) (state S.Store conn.new) }
+    ensures served { Served (content_of (state S.Store conn.new)) result
+        (λ world rows. rows.items ≡ puzzles_of world author.now) }
+{
+    let _schema = conn.schema();
+    let rows = ask(conn, PUZZLES_OF, params![author.as_str()])?;
+    read_all(alloc, &rows)
+}
+
+/// How many puzzles of the author are kept.
+pub(crate) fn puzzles_put<S: Alter>(
+    conn: &mut Connection<S>,
+    alloc: Global,
+    author: &Name,
+) -> Result<u64, StoreFault>
+    requires hall { IsHall (state S.Store conn.old) }
+    ensures rested { Rested (state S.Store conn.old) (state S.Store conn.new) }
+    ensures served { Served (content_of (state S.Store conn.new)) result
+        (λ world count. count ≡ puzzles_put world author.now) }
+{
+    Ok(puzzles_of(conn, alloc, author)?.len() as u64)
 }
 
 /// The code of a state.
@@ -94,32 +146,10 @@ const ADD: &str =
 const REPLACE: &str =
     "UPDATE puzzles SET body = ?3, state = ?4, solution = ?5 WHERE author = ?1 AND label = ?2";
 
-/// Writes the columns of a puzzle under a new key.
-fn add<S: Alter>(conn: &mut Connection<S>, row: &PuzzleRow, text: &str) -> Result<usize, StoreFault>
-    requires hall { IsHall (state S.Store conn.old) }
-    ensures in_range { IsState row.now.state }
-    ensures clean { doubt (state S.Store conn.old).is_clean ≤ doubt (state S.Store conn.new).is_clean }
-    ensures refused { OnErr result (Rested (state S.Store conn.old) (state S.Store conn.new)) }
-    ensures runs { HasCleanDisk (state S.Store conn.new) → IfOk result (λ count. Executes add_puzzle_text
-        (puzzle_params text.now row.now) (state S.Store conn.old) (state S.Store conn.new) (Ok count)) }
-{
-    let solution = solution_of(&row.state);
-    run(
-        conn,
-        ADD,
-        params![
-            row.key.author.as_str(),
-            row.key.label.as_str(),
-            text,
-            state_code(&row.state),
-            solution
-        ],
-    )
-}
-
-/// Writes the columns of a puzzle in the place of the one under its key.
-fn replace<S: Alter>(
+/// Runs a statement over the columns of a puzzle.
+fn write<S: Alter>(
     conn: &mut Connection<S>,
+    sql: &str,
     row: &PuzzleRow,
     text: &str,
 ) -> Result<usize, StoreFault>
@@ -127,13 +157,13 @@ fn replace<S: Alter>(
     ensures in_range { IsState row.now.state }
     ensures clean { doubt (state S.Store conn.old).is_clean ≤ doubt (state S.Store conn.new).is_clean }
     ensures refused { OnErr result (Rested (state S.Store conn.old) (state S.Store conn.new)) }
-    ensures runs { HasCleanDisk (state S.Store conn.new) → IfOk result (λ count. Executes replace_puzzle_text
+    ensures runs { HasCleanDisk (state S.Store conn.new) → IfOk result (λ count. Executes sql.now
         (puzzle_params text.now row.now) (state S.Store conn.old) (state S.Store conn.new) (Ok count)) }
 {
     let solution = solution_of(&row.state);
     run(
         conn,
-        REPLACE,
+        sql,
         params![
             row.key.author.as_str(),
             row.key.label.as_str(),
@@ -157,7 +187,7 @@ fn put_new<S: Alter>(
     ensures wrote { Wrote (PutPuzzle row.now) (state S.Store conn.old) (state S.Store conn.new) result }
 {
     in_range(&row.key);
-    match add(conn, row, text) {
+    match write(conn, ADD, row, text) {
         Ok(_) => Ok(()),
         Err(fault) => Err(fault),
     }
@@ -176,7 +206,7 @@ fn put_over<S: Alter>(
     ensures wrote { Wrote (PutPuzzle row.now) (state S.Store conn.old) (state S.Store conn.new) result }
 {
     in_range(&row.key);
-    match replace(conn, row, text) {
+    match write(conn, REPLACE, row, text) {
         Ok(_) => Ok(()),
         Err(fault) => Err(fault),
     }

@@ -1,16 +1,18 @@
 //! How a row of a table gives a record.
-ghost use Rattle.std.specs.Prelude.{◌≡◌, ◌≤◌, List, map, length, slice_get, Option, Some, IfOk};
+ghost use Rattle.std.specs.Prelude.{◌≡◌, ◌≤◌, List, map, length, slice_get, Option, Some, IfOk, IfSome};
 ghost use Rattle.sqlite.specs.Order.{Row as Columns};
 ghost use Rattle.sqlite_value.specs.Order.{column};
-ghost use Rattle.hall_sql.specs.Values.{board_of, number_in, kind_in, within, roles_in, puzzle_in, unsolved_of, state_in};
+ghost use Rattle.hall_sql.specs.Values.{board_of, number_in, kind_in, within, roles_in, puzzle_in};
+ghost use Rattle.hall_sql.specs.Values.{unsolved_of, state_in, int_in, ruling_points_of, unpointed_of, ruling_in};
+ghost use Rattle.hall_sql.specs.Values.{mode_in, flag_in};
 ghost use Rattle.hall_grid.proofs.SpellsOrHasFault.{spells_or_fault};
-ghost use Rattle.hall_sql.specs.Rows.{person_in, puzzle_row_in, IsAnswerKeyIn, answer_in};
+ghost use Rattle.hall_sql.specs.Rows.{person_in, puzzle_row_in, IsAnswerKeyIn, answer_in, protest_in, round_in};
 
 use crate::calls::fault_of;
 use hall_grid::{Broken, Puzzle, TextFault, parse_puzzle};
 use hall_policy::{
-    AnswerKey, AnswerRow, AnswerText, Checked, Person, PuzzleKey, PuzzleRow, PuzzleState, Roles,
-    TextKind, Within,
+    AnswerKey, AnswerRow, AnswerText, Checked, Mode, Person, ProtestKey, ProtestRow, PuzzleKey,
+    PuzzleRow, PuzzleState, Roles, Round, Ruling, RulingPoints, TextKind, Within,
 };
 use hall_store::StoreFault;
 use sqlite::Row;
@@ -184,6 +186,132 @@ impl Record for AnswerRow {
             moment,
             answer,
             verdict,
+        })
+    }
+}
+
+/// The points that stand in a column.
+fn points_at(row: &Row, at: usize) -> Result<i32, StoreFault>
+    ensures { IfOk result (λ points. int_in (column row.now at) ≡ Some points) }
+{
+    match row.get::<i32>(at) {
+        Ok(points) => Ok(points),
+        Err(error) => Err(fault_of(&error)),
+    }
+}
+
+/// The points of a ruling, where they lie in its range.
+fn ruling_points(points: i32) -> Option<RulingPoints>
+    ensures { IfSome result (λ some. ruling_points_of points ≡ Some some) }
+{
+    match i16::try_from(points) {
+        Ok(points) => RulingPoints::new(points),
+        Err(_) => None,
+    }
+}
+
+/// The ruling of a code that has no points; none while the protest is open.
+fn unpointed(code: u32) -> Option<Option<Ruling>>
+    ensures { result ≡ unpointed_of code }
+{
+    match code {
+        0 => Some(None),
+        2 => Some(Some(Ruling::Rejected)),
+        _ => None,
+    }
+}
+
+/// The ruling whose code and points stand in two columns; none while the protest is open.
+fn ruling_at(
+    row: &Row,
+    code_at_place: usize,
+    points_at_place: usize,
+) -> Result<Option<Ruling>, StoreFault>
+    ensures { IfOk result
+        (λ ruling. ruling_in (column row.now code_at_place) (column row.now points_at_place) ≡ Some ruling) }
+{
+    let code = code_at(row, code_at_place)?;
+    let points = points_at(row, points_at_place)?;
+    if code == 1 {
+        let points = ruling_points(points).ok_or(StoreFault::Failed)?;
+        return Ok(Some(Ruling::Upheld(points)));
+    }
+    if points != 0 {
+        return Err(StoreFault::Failed);
+    }
+    unpointed(code).ok_or(StoreFault::Failed)
+}
+
+impl Record for ProtestRow {
+    ghost read = { protest_in };
+
+    fn from_row(_: Global, row: &Row) -> Result<ProtestRow, StoreFault> {
+        let entrant = text_at(row, 0)?;
+        let round = text_at(row, 1)?;
+        let token = text_at(row, 2)?;
+        let number = number_at(row, 3)?;
+        let text = text_at(row, 4)?;
+        let ruling = ruling_at(row, 5, 6)?;
+        Ok(ProtestRow {
+            key: ProtestKey {
+                entrant,
+                round,
+                token,
+            },
+            number,
+            text,
+            ruling,
+        })
+    }
+}
+
+/// The mode whose code stands in a column.
+fn mode_at(row: &Row, at: usize) -> Result<Mode, StoreFault>
+    ensures { IfOk result (λ mode. mode_in (column row.now at) ≡ Some mode) }
+{
+    match code_at(row, at)? {
+        0 => Ok(Mode::Instant),
+        1 => Ok(Mode::Sealed),
+        _ => Err(StoreFault::Failed),
+    }
+}
+
+/// The flag that stands in a column as 0 or 1.
+fn flag_at(row: &Row, at: usize) -> Result<bool, StoreFault>
+    ensures { IfOk result (λ flag. flag_in (column row.now at) ≡ Some flag) }
+{
+    match code_at(row, at)? {
+        0 => Ok(false),
+        1 => Ok(true),
+        _ => Err(StoreFault::Failed),
+    }
+}
+
+impl Record for Round {
+    ghost read = { round_in };
+
+    fn from_row(_: Global, row: &Row) -> Result<Round, StoreFault> {
+        let id = text_at(row, 0)?;
+        let title = text_at(row, 1)?;
+        let start = number_at(row, 2)?;
+        let minutes = number_at(row, 3)?;
+        let protest_minutes = number_at(row, 4)?;
+        let mode = mode_at(row, 5)?;
+        let penalty = number_at(row, 6)?;
+        let bonus = number_at(row, 7)?;
+        let released = flag_at(row, 8)?;
+        let published = flag_at(row, 9)?;
+        Ok(Round {
+            id,
+            title,
+            start,
+            minutes,
+            protest_minutes,
+            mode,
+            penalty,
+            bonus,
+            released,
+            published,
         })
     }
 }

@@ -1,4 +1,4 @@
-use Rattle.hall_sql.proofs.puzzles.add.Goals as goal
+use Rattle.hall_sql.proofs.puzzles.write.Goals as goal
 
 pub returns-clause-runs : goal.returns-clause-runs
 returns-clause-runs g c =

@@ -1,0 +1,202 @@
+-- What the statements on protests say of the world.
+use Rattle.std.proofs.Common.{◌≡◌, ◌≤◌, ◌&&◌, ℕ, List, [], ◌∷◌, length, map, flat_map, true, slice_get, Option, Some, None, option_to_list, refl, sym, ap, subst, ◌∙◌}
+use Rattle.std.specs.List.{list_all, AllByRecursion}
+use Rattle.std.specs.List.Sorted.{IsPermutation}
+use Rattle.std.specs.Ordering.{eq_by_cmp}
+use Rattle.std.specs.FinMap.{get, values}
+use Rattle.sqlite.specs.declared.types.Value.TheVariants.{Text}
+use Rattle.sqlite.specs.Effect.{IsDatabase}
+use Rattle.sqlite.specs.Order.{Row}
+use Rattle.sqlite.specs.State.{State, Shown}
+use Rattle.sqlite.specs.Table.{Table}
+use Rattle.sqlite.specs.Term.{Term, holds}
+use Rattle.sqlite.specs.Tree.{Trees}
+use Rattle.sqlite_schema.specs.declared.schema.Constraint.TheVariants.{Unique}
+use Rattle.sqlite_schema.specs.Rules.{agree, passes}
+use Rattle.sqlite_rules.proofs.ListLemmas.{all_has}
+use Rattle.sqlite_value.specs.Keys.{plain, first_key}
+use Rattle.sqlite_value.specs.Order.{column}
+use Rattle.sqlite_value.proofs.OrderLemmas.{then-Equal, value_cmp-Text}
+use Rattle.hall_grid.specs.FormReading.{◌>>=◌}
+use Rattle.hall_policy.specs.Text.{text_cmp, is_word_byte, is_printable}
+use Rattle.hall_policy.specs.World.{protest_cmp}
+use Rattle.hall_policy.specs.declared.record.ProtestKey.{ProtestKey}
+use Rattle.hall_policy.specs.declared.record.ProtestRow.{ProtestRow}
+use Rattle.hall_policy.specs.declared.record.Ruling.{Ruling}
+use Rattle.hall_policy.proofs.Orders.{protest_total, same_protest_keys}
+use Rattle.hall_store.specs.Store.{protests_in, protests_of, is_protest_in, is_protest_of}
+use Rattle.hall_sql.specs.Tables.{hall_schema, protests_table}
+use Rattle.hall_sql.specs.Values.{name_in, token_in, within, kind_in, ruling_in}
+use Rattle.hall_sql.specs.Rows.{protest_in, protest_of, world_of}
+use Rattle.hall_sql.specs.Standing.{AreKeyed}
+use Rattle.hall_sql.specs.Statements.{protest_text, protests_of_text, protests_in_text}
+use Rattle.hall_sql.proofs.ColumnLemmas.{kind_column, column_equals, column_same, and_true, last_equal, more_equal}
+use Rattle.hall_sql.proofs.FoundLemmas.{asked_found}
+use Rattle.hall_sql.proofs.ListedLemmas.{by_order, values_asked}
+use Rattle.hall_sql.proofs.PeopleTexts.{equals}
+use Rattle.hall_sql.proofs.ProtestTexts.{key_terms, key_order, protest_columns, protest_is, protests_of_is, protests_in_is}
+use Rattle.hall_sql.proofs.UniqueLemmas.{equal_texts, first_not, records_listed}
+
+abbrev of_parts : List ℕ → List ℕ → List ℕ → ℕ → List ℕ → Option Ruling → ProtestRow
+of_parts entrant round token number text ruling = record {
+  key = record { entrant = entrant; round = round; token = token };
+  number = number;
+  text = text;
+  ruling = ruling;
+}
+
+record PartsOf (row : ProtestRow) (a b c : Option (List ℕ)) (f : Option (Option Ruling)) : Type 0 where
+  entrant : a ≡ Some row.key.entrant
+  round : b ≡ Some row.key.round
+  token : c ≡ Some row.key.token
+  ruling : f ≡ Some row.ruling
+
+-- a protest that is read has its parts in the columns
+parts : (a b c : Option (List ℕ)) (d : Option ℕ) (e : Option (List ℕ)) (f : Option (Option Ruling)) (row : ProtestRow)
+    → (a >>= (λ entrant. b >>= (λ round. c >>= (λ token. d >>= (λ number. e >>= (λ text. f >>= (λ ruling.
+    Some (of_parts entrant round token number text ruling)))))))) ≡ Some row
+    → PartsOf row a b c f
+parts None b c d e f row is = absurd cc
+parts (Some a) None c d e f row is = absurd cc
+parts (Some a) (Some b) None d e f row is = absurd cc
+parts (Some a) (Some b) (Some c) None e f row is = absurd cc
+parts (Some a) (Some b) (Some c) (Some d) None f row is = absurd cc
+parts (Some a) (Some b) (Some c) (Some d) (Some e) None row is = absurd cc
+parts (Some a) (Some b) (Some c) (Some d) (Some e) (Some f) row is =
+    let same : of_parts a b c d e f ≡ row = cc in
+    record {
+      entrant = ap (λ (x : ProtestRow). Some x.key.entrant) same;
+      round = ap (λ (x : ProtestRow). Some x.key.round) same;
+      token = ap (λ (x : ProtestRow). Some x.key.token) same;
+      ruling = ap (λ (x : ProtestRow). Some x.ruling) same;
+    }
+
+-- the columns of a protest's key, and what its ruling is read from
+pub record HasColumns (r : Row) (row : ProtestRow) : Type 0 where
+  pub entrant : column r 1 ≡ Text row.key.entrant
+  pub round : column r 2 ≡ Text row.key.round
+  pub token : column r 3 ≡ Text row.key.token
+  pub ruling : ruling_in (column r 6) (column r 7) ≡ Some row.ruling
+
+pub has_columns : (r : Row) (row : ProtestRow) → protest_of r ≡ Some row → HasColumns r row
+has_columns r row is =
+    let it = parts (name_in (column r 1)) (name_in (column r 2)) (token_in (column r 3)) (within 1 99 (column r 4))
+    (kind_in 1 200 is_printable (column r 5)) (ruling_in (column r 6) (column r 7)) row is in
+    record {
+      entrant = kind_column 1 24 is_word_byte (column r 1) row.key.entrant it.entrant;
+      round = kind_column 1 24 is_word_byte (column r 2) row.key.round it.round;
+      token = kind_column 1 32 is_word_byte (column r 3) row.key.token it.token;
+      ruling = it.ruling;
+    }
+
+abbrev pub key_params : ProtestKey → Row
+key_params key = Text key.entrant ∷ Text key.round ∷ Text key.token ∷ []
+
+-- WHERE entrant = ?1 AND round = ?2 AND token = ?3 asks for the key
+agrees : (key : ProtestKey) (r : Row) (row : ProtestRow) → protest_of r ≡ Some row
+    → list_all (holds (key_params key ∷ r ∷ [])) key_terms ≡ eq_by_cmp protest_cmp row.key key
+agrees key r row is =
+    let it = has_columns r row is in
+    more_equal _ _ _ _ (column_equals (column r 1) row.key.entrant key.entrant it.entrant)
+    (more_equal _ _ _ _ (column_equals (column r 2) row.key.round key.round it.round)
+    (last_equal _ _ (column_equals (column r 3) row.key.token key.token it.token)))
+
+pub protest_found : (key : ProtestKey) (old new : State) (rows : List Row) (out : List ProtestRow)
+    → old.now.schema ≡ hall_schema → Shown protest_text (key_params key) old new rows
+    → map protest_in rows ≡ map Some out → length out ≤ 1
+    → slice_get out 0 ≡ get (world_of old.now.trees).protests key
+protest_found key =
+    asked_found protest_total same_protest_keys (λ (row : ProtestRow). row.key) protest_in 7 key protest_text
+    (key_params key) 12 key_terms protest_columns _
+    protest_is.0 protest_is.1 protest_is.2 (λ db. refl) (λ r. refl) (agrees key)
+
+-- ---- listings
+
+-- two rows of one key agree on the columns of the primary key
+agreeing : (r y : Row) (x z : ProtestRow) → protest_of r ≡ Some x → protest_of y ≡ Some z → x.key ≡ z.key
+    → agree plain (1 ∷ 2 ∷ 3 ∷ []) y (1 ∷ 2 ∷ 3 ∷ []) r ≡ true
+unfolding first_key
+agreeing r y x z p q e =
+    let one = has_columns r x p in
+    let two = has_columns y z q in
+    rw (
+      one.entrant,
+      one.round,
+      one.token,
+      two.entrant,
+      two.round,
+      two.token,
+      equal_texts z.key.entrant x.key.entrant (ap (λ (k : ProtestKey). k.entrant) (sym e)),
+      equal_texts z.key.round x.key.round (ap (λ (k : ProtestKey). k.round) (sym e)),
+      equal_texts z.key.token x.key.token (ap (λ (k : ProtestKey). k.token) (sym e)),
+    )
+
+abbrev protests_there : Table
+protests_there = record protests_table { tree = 12 }
+
+-- the table's records are the world's protests, each once
+protests_listed : (db : Trees) → AreKeyed (db 12) → IsDatabase (record { schema = hall_schema; trees = db })
+    → IsPermutation (flat_map (λ r. option_to_list (protest_of r)) (db 12)) (values (world_of db).protests)
+protests_listed db keyed sound =
+    let rule : AllByRecursion (λ row. passes Unique hall_schema db protests_there row ≡ true) (db 12) =
+    (sound.obeys.rules Unique).1.1.1.1.1.0 in
+    records_listed protest_total same_protest_keys (λ (row : ProtestRow). row.key) protest_of (1 ∷ 2 ∷ 3 ∷ []) (db 12)
+    keyed agreeing
+    (λ r h. first_not _ _ (all_has _ (db 12) r rule h))
+
+-- ORDER BY entrant, round, token is the order of keys
+same_order : (params : Row) (terms : List Term) (a b : Row) (x y : ProtestRow) → protest_of a ≡ Some x → protest_of b ≡ Some y
+    → by_order 12 terms protest_columns key_order params a b ≡ protest_cmp x.key y.key
+same_order params terms a b x y p q =
+    let one = has_columns a x p in
+    let two = has_columns b y q in
+    rw (
+      one.entrant,
+      one.round,
+      one.token,
+      two.entrant,
+      two.round,
+      two.token,
+      value_cmp-Text x.key.entrant y.key.entrant,
+      value_cmp-Text x.key.round y.key.round,
+      value_cmp-Text x.key.token y.key.token,
+      then-Equal (text_cmp x.key.token y.key.token),
+    )
+
+-- what a query gives of the world's protests
+module _ (old new : State) (has : old.now.schema ≡ hall_schema) (keyed : AreKeyed (old.now.trees 12)) (sound : IsDatabase old.now)
+    (rows : List Row) (out : List ProtestRow) (is : map protest_in rows ≡ map Some out) where
+  pub whole : IsPermutation (flat_map (λ r. option_to_list (protest_of r)) (old.now.trees 12))
+      (values (world_of old.now.trees).protests)
+  whole =
+      let db = old.now.trees in
+      protests_listed db keyed (subst (λ s. IsDatabase (record { schema = s; trees = db })) has sound)
+
+  in_agrees : (round : List ℕ) (r : Row) (x : ProtestRow) → protest_of r ≡ Some x
+      → list_all (holds ((Text round ∷ []) ∷ r ∷ [])) (equals 2 0 ∷ []) ≡ is_protest_in round x
+  in_agrees round r x h = and_true _ ∙ column_same (column r 2) x.key.round round (has_columns r x h).round
+
+  of_agrees : (entrant round : List ℕ) (r : Row) (x : ProtestRow) → protest_of r ≡ Some x
+      → list_all (holds ((Text entrant ∷ Text round ∷ []) ∷ r ∷ [])) (equals 2 1 ∷ equals 1 0 ∷ [])
+      ≡ is_protest_of entrant round x
+  of_agrees entrant round r x h =
+      let it = has_columns r x h in
+      ap (λ b. b && (list_all (holds ((Text entrant ∷ Text round ∷ []) ∷ r ∷ [])) (equals 1 0 ∷ [])))
+      (column_same (column r 2) x.key.round round it.round)
+      ∙ ap (λ b. is_protest_in round x && b) (and_true _ ∙ column_same (column r 1) x.key.entrant entrant it.entrant)
+
+  pub protests_in_listed : (round : List ℕ) → Shown protests_in_text (Text round ∷ []) old new rows
+      → out ≡ protests_in (world_of old.now.trees) round
+  protests_in_listed round shown =
+      values_asked protest_in 7 protests_in_text (Text round ∷ []) 12 (equals 2 0 ∷ []) protest_columns key_order _
+      protests_in_is.0 protests_in_is.1 protests_in_is.2 (λ db. refl) (λ r. refl) (is_protest_in round) (in_agrees round)
+      old new rows out has shown is protest_total same_protest_keys (λ (row : ProtestRow). row.key) whole
+      (same_order (Text round ∷ []) (equals 2 0 ∷ []))
+
+  pub protests_of_listed : (entrant round : List ℕ) → Shown protests_of_text (Text entrant ∷ Text round ∷ []) old new rows
+      → out ≡ protests_of (world_of old.now.trees) entrant round
+  protests_of_listed entrant round shown =
+      values_asked protest_in 7 protests_of_text (Text entrant ∷ Text round ∷ []) 12 (equals 2 1 ∷ equals 1 0 ∷ [])
+      protest_columns key_order _ protests_of_is.0 protests_of_is.1 protests_of_is.2 (λ db. refl) (λ r. refl)
+      (is_protest_of entrant round) (of_agrees entrant round) old new rows out has shown is protest_total same_protest_keys
+      (λ (row : ProtestRow). row.key) whole (same_order (Text entrant ∷ Text round ∷ []) (equals 2 1 ∷ equals 1 0 ∷ []))

@@ -1,0 +1,59 @@
+-- What the statements on protests mean under the hall's tables.
+use Rattle.std.proofs.Common.{◌≡◌, List, ℕ, pos, codes, refl, false, [], ◌∷◌}
+use Rattle.sqlite_tied.specs.Compute.{everything}
+use Rattle.sqlite_value.specs.declared.keys.Key.{Key}
+use Rattle.sqlite.specs.declared.types.Value.TheVariants.{Int}
+use Rattle.sqlite_sql.specs.declared.ops.BinaryOp.TheVariants.{Compare}
+use Rattle.sqlite_sql.specs.declared.ops.CompareOp.TheVariants.{Eq}
+use Rattle.sqlite.specs.Collation.TheVariants.{Binary}
+use Rattle.sqlite.specs.Term.{Term, col, lit, op2}
+use Rattle.sqlite.specs.Listing.{understood, reads_listing}
+use Rattle.sqlite.specs.Command.TheVariants.{Select}
+use Rattle.sqlite.proofs.Callers.{IsPlain, command_of}
+use Rattle.hall_sql.specs.Tables.{hall_schema}
+use Rattle.hall_sql.specs.Statements.{plain_query, protest_text, protests_of_text, protests_in_text, open_protests_text}
+use Rattle.hall_sql.proofs.PeopleTexts.{equals, rising}
+
+abbrev pub protest_columns : List Term
+protest_columns = col 1 1 ∷ col 1 2 ∷ col 1 3 ∷ col 1 4 ∷ col 1 5 ∷ col 1 6 ∷ col 1 7 ∷ []
+
+abbrev pub protest_names : List (List ℕ)
+protest_names =
+    codes "entrant" ∷ codes "round" ∷ codes "token" ∷ codes "number" ∷ codes "body" ∷ codes "ruling" ∷ codes "points"
+    ∷ []
+
+-- entrant = ?1 AND round = ?2 AND token = ?3
+abbrev pub key_terms : List Term
+key_terms = equals 1 0 ∷ equals 2 1 ∷ equals 3 2 ∷ []
+
+-- the order of keys: entrant, round, token
+abbrev pub key_order : List (Term × Key)
+key_order = (col 1 1, rising) ∷ (col 1 2, rising) ∷ (col 1 3, rising) ∷ []
+
+pub protest_is : (command_of (understood hall_schema protest_text)
+    ≡ Select (record { lets = []; body = plain_query 12 key_terms protest_columns [] }) protest_names)
+    × (reads_listing hall_schema protest_text ≡ false) × IsPlain (understood hall_schema protest_text)
+unfolding understood everything
+protest_is = (refl, refl, (refl, refl))
+
+pub protests_of_is : (command_of (understood hall_schema protests_of_text)
+    ≡ Select (record { lets = []; body = plain_query 12 (equals 2 1 ∷ equals 1 0 ∷ []) protest_columns key_order }) protest_names)
+    × (reads_listing hall_schema protests_of_text ≡ false) × IsPlain (understood hall_schema protests_of_text)
+unfolding understood everything
+protests_of_is = (refl, refl, (refl, refl))
+
+pub protests_in_is : (command_of (understood hall_schema protests_in_text)
+    ≡ Select (record { lets = []; body = plain_query 12 (equals 2 0 ∷ []) protest_columns key_order }) protest_names)
+    × (reads_listing hall_schema protests_in_text ≡ false) × IsPlain (understood hall_schema protests_in_text)
+unfolding understood everything
+protests_in_is = (refl, refl, (refl, refl))
+
+-- round = ?1 AND ruling = 0
+abbrev pub open_terms : List Term
+open_terms = equals 2 0 ∷ op2 (Compare Eq Binary) (col 1 6) (lit (Int (pos 0))) ∷ []
+
+pub open_protests_is : (command_of (understood hall_schema open_protests_text)
+    ≡ Select (record { lets = []; body = plain_query 12 open_terms protest_columns [] }) protest_names)
+    × (reads_listing hall_schema open_protests_text ≡ false) × IsPlain (understood hall_schema open_protests_text)
+unfolding understood everything
+open_protests_is = (refl, refl, (refl, refl))

@@ -1,0 +1,112 @@
+-- What the listings of puzzles say of the world.
+use Rattle.std.proofs.Common.{◌≡◌, ℕ, List, [], ◌∷◌, length, map, flat_map, true, Some, option_to_list, refl, sym, ap, subst, ◌∙◌}
+use Rattle.std.specs.List.{list_all, AllByRecursion}
+use Rattle.std.specs.List.Sorted.{IsPermutation}
+use Rattle.std.specs.FinMap.{values}
+use Rattle.sqlite.specs.declared.types.Value.TheVariants.{Text}
+use Rattle.sqlite.specs.Effect.{IsDatabase}
+use Rattle.sqlite.specs.Order.{Row}
+use Rattle.sqlite.specs.State.{State, Shown}
+use Rattle.sqlite.specs.Term.{Term, holds}
+use Rattle.sqlite.specs.Tree.{Trees}
+use Rattle.sqlite_schema.specs.declared.schema.Constraint.TheVariants.{Unique}
+use Rattle.sqlite_schema.specs.Rules.{agree, passes}
+use Rattle.sqlite_rules.proofs.ListLemmas.{all_has}
+use Rattle.sqlite_trees.proofs.ListLemmas.{filter_all, all_of}
+use Rattle.sqlite_value.specs.Keys.{plain, first_key}
+use Rattle.sqlite_value.specs.Order.{column}
+use Rattle.sqlite_value.proofs.OrderLemmas.{then-Equal, value_cmp-Text}
+use Rattle.hall_policy.specs.Text.{text_cmp}
+use Rattle.hall_policy.specs.World.{puzzle_cmp, same_text}
+use Rattle.hall_policy.specs.declared.record.PuzzleKey.{PuzzleKey}
+use Rattle.hall_policy.specs.declared.record.PuzzleRow.{PuzzleRow}
+use Rattle.hall_policy.proofs.Orders.{puzzle_total, same_puzzle_keys}
+use Rattle.hall_policy.specs.Rules.{puzzles_put}
+use Rattle.hall_policy.specs.World.{World}
+use Rattle.hall_store.specs.Store.{puzzles_of}
+use Rattle.std.proofs.lemmas.List.Sums.{length-filter}
+use Rattle.hall_sql.specs.Tables.{hall_schema}
+use Rattle.hall_sql.specs.Rows.{puzzle_row_in, puzzle_row_of, world_of}
+use Rattle.hall_sql.specs.Standing.{AreKeyed}
+use Rattle.hall_sql.specs.Statements.{all_puzzles_text, puzzles_of_text}
+use Rattle.hall_sql.proofs.ColumnLemmas.{and_true, column_same}
+use Rattle.hall_sql.proofs.ListedLemmas.{by_order, values_asked}
+use Rattle.hall_sql.proofs.PeopleTexts.{equals}
+use Rattle.hall_sql.proofs.PuzzleLemmas.{key_columns}
+use Rattle.hall_sql.proofs.PuzzleTexts.{puzzle_columns, key_order, puzzles_there, all_puzzles_is, puzzles_of_is}
+use Rattle.hall_sql.proofs.UniqueLemmas.{equal_texts, first_not, records_listed}
+
+-- two rows of one key agree on the columns of the primary key
+agreeing : (r y : Row) (x z : PuzzleRow) → puzzle_row_of r ≡ Some x → puzzle_row_of y ≡ Some z → x.key ≡ z.key
+    → agree plain (1 ∷ 2 ∷ []) y (1 ∷ 2 ∷ []) r ≡ true
+unfolding first_key
+agreeing r y x z p q e =
+    let one = key_columns r x p in
+    let two = key_columns y z q in
+    rw (
+      one.0,
+      one.1,
+      two.0,
+      two.1,
+      equal_texts z.key.author x.key.author (ap (λ (k : PuzzleKey). k.author) (sym e)),
+      equal_texts z.key.label x.key.label (ap (λ (k : PuzzleKey). k.label) (sym e)),
+    )
+
+-- the table's records are the world's puzzles, each once
+puzzles_listed : (db : Trees) → AreKeyed (db 3) → IsDatabase (record { schema = hall_schema; trees = db })
+    → IsPermutation (flat_map (λ r. option_to_list (puzzle_row_of r)) (db 3)) (values (world_of db).puzzles)
+puzzles_listed db keyed sound =
+    let rule : AllByRecursion (λ row. passes Unique hall_schema db puzzles_there row ≡ true) (db 3) =
+    (sound.obeys.rules Unique).1.0 in
+    records_listed puzzle_total same_puzzle_keys (λ (row : PuzzleRow). row.key) puzzle_row_of (1 ∷ 2 ∷ []) (db 3) keyed agreeing
+    (λ r h. first_not _ _ (all_has _ (db 3) r rule h))
+
+-- ORDER BY author, label is the order of keys
+same_order : (params : Row) (terms : List Term) (a b : Row) (x y : PuzzleRow) → puzzle_row_of a ≡ Some x
+    → puzzle_row_of b ≡ Some y
+    → by_order 3 terms puzzle_columns key_order params a b ≡ puzzle_cmp x.key y.key
+same_order params terms a b x y p q =
+    let one = key_columns a x p in
+    let two = key_columns b y q in
+    rw (
+      one.0,
+      one.1,
+      two.0,
+      two.1,
+      value_cmp-Text x.key.author y.key.author,
+      value_cmp-Text x.key.label y.key.label,
+      then-Equal (text_cmp x.key.label y.key.label),
+    )
+
+-- the author's puzzles are as many as the rules count
+pub puzzles_counted : (world : World) (author : List ℕ) → length (puzzles_of world author) ≡ puzzles_put world author
+puzzles_counted world author =
+    length-filter (λ (row : PuzzleRow). same_text row.key.author author) (values world.puzzles)
+
+-- what a query in the order of keys gives of the world's puzzles
+module _ (old new : State) (has : old.now.schema ≡ hall_schema) (keyed : AreKeyed (old.now.trees 3)) (sound : IsDatabase old.now)
+    (rows : List Row) (out : List PuzzleRow) (is : map puzzle_row_in rows ≡ map Some out) where
+  whole : IsPermutation (flat_map (λ r. option_to_list (puzzle_row_of r)) (old.now.trees 3))
+      (values (world_of old.now.trees).puzzles)
+  whole =
+      let db = old.now.trees in
+      puzzles_listed db keyed (subst (λ s. IsDatabase (record { schema = s; trees = db })) has sound)
+
+  by_author : (author : List ℕ) (r : Row) (x : PuzzleRow) → puzzle_row_of r ≡ Some x
+      → list_all (holds ((Text author ∷ []) ∷ r ∷ [])) (equals 1 0 ∷ []) ≡ same_text x.key.author author
+  by_author author r x h = and_true _ ∙ column_same (column r 1) x.key.author author (key_columns r x h).0
+
+  pub all_puzzles_listed : Shown all_puzzles_text [] old new rows → out ≡ values (world_of old.now.trees).puzzles
+  all_puzzles_listed shown =
+      values_asked puzzle_row_in 5 all_puzzles_text [] 3 [] puzzle_columns key_order _ all_puzzles_is.0 all_puzzles_is.1
+      all_puzzles_is.2 (λ db. refl) (λ r. refl) (λ _. true) (λ r x h. refl) old new rows out has shown is puzzle_total
+      same_puzzle_keys (λ (row : PuzzleRow). row.key) whole (same_order [] [])
+      ∙ filter_all (λ _. true) (values (world_of old.now.trees).puzzles) (all_of (λ _. true ≡ true) (λ _. refl) _)
+
+  pub puzzles_of_listed : (author : List ℕ) → Shown puzzles_of_text (Text author ∷ []) old new rows
+      → out ≡ puzzles_of (world_of old.now.trees) author
+  puzzles_of_listed author shown =
+      values_asked puzzle_row_in 5 puzzles_of_text (Text author ∷ []) 3 (equals 1 0 ∷ []) puzzle_columns key_order _
+      puzzles_of_is.0 puzzles_of_is.1 puzzles_of_is.2 (λ db. refl) (λ r. refl) (λ row. same_text row.key.author author)
+      (by_author author) old new rows out has shown is puzzle_total same_puzzle_keys (λ (row : PuzzleRow). row.key) whole
+      (same_order (Text author ∷ []) (equals 1 0 ∷ []))

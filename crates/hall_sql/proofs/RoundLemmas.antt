@@ -1,0 +1,109 @@
+-- What the statements on rounds say of the world.
+use Rattle.std.proofs.Common.{◌≡◌, ℕ, List, [], ◌∷◌, map, flat_map, Bool, true, Option, Some, None, option_to_list, refl, sym, ap, subst, ◌∙◌}
+use Rattle.std.specs.List.{AllByRecursion}
+use Rattle.std.specs.List.Sorted.{IsPermutation}
+use Rattle.std.specs.FinMap.{values}
+use Rattle.sqlite.specs.declared.types.Value.TheVariants.{Text}
+use Rattle.sqlite.specs.Effect.{IsDatabase}
+use Rattle.sqlite.specs.Order.{Row}
+use Rattle.sqlite.specs.State.{State, Shown}
+use Rattle.sqlite.specs.Table.{Table}
+use Rattle.sqlite.specs.Tree.{Trees}
+use Rattle.sqlite_schema.specs.declared.schema.Constraint.TheVariants.{Unique}
+use Rattle.sqlite_schema.specs.Rules.{agree, passes}
+use Rattle.sqlite_rules.proofs.ListLemmas.{all_has}
+use Rattle.sqlite_trees.proofs.ListLemmas.{filter_all, all_of}
+use Rattle.sqlite_value.specs.Keys.{plain, first_key}
+use Rattle.sqlite_value.specs.Order.{column}
+use Rattle.sqlite_value.proofs.OrderLemmas.{then-Equal, value_cmp-Text}
+use Rattle.hall_grid.specs.FormReading.{◌>>=◌}
+use Rattle.hall_policy.specs.Text.{text_cmp, is_word_byte, is_printable}
+use Rattle.hall_policy.specs.declared.record.Mode as mode
+use Rattle.hall_policy.specs.declared.record.Round.{Round}
+use Rattle.hall_policy.proofs.Orders.{text_total, same_texts}
+use Rattle.hall_sql.specs.Tables.{hall_schema, rounds_table}
+use Rattle.hall_sql.specs.Values.{name_in, kind_in, within, mode_in, flag_in}
+use Rattle.hall_sql.specs.Rows.{round_in, round_of, world_of}
+use Rattle.hall_sql.specs.Standing.{AreKeyed}
+use Rattle.hall_sql.specs.Statements.{all_rounds_text}
+use Rattle.hall_sql.proofs.ColumnLemmas.{kind_column}
+use Rattle.hall_sql.proofs.ListedLemmas.{by_order, values_asked}
+use Rattle.hall_sql.proofs.RoundTexts.{round_columns, id_order, all_rounds_is}
+use Rattle.hall_sql.proofs.UniqueLemmas.{equal_texts, first_not, records_listed}
+
+abbrev of_parts : List ℕ → List ℕ → ℕ → ℕ → ℕ → mode.Mode → ℕ → ℕ → Bool → Bool → Round
+of_parts id title start minutes protest_minutes how penalty bonus released published = record {
+  id = id;
+  title = title;
+  start = start;
+  minutes = minutes;
+  protest_minutes = protest_minutes;
+  mode = how;
+  penalty = penalty;
+  bonus = bonus;
+  released = released;
+  published = published;
+}
+
+-- a round that is read has its id from the first column
+id_read : (a b : Option (List ℕ)) (c d e : Option ℕ) (f : Option mode.Mode) (g h : Option ℕ) (i j : Option Bool)
+    (row : Round)
+    → (a >>= (λ id. b >>= (λ title. c >>= (λ start. d >>= (λ minutes. e >>= (λ protest_minutes. f >>= (λ how.
+    g >>= (λ penalty. h >>= (λ bonus. i >>= (λ released. j >>= (λ published.
+    Some (of_parts id title start minutes protest_minutes how penalty bonus released published)))))))))))) ≡ Some row
+    → a ≡ Some row.id
+id_read None b c d e f g h i j row is = absurd cc
+id_read (Some a) None c d e f g h i j row is = absurd cc
+id_read (Some a) (Some b) None d e f g h i j row is = absurd cc
+id_read (Some a) (Some b) (Some c) None e f g h i j row is = absurd cc
+id_read (Some a) (Some b) (Some c) (Some d) None f g h i j row is = absurd cc
+id_read (Some a) (Some b) (Some c) (Some d) (Some e) None g h i j row is = absurd cc
+id_read (Some a) (Some b) (Some c) (Some d) (Some e) (Some f) None h i j row is = absurd cc
+id_read (Some a) (Some b) (Some c) (Some d) (Some e) (Some f) (Some g) None i j row is = absurd cc
+id_read (Some a) (Some b) (Some c) (Some d) (Some e) (Some f) (Some g) (Some h) None j row is = absurd cc
+id_read (Some a) (Some b) (Some c) (Some d) (Some e) (Some f) (Some g) (Some h) (Some i) None row is = absurd cc
+id_read (Some a) (Some b) (Some c) (Some d) (Some e) (Some f) (Some g) (Some h) (Some i) (Some j) row is =
+    let same : of_parts a b c d e f g h i j ≡ row = cc in
+    ap (λ (x : Round). Some x.id) same
+
+pub id_column : (r : Row) (row : Round) → round_of r ≡ Some row → column r 1 ≡ Text row.id
+id_column r row is =
+    kind_column 1 24 is_word_byte (column r 1) row.id
+    (id_read (name_in (column r 1)) (kind_in 1 60 is_printable (column r 2)) (within 0 4102444800 (column r 3))
+    (within 1 1440 (column r 4)) (within 0 10080 (column r 5)) (mode_in (column r 6)) (within 0 1000 (column r 7))
+    (within 0 1000 (column r 8)) (flag_in (column r 9)) (flag_in (column r 10)) row is)
+
+-- two rows of one id agree on the column of the primary key
+agreeing : (r y : Row) (x z : Round) → round_of r ≡ Some x → round_of y ≡ Some z → x.id ≡ z.id
+    → agree plain (1 ∷ []) y (1 ∷ []) r ≡ true
+unfolding first_key
+agreeing r y x z p q e = rw (id_column r x p, id_column y z q, equal_texts z.id x.id (sym e))
+
+abbrev rounds_there : Table
+rounds_there = record rounds_table { tree = 5 }
+
+-- the table's records are the world's rounds, each once
+rounds_listed : (db : Trees) → AreKeyed (db 5) → IsDatabase (record { schema = hall_schema; trees = db })
+    → IsPermutation (flat_map (λ r. option_to_list (round_of r)) (db 5)) (values (world_of db).rounds)
+rounds_listed db keyed sound =
+    let rule : AllByRecursion (λ row. passes Unique hall_schema db rounds_there row ≡ true) (db 5) =
+    (sound.obeys.rules Unique).1.1.0 in
+    records_listed text_total same_texts (λ (round : Round). round.id) round_of (1 ∷ []) (db 5) keyed agreeing
+    (λ r h. first_not _ _ (all_has _ (db 5) r rule h))
+
+-- ORDER BY id is the order of ids
+same_order : (a b : Row) (x y : Round) → round_of a ≡ Some x → round_of b ≡ Some y
+    → by_order 5 [] round_columns id_order [] a b ≡ text_cmp x.id y.id
+same_order a b x y p q =
+    rw (id_column a x p, id_column b y q, value_cmp-Text x.id y.id, then-Equal (text_cmp x.id y.id))
+
+pub all_rounds_listed : (old new : State) → old.now.schema ≡ hall_schema → AreKeyed (old.now.trees 5) → IsDatabase old.now
+    → (rows : List Row) (out : List Round) → map round_in rows ≡ map Some out → Shown all_rounds_text [] old new rows
+    → out ≡ values (world_of old.now.trees).rounds
+all_rounds_listed old new has keyed sound rows out is shown =
+    let db = old.now.trees in
+    let whole = rounds_listed db keyed (subst (λ s. IsDatabase (record { schema = s; trees = db })) has sound) in
+    values_asked round_in 10 all_rounds_text [] 5 [] round_columns id_order _ all_rounds_is.0 all_rounds_is.1
+    all_rounds_is.2 (λ db. refl) (λ r. refl) (λ _. true) (λ r x h. refl) old new rows out has shown is text_total
+    same_texts (λ (round : Round). round.id) whole same_order
+    ∙ filter_all (λ _. true) (values (world_of db).rounds) (all_of (λ _. true ≡ true) (λ _. refl) _)
