@@ -36,6 +36,7 @@ use Rattle.hall_desk.specs.Lines.{AreLinesOf}
 use Rattle.hall_desk.specs.declared.reply.StateName.TheVariants as name
 use Rattle.hall_store.specs.declared.change.Change.{Change}
 use Rattle.hall_store.specs.declared.change.Change.TheVariants as change
+use Rattle.hall_store.specs.declared.change.RoundFlag.{RoundFlag}
 use Rattle.hall_store.specs.declared.change.RoundFlag.TheVariants as flag
 use Rattle.hall_store.proofs.Knowing.{pure_told, told_turn}
 
@@ -110,35 +111,37 @@ pub served_plan : {E : Type 0} (r : Result Plan E) (new : Content) (t : ℕ) (re
 served_plan (Ok plan) new t request served = inl served
 served_plan (Err fault) new t request served = tt
 
+-- a plan that tells and flags the round of this id tells and flags that of an equal one
+flags_same : (world : World) (caller : Option Person) (asked : Action) (t : ℕ) (says : List ℕ → Reply) (set : RoundFlag) (id shown kept : List ℕ) → shown ≡ id → kept ≡ id →
+    IsAllowedPlan world caller asked t (record { reply = says id; change = change.SetRoundFlag id set }) →
+    IsAllowedPlan world caller asked t (record { reply = says shown; change = change.SetRoundFlag kept set })
+flags_same world caller asked t says set id shown kept same_shown same_kept plan =
+    subst (λ (x : List ℕ). IsAllowedPlan world caller asked t (record { reply = says x; change = change.SetRoundFlag kept set })) (sym same_shown)
+    (subst (λ (x : List ℕ). IsAllowedPlan world caller asked t (record { reply = says id; change = change.SetRoundFlag x set })) (sym same_kept) plan)
+
 -- the plan of a round that is released
 pub released : (world : World) (facts : Facts) (t : ℕ) (id shown kept : List ℕ) (row : RoundRow) →
     shown ≡ id → kept ≡ id → TrueUpTo 20 facts world (action.Release id) → facts.round ≡ Some row →
     IsAllowedPlan world facts.caller (action.Release id) t (record { reply = Released shown; change = change.SetRoundFlag kept flag.Released })
 released world facts t id shown kept row same_shown same_kept told seen =
-    subst (λ (x : List ℕ). TrueUpTo 20 facts world (action.Release id) → IsAllowedPlan world facts.caller (action.Release id) t (record { reply = Released x; change = change.SetRoundFlag kept flag.Released })) (sym same_shown)
-    (subst (λ (x : List ℕ). TrueUpTo 20 facts world (action.Release id) → IsAllowedPlan world facts.caller (action.Release id) t (record { reply = Released id; change = change.SetRoundFlag x flag.Released })) (sym same_kept)
-    (λ all.
-    let at : IsRoundAt world id row = subst (λ (o : Option RoundRow). IsRoundFound world (Some id) o) seen all.1.1.0 in
-    record {
+    let at : IsRoundAt world id row = subst (λ (o : Option RoundRow). IsRoundFound world (Some id) o) seen told.1.1.0 in
+    flags_same world facts.caller (action.Release id) t Released flag.Released id shown kept same_shown same_kept (record {
       allowed = λ found. (row.round, at.head, refl, ap (with_flag world id flag.Released) at.head);
       can = (row.round, at.head);
       quiet = λ reads. absurd reads;
-    })) told
+    })
 
 -- the plan of a round that is published
 pub published : (world : World) (facts : Facts) (t : ℕ) (id shown kept : List ℕ) (row : RoundRow) →
     shown ≡ id → kept ≡ id → TrueUpTo 20 facts world (action.Publish id) → facts.round ≡ Some row →
     IsAllowedPlan world facts.caller (action.Publish id) t (record { reply = Published shown; change = change.SetRoundFlag kept flag.Published })
 published world facts t id shown kept row same_shown same_kept told seen =
-    subst (λ (x : List ℕ). TrueUpTo 20 facts world (action.Publish id) → IsAllowedPlan world facts.caller (action.Publish id) t (record { reply = Published x; change = change.SetRoundFlag kept flag.Published })) (sym same_shown)
-    (subst (λ (x : List ℕ). TrueUpTo 20 facts world (action.Publish id) → IsAllowedPlan world facts.caller (action.Publish id) t (record { reply = Published id; change = change.SetRoundFlag x flag.Published })) (sym same_kept)
-    (λ all.
-    let at : IsRoundAt world id row = subst (λ (o : Option RoundRow). IsRoundFound world (Some id) o) seen all.1.1.0 in
-    record {
+    let at : IsRoundAt world id row = subst (λ (o : Option RoundRow). IsRoundFound world (Some id) o) seen told.1.1.0 in
+    flags_same world facts.caller (action.Publish id) t Published flag.Published id shown kept same_shown same_kept (record {
       allowed = λ found. (row.round, at.head, refl, ap (with_flag world id flag.Published) at.head);
       can = (row.round, at.head);
       quiet = λ reads. absurd reads;
-    })) told
+    })
 
 -- ---- the answers that a caller sees
 and_true : (b : Bool) → (b && true) ≡ b

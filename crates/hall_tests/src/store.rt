@@ -10,7 +10,8 @@ use hall_policy::{
     AnswerKey, AnswerRow, People, Person, PuzzleKey, PuzzleRow, PuzzleState, Roles, RoundId,
     RoundRow, Within,
 };
-use hall_store::{MapStore, RoundFlag, Store};
+use hall_score::Tally;
+use hall_store::{MapStore, RoundFlag, Store, StoreFault};
 use std::alloc::AllocGlobal;
 use std::process::Abort;
 
@@ -684,4 +685,21 @@ fn answers_are_listed_by_entrant_number_and_n(rt: HostRuntime) {
         let listed = tokens(&rt, rows.expect(&rt, "memory").as_slice());
         assert_eq!(rt; listed.as_str(), wanted, "{round}");
     }
+}
+
+#[test]
+fn a_feed_ends_where_its_sink_refuses(rt: HostRuntime) {
+    let mut store = store_with_answers(&rt);
+    let id = text(&rt, "r1");
+    let mut tally = Tally::new(rt.alloc(), round_row(&rt, "r1", ("p1", "p2")));
+    let first = store.feed_answers(rt.alloc(), &id, &mut tally);
+    assert!(rt; first.is_ok());
+    let again = store.feed_answers(rt.alloc(), &id, &mut tally);
+    assert!(rt; matches!(&again, Err(StoreFault::Failed)));
+    let totals = tally.totals().expect(&rt, "memory");
+    let mut names = String::new(rt.alloc());
+    for (name, _) in totals.as_slice() {
+        add_word(&rt, &mut names, name.as_str());
+    }
+    assert_eq!(rt; names.as_str(), "bo bob bobo");
 }
