@@ -1,12 +1,14 @@
 -- What follows from a sane world for entrants and directors.
 use Rattle.std.proofs.Common.{◌≡◌, ◌<◌, ◌++◌, inl, inr, ℕ, List, [], ◌∷◌, length, map, take, drop, min, refl, sym, ap, ◌∙◌, subst, arith}
-use Rattle.std.specs.Prelude.{All, ◌↔◌}
+use Rattle.std.specs.Prelude.{All, IsTrue, ◌↔◌}
+use Rattle.std.proofs.lemmas.Bool.{false≢true}
 use Rattle.std.proofs.lemmas.List.{take-append-drop, length-map, length-take}
 use Rattle.std.proofs.lemmas.List.Elements.{All-head, All-tail, All-take, All-drop}
 use Rattle.hall_grid.specs.declared.board.Kind.{Kind}
 use Rattle.hall_grid.specs.declared.board.Kind.TheVariants.{Sudoku, Slither, Nurikabe}
 use Rattle.hall_grid.specs.declared.board.Size.{Size}
 use Rattle.hall_grid.specs.declared.rule.Rule.TheVariants.{A0}
+use Rattle.hall_grid.specs.Rule.{IsNameSet}
 use Rattle.hall_grid.specs.Board.{Board}
 use Rattle.hall_grid.specs.Slither.{flat_sides}
 use Rattle.hall_grid.specs.Answer.{places_of, values_of, sudoku_byte, slither_byte, nurikabe_byte, text_of, AnswerText, Breaks, Verdict}
@@ -15,7 +17,9 @@ use Rattle.hall_policy.specs.declared.record.PuzzleRow.{PuzzleRow}
 use Rattle.hall_policy.specs.declared.record.PuzzleState.{PuzzleState}
 use Rattle.hall_policy.specs.declared.record.PuzzleState.TheVariants as state
 use Rattle.hall_desk.specs.Sane.{Sane, IsTrueState}
-use Rattle.hall_desk.specs.Promises.{HasUniqueSolutions, NamesNoRule, RightAnswersAreSolutions}
+use Rattle.hall_desk.specs.Judged.{is_solution, IsVerdictOn, NamesNoRule}
+use Rattle.hall_desk.specs.Promises.{HasUniqueSolutions, RightAnswersAreSolutions, VerdictsAreJudged}
+use Rattle.hall_desk.proofs.Answering.{text_decides}
 
 -- the first and the rest of one list
 same_first : (x y : ℕ) (xs ys : List ℕ) → ◌≡◌ {A = List ℕ} (x ∷ xs) (y ∷ ys) → x ≡ y
@@ -101,3 +105,22 @@ right_answers_of puzzle solution answer names (f, written, solves, only) (inr (n
 pub right_answers : (world : World) → Sane world → RightAnswersAreSolutions world
 right_answers world sane key row solution answer names kept is verdict =
     right_answers_of row.puzzle solution answer names (subst (λ (s : PuzzleState). IsTrueState row.puzzle s) is (sane.states key row kept)) verdict
+
+-- a true state's stored solution breaks no rule
+stored_judged : (puzzle : Board) (s : PuzzleState) (answer : List ℕ) (names : ℕ) → IsTrueState puzzle s → IsTrue (is_solution s answer) → IsNameSet names → NamesNoRule names →
+    Verdict puzzle answer names
+stored_judged puzzle (state.One solution) answer names (f, written, solves, only) same set none =
+    inl (
+      f,
+      subst (λ (text : List ℕ). AnswerText puzzle text f) ((text_decides solution answer).0 same) written,
+      record { set = set; each = λ rule. (λ named. absurd (none rule named), λ broken. absurd (solves.right rule broken)) },
+    )
+stored_judged puzzle state.New answer names true_of is set none = absurd (false≢true is)
+stored_judged puzzle state.NoSolution answer names true_of is set none = absurd (false≢true is)
+stored_judged puzzle state.More answer names true_of is set none = absurd (false≢true is)
+stored_judged puzzle state.GaveUp answer names true_of is set none = absurd (false≢true is)
+
+-- so its verdict is the puzzle's rules' own
+pub verdicts_are_judged : (world : World) → Sane world → VerdictsAreJudged world
+verdicts_are_judged world sane key row answer verdict kept (inl (is, set, none)) = stored_judged row.puzzle row.state answer verdict (sane.states key row kept) is set none
+verdicts_are_judged world sane key row answer verdict kept (inr (other, judged)) = judged

@@ -40,6 +40,7 @@ use Rattle.hall_desk.proofs.ReleaseSane.{release_step}
 use Rattle.hall_desk.proofs.Releases.{released_found}
 use Rattle.hall_desk.proofs.ProtestSane.{protest_step, rule_step}
 use Rattle.hall_desk.proofs.PublishSane.{publish_step}
+use Rattle.hall_desk.proofs.Promises.{verdicts_are_judged}
 
 -- the caller is there, under the own name
 caller_there : (world : World) → Sane world → (key : Option (List ℕ)) (person : Person) → caller_of world key ≡ Some person → get world.people person.name ≡ Some person
@@ -67,7 +68,8 @@ verdict_set board text names (inr (none, no_form)) = no_form.set
 submit_step : (world : World) (caller : Option Person) (id : List ℕ) (number : ℕ) (token answer : List ℕ) (t : ℕ) (found : PuzzleState) (given : Reply) (new : World) → Sane world →
     ((person : Person) → caller ≡ Some person → get world.people person.name ≡ Some person) → IsMoment t → IsAction (action.Submit id number token answer) →
     NoneBelow 21 world caller (action.Submit id number token answer) t → Allowed world caller (action.Submit id number token answer) t found given new → Sane new
-submit_step world caller id number token answer t found given new sane there timed asked none (person, is, (round, entry, puzzle, verdict, kept, place, grid, judged, (reply, made))) =
+submit_step world caller id number token answer t found given new sane there timed asked none (person, is, (round, entry, puzzle, verdict, kept, place, grid, told, (reply, made))) =
+    let judged : Verdict puzzle.puzzle answer verdict = verdicts_are_judged world sane entry.puzzle puzzle answer verdict grid told in
     let row : AnswerRow = answer_row world person id number token answer t verdict in
     let fresh : get world.answers row.key ≡ None = elim (get world.answers row.key) as (λ (o : Option AnswerRow). get world.answers row.key ≡ o → o ≡ None) [
       | None ↦ λ e. refl

@@ -3,7 +3,6 @@ use Rattle.std.specs.Prelude.{◌≡◌, ◌⊎◌, ℕ, List, Option, Some, Non
 use Rattle.hall_store.specs.declared.change.Change.TheVariants as change
 use Rattle.hall_store.specs.declared.change.Change.TheVariants.{Nothing}
 use Rattle.std.specs.FinMap.{get}
-use Rattle.hall_grid.specs.Answer.{Verdict}
 use Rattle.hall_policy.specs.World.{World, entry_at}
 use Rattle.hall_policy.specs.Rules.{IsCertified}
 use Rattle.hall_policy.specs.declared.record.Entry.{Entry}
@@ -21,6 +20,7 @@ use Rattle.hall_store.specs.declared.fault.StoreFault.{StoreFault}
 use Rattle.hall_store.specs.declared.fault.StoreFault.TheVariants.{Failed}
 use Rattle.hall_policy.specs.Facts.{TrueUpTo}
 use Rattle.hall_desk.specs.Sane.{Sane}
+use Rattle.hall_desk.specs.Judged.{IsVerdictOn}
 use Rattle.hall_grid.specs.Board.{Board}
 use Rattle.hall_desk.specs.Shown.{state_name}
 use Rattle.hall_desk.specs.declared.reply.StateName.{StateName}
@@ -144,4 +144,4 @@ StandsAs found puzzle None = (row : PuzzleRow) → found ≡ Some row → row.pu
 abbrev pub IsJudgedAt : World → RoundRow → ℕ → List ℕ → ℕ → Type 0
 IsJudgedAt world row number answer verdict =
     (entry : Entry) × (puzzle : PuzzleRow) × (entry_at row.puzzles number ≡ Some entry)
-    × (get world.puzzles entry.puzzle ≡ Some puzzle) × Verdict puzzle.puzzle answer verdict
+    × (get world.puzzles entry.puzzle ≡ Some puzzle) × IsVerdictOn puzzle answer verdict

@@ -1,9 +1,7 @@
 -- What the hall promises to entrants and directors.
 use Rattle.std.specs.Prelude.{◌≡◌, ◌≢◌, ◌↔◌, ◌⊎◌, ◌≤◌, ℕ, List, Option, Some, All}
 use Rattle.std.specs.FinMap.{get}
-use Rattle.hall_grid.specs.declared.rule.Rule.{Rule as Broken}
 use Rattle.hall_grid.specs.Board.{Board}
-use Rattle.hall_grid.specs.Rule.{Names}
 use Rattle.hall_grid.specs.Answer.{Verdict}
 use Rattle.hall_policy.specs.World.{World, protest_of}
 use Rattle.hall_policy.specs.Lists.{ArePeople}
@@ -21,6 +19,7 @@ use Rattle.hall_policy.specs.declared.request.Action.TheVariants.{Submit, Protes
 use Rattle.hall_policy.specs.declared.request.Request.{Request}
 use Rattle.hall_store.specs.Caller.{caller_of}
 use Rattle.hall_store.specs.Maps.{empty_world}
+use Rattle.hall_desk.specs.Judged.{IsVerdictOn, NamesNoRule}
 use Rattle.hall_desk.specs.Sane.{Sane, Solves}
 use Rattle.hall_desk.specs.Shown.{told_verdict}
 use Rattle.hall_desk.specs.Step.{Step, Seed}
@@ -39,16 +38,18 @@ HasUniqueSolutions world =
     (id : List ℕ) (key : PuzzleKey) → StandsReleased world key id → (row : PuzzleRow)
     × (get world.puzzles key ≡ Some row) × HasOneSolution row.puzzle
 
--- the verdict names no rule
-abbrev pub NamesNoRule : ℕ → Type 0
-NamesNoRule names = (rule : Broken) → ¬ (Names names rule)
-
 -- an answer to a certified puzzle is right exactly where it is the text of the stored solution
 abbrev pub RightAnswersAreSolutions : World → Type 0
 RightAnswersAreSolutions world =
     (key : PuzzleKey) (row : PuzzleRow) (solution answer : List ℕ) (names : ℕ) → get world.puzzles key ≡ Some row →
     row.state ≡ state.One solution →
     Verdict row.puzzle answer names → NamesNoRule names ↔ (answer ≡ solution)
+
+-- the verdict on an answer to a kept puzzle, which a stored solution may tell, is that of the puzzle's rules
+abbrev pub VerdictsAreJudged : World → Type 0
+VerdictsAreJudged world =
+    (key : PuzzleKey) (row : PuzzleRow) (answer : List ℕ) (verdict : ℕ) → get world.puzzles key ≡ Some row →
+    IsVerdictOn row answer verdict → Verdict row.puzzle answer verdict
 
 -- a sane world keeps the promises to directors and entrants; the empty world is one; and a list before any request, each
 -- step and each run of the hall, for people, moments and requests of their types, lead from sane worlds to sane ones
@@ -58,6 +59,7 @@ pub record SanityKeepsPromises : Type 0 where
       Sane world → Seed world people given new → Sane new
   pub unique : (world : World) → Sane world → HasUniqueSolutions world
   pub right : (world : World) → Sane world → RightAnswersAreSolutions world
+  pub judged : (world : World) → Sane world → VerdictsAreJudged world
   pub steps : (world new : World) (t : ℕ) (request : Request) (given : Reply) → IsMoment t → IsRequest request →
       Sane world → Step world t request given new → Sane new
   pub runs : (world last : World) (requests : List (ℕ × Request)) (replies : List Reply) → All IsTimed requests →

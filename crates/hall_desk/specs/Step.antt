@@ -3,7 +3,7 @@ use Rattle.std.specs.Prelude.{◌≡◌, ◌≢◌, ◌+◌, ◌⊎◌, ℕ, ℤ
 use Rattle.std.specs.List.{filter}
 use Rattle.std.specs.FinMap.{get, contains_key, insert, values}
 use Rattle.hall_grid.specs.Board.{Board}
-use Rattle.hall_grid.specs.Answer.{AnswerText, Verdict}
+use Rattle.hall_grid.specs.Answer.{AnswerText}
 use Rattle.hall_grid.specs.Canonical.{CanonicalText}
 use Rattle.hall_solve.specs.Puzzle.{OutcomeOfPuzzle}
 use Rattle.hall_solve.specs.declared.outcome.Outcome.TheVariants as outcome
@@ -34,6 +34,7 @@ use Rattle.hall_store.specs.Change.{with_people, relisted}
 use Rattle.hall_store.specs.Store.{IsListing}
 use Rattle.hall_score.specs.Table.{IsTable}
 use Rattle.hall_desk.specs.Totals.{AreTotals}
+use Rattle.hall_desk.specs.Judged.{IsVerdictOn}
 use Rattle.hall_desk.specs.Shown.{state_name, sees_puzzle, puzzle_line, sees_round, round_line, ShowsRound}
 use Rattle.hall_desk.specs.Shown.{sees_answer, shows_verdict, answer_line, told_verdict, AreSolutions}
 use Rattle.hall_desk.specs.Shown.{sees_protest, protest_line}
@@ -160,14 +161,14 @@ answer_row world person round number token answer t verdict = record {
   verdict = verdict;
 }
 
--- the answer is judged by the round's puzzle of that number and stored; the reply tells its number and, in an instant
+-- the answer has its verdict by the round's puzzle of that number and stored; the reply tells its number and, in an instant
 -- round, its verdict
 abbrev pub IsSubmitted : World → Person → List ℕ → ℕ → List ℕ → List ℕ → ℕ → Reply → World → Type 0
 IsSubmitted world person id number token answer t given new =
     (round : Round) × (entry : Entry) × (puzzle : PuzzleRow) × (verdict : ℕ)
     × (get world.rounds id ≡ Some round) × (get world.places (record { round = id; number = number }) ≡ Some entry)
     × (get world.puzzles entry.puzzle ≡ Some puzzle)
-    × Verdict puzzle.puzzle answer verdict
+    × IsVerdictOn puzzle answer verdict
     × (let row : AnswerRow = answer_row world person id number token answer t verdict in
     (given ≡ reply.Received row.n (told_verdict round verdict))
     × (new ≡ record world { answers = insert world.answers row.key row }))

@@ -1,12 +1,12 @@
 //! Submit: an answer to a puzzle of a round is judged and stored.
 ghost use Rattle.std.specs.Prelude.{◌≡◌, ◌+◌, ◌<◌, IfOk, Some};
-ghost use Rattle.hall_grid.specs.Answer.{Verdict};
 ghost use Rattle.hall_policy.specs.World.{entry_at};
 ghost use Rattle.hall_policy.specs.Implies.{EntryIsThere};
 ghost use Rattle.hall_policy.specs.declared.record.Entry.{Entry};
 ghost use Rattle.hall_policy.specs.declared.request.Action.TheVariants.{Submit};
 ghost use Rattle.hall_store.specs.Store.{Asks, Kept, Served, Told, Fails};
 ghost use Rattle.hall_store.specs.declared.change.Change.{Change};
+ghost use Rattle.hall_desk.specs.Judged.{is_solution, IsVerdictOn};
 ghost use Rattle.hall_desk.specs.Sane.{Sane};
 ghost use Rattle.hall_desk.specs.Shown.{told_verdict};
 ghost use Rattle.hall_desk.specs.Handler.{handed_action, handed_key, handed_row, IsAnswerOf, IsCountOf};
@@ -19,7 +19,8 @@ use crate::verdict::judge;
 use hall_grid::Broken;
 use hall_policy::{
     Action, AnswerKey, AnswerNumber, AnswerRow, AnswerText, Decision, Entry, Facts, Mode, Moment,
-    Person, PuzzleNumber, PuzzleRow, Round, RoundId, RoundRow, Rule, Token, decide, decide_up_to,
+    Person, PuzzleNumber, PuzzleRow, PuzzleState, Round, RoundId, RoundRow, Rule, Token, decide,
+    decide_up_to,
 };
 use hall_store::{Change, Store, StoreFault};
 use std::alloc::{AllocError, Global};
@@ -229,11 +230,26 @@ fn judge_at<S: Store>(
     Ok(judge_row(alloc, &found, answer)?)
 }
 
-/// The verdict on an answer to a puzzle.
+/// The verdict on an answer to a puzzle: the text of the stored solution is right, and any other is judged.
 fn judge_row(alloc: Global, row: &PuzzleRow, answer: &AnswerText) -> Result<Broken, AllocError>
-    ensures { IfOk result (Verdict row.now.puzzle answer.now) }
+    ensures { IfOk result (IsVerdictOn row.now answer.now) }
 {
+    if is_stored(&row.state, answer) {
+        return Ok(Broken::new());
+    }
     judge(alloc, &row.puzzle, answer.as_str().as_bytes())
+}
+
+/// Whether the text is that of the stored solution.
+fn is_stored(state: &PuzzleState, answer: &AnswerText) -> bool
+    ensures { result ≡ is_solution state.now answer.now }
+{
+    match state {
+        PuzzleState::One(solution) => solution == answer,
+        PuzzleState::New | PuzzleState::NoSolution | PuzzleState::More | PuzzleState::GaveUp => {
+            false
+        }
+    }
 }
 
 /// The round's puzzle of that number, which is there.
