@@ -45,7 +45,7 @@ RightAnswersAreSolutions world =
     row.state ≡ state.One solution →
     Verdict row.puzzle answer names → NamesNoRule names ↔ (answer ≡ solution)
 
--- the verdict on an answer to a kept puzzle, which a stored solution may tell, is that of the puzzle's rules
+-- the verdict on an answer to a kept puzzle, told by its stored solution or by the judge, is that of the puzzle's rules
 abbrev pub VerdictsAreJudged : World → Type 0
 VerdictsAreJudged world =
     (key : PuzzleKey) (row : PuzzleRow) (answer : List ℕ) (verdict : ℕ) → get world.puzzles key ≡ Some row →

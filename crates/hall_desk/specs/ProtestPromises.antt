@@ -16,8 +16,8 @@ abbrev pub IsAgain : ℕ → List ℕ → ℕ → List ℕ → Type 0
 IsAgain number text again_number again_text = (number ≡ again_number) × (text ≡ again_text)
 
 -- the reply to the request of an accepted protest when it comes again, or comes with another number or text: no
--- service; for another number alone, which the round doesn't have, the denial of rule 4; for another number or text
--- alone, where the round has the number, the denial of the token's rule; for the same of both alone, the first reply
+-- service; the denial of rule 4, only for another number, which the round doesn't have; the denial of the token's rule,
+-- only for another number or text, where the round has the number; the first reply, only for the same number and text
 abbrev pub IsProtestRetryOf : World → List ℕ → List ℕ → ℕ → List ℕ → ℕ → List ℕ → Reply → Type 0
 IsProtestRetryOf world id token number text again_number again_text given =
     (given ≡ reply.Unavailable)

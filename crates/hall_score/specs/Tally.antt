@@ -90,7 +90,8 @@ TakesProtest before row after =
     × ((round : RoundRow) (protests : List ProtestRow) →
     IsTallyOf round protests [] before → IsTallyOf round (protests ++ row ∷ []) [] after)
 
--- whatever protests the tally has taken, and no answers, 4,294,967,295 of them are the entrant's
+-- the tally has taken an answer, or 4,294,967,295 protests of the entrant: whatever protests it has taken, and no
+-- answers, so many of them are the entrant's
 abbrev pub RefusesProtest : Tally → ProtestRow → Type 0
 RefusesProtest tally row =
     (round : RoundRow) (protests : List ProtestRow) →

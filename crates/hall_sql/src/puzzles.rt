@@ -128,7 +128,7 @@ fn in_range(key: &PuzzleKey)
 
 const LOOK: &str = "SELECT author FROM puzzles WHERE author = ?1 AND label = ?2";
 
-/// How many rows stand under the key: none or one, unless the table is no world's.
+/// How many rows stand under the key: none or one.
 fn look<S: Alter>(conn: &mut Connection<S>, key: &PuzzleKey) -> Result<usize, StoreFault>
     requires hall { IsHall (state S.Store conn.old) }
     ensures rested { Rested (state S.Store conn.old) (state S.Store conn.new) }

@@ -330,7 +330,7 @@ pub(crate) fn read_all<T: Record + Drop>(alloc: Global, rows: &[Row]) -> Result<
     Ok(records)
 }
 
-/// The one record, if there is any. More than one under a key is no world.
+/// The one record, if there is any. More than one under a key is refused.
 pub(crate) fn at_most_one<T: Drop>(mut records: Vec<T>) -> Result<Option<T>, StoreFault>
     ensures { IfOk result (λ one. (length records.items ≤ 1) × (one ≡ slice_get records.items 0)) }
 {

@@ -7,7 +7,7 @@ use std::alloc::AllocError;
 pub enum StoreFault {
     /// No memory was left.
     Memory,
-    /// The store refused, or what it keeps is no world of the hall.
+    /// The store refused, or a sink did, or what is kept is no world of the hall.
     Failed,
 }
 

@@ -13,7 +13,7 @@ use std::alloc::Global;
 /// A read may change what keeps the world, as a connection is, and leaves the world. What a call says of its answer and
 /// of what it leaves holds where the device was honest, and, where the call is refused, while the store still serves: a
 /// store that a fault of its device has shut answers nothing more.
-/// A call is refused for want of memory, or as failed, which only a store that can fail does.
+/// A call is refused for want of memory, or as failed: by a store that can fail, or, where rows are fed, by the sink.
 pub trait Store: Drop {
     ghost use Rattle.std.specs.Prelude.{◌≡◌, ◌↔◌, ◌⊎◌, IsTrue, IfErr};
     ghost use Rattle.std.specs.FinMap.{get, values};
