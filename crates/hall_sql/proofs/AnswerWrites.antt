@@ -39,7 +39,7 @@ use Rattle.hall_sql.proofs.KeyedLemmas.{keyed_after, added_keyed}
 use Rattle.hall_sql.proofs.MapLemmas.{put_new}
 use Rattle.hall_sql.proofs.WriteLemmas.{writes_hall, same_worlds, cast_null, cast_number}
 
-is_within : (least most n : ℕ) → IsWithin least most n → nat_le least n && nat_le n most ≡ true
+pub is_within : (least most n : ℕ) → IsWithin least most n → nat_le least n && nat_le n most ≡ true
 is_within least most n h = and_from _ _ (le-leb _ _ h.0) (le-leb _ _ h.1)
 
 -- they are read as the answer, whatever its rowid is

@@ -31,5 +31,6 @@ pub mod PuzzleWrites
 pub mod ProtestTexts
 pub mod ProtestLemmas
 pub mod ProtestOpen
+pub mod ProtestWrites
 pub mod RoundTexts
 pub mod RoundLemmas

@@ -131,7 +131,7 @@ agreeing r y x z p q e =
       equal_texts z.key.token x.key.token (ap (λ (k : ProtestKey). k.token) (sym e)),
     )
 
-abbrev protests_there : Table
+abbrev pub protests_there : Table
 protests_there = record protests_table { tree = 12 }
 
 -- the table's records are the world's protests, each once

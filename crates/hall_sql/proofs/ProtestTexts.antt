@@ -2,16 +2,18 @@
 use Rattle.std.proofs.Common.{◌≡◌, List, ℕ, pos, codes, refl, false, [], ◌∷◌}
 use Rattle.sqlite_tied.specs.Compute.{everything}
 use Rattle.sqlite_value.specs.declared.keys.Key.{Key}
-use Rattle.sqlite.specs.declared.types.Value.TheVariants.{Int}
+use Rattle.sqlite.specs.declared.types.Value.TheVariants.{Null, Int}
 use Rattle.sqlite_sql.specs.declared.ops.BinaryOp.TheVariants.{Compare}
 use Rattle.sqlite_sql.specs.declared.ops.CompareOp.TheVariants.{Eq}
 use Rattle.sqlite.specs.Collation.TheVariants.{Binary}
 use Rattle.sqlite.specs.Term.{Term, col, lit, op2}
 use Rattle.sqlite.specs.Listing.{understood, reads_listing}
-use Rattle.sqlite.specs.Command.TheVariants.{Select}
+use Rattle.sqlite.specs.Source.TheVariants.{Values}
+use Rattle.sqlite.specs.Command.TheVariants.{Select, Insert}
 use Rattle.sqlite.proofs.Callers.{IsPlain, command_of}
 use Rattle.hall_sql.specs.Tables.{hall_schema}
 use Rattle.hall_sql.specs.Statements.{plain_query, protest_text, protests_of_text, protests_in_text, open_protests_text}
+use Rattle.hall_sql.specs.Statements.{add_protest_text}
 use Rattle.hall_sql.proofs.PeopleTexts.{equals, rising}
 
 abbrev pub protest_columns : List Term
@@ -57,3 +59,12 @@ pub open_protests_is : (command_of (understood hall_schema open_protests_text)
     × (reads_listing hall_schema open_protests_text ≡ false) × IsPlain (understood hall_schema open_protests_text)
 unfolding understood everything
 open_protests_is = (refl, refl, (refl, refl))
+
+-- the rowid that is chosen, and each parameter
+abbrev pub added_terms : List Term
+added_terms = lit Null ∷ col 0 0 ∷ col 0 1 ∷ col 0 2 ∷ col 0 3 ∷ col 0 4 ∷ col 0 5 ∷ col 0 6 ∷ []
+
+pub add_protest_is : (command_of (understood hall_schema add_protest_text) ≡ Insert 5 (Values added_terms 8))
+    × IsPlain (understood hall_schema add_protest_text)
+unfolding understood everything
+add_protest_is = (refl, (refl, refl))

@@ -1,5 +1,5 @@
 -- From what a statement that writes leaves to what the trait of stores says.
-use Rattle.std.proofs.Common.{◌≡◌, ◌≤◌, ℕ, pos, List, Bool, true, false, cond, if◌then◌else◌, IsTrue, Result, Ok, Err, None, refl, sym, ap, ◌∙◌, arith}
+use Rattle.std.proofs.Common.{◌≡◌, ◌≤◌, ℕ, ℤ, pos, List, Bool, true, false, cond, if◌then◌else◌, IsTrue, Result, Ok, Err, None, refl, sym, ap, ◌∙◌, arith}
 use Rattle.sqlite_trees.specs.View.{doubt}
 use Rattle.sqlite.specs.declared.types.Value.{Value}
 use Rattle.sqlite.specs.declared.types.Value.TheVariants.{Null, Int}
@@ -126,3 +126,7 @@ cast_null = either _ Null
 pub cast_number : (n : ℕ) → cast Integer (Int (pos n)) ≡ Int (pos n)
 unfolding unary
 cast_number n = either _ (Int (pos n))
+
+pub cast_int : (z : ℤ) → cast Integer (Int z) ≡ Int z
+unfolding unary
+cast_int z = either _ (Int z)

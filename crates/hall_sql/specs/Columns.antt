@@ -1,5 +1,5 @@
 -- The columns that a record is written in, and the rows under its key.
-use Rattle.std.specs.Prelude.{◌≡◌, ℕ, pos, Bool, List, [], ◌∷◌, length}
+use Rattle.std.specs.Prelude.{◌≡◌, ℕ, pos, Bool, List, [], ◌∷◌, length, Option, Some, None}
 use Rattle.std.specs.List.{filter, list_all}
 use Rattle.sqlite.specs.declared.types.Value.TheVariants.{Int, Text}
 use Rattle.sqlite.specs.Order.{Row}
@@ -13,6 +13,10 @@ use Rattle.hall_policy.specs.declared.record.PuzzleRow.{PuzzleRow}
 use Rattle.hall_policy.specs.declared.record.PuzzleState.{PuzzleState}
 use Rattle.hall_policy.specs.declared.record.PuzzleState.TheVariants.{New, One, NoSolution, More, GaveUp}
 use Rattle.hall_policy.specs.declared.record.AnswerRow.{AnswerRow}
+use Rattle.hall_policy.specs.declared.record.ProtestRow.{ProtestRow}
+use Rattle.hall_policy.specs.declared.record.Ruling.{Ruling}
+use Rattle.hall_policy.specs.declared.record.Ruling.TheVariants.{Upheld, Rejected}
+use Rattle.hall_policy.specs.World.{ruling_points}
 
 -- the columns of an answer: entrant, round, number, token, n, moment, answer, verdict
 abbrev pub answer_params : AnswerRow → Row
@@ -51,3 +55,15 @@ stands_under key row =
 -- so many rows of the table of puzzles stand under the key
 abbrev pub HasSoMany : PuzzleKey → State → ℕ → Type 0
 HasSoMany key s count = length (filter (stands_under key) (s.now.trees 3)) ≡ count
+
+-- the code of a ruling: 0 open, 1 upheld, 2 rejected
+abbrev pub ruling_code : Option Ruling → ℕ
+ruling_code None = 0
+ruling_code (Some (Upheld points)) = 1
+ruling_code (Some Rejected) = 2
+
+-- the columns of a protest: entrant, round, token, number, body, ruling, points
+abbrev pub protest_params : ProtestRow → Row
+protest_params row =
+    Text row.key.entrant ∷ Text row.key.round ∷ Text row.key.token ∷ Int (pos row.number) ∷ Text row.text
+    ∷ Int (pos (ruling_code row.ruling)) ∷ Int (ruling_points row.ruling) ∷ []

@@ -117,3 +117,9 @@ abbrev pub open_protests_text : List ℕ
 open_protests_text =
     codes "SELECT entrant, round, token, number, body, ruling, points FROM protests "
     ++ codes "WHERE round = ?1 AND ruling = 0"
+
+-- one more protest
+abbrev pub add_protest_text : List ℕ
+add_protest_text =
+    codes "INSERT INTO protests (entrant, round, token, number, body, ruling, points) "
+    ++ codes "VALUES (?1, ?2, ?3, ?4, ?5, ?6, ?7)"

@@ -1,14 +1,22 @@
 //! The table of protests.
-ghost use Rattle.std.specs.Prelude.{◌≡◌, ◌↔◌, IsTrue};
+ghost use Rattle.std.specs.Prelude.{◌≡◌, ◌≤◌, ◌↔◌, IsTrue, Ok, IfOk, IfSome, OnErr};
 ghost use Rattle.std.specs.FinMap.{get};
+ghost use Rattle.sqlite_trees.specs.View.{doubt};
 ghost use Rattle.sqlite.specs.Held.{state};
+ghost use Rattle.sqlite.specs.State.{HasCleanDisk, Executes};
+ghost use Rattle.hall_policy.specs.Ranges.{IsProtestRow, IsRuling};
 ghost use Rattle.hall_policy.specs.Rules.{protests_made};
-ghost use Rattle.hall_store.specs.Store.{Served, IsProtestOpen, protests_of, protests_in};
-ghost use Rattle.hall_sql.specs.Standing.{IsHall, Rested, content_of};
+ghost use Rattle.hall_policy.specs.World.{ruling_points};
+ghost use Rattle.hall_store.specs.Store.{Served, IsProtestOpen, Asks, protests_of, protests_in};
+ghost use Rattle.hall_store.specs.Change.{CanAddProtest};
+ghost use Rattle.hall_store.specs.declared.change.Change.TheVariants.{AddProtest};
+ghost use Rattle.hall_sql.specs.Statements.{add_protest_text};
+ghost use Rattle.hall_sql.specs.Columns.{protest_params, ruling_code};
+ghost use Rattle.hall_sql.specs.Standing.{IsHall, Rested, Wrote, content_of};
 
-use crate::calls::ask;
+use crate::calls::{ask, run};
 use crate::record::{at_most_one, read_all};
-use hall_policy::{Name, ProtestKey, ProtestRow, RoundId};
+use hall_policy::{Name, ProtestKey, ProtestRow, RoundId, Ruling};
 use hall_store::StoreFault;
 use sqlite::{Alter, Connection, params};
 use std::alloc::Global;
@@ -109,4 +117,81 @@ pub(crate) fn has_open_protest<S: Alter>(
     let _schema = conn.schema();
     let rows = ask(conn, OPEN_PROTESTS, params![round.as_str()])?;
     Ok(!read_all::<ProtestRow>(alloc, &rows)?.is_empty())
+}
+
+/// The code of a ruling; 0 while the protest is open.
+fn ruling_code(ruling: &Option<Ruling>) -> u32
+    ensures { result ≡ ruling_code ruling.now }
+{
+    match ruling {
+        None => 0,
+        Some(Ruling::Upheld(_)) => 1,
+        Some(Ruling::Rejected) => 2,
+    }
+}
+
+/// The points of a ruling, and 0 where it has none.
+fn points_of(ruling: &Option<Ruling>) -> i32
+    ensures value { result ≡ ruling_points ruling.now }
+    ensures in_range { IfSome ruling.now IsRuling }
+{
+    match ruling {
+        Some(Ruling::Upheld(points)) => i32::from(points.get()),
+        Some(Ruling::Rejected) | None => 0,
+    }
+}
+
+/// Tells a proof that the protest lies in the ranges of its types.
+fn in_range(row: &ProtestRow)
+    ensures { IsProtestRow row.now }
+{
+    let _entrant = row.key.entrant.as_str();
+    let _round = row.key.round.as_str();
+    let _token = row.key.token.as_str();
+    let _number = row.number.get();
+    let _text = row.text.as_str();
+    let _points = points_of(&row.ruling);
+}
+
+const ADD_PROTEST: &str =
+    "INSERT INTO protests (entrant, round, token, number, body, ruling, points) \
+    VALUES (?1, ?2, ?3, ?4, ?5, ?6, ?7)";
+
+/// Writes the columns of a protest.
+fn write<S: Alter>(conn: &mut Connection<S>, row: &ProtestRow) -> Result<usize, StoreFault>
+    requires hall { IsHall (state S.Store conn.old) }
+    ensures clean { doubt (state S.Store conn.old).is_clean ≤ doubt (state S.Store conn.new).is_clean }
+    ensures refused { OnErr result (Rested (state S.Store conn.old) (state S.Store conn.new)) }
+    ensures runs { HasCleanDisk (state S.Store conn.new) → IfOk result (λ count.
+        Executes add_protest_text (protest_params row.now) (state S.Store conn.old) (state S.Store conn.new) (Ok count)) }
+{
+    run(
+        conn,
+        ADD_PROTEST,
+        params![
+            row.key.entrant.as_str(),
+            row.key.round.as_str(),
+            row.key.token.as_str(),
+            row.number.get() as u32,
+            row.text.as_str(),
+            ruling_code(&row.ruling),
+            points_of(&row.ruling)
+        ],
+    )
+}
+
+/// Stores one more protest.
+pub(crate) fn add_protest<S: Alter>(
+    conn: &mut Connection<S>,
+    row: &ProtestRow,
+) -> Result<(), StoreFault>
+    requires hall { IsHall (state S.Store conn.old) }
+    requires can { Asks (content_of (state S.Store conn.old)) (λ world. CanAddProtest world row.now) }
+    ensures { Wrote (AddProtest row.now) (state S.Store conn.old) (state S.Store conn.new) result }
+{
+    in_range(row);
+    match write(conn, row) {
+        Ok(_) => Ok(()),
+        Err(fault) => Err(fault),
+    }
 }

@@ -1,0 +1,107 @@
+-- What the statements that write a protest leave.
+use Rattle.std.proofs.Common.{◌≡◌, ◌≢◌, ℕ, pos, negsuc, [], ◌∷◌, flat_map, option_to_list, true, IsTrue, Option, Some, None, IfSome, Ok, refl, ap, arith}
+use Rattle.std.specs.Prelude.{nat_le}
+use Rattle.std.proofs.lemmas.Bool.{le-leb}
+use Rattle.std.proofs.lemmas.Int.{ints}
+use Rattle.std.specs.List.{AllByRecursion}
+use Rattle.std.specs.FinMap.{FinMap, from_entries, get, insert}
+use Rattle.sqlite.specs.declared.types.Value.{Value}
+use Rattle.sqlite.specs.declared.types.Value.TheVariants.{Null, Int}
+use Rattle.sqlite_value.specs.Keys.{joined}
+use Rattle.sqlite_schema.specs.Names.{same_name}
+use Rattle.sqlite_schema.specs.declared.schema.Keys.TheVariants.{Enforced}
+use Rattle.sqlite_rules.specs.Action.{works}
+use Rattle.sqlite_rules.specs.Cast.{cast_row}
+use Rattle.sqlite_rules.specs.Edit.{next_rowid}
+use Rattle.sqlite.specs.Order.{Row}
+use Rattle.sqlite.specs.Table.{Table}
+use Rattle.sqlite.specs.Tree.{Trees}
+use Rattle.sqlite.specs.Source.TheVariants.{Values}
+use Rattle.sqlite.specs.Command.TheVariants.{Insert}
+use Rattle.sqlite.specs.State.{State, HasCleanDisk, Executes}
+use Rattle.sqlite.proofs.Callers.{runs_as}
+use Rattle.hall_policy.specs.Text.{text_cmp, is_word_byte, is_printable}
+use Rattle.hall_policy.specs.World.{puzzle_cmp, answer_cmp, protest_cmp, ruling_points}
+use Rattle.hall_policy.specs.Ranges.{IsProtestRow, IsRuling}
+use Rattle.hall_policy.specs.declared.record.ProtestRow.{ProtestRow}
+use Rattle.hall_policy.specs.declared.record.Ruling.{Ruling}
+use Rattle.hall_policy.specs.declared.record.Ruling.TheVariants.{Upheld, Rejected}
+use Rattle.hall_policy.proofs.Orders.{protest_total, same_protest_keys}
+use Rattle.hall_policy.proofs.Reading.{kind_holds}
+use Rattle.hall_store.specs.declared.change.Change.TheVariants.{AddProtest}
+use Rattle.hall_sql.specs.Tables.{hall_schema}
+use Rattle.hall_sql.specs.Statements.{add_protest_text}
+use Rattle.hall_sql.specs.Values.{ruling_in}
+use Rattle.hall_sql.specs.Columns.{protest_params, ruling_code}
+use Rattle.hall_sql.specs.Rows.{kept, person_of, puzzle_row_of, round_of, place_of, answer_of, protest_of, world_of}
+use Rattle.hall_sql.specs.Standing.{IsHall, HasMade}
+use Rattle.hall_sql.proofs.AnswerWrites.{is_within}
+use Rattle.hall_sql.proofs.ProtestTexts.{added_terms, add_protest_is}
+use Rattle.hall_sql.proofs.ProtestLemmas.{protests_there}
+use Rattle.hall_sql.proofs.CallLemmas.{executed_open}
+use Rattle.hall_sql.proofs.InsertLemmas.{inserts}
+use Rattle.hall_sql.proofs.KeyedLemmas.{keyed_after, added_keyed}
+use Rattle.hall_sql.proofs.MapLemmas.{put_new}
+use Rattle.hall_sql.proofs.WriteLemmas.{writes_hall, same_worlds, cast_null, cast_number, cast_int}
+
+-- a ruling is read from its code and its points
+ruling_reads : (ruling : Option Ruling) → IfSome ruling IsRuling → ruling_in (Int (pos (ruling_code ruling))) (Int (ruling_points ruling)) ≡ Some ruling
+ruling_reads None is = refl
+ruling_reads (Some (Upheld (pos n))) is = let most : nat_le n 1000 ≡ true = le-leb _ _ (let h = is.1 in omega (arith, ints)) in rw most
+ruling_reads (Some (Upheld (negsuc n))) is = let most : nat_le n 999 ≡ true = le-leb _ _ (let h = is.0 in omega (arith, ints)) in rw most
+ruling_reads (Some Rejected) is = refl
+
+-- they are read as the protest, whatever its rowid is
+protest_reads : (row : ProtestRow) → IsProtestRow row → (id : Value) → protest_of (id ∷ protest_params row) ≡ Some row
+protest_reads row is id = rw (
+  kind_holds 1 24 is_word_byte row.key.entrant is.key.entrant,
+  kind_holds 1 24 is_word_byte row.key.round is.key.round,
+  kind_holds 1 32 is_word_byte row.key.token is.key.token,
+  is_within 1 99 row.number is.number,
+  kind_holds 1 200 is_printable row.text is.text,
+  ruling_reads row.ruling is.ruling,
+)
+
+protest_casts : (row : ProtestRow) → cast_row protests_there (Null ∷ protest_params row) ≡ Null ∷ protest_params row
+protest_casts row = rw (cast_null, cast_number row.number, cast_number (ruling_code row.ruling), cast_int (ruling_points row.ruling))
+
+-- no foreign key acts
+quiet : (new : Row) → works hall_schema Enforced 0 12 [] (new ∷ []) ≡ []
+unfolding same_name joined
+quiet new = refl
+
+-- where the table of protests alone was written, the protests alone are changed
+protests_alone : (old new : Trees) (protests : FinMap protest_cmp ProtestRow)
+    → AllByRecursion (λ (t : Table). t.tree ≢ 12 → new t.tree ≡ old t.tree) hall_schema.tables
+    → kept protest_cmp (λ (row : ProtestRow). row.key) protest_of (new 12) ≡ protests
+    → world_of new ≡ record (world_of old) { protests = protests }
+protests_alone old new protests others is =
+    same_worlds (world_of new) (record (world_of old) { protests = protests })
+    (ap (kept text_cmp (λ person. person.name) person_of) (others.0 (λ same. absurd (omega (arith, same)))))
+    (ap (kept puzzle_cmp (λ row. row.key) puzzle_row_of) (others.1.0 (λ same. absurd (omega (arith, same)))))
+    (ap (kept text_cmp (λ round. round.id) round_of) (others.1.1.0 (λ same. absurd (omega (arith, same)))))
+    (ap (λ rows. from_entries (flat_map (λ row. option_to_list (place_of row)) rows)) (others.1.1.1.0 (λ same. absurd (omega (arith, same)))))
+    (ap (kept answer_cmp (λ row. row.key) answer_of) (others.1.1.1.1.0 (λ same. absurd (omega (arith, same)))))
+    is
+
+-- the INSERT of a protest under a new key
+pub protest_added : (row : ProtestRow) → IsProtestRow row → (old new : State) (count : ℕ) → IsHall old → HasCleanDisk old
+    → (IsTrue old.is_open → get (world_of old.now.trees).protests row.key ≡ None)
+    → Executes add_protest_text (protest_params row) old new (Ok count) → HasMade (AddProtest row) old new
+protest_added row is old new count hall clean fresh ran =
+    let params = protest_params row in
+    let mode = hall.autocommit clean in
+    let was = executed_open old new add_protest_text params count mode ran in
+    let has = (hall.settled clean was).1 in
+    let keyed = hall.keyed clean was in
+    let w = runs_as add_protest_text params old new hall_schema has (Insert 5 (Values added_terms 8)) add_protest_is.0 add_protest_is.1 count ran in
+    let it = inserts hall_schema 5 protests_there refl refl added_terms 8 params (Null ∷ params) params refl refl (protest_casts row) quiet old new _ count has w in
+    let id = next_rowid (old.now.trees 12) in
+    let after = added_keyed id params (old.now.trees 12) (new.now.trees 12) it.put it.free keyed.1.1.1.1.1.0 in
+    record {
+      hall = writes_hall old new _ _ _ count mode w it.same (keyed_after 12 old.now.trees new.now.trees hall_schema.tables after it.others keyed);
+      was_open = was;
+      serves = w.shown.is_open;
+      world = protests_alone old.now.trees new.now.trees (insert (world_of old.now.trees).protests row.key row) it.others
+          (put_new protest_total same_protest_keys (λ (x : ProtestRow). x.key) protest_of row (Int id ∷ params) (old.now.trees 12) (new.now.trees 12) it.put (protest_reads row is (Int id)) it.free (fresh was));
+    }
