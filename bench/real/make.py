@@ -1,0 +1,113 @@
+#!/usr/bin/env python3
+"""Makes bench/real/NAME.txt: boards in the sizes that federations print, with one solution each, and their answers.
+
+    python3 bench/real/make.py NAME [SEED]
+
+A random solution is made first; then clues are taken away one after another, in random order, while a SAT solver
+(Debian's `picosat`) finds no second solution. Our own solver is not asked. What comes is kept, hard or easy.
+"""
+import os
+import random
+import sys
+
+HERE = os.path.dirname(os.path.abspath(__file__))
+sys.path.insert(0, os.path.dirname(HERE))
+from real.nurikabe import Nurikabe, random_board
+from real.sat import Solver, search
+from real.slither import Slither
+from real.sudoku import Sudoku
+
+# the kind, the columns and rows, how many boards, and the least share of the clues that is kept
+SETS = {
+    "sudoku9": ("sudoku", (9, 9), 40, 0),
+    "sudoku16": ("sudoku", (16, 16), 20, 0),
+    "slither15": ("slither", (15, 15), 12, 0.4),
+    "slither20": ("slither", (20, 20), 12, 0.4),
+    "slither25": ("slither", (25, 25), 12, 0.4),
+    "slither30": ("slither", (30, 30), 12, 0.4),
+    "slither40": ("slither", (40, 25), 6, 0.4),
+    "nurikabe10": ("nurikabe", (10, 10), 20, 0),
+    "nurikabe15": ("nurikabe", (15, 15), 12, 0),
+    "nurikabe20": ("nurikabe", (20, 20), 12, 0),
+}
+LARGEST_ISLAND = 12
+MOVES = 40
+# hundredths of the walls that are tried to be taken away again: the more, the larger the islands
+WALLS_TAKEN = (0, 10, 20, 30)
+
+
+def begin(name, size, rng):
+    """A kind, its clauses, a random solution and its clues."""
+    solver = Solver(rng.randrange(1 << 30))
+    if name == "nurikabe":
+        solution, clues = random_board(*size, LARGEST_ISLAND, rng.choice(WALLS_TAKEN), rng)
+        move_numbers(size, solution, clues, rng)
+        kind = Nurikabe(*size, clues)
+        kind.encode(solver)
+        return kind, solver, solution, list(clues)
+    if name == "slither":
+        kind = Slither(*size)
+        kind.encode(solver)
+        solution = kind.random_solution(rng)
+    else:
+        kind = Sudoku(size[0])
+        kind.encode(solver)
+        first = rng.sample(range(size[0]), size[0])
+        solution = search(kind, solver, [], [kind.at[c][v] for c, v in enumerate(first)])
+    return kind, solver, solution, kind.clues_of(solution)
+
+
+def move_numbers(size, solution, clues, rng):
+    """Moves a number to a cell that is a wall in a second solution, as long as there is one, and for a while at most."""
+    for _ in range(MOVES):
+        kind = Nurikabe(*size, clues)
+        solver = Solver(rng.randrange(1 << 30))
+        kind.encode(solver)
+        second = search(kind, solver, [solution], assumed(kind, solver, clues))
+        solver.close()
+        if second is None:
+            return
+        cell = rng.choice([c for c, on in enumerate(solution) if second[c] and not on])
+        island = next(g for g in kind.groups([c for c, on in enumerate(solution) if not on]) if cell in g)
+        root = next(c for c in island if clues[c] is not None)
+        clues[root], clues[cell] = None, clues[root]
+
+
+def assumed(kind, solver, clues):
+    return [it for place, clue in enumerate(clues) for it in kind.literals(solver, place, clue)]
+
+
+def board(name, size, share, rng):
+    """A puzzle text with one solution, and its answer; None where even all clues leave a second one."""
+    kind, solver, solution, clues = begin(name, size, rng)
+    kind.block(solver, solution)
+    is_one = lambda: search(kind, solver, [], assumed(kind, solver, clues)) is None
+    made = None
+    if is_one():
+        for place in rng.sample(range(len(clues)), len(clues)):
+            if sum(clue is not None for clue in clues) <= share * len(clues):
+                break
+            for clue in kind.weaker(clues[place]):
+                kept, clues[place] = clues[place], clue
+                if not is_one():
+                    clues[place] = kept
+        made = kind.text(clues), kind.answer(solution)
+    solver.close()
+    return made
+
+
+def main():
+    name, seed = sys.argv[1], int(sys.argv[2]) if len(sys.argv) > 2 else 1
+    kind, size, count, share = SETS[name]
+    rng = random.Random(f"{name} {seed}")
+    with open(os.path.join(HERE, name + ".txt"), "w") as out:
+        made = 0
+        while made < count:
+            found = board(kind, size, share, rng)
+            if found:
+                print(*found, file=out, flush=True)
+                made += 1
+                print(name, made, file=sys.stderr)
+
+
+main()
