@@ -16,21 +16,11 @@ import random
 import subprocess
 import sys
 
+from real.slither import STEPS, keeps_a_loop
+
 PROGRAM = os.path.join(os.path.dirname(os.path.abspath(__file__)), "..", "crates", "hall", "out", "hall")
 # the side, how many boards, and the least share of cells with a number
 BOARDS = [(7, 12, 0.0), (8, 6, 0.5), (10, 12, 0.0), (10, 6, 0.5), (12, 6, 0.0), (13, 4, 0.5), (15, 4, 0.0), (15, 4, 0.5), (20, 2, 0.2)]
-STEPS = ((0, 1), (1, 0), (0, -1), (-1, 0))
-RING = ((-1, -1), (-1, 0), (-1, 1), (0, 1), (1, 1), (1, 0), (1, -1), (0, -1))
-
-
-def keeps_a_loop(region, cell):
-    """Whether the rim of the region with one more cell is one loop that touches itself nowhere."""
-    row, col = cell
-    ring = [(row + down, col + right) in region for down, right in RING]
-    if sum(ring[i] != ring[(i + 1) % 8] for i in range(8)) != 2:
-        return False
-    corners = ((0, 7, 1), (2, 1, 3), (4, 3, 5), (6, 5, 7))
-    return not any(ring[at] and not ring[left] and not ring[right] for at, left, right in corners)
 
 
 def region_of(side, rng):
