@@ -27,7 +27,8 @@ abbrev pub protests_by : List ℕ → List ProtestRow → List ProtestRow
 protests_by entrant = filter (λ row. same_text row.key.entrant entrant)
 
 -- the entrants with an answer among these, each once and in the order of names, each with the total of the own rows
-pub record AreTotalsOf (round : RoundRow) (protests : List ProtestRow) (answers : List AnswerRow) (totals : List (List ℕ × ℤ)) : Type 0 where
+pub record AreTotalsOf (round : RoundRow) (protests : List ProtestRow) (answers : List AnswerRow)
+    (totals : List (List ℕ × ℤ)) : Type 0 where
   pub in_order : AllPairs (λ a b. text_cmp a.0 b.0 ≡ Less) totals
   pub listed : (entrant : List ℕ) →
       ((row : AnswerRow) × Contains answers row × (row.key.entrant ≡ entrant))
@@ -51,7 +52,8 @@ pub record AreRulingsOf (protests : List ProtestRow) (at : List ℕ → Option R
   pub count : (entrant : List ℕ) → count_ruled (at entrant) ≡ length (protests_by entrant protests)
 
 -- the entrant is the last one of these answers, and the ones before have their totals
-pub record IsLastOf (round : RoundRow) (protests : List ProtestRow) (answers : List AnswerRow) (totals : List (List ℕ × ℤ)) (entrant : Entrant) : Type 0 where
+pub record IsLastOf (round : RoundRow) (protests : List ProtestRow) (answers : List AnswerRow)
+    (totals : List (List ℕ × ℤ)) (entrant : Entrant) : Type 0 where
   pub earlier : List AnswerRow
   pub own : List AnswerRow
   pub whole : answers ≡ earlier ++ own

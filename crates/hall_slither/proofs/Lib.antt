@@ -10,3 +10,4 @@ pub mod HaveEnds
 pub mod IsLayout
 pub mod LayoutQuestion
 pub mod AreSilent
+pub mod Trials

@@ -3,3 +3,4 @@ pub mod Close
 pub mod Count
 pub mod Dot
 pub mod Follow
+pub mod Trial

@@ -53,7 +53,11 @@ fn cells_beside(size: Size, side: usize) -> [Option<usize>; 2]
 }
 
 /// Puts the dots and the cells at a side onto the stack.
-fn push_beside(size: Size, side: usize, stack: &mut Vec<Centre>) -> Result<(), AllocError>
+pub(crate) fn push_beside(
+    size: Size,
+    side: usize,
+    stack: &mut Vec<Centre>,
+) -> Result<(), AllocError>
     requires size { IsSize size }
     requires side { side < all_sides size }
     requires centres { All (IsCentre size) stack.old.items }
@@ -116,8 +120,9 @@ fn push_all(size: Size, stack: &mut Vec<Centre>) -> Result<(), AllocError>
     Ok(())
 }
 
-/// Sets what the counts at the dots and cells of the stack say, until they say no more.
-fn follow_stack(
+/// Sets what the counts at the dots and cells of the stack say, until they say no more; that is all that any count says
+/// where all dots and cells are on the stack.
+pub(crate) fn follow_stack(
     puzzle: &Puzzle,
     partial: &mut Partial,
     stack: &mut Vec<Centre>,
@@ -125,8 +130,8 @@ fn follow_stack(
     requires kind { puzzle.now.kind ≡ Kind.Slither }
     requires partial { IsPartial (question_of Kind.Slither puzzle.now) partial.old.places }
     requires centres { All (IsCentre puzzle.now.size) stack.old.items }
-    requires all { HasAll puzzle.now.size stack.old.items }
-    ensures silent { IfOk result (λ pass. pass ≡ Pass.Settled → AreSilent puzzle.now partial.new.places) }
+    ensures silent { HasAll puzzle.now.size stack.old.items
+        → IfOk result (λ pass. pass ≡ Pass.Settled → AreSilent puzzle.now partial.new.places) }
     ensures deduced { IfOk result
         (IsDeduced (question_of Kind.Slither puzzle.now) partial.old.places partial.new.places) }
     ensures err { OnErr result (Narrows (question_of Kind.Slither puzzle.now) partial.old.places partial.new.places) }

@@ -5,10 +5,12 @@ mod chain;
 mod close;
 mod count;
 mod dot;
+mod ends;
 mod follow;
 mod judge;
 mod lines;
 mod rules;
+mod trial;
 
 pub use judge::broken;
 pub use rules::{SlitherRules, start};

@@ -2,7 +2,7 @@
 ghost use Rattle.hall_solve.specs.Question.{Extends, IsOpen, IsWhole};
 ghost use Rattle.hall_solve.specs.Trail.{IsTrailed, IsUndone};
 ghost use Rattle.std.specs.Prelude.{◌≡◌, ◌≢◌, ◌≤◌, ℕ, ◌<◌, ◌++◌, ◌∷◌, [], Some, None, IfOk, IfSome, IfNone};
-ghost use Rattle.std.specs.Prelude.{length, replicate, slice_index_or, slice_set};
+ghost use Rattle.std.specs.Prelude.{length, drop, replicate, slice_index_or, slice_set};
 
 use hall_grid::Filling;
 use std::alloc::{AllocError, Global};
@@ -100,6 +100,14 @@ impl Partial {
         Mark {
             length: self.trail.len(),
         }
+    }
+
+    /// The places that were set since the trail was so long, in order.
+    pub fn since(&self, mark: Mark) -> &[usize]
+        requires { mark ≤ length self.now.trail }
+        ensures set { result.now ≡ drop mark self.now.trail }
+    {
+        &self.trail[mark.length..]
     }
 
     /// Clears the places that were set since the trail was so long. It takes no memory.

@@ -164,13 +164,13 @@ answers_listed db keyed sound =
     (λ r h. first_not _ _ (all_has _ (db 9) r rule h))
 
 -- ORDER BY entrant, number, n, token
-abbrev by_order : Row → List Term → Row → Row → Ordering
+abbrev pub by_order : Row → List Term → Row → Row → Ordering
 by_order params terms a b =
     let q = plain_query 9 terms answer_columns listing_order in
     output_cmp q (output q (params ∷ a ∷ [])) (output q (params ∷ b ∷ []))
 
 -- it is the order of listings
-same_order : (params : Row) (terms : List Term) (a b : Row) (x y : AnswerRow) → answer_of a ≡ Some x → answer_of b ≡ Some y
+pub same_order : (params : Row) (terms : List Term) (a b : Row) (x y : AnswerRow) → answer_of a ≡ Some x → answer_of b ≡ Some y
     → by_order params terms a b ≡ listing_cmp x y
 same_order params terms a b x y p q =
     let one = has_columns a x p in
@@ -212,7 +212,7 @@ module _ (old new : State) (has : old.now.schema ≡ hall_schema) (keyed : AreKe
       read_through [] = refl
       read_through (r ∷ l) = ap (λ k. answer_of r ∷ k) (read_through l)
 
-  in_agrees : (round : List ℕ) (r : Row) (x : AnswerRow) → answer_of r ≡ Some x
+  pub in_agrees : (round : List ℕ) (r : Row) (x : AnswerRow) → answer_of r ≡ Some x
       → list_all (holds ((Text round ∷ []) ∷ r ∷ [])) (equals 2 0 ∷ []) ≡ is_in round x
   in_agrees round r x h = and_true _ ∙ column_same (column r 2) x.key.round round (has_columns r x h).round
 

@@ -1,5 +1,5 @@
 -- The record under a key is the one that a query by the key gives.
-use Rattle.std.proofs.Common.{◌≡◌, ◌≤◌, inl, suc, List, [], ◌∷◌, ◌++◌, ℕ, length, map, filter, slice_get, Bool, true, false, Option, Some, None, refl, sym, ap, subst, ◌∙◌, arith}
+use Rattle.std.proofs.Common.{◌≡◌, ◌≤◌, inl, suc, List, [], ◌∷◌, ◌++◌, ℕ, length, map, filter, slice_get, Bool, true, false, Option, Some, None, IfSome, refl, sym, ap, subst, ◌∙◌, arith}
 use Rattle.std.proofs.lemmas.List.Sorted.{IsPermutation-sym, length_permutation}
 use Rattle.std.specs.List.Sorted.{IsPermutation}
 use Rattle.std.specs.Cmp.{IsTotalOrder, eq_by_cmp_equiv}
@@ -28,11 +28,21 @@ no_more : {A : Type 0} (xs : List A) → length xs ≡ 0 → xs ≡ []
 no_more [] e = refl
 no_more (x ∷ xs) e = absurd (omega (arith, e))
 
-length_read : {X : Type 0} (read : Row → Option X) (rows : List Row) (out : List X) → map read rows ≡ map Some out → length rows ≡ length out
+pub length_read : {X : Type 0} (read : Row → Option X) (rows : List Row) (out : List X) → map read rows ≡ map Some out → length rows ≡ length out
 length_read read [] [] e = refl
 length_read read [] (x ∷ out) e = absurd cc
 length_read read (r ∷ rows) [] e = absurd cc
 length_read read (r ∷ rows) (x ∷ out) e = let tail = length_read read rows out cc in ap (λ n. suc n) tail
+
+-- where at most one row is read, it is the only one
+one_alone : {X : Type 0} (read : Row → Option X) (rows found_rows : List Row) (out : List X) → IsPermutation rows found_rows → map read found_rows ≡ map Some out → length out ≤ 1
+    → IfSome (slice_get out 0) (λ x. (r : Row) × (rows ≡ r ∷ []) × (read r ≡ Some x))
+one_alone read rows [] [] same is short = tt
+one_alone read rows [] (x ∷ out) same is short = absurd cc
+one_alone read rows (r ∷ some) [] same is short = tt
+one_alone read rows (r ∷ []) (x ∷ []) same is short = (r, one_permutation r rows (IsPermutation-sym _ _ same), cc)
+one_alone read rows (r ∷ some) (x ∷ y ∷ out) same is short = absurd (omega (arith, short))
+one_alone read rows (r ∷ y ∷ some) (x ∷ []) same is short = absurd (let long = length_read read (r ∷ y ∷ some) (x ∷ []) is in omega (arith, long))
 
 module _ {K X : Type 0} {R : K → K → Ordering} (total : IsTotalOrder R) (same : IsAntisymmetric R) (key : X → K) (read : Row → Option X) (k : K) (keeps : Row → Bool)
     (agrees : (r : Row) (x : X) → read r ≡ Some x → keeps r ≡ eq_by_cmp R (key x) k) where
@@ -84,4 +94,14 @@ module _ {K X : Type 0} {R : K → K → Ordering} (total : IsTotalOrder R) (sam
   asked_found old new rows out has shown is_read short =
       let sel = answers_selection text params old new tree terms project [] names is unlisted plain (apart old.now.trees) has rows shown in
       one_found total same key (λ r. read (columns_from 1 count r)) k (λ r. list_all (holds (params ∷ r ∷ [])) terms) agrees (old.now.trees tree) sel.found out sel.same
+      (sym (reads_shown sel.found) ∙ ap (map read) (sym sel.shown) ∙ is_read) short
+
+  -- and its row is the only one under the key
+  pub asked_alone : (old new : State) (rows : List Row) (out : List X) → old.now.schema ≡ hall_schema → Shown text params old new rows
+      → map read rows ≡ map Some out → length out ≤ 1
+      → IfSome (slice_get out 0) (λ x. (r : Row) × (filter (λ r. list_all (holds (params ∷ r ∷ [])) terms) (old.now.trees tree) ≡ r ∷ [])
+      × (read (columns_from 1 count r) ≡ Some x))
+  asked_alone old new rows out has shown is_read short =
+      let sel = answers_selection text params old new tree terms project [] names is unlisted plain (apart old.now.trees) has rows shown in
+      one_alone (λ r. read (columns_from 1 count r)) (filter (λ r. list_all (holds (params ∷ r ∷ [])) terms) (old.now.trees tree)) sel.found out sel.same
       (sym (reads_shown sel.found) ∙ ap (map read) (sym sel.shown) ∙ is_read) short

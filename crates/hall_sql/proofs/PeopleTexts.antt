@@ -5,12 +5,14 @@ use Rattle.sqlite_sql.specs.declared.ops.BinaryOp.TheVariants.{Compare}
 use Rattle.sqlite_sql.specs.declared.ops.CompareOp.TheVariants.{Eq}
 use Rattle.sqlite.specs.Collation.TheVariants.{Binary}
 use Rattle.sqlite_value.specs.declared.keys.Key.{Key}
-use Rattle.sqlite.specs.Term.{Term, col, op2}
+use Rattle.sqlite.specs.Term.{Term, lit, col, op2}
 use Rattle.sqlite.specs.Listing.{understood, reads_listing}
-use Rattle.sqlite.specs.Command.TheVariants.{Select}
+use Rattle.sqlite.specs.Command.TheVariants.{Select, Insert}
+use Rattle.sqlite.specs.Source.TheVariants.{Values}
+use Rattle.sqlite.specs.declared.types.Value.TheVariants.{Null}
 use Rattle.sqlite.proofs.Callers.{IsPlain, command_of}
 use Rattle.hall_sql.specs.Tables.{hall_schema}
-use Rattle.hall_sql.specs.Statements.{plain_query, person_text, person_by_key_text}
+use Rattle.hall_sql.specs.Statements.{plain_query, person_text, person_by_key_text, add_person_text}
 
 abbrev pub equals : ℕ → ℕ → Term
 equals place parameter = op2 (Compare Eq Binary) (col 1 place) (col 0 parameter)
@@ -35,3 +37,12 @@ pub person_by_key_is : (command_of (understood hall_schema person_by_key_text)
     × (reads_listing hall_schema person_by_key_text ≡ false) × IsPlain (understood hall_schema person_by_key_text)
 unfolding understood everything
 person_by_key_is = (refl, refl, (refl, refl))
+
+-- the rowid that is chosen, and each parameter
+abbrev pub added_terms : List Term
+added_terms = lit Null ∷ col 0 0 ∷ col 0 1 ∷ col 0 2 ∷ []
+
+pub add_person_is : (command_of (understood hall_schema add_person_text) ≡ Insert 0 (Values added_terms 4))
+    × IsPlain (understood hall_schema add_person_text)
+unfolding understood everything
+add_person_is = (refl, (refl, refl))

@@ -1,14 +1,14 @@
 -- What the statements on protests say of the world.
-use Rattle.std.proofs.Common.{◌≡◌, ◌≤◌, ◌&&◌, ℕ, List, [], ◌∷◌, length, map, flat_map, true, slice_get, Option, Some, None, option_to_list, refl, sym, ap, subst, ◌∙◌}
+use Rattle.std.proofs.Common.{◌≡◌, ◌≤◌, ◌&&◌, ℕ, pos, List, [], ◌∷◌, length, map, flat_map, true, slice_get, Option, Some, None, IfSome, option_to_list, refl, sym, ap, subst, ◌∙◌}
+use Rattle.std.proofs.lemmas.Option.{IfSome_then}
 use Rattle.std.specs.List.{list_all, AllByRecursion}
 use Rattle.std.specs.List.Sorted.{IsPermutation}
 use Rattle.std.specs.Ordering.{eq_by_cmp}
 use Rattle.std.specs.FinMap.{get, values}
-use Rattle.sqlite.specs.declared.types.Value.TheVariants.{Text}
+use Rattle.sqlite.specs.declared.types.Value.TheVariants.{Int, Text}
 use Rattle.sqlite.specs.Effect.{IsDatabase}
 use Rattle.sqlite.specs.Order.{Row}
 use Rattle.sqlite.specs.State.{State, Shown}
-use Rattle.sqlite.specs.Table.{Table}
 use Rattle.sqlite.specs.Term.{Term, holds}
 use Rattle.sqlite.specs.Tree.{Trees}
 use Rattle.sqlite_schema.specs.declared.schema.Constraint.TheVariants.{Unique}
@@ -25,16 +25,17 @@ use Rattle.hall_policy.specs.declared.record.ProtestRow.{ProtestRow}
 use Rattle.hall_policy.specs.declared.record.Ruling.{Ruling}
 use Rattle.hall_policy.proofs.Orders.{protest_total, same_protest_keys}
 use Rattle.hall_store.specs.Store.{protests_in, protests_of, is_protest_in, is_protest_of}
-use Rattle.hall_sql.specs.Tables.{hall_schema, protests_table}
+use Rattle.hall_sql.specs.Tables.{hall_schema}
 use Rattle.hall_sql.specs.Values.{name_in, token_in, within, kind_in, ruling_in}
 use Rattle.hall_sql.specs.Rows.{protest_in, protest_of, world_of}
+use Rattle.hall_sql.specs.Columns.{IsAlone}
 use Rattle.hall_sql.specs.Standing.{AreKeyed}
 use Rattle.hall_sql.specs.Statements.{protest_text, protests_of_text, protests_in_text}
-use Rattle.hall_sql.proofs.ColumnLemmas.{kind_column, column_equals, column_same, and_true, last_equal, more_equal}
-use Rattle.hall_sql.proofs.FoundLemmas.{asked_found}
+use Rattle.hall_sql.proofs.ColumnLemmas.{kind_column, number_column, column_equals, column_same, and_true, last_equal, more_equal}
+use Rattle.hall_sql.proofs.FoundLemmas.{asked_found, asked_alone}
 use Rattle.hall_sql.proofs.ListedLemmas.{by_order, values_asked}
 use Rattle.hall_sql.proofs.PeopleTexts.{equals}
-use Rattle.hall_sql.proofs.ProtestTexts.{key_terms, key_order, protest_columns, protest_is, protests_of_is, protests_in_is}
+use Rattle.hall_sql.proofs.ProtestTexts.{protests_there, key_terms, key_order, protest_columns, protest_is, protests_of_is, protests_in_is}
 use Rattle.hall_sql.proofs.UniqueLemmas.{equal_texts, first_not, records_listed}
 
 abbrev of_parts : List ℕ → List ℕ → List ℕ → ℕ → List ℕ → Option Ruling → ProtestRow
@@ -45,17 +46,19 @@ of_parts entrant round token number text ruling = record {
   ruling = ruling;
 }
 
-record PartsOf (row : ProtestRow) (a b c : Option (List ℕ)) (f : Option (Option Ruling)) : Type 0 where
+record PartsOf (row : ProtestRow) (a b c : Option (List ℕ)) (d : Option ℕ) (e : Option (List ℕ)) (f : Option (Option Ruling)) : Type 0 where
   entrant : a ≡ Some row.key.entrant
   round : b ≡ Some row.key.round
   token : c ≡ Some row.key.token
+  number : d ≡ Some row.number
+  text : e ≡ Some row.text
   ruling : f ≡ Some row.ruling
 
 -- a protest that is read has its parts in the columns
 parts : (a b c : Option (List ℕ)) (d : Option ℕ) (e : Option (List ℕ)) (f : Option (Option Ruling)) (row : ProtestRow)
     → (a >>= (λ entrant. b >>= (λ round. c >>= (λ token. d >>= (λ number. e >>= (λ text. f >>= (λ ruling.
     Some (of_parts entrant round token number text ruling)))))))) ≡ Some row
-    → PartsOf row a b c f
+    → PartsOf row a b c d e f
 parts None b c d e f row is = absurd cc
 parts (Some a) None c d e f row is = absurd cc
 parts (Some a) (Some b) None d e f row is = absurd cc
@@ -68,14 +71,18 @@ parts (Some a) (Some b) (Some c) (Some d) (Some e) (Some f) row is =
       entrant = ap (λ (x : ProtestRow). Some x.key.entrant) same;
       round = ap (λ (x : ProtestRow). Some x.key.round) same;
       token = ap (λ (x : ProtestRow). Some x.key.token) same;
+      number = ap (λ (x : ProtestRow). Some x.number) same;
+      text = ap (λ (x : ProtestRow). Some x.text) same;
       ruling = ap (λ (x : ProtestRow). Some x.ruling) same;
     }
 
--- the columns of a protest's key, and what its ruling is read from
+-- the columns of a protest, and what its ruling is read from
 pub record HasColumns (r : Row) (row : ProtestRow) : Type 0 where
   pub entrant : column r 1 ≡ Text row.key.entrant
   pub round : column r 2 ≡ Text row.key.round
   pub token : column r 3 ≡ Text row.key.token
+  pub number : column r 4 ≡ Int (pos row.number)
+  pub text : column r 5 ≡ Text row.text
   pub ruling : ruling_in (column r 6) (column r 7) ≡ Some row.ruling
 
 pub has_columns : (r : Row) (row : ProtestRow) → protest_of r ≡ Some row → HasColumns r row
@@ -86,6 +93,8 @@ has_columns r row is =
       entrant = kind_column 1 24 is_word_byte (column r 1) row.key.entrant it.entrant;
       round = kind_column 1 24 is_word_byte (column r 2) row.key.round it.round;
       token = kind_column 1 32 is_word_byte (column r 3) row.key.token it.token;
+      number = number_column 1 99 (column r 4) row.number it.number;
+      text = kind_column 1 200 is_printable (column r 5) row.text it.text;
       ruling = it.ruling;
     }
 
@@ -93,7 +102,7 @@ abbrev pub key_params : ProtestKey → Row
 key_params key = Text key.entrant ∷ Text key.round ∷ Text key.token ∷ []
 
 -- WHERE entrant = ?1 AND round = ?2 AND token = ?3 asks for the key
-agrees : (key : ProtestKey) (r : Row) (row : ProtestRow) → protest_of r ≡ Some row
+pub agrees : (key : ProtestKey) (r : Row) (row : ProtestRow) → protest_of r ≡ Some row
     → list_all (holds (key_params key ∷ r ∷ [])) key_terms ≡ eq_by_cmp protest_cmp row.key key
 agrees key r row is =
     let it = has_columns r row is in
@@ -109,6 +118,17 @@ protest_found key =
     asked_found protest_total same_protest_keys (λ (row : ProtestRow). row.key) protest_in 7 key protest_text
     (key_params key) 12 key_terms protest_columns _
     protest_is.0 protest_is.1 protest_is.2 (λ db. refl) (λ r. refl) (agrees key)
+
+-- the protest that it gives stands alone under the key
+pub protest_alone : (key : ProtestKey) (old new : State) (rows : List Row) (out : List ProtestRow)
+    → old.now.schema ≡ hall_schema → Shown protest_text (key_params key) old new rows
+    → map protest_in rows ≡ map Some out → length out ≤ 1 → IfSome (slice_get out 0) (IsAlone key old)
+protest_alone key old new rows out has shown is short =
+    IfSome_then (slice_get out 0)
+    (asked_alone protest_total same_protest_keys (λ (row : ProtestRow). row.key) protest_in 7 key protest_text
+    (key_params key) 12 key_terms protest_columns _
+    protest_is.0 protest_is.1 protest_is.2 (λ db. refl) (λ r. refl) (agrees key) old new rows out has shown is short)
+    (λ row it. record { one = it.0; found = it.1; reads = it.2 })
 
 -- ---- listings
 
@@ -131,11 +151,8 @@ agreeing r y x z p q e =
       equal_texts z.key.token x.key.token (ap (λ (k : ProtestKey). k.token) (sym e)),
     )
 
-abbrev pub protests_there : Table
-protests_there = record protests_table { tree = 12 }
-
 -- the table's records are the world's protests, each once
-protests_listed : (db : Trees) → AreKeyed (db 12) → IsDatabase (record { schema = hall_schema; trees = db })
+pub protests_listed : (db : Trees) → AreKeyed (db 12) → IsDatabase (record { schema = hall_schema; trees = db })
     → IsPermutation (flat_map (λ r. option_to_list (protest_of r)) (db 12)) (values (world_of db).protests)
 protests_listed db keyed sound =
     let rule : AllByRecursion (λ row. passes Unique hall_schema db protests_there row ≡ true) (db 12) =
@@ -145,7 +162,7 @@ protests_listed db keyed sound =
     (λ r h. first_not _ _ (all_has _ (db 12) r rule h))
 
 -- ORDER BY entrant, round, token is the order of keys
-same_order : (params : Row) (terms : List Term) (a b : Row) (x y : ProtestRow) → protest_of a ≡ Some x → protest_of b ≡ Some y
+pub same_order : (params : Row) (terms : List Term) (a b : Row) (x y : ProtestRow) → protest_of a ≡ Some x → protest_of b ≡ Some y
     → by_order 12 terms protest_columns key_order params a b ≡ protest_cmp x.key y.key
 same_order params terms a b x y p q =
     let one = has_columns a x p in
@@ -172,7 +189,7 @@ module _ (old new : State) (has : old.now.schema ≡ hall_schema) (keyed : AreKe
       let db = old.now.trees in
       protests_listed db keyed (subst (λ s. IsDatabase (record { schema = s; trees = db })) has sound)
 
-  in_agrees : (round : List ℕ) (r : Row) (x : ProtestRow) → protest_of r ≡ Some x
+  pub in_agrees : (round : List ℕ) (r : Row) (x : ProtestRow) → protest_of r ≡ Some x
       → list_all (holds ((Text round ∷ []) ∷ r ∷ [])) (equals 2 0 ∷ []) ≡ is_protest_in round x
   in_agrees round r x h = and_true _ ∙ column_same (column r 2) x.key.round round (has_columns r x h).round
 

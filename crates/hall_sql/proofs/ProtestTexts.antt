@@ -8,12 +8,16 @@ use Rattle.sqlite_sql.specs.declared.ops.CompareOp.TheVariants.{Eq}
 use Rattle.sqlite.specs.Collation.TheVariants.{Binary}
 use Rattle.sqlite.specs.Term.{Term, col, lit, op2}
 use Rattle.sqlite.specs.Listing.{understood, reads_listing}
+use Rattle.sqlite.specs.Program.{overlay}
 use Rattle.sqlite.specs.Source.TheVariants.{Values}
-use Rattle.sqlite.specs.Command.TheVariants.{Select, Insert}
+use Rattle.sqlite.specs.Table.{Table}
+use Rattle.sqlite.specs.Tree.{Trees}
+use Rattle.sqlite.specs.Command.TheVariants.{Select, Insert, Update}
 use Rattle.sqlite.proofs.Callers.{IsPlain, command_of}
-use Rattle.hall_sql.specs.Tables.{hall_schema}
+use Rattle.hall_sql.specs.Tables.{hall_schema, protests_table}
 use Rattle.hall_sql.specs.Statements.{plain_query, protest_text, protests_of_text, protests_in_text, open_protests_text}
-use Rattle.hall_sql.specs.Statements.{add_protest_text}
+use Rattle.hall_sql.specs.Statements.{add_protest_text, rule_protest_text}
+use Rattle.hall_sql.proofs.UpdateLemmas.{update}
 use Rattle.hall_sql.proofs.PeopleTexts.{equals, rising}
 
 abbrev pub protest_columns : List Term
@@ -68,3 +72,20 @@ pub add_protest_is : (command_of (understood hall_schema add_protest_text) ≡ I
     × IsPlain (understood hall_schema add_protest_text)
 unfolding understood everything
 add_protest_is = (refl, (refl, refl))
+
+-- as the schema has it
+abbrev pub protests_there : Table
+protests_there = record protests_table { tree = 12 }
+
+-- the rowid and the columns that stay, and the parameters of the ruling
+abbrev pub ruled_terms : List Term
+ruled_terms = col 1 0 ∷ col 1 1 ∷ col 1 2 ∷ col 1 3 ∷ col 1 4 ∷ col 1 5 ∷ col 0 3 ∷ col 0 4 ∷ []
+
+pub apart : (db : Trees) → overlay db [] protests_there.tree ≡ db protests_there.tree
+apart db = refl
+
+pub rule_protest_is : (command_of (understood hall_schema rule_protest_text)
+    ≡ Update 5 (update hall_schema protests_there key_terms ruled_terms apart))
+    × IsPlain (understood hall_schema rule_protest_text)
+unfolding understood everything
+rule_protest_is = (refl, (refl, refl))

@@ -1,9 +1,11 @@
 -- What the statements that write a protest leave.
-use Rattle.std.proofs.Common.{◌≡◌, ◌≢◌, ℕ, pos, negsuc, [], ◌∷◌, flat_map, option_to_list, true, IsTrue, Option, Some, None, IfSome, Ok, refl, ap, arith}
+use Rattle.std.proofs.Common.{◌≡◌, ◌≢◌, ℕ, pos, negsuc, List, [], ◌∷◌, length, flat_map, option_to_list, Bool, true, IsTrue, Option, Some, None, IfSome, Ok, refl, sym, ap, subst, ◌∙◌, arith}
 use Rattle.std.specs.Prelude.{nat_le}
 use Rattle.std.proofs.lemmas.Bool.{le-leb}
 use Rattle.std.proofs.lemmas.Int.{ints}
+use Rattle.std.proofs.lemmas.List.Sorted.{IsPermutation-refl}
 use Rattle.std.specs.List.{AllByRecursion}
+use Rattle.std.specs.List.Sorted.{IsPermutation}
 use Rattle.std.specs.FinMap.{FinMap, from_entries, get, insert}
 use Rattle.sqlite.specs.declared.types.Value.{Value}
 use Rattle.sqlite.specs.declared.types.Value.TheVariants.{Null, Int}
@@ -17,31 +19,37 @@ use Rattle.sqlite.specs.Order.{Row}
 use Rattle.sqlite.specs.Table.{Table}
 use Rattle.sqlite.specs.Tree.{Trees}
 use Rattle.sqlite.specs.Source.TheVariants.{Values}
-use Rattle.sqlite.specs.Command.TheVariants.{Insert}
+use Rattle.sqlite.specs.Command.TheVariants.{Insert, Update}
 use Rattle.sqlite.specs.State.{State, HasCleanDisk, Executes}
 use Rattle.sqlite.proofs.Callers.{runs_as}
 use Rattle.hall_policy.specs.Text.{text_cmp, is_word_byte, is_printable}
 use Rattle.hall_policy.specs.World.{puzzle_cmp, answer_cmp, protest_cmp, ruling_points}
 use Rattle.hall_policy.specs.Ranges.{IsProtestRow, IsRuling}
+use Rattle.hall_policy.specs.declared.record.ProtestKey.{ProtestKey}
 use Rattle.hall_policy.specs.declared.record.ProtestRow.{ProtestRow}
 use Rattle.hall_policy.specs.declared.record.Ruling.{Ruling}
 use Rattle.hall_policy.specs.declared.record.Ruling.TheVariants.{Upheld, Rejected}
 use Rattle.hall_policy.proofs.Orders.{protest_total, same_protest_keys}
 use Rattle.hall_policy.proofs.Reading.{kind_holds}
-use Rattle.hall_store.specs.declared.change.Change.TheVariants.{AddProtest}
+use Rattle.hall_store.specs.Change.{changed, with_ruling}
+use Rattle.hall_store.specs.declared.change.Change.TheVariants.{AddProtest, RuleProtest}
 use Rattle.hall_sql.specs.Tables.{hall_schema}
-use Rattle.hall_sql.specs.Statements.{add_protest_text}
+use Rattle.hall_sql.specs.Statements.{add_protest_text, rule_protest_text}
 use Rattle.hall_sql.specs.Values.{ruling_in}
-use Rattle.hall_sql.specs.Columns.{protest_params, ruling_code}
+use Rattle.hall_sql.specs.Columns.{protest_params, ruling_params, ruling_code, is_protest_under, IsAlone}
 use Rattle.hall_sql.specs.Rows.{kept, person_of, puzzle_row_of, round_of, place_of, answer_of, protest_of, world_of}
 use Rattle.hall_sql.specs.Standing.{IsHall, HasMade}
 use Rattle.hall_sql.proofs.AnswerWrites.{is_within}
-use Rattle.hall_sql.proofs.ProtestTexts.{added_terms, add_protest_is}
-use Rattle.hall_sql.proofs.ProtestLemmas.{protests_there}
+use Rattle.hall_sql.proofs.ProtestTexts.{protests_there, key_terms, added_terms, ruled_terms, apart, add_protest_is, rule_protest_is}
+use Rattle.hall_sql.proofs.ProtestLemmas.{has_columns, agrees}
 use Rattle.hall_sql.proofs.CallLemmas.{executed_open}
 use Rattle.hall_sql.proofs.InsertLemmas.{inserts}
 use Rattle.hall_sql.proofs.KeyedLemmas.{keyed_after, added_keyed}
+use Rattle.hall_sql.proofs.FoundLemmas.{one_found}
 use Rattle.hall_sql.proofs.MapLemmas.{put_new}
+use Rattle.hall_sql.proofs.ReplaceLemmas.{replaced_one}
+use Rattle.hall_sql.proofs.UniqueLemmas.{kept_keyed}
+use Rattle.hall_sql.proofs.UpdateLemmas.{update, updates, passes_with, made_with}
 use Rattle.hall_sql.proofs.WriteLemmas.{writes_hall, same_worlds, cast_null, cast_number, cast_int}
 
 -- a ruling is read from its code and its points
@@ -105,3 +113,79 @@ protest_added row is old new count hall clean fresh ran =
       world = protests_alone old.now.trees new.now.trees (insert (world_of old.now.trees).protests row.key row) it.others
           (put_new protest_total same_protest_keys (λ (x : ProtestRow). x.key) protest_of row (Int id ∷ params) (old.now.trees 12) (new.now.trees 12) it.put (protest_reads row is (Int id)) it.free (fresh was));
     }
+
+-- ---- the ruling of the protest that stands alone under a key
+module _ (key : ProtestKey) (row : ProtestRow) (ruling : Ruling) (in_row : IsProtestRow row) (in_ruling : IsRuling ruling) where
+  abbrev params : Row
+  params = ruling_params key (Some ruling)
+
+  abbrev ruled : ProtestRow
+  ruled = record row { ruling = Some ruling }
+
+  abbrev has_key : Row → Bool
+  has_key = passes_with hall_schema protests_there key_terms ruled_terms apart params
+
+  abbrev made : Row → Row
+  made = made_with hall_schema protests_there key_terms ruled_terms apart params
+
+  -- what others refer to is not here, so no foreign key acts
+  ruled_quiet : (r : Row) → has_key r ≡ true → works hall_schema Enforced 0 12 (r ∷ []) (made r ∷ []) ≡ []
+  unfolding same_name joined
+  ruled_quiet r taken = refl
+
+  -- the row that is made is read as the protest with its ruling
+  ruled_reads : (r : Row) → protest_of r ≡ Some row → protest_of (made r) ≡ Some ruled
+  ruled_reads r reads =
+      let columns = has_columns r row reads in
+      rw (
+        columns.entrant,
+        columns.round,
+        columns.token,
+        columns.number,
+        columns.text,
+        cast_number row.number,
+        cast_number (ruling_code (Some ruling)),
+        cast_int (ruling_points (Some ruling)),
+        kind_holds 1 24 is_word_byte row.key.entrant in_row.key.entrant,
+        kind_holds 1 24 is_word_byte row.key.round in_row.key.round,
+        kind_holds 1 32 is_word_byte row.key.token in_row.key.token,
+        is_within 1 99 row.number in_row.number,
+        kind_holds 1 200 is_printable row.text in_row.text,
+        ruling_reads (Some ruling) in_ruling,
+      )
+
+  module _ (old new : State) (count : ℕ) (hall : IsHall old) (clean : HasCleanDisk old) where
+    -- the protest under the key
+    ruled_there : IsAlone key old row → get (world_of old.now.trees).protests key ≡ Some row
+    ruled_there alone =
+        sym (one_found protest_total same_protest_keys (λ (x : ProtestRow). x.key) protest_of key (is_protest_under key) (agrees key) (old.now.trees 12) (alone.one ∷ []) (row ∷ [])
+        (subst (λ l. IsPermutation l (alone.one ∷ [])) (sym alone.found) (IsPermutation-refl _)) (ap (λ o. o ∷ []) alone.reads) (omega arith))
+
+    pub protest_ruled : IsAlone key old row → Executes rule_protest_text params old new (Ok count) → HasMade (RuleProtest key ruling) old new
+    protest_ruled alone ran =
+        let mode = hall.autocommit clean in
+        let was = executed_open old new rule_protest_text params count mode ran in
+        let has = (hall.settled clean was).1 in
+        let keyed = hall.keyed clean was in
+        let w = runs_as rule_protest_text params old new hall_schema has (Update 5 (update hall_schema protests_there key_terms ruled_terms apart)) rule_protest_is.0 rule_protest_is.1 count ran in
+        let it = updates hall_schema protests_there key_terms ruled_terms apart 5 refl params ruled_quiet old new _ count has keyed.1.1.1.1.1.0 w (ap length alone.found) in
+        let there = ruled_there alone in
+        let own : row.key ≡ key = kept_keyed protest_total same_protest_keys (λ (x : ProtestRow). x.key) protest_of (old.now.trees 12) key row there in
+        let one : alone.one ≡ it.rows.one = head_is (sym alone.found ∙ it.rows.found) in
+        record {
+          hall = writes_hall old new _ _ _ count mode w it.same (keyed_after 12 old.now.trees new.now.trees hall_schema.tables it.keyed it.others keyed);
+          was_open = was;
+          serves = w.shown.is_open;
+          world = protests_alone old.now.trees new.now.trees (insert (world_of old.now.trees).protests key ruled) it.others
+              (replaced_one protest_total same_protest_keys (λ (x : ProtestRow). x.key) protest_of key has_key (agrees key) made (old.now.trees 12) (new.now.trees 12) ruled keyed.1.1.1.1.1.0 it.rows own
+              (ruled_reads it.rows.one (subst (λ r. protest_of r ≡ Some row) one alone.reads)))
+              ∙ ap (with_ruling (world_of old.now.trees) key ruling) (sym there);
+        }
+      where
+        head_is : {x y : Row} → ◌≡◌ {A = List Row} (x ∷ []) (y ∷ []) → x ≡ y
+        head_is e = cc
+
+-- where no protest stands under the key, there is nothing to rule
+pub rules_nothing : (key : ProtestKey) (ruling : Ruling) (trees : Trees) → None ≡ get (world_of trees).protests key
+    → changed (RuleProtest key ruling) (world_of trees) ≡ world_of trees
+rules_nothing key ruling trees found = subst (λ o. with_ruling (world_of trees) key ruling o ≡ world_of trees) found refl

@@ -72,7 +72,7 @@ texts_tie : (s t : List ℕ) → is_true (binary (Compare Eq Binary) (Text s) (T
 texts_tie s t h = same_texts s t (equal_is _ (sym (texts_equal s t) ∙ h))
 
 -- what equals a text is that text
-text_is : (v : Value) (t : List ℕ) → is_true (binary (Compare Eq Binary) v (Text t)) ≡ true → v ≡ Text t
+pub text_is : (v : Value) (t : List ℕ) → is_true (binary (Compare Eq Binary) v (Text t)) ≡ true → v ≡ Text t
 unfolding binary value_cmp
 text_is Null t h = absurd cc
 text_is (Int n) t h = absurd cc
@@ -94,7 +94,7 @@ puzzles_alone old new puzzles others is =
     (ap (kept answer_cmp (λ row. row.key) answer_of) (others.1.1.1.1.0 (λ same. absurd (omega (arith, same)))))
     (ap (kept protest_cmp (λ row. row.key) protest_of) (others.1.1.1.1.1.0 (λ same. absurd (omega (arith, same)))))
 
-no_rows : {A : Type 0} (xs : List A) → length xs ≡ 0 → xs ≡ []
+pub no_rows : {A : Type 0} (xs : List A) → length xs ≡ 0 → xs ≡ []
 no_rows [] e = refl
 no_rows (x ∷ xs) e = absurd (omega (arith, e))
 

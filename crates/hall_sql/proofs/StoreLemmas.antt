@@ -1,5 +1,5 @@
 -- From what a statement leaves to what the trait of stores says.
-use Rattle.std.proofs.Common.{◌≡◌, IsTrue, Result, Ok, Err, IfOk, sym, subst, arith}
+use Rattle.std.proofs.Common.{◌≡◌, IsTrue, Result, Ok, Err, IfOk, sym, subst, ◌∙◌, arith}
 use Rattle.sqlite.specs.Effect.{Database}
 use Rattle.sqlite.specs.State.{State, HasCleanDisk}
 use Rattle.hall_policy.specs.World.{World}
@@ -26,3 +26,22 @@ pub told : {R E : Type 0} (old new : State) (result : Result R E) (P : R → Typ
     → Served (content_of new) result Means
 told old new (Ok x) P Means hall rested serves has means = told_so old new (λ world. Means world x) hall rested serves (means x has)
 told old new (Err e) P Means hall rested serves has means = tt
+
+-- and what is made of what calls told, where the store serves
+pub served_so : {R E : Type 0} (new : State) (result : Result R E) (Means : World → R → Type 0) → (HasCleanDisk new → IsTrue new.is_open)
+    → (HasCleanDisk new → IfOk result (Means (world_of new.now.trees))) → Served (content_of new) result Means
+served_so new (Ok x) Means serves means = λ clean. (serves clean, means clean)
+served_so new (Err e) Means serves means = tt
+
+-- a call that rests after one that did
+pub rests_on : (old mid new : State) → Rested old mid → Rested mid new → Rested old new
+rests_on old mid new first second =
+    let before = λ (clean : HasCleanDisk new). let was : HasCleanDisk mid = omega (arith, second.follows.clean, clean) in was in
+    record {
+      hall = second.hall;
+      follows = record {
+        clean = omega (arith, first.follows.clean, second.follows.clean);
+        opened = λ clean opens. first.follows.opened (before clean) (second.follows.opened clean opens);
+      };
+      same = λ clean opens. second.same clean opens ∙ first.same (before clean) (second.follows.opened clean opens);
+    }

@@ -1,5 +1,5 @@
 -- The columns that a record is written in, and the rows under its key.
-use Rattle.std.specs.Prelude.{◌≡◌, ℕ, pos, Bool, List, [], ◌∷◌, length, Option, Some, None}
+use Rattle.std.specs.Prelude.{◌≡◌, ℕ, ◌+◌, pos, Bool, if◌then◌else◌, List, [], ◌∷◌, length, Option, Some, None}
 use Rattle.std.specs.List.{filter, list_all}
 use Rattle.sqlite.specs.declared.types.Value.TheVariants.{Int, Text}
 use Rattle.sqlite.specs.Order.{Row}
@@ -13,10 +13,14 @@ use Rattle.hall_policy.specs.declared.record.PuzzleRow.{PuzzleRow}
 use Rattle.hall_policy.specs.declared.record.PuzzleState.{PuzzleState}
 use Rattle.hall_policy.specs.declared.record.PuzzleState.TheVariants.{New, One, NoSolution, More, GaveUp}
 use Rattle.hall_policy.specs.declared.record.AnswerRow.{AnswerRow}
+use Rattle.hall_policy.specs.declared.record.ProtestKey.{ProtestKey}
 use Rattle.hall_policy.specs.declared.record.ProtestRow.{ProtestRow}
 use Rattle.hall_policy.specs.declared.record.Ruling.{Ruling}
 use Rattle.hall_policy.specs.declared.record.Ruling.TheVariants.{Upheld, Rejected}
+use Rattle.hall_policy.specs.declared.record.Person.{Person}
+use Rattle.hall_policy.specs.declared.record.Roles.{Roles}
 use Rattle.hall_policy.specs.World.{ruling_points}
+use Rattle.hall_sql.specs.Rows.{protest_of}
 
 -- the columns of an answer: entrant, round, number, token, n, moment, answer, verdict
 abbrev pub answer_params : AnswerRow → Row
@@ -67,3 +71,32 @@ abbrev pub protest_params : ProtestRow → Row
 protest_params row =
     Text row.key.entrant ∷ Text row.key.round ∷ Text row.key.token ∷ Int (pos row.number) ∷ Text row.text
     ∷ Int (pos (ruling_code row.ruling)) ∷ Int (ruling_points row.ruling) ∷ []
+
+-- the roles as a sum: 1 director, 2 author, 4 referee, 8 entrant
+abbrev pub roles_code : Roles → ℕ
+roles_code roles =
+    (if roles.director then 1 else 0) + (if roles.author then 2 else 0) + (if roles.referee then 4 else 0)
+    + (if roles.entrant then 8 else 0)
+
+-- the columns of a person: name, key, roles
+abbrev pub person_params : Person → Row
+person_params person = Text person.name ∷ Text person.key ∷ Int (pos (roles_code person.roles)) ∷ []
+
+-- a protest's key, and the columns of its ruling: entrant, round, token, ruling, points
+abbrev pub ruling_params : ProtestKey → Option Ruling → Row
+ruling_params key ruling =
+    Text key.entrant ∷ Text key.round ∷ Text key.token ∷ Int (pos (ruling_code ruling)) ∷ Int (ruling_points ruling)
+    ∷ []
+
+-- the row stands under the protest's key, as SQL compares
+abbrev pub is_protest_under : ProtestKey → Row → Bool
+is_protest_under key row =
+    list_all (holds ((Text key.entrant ∷ Text key.round ∷ Text key.token ∷ []) ∷ row ∷ []))
+    (op2 (Compare Eq Binary) (col 1 1) (col 0 0) ∷ op2 (Compare Eq Binary) (col 1 2) (col 0 1)
+    ∷ op2 (Compare Eq Binary) (col 1 3) (col 0 2) ∷ [])
+
+-- one row alone of the table of protests stands under the key, and it is this protest
+pub record IsAlone (key : ProtestKey) (s : State) (row : ProtestRow) : Type 0 where
+  pub one : Row
+  pub found : filter (is_protest_under key) (s.now.trees 12) ≡ one ∷ []
+  pub reads : protest_of one ≡ Some row

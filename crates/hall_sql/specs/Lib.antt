@@ -4,3 +4,10 @@ pub mod Rows
 pub mod Standing
 pub mod Statements
 pub mod Columns
+pub mod RoundColumns
+pub mod Inside
+pub mod RoundPuts
+pub mod Places
+pub mod Scan
+pub mod Made
+pub mod Feed

@@ -1,5 +1,5 @@
 -- What the store keeps true of its connection, what a call leaves, and the content that a connection shows.
-use Rattle.std.specs.Prelude.{◌≡◌, ◌≢◌, ◌≤◌, ◌⊎◌, ℕ, Bool, false, List, [], ◌∷◌, map, IsTrue, Result}
+use Rattle.std.specs.Prelude.{◌≡◌, ◌≢◌, ◌≤◌, ◌⊎◌, ℕ, Bool, false, List, [], ◌∷◌, map, IsTrue, Result, Ok, Err}
 use Rattle.std.specs.List.{AllByRecursion, filter, list_all}
 use Rattle.std.specs.List.Sorted.{IsPermutation, IsSorted}
 use Rattle.std.specs.declared.cmp.Ordering.TheVariants.{Equal}
@@ -17,8 +17,9 @@ use Rattle.sqlite.specs.Query.{Query, output, output_cmp}
 use Rattle.sqlite.specs.State.{State, HasCleanDisk, IsUnchanged, IsRolledBack}
 use Rattle.hall_store.specs.Store.{Content, Makes}
 use Rattle.hall_store.specs.Change.{changed}
+use Rattle.hall_store.specs.Maps.{empty_world}
 use Rattle.hall_store.specs.declared.change.Change.{Change}
-use Rattle.hall_sql.specs.Tables.{hall_schema}
+use Rattle.hall_sql.specs.Tables.{no_schema, hall_schema}
 use Rattle.hall_sql.specs.Rows.{world_of}
 
 -- the rowids of the two rows differ
@@ -105,3 +106,25 @@ pub record HasMade (change : Change) (old new : State) : Type 0 where
 pub record Wrote {R E : Type 0} (change : Change) (old new : State) (result : Result R E) : Type 0 where
   pub hall : IsHall new
   pub makes : Makes change (content_of old) (content_of new) result
+
+-- The hall's tables stood and are as they were, or there was nothing, and they were made and hold an empty world.
+abbrev pub StoodOrEmpty : State → State → Type 0
+StoodOrEmpty old new =
+    ((old.now.schema ≡ hall_schema) × (new.now ≡ old.now))
+    ⊎ ((old.now.schema ≡ no_schema) × (world_of new.now.trees ≡ empty_world))
+
+-- a connection became a hall's
+pub record HasAdopted (old new : State) : Type 0 where
+  pub hall : IsHall new
+  pub follows : Follows old new
+  pub serves : HasCleanDisk new → IsTrue new.is_open
+  pub stood : HasCleanDisk new → StoodOrEmpty old new
+
+-- a connection was refused, and its tables are as they were, while the store serves
+pub record HasDeclined (old new : State) : Type 0 where
+  pub follows : Follows old new
+  pub same : HasCleanDisk new → IsTrue new.is_open → new.now ≡ old.now
+
+abbrev pub Adopts : {R E : Type 0} → State → State → Result R E → Type 0
+Adopts old new (Ok done) = HasAdopted old new
+Adopts old new (Err fault) = HasDeclined old new

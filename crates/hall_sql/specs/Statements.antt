@@ -4,6 +4,8 @@ use Rattle.sqlite.specs.declared.types.Value.TheVariants.{Int}
 use Rattle.sqlite_value.specs.declared.keys.Key.{Key}
 use Rattle.sqlite.specs.Term.{Term, lit}
 use Rattle.sqlite.specs.Query.{Query, inner, end}
+use Rattle.hall_sql.specs.declared.tables.HallTable.{HallTable}
+use Rattle.hall_sql.specs.declared.tables.HallTable.TheVariants.{People, Puzzles, Rounds, Places, Answers, Protests}
 
 -- a query of one table, with no grouping and all its rows
 abbrev pub plain_query : ℕ → List Term → List Term → List (Term × Key) → Query
@@ -123,3 +125,65 @@ abbrev pub add_protest_text : List ℕ
 add_protest_text =
     codes "INSERT INTO protests (entrant, round, token, number, body, ruling, points) "
     ++ codes "VALUES (?1, ?2, ?3, ?4, ?5, ?6, ?7)"
+
+-- the round of an id, without its puzzles
+abbrev pub head_text : List ℕ
+head_text =
+    codes "SELECT id, title, start, minutes, protest_minutes, mode, penalty, bonus, released, published FROM rounds "
+    ++ codes "WHERE id = ?1"
+
+-- the rows under a round's id
+abbrev pub look_head_text : List ℕ
+look_head_text = codes "SELECT id FROM rounds WHERE id = ?1"
+
+-- a round under a new id
+abbrev pub add_head_text : List ℕ
+add_head_text =
+    codes "INSERT INTO rounds (id, title, start, minutes, protest_minutes, mode, penalty, bonus, released, published) "
+    ++ codes "VALUES (?1, ?2, ?3, ?4, ?5, ?6, ?7, ?8, ?9, ?10)"
+
+-- a round in the place of the one under its id
+abbrev pub replace_head_text : List ℕ
+replace_head_text =
+    codes "UPDATE rounds SET title = ?2, start = ?3, minutes = ?4, protest_minutes = ?5, mode = ?6, penalty = ?7, "
+    ++ codes "bonus = ?8, released = ?9, published = ?10 WHERE id = ?1"
+
+-- the puzzles of a round are taken out
+abbrev pub drop_places_text : List ℕ
+drop_places_text = codes "DELETE FROM round_puzzles WHERE round = ?1"
+
+-- one more puzzle of a round
+abbrev pub add_place_text : List ℕ
+add_place_text =
+    codes "INSERT INTO round_puzzles (round, number, author, label, points) VALUES (?1, ?2, ?3, ?4, ?5)"
+
+-- one more person
+abbrev pub add_person_text : List ℕ
+add_person_text = codes "INSERT INTO people (name, pass, roles) VALUES (?1, ?2, ?3)"
+
+-- the ruling of the protest under a key
+abbrev pub rule_protest_text : List ℕ
+rule_protest_text =
+    codes "UPDATE protests SET ruling = ?4, points = ?5 WHERE entrant = ?1 "
+    ++ codes "AND round = ?2 AND token = ?3"
+
+-- the places that have a puzzle
+abbrev pub places_with_text : List ℕ
+places_with_text =
+    codes "SELECT round, number, author, label, points FROM round_puzzles "
+    ++ codes "WHERE author = ?1 AND label = ?2"
+
+-- the places of a round, in the order of their numbers
+abbrev pub places_of_text : List ℕ
+places_of_text =
+    codes "SELECT round, number, author, label, points FROM round_puzzles "
+    ++ codes "WHERE round = ?1 ORDER BY number"
+
+-- the rowids of a table, in order
+abbrev pub rowids_text : HallTable → List ℕ
+rowids_text People = codes "SELECT rowid FROM people ORDER BY rowid"
+rowids_text Puzzles = codes "SELECT rowid FROM puzzles ORDER BY rowid"
+rowids_text Rounds = codes "SELECT rowid FROM rounds ORDER BY rowid"
+rowids_text Places = codes "SELECT rowid FROM round_puzzles ORDER BY rowid"
+rowids_text Answers = codes "SELECT rowid FROM answers ORDER BY rowid"
+rowids_text Protests = codes "SELECT rowid FROM protests ORDER BY rowid"

@@ -69,7 +69,7 @@ pub(crate) fn answers_of<S: Alter>(
     read_all(alloc, &rows)
 }
 
-const ANSWERS_IN: &str =
+pub(crate) const ANSWERS_IN: &str =
     "SELECT entrant, round, number, token, n, moment, answer, verdict FROM answers \
     WHERE round = ?1 ORDER BY entrant, number, n, token";
 

@@ -1,5 +1,5 @@
 //! One statement each: what it leaves of the connection.
-ghost use Rattle.std.specs.Prelude.{◌≡◌, ◌≤◌, IsTrue, Ok, IfOk, OnErr};
+ghost use Rattle.std.specs.Prelude.{◌≡◌, ◌≤◌, true, IsTrue, Ok, IfOk, OnOk, OnErr};
 ghost use Rattle.sqlite.specs.Values.{bound};
 ghost use Rattle.sqlite.specs.Held.{state};
 ghost use Rattle.sqlite.specs.Given.{IsPlain};
@@ -8,10 +8,11 @@ ghost use Rattle.sqlite.specs.State.{HasCleanDisk, Shown, Executes};
 ghost use Rattle.sqlite_trees.specs.View.{doubt};
 ghost use Rattle.hall_sql.specs.Tables.{hall_schema};
 ghost use Rattle.hall_sql.specs.Standing.{IsHall, Rested};
+ghost use Rattle.hall_sql.specs.Inside.{Carries};
 
 use hall_store::StoreFault;
 use sqlite::types::ValueRef;
-use sqlite::{Alter, Connection, Error, ErrorCode, Row};
+use sqlite::{Alter, Connection, Error, ErrorCode, Row, Transaction};
 
 /// Want of memory, or that the store failed.
 pub(crate) fn fault_of(error: &Error) -> StoreFault {
@@ -54,6 +55,43 @@ pub(crate) fn run<S: Alter>(
         Executes sql.now (bound params.now) (state S.Store conn.old) (state S.Store conn.new) (Ok count)) }
 {
     match conn.execute(sql, params) {
+        Ok(count) => Ok(count),
+        Err(error) => Err(fault_of(&error)),
+    }
+}
+
+/// All rows of a query inside a transaction.
+pub(crate) fn ask_in<S: Alter>(
+    tx: &mut Transaction<'_, S>,
+    sql: &str,
+    params: &[ValueRef<'_>],
+) -> Result<Vec<Row>, StoreFault>
+    ensures same_reference { tx.new.conn.ghost_name ≡ tx.old.conn.ghost_name }
+    ensures carries { Carries (state S.Store tx.old.conn.now) (state S.Store tx.new.conn.now) }
+    ensures shown { HasCleanDisk (state S.Store tx.new.conn.now) → IfOk result (λ rows.
+        Shown sql.now (bound params.now) (state S.Store tx.old.conn.now) (state S.Store tx.new.conn.now) rows.items) }
+{
+    match tx.query_all(sql, params) {
+        Ok(rows) => Ok(rows),
+        Err(error) => Err(fault_of(&error)),
+    }
+}
+
+/// Runs a statement that is no query inside a transaction.
+pub(crate) fn run_in<S: Alter>(
+    tx: &mut Transaction<'_, S>,
+    sql: &str,
+    params: &[ValueRef<'_>],
+) -> Result<usize, StoreFault>
+    ensures same_reference { tx.new.conn.ghost_name ≡ tx.old.conn.ghost_name }
+    ensures carries { Carries (state S.Store tx.old.conn.now) (state S.Store tx.new.conn.now) }
+    ensures mode { HasCleanDisk (state S.Store tx.new.conn.now) → IsTrue (state S.Store tx.old.conn.now).in_transaction
+        → OnOk result ((state S.Store tx.new.conn.now).in_transaction ≡ true) }
+    ensures runs { HasCleanDisk (state S.Store tx.new.conn.now) → IsTrue (state S.Store tx.old.conn.now).in_transaction
+        → IfOk result (λ count. Executes sql.now (bound params.now)
+        (state S.Store tx.old.conn.now) (state S.Store tx.new.conn.now) (Ok count)) }
+{
+    match tx.execute(sql, params) {
         Ok(count) => Ok(count),
         Err(error) => Err(fault_of(&error)),
     }

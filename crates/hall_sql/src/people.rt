@@ -1,16 +1,20 @@
 //! The table of people.
-ghost use Rattle.std.specs.Prelude.{◌≡◌};
+ghost use Rattle.std.specs.Prelude.{◌≡◌, IsTrue, IfOk, OnOk, [], ◌∷◌};
 ghost use Rattle.std.specs.FinMap.{get};
 ghost use Rattle.sqlite.specs.Held.{state};
+ghost use Rattle.sqlite.specs.State.{HasCleanDisk};
 ghost use Rattle.hall_store.specs.Store.{Served};
 ghost use Rattle.hall_store.specs.Caller.{IsKeyHolder};
-ghost use Rattle.hall_sql.specs.Standing.{IsHall, Rested, content_of};
+ghost use Rattle.hall_store.specs.declared.change.Change.TheVariants.{Import};
+ghost use Rattle.hall_sql.specs.Columns.{roles_code};
+ghost use Rattle.hall_sql.specs.Standing.{IsHall, Rested, Wrote, content_of};
+ghost use Rattle.hall_sql.specs.Inside.{Carries, Did, Changes, Tells, AddsPerson};
 
-use crate::calls::ask;
+use crate::calls::{ask, ask_in, fault_of, run_in};
 use crate::record::{at_most_one, read_all};
-use hall_policy::{Key, Name, Person};
+use hall_policy::{Key, Name, People, Person, Roles};
 use hall_store::StoreFault;
-use sqlite::{Alter, Connection, params};
+use sqlite::{Alter, Connection, Transaction, params};
 use std::alloc::Global;
 
 const PERSON: &str = "SELECT name, pass, roles FROM people WHERE name = ?1";
@@ -46,4 +50,108 @@ pub(crate) fn person_by_key<S: Alter>(
     let _schema = conn.schema();
     let rows = ask(conn, PERSON_BY_KEY, params![key.as_str()])?;
     at_most_one(read_all(alloc, &rows)?)
+}
+
+/// The person of the name, as the transaction has it.
+fn person_in<S: Alter>(
+    tx: &mut Transaction<'_, S>,
+    alloc: Global,
+    name: &Name,
+) -> Result<Option<Person>, StoreFault>
+    ensures same_reference { tx.new.conn.ghost_name ≡ tx.old.conn.ghost_name }
+    ensures carries { Carries (state S.Store tx.old.conn.now) (state S.Store tx.new.conn.now) }
+    ensures done { HasCleanDisk (state S.Store tx.new.conn.now) → IsTrue (state S.Store tx.old.conn.now).in_transaction
+        → IfOk result (λ found. Did (Tells (λ world. found ≡ get world.people name.now))
+        (state S.Store tx.old.conn.now) (state S.Store tx.new.conn.now)) }
+{
+    let rows = ask_in(tx, PERSON, params![name.as_str()])?;
+    at_most_one(read_all(alloc, &rows)?)
+}
+
+/// The sum of the roles.
+fn roles_code(roles: &Roles) -> u32
+    ensures { result ≡ roles_code roles.now }
+{
+    u32::from(roles.director)
+        + 2 * u32::from(roles.author)
+        + 4 * u32::from(roles.referee)
+        + 8 * u32::from(roles.entrant)
+}
+
+const ADD_PERSON: &str = "INSERT INTO people (name, pass, roles) VALUES (?1, ?2, ?3)";
+
+/// Adds a person whose name is unknown.
+fn add_person<S: Alter>(tx: &mut Transaction<'_, S>, person: &Person) -> Result<(), StoreFault>
+    ensures same_reference { tx.new.conn.ghost_name ≡ tx.old.conn.ghost_name }
+    ensures carries { Carries (state S.Store tx.old.conn.now) (state S.Store tx.new.conn.now) }
+    ensures done { HasCleanDisk (state S.Store tx.new.conn.now) → IsTrue (state S.Store tx.old.conn.now).in_transaction
+        → OnOk result (Did (AddsPerson person.now) (state S.Store tx.old.conn.now) (state S.Store tx.new.conn.now)) }
+{
+    person.in_range();
+    run_in(
+        tx,
+        ADD_PERSON,
+        params![
+            person.name.as_str(),
+            person.key.as_str(),
+            roles_code(&person.roles)
+        ],
+    )?;
+    Ok(())
+}
+
+/// Adds the person where the name is unknown.
+fn import_one<S: Alter>(
+    tx: &mut Transaction<'_, S>,
+    alloc: Global,
+    person: &Person,
+) -> Result<(), StoreFault>
+    ensures same_reference { tx.new.conn.ghost_name ≡ tx.old.conn.ghost_name }
+    ensures carries { Carries (state S.Store tx.old.conn.now) (state S.Store tx.new.conn.now) }
+    ensures done { HasCleanDisk (state S.Store tx.new.conn.now) → IsTrue (state S.Store tx.old.conn.now).in_transaction
+        → OnOk result (Did (Changes (Import (person.now ∷ [])))
+        (state S.Store tx.old.conn.now) (state S.Store tx.new.conn.now)) }
+{
+    match person_in(tx, alloc, &person.name)? {
+        Some(_) => Ok(()),
+        None => add_person(tx, person),
+    }
+}
+
+/// Adds those whose names are unknown.
+fn import_all<S: Alter>(
+    tx: &mut Transaction<'_, S>,
+    alloc: Global,
+    people: &[Person],
+) -> Result<(), StoreFault>
+    ensures same_reference { tx.new.conn.ghost_name ≡ tx.old.conn.ghost_name }
+    ensures carries { Carries (state S.Store tx.old.conn.now) (state S.Store tx.new.conn.now) }
+    ensures done { HasCleanDisk (state S.Store tx.new.conn.now) → IsTrue (state S.Store tx.old.conn.now).in_transaction
+        → OnOk result (Did (Changes (Import people.now))
+        (state S.Store tx.old.conn.now) (state S.Store tx.new.conn.now)) }
+{
+    for person in people {
+        import_one(tx, alloc, person)?;
+    }
+    Ok(())
+}
+
+/// Adds the people of the list whose names are unknown: all of them or none.
+pub(crate) fn import<S: Alter>(
+    conn: &mut Connection<S>,
+    alloc: Global,
+    people: &People,
+) -> Result<(), StoreFault>
+    requires hall { IsHall (state S.Store conn.old) }
+    ensures { Wrote (Import people.now) (state S.Store conn.old) (state S.Store conn.new) result }
+{
+    if !conn.is_autocommit() {
+        return Err(StoreFault::Failed);
+    }
+    let mut tx = conn.transaction();
+    import_all(&mut tx, alloc, people.as_slice())?;
+    match tx.commit() {
+        Ok(()) => Ok(()),
+        Err(error) => Err(fault_of(&error)),
+    }
 }

@@ -9,9 +9,9 @@ ghost use Rattle.hall_policy.specs.Rules.{protests_made};
 ghost use Rattle.hall_policy.specs.World.{ruling_points};
 ghost use Rattle.hall_store.specs.Store.{Served, IsProtestOpen, Asks, protests_of, protests_in};
 ghost use Rattle.hall_store.specs.Change.{CanAddProtest};
-ghost use Rattle.hall_store.specs.declared.change.Change.TheVariants.{AddProtest};
-ghost use Rattle.hall_sql.specs.Statements.{add_protest_text};
-ghost use Rattle.hall_sql.specs.Columns.{protest_params, ruling_code};
+ghost use Rattle.hall_store.specs.declared.change.Change.TheVariants.{AddProtest, RuleProtest};
+ghost use Rattle.hall_sql.specs.Statements.{add_protest_text, rule_protest_text};
+ghost use Rattle.hall_sql.specs.Columns.{protest_params, ruling_code, ruling_params, IsAlone};
 ghost use Rattle.hall_sql.specs.Standing.{IsHall, Rested, Wrote, content_of};
 
 use crate::calls::{ask, run};
@@ -34,6 +34,8 @@ pub(crate) fn protest<S: Alter>(
     ensures rested { Rested (state S.Store conn.old) (state S.Store conn.new) }
     ensures served { Served (content_of (state S.Store conn.new)) result
         (λ world found. found ≡ get world.protests key.now) }
+    ensures alone { HasCleanDisk (state S.Store conn.new) → IfOk result
+        (λ found. IfSome found (IsAlone key.now (state S.Store conn.new))) }
 {
     let rows = ask(
         conn,
@@ -79,7 +81,7 @@ pub(crate) fn protests_made<S: Alter>(
     Ok(protests_of(conn, alloc, entrant, round)?.len() as u64)
 }
 
-const PROTESTS_IN: &str =
+pub(crate) const PROTESTS_IN: &str =
     "SELECT entrant, round, token, number, body, ruling, points FROM protests \
     WHERE round = ?1 ORDER BY entrant, round, token";
 
@@ -163,7 +165,8 @@ fn write<S: Alter>(conn: &mut Connection<S>, row: &ProtestRow) -> Result<usize, 
     ensures clean { doubt (state S.Store conn.old).is_clean ≤ doubt (state S.Store conn.new).is_clean }
     ensures refused { OnErr result (Rested (state S.Store conn.old) (state S.Store conn.new)) }
     ensures runs { HasCleanDisk (state S.Store conn.new) → IfOk result (λ count.
-        Executes add_protest_text (protest_params row.now) (state S.Store conn.old) (state S.Store conn.new) (Ok count)) }
+        Executes add_protest_text (protest_params row.now) (state S.Store conn.old) (state S.Store conn.new)
+        (Ok count)) }
 {
     run(
         conn,
@@ -193,5 +196,68 @@ pub(crate) fn add_protest<S: Alter>(
     match write(conn, row) {
         Ok(_) => Ok(()),
         Err(fault) => Err(fault),
+    }
+}
+
+const RULE_PROTEST: &str = "UPDATE protests SET ruling = ?4, points = ?5 WHERE entrant = ?1 \
+    AND round = ?2 AND token = ?3";
+
+/// Writes the columns of a ruling under a protest's key.
+fn write_ruling<S: Alter>(
+    conn: &mut Connection<S>,
+    key: &ProtestKey,
+    ruling: &Option<Ruling>,
+) -> Result<usize, StoreFault>
+    requires hall { IsHall (state S.Store conn.old) }
+    ensures in_range { IfSome ruling.now IsRuling }
+    ensures clean { doubt (state S.Store conn.old).is_clean ≤ doubt (state S.Store conn.new).is_clean }
+    ensures refused { OnErr result (Rested (state S.Store conn.old) (state S.Store conn.new)) }
+    ensures runs { HasCleanDisk (state S.Store conn.new) → IfOk result (λ count. Executes rule_protest_text
+        (ruling_params key.now ruling.now) (state S.Store conn.old) (state S.Store conn.new) (Ok count)) }
+{
+    run(
+        conn,
+        RULE_PROTEST,
+        params![
+            key.entrant.as_str(),
+            key.round.as_str(),
+            key.token.as_str(),
+            ruling_code(ruling),
+            points_of(ruling)
+        ],
+    )
+}
+
+/// Rules the protest that stands alone under its key.
+fn rule_found<S: Alter>(
+    conn: &mut Connection<S>,
+    key: &ProtestKey,
+    row: &ProtestRow,
+    ruling: Ruling,
+) -> Result<(), StoreFault>
+    requires hall { IsHall (state S.Store conn.old) }
+    requires alone { HasCleanDisk (state S.Store conn.old) → IsAlone key.now (state S.Store conn.old) row.now }
+    ensures { Wrote (RuleProtest key.now ruling) (state S.Store conn.old) (state S.Store conn.new) result }
+{
+    in_range(row);
+    match write_ruling(conn, key, &Some(ruling)) {
+        Ok(_) => Ok(()),
+        Err(fault) => Err(fault),
+    }
+}
+
+/// Rules the protest under the key.
+pub(crate) fn rule_protest<S: Alter>(
+    conn: &mut Connection<S>,
+    alloc: Global,
+    key: &ProtestKey,
+    ruling: Ruling,
+) -> Result<(), StoreFault>
+    requires hall { IsHall (state S.Store conn.old) }
+    ensures { Wrote (RuleProtest key.now ruling) (state S.Store conn.old) (state S.Store conn.new) result }
+{
+    match protest(conn, alloc, key)? {
+        Some(row) => rule_found(conn, key, &row, ruling),
+        None => Ok(()),
     }
 }

@@ -7,12 +7,14 @@ ghost use Rattle.hall_sql.specs.Values.{unsolved_of, state_in, int_in, ruling_po
 ghost use Rattle.hall_sql.specs.Values.{mode_in, flag_in};
 ghost use Rattle.hall_grid.proofs.SpellsOrHasFault.{spells_or_fault};
 ghost use Rattle.hall_sql.specs.Rows.{person_in, puzzle_row_in, IsAnswerKeyIn, answer_in, protest_in, round_in};
+ghost use Rattle.hall_sql.specs.Rows.{place_in};
 
 use crate::calls::fault_of;
 use hall_grid::{Broken, Puzzle, TextFault, parse_puzzle};
 use hall_policy::{
-    AnswerKey, AnswerRow, AnswerText, Checked, Mode, Person, ProtestKey, ProtestRow, PuzzleKey,
-    PuzzleRow, PuzzleState, Roles, Round, Ruling, RulingPoints, TextKind, Within,
+    AnswerKey, AnswerRow, AnswerText, Checked, Entry, Mode, Person, PlaceKey, ProtestKey,
+    ProtestRow, PuzzleKey, PuzzleRow, PuzzleState, Roles, Round, Ruling, RulingPoints, TextKind,
+    Within,
 };
 use hall_store::StoreFault;
 use sqlite::Row;
@@ -313,6 +315,28 @@ impl Record for Round {
             released,
             published,
         })
+    }
+}
+
+/// The place of a puzzle in a round, and the puzzle there.
+pub(crate) type Place = (PlaceKey, Entry);
+
+impl Record for Place {
+    ghost read = { place_in };
+
+    fn from_row(_: Global, row: &Row) -> Result<Place, StoreFault> {
+        let round = text_at(row, 0)?;
+        let number = number_at(row, 1)?;
+        let author = text_at(row, 2)?;
+        let label = text_at(row, 3)?;
+        let points = number_at(row, 4)?;
+        Ok((
+            PlaceKey { round, number },
+            Entry {
+                puzzle: PuzzleKey { author, label },
+                points,
+            },
+        ))
     }
 }
 

@@ -1,15 +1,19 @@
 //! The table of rounds.
-ghost use Rattle.std.specs.Prelude.{◌≡◌};
-ghost use Rattle.std.specs.FinMap.{values};
+ghost use Rattle.std.specs.Prelude.{◌≡◌, ℕ, List, map, IfOk, IfSome};
+ghost use Rattle.std.specs.FinMap.{get, values};
 ghost use Rattle.sqlite.specs.Held.{state};
-ghost use Rattle.hall_store.specs.Store.{Served};
+ghost use Rattle.sqlite.specs.State.{HasCleanDisk};
+ghost use Rattle.hall_policy.specs.World.{World};
+ghost use Rattle.hall_store.specs.Store.{Served, AreUsing, IsRoundKept};
+ghost use Rattle.hall_sql.specs.Places.{has_puzzle, is_in_round, ArePlaces, AreListed, AreNumbered};
+ghost use Rattle.hall_sql.specs.RoundColumns.{IsHead};
 ghost use Rattle.hall_sql.specs.Standing.{IsHall, Rested, content_of};
 
 use crate::calls::ask;
-use crate::record::read_all;
-use hall_policy::Round;
+use crate::record::{Place, at_most_one, read_all};
+use hall_policy::{Entries, Entry, PuzzleKey, Round, RoundId, RoundRow};
 use hall_store::StoreFault;
-use sqlite::{Alter, Connection};
+use sqlite::{Alter, Connection, params};
 use std::alloc::Global;
 
 const ROUNDS: &str =
@@ -29,4 +33,147 @@ pub(crate) fn rounds<S: Alter>(
     let _schema = conn.schema();
     let rows = ask(conn, ROUNDS, &[])?;
     read_all(alloc, &rows)
+}
+
+const PLACES_WITH: &str = "SELECT round, number, author, label, points FROM round_puzzles \
+    WHERE author = ?1 AND label = ?2";
+
+/// The places that have the puzzle.
+fn places_with<S: Alter>(
+    conn: &mut Connection<S>,
+    alloc: Global,
+    key: &PuzzleKey,
+) -> Result<Vec<Place>, StoreFault>
+    requires hall { IsHall (state S.Store conn.old) }
+    ensures rested { Rested (state S.Store conn.old) (state S.Store conn.new) }
+    ensures served { Served (content_of (state S.Store conn.new)) result
+        (λ world places. ArePlaces world (has_puzzle key.now) places.items) }
+{
+    let _schema = conn.schema();
+    let rows = ask(
+        conn,
+        PLACES_WITH,
+        params![key.author.as_str(), key.label.as_str()],
+    )?;
+    read_all(alloc, &rows)
+}
+
+/// The rounds of the places.
+fn rounds_of(alloc: Global, places: Vec<Place>) -> Result<Vec<RoundId>, StoreFault>
+    ensures { IfOk result (λ ids. ids.items ≡ map (λ place. place.0.round) places.items) }
+{
+    let mut ids = Vec::new(alloc);
+    for (key, _) in places {
+        if ids.push(key.round).is_err() {
+            return Err(StoreFault::Memory);
+        }
+    }
+    Ok(ids)
+}
+
+/// The ids of the rounds that have the puzzle.
+pub(crate) fn rounds_using<S: Alter>(
+    conn: &mut Connection<S>,
+    alloc: Global,
+    key: &PuzzleKey,
+) -> Result<Vec<RoundId>, StoreFault>
+    requires hall { IsHall (state S.Store conn.old) }
+    ensures rested { Rested (state S.Store conn.old) (state S.Store conn.new) }
+    ensures served { Served (content_of (state S.Store conn.new)) result
+        (λ world ids. AreUsing world key.now ids.items) }
+{
+    let places = places_with(conn, alloc, key)?;
+    rounds_of(alloc, places)
+}
+
+const HEAD: &str =
+    "SELECT id, title, start, minutes, protest_minutes, mode, penalty, bonus, released, published \
+    FROM rounds WHERE id = ?1";
+
+/// The round of the id without its puzzles, and that one row stands under the id.
+pub(crate) fn head<S: Alter>(
+    conn: &mut Connection<S>,
+    alloc: Global,
+    id: &RoundId,
+) -> Result<Option<Round>, StoreFault>
+    requires hall { IsHall (state S.Store conn.old) }
+    ensures rested { Rested (state S.Store conn.old) (state S.Store conn.new) }
+    ensures served { Served (content_of (state S.Store conn.new)) result
+        (λ world found. found ≡ get world.rounds id.now) }
+    ensures alone { HasCleanDisk (state S.Store conn.new) → IfOk result
+        (λ found. IfSome found (IsHead id.now (state S.Store conn.new))) }
+{
+    let rows = ask(conn, HEAD, params![id.as_str()])?;
+    at_most_one(read_all(alloc, &rows)?)
+}
+
+const PLACES_OF: &str = "SELECT round, number, author, label, points FROM round_puzzles \
+    WHERE round = ?1 ORDER BY number";
+
+/// The places of the round, in the order of their numbers.
+fn places_of<S: Alter>(
+    conn: &mut Connection<S>,
+    alloc: Global,
+    id: &RoundId,
+) -> Result<Vec<Place>, StoreFault>
+    requires hall { IsHall (state S.Store conn.old) }
+    ensures rested { Rested (state S.Store conn.old) (state S.Store conn.new) }
+    ensures served { Served (content_of (state S.Store conn.new)) result
+        (λ world places. AreListed world id.now places.items) }
+{
+    let _schema = conn.schema();
+    let rows = ask(conn, PLACES_OF, params![id.as_str()])?;
+    read_all(alloc, &rows)
+}
+
+/// The entries of places that are numbered from 1 on.
+fn entries_of(alloc: Global, places: Vec<Place>) -> Result<Vec<Entry>, StoreFault>
+    ensures { IfOk result
+        (λ entries. (entries.items ≡ map (λ place. place.1) places.items) × AreNumbered places.items) }
+{
+    let mut entries = Vec::new(alloc);
+    for (key, entry) in places {
+        if key.number.get() != entries.len() as u64 + 1 {
+            return Err(StoreFault::Failed);
+        }
+        if entries.push(entry).is_err() {
+            return Err(StoreFault::Memory);
+        }
+    }
+    Ok(entries)
+}
+
+/// The round of a head and its places; none where there is neither.
+fn row_of(
+    alloc: Global,
+    head: Option<Round>,
+    places: Vec<Place>,
+) -> Result<Option<RoundRow>, StoreFault>
+    ensures { (world : World) (id : List ℕ) → head ≡ get world.rounds id → ArePlaces world (is_in_round id) places.items
+        → IfOk result (IsRoundKept world id) }
+{
+    match head {
+        Some(round) => {
+            let puzzles = Entries::new(entries_of(alloc, places)?).ok_or(StoreFault::Failed)?;
+            Ok(Some(RoundRow { round, puzzles }))
+        }
+        None if places.is_empty() => Ok(None),
+        None => Err(StoreFault::Failed),
+    }
+}
+
+/// The round with its list of puzzles; none where neither is kept.
+pub(crate) fn round<S: Alter>(
+    conn: &mut Connection<S>,
+    alloc: Global,
+    id: &RoundId,
+) -> Result<Option<RoundRow>, StoreFault>
+    requires hall { IsHall (state S.Store conn.old) }
+    ensures rested { Rested (state S.Store conn.old) (state S.Store conn.new) }
+    ensures served { Served (content_of (state S.Store conn.new)) result
+        (λ world found. IsRoundKept world id.now found) }
+{
+    let head = head(conn, alloc, id)?;
+    let places = places_of(conn, alloc, id)?;
+    row_of(alloc, head, places)
 }

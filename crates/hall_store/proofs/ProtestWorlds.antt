@@ -30,7 +30,7 @@ first_or_later x xs y among =
     ] at.1
 
 pub open_first : (round : List ℕ) (row : ProtestRow) (rest : List ProtestRow) → IsOpenIn round row → HasOpen round (row ∷ rest)
-open_first round row rest is = (row, contained (row ∷ rest) row 0 refl, is)
+open_first round first rest is = (first, contained (first ∷ rest) first 0 refl, is)
 
 pub open_later : (round : List ℕ) (row : ProtestRow) (rest : List ProtestRow) → (IsOpenIn round row → ⊥) → HasOpen round (row ∷ rest) ↔ HasOpen round rest
 open_later round row rest shut = (

@@ -84,12 +84,37 @@ fn released(rt: &(impl AllocGlobal + Abort), desk: &mut Desk<MapStore>, t: Momen
     matches!(&reply, Reply::Released(_))
 }
 
+/// Dora's publication of the round r1.
+fn publication(rt: &(impl AllocGlobal + Abort)) -> Request {
+    Request {
+        key: Some(text(rt, "dora-key")),
+        action: Action::Publish {
+            round: text(rt, "r1"),
+        },
+    }
+}
+
+/// The world before the round r1, which is released.
+pub(crate) fn released_desk(rt: &(impl AllocGlobal + Abort)) -> Desk<MapStore> {
+    let t = number(rt, 1_777_712_399);
+    let mut desk = opening_desk(rt);
+    assert!(rt; certified(rt, &mut desk, t) && released(rt, &mut desk, t));
+    desk
+}
+
+/// The world after the round r1, in which eve alone answered, as the round began.
+pub(crate) fn published_desk(rt: &(impl AllocGlobal + Abort)) -> Desk<MapStore> {
+    let mut desk = released_desk(rt);
+    let replies = desk.run(rt.alloc(), &requests(rt)).expect(rt, "run");
+    assert!(rt; replies.len() == 4);
+    let reply = desk.step(rt.alloc(), number(rt, 1_777_717_800), &publication(rt));
+    assert!(rt; matches!(&reply, Reply::Published(_)));
+    desk
+}
+
 #[test]
 fn plans_are_committed_and_lists_run(rt: HostRuntime) {
-    let t = number(&rt, 1_777_712_399);
-    let mut desk = opening_desk(&rt);
-    assert!(rt; certified(&rt, &mut desk, t));
-    assert!(rt; released(&rt, &mut desk, t));
+    let mut desk = released_desk(&rt);
     let replies = desk.run(rt.alloc(), &requests(&rt)).expect(&rt, "run");
     assert!(rt; replies.len() == 4);
     for (reply, number) in replies.iter().zip([None, Some(1), Some(2), Some(1)]) {

@@ -1,10 +1,11 @@
 //! The commands: what they write and how they end, over whole inputs and over devices that fail.
+use crate::desk::{published_desk, released_desk};
 use crate::devices::{failing_reader, failing_writer};
 use crate::limited::LimitedStore;
 use hall_desk::Desk;
 use hall_grid::Counted;
 use hall_store::{MapStore, Store};
-use hall_tool::{ToolFault, judge_run, seed_run, solve_run};
+use hall_tool::{ToolFault, init_run, judge_run, seed_run, solve_run, table_run};
 use std::alloc::Global;
 use std::io::{ErrorKind, Read, Write};
 use std::test::Fail;
@@ -242,6 +243,99 @@ fn a_list_is_seeded_or_a_line_tells_why_not(rt: HostRuntime) {
         assert!(rt; ended == Ok(*status), "list {place}");
         assert!(rt; writer.into_inner().as_slice() == *line, "list {place}");
     }
+}
+
+/// What is written of the lists that are taken, where their people are counted.
+const ADDED: [&[u8]; 4] = [b"added 0\n", b"added 6\n", b"added 0\n", b"added 1\n"];
+
+#[test]
+fn a_list_is_imported_and_its_people_counted(rt: HostRuntime) {
+    let mut desk = Desk::new(MapStore::new(rt.alloc()));
+    let mut added = ADDED.iter();
+    for (place, (list, line, status)) in LISTS.iter().enumerate() {
+        let mut writer = Counted::new(Vec::new(rt.alloc()));
+        let ended = init_run(rt.alloc(), &mut desk, list, &mut writer);
+        assert!(rt; ended == Ok(*status), "list {place}");
+        let written = writer.into_inner();
+        if *status == 0 {
+            assert!(rt; added.next() == Some(&written.as_slice()), "list {place}");
+        } else {
+            assert!(rt; written.as_slice() == *line, "list {place}");
+        }
+    }
+    assert!(rt; added.next().is_none());
+}
+
+#[test]
+fn a_list_is_imported_over_a_writer_that_fails(rt: HostRuntime) {
+    for fails_at in 0..8 {
+        let mut desk = Desk::new(MapStore::new(rt.alloc()));
+        let mut writer = failing_writer(fails_at, fails_at % 2 == 0);
+        let ended = init_run(rt.alloc(), &mut desk, PEOPLE, &mut writer);
+        assert!(rt; ended == Err(ToolFault::Device));
+        assert!(rt; writer.failures() == 1 && writer.into_inner().asked == fails_at + 1);
+        // The people were imported before the line was written.
+        let mut writer = Counted::new(Vec::new(rt.alloc()));
+        assert!(rt; init_run(rt.alloc(), &mut desk, PEOPLE, &mut writer) == Ok(0));
+        assert!(rt; writer.into_inner().as_slice() == b"added 0\n".as_slice());
+    }
+}
+
+/// Words that name no released round: a draft's id, one of none, and four that are no round's id.
+const NO_ROUNDS: [&[u8]; 6] = [
+    b"r2",
+    b"r9",
+    b"UP",
+    b"",
+    b"r\xff",
+    b"a-name-of-more-than-24-bytes",
+];
+
+/// Forty points, and two for each of sixty minutes.
+const TABLE: &[u8] = b"   1 eve                           160\n";
+
+/// Writes a table, and what was written.
+fn tabled<S: Store>(
+    alloc: Global,
+    desk: &mut Desk<S>,
+    round: &[u8],
+) -> (Result<u8, ToolFault>, Vec<u8>) {
+    let mut writer = Counted::new(Vec::new(alloc));
+    let ended = table_run(alloc, desk, round, &mut writer);
+    (ended, writer.into_inner())
+}
+
+#[test]
+fn a_table_is_written_or_denied(rt: HostRuntime) {
+    let mut desk = released_desk(&rt);
+    for round in &NO_ROUNDS {
+        let (ended, written) = tabled(rt.alloc(), &mut desk, round);
+        assert!(rt; ended == Ok(2) && written.as_slice() == b"denied 4\n".as_slice());
+    }
+    let (ended, written) = tabled(rt.alloc(), &mut desk, b"r1");
+    assert!(rt; ended == Ok(2) && written.as_slice() == b"denied 15\n".as_slice());
+    let mut desk = published_desk(&rt);
+    for _ in 0..2 {
+        let (ended, written) = tabled(rt.alloc(), &mut desk, b"r1");
+        assert!(rt; ended == Ok(0) && written.as_slice() == TABLE);
+    }
+    for fails_at in 0..TABLE.len() {
+        let mut writer = failing_writer(fails_at, fails_at % 2 == 0);
+        let ended = table_run(rt.alloc(), &mut desk, b"r1", &mut writer);
+        assert!(rt; ended == Err(ToolFault::Device));
+        assert!(rt; writer.failures() == 1 && writer.into_inner().asked == fails_at + 1);
+    }
+}
+
+#[test]
+fn a_table_over_a_store_that_fails(rt: HostRuntime) {
+    let store = MapStore::new(rt.alloc());
+    let mut desk = Desk::new(LimitedStore { store, left: 0 });
+    let (ended, written) = tabled(rt.alloc(), &mut desk, b"r1");
+    assert!(rt; ended == Err(ToolFault::Store) && written.is_empty());
+    // Bytes that are no round's id don't ask the store.
+    let (ended, written) = tabled(rt.alloc(), &mut desk, b"UP");
+    assert!(rt; ended == Ok(2) && written.as_slice() == b"denied 4\n".as_slice());
 }
 
 /// Seeds the desk, and what was written.

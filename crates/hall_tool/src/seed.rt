@@ -57,7 +57,7 @@ pub(crate) fn seed_desk<S: Store>(
 }
 
 /// Why nobody was added, on a line; where people were, no line.
-fn seeded_ending(alloc: Global, seeded: Seeded) -> Result<Ending, AllocError>
+pub(crate) fn seeded_ending(alloc: Global, seeded: Seeded) -> Result<Ending, AllocError>
     ensures line { IfOk result
         (λ a. (string_bytes a.line ≡ seeded_line seeded) × (a.status ≡ seeded_status seeded)) }
     ensures memory { OnErr result (AddsNobody seeded) }

@@ -30,7 +30,7 @@ loop-centre-preserved c =
       deduced = (narrows, omega arith);
       grows = Grows-twice c.args.partial.now c.loop-centre.partial c.set_open.new.partial c.loop-centre.invariant.grows c.set_open.ensures.grows;
       alive = λ (e : Advanced ≡ Dead). cc;
-      silent = λ (e : Advanced ≡ Settled). absurd (cc);
+      silent = λ all (e : Advanced ≡ Settled). absurd (cc);
       centres = c.in_ok-set_open-in-AllBe.ensures.centres;
     }
 
@@ -59,7 +59,7 @@ loop-centre-preserved-in-Nothing c =
       grows = before.grows;
       alive = before.alive;
       centres = popped.0;
-      silent = λ settled x is. elim (before.silent settled x is) [
+      silent = λ all settled x is. elim (before.silent all settled x is) [
         | inl has ↦ elim (Contains-push_cases c.pop.new.self.items c.in-Some.centre x (subst (λ xs. Contains xs x) c.in-Some.ensures.items has)) [
           | inl still ↦ inl still
           | inr e ↦ inr (subst (IsSilent c.args.puzzle.now c.loop-centre.partial.places) e (c.in-Nothing.ensures.silent refl))
@@ -77,7 +77,7 @@ set_open-requires-clause-centres c =
     (All-pop (IsCentre c.size-size.result) c.loop-centre.stack.items c.pop.new.self.items (Some c.in-Some.centre) c.in-Some.ensures.items c.loop-centre.invariant.centres).0
 
 pub returns-clause-silent : goal.returns-clause-silent
-returns-clause-silent c = λ settled x is. elim (c.loop-centre.invariant.silent settled x is) [
+returns-clause-silent c = λ all settled x is. elim (c.loop-centre.invariant.silent all settled x is) [
   | inl has ↦ absurd (let low : has.0 < length c.loop-centre.stack.items = has.1 in let empty = c.in_default.ensures.cases in let size = c.loop-centre.stack.ok.0 in omega arith)
   | inr silent ↦ silent
 ]

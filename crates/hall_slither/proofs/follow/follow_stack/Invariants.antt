@@ -6,7 +6,7 @@ use Rattle.hall_solve.specs.Trail.{Grows}
 use Rattle.hall_solve.specs.declared.deduce.Pass.TheVariants.{Settled, Dead}
 use Rattle.hall_slither.specs.Count.{IsCentre, IsSilent}
 use Rattle.hall_slither.specs.declared.count.Centre.{Centre}
-use Rattle.hall_slither.specs.Follow.{work}
+use Rattle.hall_slither.specs.Follow.{HasAll, work}
 use Rattle.hall_grid.specs.declared.board.Kind.TheVariants.{Slither}
 use Rattle.hall_solve.specs.Puzzle.{question_of}
 use Rattle.hall_slither.proofs.follow.follow_stack.Given as goal
@@ -18,7 +18,7 @@ invariant-loop-centre l = record {
   grows : Grows l.fn.partial l.partial;
   alive : l.pass ≢ Dead;
   centres : All (IsCentre l.size) l.stack.items;
-  silent : l.pass ≡ Settled → (centre : Centre) → IsCentre l.puzzle.size centre → Contains l.stack.items centre ⊎ IsSilent l.puzzle l.partial.places centre;
+  silent : HasAll l.fn.puzzle.size l.fn.stack.items → l.pass ≡ Settled → (centre : Centre) → IsCentre l.puzzle.size centre → Contains l.stack.items centre ⊎ IsSilent l.puzzle l.partial.places centre;
 }
 
 abbrev pub decreases-loop-centre : goal.decreases-loop-centre

@@ -1,11 +1,18 @@
+use Rattle.std.proofs.Common.{◌≡◌, subst, sym}
 use Rattle.hall_grid.specs.declared.board.Kind.TheVariants.{Slither}
+use Rattle.hall_solve.specs.declared.deduce.Pass.{Pass}
+use Rattle.hall_solve.specs.Deduction.{IsDeduced}
 use Rattle.hall_solve.specs.Puzzle.{question_of}
+use Rattle.hall_slither.specs.Count.{AreSilent}
 use Rattle.hall_slither.proofs.AreSilent.{silent_still}
 use Rattle.hall_slither.proofs.rules.DeductionsDeduce.pass.Goals as goal
 
-pub returns-in-Settled-clause-settled : goal.returns-in-Settled-clause-settled
-returns-in-Settled-clause-settled c =
+pub returns-in-Settled-2-clause-settled : goal.returns-in-Settled-2-clause-settled
+returns-in-Settled-2-clause-settled c =
     let board = c.self.inside.puzzle.now in
+    let q = question_of Slither board in
+    let same : c.close_chains.new.partial.places ≡ c.follow_counts.new.partial.places =
+    subst (λ (x : Pass). IsDeduced q c.follow_counts.new.partial.places c.close_chains.new.partial.places x) c.in-Settled-2.is c.in_ok-pass-2.ensures.deduced in
     rw (← c.self.view_is)
-    (silent_still (question_of Slither board) board c.follow_counts.new.partial.places c.close_chains.new.partial.places c.close_chains.result
-    (c.in_ok-pass.ensures.silent c.in-Settled.is) c.close_chains.ensures.deduced)
+    (silent_still q board c.close_chains.new.partial.places c.try_sides.new.partial.places c.try_sides.result
+    (subst (λ p. AreSilent board p) (sym same) (c.in_ok-pass.ensures.silent c.in-Settled.is)) c.try_sides.ensures.deduced)

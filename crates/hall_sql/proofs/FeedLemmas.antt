@@ -1,0 +1,199 @@
+-- What a sink has taken of the rows that a query gives.
+use Rattle.std.proofs.Common.{◌≡◌, ◌≤◌, ◌⊎◌, inl, inr, ℕ, List, [], ◌∷◌, ◌++◌, map, flat_map, true, false, Bool, Option, Some, None, Result, Ok, Err, IsTrue, option_to_list, refl, sym, ap, subst, ◌∙◌, arith}
+use Rattle.std.proofs.lemmas.Grind.{flat_map-append}
+use Rattle.std.specs.Result.{IsErrAnd}
+use Rattle.sqlite_trees.specs.declared.store.Store.{Ghosts}
+use Rattle.sqlite_trees.specs.View.{doubt}
+use Rattle.sqlite.specs.declared.types.Value.TheVariants.{Null}
+use Rattle.sqlite.specs.Order.{Row}
+use Rattle.sqlite.specs.Term.{Term}
+use Rattle.sqlite_value.specs.declared.keys.Key.{Key}
+use Rattle.sqlite.specs.Effect.{Database, IsDatabase}
+use Rattle.sqlite.specs.Tree.{Trees}
+use Rattle.sqlite.specs.Program.{overlay}
+use Rattle.sqlite.specs.Held.{Held, state}
+use Rattle.sqlite.specs.Given.{HasGiven, HasBegun, Advances}
+use Rattle.sqlite.specs.Listing.{understood, reads_listing}
+use Rattle.sqlite.specs.Command.TheVariants.{Select}
+use Rattle.sqlite.specs.State.{State, HasCleanDisk, IsUnchanged, Begins, Shown}
+use Rattle.sqlite.proofs.Callers.{IsPlain, command_of, begins_as, given_begin, begun_plain, unchanged_then}
+use Rattle.hall_policy.specs.World.{World}
+use Rattle.hall_policy.specs.Sink.{HasTaken}
+use Rattle.hall_store.specs.Store.{Fed}
+use Rattle.hall_sql.specs.Tables.{hall_schema}
+use Rattle.hall_sql.specs.Rows.{world_of}
+use Rattle.hall_sql.specs.Statements.{plain_query}
+use Rattle.hall_sql.specs.Standing.{AreAllKeyed, IsHall, Rests, Rested, IsSelection, content_of}
+use Rattle.hall_sql.specs.Feed.{Steps, HasRead, AreAll, AreFirst, FedRows, FedBefore}
+use Rattle.hall_sql.proofs.CallLemmas.{answers_selection, shown_was_open}
+use Rattle.hall_sql.proofs.ContentLemmas.{all_read}
+use Rattle.hall_sql.proofs.Selections.{selected}
+
+-- ---- a connection that is read on
+
+pub rests_then : (a b c : State) → IsUnchanged a b → Rests b c → Rests a c
+rests_then a b c p (inl q) = inl (unchanged_then a b c p q)
+rests_then a b c p (inr q) = inr (record {
+  was_open = λ opens. p.0.was_open;
+  undone = λ opens. ((q.undone opens).0 ∙ p.0.committed_is, (q.undone opens).1 ∙ p.0.committed_is);
+  autocommit = q.autocommit;
+  unmarked = q.unmarked;
+  counts = record { changes = q.counts.changes ∙ p.1.changes; last_rowid = q.counts.last_rowid ∙ p.1.last_rowid };
+})
+
+begun_open : {S : Type 0} (g : Ghosts S) (sql : List ℕ) (params : Row) (old new : Held S) → HasBegun g sql params old new
+    → IsTrue (state g old).is_open
+begun_open g sql params old new (inl h) = h.1.0.was_open
+begun_open g sql params old new (inr h) = shown_was_open sql params (state g old) (state g new) _ h.1
+
+-- ---- what the sink has taken
+
+mapped_more : {A B : Type 0} (f : A → B) (xs : List A) (x : A) → map f (xs ++ x ∷ []) ≡ map f xs ++ f x ∷ []
+mapped_more f [] x = refl
+mapped_more f (y ∷ xs) x = ap (λ l. f y ∷ l) (mapped_more f xs x)
+
+pub taken_more : {K X : Type 0} (Takes : K → X → K → Type 0) (a b c : K) (xs : List X) (x : X) → HasTaken Takes a xs b
+    → Takes b x c → HasTaken Takes a (xs ++ x ∷ []) c
+taken_more Takes a b c [] x same t = (c, subst (λ k. Takes k x c) same t, refl)
+taken_more Takes a b c (y ∷ xs) x more t = (more.0, more.1, taken_more Takes more.0 b c xs x more.2 t)
+
+module _ {S X : Type 0} (g : Ghosts S) (read : Row → Option X) (sql : List ℕ) (params : Row) where
+  -- a query that has begun has given no row
+  pub read_none : (old new : Held S) → IsPlain (understood hall_schema sql) → IsHall (state g old)
+      → HasCleanDisk (state g old) → HasBegun g sql params old new → HasRead g read sql params (state g old) new []
+  read_none old new plain hall clean begun =
+      let has = (hall.settled clean (begun_open g sql params old new begun)).1 in
+      let it = begun_plain g sql params old new (subst (λ s. IsPlain (understood s sql)) (sym has) plain) begun in
+      record { same = it.1; rows = []; given = it.0; reads = refl }
+
+  module _ (first : State) (old new : Held S) (taken : List X) (so : HasRead g read sql params first old taken) where
+    -- one row more
+    pub read_more : (x : X) → IsUnchanged (state g old) (state g new) → (row : Row) → Advances g old new (Some row)
+        → read row ≡ Some x → HasRead g read sql params first new (taken ++ x ∷ [])
+    read_more x same row advances is = record {
+      same = unchanged_then first (state g old) (state g new) so.same same;
+      rows = so.rows ++ row ∷ [];
+      given = advances sql params so.rows so.given;
+      reads = mapped_more read so.rows row ∙ ap (λ l. l ++ read row ∷ []) so.reads
+          ∙ ap (λ o. map Some taken ++ o ∷ []) is ∙ sym (mapped_more Some taken x);
+    }
+
+    -- there is no row more
+    pub read_all : Advances g old new None → AreAll g read sql params first taken
+    read_all advances = record {
+      served = so.same.0.was_open;
+      rows = so.rows;
+      reads = so.reads;
+      from = old;
+      to = new;
+      same = so.same.0.now_is;
+      shown = advances sql params so.rows so.given;
+    }
+
+    -- what was read so far begins the answer
+    pub read_first : AreFirst g read sql params first taken
+    read_first = record {
+      served = so.same.0.was_open;
+      rows = so.rows;
+      reads = so.reads;
+      from = old;
+      same = so.same.0.now_is;
+      begun = given_begin g sql params old so.rows so.given;
+    }
+
+-- ---- what it says of the world
+
+-- the records that the rows are
+abbrev pub records : {X : Type 0} → (Row → Option X) → List Row → List X
+records read = flat_map (λ row. option_to_list (read row))
+
+-- the rows that a query of one table selects, are the records that these worlds' listings ask for
+abbrev pub Lists : {X : Type 0} → (Row → Option X) → ℕ → List Term → List Term → List (Term × Key) → Row → Database →
+    (World → List X → Type 0) → Type 0
+Lists read tree terms project order params db AreRows =
+    db.schema ≡ hall_schema → AreAllKeyed db.trees → IsDatabase db → (rows : List Row)
+    → IsSelection (plain_query tree terms project order) (db.trees tree) params rows
+    → AreRows (world_of db.trees) (records read rows)
+
+module _ {S X : Type 0} (g : Ghosts S) (read : Row → Option X) (sql : List ℕ) (params : Row) (tree : ℕ)
+    (terms project : List Term) (order : List (Term × Key)) (names : List (List ℕ))
+    (is : command_of (understood hall_schema sql)
+    ≡ Select (record { lets = []; body = plain_query tree terms project order }) names)
+    (unlisted : reads_listing hall_schema sql ≡ false) (plain : IsPlain (understood hall_schema sql))
+    (apart : (db : Trees) → overlay db [] tree ≡ db tree) where
+  module _ (AreRows : World → List X → Type 0) (s : State) (has : s.now.schema ≡ hall_schema)
+      (keyed : AreAllKeyed s.now.trees) (sound : IsDatabase s.now)
+      (lists : Lists read tree terms project order params s.now AreRows) (taken : List X) where
+    all_listed : AreAll g read sql params s taken → AreRows (world_of s.now.trees) taken
+    all_listed all =
+        let at = state g all.from in
+        let trees = ap (λ (d : Database). d.trees tree) all.same in
+        let sel = answers_selection sql params at (state g all.to) tree terms project order names is unlisted plain
+        (apart at.now.trees) (ap (λ (d : Database). d.schema) all.same ∙ has) all.rows all.shown in
+        subst (AreRows (world_of s.now.trees)) (all_read read all.rows taken all.reads)
+        (lists has keyed sound all.rows
+        (subst (λ t. IsSelection (plain_query tree terms project order) t params all.rows) trees sel))
+
+    first_listed : AreFirst g read sql params s taken → (left : List X) × AreRows (world_of s.now.trees) (taken ++ left)
+    first_listed first =
+        let at = state g first.from in
+        let begun = begins_as sql params at at hall_schema (ap (λ (d : Database). d.schema) first.same ∙ has) _ is plain
+        unlisted first.rows first.begun in
+        let tail = begun.1.0 in
+        let answer = subst (λ t. IsSelection (plain_query tree terms project order) t params (first.rows ++ tail))
+        (apart at.now.trees ∙ ap (λ (d : Database). d.trees tree) first.same)
+        (selected tree terms project order (overlay at.now.trees []) params (first.rows ++ tail) (begun.1.1 Null)) in
+        let all : records read (first.rows ++ tail) ≡ taken ++ records read tail =
+        flat_map-append (λ r. option_to_list (read r)) first.rows tail
+        ∙ ap (λ l. l ++ records read tail) (all_read read first.rows taken first.reads) in (
+          records read tail,
+          subst (AreRows (world_of s.now.trees)) all (lists has keyed sound (first.rows ++ tail) answer),
+        )
+
+  -- a sink that has taken a query's rows has taken the world's
+  pub fed_before : {K E : Type 0} (Takes : K → X → K → Type 0) (AreRows : World → List X → Type 0) (old new : State)
+      (before after : K) (result : Result (Unit {0}) E) → IsHall old → Rested old new
+      → (IsTrue old.is_open → IsDatabase old.now) → Lists read tree terms project order params old.now AreRows
+      → FedRows g read Takes sql params old new before result after
+      → FedBefore Takes AreRows (content_of old) (content_of new) before result after
+  fed_before Takes AreRows old new before after (Ok done) hall rested sound lists fed = λ clean.
+      let was : HasCleanDisk old = omega (arith, rested.follows.clean, clean) in
+      let it = fed.2 clean in
+      let opened = it.1.served in
+      let all = all_listed AreRows old (hall.settled was opened).1 (hall.keyed was opened) (sound opened) lists fed.0 it.1 in
+      (it.0, (fed.0, all, fed.1))
+  fed_before {K} {E} Takes AreRows old new before after (Err fault) hall rested sound lists fed = (fed.0, fed.1, go fed.2)
+    where
+      go : ((fed.0 ≡ []) ⊎ (HasCleanDisk new → AreFirst g read sql params old fed.0))
+          → (fed.0 ≡ []) ⊎ (HasCleanDisk new → (left : List X) × AreRows (world_of old.now.trees) (fed.0 ++ left))
+      go (inl none) = inl none
+      go (inr part) = inr (λ clean.
+          let was : HasCleanDisk old = omega (arith, rested.follows.clean, clean) in
+          let it = part clean in
+          let opened = it.served in
+          first_listed AreRows old (hall.settled was opened).1 (hall.keyed was opened) (sound opened) lists fed.0 it)
+
+-- and the world before is the world after, where the store still serves
+pub fed_after : {K X E : Type 0} (Takes : K → X → K → Type 0) (AreRows : World → List X → Type 0) (old new : State)
+    (before after : K) (result : Result (Unit {0}) E) → Rested old new
+    → FedBefore Takes AreRows (content_of old) (content_of new) before result after
+    → Fed Takes AreRows (content_of new) before result after
+fed_after {K} {X} Takes AreRows old new before after (Ok done) rested fed = λ clean.
+    let it = fed clean in
+    (it.0, (it.1.0, subst (λ (d : Database). AreRows (world_of d.trees) it.1.0) (sym (rested.same clean it.0)) it.1.1, it.1.2))
+fed_after {K} {X} Takes AreRows old new before after (Err fault) rested fed = (fed.0, fed.1, go fed.2)
+  where
+    go : ((fed.0 ≡ []) ⊎ (HasCleanDisk new → (left : List X) × AreRows (world_of old.now.trees) (fed.0 ++ left)))
+        → (fed.0 ≡ []) ⊎ (HasCleanDisk new → IsTrue new.is_open → (left : List X) × AreRows (world_of new.now.trees) (fed.0 ++ left))
+    go (inl none) = inl none
+    go (inr part) = inr (λ clean opens.
+        let it = part clean in
+        (it.0, subst (λ (d : Database). AreRows (world_of d.trees) (fed.0 ++ it.0)) (sym (rested.same clean opens)) it.1))
+
+-- a call that is refused after the first rows
+pub fed_first : {S K X E : Type 0} (g : Ghosts S) (read : Row → Option X) (Takes : K → X → K → Type 0) (sql : List ℕ) (params : Row)
+    (old new : State) (before after : K) (result : Result (Unit {0}) E) (P : E → Type 0) → IsErrAnd result P
+    → (taken : List X) → HasTaken Takes before taken after → (HasCleanDisk new → AreFirst g read sql params old taken)
+    → FedRows g read Takes sql params old new before result after
+fed_first g read Takes sql params old new before after (Ok done) P is taken took part = absurd is
+fed_first g read Takes sql params old new before after (Err fault) P is taken took part = (taken, took, inr part)

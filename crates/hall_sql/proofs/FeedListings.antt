@@ -1,0 +1,41 @@
+-- The rows of a round that a sink is given, are those of the world.
+use Rattle.std.proofs.Common.{◌≡◌, ℕ, List, [], ◌∷◌, refl, subst}
+use Rattle.sqlite.specs.declared.types.Value.TheVariants.{Text}
+use Rattle.sqlite.specs.Effect.{IsDatabase}
+use Rattle.sqlite.specs.State.{State}
+use Rattle.hall_policy.specs.declared.record.ProtestRow.{ProtestRow}
+use Rattle.hall_policy.proofs.Orders.{protest_total, same_protest_keys}
+use Rattle.hall_store.specs.Store.{IsListing, is_in, is_protest_in, listing_cmp, protests_in}
+use Rattle.hall_sql.specs.Rows.{answer_in, protest_in}
+use Rattle.hall_sql.proofs.AnswerTexts.{listing_order, answer_columns}
+use Rattle.hall_sql.proofs.ProtestTexts.{key_order, protest_columns}
+use Rattle.hall_sql.proofs.PeopleTexts.{equals}
+use Rattle.hall_sql.proofs.AnswerLemmas as answers
+use Rattle.hall_sql.proofs.ProtestLemmas as protests
+use Rattle.hall_sql.proofs.FeedLemmas.{Lists}
+use Rattle.hall_sql.proofs.SelectedLemmas.{records_selected, records_in_order, values_selected}
+
+module _ (s : State) (round : List ℕ) where
+  pub answers_in_selected : Lists answer_in 9 (equals 2 0 ∷ []) answer_columns listing_order (Text round ∷ []) s.now
+      (λ world rows. IsListing world (is_in round) rows)
+  answers_in_selected has keyed sound rows sel =
+      let db = s.now.trees in
+      let at = keyed.1.1.1.1.0 in
+      let agrees = answers.in_agrees s s has at sound [] [] refl round in
+      record {
+        whole = records_selected answer_in 8 (Text round ∷ []) 9 (equals 2 0 ∷ []) answer_columns listing_order (λ r. refl) (db 9) rows sel
+            (is_in round) agrees _ (answers.answers_listed db at (subst (λ t. IsDatabase (record { schema = t; trees = db })) has sound));
+        in_order = records_in_order answer_in 8 (Text round ∷ []) 9 (equals 2 0 ∷ []) answer_columns listing_order (λ r. refl) (db 9) rows sel
+            listing_cmp (answers.same_order (Text round ∷ []) (equals 2 0 ∷ []));
+      }
+
+  pub protests_in_selected : Lists protest_in 12 (equals 2 0 ∷ []) protest_columns key_order (Text round ∷ []) s.now
+      (λ world rows. rows ≡ protests_in world round)
+  protests_in_selected has keyed sound rows sel =
+      let db = s.now.trees in
+      let at = keyed.1.1.1.1.1.0 in
+      values_selected protest_in 7 (Text round ∷ []) 12 (equals 2 0 ∷ []) protest_columns key_order (λ r. refl) (db 12) rows sel
+      protest_total same_protest_keys (λ (row : ProtestRow). row.key)
+      (protests.protests_listed db at (subst (λ t. IsDatabase (record { schema = t; trees = db })) has sound))
+      (is_protest_in round) (protests.in_agrees s s has at sound [] [] refl round)
+      (protests.same_order (Text round ∷ []) (equals 2 0 ∷ []))

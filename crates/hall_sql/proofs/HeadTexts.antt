@@ -1,0 +1,61 @@
+-- What the statements on the heads of rounds mean under the hall's tables.
+use Rattle.std.proofs.Common.{◌≡◌, List, codes, refl, false, [], ◌∷◌}
+use Rattle.sqlite_tied.specs.Compute.{everything}
+use Rattle.sqlite.specs.Term.{Term, lit, col}
+use Rattle.sqlite.specs.declared.types.Value.TheVariants.{Null}
+use Rattle.sqlite.specs.Source.TheVariants.{Values}
+use Rattle.sqlite.specs.Table.{Table}
+use Rattle.sqlite.specs.Tree.{Trees}
+use Rattle.sqlite.specs.Program.{overlay}
+use Rattle.sqlite.specs.Listing.{understood, reads_listing}
+use Rattle.sqlite.specs.Command.TheVariants.{Select, Insert, Update}
+use Rattle.sqlite.proofs.Callers.{IsPlain, command_of}
+use Rattle.hall_sql.specs.Tables.{hall_schema, rounds_table}
+use Rattle.hall_sql.specs.Statements.{plain_query, head_text, look_head_text, add_head_text, replace_head_text}
+use Rattle.hall_sql.proofs.UpdateLemmas.{update}
+use Rattle.hall_sql.proofs.PeopleTexts.{equals}
+use Rattle.hall_sql.proofs.RoundTexts.{round_columns, round_names}
+
+-- id = ?1
+abbrev pub id_terms : List Term
+id_terms = equals 1 0 ∷ []
+
+-- as the schema has it
+abbrev pub rounds_there : Table
+rounds_there = record rounds_table { tree = 5 }
+
+pub head_is : (command_of (understood hall_schema head_text)
+    ≡ Select (record { lets = []; body = plain_query 5 id_terms round_columns [] }) round_names)
+    × (reads_listing hall_schema head_text ≡ false) × IsPlain (understood hall_schema head_text)
+unfolding understood everything
+head_is = (refl, refl, (refl, refl))
+
+pub look_head_is : (command_of (understood hall_schema look_head_text)
+    ≡ Select (record { lets = []; body = plain_query 5 id_terms (col 1 1 ∷ []) [] }) (codes "id" ∷ []))
+    × (reads_listing hall_schema look_head_text ≡ false) × IsPlain (understood hall_schema look_head_text)
+unfolding understood everything
+look_head_is = (refl, refl, (refl, refl))
+
+-- the rowid that is chosen, and each parameter
+abbrev pub added_terms : List Term
+added_terms =
+    lit Null ∷ col 0 0 ∷ col 0 1 ∷ col 0 2 ∷ col 0 3 ∷ col 0 4 ∷ col 0 5 ∷ col 0 6 ∷ col 0 7 ∷ col 0 8 ∷ col 0 9 ∷ []
+
+pub add_head_is : (command_of (understood hall_schema add_head_text) ≡ Insert 2 (Values added_terms 11))
+    × IsPlain (understood hall_schema add_head_text)
+unfolding understood everything
+add_head_is = (refl, (refl, refl))
+
+-- the rowid and the id that stay, and the parameters of the others
+abbrev pub replaced_terms : List Term
+replaced_terms =
+    col 1 0 ∷ col 1 1 ∷ col 0 1 ∷ col 0 2 ∷ col 0 3 ∷ col 0 4 ∷ col 0 5 ∷ col 0 6 ∷ col 0 7 ∷ col 0 8 ∷ col 0 9 ∷ []
+
+pub apart : (db : Trees) → overlay db [] rounds_there.tree ≡ db rounds_there.tree
+apart db = refl
+
+pub replace_head_is : (command_of (understood hall_schema replace_head_text)
+    ≡ Update 2 (update hall_schema rounds_there id_terms replaced_terms apart))
+    × IsPlain (understood hall_schema replace_head_text)
+unfolding understood everything
+replace_head_is = (refl, (refl, refl))

@@ -1,0 +1,86 @@
+-- What a call inside a transaction leaves, and several after each other.
+use Rattle.std.proofs.Common.{◌≡◌, ◌⊎◌, inl, inr, ℕ, List, true, if◌then◌else◌, IsTrue, Option, Some, None, refl, sym, ap, subst, ◌∙◌, arith}
+use Rattle.sqlite_schema.specs.declared.command.Returning.{Returning}
+use Rattle.sqlite.specs.declared.error.Error.{Error}
+use Rattle.sqlite.specs.Effect.{Database}
+use Rattle.sqlite.specs.Order.{Row}
+use Rattle.sqlite.specs.Listing.{understood}
+use Rattle.sqlite.specs.Clock.{timed}
+use Rattle.sqlite.specs.State.{State, HasCleanDisk, KeepsCommit, Shown, ShowsRows, FailsToQuery, IsTooLate}
+use Rattle.sqlite.proofs.Callers.{IsPlain}
+use Rattle.hall_policy.specs.World.{World}
+use Rattle.hall_sql.specs.Tables.{hall_schema}
+use Rattle.hall_sql.specs.Rows.{world_of}
+use Rattle.hall_sql.specs.Standing.{Rests}
+use Rattle.hall_sql.specs.Inside.{IsHallData, Carries, Steps, Did, Tells}
+use Rattle.hall_sql.proofs.CallLemmas.{query_refused, shown_unchanged}
+
+pub carries_none : (s : State) → Carries s s
+carries_none s = record { falls = omega arith; kept = λ clean inside. record { was_open = λ h. h; committed = λ h. refl } }
+
+pub carries_then : (a b c : State) → Carries a b → (HasCleanDisk b → IsTrue a.in_transaction → IsTrue b.in_transaction) → Carries b c → Carries a c
+carries_then a b c one goes two = record {
+  falls = omega (arith, one.falls, two.falls);
+  kept = λ clean inside.
+      let mid : HasCleanDisk b = omega (arith, two.falls, clean) in
+      let p = one.kept mid inside in
+      let q = two.kept clean (goes mid inside) in
+      record { was_open = λ h. p.was_open (q.was_open h); committed = λ h. q.committed h ∙ p.committed (q.was_open h) };
+}
+
+pub steps_then : (a b c : State) → Steps a b → Steps b c → Steps a c
+steps_then a b c one two = record { mode = two.mode; hall = λ h. two.hall (one.hall h) }
+
+-- nothing was done yet
+pub did_none : (Does : Database → Database → Type 0) (s : State) → IsTrue s.in_transaction → Does s.now s.now → Did Does s s
+did_none Does s mode nothing = record { steps = record { mode = mode; hall = λ h. h }; does = λ h. nothing }
+
+-- one statement
+pub did : (Does : Database → Database → Type 0) (old new : State) → new.in_transaction ≡ true → (IsHallData old.now → IsHallData new.now × Does old.now new.now) → Did Does old new
+did Does old new mode it = record { steps = record { mode = mode; hall = λ h. (it h).0 }; does = λ h. (it h).1 }
+
+-- one call after another
+pub did_then : (First Then Both : Database → Database → Type 0) (a b c : State) → (First a.now b.now → Then b.now c.now → Both a.now c.now) → Did First a b → Did Then b c → Did Both a c
+did_then First Then Both a b c joins one two = record {
+  steps = steps_then a b c one.steps two.steps;
+  does = λ h. joins (one.does h) (two.does (one.steps.hall h));
+}
+
+rests_keep : (old new : State) → Rests old new → KeepsCommit old new
+rests_keep old new (inl h) = record { was_open = λ opens. h.0.was_open; committed = λ opens. h.0.committed_is }
+rests_keep old new (inr h) = record { was_open = h.was_open; committed = λ opens. (h.undone opens).1 }
+
+-- a query that ran commits nothing
+pub shown_keeps : (sql : List ℕ) (params : Row) (old new : State) (rows : List Row) → IsTrue old.in_transaction → Shown sql params old new rows → KeepsCommit old new
+unfolding Shown
+shown_keeps sql params old new rows inside h = at_returning h.0.returning h.2
+  where
+    at_returning : (o : Option Returning) → ShowsRows old new sql h.0 (timed params h.0.formats h.1.now) rows o → KeepsCommit old new
+    at_returning None it = rests_keep old new (inl it.3)
+    at_returning (Some what) it = record {
+      was_open = λ opens. it.1.shown.was_open;
+      committed = λ opens. it.1.shown.committed_is ∙ ap (λ b. if b then old.committed else new.now) inside;
+    }
+
+-- and the transaction goes on
+pub shown_mode : (sql : List ℕ) (params : Row) (old new : State) (rows : List Row) → IsTrue old.in_transaction → Shown sql params old new rows → new.in_transaction ≡ true
+unfolding Shown
+shown_mode sql params old new rows inside h = at_returning h.0.returning h.2
+  where
+    at_returning : (o : Option Returning) → ShowsRows old new sql h.0 (timed params h.0.formats h.1.now) rows o → new.in_transaction ≡ true
+    at_returning None it = it.3.0.mode ∙ inside
+    at_returning (Some what) it = it.1.shown.mode ∙ inside
+
+-- nor does one that is refused
+pub unshown_keeps : (sql : List ℕ) (params : Row) (old new : State) (e : Error) → FailsToQuery sql params old new e ⊎ IsTooLate sql params old new e → KeepsCommit old new
+unshown_keeps sql params old new e (inl h) = rests_keep old new (query_refused old new sql params e h)
+unshown_keeps sql params old new e (inr h) = rests_keep old new (inl h.5)
+
+-- a query that writes nothing leaves the tables and the transaction, and tells of them
+pub shown_did : (Means : World → Type 0) (sql : List ℕ) (params : Row) (old new : State) (rows : List Row) → IsTrue old.in_transaction → IsPlain (understood hall_schema sql)
+    → Shown sql params old new rows → (IsHallData old.now → Means (world_of old.now.trees)) → Did (Tells Means) old new
+shown_did Means sql params old new rows inside plain h means =
+    let left = λ (it : IsHallData old.now). shown_unchanged sql params old new rows (subst (λ s. IsPlain (understood s sql)) (sym it.schema) plain) h in
+    did (Tells Means) old new (shown_mode sql params old new rows inside h) (λ it.
+    let same = (left it).0.now_is in
+    (subst IsHallData (sym same) it, record { same = same; means = means it }))

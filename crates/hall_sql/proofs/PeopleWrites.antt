@@ -1,0 +1,109 @@
+-- What the statement that writes a person leaves.
+use Rattle.std.proofs.Common.{◌≡◌, ◌≢◌, ℕ, pos, [], ◌∷◌, Bool, true, false, flat_map, option_to_list, Some, Ok, refl, ap, arith}
+use Rattle.std.specs.List.{AllByRecursion}
+use Rattle.std.specs.FinMap.{FinMap, from_entries, insert}
+use Rattle.sqlite.specs.declared.types.Value.{Value}
+use Rattle.sqlite.specs.declared.types.Value.TheVariants.{Null, Int}
+use Rattle.sqlite_value.specs.Keys.{joined}
+use Rattle.sqlite_schema.specs.Names.{same_name}
+use Rattle.sqlite_schema.specs.declared.schema.Keys.TheVariants.{Enforced}
+use Rattle.sqlite_rules.specs.Action.{works}
+use Rattle.sqlite_rules.specs.Cast.{cast_row}
+use Rattle.sqlite_rules.specs.Edit.{next_rowid}
+use Rattle.sqlite.specs.Order.{Row}
+use Rattle.sqlite.specs.Table.{Table}
+use Rattle.sqlite.specs.Tree.{Trees}
+use Rattle.sqlite.specs.Source.TheVariants.{Values}
+use Rattle.sqlite.specs.Command.TheVariants.{Insert}
+use Rattle.sqlite.specs.State.{State, Executes}
+use Rattle.sqlite.proofs.Callers.{runs_as}
+use Rattle.hall_policy.specs.Text.{text_cmp, is_word_byte, is_key_byte}
+use Rattle.hall_policy.specs.World.{puzzle_cmp, answer_cmp, protest_cmp}
+use Rattle.hall_policy.specs.Ranges.{IsPerson}
+use Rattle.hall_policy.specs.declared.record.Person.{Person}
+use Rattle.hall_policy.specs.declared.record.Roles.{Roles}
+use Rattle.hall_policy.proofs.Orders.{text_total, same_texts}
+use Rattle.hall_policy.proofs.Reading.{kind_holds}
+use Rattle.hall_sql.specs.Tables.{hall_schema, people_table}
+use Rattle.hall_sql.specs.Statements.{add_person_text}
+use Rattle.hall_sql.specs.Values.{roles_in}
+use Rattle.hall_sql.specs.Columns.{person_params, roles_code}
+use Rattle.hall_sql.specs.Rows.{kept, person_of, puzzle_row_of, round_of, place_of, answer_of, protest_of, world_of}
+use Rattle.hall_sql.specs.Inside.{IsHallData, AddsPerson}
+use Rattle.hall_sql.proofs.PeopleTexts.{added_terms, add_person_is}
+use Rattle.hall_sql.proofs.InsertLemmas.{inserts}
+use Rattle.hall_sql.proofs.KeyedLemmas.{keyed_after, added_keyed}
+use Rattle.hall_sql.proofs.MapLemmas.{put_new}
+use Rattle.hall_sql.proofs.WriteLemmas.{same_worlds, cast_null, cast_number}
+
+abbrev made : Bool → Bool → Bool → Bool → Roles
+made director author referee entrant = record { director = director; author = author; referee = referee; entrant = entrant }
+
+-- roles are read from their sum
+roles_read : (roles : Roles) → roles_in (Int (pos (roles_code roles))) ≡ Some roles
+roles_read roles = of roles.director roles.author roles.referee roles.entrant
+  where
+    of : (director author referee entrant : Bool) → roles_in (Int (pos (roles_code (made director author referee entrant)))) ≡ Some (made director author referee entrant)
+    of false false false false = refl
+    of false false false true = refl
+    of false false true false = refl
+    of false false true true = refl
+    of false true false false = refl
+    of false true false true = refl
+    of false true true false = refl
+    of false true true true = refl
+    of true false false false = refl
+    of true false false true = refl
+    of true false true false = refl
+    of true false true true = refl
+    of true true false false = refl
+    of true true false true = refl
+    of true true true false = refl
+    of true true true true = refl
+
+-- the columns are read as the person, whatever the rowid is
+person_reads : (person : Person) → IsPerson person → (id : Value) → person_of (id ∷ person_params person) ≡ Some person
+person_reads person is id = rw (
+  kind_holds 1 24 is_word_byte person.name is.name,
+  kind_holds 8 64 is_key_byte person.key is.key,
+  roles_read person.roles,
+)
+
+abbrev people_there : Table
+people_there = record people_table { tree = 0 }
+
+person_casts : (person : Person) → cast_row people_there (Null ∷ person_params person) ≡ Null ∷ person_params person
+person_casts person = rw (cast_null, cast_number (roles_code person.roles))
+
+-- no foreign key acts
+quiet : (new : Row) → works hall_schema Enforced 0 0 [] (new ∷ []) ≡ []
+unfolding same_name joined
+quiet new = refl
+
+-- where the table of people alone was written, the people alone are changed
+people_alone : (old new : Trees) (people : FinMap text_cmp Person)
+    → AllByRecursion (λ (t : Table). t.tree ≢ 0 → new t.tree ≡ old t.tree) hall_schema.tables
+    → kept text_cmp (λ (person : Person). person.name) person_of (new 0) ≡ people
+    → world_of new ≡ record (world_of old) { people = people }
+people_alone old new people others is =
+    same_worlds (world_of new) (record (world_of old) { people = people })
+    is
+    (ap (kept puzzle_cmp (λ row. row.key) puzzle_row_of) (others.1.0 (λ same. absurd (omega (arith, same)))))
+    (ap (kept text_cmp (λ round. round.id) round_of) (others.1.1.0 (λ same. absurd (omega (arith, same)))))
+    (ap (λ rows. from_entries (flat_map (λ row. option_to_list (place_of row)) rows)) (others.1.1.1.0 (λ same. absurd (omega (arith, same)))))
+    (ap (kept answer_cmp (λ row. row.key) answer_of) (others.1.1.1.1.0 (λ same. absurd (omega (arith, same)))))
+    (ap (kept protest_cmp (λ row. row.key) protest_of) (others.1.1.1.1.1.0 (λ same. absurd (omega (arith, same)))))
+
+-- the INSERT of a person adds the person, where the name is unknown
+pub person_added : (person : Person) → IsPerson person → (old new : State) (count : ℕ) → Executes add_person_text (person_params person) old new (Ok count)
+    → IsHallData old.now → IsHallData new.now × AddsPerson person old.now new.now
+person_added person is old new count ran it =
+    let params = person_params person in
+    let w = runs_as add_person_text params old new hall_schema it.schema (Insert 0 (Values added_terms 4)) add_person_is.0 add_person_is.1 count ran in
+    let put = inserts hall_schema 0 people_there refl refl added_terms 4 params (Null ∷ params) params refl refl (person_casts person) quiet old new _ count it.schema w in
+    let id = next_rowid (old.now.trees 0) in
+    let after = added_keyed id params (old.now.trees 0) (new.now.trees 0) put.put put.free it.keyed.0 in (
+      record { schema = put.same; keyed = keyed_after 0 old.now.trees new.now.trees hall_schema.tables after put.others it.keyed },
+      λ unknown. people_alone old.now.trees new.now.trees (insert (world_of old.now.trees).people person.name person) put.others
+          (put_new text_total same_texts (λ (x : Person). x.name) person_of person (Int id ∷ params) (old.now.trees 0) (new.now.trees 0) put.put (person_reads person is (Int id)) put.free unknown),
+    )

@@ -1,0 +1,49 @@
+-- What the statements on the puzzles of rounds mean under the hall's tables.
+use Rattle.std.proofs.Common.{◌≡◌, inl, inr, ℕ, List, [], ◌∷◌, refl}
+use Rattle.sqlite_tied.specs.Compute.{everything}
+use Rattle.sqlite.specs.Order.{Row}
+use Rattle.sqlite.specs.Term.{Term, lit, col}
+use Rattle.sqlite.specs.declared.types.Value.TheVariants.{Null}
+use Rattle.sqlite.specs.Source.TheVariants.{Values}
+use Rattle.sqlite.specs.Table.{Table}
+use Rattle.sqlite.specs.Tree.{Trees}
+use Rattle.sqlite.specs.Program.{overlay}
+use Rattle.sqlite.specs.Listing.{understood}
+use Rattle.sqlite.specs.Command.TheVariants.{Delete, Insert}
+use Rattle.sqlite.proofs.Callers.{IsPlain, command_of}
+use Rattle.sqlite_value.specs.Keys.{joined}
+use Rattle.sqlite_schema.specs.Names.{same_name}
+use Rattle.sqlite_schema.specs.declared.schema.Keys.TheVariants.{Enforced}
+use Rattle.sqlite_rules.specs.Action.{works}
+use Rattle.hall_sql.specs.Tables.{hall_schema, round_puzzles_table}
+use Rattle.hall_sql.specs.Statements.{drop_places_text, add_place_text}
+use Rattle.hall_sql.proofs.PeopleTexts.{equals}
+use Rattle.hall_sql.proofs.RestrictLemmas.{Restricts, refusing_works}
+use Rattle.hall_sql.proofs.DeleteLemmas.{deletion}
+
+abbrev pub places_there : Table
+places_there = record round_puzzles_table { tree = 7 }
+
+pub places_apart : (db : Trees) → overlay db [] places_there.tree ≡ db places_there.tree
+places_apart db = refl
+
+-- answers and protests refer to places by RESTRICT, and nothing else does
+pub places_restricted : (olds : List Row) → Restricts (works hall_schema Enforced 0 7 olds [])
+unfolding same_name joined
+places_restricted olds =
+    refusing_works hall_schema Enforced 0 7 olds [] (tt, ((inl refl, tt), (tt, ((inl refl, (inl refl, tt)), ((inl refl, (inr refl, tt)), ((inl refl, (inr refl, tt)), tt))))))
+
+pub drop_places_is : (command_of (understood hall_schema drop_places_text)
+    ≡ Delete 3 (deletion hall_schema places_there (equals 1 0 ∷ []) places_apart places_restricted))
+    × IsPlain (understood hall_schema drop_places_text)
+unfolding understood everything
+drop_places_is = (refl, (refl, refl))
+
+-- the rowid that is chosen, and each parameter
+abbrev pub added_terms : List Term
+added_terms = lit Null ∷ col 0 0 ∷ col 0 1 ∷ col 0 2 ∷ col 0 3 ∷ col 0 4 ∷ []
+
+pub add_place_is : (command_of (understood hall_schema add_place_text) ≡ Insert 3 (Values added_terms 6))
+    × IsPlain (understood hall_schema add_place_text)
+unfolding understood everything
+add_place_is = (refl, (refl, refl))

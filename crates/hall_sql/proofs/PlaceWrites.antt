@@ -1,0 +1,238 @@
+-- What the statements that write the puzzles of a round leave.
+use Rattle.std.proofs.Common.{◌≡◌, ◌≢◌, ◌≤◌, ◌<◌, ◌+◌, ℕ, suc, List, [], ◌∷◌, ◌++◌, length, map, filter, flat_map, take, get_or, option_to_list, Bool, true, false, not, cond, Option, Some, None, Ok, IsTrue, refl, sym, ap, subst, ◌∙◌, arith}
+use Rattle.std.proofs.lemmas.List.{take_more, length-take-le}
+use Rattle.std.specs.List.{AllByRecursion}
+use Rattle.std.specs.FinMap.{FinMap, from_entries, get, insert, get-insert, get-retain_keys, same_map}
+use Rattle.std.specs.Cmp.{tied_itself}
+use Rattle.std.specs.Ordering.{is_eq, eq_by_cmp}
+use Rattle.std.proofs.lemmas.Map.Text.{is_eq-slice_cmp}
+use Rattle.sqlite.specs.declared.types.Value.TheVariants.{Null, Int, Text}
+use Rattle.sqlite_value.specs.Order.{column}
+use Rattle.sqlite_value.specs.Keys.{joined}
+use Rattle.sqlite_schema.specs.Names.{same_name}
+use Rattle.sqlite_schema.specs.declared.schema.Keys.TheVariants.{Enforced}
+use Rattle.sqlite_trees.specs.Tree.{rowid}
+use Rattle.sqlite_trees.proofs.ListLemmas.{map-map}
+use Rattle.sqlite_rules.specs.Action.{works}
+use Rattle.sqlite_rules.specs.Calls.{ids_of}
+use Rattle.sqlite_rules.specs.Cast.{cast_row}
+use Rattle.sqlite_rules.specs.Edit.{next_rowid, id_in, without_all}
+use Rattle.sqlite.specs.Order.{Row}
+use Rattle.sqlite.specs.Table.{Table}
+use Rattle.sqlite.specs.Term.{col, eval_all}
+use Rattle.sqlite.specs.Tree.{Trees}
+use Rattle.sqlite.specs.Effect.{Database}
+use Rattle.sqlite.specs.Source.TheVariants.{Values}
+use Rattle.sqlite.specs.Command.TheVariants.{Insert}
+use Rattle.sqlite.specs.State.{State, Executes}
+use Rattle.sqlite.proofs.Callers.{runs_as}
+use Rattle.hall_grid.specs.FormReading.{◌>>=◌}
+use Rattle.hall_policy.specs.Text.{text_cmp, is_word_byte}
+use Rattle.hall_policy.specs.World.{World, puzzle_cmp, place_cmp, answer_cmp, protest_cmp, same_text}
+use Rattle.hall_policy.specs.Ranges.{IsRoundId, IsEntry, IsWithin}
+use Rattle.hall_policy.specs.declared.record.Entry.{Entry}
+use Rattle.hall_policy.specs.declared.record.PlaceKey.{PlaceKey}
+use Rattle.hall_policy.specs.declared.record.RoundRow.{RoundRow}
+use Rattle.hall_policy.proofs.Maps.{get-insert_other}
+use Rattle.hall_policy.proofs.Orders.{text_total, place_total, same_place_keys}
+use Rattle.hall_policy.proofs.Reading.{kind_holds}
+use Rattle.hall_store.specs.Change.{without_list, with_list}
+use Rattle.hall_store.specs.declared.change.Change.TheVariants.{PutRound}
+use Rattle.hall_sql.specs.Tables.{hall_schema}
+use Rattle.hall_sql.specs.Statements.{drop_places_text, add_place_text}
+use Rattle.hall_sql.specs.Values.{name_in, within}
+use Rattle.hall_sql.specs.RoundColumns.{place_params, is_under}
+use Rattle.hall_sql.specs.Rows.{kept, person_of, puzzle_row_of, round_of, place_of, answer_of, protest_of, world_of}
+use Rattle.hall_sql.specs.Standing.{AreKeyed}
+use Rattle.hall_sql.proofs.MapLemmas.{equal_is}
+use Rattle.hall_sql.specs.Inside.{IsHallData, Did, Changes}
+use Rattle.hall_sql.specs.RoundPuts.{PutsHead, DropsPlaces, place_key, PutsPlace, HasNoPlaces, PutsPlaces}
+use Rattle.hall_sql.proofs.AnswerWrites.{is_within}
+use Rattle.hall_sql.proofs.ColumnLemmas.{kind_column, column_same, and_true}
+use Rattle.hall_sql.proofs.DeleteLemmas.{deletes}
+use Rattle.hall_sql.proofs.EntryLemmas.{put_entry, cut_entries, cut_rows}
+use Rattle.hall_sql.proofs.InsertLemmas.{inserts}
+use Rattle.hall_sql.proofs.InsideLemmas.{did_none, did_then}
+use Rattle.hall_sql.proofs.KeyedLemmas.{keyed_after, keyed_filter, added_keyed}
+use Rattle.hall_sql.proofs.PeopleTexts.{equals}
+use Rattle.hall_sql.proofs.PlaceTexts.{places_there, places_apart, places_restricted, drop_places_is, added_terms, add_place_is}
+use Rattle.hall_sql.proofs.WriteLemmas.{same_worlds, cast_null, cast_number}
+
+-- ---- what a row of the table says
+
+abbrev of_parts : List ℕ → ℕ → List ℕ → List ℕ → ℕ → PlaceKey × Entry
+of_parts round number author label points =
+    (record { round = round; number = number }, record { puzzle = record { author = author; label = label }; points = points })
+
+-- a place that is read has its round from the first column
+round_read : (a : Option (List ℕ)) (b : Option ℕ) (c d : Option (List ℕ)) (e : Option ℕ) (place : PlaceKey × Entry)
+    → (a >>= (λ round. b >>= (λ number. c >>= (λ author. d >>= (λ label. e >>= (λ points. Some (of_parts round number author label points))))))) ≡ Some place
+    → a ≡ Some place.0.round
+round_read None b c d e place is = absurd cc
+round_read (Some a) None c d e place is = absurd cc
+round_read (Some a) (Some b) None d e place is = absurd cc
+round_read (Some a) (Some b) (Some c) None e place is = absurd cc
+round_read (Some a) (Some b) (Some c) (Some d) None place is = absurd cc
+round_read (Some a) (Some b) (Some c) (Some d) (Some e) place is =
+    let same : of_parts a b c d e ≡ place = cc in
+    ap (λ (x : PlaceKey × Entry). Some x.0.round) same
+
+-- WHERE round = ?1 asks for the round
+agrees : (id : List ℕ) (r : Row) (place : PlaceKey × Entry) → place_of r ≡ Some place → is_under id r ≡ same_text place.0.round id
+agrees id r place is =
+    let round = kind_column 1 24 is_word_byte (column r 1) place.0.round
+    (round_read (name_in (column r 1)) (within 1 99 (column r 2)) (name_in (column r 3)) (name_in (column r 4)) (within 1 1000 (column r 5)) place is) in
+    and_true _ ∙ column_same (column r 1) place.0.round id round
+
+-- where the table of places alone was written, the places alone are changed
+places_alone : (old new : Trees) (places : FinMap place_cmp Entry)
+    → AllByRecursion (λ (t : Table). t.tree ≢ 7 → new t.tree ≡ old t.tree) hall_schema.tables
+    → from_entries (flat_map (λ row. option_to_list (place_of row)) (new 7)) ≡ places
+    → world_of new ≡ record (world_of old) { places = places }
+places_alone old new places others is =
+    same_worlds (world_of new) (record (world_of old) { places = places })
+    (ap (kept text_cmp (λ person. person.name) person_of) (others.0 (λ same. absurd (omega (arith, same)))))
+    (ap (kept puzzle_cmp (λ row. row.key) puzzle_row_of) (others.1.0 (λ same. absurd (omega (arith, same)))))
+    (ap (kept text_cmp (λ round. round.id) round_of) (others.1.1.0 (λ same. absurd (omega (arith, same)))))
+    is
+    (ap (kept answer_cmp (λ row. row.key) answer_of) (others.1.1.1.1.0 (λ same. absurd (omega (arith, same)))))
+    (ap (kept protest_cmp (λ row. row.key) protest_of) (others.1.1.1.1.1.0 (λ same. absurd (omega (arith, same)))))
+
+quiet : (new : Row) → works hall_schema Enforced 0 7 [] (new ∷ []) ≡ []
+unfolding same_name joined
+quiet new = refl
+
+-- ---- the statements
+
+module _ (id : List ℕ) (old new : State) (count : ℕ) (held : IsHallData old.now) where
+  -- the DELETE of the places of a round
+  pub places_dropped : Executes drop_places_text (Text id ∷ []) old new (Ok count) → IsHallData new.now × DropsPlaces id old.now new.now
+  places_dropped ran =
+      let given = Text id ∷ [] in
+      let keyed = held.keyed.1.1.1.0 in
+      let rows = old.now.trees 7 in
+      let w = runs_as drop_places_text given old new hall_schema held.schema _ drop_places_is.0 drop_places_is.1 count ran in
+      let it = deletes hall_schema places_there (equals 1 0 ∷ []) places_apart places_restricted 3 refl given old new _ count held.schema w in
+      let ids : ids_of (map (λ r. eval_all (col 1 0 ∷ []) (given ∷ r ∷ [])) it.1.found) ≡ ids_of it.1.found = map-map (λ r. id_in (rowid r)) (λ r. eval_all (col 1 0 ∷ []) (given ∷ r ∷ [])) it.1.found in
+      let left : new.now.trees 7 ≡ filter (λ r. not (is_under id r)) rows = it.1.cut ∙ ap (without_all rows) ids ∙ cut_rows (is_under id) rows it.1.found keyed it.1.same in
+      let after = subst AreKeyed (sym left) (keyed_filter (λ r. not (is_under id r)) rows keyed) in (
+        record { schema = it.0; keyed = keyed_after 7 old.now.trees new.now.trees hall_schema.tables after it.2 held.keyed },
+        places_alone old.now.trees new.now.trees (without_list (world_of old.now.trees).places id) it.2
+            (ap (λ l. from_entries (flat_map (λ row. option_to_list (place_of row)) l)) left
+            ∙ cut_entries place_total same_place_keys place_of (λ k. same_text k.round id) (is_under id) (agrees id) rows),
+      )
+
+  -- the INSERT of an entry at its place
+  pub place_added : (number : ℕ) (entry : Entry) → IsRoundId id → IsWithin 1 99 number → IsEntry entry → Executes add_place_text (place_params id number entry) old new (Ok count)
+      → IsHallData new.now × PutsPlace id number entry old.now new.now
+  place_added number entry is_id is_number is ran =
+      let given = place_params id number entry in
+      let w = runs_as add_place_text given old new hall_schema held.schema (Insert 3 (Values added_terms 6)) add_place_is.0 add_place_is.1 count ran in
+      let casts : cast_row places_there (Null ∷ given) ≡ Null ∷ given = rw (cast_null, cast_number number, cast_number entry.points) in
+      let it = inserts hall_schema 3 places_there refl refl added_terms 6 given (Null ∷ given) given refl refl casts quiet old new _ count held.schema w in
+      let at = next_rowid (old.now.trees 7) in
+      let after = added_keyed at given (old.now.trees 7) (new.now.trees 7) it.put it.free held.keyed.1.1.1.0 in
+      let reads : place_of (Int at ∷ given) ≡ Some (place_key id number, entry) = rw (
+        kind_holds 1 24 is_word_byte id is_id,
+        is_within 1 99 number is_number,
+        kind_holds 1 24 is_word_byte entry.puzzle.author is.puzzle.author,
+        kind_holds 1 24 is_word_byte entry.puzzle.label is.puzzle.label,
+        is_within 1 1000 entry.points is.points,
+      ) in (
+        record { schema = it.same; keyed = keyed_after 7 old.now.trees new.now.trees hall_schema.tables after it.others held.keyed },
+        λ none. places_alone old.now.trees new.now.trees (insert (world_of old.now.trees).places (place_key id number) entry) it.others
+            (put_entry place_total same_place_keys place_of (place_key id number) entry (Int at ∷ given) (old.now.trees 7) (new.now.trees 7) none reads it.free it.put),
+      )
+
+-- ---- places one after another
+
+-- two insertions at different keys may change turns
+swapped : {X : Type 0} (a b : Bool) (x y z : X) → (a ≡ true → b ≡ true → ⊥) → cond a x (cond b y z) ≡ cond b y (cond a x z)
+swapped true true x y z apart = absurd (apart refl refl)
+swapped true false x y z apart = refl
+swapped false b x y z apart = refl
+
+inserts_swapped : (places : FinMap place_cmp Entry) (a b : PlaceKey) (x y : Entry) → a ≢ b → insert (insert places a x) b y ≡ insert (insert places b y) a x
+inserts_swapped places a b x y apart =
+    same_map place_total same_place_keys _ _ (λ q.
+    get-insert place_total (insert places a x) b y q
+    ∙ ap (cond (eq_by_cmp place_cmp q b) (Some y)) (get-insert place_total places a x q)
+    ∙ swapped (eq_by_cmp place_cmp q b) (eq_by_cmp place_cmp q a) (Some y) (Some x) (get places q)
+    (λ tie_b tie_a. apart (sym (same_place_keys q a (equal_is _ tie_a)) ∙ same_place_keys q b (equal_is _ tie_b)))
+    ∙ ap (cond (eq_by_cmp place_cmp q a) (Some x)) (sym (get-insert place_total places b y q))
+    ∙ sym (get-insert place_total (insert places b y) a x q))
+
+module _ (places : FinMap place_cmp Entry) (id : List ℕ) where
+  number_differs : (m n : ℕ) → m ≢ n → place_key id m ≢ place_key id n
+  number_differs m n apart same = apart (ap (λ (k : PlaceKey). k.number) same)
+
+  -- the last entry of a list is put after the others
+  with_last : (number : ℕ) (entries : List Entry) (last : Entry)
+      → with_list places id number (entries ++ last ∷ []) ≡ insert (with_list places id number entries) (place_key id (number + length entries)) last
+  with_last number [] last = ap (λ n. insert places (place_key id n) last) (omega arith)
+  with_last number (entry ∷ entries) last =
+      let at : number + 1 + length entries ≡ number + suc (length entries) = omega arith in
+      let more = with_list places id (number + 1) entries in
+      ap (λ m. insert m (place_key id number) entry) (with_last (number + 1) entries last)
+      ∙ inserts_swapped more (place_key id (number + 1 + length entries)) (place_key id number) last entry (number_differs _ _ (λ same. omega (arith, same)))
+      ∙ ap (λ n. insert (insert more (place_key id number) entry) (place_key id n) last) at
+
+  -- above its last entry a list changes nothing
+  above : (number : ℕ) (entries : List Entry) (high : ℕ) → number + length entries ≤ high
+      → get (with_list places id number entries) (place_key id high) ≡ get places (place_key id high)
+  above number [] high low = refl
+  above number (entry ∷ entries) high low =
+      get-insert_other place_total same_place_keys (with_list places id (number + 1) entries) (place_key id number) entry (place_key id high)
+      (number_differs high number (λ same. omega (arith, low, same)))
+      ∙ above (number + 1) entries high (omega (arith, low))
+
+-- one more entry of the list
+pub more_places : (id : List ℕ) (entries : List Entry) (i : ℕ) (entry : Entry) (a b c : Database) → i < length entries → entry ≡ get_or entries i entry
+    → PutsPlaces id (take i entries) a b → PutsPlace id (i + 1) entry b c → PutsPlaces id (take (i + 1) entries) a c
+more_places id entries i entry a b c low is so it free =
+    let places = (world_of a.trees).places in
+    let before = take i entries in
+    let long : length before ≡ i = length-take-le i entries (omega (arith, low)) in
+    let next : take (i + 1) entries ≡ before ++ entry ∷ [] = take_more entries i entry low ∙ ap (λ x. before ++ x ∷ []) (sym is) in
+    let was = so free in
+    let none : get (world_of b.trees).places (place_key id (i + 1)) ≡ None =
+    ap (λ (w : World). get w.places (place_key id (i + 1))) was ∙ above places id 1 before (i + 1) (omega (arith, long)) ∙ free (i + 1) in
+    let at : i + 1 ≡ 1 + length before = omega (arith, long) in
+    it none
+    ∙ ap (λ (w : World). record w { places = insert w.places (place_key id (i + 1)) entry }) was
+    ∙ ap (λ (m : FinMap place_cmp Entry). record (world_of a.trees) { places = m })
+    (ap (λ n. insert (with_list places id 1 before) (place_key id n) entry) at ∙ sym (with_last places id 1 before entry) ∙ ap (with_list places id 1) (sym next))
+
+-- a round whose list is taken out has no places
+freed : (id : List ℕ) (places : FinMap place_cmp Entry) → HasNoPlaces id (without_list places id)
+freed id places number =
+    get-retain_keys places (λ k. not (same_text k.round id)) (place_key id number) (λ x tied. ap (λ (k : PlaceKey). not (same_text k.round id)) (sym (same_place_keys (place_key id number) x tied)))
+    ∙ ap (λ b. cond (not b) (get places (place_key id number)) None) (sym (is_eq-slice_cmp id id) ∙ ap is_eq (tied_itself text_total id))
+
+-- the head, and then the list in the place of the one before
+round_put : (row : RoundRow) (a b c d : Database) → PutsHead row.round a b → DropsPlaces row.round.id b c → PutsPlaces row.round.id row.puzzles c d → Changes (PutRound row) a d
+round_put row a b c d head dropped put =
+    let id = row.round.id in
+    let world = world_of a.trees in
+    let none = subst (λ (w : World). HasNoPlaces id w.places) (sym dropped) (freed id (world_of b.trees).places) in
+    put none
+    ∙ ap (λ (w : World). record w { places = with_list w.places id 1 row.puzzles }) dropped
+    ∙ ap (λ (w : World). record w { places = with_list (without_list w.places id) id 1 row.puzzles }) head
+
+-- ---- the same inside a transaction
+
+pub no_places_did : (id : List ℕ) (s : State) → IsTrue s.in_transaction → Did (PutsPlaces id []) s s
+no_places_did id s mode = did_none (PutsPlaces id []) s mode (λ free. refl)
+
+pub more_did : (id : List ℕ) (entries : List Entry) (i number : ℕ) (entry : Entry) (a b c : State) → number ≡ i → i < length entries → entry ≡ get_or entries i entry
+    → Did (PutsPlaces id (take i entries)) a b → Did (PutsPlace id (number + 1) entry) b c → Did (PutsPlaces id (take (i + 1) entries)) a c
+more_did id entries i number entry a b c at low is so it =
+    did_then (PutsPlaces id (take i entries)) (PutsPlace id (number + 1) entry) (PutsPlaces id (take (i + 1) entries)) a b c
+    (λ one two. more_places id entries i entry a.now b.now c.now low is one (subst (λ n. PutsPlace id (n + 1) entry b.now c.now) at two)) so it
+
+pub round_did : (row : RoundRow) (a b c d : State) → Did (PutsHead row.round) a b → Did (DropsPlaces row.round.id) b c → Did (PutsPlaces row.round.id row.puzzles) c d
+    → Did (Changes (PutRound row)) a d
+round_did row a b c d one two three =
+    did_then (PutsHead row.round) (λ old new. PutsHead row.round a.now old → Changes (PutRound row) a.now new) (Changes (PutRound row)) a b d (λ first rest. rest first) one
+    (did_then (DropsPlaces row.round.id) (PutsPlaces row.round.id row.puzzles) (λ old new. PutsHead row.round a.now old → Changes (PutRound row) a.now new) b c d
+    (λ second third first. round_put row a.now b.now c.now d.now first second third) two three)

@@ -1,0 +1,42 @@
+-- What the queries on one round, and on its places, mean under the hall's tables.
+use Rattle.std.proofs.Common.{◌≡◌, List, ℕ, codes, refl, false, [], ◌∷◌}
+use Rattle.sqlite_tied.specs.Compute.{everything}
+use Rattle.sqlite_value.specs.declared.keys.Key.{Key}
+use Rattle.sqlite.specs.Term.{Term, col}
+use Rattle.sqlite.specs.Listing.{understood, reads_listing}
+use Rattle.sqlite.specs.Command.TheVariants.{Select}
+use Rattle.sqlite.proofs.Callers.{IsPlain, command_of}
+use Rattle.hall_sql.specs.Tables.{hall_schema}
+use Rattle.hall_sql.specs.Statements.{plain_query, places_with_text, places_of_text}
+use Rattle.hall_sql.proofs.PeopleTexts.{equals, rising}
+use Rattle.hall_sql.proofs.RoundTexts.{round_columns, round_names}
+
+abbrev pub place_columns : List Term
+place_columns = col 1 1 ∷ col 1 2 ∷ col 1 3 ∷ col 1 4 ∷ col 1 5 ∷ []
+
+abbrev pub place_names : List (List ℕ)
+place_names = codes "round" ∷ codes "number" ∷ codes "author" ∷ codes "label" ∷ codes "points" ∷ []
+
+-- author = ?1 AND label = ?2
+abbrev pub puzzle_terms : List Term
+puzzle_terms = equals 3 0 ∷ equals 4 1 ∷ []
+
+pub places_with_is : (command_of (understood hall_schema places_with_text)
+    ≡ Select (record { lets = []; body = plain_query 7 puzzle_terms place_columns [] }) place_names)
+    × (reads_listing hall_schema places_with_text ≡ false) × IsPlain (understood hall_schema places_with_text)
+unfolding understood everything
+places_with_is = (refl, refl, (refl, refl))
+
+-- id = ?1, or round = ?1
+abbrev pub first_terms : List Term
+first_terms = equals 1 0 ∷ []
+
+-- the order of numbers
+abbrev pub number_order : List (Term × Key)
+number_order = (col 1 2, rising) ∷ []
+
+pub places_of_is : (command_of (understood hall_schema places_of_text)
+    ≡ Select (record { lets = []; body = plain_query 7 first_terms place_columns number_order }) place_names)
+    × (reads_listing hall_schema places_of_text ≡ false) × IsPlain (understood hall_schema places_of_text)
+unfolding understood everything
+places_of_is = (refl, refl, (refl, refl))

@@ -1,0 +1,102 @@
+use Rattle.std.proofs.Common.{rules, arith, ◌≡◌, ◌≤◌, ◌∙◌, ◌++◌, inl, inr, true, false, refl, sym, subst, IsTrue, [], ◌∷◌}
+use Rattle.sqlite_trees.specs.View.{doubt}
+use Rattle.sqlite.specs.Values.{bound}
+use Rattle.sqlite.specs.Held.{state}
+use Rattle.sqlite.specs.State.{HasCleanDisk}
+use Rattle.hall_policy.specs.Sink.{HasTaken}
+use Rattle.hall_sql.specs.Feed.{Steps}
+use Rattle.hall_sql.proofs.CallLemmas.{rested, query_refused}
+use Rattle.hall_sql.proofs.FeedLemmas.{rests_then, taken_more, read_none, read_more, read_all, read_first, fed_first}
+use Rattle.hall_sql.proofs.feed.feed.Goals as goal
+
+pub returns-in-Err-clause-rested : goal.returns-in-Err-clause-rested
+returns-in-Err-clause-rested g c =
+    let old = state g.S.Store c.args.conn.now in
+    let new = state g.S.Store c.query.follows.lender-at-none in
+    let held = c.query.follows.holds-at-none in
+    let refused = rw c.in-Err.is at held in
+    rested old new c.requires.hall refused.survives.clean
+    (λ was clean. query_refused old new c.args.sql.now (bound c.args.params.now) c.in-Err.error (refused.err clean))
+
+pub feed-init : goal.feed-init
+feed-init g c =
+    let it = c.in-Ok.ensures in (
+      refl,
+      it.survives.clean,
+      (
+        [],
+        refl,
+        λ clean.
+            let was : HasCleanDisk (state g.S.Store c.args.conn.now) = omega (arith, it.survives.clean, clean) in
+            read_none g.S.Store g.T.Record.read c.args.sql.now (bound c.args.params.now) c.args.conn.now c.in-Ok.rows.conn.now
+            c.requires.plain c.requires.hall was (it.begun clean),
+      ),
+    )
+
+pub feed-preserved : goal.feed-preserved
+feed-preserved g c =
+    let old = state g.S.Store c.args.conn.now in
+    let before = c.feed.rows.conn.now in
+    let after = c.step.new.rows.conn.now in
+    let so = c.feed.invariant.2 in
+    let is : c.in_ok-step.field-0 ≡ true = search rules in
+    let falls : doubt old.is_clean ≤ doubt (state g.S.Store after).is_clean = omega (arith, c.feed.invariant.1, c.step.ensures.clean) in
+    let stepped = subst (Steps g.S.Store g.T.Record.read g.T.GivenTo.takes before after c.feed.sink c.step.new.sink) is c.in_ok-step.ensures.stepped in (
+      c.step.ensures.same_reference ∙ c.feed.invariant.0,
+      falls,
+      (
+        so.0 ++ stepped.0 ∷ [],
+        taken_more g.T.GivenTo.takes c.args.sink.now c.feed.sink c.step.new.sink so.0 stepped.0 so.1 stepped.1,
+        λ clean.
+            let mid : HasCleanDisk (state g.S.Store before) = omega (arith, c.step.ensures.clean, clean) in
+            let row = stepped.2 clean in
+            read_more g.S.Store g.T.Record.read c.args.sql.now (bound c.args.params.now) old before after so.0 (so.2 mid)
+            stepped.0 row.0 row.1.0 row.1.1 row.1.2,
+      ),
+    )
+
+pub returns-then-not-branch-clause-fed : goal.returns-then-not-branch-clause-fed
+returns-then-not-branch-clause-fed g c =
+    let before = c.feed.rows.conn.now in
+    let after = c.step.new.rows.conn.now in
+    let so = c.feed.invariant.2 in
+    let same : c.conn-then-not-branch-1.given.0 ≡ after = search rules in
+    let none : c.in_ok-step.field-0 ≡ false = search rules in
+    let stepped = subst (Steps g.S.Store g.T.Record.read g.T.GivenTo.takes before after c.feed.sink c.step.new.sink) none c.in_ok-step.ensures.stepped in (
+      so.0,
+      subst (HasTaken g.T.GivenTo.takes c.args.sink.now so.0) (sym stepped.0) so.1,
+      λ clean.
+          let late : HasCleanDisk (state g.S.Store after) = subst (λ h. HasCleanDisk (state g.S.Store h)) same clean in
+          let mid : HasCleanDisk (state g.S.Store before) = omega (arith, c.step.ensures.clean, late) in
+          let last = stepped.1 late in (
+            subst (λ h. IsTrue (state g.S.Store h).is_open) (sym same) last.0.0.is_open,
+            read_all g.S.Store g.T.Record.read c.args.sql.now (bound c.args.params.now) (state g.S.Store c.args.conn.now) before after so.0
+                (so.2 mid) last.1,
+          ),
+    )
+
+pub returns-clause-fed : goal.returns-clause-fed
+returns-clause-fed g c =
+    let held = c.feed.rows.conn.now in
+    let so = c.feed.invariant.2 in
+    let same : c.conn-2-1.given.0 ≡ held = search rules in (
+      so.0,
+      so.1,
+      inr (λ clean.
+          let mid : HasCleanDisk (state g.S.Store held) = subst (λ h. HasCleanDisk (state g.S.Store h)) same clean in
+          read_first g.S.Store g.T.Record.read c.args.sql.now (bound c.args.params.now) (state g.S.Store c.args.conn.now) held held so.0 (so.2 mid)),
+    )
+
+pub returns-in_err-step-clause-fed : goal.returns-in_err-step-clause-fed
+returns-in_err-step-clause-fed g c =
+    let before = c.feed.rows.conn.now in
+    let after = c.step.new.rows.conn.now in
+    let so = c.feed.invariant.2 in
+    let same : c.conn-in_err-step-1.given.0 ≡ after = search rules in
+    fed_first g.S.Store g.T.Record.read g.T.GivenTo.takes c.args.sql.now (bound c.args.params.now) (state g.S.Store c.args.conn.now) (state g.S.Store c.conn-in_err-step-1.given.0)
+    c.args.sink.now c.step.new.sink c.from_residual.result _ c.from_residual.ensures.1 so.0
+    (subst (HasTaken g.T.GivenTo.takes c.args.sink.now so.0) (sym c.in_err-step.ensures.same) so.1)
+    (λ clean.
+    let late : HasCleanDisk (state g.S.Store after) = subst (λ h. HasCleanDisk (state g.S.Store h)) same clean in
+    let mid : HasCleanDisk (state g.S.Store before) = omega (arith, c.step.ensures.clean, late) in
+    read_first g.S.Store g.T.Record.read c.args.sql.now (bound c.args.params.now) (state g.S.Store c.args.conn.now) before before so.0 (so.2 mid))

@@ -1,0 +1,7 @@
+use Rattle.hall_sql.proofs.RoundWrites.{head_replaced}
+use Rattle.hall_sql.proofs.round_writes.put_over.Goals as goal
+
+pub returns-clause-done : goal.returns-clause-done
+returns-clause-done g c clean inside =
+    let it = c.in_ok-run_in.ensures in
+    record { mode = it.mode clean inside; puts = λ held. head_replaced c.args.round.now c.in_range.ensures _ _ _ held (rw c.columns.ensures at (it.runs clean inside)) }

@@ -1,0 +1,22 @@
+use Rattle.sqlite.specs.Held.{state}
+use Rattle.hall_sql.specs.RoundPuts.{PutsPlace}
+use Rattle.hall_sql.proofs.InsideLemmas.{did}
+use Rattle.hall_sql.proofs.PlaceWrites.{place_added}
+use Rattle.hall_sql.proofs.round_writes.put_place.Goals as goal
+
+pub returns-clause-done : goal.returns-clause-done
+returns-clause-done g c clean inside =
+    let it = c.in_ok-run_in.ensures in
+    did (PutsPlace c.args.id.now c.args.number c.args.entry.now) (state g.S.Store c.args.tx.now.conn.now) (state g.S.Store c.run_in.new.tx.conn.now) (it.mode clean inside)
+    (λ held. place_added c.args.id.now _ _ _ held c.args.number c.args.entry.now c.as_str.ensures.of_kind c.requires.numbered c.entry_in_range.ensures
+    (rw (
+      c.params-to_sql.ensures,
+      c.params-to_sql-2.ensures,
+      c.params-to_sql-3.ensures,
+      c.params-to_sql-4.ensures,
+      c.params-to_sql-5.ensures,
+      c.as_str.ensures.text,
+      c.as_str-2.ensures.text,
+      c.as_str-3.ensures.text,
+      c.get.ensures.value,
+    ) at (it.runs clean inside)))

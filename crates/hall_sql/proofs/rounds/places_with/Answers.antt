@@ -1,0 +1,16 @@
+use Rattle.sqlite.specs.Held.{state}
+use Rattle.hall_sql.proofs.RoundQueries.{places_with_is}
+use Rattle.hall_sql.proofs.PlaceListings.{places_with_told}
+use Rattle.hall_sql.proofs.StoreLemmas.{told}
+use Rattle.hall_sql.proofs.rounds.places_with.Goals as goal
+
+pub ask-requires-clause-plain : goal.ask-requires-clause-plain
+ask-requires-clause-plain g c = places_with_is.2
+
+pub returns-clause-served : goal.returns-clause-served
+returns-clause-served g c =
+    told (state g.S.Store c.args.conn.now) (state g.S.Store c.ask.new.conn) c.read_all.result _ _ c.requires.hall c.ask.ensures.rested
+    c.in_ok-rows.ensures.serves c.read_all.ensures
+    (λ out h clean opened has keyed. places_with_told _ (state g.S.Store c.ask.new.conn) has keyed.1.1.1.0 (c.schema-schema.ensures.live opened).0
+    c.in_ok-rows.rows.items out.items (rw c.deref.ensures.value at h) c.args.key.now
+    (rw (c.params-to_sql.ensures, c.params-to_sql-2.ensures, c.as_str.ensures.text, c.as_str-2.ensures.text) at (c.in_ok-rows.ensures.shown clean)))

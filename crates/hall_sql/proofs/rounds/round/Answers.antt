@@ -1,0 +1,20 @@
+use Rattle.std.proofs.Common.{◌∙◌, arith, sym, ap}
+use Rattle.std.specs.FinMap.{get}
+use Rattle.sqlite.specs.Effect.{Database}
+use Rattle.sqlite.specs.Held.{state}
+use Rattle.sqlite.specs.State.{HasCleanDisk}
+use Rattle.hall_sql.specs.Rows.{world_of}
+use Rattle.hall_sql.proofs.StoreLemmas.{served_so}
+use Rattle.hall_sql.proofs.rounds.round.Goals as goal
+
+pub returns-clause-served : goal.returns-clause-served
+returns-clause-served g c =
+    let mid = state g.S.Store c.head.new.conn in
+    let new = state g.S.Store c.places_of.new.conn in
+    served_so new c.row_of.result _ (λ clean. (c.in_ok-places.ensures.served clean).0)
+    (λ clean.
+    let rested = c.places_of.ensures.rested in
+    let places = c.in_ok-places.ensures.served clean in
+    let was : HasCleanDisk mid = omega (arith, rested.follows.clean, clean) in
+    let head = (c.in_ok-head.ensures.served was).1 ∙ ap (λ (d : Database). get (world_of d.trees).rounds c.args.id.now) (sym (rested.same clean places.0)) in
+    c.row_of.ensures (world_of new.now.trees) c.args.id.now head places.1.whole)

@@ -1,0 +1,78 @@
+-- Rows that are given to a sink one after another.
+use Rattle.std.specs.Prelude.{◌≡◌, ◌⊎◌, ◌++◌, ℕ, Bool, true, false, List, [], map, Option, Some, None}
+use Rattle.std.specs.Prelude.{Result, Ok, Err, IsTrue}
+use Rattle.sqlite_trees.specs.declared.store.Store.{Ghosts}
+use Rattle.sqlite.specs.Order.{Row}
+use Rattle.sqlite.specs.Held.{Held, state}
+use Rattle.sqlite.specs.Given.{Advances, HasGiven}
+use Rattle.sqlite.specs.State.{State, HasCleanDisk, IsUnchanged, Begins, Shown}
+use Rattle.hall_policy.specs.World.{World}
+use Rattle.hall_policy.specs.Sink.{HasTaken}
+use Rattle.hall_store.specs.Store.{Content}
+
+-- one row more was read, and the sink took its record; or there is none
+abbrev pub Steps : {S K X : Type 0} → Ghosts S → (Row → Option X) → (K → X → K → Type 0) →
+    Held S → Held S → K → K → Bool → Type 0
+Steps {S} {K} {X} g read Takes old new before after true =
+    (x : X) × Takes before x after
+    × (HasCleanDisk (state g new) → IsUnchanged (state g old) (state g new)
+    × ((row : Row) × Advances g old new (Some row) × (read row ≡ Some x)))
+Steps g read Takes old new before after false =
+    (after ≡ before)
+    × (HasCleanDisk (state g new) → IsUnchanged (state g old) (state g new) × Advances g old new None)
+
+-- the connection runs the query, and has given rows that read as these records
+pub record HasRead {S X : Type 0} (g : Ghosts S) (read : Row → Option X) (sql : List ℕ) (params : Row) (first : State)
+    (held : Held S) (taken : List X) : Type 0 where
+  pub same : IsUnchanged first (state g held)
+  pub rows : List Row
+  pub given : HasGiven g sql params held rows
+  pub reads : map read rows ≡ map Some taken
+
+-- and the sink has taken these records
+abbrev pub Taking : {S K X : Type 0} → Ghosts S → (Row → Option X) → (K → X → K → Type 0) → List ℕ → Row →
+    State → Held S → K → K → Type 0
+Taking {S} {K} {X} g read Takes sql params first held before after =
+    (taken : List X) × HasTaken Takes before taken after
+    × (HasCleanDisk (state g held) → HasRead g read sql params first held taken)
+
+-- the query's answer over the tables of this state, in a store that serves, reads as these records
+pub record AreAll {S X : Type 0} (g : Ghosts S) (read : Row → Option X) (sql : List ℕ) (params : Row) (old : State)
+    (taken : List X) : Type 0 where
+  pub served : IsTrue old.is_open
+  pub rows : List Row
+  pub reads : map read rows ≡ map Some taken
+  pub from : Held S
+  pub to : Held S
+  pub same : (state g from).now ≡ old.now
+  pub shown : Shown sql params (state g from) (state g to) rows
+
+-- the first rows of it do
+pub record AreFirst {S X : Type 0} (g : Ghosts S) (read : Row → Option X) (sql : List ℕ) (params : Row) (old : State)
+    (taken : List X) : Type 0 where
+  pub served : IsTrue old.is_open
+  pub rows : List Row
+  pub reads : map read rows ≡ map Some taken
+  pub from : Held S
+  pub same : (state g from).now ≡ old.now
+  pub begun : Begins sql params (state g from) rows
+
+-- A sink has taken the records that a query's rows are: all; or, where the call is refused, some of the first ones.
+abbrev pub FedRows : {S K X E : Type 0} → Ghosts S → (Row → Option X) → (K → X → K → Type 0) → List ℕ → Row →
+    State → State → K → Result (Unit {0}) E → K → Type 0
+FedRows {S} {K} {X} g read Takes sql params old new before (Ok done) after =
+    (taken : List X) × HasTaken Takes before taken after
+    × (HasCleanDisk new → IsTrue new.is_open × AreAll g read sql params old taken)
+FedRows {S} {K} {X} g read Takes sql params old new before (Err fault) after =
+    (taken : List X) × HasTaken Takes before taken after
+    × ((taken ≡ []) ⊎ (HasCleanDisk new → AreFirst g read sql params old taken))
+
+-- The sink has taken all the rows of the world before; or, where the call is refused, some of the first ones, also
+-- where the store serves no more.
+abbrev pub FedBefore : {K X E : Type 0} → (K → X → K → Type 0) →
+    (World → List X → Type 0) → Content → Content → K → Result (Unit {0}) E → K → Type 0
+FedBefore {K} {X} Takes AreRows old new before (Ok done) after =
+    new.honest → new.serves × ((rows : List X) × AreRows old.world rows × HasTaken Takes before rows after)
+FedBefore {K} {X} Takes AreRows old new before (Err fault) after =
+    (taken : List X) × HasTaken Takes before taken after
+    × ((taken ≡ []) ⊎ (new.honest → (left : List X) × AreRows old.world (taken ++ left)))

@@ -1,0 +1,49 @@
+-- What calls inside a transaction leave.
+use Rattle.std.specs.Prelude.{◌≡◌, ◌≤◌, None, IsTrue}
+use Rattle.std.specs.FinMap.{get, insert}
+use Rattle.sqlite_trees.specs.View.{doubt}
+use Rattle.sqlite.specs.Effect.{Database}
+use Rattle.sqlite.specs.State.{State, HasCleanDisk, KeepsCommit}
+use Rattle.hall_policy.specs.World.{World}
+use Rattle.hall_policy.specs.declared.record.Person.{Person}
+use Rattle.hall_store.specs.Change.{changed}
+use Rattle.hall_store.specs.declared.change.Change.{Change}
+use Rattle.hall_sql.specs.Tables.{hall_schema}
+use Rattle.hall_sql.specs.Rows.{world_of}
+use Rattle.hall_sql.specs.Standing.{AreAllKeyed}
+
+-- the tables are the hall's, and no two rows of one have one rowid
+pub record IsHallData (held : Database) : Type 0 where
+  pub schema : held.schema ≡ hall_schema
+  pub keyed : AreAllKeyed held.trees
+
+-- Whether it ran or was refused: no fault is forgotten, and nothing is committed.
+pub record Carries (old new : State) : Type 0 where
+  pub falls : doubt old.is_clean ≤ doubt new.is_clean
+  pub kept : HasCleanDisk new → IsTrue old.in_transaction → KeepsCommit old new
+
+-- Where it ran, the transaction goes on, over the hall's tables.
+pub record Steps (old new : State) : Type 0 where
+  pub mode : IsTrue new.in_transaction
+  pub hall : IsHallData old.now → IsHallData new.now
+
+-- a call inside a transaction ran, and did this to the hall's tables
+pub record Did (Does : Database → Database → Type 0) (old new : State) : Type 0 where
+  pub steps : Steps old new
+  pub does : IsHallData old.now → Does old.now new.now
+
+-- the tables hold the changed world
+abbrev pub Changes : Change → Database → Database → Type 0
+Changes change old new = world_of new.trees ≡ changed change (world_of old.trees)
+
+-- a query told what has this meaning, and left the tables
+pub record Tells (Means : World → Type 0) (old new : Database) : Type 0 where
+  pub same : new ≡ old
+  pub means : Means (world_of old.trees)
+
+-- the person is added where the name is unknown
+abbrev pub AddsPerson : Person → Database → Database → Type 0
+AddsPerson person old new =
+    get (world_of old.trees).people person.name ≡ None
+    → world_of new.trees
+    ≡ record (world_of old.trees) { people = insert (world_of old.trees).people person.name person }

@@ -1,0 +1,72 @@
+-- The hall's tables made one after another, on a database with none.
+use Rattle.std.specs.Prelude.{◌≡◌, ℕ, false, List, [], ◌∷◌, IsTrue}
+use Rattle.std.specs.List.{AllByRecursion}
+use Rattle.sqlite.specs.Table.{Table}
+use Rattle.sqlite.specs.Schema.{Schema}
+use Rattle.sqlite.specs.Change.{created}
+use Rattle.sqlite.specs.Effect.{Database}
+use Rattle.sqlite.specs.State.{State}
+use Rattle.hall_sql.specs.declared.tables.HallTable.{HallTable}
+use Rattle.hall_sql.specs.declared.tables.HallTable.TheVariants.{People, Puzzles, Rounds, Places, Answers, Protests}
+use Rattle.hall_sql.specs.Tables.{hall_schema, people_text, people_table, puzzles_text, puzzles_table, rounds_text}
+use Rattle.hall_sql.specs.Tables.{rounds_table, round_puzzles_text, round_puzzles_table, answers_text, answers_table}
+use Rattle.hall_sql.specs.Tables.{protests_text, protests_table, no_schema, with_people, with_puzzles, with_rounds}
+use Rattle.hall_sql.specs.Tables.{with_round_puzzles, with_answers}
+
+-- all six, each after those to which it refers
+abbrev pub all_tables : List HallTable
+all_tables = People ∷ Puzzles ∷ Rounds ∷ Places ∷ Answers ∷ Protests ∷ []
+
+-- the statement that makes the table
+abbrev pub table_text : HallTable → List ℕ
+table_text People = people_text
+table_text Puzzles = puzzles_text
+table_text Rounds = rounds_text
+table_text Places = round_puzzles_text
+table_text Answers = answers_text
+table_text Protests = protests_text
+
+-- the table as it is made
+abbrev pub shape_of : HallTable → Table
+shape_of People = people_table
+shape_of Puzzles = puzzles_table
+shape_of Rounds = rounds_table
+shape_of Places = round_puzzles_table
+shape_of Answers = answers_table
+shape_of Protests = protests_table
+
+-- the schema to which the table is added
+abbrev pub schema_before : HallTable → Schema
+schema_before People = no_schema
+schema_before Puzzles = with_people
+schema_before Rounds = with_puzzles
+schema_before Places = with_rounds
+schema_before Answers = with_round_puzzles
+schema_before Protests = with_answers
+
+-- the schema is the hall's once these tables are made
+abbrev pub Lacks : List HallTable → Schema → Type 0
+Lacks [] schema = schema ≡ hall_schema
+Lacks (table ∷ tables) schema = (schema ≡ schema_before table) × Lacks tables (created schema (shape_of table))
+
+-- the database has this schema, and its tables no rows
+pub record IsBare (schema : Schema) (held : Database) : Type 0 where
+  pub is : held.schema ≡ schema
+  pub empty : AllByRecursion (λ (table : Table). held.trees table.tree ≡ []) schema.tables
+
+-- once these tables are made, it is the hall with no rows
+pub record Awaits (tables : List HallTable) (held : Database) : Type 0 where
+  pub schema : Schema
+  pub bare : IsBare schema held
+  pub uncounted : AllByRecursion (λ (table : Table). table.is_counted ≡ false) schema.tables
+  pub lacks : Lacks tables schema
+
+-- a statement inside a transaction made the table
+pub record Grows (table : HallTable) (old new : State) : Type 0 where
+  pub mode : IsTrue new.in_transaction
+  pub made : (tables : List HallTable) → Awaits (table ∷ tables) old.now → Awaits tables new.now
+
+-- of the tables that were to be made, these are still to be made
+pub record HasGrown (tables rest : List HallTable) (old new : State) : Type 0 where
+  pub mode : IsTrue new.in_transaction
+  pub made : Awaits tables old.now → Awaits rest new.now

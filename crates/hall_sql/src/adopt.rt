@@ -1,0 +1,37 @@
+//! Taking over an open connection.
+ghost use Rattle.std.specs.Prelude.{◌≡◌, IsTrue, []};
+ghost use Rattle.sqlite.specs.Held.{state};
+ghost use Rattle.hall_sql.specs.Tables.{no_schema};
+ghost use Rattle.hall_sql.specs.Standing.{Adopts};
+
+use crate::make::make;
+use crate::scan::check_all_rowids;
+use crate::schema::is_hall_schema;
+use crate::tables::ALL;
+use hall_store::StoreFault;
+use sqlite::{Alter, Connection};
+use sqlite_schema::schema::Schema;
+
+/// There is neither a table nor an index nor a view.
+fn has_nothing(schema: &Schema) -> bool
+    ensures { IsTrue result → schema.now ≡ no_schema }
+{
+    schema.tables.is_empty() && schema.indexes.is_empty() && schema.views.is_empty()
+}
+
+/// Makes the hall's tables where there is none, and takes them over where they stand. Any other database is refused,
+/// and so is an open transaction.
+pub(crate) fn adopt<S: Alter>(conn: &mut Connection<S>) -> Result<(), StoreFault>
+    ensures { Adopts (state S.Store conn.old) (state S.Store conn.new) result }
+{
+    if !conn.is_autocommit() {
+        return Err(StoreFault::Failed);
+    }
+    if has_nothing(conn.schema()) {
+        return make(conn);
+    }
+    if !is_hall_schema(conn.schema()) {
+        return Err(StoreFault::Failed);
+    }
+    check_all_rowids(conn, &ALL)
+}

@@ -1,0 +1,137 @@
+//! The rows of a round, given to a sink one at a time.
+ghost use Rattle.std.specs.Prelude.{◌≡◌, ◌≤◌, IfOk, OnOk, OnErr};
+ghost use Rattle.sqlite_trees.specs.View.{doubt};
+ghost use Rattle.sqlite.specs.Values.{bound};
+ghost use Rattle.sqlite.specs.Held.{state};
+ghost use Rattle.sqlite.specs.Given.{IsPlain};
+ghost use Rattle.sqlite.specs.Listing.{understood};
+ghost use Rattle.sqlite.specs.State.{HasCleanDisk};
+ghost use Rattle.hall_store.specs.Store.{Fed, IsListing, is_in, protests_in};
+ghost use Rattle.hall_sql.specs.Tables.{hall_schema};
+ghost use Rattle.hall_sql.specs.Standing.{IsHall, Rests, Rested, content_of};
+ghost use Rattle.hall_sql.specs.Feed.{Steps, FedRows, FedBefore};
+
+use crate::answers::ANSWERS_IN;
+use crate::calls::fault_of;
+use crate::protests::PROTESTS_IN;
+use crate::record::Record;
+use hall_policy::{AnswerRow, AnswerSink, ProtestRow, ProtestSink, RoundId};
+use hall_store::StoreFault;
+use sqlite::types::ValueRef;
+use sqlite::{Alter, Connection, Rows, params};
+use std::alloc::Global;
+
+/// A record that a sink takes.
+pub(crate) trait GivenTo<K>: Record {
+    // The sink before, the record, the sink after.
+    ghost takes: { K → Self → K → Type 0 };
+
+    /// Gives it to the sink. Refused, the sink stays as it was.
+    fn give_to(&self, sink: &mut K) -> Result<(), StoreFault>
+        ensures took { OnOk result (takes sink.old self.now sink.new) }
+        ensures same { OnErr result (sink.new ≡ sink.old) };
+}
+
+impl<K: AnswerSink> GivenTo<K> for AnswerRow {
+    ghost takes = { K.AnswerSink.takes };
+
+    fn give_to(&self, sink: &mut K) -> Result<(), StoreFault> {
+        Ok(sink.take(self)?)
+    }
+}
+
+impl<K: ProtestSink> GivenTo<K> for ProtestRow {
+    ghost takes = { K.ProtestSink.takes };
+
+    fn give_to(&self, sink: &mut K) -> Result<(), StoreFault> {
+        Ok(sink.take(self)?)
+    }
+}
+
+/// Reads one row more, and gives the sink its record. False where there is none.
+fn step<S: Alter, K, T: GivenTo<K> + Drop>(
+    rows: &mut Rows<'_, S>,
+    alloc: Global,
+    sink: &mut K,
+) -> Result<bool, StoreFault>
+    ensures same_reference { rows.new.conn.ghost_name ≡ rows.old.conn.ghost_name }
+    ensures clean {
+        doubt (state S.Store rows.old.conn.now).is_clean ≤ doubt (state S.Store rows.new.conn.now).is_clean }
+    ensures rests { HasCleanDisk (state S.Store rows.new.conn.now) →
+        Rests (state S.Store rows.old.conn.now) (state S.Store rows.new.conn.now) }
+    ensures stepped { IfOk result
+        (Steps S.Store T.read T.takes rows.old.conn.now rows.new.conn.now sink.old sink.new) }
+    ensures same { OnErr result (sink.new ≡ sink.old) }
+{
+    if let Err(error) = rows.advance() {
+        return Err(fault_of(&error));
+    }
+    let Some(row) = rows.get() else {
+        return Ok(false);
+    };
+    T::from_row(alloc, row)?.give_to(sink)?;
+    Ok(true)
+}
+
+/// Gives the sink the records that the rows of a query are, one after another.
+fn feed<S: Alter, K, T: GivenTo<K> + Drop>(
+    conn: &mut Connection<S>,
+    alloc: Global,
+    sql: &str,
+    params: &[ValueRef<'_>],
+    sink: &mut K,
+) -> Result<(), StoreFault>
+    requires plain { IsPlain (understood hall_schema sql.now) }
+    requires hall { IsHall (state S.Store conn.old) }
+    ensures rested { Rested (state S.Store conn.old) (state S.Store conn.new) }
+    ensures fed { FedRows S.Store T.read T.takes sql.now (bound params.now)
+        (state S.Store conn.old) (state S.Store conn.new) sink.old result sink.new }
+{
+    let mut rows = match conn.query(sql, params) {
+        Ok(rows) => rows,
+        Err(error) => return Err(fault_of(&error)),
+    };
+    'feed: for _ in 0..u64::MAX {
+        if !step::<S, K, T>(&mut rows, alloc, sink)? {
+            return Ok(());
+        }
+    }
+    Err(StoreFault::Failed)
+}
+
+/// Gives the sink the answers of the round, by entrant, number, then n. Where it refuses one, it has taken those
+/// before.
+pub(crate) fn feed_answers<S: Alter, K: AnswerSink>(
+    conn: &mut Connection<S>,
+    alloc: Global,
+    round: &RoundId,
+    sink: &mut K,
+) -> Result<(), StoreFault>
+    requires hall { IsHall (state S.Store conn.old) }
+    ensures rested { Rested (state S.Store conn.old) (state S.Store conn.new) }
+    ensures begun { FedBefore K.takes (λ world rows. IsListing world (is_in round.now) rows)
+        (content_of (state S.Store conn.old)) (content_of (state S.Store conn.new)) sink.old result sink.new }
+    ensures fed { Fed K.takes (λ world rows. IsListing world (is_in round.now) rows)
+        (content_of (state S.Store conn.new)) sink.old result sink.new }
+{
+    let _schema = conn.schema();
+    feed::<S, K, AnswerRow>(conn, alloc, ANSWERS_IN, params![round.as_str()], sink)
+}
+
+/// Gives the sink the protests of the round, by entrant, then token. Where it refuses one, it has taken those before.
+pub(crate) fn feed_protests<S: Alter, K: ProtestSink>(
+    conn: &mut Connection<S>,
+    alloc: Global,
+    round: &RoundId,
+    sink: &mut K,
+) -> Result<(), StoreFault>
+    requires hall { IsHall (state S.Store conn.old) }
+    ensures rested { Rested (state S.Store conn.old) (state S.Store conn.new) }
+    ensures begun { FedBefore K.takes (λ world rows. rows ≡ protests_in world round.now)
+        (content_of (state S.Store conn.old)) (content_of (state S.Store conn.new)) sink.old result sink.new }
+    ensures fed { Fed K.takes (λ world rows. rows ≡ protests_in world round.now)
+        (content_of (state S.Store conn.new)) sink.old result sink.new }
+{
+    let _schema = conn.schema();
+    feed::<S, K, ProtestRow>(conn, alloc, PROTESTS_IN, params![round.as_str()], sink)
+}

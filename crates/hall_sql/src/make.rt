@@ -1,0 +1,56 @@
+//! The hall's tables, made on a database with none.
+ghost use Rattle.std.specs.Prelude.{◌≡◌, false, [], IsTrue, OnOk};
+ghost use Rattle.sqlite.specs.Held.{state};
+ghost use Rattle.sqlite.specs.State.{HasCleanDisk};
+ghost use Rattle.hall_sql.specs.Inside.{Carries};
+ghost use Rattle.hall_sql.specs.Tables.{no_schema};
+ghost use Rattle.hall_sql.specs.Standing.{Adopts};
+ghost use Rattle.hall_sql.specs.Made.{Grows, HasGrown};
+
+use crate::calls::{fault_of, run_in};
+use crate::tables::{ALL, HallTable, table_text};
+use hall_store::StoreFault;
+use sqlite::{Alter, Connection, Transaction};
+
+/// Makes the table, with no rows.
+fn make_table<S: Alter>(tx: &mut Transaction<'_, S>, table: HallTable) -> Result<(), StoreFault>
+    ensures same_reference { tx.new.conn.ghost_name ≡ tx.old.conn.ghost_name }
+    ensures carries { Carries (state S.Store tx.old.conn.now) (state S.Store tx.new.conn.now) }
+    ensures done { HasCleanDisk (state S.Store tx.new.conn.now) → IsTrue (state S.Store tx.old.conn.now).in_transaction
+        → OnOk result (Grows table (state S.Store tx.old.conn.now) (state S.Store tx.new.conn.now)) }
+{
+    run_in(tx, table_text(table), &[])?;
+    Ok(())
+}
+
+/// Makes the tables, one after another.
+fn make_tables<S: Alter>(
+    tx: &mut Transaction<'_, S>,
+    tables: &[HallTable],
+) -> Result<(), StoreFault>
+    ensures same_reference { tx.new.conn.ghost_name ≡ tx.old.conn.ghost_name }
+    ensures carries { Carries (state S.Store tx.old.conn.now) (state S.Store tx.new.conn.now) }
+    ensures done { HasCleanDisk (state S.Store tx.new.conn.now) → IsTrue (state S.Store tx.old.conn.now).in_transaction
+        → OnOk result (HasGrown tables.now [] (state S.Store tx.old.conn.now) (state S.Store tx.new.conn.now)) }
+{
+    for table in tables {
+        make_table(tx, *table)?;
+    }
+    Ok(())
+}
+
+/// Makes all six tables or none.
+pub(crate) fn make<S: Alter>(conn: &mut Connection<S>) -> Result<(), StoreFault>
+    requires alone { conn.old.in_transaction ≡ false }
+    requires settled { IsTrue (state S.Store conn.old).is_open
+        → (state S.Store conn.old).now ≡ (state S.Store conn.old).committed }
+    requires bare { conn.old.schema ≡ no_schema }
+    ensures { Adopts (state S.Store conn.old) (state S.Store conn.new) result }
+{
+    let mut tx = conn.transaction();
+    make_tables(&mut tx, &ALL)?;
+    match tx.commit() {
+        Ok(()) => Ok(()),
+        Err(error) => Err(fault_of(&error)),
+    }
+}

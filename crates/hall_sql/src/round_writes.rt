@@ -1,0 +1,278 @@
+//! What is written to the tables of rounds and of their puzzles.
+ghost use Rattle.std.specs.Prelude.{◌≡◌, ◌≤◌, length, IsTrue, IfOk, IfSome, OnOk};
+ghost use Rattle.std.specs.FinMap.{get};
+ghost use Rattle.sqlite.specs.Held.{state};
+ghost use Rattle.sqlite.specs.Values.{bound};
+ghost use Rattle.sqlite.specs.State.{HasCleanDisk};
+ghost use Rattle.hall_policy.specs.Ranges.{IsRound, IsWithin, IsEntry};
+ghost use Rattle.hall_store.specs.Store.{Served};
+ghost use Rattle.hall_store.specs.Change.{flagged};
+ghost use Rattle.hall_store.specs.declared.change.Change.TheVariants.{PutRound, SetRoundFlag};
+ghost use Rattle.hall_sql.specs.Inside.{Carries, Did, Changes};
+ghost use Rattle.hall_sql.specs.RoundColumns.{mode_code, head_params, IsHead};
+ghost use Rattle.hall_sql.specs.RoundPuts.{CountsHeads, PutsHead, PutsHeadOver, DropsPlaces, PutsPlace, PutsPlaces};
+ghost use Rattle.hall_sql.specs.Standing.{IsHall, Rested, Wrote, content_of};
+
+use crate::calls::{ask_in, fault_of, run, run_in};
+use crate::rounds::head;
+use hall_policy::{Entry, Mode, Round, RoundId, RoundRow};
+use hall_store::{RoundFlag, StoreFault};
+use sqlite::types::{ToSql, ValueRef};
+use sqlite::{Alter, Connection, Transaction, params};
+use std::alloc::Global;
+
+/// The code of a mode.
+fn mode_code(mode: Mode) -> u32
+    ensures { result ≡ mode_code mode }
+{
+    match mode {
+        Mode::Instant => 0,
+        Mode::Sealed => 1,
+    }
+}
+
+/// Tells a proof that the round lies in the ranges of its types.
+fn in_range(round: &Round)
+    ensures { IsRound round.now }
+{
+    let _id = round.id.as_str();
+    let _title = round.title.as_str();
+    let _start = round.start.get();
+    let _minutes = round.minutes.get();
+    let _protest_minutes = round.protest_minutes.get();
+    let _penalty = round.penalty.get();
+    let _bonus = round.bonus.get();
+}
+
+/// The columns of a round.
+fn columns(round: &Round) -> [ValueRef<'_>; 10]
+    ensures { bound result ≡ head_params round.now }
+{
+    [
+        round.id.as_str().to_sql(),
+        round.title.as_str().to_sql(),
+        (round.start.get() as u32).to_sql(),
+        (round.minutes.get() as u32).to_sql(),
+        (round.protest_minutes.get() as u32).to_sql(),
+        mode_code(round.mode).to_sql(),
+        (round.penalty.get() as u32).to_sql(),
+        (round.bonus.get() as u32).to_sql(),
+        round.released.to_sql(),
+        round.published.to_sql(),
+    ]
+}
+
+const REPLACE_HEAD: &str =
+    "UPDATE rounds SET title = ?2, start = ?3, minutes = ?4, protest_minutes = ?5, mode = ?6, \
+    penalty = ?7, bonus = ?8, released = ?9, published = ?10 WHERE id = ?1";
+
+/// The round with the flag set.
+fn flagged(mut round: Round, flag: RoundFlag) -> Round
+    ensures { result ≡ flagged flag round }
+{
+    match flag {
+        RoundFlag::Released => round.released = true,
+        RoundFlag::Published => round.published = true,
+    }
+    round
+}
+
+/// Sets the flag of the round that stands under its id.
+fn set_flag<S: Alter>(
+    conn: &mut Connection<S>,
+    round: Round,
+    flag: RoundFlag,
+) -> Result<(), StoreFault>
+    requires hall { IsHall (state S.Store conn.old) }
+    requires found { HasCleanDisk (state S.Store conn.old) → IsHead round.id (state S.Store conn.old) round }
+    ensures { Wrote (SetRoundFlag round.id flag) (state S.Store conn.old) (state S.Store conn.new) result }
+{
+    let flagged = flagged(round, flag);
+    in_range(&flagged);
+    match run(conn, REPLACE_HEAD, &columns(&flagged)) {
+        Ok(_) => Ok(()),
+        Err(fault) => Err(fault),
+    }
+}
+
+/// Sets a flag of the round.
+pub(crate) fn set_round_flag<S: Alter>(
+    conn: &mut Connection<S>,
+    alloc: Global,
+    id: &RoundId,
+    flag: RoundFlag,
+) -> Result<(), StoreFault>
+    requires hall { IsHall (state S.Store conn.old) }
+    ensures { Wrote (SetRoundFlag id.now flag) (state S.Store conn.old) (state S.Store conn.new) result }
+{
+    match head(conn, alloc, id)? {
+        Some(round) => set_flag(conn, round, flag),
+        None => Ok(()),
+    }
+}
+
+const LOOK: &str = "SELECT id FROM rounds WHERE id = ?1";
+
+/// How many rows stand under the id: none or one.
+fn look<S: Alter>(tx: &mut Transaction<'_, S>, id: &RoundId) -> Result<usize, StoreFault>
+    ensures same_reference { tx.new.conn.ghost_name ≡ tx.old.conn.ghost_name }
+    ensures carries { Carries (state S.Store tx.old.conn.now) (state S.Store tx.new.conn.now) }
+    ensures done { HasCleanDisk (state S.Store tx.new.conn.now) → IsTrue (state S.Store tx.old.conn.now).in_transaction
+        → IfOk result (λ count. Did (CountsHeads id.now count) (state S.Store tx.old.conn.now)
+        (state S.Store tx.new.conn.now)) }
+{
+    Ok(ask_in(tx, LOOK, params![id.as_str()])?.len())
+}
+
+const ADD_HEAD: &str =
+    "INSERT INTO rounds (id, title, start, minutes, protest_minutes, mode, penalty, bonus, released, published) \
+    VALUES (?1, ?2, ?3, ?4, ?5, ?6, ?7, ?8, ?9, ?10)";
+
+/// Stores the round's head under a new id.
+fn put_new<S: Alter>(tx: &mut Transaction<'_, S>, round: &Round) -> Result<(), StoreFault>
+    ensures same_reference { tx.new.conn.ghost_name ≡ tx.old.conn.ghost_name }
+    ensures carries { Carries (state S.Store tx.old.conn.now) (state S.Store tx.new.conn.now) }
+    ensures done { HasCleanDisk (state S.Store tx.new.conn.now) → IsTrue (state S.Store tx.old.conn.now).in_transaction
+        → OnOk result (PutsHeadOver 0 round.now (state S.Store tx.old.conn.now)
+        (state S.Store tx.new.conn.now)) }
+{
+    in_range(round);
+    run_in(tx, ADD_HEAD, &columns(round))?;
+    Ok(())
+}
+
+/// Stores the round's head in the place of the one under its id.
+fn put_over<S: Alter>(tx: &mut Transaction<'_, S>, round: &Round) -> Result<(), StoreFault>
+    ensures same_reference { tx.new.conn.ghost_name ≡ tx.old.conn.ghost_name }
+    ensures carries { Carries (state S.Store tx.old.conn.now) (state S.Store tx.new.conn.now) }
+    ensures done { HasCleanDisk (state S.Store tx.new.conn.now) → IsTrue (state S.Store tx.old.conn.now).in_transaction
+        → OnOk result (PutsHeadOver 1 round.now (state S.Store tx.old.conn.now)
+        (state S.Store tx.new.conn.now)) }
+{
+    in_range(round);
+    run_in(tx, REPLACE_HEAD, &columns(round))?;
+    Ok(())
+}
+
+/// Stores the round's head, in the place of the one under its id.
+fn put_head<S: Alter>(tx: &mut Transaction<'_, S>, round: &Round) -> Result<(), StoreFault>
+    ensures same_reference { tx.new.conn.ghost_name ≡ tx.old.conn.ghost_name }
+    ensures carries { Carries (state S.Store tx.old.conn.now) (state S.Store tx.new.conn.now) }
+    ensures done { HasCleanDisk (state S.Store tx.new.conn.now) → IsTrue (state S.Store tx.old.conn.now).in_transaction
+        → OnOk result (Did (PutsHead round.now) (state S.Store tx.old.conn.now)
+        (state S.Store tx.new.conn.now)) }
+{
+    match look(tx, &round.id)? {
+        0 => put_new(tx, round),
+        1 => put_over(tx, round),
+        _ => Err(StoreFault::Failed),
+    }
+}
+
+const DROP_PLACES: &str = "DELETE FROM round_puzzles WHERE round = ?1";
+
+/// Takes out the places of the round.
+fn drop_places<S: Alter>(tx: &mut Transaction<'_, S>, id: &RoundId) -> Result<(), StoreFault>
+    ensures same_reference { tx.new.conn.ghost_name ≡ tx.old.conn.ghost_name }
+    ensures carries { Carries (state S.Store tx.old.conn.now) (state S.Store tx.new.conn.now) }
+    ensures done { HasCleanDisk (state S.Store tx.new.conn.now) → IsTrue (state S.Store tx.old.conn.now).in_transaction
+        → OnOk result (Did (DropsPlaces id.now) (state S.Store tx.old.conn.now)
+        (state S.Store tx.new.conn.now)) }
+{
+    run_in(tx, DROP_PLACES, params![id.as_str()])?;
+    Ok(())
+}
+
+/// Tells a proof that the entry lies in the ranges of its types.
+fn entry_in_range(entry: &Entry)
+    ensures { IsEntry entry.now }
+{
+    let _author = entry.puzzle.author.as_str();
+    let _label = entry.puzzle.label.as_str();
+    let _points = entry.points.get();
+}
+
+const ADD_PLACE: &str =
+    "INSERT INTO round_puzzles (round, number, author, label, points) VALUES (?1, ?2, ?3, ?4, ?5)";
+
+/// Stores an entry at its place in the round.
+fn put_place<S: Alter>(
+    tx: &mut Transaction<'_, S>,
+    id: &RoundId,
+    number: u32,
+    entry: &Entry,
+) -> Result<(), StoreFault>
+    requires numbered { IsWithin 1 99 number }
+    ensures same_reference { tx.new.conn.ghost_name ≡ tx.old.conn.ghost_name }
+    ensures carries { Carries (state S.Store tx.old.conn.now) (state S.Store tx.new.conn.now) }
+    ensures done { HasCleanDisk (state S.Store tx.new.conn.now) → IsTrue (state S.Store tx.old.conn.now).in_transaction
+        → OnOk result (Did (PutsPlace id.now number entry.now) (state S.Store tx.old.conn.now)
+        (state S.Store tx.new.conn.now)) }
+{
+    entry_in_range(entry);
+    run_in(
+        tx,
+        ADD_PLACE,
+        params![
+            id.as_str(),
+            number,
+            entry.puzzle.author.as_str(),
+            entry.puzzle.label.as_str(),
+            entry.points.get() as u32
+        ],
+    )?;
+    Ok(())
+}
+
+/// Stores the entries of a round that has no places, numbered from 1.
+fn put_places<S: Alter>(
+    tx: &mut Transaction<'_, S>,
+    id: &RoundId,
+    entries: &[Entry],
+) -> Result<(), StoreFault>
+    requires few { length entries.now ≤ 40 }
+    ensures same_reference { tx.new.conn.ghost_name ≡ tx.old.conn.ghost_name }
+    ensures carries { Carries (state S.Store tx.old.conn.now) (state S.Store tx.new.conn.now) }
+    ensures done { HasCleanDisk (state S.Store tx.new.conn.now) → IsTrue (state S.Store tx.old.conn.now).in_transaction
+        → OnOk result (Did (PutsPlaces id.now entries.now) (state S.Store tx.old.conn.now)
+        (state S.Store tx.new.conn.now)) }
+{
+    let mut number = 0u32;
+    for entry in entries {
+        number += 1;
+        put_place(tx, id, number, entry)?;
+    }
+    Ok(())
+}
+
+/// Stores the round's head, and its list in the place of the one before.
+fn put_inside<S: Alter>(tx: &mut Transaction<'_, S>, row: &RoundRow) -> Result<(), StoreFault>
+    ensures same_reference { tx.new.conn.ghost_name ≡ tx.old.conn.ghost_name }
+    ensures carries { Carries (state S.Store tx.old.conn.now) (state S.Store tx.new.conn.now) }
+    ensures done { HasCleanDisk (state S.Store tx.new.conn.now) → IsTrue (state S.Store tx.old.conn.now).in_transaction
+        → OnOk result (Did (Changes (PutRound row.now)) (state S.Store tx.old.conn.now)
+        (state S.Store tx.new.conn.now)) }
+{
+    put_head(tx, &row.round)?;
+    drop_places(tx, &row.round.id)?;
+    put_places(tx, &row.round.id, row.puzzles.as_slice())
+}
+
+/// Stores the round with its list, in the place of the one under its id: whole or not at all.
+pub(crate) fn put_round<S: Alter>(
+    conn: &mut Connection<S>,
+    row: &RoundRow,
+) -> Result<(), StoreFault>
+    requires hall { IsHall (state S.Store conn.old) }
+    ensures { Wrote (PutRound row.now) (state S.Store conn.old) (state S.Store conn.new) result }
+{
+    if !conn.is_autocommit() {
+        return Err(StoreFault::Failed);
+    }
+    let mut tx = conn.transaction();
+    put_inside(&mut tx, row)?;
+    match tx.commit() {
+        Ok(()) => Ok(()),
+        Err(error) => Err(fault_of(&error)),
+    }
+}

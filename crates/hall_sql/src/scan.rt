@@ -1,0 +1,90 @@
+//! Whether the rowids of a table are integers, of which none stands twice.
+ghost use Rattle.std.specs.Prelude.{◌≡◌, ◌≤◌, IsTrue, IfOk, OnOk, OnErr};
+ghost use Rattle.sqlite_trees.specs.View.{doubt};
+ghost use Rattle.sqlite.specs.Held.{state};
+ghost use Rattle.sqlite.specs.State.{HasCleanDisk, IsUnchanged};
+ghost use Rattle.hall_sql.specs.Tables.{hall_schema};
+ghost use Rattle.hall_sql.specs.Standing.{Rests};
+ghost use Rattle.hall_sql.specs.Scan.{IsAbove, Scanned, IsTableKeyed, AreScanned};
+
+use crate::calls::fault_of;
+use crate::tables::{HallTable, rowids_text};
+use hall_store::StoreFault;
+use sqlite::{Alter, Connection, Rows};
+
+fn is_above(last: Option<i64>, id: i64) -> bool
+    ensures { IsTrue result → IsAbove last id }
+{
+    match last {
+        None => true,
+        Some(before) => before < id,
+    }
+}
+
+/// The next rowid, which is above the last. Refused where it is not.
+fn next_id<S: Alter>(rows: &mut Rows<'_, S>, last: Option<i64>) -> Result<Option<i64>, StoreFault>
+    ensures same_reference { rows.new.conn.ghost_name ≡ rows.old.conn.ghost_name }
+    ensures clean {
+        doubt (state S.Store rows.old.conn.now).is_clean ≤ doubt (state S.Store rows.new.conn.now).is_clean }
+    ensures rests { HasCleanDisk (state S.Store rows.new.conn.now)
+        → Rests (state S.Store rows.old.conn.now) (state S.Store rows.new.conn.now) }
+    ensures scanned { HasCleanDisk (state S.Store rows.new.conn.now)
+        → IfOk result (Scanned S.Store rows.old.conn.now rows.new.conn.now last) }
+{
+    if let Err(error) = rows.advance() {
+        return Err(fault_of(&error));
+    }
+    let Some(row) = rows.get() else {
+        return Ok(None);
+    };
+    let Ok(id) = row.get::<i64>(0) else {
+        return Err(StoreFault::Failed);
+    };
+    if is_above(last, id) {
+        Ok(Some(id))
+    } else {
+        Err(StoreFault::Failed)
+    }
+}
+
+/// Refused where a rowid of the table is no integer or stands twice.
+fn check_rowids<S: Alter>(conn: &mut Connection<S>, table: HallTable) -> Result<(), StoreFault>
+    requires schema { HasCleanDisk (state S.Store conn.old) → conn.old.schema ≡ hall_schema }
+    ensures clean { doubt (state S.Store conn.old).is_clean ≤ doubt (state S.Store conn.new).is_clean }
+    ensures rests { HasCleanDisk (state S.Store conn.new)
+        → Rests (state S.Store conn.old) (state S.Store conn.new) }
+    ensures scanned { HasCleanDisk (state S.Store conn.new)
+        → OnOk result (IsUnchanged (state S.Store conn.old) (state S.Store conn.new)
+        × IsTableKeyed (state S.Store conn.old) table) }
+{
+    let mut rows = match conn.query(rowids_text(table), &[]) {
+        Ok(rows) => rows,
+        Err(error) => return Err(fault_of(&error)),
+    };
+    let mut last = None;
+    'scan: for _ in 0..u64::MAX {
+        let Some(id) = next_id(&mut rows, last)? else {
+            return Ok(());
+        };
+        last = Some(id);
+    }
+    Err(StoreFault::Failed)
+}
+
+/// So of each of the tables.
+pub(crate) fn check_all_rowids<S: Alter>(
+    conn: &mut Connection<S>,
+    tables: &[HallTable],
+) -> Result<(), StoreFault>
+    requires schema { HasCleanDisk (state S.Store conn.old) → conn.old.schema ≡ hall_schema }
+    ensures clean { doubt (state S.Store conn.old).is_clean ≤ doubt (state S.Store conn.new).is_clean }
+    ensures refused { HasCleanDisk (state S.Store conn.new)
+        → OnErr result (Rests (state S.Store conn.old) (state S.Store conn.new)) }
+    ensures scanned { HasCleanDisk (state S.Store conn.new)
+        → OnOk result (AreScanned tables.now (state S.Store conn.old) (state S.Store conn.new)) }
+{
+    for table in tables {
+        check_rowids(conn, *table)?;
+    }
+    Ok(())
+}
