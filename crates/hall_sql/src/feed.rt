@@ -55,8 +55,7 @@ fn step<S: Alter, K, T: GivenTo<K> + Drop>(
     sink: &mut K,
 ) -> Result<bool, StoreFault>
     ensures same_reference { rows.new.conn.ghost_name ≡ rows.old.conn.ghost_name }
-    ensures clean {
-        doubt (state S.Store rows.old.conn.now).is_clean ≤ doubt (state S.Store rows.new.conn.now).is_clean }
+    ensures clean { doubt (state S.Store rows.old.conn.now).is_clean ≤ doubt (state S.Store rows.new.conn.now).is_clean }
     ensures rests { HasCleanDisk (state S.Store rows.new.conn.now) →
         Rests (state S.Store rows.old.conn.now) (state S.Store rows.new.conn.now) }
     ensures stepped { IfOk result

@@ -24,8 +24,7 @@ fn is_above(last: Option<i64>, id: i64) -> bool
 /// The next rowid, which is above the last. Refused where it is not.
 fn next_id<S: Alter>(rows: &mut Rows<'_, S>, last: Option<i64>) -> Result<Option<i64>, StoreFault>
     ensures same_reference { rows.new.conn.ghost_name ≡ rows.old.conn.ghost_name }
-    ensures clean {
-        doubt (state S.Store rows.old.conn.now).is_clean ≤ doubt (state S.Store rows.new.conn.now).is_clean }
+    ensures clean { doubt (state S.Store rows.old.conn.now).is_clean ≤ doubt (state S.Store rows.new.conn.now).is_clean }
     ensures rests { HasCleanDisk (state S.Store rows.new.conn.now)
         → Rests (state S.Store rows.old.conn.now) (state S.Store rows.new.conn.now) }
     ensures scanned { HasCleanDisk (state S.Store rows.new.conn.now)
