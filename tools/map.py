@@ -28,6 +28,8 @@ def stands_in(name, text, path):
     """Whether the name is one that the file gives: a definition, a function, a test or an edit."""
     if path.endswith(".edit"):
         return os.path.basename(path) == f"{name}.edit"
+    if path.endswith("further.md"):
+        return f"\n## {name}\n" in text
     return re.search(rf"\b(record|pub|data|fn|enum|struct|impl|trait)\s+(\w+\s+for\s+)?{re.escape(name)}\b", text) is not None
 
 
