@@ -1,16 +1,12 @@
 //! The database of a command, and what is said where it can't be had.
-use hall_desk::Desk;
 use hall_sql::SqlStore;
-use sqlite::{Connection, Error, ErrorCode, File, FileStore, MemStore};
+use sqlite::{Alter, Connection, Error, ErrorCode, File, FileStore, MemStore};
 use std::fs;
 use std::io::ErrorKind;
 use std::rt::Files;
 
-/// A desk over a database file.
-pub(crate) type FileDesk = Desk<SqlStore<FileStore<File>>>;
-
-/// A desk over a database in memory.
-pub(crate) type MemoryDesk = Desk<SqlStore<MemStore>>;
+/// The hall's tables in a file.
+pub(crate) type FileTables = SqlStore<FileStore<File>>;
 
 const NO_FILE: &str = "there is no such database file: `hall init` makes one";
 
@@ -28,31 +24,46 @@ const NO_MEMORY: &str = "there is not enough memory: make room, and try again";
 const UNREADABLE: &str =
     "the database file can't be opened: see that it and its folder may be read and written";
 
-/// The desk over the file at the path, with the hall's tables, which are made where the file is new; or what to do.
-pub(crate) fn open_or_make(rt: &HostRuntime, path: &str) -> Result<FileDesk, &'static str> {
-    let conn = Connection::open(rt, path).map_err(advice)?;
-    match SqlStore::over(conn) {
-        Ok(store) => Ok(Desk::new(store)),
-        Err(_) => Err(OTHER_TABLES),
-    }
+/// The hall's tables in the file at the path, made there where the file is new; or what to do.
+pub(crate) fn open_or_make(rt: &HostRuntime, path: &str) -> Result<FileTables, &'static str> {
+    adopt(connect(rt, path)?, OTHER_TABLES)
 }
 
-/// The desk over the file at the path, which is there; or what to do.
-pub(crate) fn open(rt: &HostRuntime, path: &str) -> Result<FileDesk, &'static str> {
-    match fs::open(rt, path) {
-        Err(error) if error.kind() == ErrorKind::NotFound => Err(NO_FILE),
-        _ => open_or_make(rt, path),
+/// The hall's tables in the file at the path, which is there; or what to do.
+pub(crate) fn open(rt: &HostRuntime, path: &str) -> Result<FileTables, &'static str> {
+    if is_missing(rt, path) {
+        return Err(NO_FILE);
     }
+    open_or_make(rt, path)
 }
 
-/// The desk over an empty database in memory; or what to do.
-pub(crate) fn open_in_memory(rt: &impl AllocGlobal) -> Result<MemoryDesk, &'static str> {
+/// The hall's tables, without rows, in memory; or what to do.
+pub(crate) fn open_in_memory(rt: &impl AllocGlobal) -> Result<SqlStore<MemStore>, &'static str> {
     let Ok(conn) = Connection::open_in_memory(rt.alloc()) else {
         return Err(NO_MEMORY);
     };
+    adopt(conn, NO_MEMORY)
+}
+
+fn is_missing(rt: &impl Files, path: &str) -> bool {
+    matches!(fs::open(rt, path), Err(error) if error.kind() == ErrorKind::NotFound)
+}
+
+fn connect(rt: &HostRuntime, path: &str) -> Result<Connection<FileStore<File>>, &'static str> {
+    match Connection::open(rt, path) {
+        Ok(conn) => Ok(conn),
+        Err(error) => Err(advice(error)),
+    }
+}
+
+/// The tables of the connection; or what to do where it has others, or none can be made.
+fn adopt<S: Alter + Drop>(
+    conn: Connection<S>,
+    otherwise: &'static str,
+) -> Result<SqlStore<S>, &'static str> {
     match SqlStore::over(conn) {
-        Ok(store) => Ok(Desk::new(store)),
-        Err(_) => Err(NO_MEMORY),
+        Ok(store) => Ok(store),
+        Err(_) => Err(otherwise),
     }
 }
 
