@@ -17,7 +17,7 @@ use std::time::{Duration, SystemTime, UNIX_EPOCH};
 use std::{io, time};
 
 /// How many seconds a read waits for the next bytes of a request, and a write for the client to take its reply.
-const PATIENCE: u64 = 30;
+const PATIENCE: u64 = 10;
 
 /// How many seconds a read waits for bytes that are no longer answered.
 const LAST_PATIENCE: u64 = 1;
@@ -50,7 +50,7 @@ impl<'t, T: time::Clock> Clock for SystemClock<'t, T> {
 
 /// Serves one connection over a socket, and hangs up.
 ///
-/// Each reply is sent at once, and a read or a write that waits for thirty seconds fails; a socket that can't be told so
+/// Each reply is sent at once, and a read or a write that waits for ten seconds fails; a socket that can't be told so
 /// isn't served (`Device`). At the end the writing side is shut, and what is still unread is read off for a while: a
 /// socket that is closed with unread bytes resets the connection, and the client would lose its last reply.
 pub fn serve_socket<S: Store, C: Clock>(

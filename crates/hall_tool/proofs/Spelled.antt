@@ -1,60 +1,120 @@
 -- Words of each command, and that no words spell two.
-use Rattle.std.proofs.Common.{ap, sym, refl, ◌∙◌, ◌≡◌, ℕ, [], ◌∷◌, Option, Some, None}
-use Rattle.clap.specs.Words.{Kinds, Text}
+use Rattle.std.proofs.Common.{ap, inl, inr, sym, subst, refl, ◌∙◌, ◌≡◌, ℕ, List, [], ◌∷◌, Option, Some, None, codes}
+use Rattle.std.specs.Prelude.{◌⊎◌}
+use Rattle.clap.specs.Words.{Kinds, Row, Text, first_of}
+use Rattle.clap.specs.declared.error.kind.ErrorKind.{ErrorKind}
 use Rattle.clap.specs.declared.error.kind.ErrorKind.TheVariants.{DisplayHelp, DisplayVersion}
 use Rattle.clap.proofs.OnLiterals.{clap_on_literals}
-use Rattle.hall_tool.specs.declared.words.Command.TheVariants.{Judge, Solve, Replay, Help, Version}
-use Rattle.hall_tool.specs.Words.{AreSpelled, IsBudget, SpellOneCommand, budget_text}
-use Rattle.hall_tool.proofs.Spelling.{none_is_some, same_kind}
+use Rattle.hall_tool.specs.declared.pages.Page.{Page}
+use Rattle.hall_tool.specs.declared.pages.Page.TheVariants as pages
+use Rattle.hall_tool.specs.declared.words.Command.{Command}
+use Rattle.hall_tool.specs.declared.words.Command.TheVariants.{Judge, Solve, Init, Serve, Replay, Table}
+use Rattle.hall_tool.specs.declared.words.Command.TheVariants.{Help, Version}
+use Rattle.hall_tool.specs.declared.words.Numbers.{Numbers}
+use Rattle.hall_tool.specs.Words.{AreSpelled, AsksFor, IsNumber, IsTaken, SpellOneCommand}
+use Rattle.hall_tool.specs.Words.{budgets, connection_limits, options_of, page_of, ports}
+use Rattle.hall_tool.proofs.Spelling.{asked_is, none_is_some, same_kind}
 
 pub are_spelled : AreSpelled
 unfolding clap_on_literals
 are_spelled = record {
-  judge = (refl, refl);
-  solve = ((refl, refl), refl);
-  named = λ text budget is. ((refl, refl), is);
-  replay = λ path. ((refl, refl), refl);
-  replay_apart = ((refl, refl), refl);
-  hall_help = (refl, refl);
-  judge_help = (refl, refl);
-  solve_help = (refl, refl);
-  replay_help = (refl, refl);
-  version = refl;
+  judge = inl (refl, refl);
+  solve = inl (refl, (refl, refl));
+  budget = λ text budget is. inl (refl, (refl, is));
+  init = λ db people. inl (refl, (refl, refl, refl));
+  serve = λ db text port is. inl (refl, (refl, refl, is, refl));
+  replay = λ path. inl (refl, (refl, refl));
+  apart = inl (refl, (refl, refl));
+  table = λ db round. inl (refl, (refl, refl, refl));
+  help = inr (DisplayHelp, refl, (refl, refl));
+  serve_help = inr (DisplayHelp, refl, (refl, refl));
+  version = inr (DisplayVersion, refl, refl);
 }
 
-same_budget : (text : Option Text) (b c : ℕ) → IsBudget text b → IsBudget text c → b ≡ c
-same_budget None b c s t = s ∙ sym t
-same_budget (Some text) b c s t = s.1 ∙ sym t.1
+-- the same as IsTaken, by the page
+abbrev TakenBy : Page → List Row → Command → Type 0
+TakenBy pages.Hall rows command = ⊥
+TakenBy pages.Judge rows command = command ≡ Judge
+TakenBy pages.Solve rows command =
+    (budget : ℕ) × IsNumber budgets (first_of (codes "budget") rows) budget × (command ≡ Solve budget)
+TakenBy pages.Init rows command =
+    (db : Text) × (people : Text) × (first_of (codes "db") rows ≡ Some db) × (first_of (codes "people") rows ≡ Some people)
+    × (command ≡ Init db people)
+TakenBy pages.Serve rows command =
+    (db : Text) × (port : ℕ) × (connections : ℕ) × (first_of (codes "db") rows ≡ Some db)
+    × IsNumber ports (first_of (codes "port") rows) port
+    × IsNumber connection_limits (first_of (codes "connections") rows) connections
+    × (command ≡ Serve db port connections)
+TakenBy pages.Replay rows command =
+    (people : Text) × (first_of (codes "people") rows ≡ Some people) × (command ≡ Replay people)
+TakenBy pages.Table rows command =
+    (db : Text) × (round : Text) × (first_of (codes "db") rows ≡ Some db) × (first_of (codes "round") rows ≡ Some round)
+    × (command ≡ Table db round)
 
-same_path : (l m : Text) → Some l ≡ Some m → l ≡ m
-same_path l m e = cc
+taken_by : (page : Page) (rows : List Row) (command : Command) → IsTaken page rows command → TakenBy page rows command
+taken_by page rows Judge t = subst (λ p. TakenBy p rows Judge) (sym t) refl
+taken_by page rows (Solve budget) t = subst (λ p. TakenBy p rows (Solve budget)) (sym t.0) (budget, t.1, refl)
+taken_by page rows (Init db people) t =
+    subst (λ p. TakenBy p rows (Init db people)) (sym t.0) (db, people, t.1, t.2, refl)
+taken_by page rows (Serve db port connections) t =
+    subst (λ p. TakenBy p rows (Serve db port connections)) (sym t.0)
+    (db, port, connections, t.1, t.2, t.3, refl)
+taken_by page rows (Replay people) t = subst (λ p. TakenBy p rows (Replay people)) (sym t.0) (people, t.1, refl)
+taken_by page rows (Table db round) t =
+    subst (λ p. TakenBy p rows (Table db round)) (sym t.0) (db, round, t.1, t.2, refl)
+taken_by page rows (Help asked) t = absurd t
+taken_by page rows Version t = absurd t
 
-help_is_no_version : ◌≡◌ {A = Kinds} (DisplayHelp ∷ []) (DisplayVersion ∷ []) → ⊥
-help_is_no_version e = let same = same_kind _ _ e in cc
+same_number : (numbers : Numbers) (text : Option Text) (m n : ℕ) → IsNumber numbers text m → IsNumber numbers text n
+    → m ≡ n
+same_number numbers None m n s t = some_one (sym s ∙ t)
+  where
+    some_one : {x y : ℕ} → Some x ≡ Some y → x ≡ y
+    some_one e = cc
+same_number numbers (Some text) m n s t = s.1 ∙ sym t.1
+
+same_word : {given : Option Text} {l m : Text} → given ≡ Some l → given ≡ Some m → l ≡ m
+same_word s t = let e = sym s ∙ t in cc
+
+one_by : (page : Page) (rows : List Row) (one other : Command) → TakenBy page rows one → TakenBy page rows other
+    → one ≡ other
+one_by pages.Hall rows one other s t = absurd s
+one_by pages.Judge rows one other s t = s ∙ sym t
+one_by pages.Solve rows one other s t =
+    let budget = same_number budgets (first_of (codes "budget") rows) s.0 t.0 s.1 t.1 in
+    s.2 ∙ ap Solve budget ∙ sym t.2
+one_by pages.Init rows one other s t =
+    let db = same_word s.2 t.2 in
+    let people = same_word s.3 t.3 in
+    s.4 ∙ ap (λ d. Init d s.1) db ∙ ap (λ p. Init t.0 p) people ∙ sym t.4
+one_by pages.Serve rows one other s t =
+    let db = same_word s.3 t.3 in
+    let port = same_number ports (first_of (codes "port") rows) s.1 t.1 s.4 t.4 in
+    let connections = same_number connection_limits (first_of (codes "connections") rows) s.2 t.2 s.5 t.5 in
+    s.6 ∙ ap (λ d. Serve d s.1 s.2) db ∙ ap (λ p. Serve t.0 p s.2) port ∙ ap (λ c. Serve t.0 t.1 c) connections ∙ sym t.6
+one_by pages.Replay rows one other s t = s.2 ∙ ap Replay (same_word s.1 t.1) ∙ sym t.2
+one_by pages.Table rows one other s t =
+    let db = same_word s.2 t.2 in
+    let round = same_word s.3 t.3 in
+    s.4 ∙ ap (λ d. Table d s.1) db ∙ ap (λ r. Table t.0 r) round ∙ sym t.4
+
+one_asked : (page : Page) (kind : ErrorKind) (one other : Command) → AsksFor page kind one → AsksFor page kind other
+    → one ≡ other
+one_asked page kind one other s t = go (asked_is page kind one s) (asked_is page kind other t)
+  where
+    go : ((kind ≡ DisplayHelp) × (one ≡ Help page)) ⊎ ((kind ≡ DisplayVersion) × (one ≡ Version))
+        → ((kind ≡ DisplayHelp) × (other ≡ Help page)) ⊎ ((kind ≡ DisplayVersion) × (other ≡ Version)) → one ≡ other
+    go (inl s) (inl t) = s.1 ∙ sym t.1
+    go (inl s) (inr t) = let kinds = sym s.0 ∙ t.0 in cc
+    go (inr s) (inl t) = let kinds = sym s.0 ∙ t.0 in cc
+    go (inr s) (inr t) = s.1 ∙ sym t.1
 
 pub one_command : SpellOneCommand
-one_command words Judge Judge s t = refl
-one_command words Judge (Solve c) s t = let e = sym s.0 ∙ t.0.0 in cc
-one_command words Judge (Replay m) s t = let e = sym s.0 ∙ t.0.0 in cc
-one_command words Judge (Help q) s t = absurd (none_is_some _ (sym s.1 ∙ t.1))
-one_command words Judge Version s t = absurd (none_is_some _ (sym s.1 ∙ t))
-one_command words (Solve b) Judge s t = let e = sym s.0.0 ∙ t.0 in cc
-one_command words (Solve b) (Solve c) s t = ap Solve (same_budget (budget_text words) b c s.1 t.1)
-one_command words (Solve b) (Replay m) s t = let e = sym s.0.0 ∙ t.0.0 in cc
-one_command words (Solve b) (Help q) s t = absurd (none_is_some _ (sym s.0.1 ∙ t.1))
-one_command words (Solve b) Version s t = absurd (none_is_some _ (sym s.0.1 ∙ t))
-one_command words (Replay l) Judge s t = let e = sym s.0.0 ∙ t.0 in cc
-one_command words (Replay l) (Solve c) s t = let e = sym s.0.0 ∙ t.0.0 in cc
-one_command words (Replay l) (Replay m) s t = ap Replay (same_path l m (sym s.1 ∙ t.1))
-one_command words (Replay l) (Help q) s t = absurd (none_is_some _ (sym s.0.1 ∙ t.1))
-one_command words (Replay l) Version s t = absurd (none_is_some _ (sym s.0.1 ∙ t))
-one_command words (Help p) Judge s t = absurd (none_is_some _ (sym t.1 ∙ s.1))
-one_command words (Help p) (Solve c) s t = absurd (none_is_some _ (sym t.0.1 ∙ s.1))
-one_command words (Help p) (Replay m) s t = absurd (none_is_some _ (sym t.0.1 ∙ s.1))
-one_command words (Help p) (Help q) s t = ap Help (sym s.0 ∙ t.0)
-one_command words (Help p) Version s t = absurd (help_is_no_version (sym s.1 ∙ t))
-one_command words Version Judge s t = absurd (none_is_some _ (sym t.1 ∙ s))
-one_command words Version (Solve c) s t = absurd (none_is_some _ (sym t.0.1 ∙ s))
-one_command words Version (Replay m) s t = absurd (none_is_some _ (sym t.0.1 ∙ s))
-one_command words Version (Help q) s t = absurd (help_is_no_version (sym t.1 ∙ s))
-one_command words Version Version s t = refl
+one_command words one other (inl s) (inl t) =
+    one_by (page_of words) (options_of words) one other
+    (taken_by (page_of words) (options_of words) one s.1) (taken_by (page_of words) (options_of words) other t.1)
+one_command words one other (inl s) (inr t) = absurd (none_is_some _ (sym s.0 ∙ t.1))
+one_command words one other (inr s) (inl t) = absurd (none_is_some _ (sym t.0 ∙ s.1))
+one_command words one other (inr s) (inr t) =
+    let kinds = same_kind _ _ (sym t.1 ∙ s.1) in
+    one_asked (page_of words) s.0 one other s.2 (subst (λ kind. AsksFor (page_of words) kind other) kinds t.2)

@@ -1,23 +1,15 @@
 -- The command lines of the program, as clap reads them.
 use Rattle.std.specs.Prelude.{Some, true, codes}
-use Rattle.clap.specs.Words.{App, Rule, new_app, new_rule, with_rule}
+use Rattle.clap.specs.Words.{App, Rule, Text, new_app, new_rule, with_rule}
 use Rattle.clap.specs.Simple.{on_top}
 use Rattle.clap.specs.declared.builder.action.ArgAction.TheVariants.{Set}
 use Rattle.hall_tool.specs.declared.pages.Page.{Page}
-use Rattle.hall_tool.specs.declared.pages.Page.TheVariants.{Hall, Judge, Solve, Replay}
+use Rattle.hall_tool.specs.declared.pages.Page.TheVariants.{Hall, Judge, Solve, Init, Serve, Replay, Table}
 
--- the option `--budget N`: one value, any text, given once
-abbrev pub budget_rule : Rule
-budget_rule = record (new_rule (codes "budget")) {
-  long = Some (codes "budget");
-  action = Some Set;
-  value_names = 1;
-}
-
--- the option `--people L`: one value, any text, given once
-abbrev pub people_rule : Rule
-people_rule = record (new_rule (codes "people")) {
-  long = Some (codes "people");
+-- the option `--NAME VALUE`: one value, any text, given once
+abbrev pub option_named : Text → Rule
+option_named name = record (new_rule name) {
+  long = Some name;
   action = Some Set;
   value_names = 1;
 }
@@ -27,5 +19,12 @@ people_rule = record (new_rule (codes "people")) {
 abbrev pub line_of : Page → App
 line_of Hall = on_top (λ s. record s { no_binary_name = true; has_version = true }) (new_app (codes "hall"))
 line_of Judge = new_app (codes "judge")
-line_of Solve = with_rule (new_app (codes "solve")) budget_rule
-line_of Replay = with_rule (new_app (codes "replay")) people_rule
+line_of Solve = with_rule (new_app (codes "solve")) (option_named (codes "budget"))
+line_of Init =
+    with_rule (with_rule (new_app (codes "init")) (option_named (codes "db"))) (option_named (codes "people"))
+line_of Serve =
+    with_rule (with_rule (with_rule (new_app (codes "serve")) (option_named (codes "db")))
+    (option_named (codes "port"))) (option_named (codes "connections"))
+line_of Replay = with_rule (new_app (codes "replay")) (option_named (codes "people"))
+line_of Table =
+    with_rule (with_rule (new_app (codes "table")) (option_named (codes "db"))) (option_named (codes "round"))

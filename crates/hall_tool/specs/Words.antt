@@ -1,5 +1,6 @@
 -- Which command the words after the program's name spell, by clap's rules for a simple command.
-use Rattle.std.specs.Prelude.{◌≡◌, ◌≢◌, ⊤, ◌≤◌, ℕ, List, [], ◌∷◌, ◌++◌, Option, Some, None, codes, if◌then◌else◌}
+use Rattle.std.specs.Prelude.{◌≡◌, ◌≢◌, ◌⊎◌, ⊤, ◌≤◌, ℕ, List, [], ◌∷◌, ◌++◌, Option, Some, None, codes}
+use Rattle.std.specs.Prelude.{if◌then◌else◌}
 use Rattle.std.specs.Str.{bytes_eq}
 use Rattle.std.specs.Str.Parse.{IsNumeral, digits_value, without_leading_plus}
 use Rattle.clap.specs.Words.{Kinds, Row, Text, fault_of, first_of, matches_of}
@@ -8,7 +9,9 @@ use Rattle.clap.specs.declared.error.kind.ErrorKind.TheVariants.{DisplayHelp, Di
 use Rattle.hall_tool.specs.declared.pages.Page.{Page}
 use Rattle.hall_tool.specs.declared.pages.Page.TheVariants as pages
 use Rattle.hall_tool.specs.declared.words.Command.{Command}
-use Rattle.hall_tool.specs.declared.words.Command.TheVariants.{Judge, Solve, Replay, Help, Version}
+use Rattle.hall_tool.specs.declared.words.Command.TheVariants.{Judge, Solve, Init, Serve, Replay, Table}
+use Rattle.hall_tool.specs.declared.words.Command.TheVariants.{Help, Version}
+use Rattle.hall_tool.specs.declared.words.Numbers.{Numbers}
 use Rattle.hall_tool.specs.declared.words.WordsFault.{WordsFault}
 use Rattle.hall_tool.specs.declared.words.WordsFault.TheVariants.{Memory, Line}
 use Rattle.hall_tool.specs.Pages.{line_of}
@@ -19,43 +22,75 @@ page_of [] = pages.Hall
 page_of (name ∷ rest) =
     if bytes_eq name (codes "judge") then pages.Judge
     else (if bytes_eq name (codes "solve") then pages.Solve
+    else (if bytes_eq name (codes "init") then pages.Init
+    else (if bytes_eq name (codes "serve") then pages.Serve
     else (if bytes_eq name (codes "replay") then pages.Replay
-    else pages.Hall))
+    else (if bytes_eq name (codes "table") then pages.Table
+    else pages.Hall)))))
 
 -- what is wrong with the words, or asked for by them in place of a run
 abbrev pub faults_of : List Text → Kinds
 faults_of words = fault_of (line_of (page_of words)) words
 
--- the first word names the command, and its line takes the words
-abbrev pub Takes : Page → List Text → Type 0
-Takes page words = (page_of words ≡ page) × (faults_of words ≡ [])
+-- the options that the words give, each with its value
+abbrev pub options_of : List Text → List Row
+options_of words = matches_of (line_of (page_of words)) words
 
--- the first word names the page, and the words ask for help
-abbrev pub AsksHelp : Page → List Text → Type 0
-AsksHelp page words = (page_of words ≡ page) × (faults_of words ≡ DisplayHelp ∷ [])
+-- the number that the text is, as std reads a text, is between the two
+abbrev pub IsNumberWithin : ℕ → ℕ → Text → ℕ → Type 0
+IsNumberWithin least most text number =
+    IsNumeral 10 (without_leading_plus text) × (number ≡ digits_value 10 (without_leading_plus text))
+    × (least ≤ number) × (number ≤ most)
 
--- the value that the words of `solve` give the option `--budget`
-abbrev pub budget_text : List Text → Option Text
-budget_text words = first_of (codes "budget") (matches_of (line_of pages.Solve) words)
+-- a number that is named is one of those that the option takes; where none is named, it is the usual one
+abbrev pub IsNumber : Numbers → Option Text → ℕ → Type 0
+IsNumber numbers (Some text) number = IsNumberWithin numbers.least numbers.most text number
+IsNumber numbers None number = numbers.usual ≡ Some number
 
--- a budget that is named is a number of at most 1,000,000, read as std reads a text; where none is named, it is 200,000
-abbrev pub IsBudget : Option Text → ℕ → Type 0
-IsBudget None budget = budget ≡ 200000
-IsBudget (Some text) budget =
-    IsNumeral 10 (without_leading_plus text) × (budget ≡ digits_value 10 (without_leading_plus text))
-    × (budget ≤ 1000000)
+-- the visits that a search may make: 0 to 1,000,000, and 200,000 where none are named
+abbrev pub budgets : Numbers
+budgets = record { usual = Some 200000; least = 0; most = 1000000 }
 
--- the value that the words of `replay` give the option `--people`
-abbrev pub people_text : List Text → Option Text
-people_text words = first_of (codes "people") (matches_of (line_of pages.Replay) words)
+-- a port: 1 to 65,535; one must be named
+abbrev pub ports : Numbers
+ports = record { usual = None; least = 1; most = 65535 }
 
--- the words spell the command; `replay` without `--people` is none
+-- the connections that are served: 1 to 1,000,000, which is also where none are named
+abbrev pub connection_limits : Numbers
+connection_limits = record { usual = Some 1000000; least = 1; most = 1000000 }
+
+-- the command of a page, by the values that the words give its options
+abbrev pub IsTaken : Page → List Row → Command → Type 0
+IsTaken page options Judge = page ≡ pages.Judge
+IsTaken page options (Solve budget) = (page ≡ pages.Solve) × IsNumber budgets (first_of (codes "budget") options) budget
+IsTaken page options (Init db people) =
+    (page ≡ pages.Init)
+    × (first_of (codes "db") options ≡ Some db)
+    × (first_of (codes "people") options ≡ Some people)
+IsTaken page options (Serve db port connections) =
+    (page ≡ pages.Serve)
+    × (first_of (codes "db") options ≡ Some db)
+    × IsNumber ports (first_of (codes "port") options) port
+    × IsNumber connection_limits (first_of (codes "connections") options) connections
+IsTaken page options (Replay people) = (page ≡ pages.Replay) × (first_of (codes "people") options ≡ Some people)
+IsTaken page options (Table db round) =
+    (page ≡ pages.Table)
+    × (first_of (codes "db") options ≡ Some db)
+    × (first_of (codes "round") options ≡ Some round)
+IsTaken page options other = ⊥
+
+-- what a fault of this kind asks for in place of a run: a page of help, or the version
+abbrev pub AsksFor : Page → ErrorKind → Command → Type 0
+AsksFor page kind (Help asked) = (asked ≡ page) × (kind ≡ DisplayHelp)
+AsksFor page kind Version = kind ≡ DisplayVersion
+AsksFor page kind other = ⊥
+
+-- the words spell the command: nothing is wrong with them, and it is that of their options, or they ask for it in place
+-- of a run
 abbrev pub Spells : List Text → Command → Type 0
-Spells words Judge = Takes pages.Judge words
-Spells words (Solve budget) = Takes pages.Solve words × IsBudget (budget_text words) budget
-Spells words (Replay people) = Takes pages.Replay words × (people_text words ≡ Some people)
-Spells words (Help page) = AsksHelp page words
-Spells words Version = faults_of words ≡ DisplayVersion ∷ []
+Spells words command =
+    ((faults_of words ≡ []) × IsTaken (page_of words) (options_of words) command)
+    ⊎ ((kind : ErrorKind) × (faults_of words ≡ kind ∷ []) × AsksFor (page_of words) kind command)
 
 -- the words spell no command
 abbrev pub SpellsNone : List Text → Type 0
@@ -68,26 +103,13 @@ IfLine (Line error) claim = claim
 
 -- ---- the same, of a line that took its words or refused them
 
--- no number is the budget
-abbrev pub IsNoBudget : Option Text → Type 0
-IsNoBudget text = (budget : ℕ) → IsBudget text budget → ⊥
+-- no number is the one that the text stands for
+abbrev pub IsNoNumber : (ℕ → Type 0) → Type 0
+IsNoNumber Is = (number : ℕ) → Is number → ⊥
 
--- the command of a page, with the values that clap's rows give its options
-abbrev pub IsTaken : Page → List Row → Command → Type 0
-IsTaken page rows Judge = page ≡ pages.Judge
-IsTaken page rows (Solve budget) = (page ≡ pages.Solve) × IsBudget (first_of (codes "budget") rows) budget
-IsTaken page rows (Replay people) = (page ≡ pages.Replay) × (first_of (codes "people") rows ≡ Some people)
-IsTaken page rows other = ⊥
-
--- no command is that of the page and the rows
+-- no command is that of the page and the options
 abbrev pub TakesNone : Page → List Row → Type 0
-TakesNone page rows = (command : Command) → IsTaken page rows command → ⊥
-
--- what an error of this kind asks for: a page of help, or the version
-abbrev pub AsksFor : Page → ErrorKind → Command → Type 0
-AsksFor page kind (Help asked) = (asked ≡ page) × (kind ≡ DisplayHelp)
-AsksFor page kind Version = kind ≡ DisplayVersion
-AsksFor page kind other = ⊥
+TakesNone page options = (command : Command) → IsTaken page options command → ⊥
 
 -- an error of this kind asks for nothing
 abbrev pub AsksNone : ErrorKind → Type 0
@@ -99,17 +121,20 @@ AsksNone kind = (kind ≢ OutOfMemory) × (kind ≢ DisplayHelp) × (kind ≢ Di
 abbrev pub SpellOneCommand : Type 0
 SpellOneCommand = (words : List Text) (one other : Command) → Spells words one → Spells words other → one ≡ other
 
--- words of each command: its name alone, for `solve` with any text of a budget too, and for `replay` with any path;
--- `--help` alone and after a name
+-- words of each command, with any path and any text of a number that it may be; `--help` alone and after a name
 pub record AreSpelled : Type 0 where
   pub judge : Spells (codes "judge" ∷ []) Judge
   pub solve : Spells (codes "solve" ∷ []) (Solve 200000)
-  pub named : (text : Text) (budget : ℕ) → IsBudget (Some text) budget
+  pub budget : (text : Text) (budget : ℕ) → IsNumberWithin 0 1000000 text budget
       → Spells (codes "solve" ∷ (codes "--budget=" ++ text) ∷ []) (Solve budget)
+  pub init : (db people : Text)
+      → Spells (codes "init" ∷ (codes "--db=" ++ db) ∷ (codes "--people=" ++ people) ∷ []) (Init db people)
+  pub serve : (db text : Text) (port : ℕ) → IsNumberWithin 1 65535 text port
+      → Spells (codes "serve" ∷ (codes "--db=" ++ db) ∷ (codes "--port=" ++ text) ∷ []) (Serve db port 1000000)
   pub replay : (path : Text) → Spells (codes "replay" ∷ (codes "--people=" ++ path) ∷ []) (Replay path)
-  pub replay_apart : Spells (codes "replay" ∷ codes "--people" ∷ codes "people.csv" ∷ []) (Replay (codes "people.csv"))
-  pub hall_help : Spells (codes "--help" ∷ []) (Help pages.Hall)
-  pub judge_help : Spells (codes "judge" ∷ codes "--help" ∷ []) (Help pages.Judge)
-  pub solve_help : Spells (codes "solve" ∷ codes "--help" ∷ []) (Help pages.Solve)
-  pub replay_help : Spells (codes "replay" ∷ codes "--help" ∷ []) (Help pages.Replay)
+  pub apart : Spells (codes "replay" ∷ codes "--people" ∷ codes "people.csv" ∷ []) (Replay (codes "people.csv"))
+  pub table : (db round : Text)
+      → Spells (codes "table" ∷ (codes "--db=" ++ db) ∷ (codes "--round=" ++ round) ∷ []) (Table db round)
+  pub help : Spells (codes "--help" ∷ []) (Help pages.Hall)
+  pub serve_help : Spells (codes "serve" ∷ codes "--help" ∷ []) (Help pages.Serve)
   pub version : Spells (codes "--version" ∷ []) Version

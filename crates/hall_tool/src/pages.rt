@@ -1,7 +1,7 @@
 //! The command lines of the program, each with its page of help.
 ghost use Rattle.std.specs.Prelude.{◌≡◌, IfOk, false};
 ghost use Rattle.clap.specs.Words.{app_of, rule_of};
-ghost use Rattle.hall_tool.specs.Pages.{budget_rule, line_of, people_rule};
+ghost use Rattle.hall_tool.specs.Pages.{line_of, option_named};
 
 use clap::{Arg, ArgAction, Command};
 use std::alloc::{AllocError, Global};
@@ -9,18 +9,22 @@ use std::alloc::{AllocError, Global};
 const VERSION: &str = "0.1.0";
 
 const HALL: &str = "\
-A contest hall: judges answers to puzzles, searches for the solutions of a puzzle, and answers recorded requests.";
+A contest hall: judges answers to puzzles, searches for the solutions of a puzzle, and holds rounds over HTTP, whose
+records stand in an SQLite database.";
 
 const HALL_MORE: &str = "\
 Commands:
   judge   Judge the answer to a puzzle
   solve   Search for the solutions of a puzzle
+  init    Import the people of an entry list into a database file
+  serve   Serve a database file over HTTP
+  table   Write the table of a published round
   replay  Answer recorded requests
 
 `hall COMMAND --help` tells more of a command.
 
-Exit status: 0 done; 1 a wrong answer, or not one solution; 2 refused input; 3 a fault of memory or of a device, with
-`fault` on standard error; 64 a wrong command line.
+Exit status: 0 done; 1 a wrong answer, or not one solution; 2 refused input, or denied; 3 a fault of memory, of a device
+or of the database, with `fault` on standard error and what to do; 64 a wrong command line.
 
 Example:
   $ hall judge < examples/right.txt
@@ -68,9 +72,89 @@ refused or denied.
 Example:
   $ hall replay --people examples/people.csv < examples/replay.txt";
 
-const BUDGET: &str = "Visit at most N partial fillings: 0 to 1000000 [default: 200000]";
+const INIT: &str = "\
+Imports the people of an entry list into a database file, which is made where it isn't there.
 
-const PEOPLE: &str = "Begin with the people of the entry list L";
+Writes `added` and how many people were added; those who stand there already are passed over. Where the list is none, it
+writes `refused` and the list's first fault, and where its people may not stand, `denied` and the rule; the file then
+holds what it held.";
+
+const INIT_MORE: &str = "\
+Exit status: 0 where the people were imported; 2 where the list is refused or denied; 3 where the list or the file can't
+be read or written, with `fault` on standard error and what to do.
+
+Example:
+  $ hall init --db hall.db --people examples/people.csv
+  added 6";
+
+const SERVE: &str = "\
+Serves the database file over HTTP on 127.0.0.1, one connection after another.
+
+The moment of a request is the system's. A connection has at most 1000 requests; one on which nothing arrives, or nothing
+is taken, for 10 seconds is ended, and the next is served.";
+
+const SERVE_MORE: &str = "\
+Exit status: 0 after the last connection; 3 where the file can't be opened or the port not be listened on, with `fault`
+on standard error and what to do.
+
+Example:
+  $ hall serve --db hall.db --port 8080";
+
+const TABLE: &str = "\
+Writes the table of a published round.
+
+Where there is no such round it writes `denied 4`, and where the round isn't published `denied 15`.";
+
+const TABLE_MORE: &str = "\
+Exit status: 0 where the table was written; 2 where it is denied; 3 where the file can't be opened, with `fault` on
+standard error and what to do.
+
+Example:
+  $ hall table --db hall.db --round r1";
+
+/// An option of a command, which takes one value: its name, the sign of the value, and its line of help.
+#[derive(Clone, Copy)]
+pub(crate) struct ValueOption {
+    pub(crate) name: &'static str,
+    pub(crate) value: &'static str,
+    help: &'static str,
+}
+
+pub(crate) const BUDGET: ValueOption = ValueOption {
+    name: "budget",
+    value: "N",
+    help: "Visit at most N partial fillings: 0 to 1000000 [default: 200000]",
+};
+
+pub(crate) const PEOPLE: ValueOption = ValueOption {
+    name: "people",
+    value: "L",
+    help: "Import the people of the entry list L",
+};
+
+pub(crate) const DB: ValueOption = ValueOption {
+    name: "db",
+    value: "F",
+    help: "The database file F",
+};
+
+pub(crate) const PORT: ValueOption = ValueOption {
+    name: "port",
+    value: "N",
+    help: "Listen on port N of 127.0.0.1: 1 to 65535",
+};
+
+pub(crate) const CONNECTIONS: ValueOption = ValueOption {
+    name: "connections",
+    value: "N",
+    help: "End after N connections: 1 to 1000000 [default: 1000000]",
+};
+
+pub(crate) const ROUND: ValueOption = ValueOption {
+    name: "round",
+    value: "R",
+    help: "The round's id R",
+};
 
 /// A page of help: the program's own, or that of a command.
 #[derive(Clone, Copy, Debug, PartialEq, Eq)]
@@ -78,7 +162,10 @@ pub enum Page {
     Hall,
     Judge,
     Solve,
+    Init,
+    Serve,
     Replay,
+    Table,
 }
 
 /// The command line that the page is of.
@@ -89,7 +176,10 @@ pub(crate) fn command_line<'a>(alloc: Global, page: Page) -> Result<Command<'a>,
         Page::Hall => Ok(hall_line(alloc)),
         Page::Judge => Ok(judge_line(alloc)),
         Page::Solve => solve_line(alloc),
+        Page::Init => init_line(alloc),
+        Page::Serve => serve_line(alloc),
         Page::Replay => replay_line(alloc),
+        Page::Table => table_line(alloc),
     }
 }
 
@@ -101,7 +191,7 @@ fn hall_line<'a>(alloc: Global) -> Command<'a>
         .no_binary_name(true)
         .version(VERSION)
         .about(HALL)
-        .override_usage("hall judge|solve|replay [OPTIONS] < FILE")
+        .override_usage("hall judge|solve|init|serve|table|replay [OPTIONS] < FILE")
         .after_help(HALL_MORE)
 }
 
@@ -121,18 +211,30 @@ fn solve_line<'a>(alloc: Global) -> Result<Command<'a>, AllocError>
         .about(SOLVE)
         .override_usage("hall solve [--budget N] < FILE")
         .after_help(SOLVE_MORE)
-        .arg(budget_option(alloc))
+        .arg(option(alloc, &BUDGET))
 }
 
-fn budget_option<'a>(alloc: Global) -> Arg<'a>
-    ensures rule { rule_of result ≡ budget_rule }
-    ensures local { result.global ≡ false }
+fn init_line<'a>(alloc: Global) -> Result<Command<'a>, AllocError>
+    ensures { IfOk result (λ line. app_of line ≡ line_of Page.Init) }
 {
-    Arg::new(alloc, "budget")
-        .long("budget")
-        .value_name("N")
-        .action(ArgAction::Set)
-        .help(BUDGET)
+    Command::new(alloc, "init")
+        .about(INIT)
+        .override_usage("hall init --db F --people L")
+        .after_help(INIT_MORE)
+        .arg(option(alloc, &DB))?
+        .arg(option(alloc, &PEOPLE))
+}
+
+fn serve_line<'a>(alloc: Global) -> Result<Command<'a>, AllocError>
+    ensures { IfOk result (λ line. app_of line ≡ line_of Page.Serve) }
+{
+    Command::new(alloc, "serve")
+        .about(SERVE)
+        .override_usage("hall serve --db F --port N [--connections N]")
+        .after_help(SERVE_MORE)
+        .arg(option(alloc, &DB))?
+        .arg(option(alloc, &PORT))?
+        .arg(option(alloc, &CONNECTIONS))
 }
 
 fn replay_line<'a>(alloc: Global) -> Result<Command<'a>, AllocError>
@@ -142,18 +244,29 @@ fn replay_line<'a>(alloc: Global) -> Result<Command<'a>, AllocError>
         .about(REPLAY)
         .override_usage("hall replay --people L < FILE")
         .after_help(REPLAY_MORE)
-        .arg(people_option(alloc))
+        .arg(option(alloc, &PEOPLE))
 }
 
-fn people_option<'a>(alloc: Global) -> Arg<'a>
-    ensures rule { rule_of result ≡ people_rule }
+fn table_line<'a>(alloc: Global) -> Result<Command<'a>, AllocError>
+    ensures { IfOk result (λ line. app_of line ≡ line_of Page.Table) }
+{
+    Command::new(alloc, "table")
+        .about(TABLE)
+        .override_usage("hall table --db F --round R")
+        .after_help(TABLE_MORE)
+        .arg(option(alloc, &DB))?
+        .arg(option(alloc, &ROUND))
+}
+
+fn option<'a>(alloc: Global, named: &ValueOption) -> Arg<'a>
+    ensures rule { rule_of result ≡ option_named named.now.name.now }
     ensures local { result.global ≡ false }
 {
-    Arg::new(alloc, "people")
-        .long("people")
-        .value_name("L")
+    Arg::new(alloc, named.name)
+        .long(named.name)
+        .value_name(named.value)
         .action(ArgAction::Set)
-        .help(PEOPLE)
+        .help(named.help)
 }
 
 /// The text of a page of help: what the command does, its options with their ranges and defaults, and an example.

@@ -1,28 +1,43 @@
 //! The words of the command line.
-ghost use Rattle.std.specs.Prelude.{◌≡◌, IfOk, IfErr, MatchOption, None, Some, map, codes, string_bytes};
+ghost use Rattle.std.specs.Prelude.{◌≡◌, ◌≤◌, IfOk, IfErr, IfSome, MatchOption, None, Some, map, string_bytes};
 ghost use Rattle.clap.specs.Words.{first_of, found_of, kind_of, rows_of};
-ghost use Rattle.hall_tool.specs.Words.{IfLine, SpellsNone, IsBudget, Spells, page_of};
-ghost use Rattle.hall_tool.specs.Words.{IsNoBudget, IsTaken, TakesNone, AsksFor, AsksNone};
+ghost use Rattle.hall_tool.specs.Words.{IfLine, SpellsNone, IsNumber, IsNumberWithin, Spells, page_of};
+ghost use Rattle.hall_tool.specs.Words.{IsNoNumber, IsTaken, TakesNone, AsksFor, AsksNone};
 
-use crate::file_path::FilePath;
-use crate::pages::{Page, command_line};
+use crate::pages::{BUDGET, CONNECTIONS, DB, PEOPLE, PORT, Page, ROUND, ValueOption, command_line};
+use crate::word::Word;
 use clap::ArgMatches;
 use clap::error::{Error, ErrorKind};
 use std::alloc::{AllocError, Global};
 
-/// The visits that a search may make where none are named.
-const DEFAULT_BUDGET: u64 = 200_000;
-
-/// The most visits that may be named.
-const MOST_BUDGET: u64 = 1_000_000;
-
 const NO_COMMAND: &str = "a command is wanted";
 
-const NO_BUDGET_VALUE: &str = "a value is required for '--budget <N>' but none was supplied";
+/// The numbers that an option takes.
+#[derive(Clone, Copy)]
+pub(crate) struct Numbers {
+    /// What is taken where none is named; with none such, one must be named.
+    usual: Option<u64>,
+    least: u64,
+    most: u64,
+}
 
-const NO_PEOPLE_VALUE: &str = "a value is required for '--people <L>' but none was supplied";
+const BUDGETS: Numbers = Numbers {
+    usual: Some(200_000),
+    least: 0,
+    most: 1_000_000,
+};
 
-const NO_PEOPLE: &str = "the following required arguments were not provided:\n  --people <L>";
+const PORTS: Numbers = Numbers {
+    usual: None,
+    least: 1,
+    most: 65_535,
+};
+
+const CONNECTION_LIMITS: Numbers = Numbers {
+    usual: Some(1_000_000),
+    least: 1,
+    most: 1_000_000,
+};
 
 /// What the program is asked to do.
 #[derive(Debug, Drop)]
@@ -31,8 +46,15 @@ pub enum Command {
     Judge,
     /// Search for the solutions of the puzzle on standard input, in at most so many visits: 0 to 1,000,000.
     Solve { budget: u64 },
+    /// Import the people of the entry list at the path `people` into the database file at the path `db`.
+    Init { db: Word, people: Word },
+    /// Serve the database file at the path `db` on this port of 127.0.0.1, 1 to 65,535, and so many connections, 1 to
+    /// 1,000,000.
+    Serve { db: Word, port: u64, connections: u64 },
     /// Answer the records on standard input, beginning with the people of the entry list at the path.
-    Replay { people: FilePath },
+    Replay { people: Word },
+    /// Write the table of the round of this name, from the database file at the path `db`.
+    Table { db: Word, round: Word },
     /// Show a page of help.
     Help(Page),
     /// Show the version.
@@ -69,7 +91,7 @@ pub fn read_words(alloc: Global, words: &[String]) -> Result<Command, WordsFault
     let mut line = command_line(alloc, page)?;
     match line.try_get_matches_from_mut(words) {
         Ok(matches) => taken(alloc, &mut line, page, &matches),
-        Err(error) => asked(&mut line, page, error),
+        Err(error) => asked(page, error),
     }
 }
 
@@ -83,7 +105,10 @@ fn page_of(words: &[String]) -> Page
     match name.as_str() {
         "judge" => Page::Judge,
         "solve" => Page::Solve,
+        "init" => Page::Init,
+        "serve" => Page::Serve,
         "replay" => Page::Replay,
+        "table" => Page::Table,
         _ => Page::Hall,
     }
 }
@@ -101,19 +126,86 @@ fn taken<'a>(
     match page {
         Page::Hall => Err(refusal(line, ErrorKind::MissingSubcommand, NO_COMMAND)),
         Page::Judge => Ok(Command::Judge),
-        Page::Solve => {
-            let budget = budget_of(alloc, line, matches)?;
-            Ok(Command::Solve { budget })
-        }
-        Page::Replay => {
-            let people = people_of(alloc, line, matches)?;
-            Ok(Command::Replay { people })
-        }
+        Page::Solve => solve_taken(alloc, line, matches),
+        Page::Init => init_taken(alloc, line, matches),
+        Page::Serve => serve_taken(alloc, line, matches),
+        Page::Replay => replay_taken(alloc, line, matches),
+        Page::Table => table_taken(alloc, line, matches),
     }
 }
 
+fn solve_taken<'a>(
+    alloc: Global,
+    line: &mut clap::Command<'a>,
+    matches: &ArgMatches<'a>,
+) -> Result<Command, WordsFault>
+    ensures command { IfOk result (IsTaken Page.Solve (rows_of (found_of matches.now))) }
+    ensures fault { IfErr result (λ fault. IfLine fault (TakesNone Page.Solve (rows_of (found_of matches.now)))) }
+{
+    match number(alloc, line, matches, &BUDGET, &BUDGETS) {
+        Ok(budget) => Ok(Command::Solve { budget }),
+        Err(fault) => Err(fault),
+    }
+}
+
+fn init_taken<'a>(
+    alloc: Global,
+    line: &mut clap::Command<'a>,
+    matches: &ArgMatches<'a>,
+) -> Result<Command, WordsFault>
+    ensures command { IfOk result (IsTaken Page.Init (rows_of (found_of matches.now))) }
+    ensures fault { IfErr result (λ fault. IfLine fault (TakesNone Page.Init (rows_of (found_of matches.now)))) }
+{
+    let db = word(alloc, line, matches, &DB)?;
+    let people = word(alloc, line, matches, &PEOPLE)?;
+    Ok(Command::Init { db, people })
+}
+
+fn serve_taken<'a>(
+    alloc: Global,
+    line: &mut clap::Command<'a>,
+    matches: &ArgMatches<'a>,
+) -> Result<Command, WordsFault>
+    ensures command { IfOk result (IsTaken Page.Serve (rows_of (found_of matches.now))) }
+    ensures fault { IfErr result (λ fault. IfLine fault (TakesNone Page.Serve (rows_of (found_of matches.now)))) }
+{
+    let db = word(alloc, line, matches, &DB)?;
+    let port = number(alloc, line, matches, &PORT, &PORTS)?;
+    let connections = number(alloc, line, matches, &CONNECTIONS, &CONNECTION_LIMITS)?;
+    Ok(Command::Serve {
+        db,
+        port,
+        connections,
+    })
+}
+
+fn replay_taken<'a>(
+    alloc: Global,
+    line: &mut clap::Command<'a>,
+    matches: &ArgMatches<'a>,
+) -> Result<Command, WordsFault>
+    ensures command { IfOk result (IsTaken Page.Replay (rows_of (found_of matches.now))) }
+    ensures fault { IfErr result (λ fault. IfLine fault (TakesNone Page.Replay (rows_of (found_of matches.now)))) }
+{
+    let people = word(alloc, line, matches, &PEOPLE)?;
+    Ok(Command::Replay { people })
+}
+
+fn table_taken<'a>(
+    alloc: Global,
+    line: &mut clap::Command<'a>,
+    matches: &ArgMatches<'a>,
+) -> Result<Command, WordsFault>
+    ensures command { IfOk result (IsTaken Page.Table (rows_of (found_of matches.now))) }
+    ensures fault { IfErr result (λ fault. IfLine fault (TakesNone Page.Table (rows_of (found_of matches.now)))) }
+{
+    let db = word(alloc, line, matches, &DB)?;
+    let round = word(alloc, line, matches, &ROUND)?;
+    Ok(Command::Table { db, round })
+}
+
 /// What words ask for that the line of the page doesn't take.
-fn asked(line: &mut clap::Command<'_>, page: Page, error: Error) -> Result<Command, WordsFault>
+fn asked(page: Page, error: Error) -> Result<Command, WordsFault>
     ensures command { IfOk result (AsksFor page (kind_of error)) }
     ensures fault { IfErr result (λ fault. IfLine fault (AsksNone (kind_of error))) }
 {
@@ -121,72 +213,84 @@ fn asked(line: &mut clap::Command<'_>, page: Page, error: Error) -> Result<Comma
         ErrorKind::OutOfMemory => Err(WordsFault::Memory),
         ErrorKind::DisplayHelp => Ok(Command::Help(page)),
         ErrorKind::DisplayVersion => Ok(Command::Version),
-        // clap's own text has no usage line.
-        ErrorKind::InvalidValue => Err(refusal(line, ErrorKind::InvalidValue, no_value(page))),
         _ => Err(WordsFault::Line(error)),
     }
 }
 
-/// What is said of an option of the page's line that stands without its value.
-fn no_value(page: Page) -> &'static str {
-    match page {
-        Page::Replay => NO_PEOPLE_VALUE,
-        _ => NO_BUDGET_VALUE,
-    }
-}
-
-/// The path of the entry list that is named.
-fn people_of(
+/// The value that the words give the option.
+fn word(
     alloc: Global,
     line: &mut clap::Command<'_>,
     matches: &ArgMatches<'_>,
-) -> Result<FilePath, WordsFault>
-    ensures people { IfOk result (λ people. first_of (codes "people") (rows_of (found_of matches.now)) ≡ Some people) }
+    option: &ValueOption,
+) -> Result<Word, WordsFault>
+    ensures word { IfOk result (λ word. first_of option.now.name.now (rows_of (found_of matches.now)) ≡ Some word) }
     ensures fault { IfErr result (λ fault. IfLine fault
-        (first_of (codes "people") (rows_of (found_of matches.now)) ≡ None)) }
+        (first_of option.now.name.now (rows_of (found_of matches.now)) ≡ None)) }
 {
-    match matches.get_str("people") {
-        Some(path) => Ok(FilePath::new(String::from_str(alloc, path)?)),
-        None => Err(refusal(line, ErrorKind::MissingRequiredArgument, NO_PEOPLE)),
+    match matches.get_str(option.name) {
+        Some(text) => Ok(Word::new(String::from_str(alloc, text)?)),
+        None => Err(missing(alloc, line, option)),
     }
 }
 
-/// The budget that is named, or the one that is taken where none is.
-fn budget_of(
+/// The number that the words give the option, or the usual one where they give none.
+fn number(
     alloc: Global,
     line: &mut clap::Command<'_>,
     matches: &ArgMatches<'_>,
+    option: &ValueOption,
+    numbers: &Numbers,
 ) -> Result<u64, WordsFault>
-    ensures budget { IfOk result (IsBudget (first_of (codes "budget") (rows_of (found_of matches.now)))) }
+    ensures number { IfOk result
+        (IsNumber numbers.now (first_of option.now.name.now (rows_of (found_of matches.now)))) }
     ensures fault { IfErr result (λ fault. IfLine fault
-        (IsNoBudget (first_of (codes "budget") (rows_of (found_of matches.now))))) }
+        (IsNoNumber (IsNumber numbers.now (first_of option.now.name.now (rows_of (found_of matches.now)))))) }
 {
-    match matches.get_str("budget") {
-        None => Ok(DEFAULT_BUDGET),
-        Some(text) => match named_budget(text) {
-            Some(budget) => Ok(budget),
-            None => Err(no_budget(alloc, line, text)),
+    match (matches.get_str(option.name), numbers.usual) {
+        (Some(text), _) => match number_within(text, numbers.least, numbers.most) {
+            Some(number) => Ok(number),
+            None => Err(no_number(alloc, line, option, numbers, text)),
         },
+        (None, Some(usual)) => Ok(usual),
+        (None, None) => Err(missing(alloc, line, option)),
     }
 }
 
-/// The budget that the text is a number of.
-fn named_budget(text: &str) -> Option<u64>
-    ensures { MatchOption result (IsNoBudget (Some text.now)) (IsBudget (Some text.now)) }
+/// The number between the two that the text is of.
+fn number_within(text: &str, least: u64, most: u64) -> Option<u64>
+    ensures { MatchOption result (IsNoNumber (IsNumberWithin least most text.now)) (IsNumberWithin least most text.now) }
 {
     match text.parse::<u64>() {
-        Ok(budget) if budget <= MOST_BUDGET => Some(budget),
+        Ok(number) if least <= number && number <= most => Some(number),
         _ => None,
     }
 }
 
-fn no_budget(alloc: Global, line: &mut clap::Command<'_>, text: &str) -> WordsFault {
+fn no_number(
+    alloc: Global,
+    line: &mut clap::Command<'_>,
+    option: &ValueOption,
+    numbers: &Numbers,
+    text: &str,
+) -> WordsFault {
     let Ok(message) = format!(in alloc;
-        "invalid value '{text}' for '--budget <N>': a number from 0 to {MOST_BUDGET} is wanted"
+        "invalid value '{text}' for '--{} <{}>': a number from {} to {} is wanted",
+        option.name, option.value, numbers.least, numbers.most
     ) else {
         return WordsFault::Memory;
     };
     refusal(line, ErrorKind::ValueValidation, message.as_str())
+}
+
+fn missing(alloc: Global, line: &mut clap::Command<'_>, option: &ValueOption) -> WordsFault {
+    let Ok(message) = format!(in alloc;
+        "the following required arguments were not provided:\n  --{} <{}>",
+        option.name, option.value
+    ) else {
+        return WordsFault::Memory;
+    };
+    refusal(line, ErrorKind::MissingRequiredArgument, message.as_str())
 }
 
 /// An error of the line in the form of clap's own.

@@ -4,7 +4,7 @@ use Rattle.clap.specs.Words.{App, HasKind, Row, Text, app_of, fault_of, found_of
 use Rattle.clap.specs.Words.{is_simple_and_free, kind_of, matches_of, rows_of}
 use Rattle.hall_tool.specs.declared.pages.Page.{Page}
 use Rattle.hall_tool.specs.Pages.{line_of}
-use Rattle.hall_tool.specs.Words.{AsksFor, IsTaken, SpellsNone, TakesNone, faults_of, page_of}
+use Rattle.hall_tool.specs.Words.{AsksFor, IsTaken, SpellsNone, TakesNone, faults_of, options_of, page_of}
 use Rattle.hall_tool.proofs.Spelling.{asked_spells, line_free, line_simple, line_weaker, none_asked}
 use Rattle.hall_tool.proofs.Spelling.{none_taken, taken_spells}
 use Rattle.hall_tool.proofs.words.read_words.Goals as goal
@@ -17,7 +17,7 @@ returns-in-Ok-clause-command c =
     let rows : List Row = rows_of (found_of c.in-Ok.matches) in
     let fine : faults_of words ≡ [] = sym (ap (λ (a : App). fault_of a words) app)
     ∙ c.in-Ok.ensures.kinds (ap is_simple_and_free app ∙ line_free (page_of words)) in
-    let same : rows ≡ matches_of (line_of (page_of words)) words =
+    let same : rows ≡ options_of words =
     (c.in-Ok.ensures.ok.2 (ap is_simple app ∙ line_simple (page_of words))).0
     ∙ ap (λ (a : App). matches_of a words) app in
     IfOk-weaker c.taken.result _ _ (λ command t. taken_spells words rows fine same command
@@ -31,7 +31,7 @@ returns-in-Ok-clause-fault c =
     let rows : List Row = rows_of (found_of c.in-Ok.matches) in
     let fine : faults_of words ≡ [] = sym (ap (λ (a : App). fault_of a words) app)
     ∙ c.in-Ok.ensures.kinds (ap is_simple_and_free app ∙ line_free (page_of words)) in
-    let same : rows ≡ matches_of (line_of (page_of words)) words =
+    let same : rows ≡ options_of words =
     (c.in-Ok.ensures.ok.2 (ap is_simple app ∙ line_simple (page_of words))).0
     ∙ ap (λ (a : App). matches_of a words) app in
     IfErr-weaker c.taken.result _ _ (λ fault told. line_weaker fault _ (SpellsNone words)

@@ -1,29 +1,29 @@
-//! Paths of files.
+//! Words of the command line.
 ghost use Rattle.std.specs.Prelude.{◌≡◌, string_bytes};
 
 use std::marker::Model;
 
-/// The path of a file, as a word of the command line gives it; a contract sees the list of its bytes.
+/// A word that the command line gives: the path of a file, or the name of a round; a contract sees the list of its bytes.
 #[derive(Debug, Drop)]
-pub struct FilePath {
+pub struct Word {
     text: String,
 }
 
-impl Model for FilePath {
+impl Model for Word {
     ghost use Rattle.std.specs.Prelude.{List, ℕ};
     ghost use Rattle.std.specs.String.{string_bytes};
 
     ghost Value = { List ℕ };
 
-    ghost view = { λ p. string_bytes p.text };
+    ghost view = { λ w. string_bytes w.text };
 }
 
-impl FilePath {
-    /// The path that the text is.
-    pub(crate) fn new(text: String) -> FilePath
+impl Word {
+    /// The word that the text is.
+    pub(crate) fn new(text: String) -> Word
         ensures { result ≡ string_bytes text }
     {
-        FilePath { text }
+        Word { text }
     }
 
     /// The text.
