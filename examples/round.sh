@@ -62,6 +62,8 @@ until_moment "$start"
 is 'a round is read' \
   "{\"bonus\":2,\"id\":\"noon\",\"minutes\":1,\"mode\":\"instant\",\"penalty\":5,\"protest_minutes\":1,\"puzzles\":[{\"number\":1,\"points\":40,\"text\":\"sudoku/4/4/123434122143432g\"}],\"start\":$start,\"title\":\"Noon\"}" \
   "$(ask eve-key-1 GET /rounds/noon)"
+# A whole minute before the end would give the bonus.
+until_moment $((start + 1))
 is 'a wrong answer' '{"received":1,"verdict":"wrong U2 U4"}' "$(ask eve-key-1 PUT /rounds/noon/answers/1/first '{"answer":"1234341221434312"}')"
 is 'a right answer' '{"received":2,"verdict":"right"}' "$(ask eve-key-1 PUT /rounds/noon/answers/1/second '{"answer":"1234341221434321"}')"
 is 'an answer sent again' '{"received":2,"verdict":"right"}' "$(ask eve-key-1 PUT /rounds/noon/answers/1/second '{"answer":"1234341221434321"}')"
