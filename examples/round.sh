@@ -1,6 +1,6 @@
 #!/bin/bash
 # The round of README.md, "A round in ten minutes": its commands against a server on a free port of 127.0.0.1, each reply compared with what README.md
-# tells. The moments are the system's, so the round is begun 52 seconds before now: it ends in 8 seconds, and is closed a minute after.
+# tells. The moments are the system's, so the round begins a few seconds after now; it ends a minute later, and is closed after one more.
 cd "$(dirname "${BASH_SOURCE[0]}")/.." || exit 1
 room=$(mktemp -d)
 port=$(python3 -c 'import socket; s = socket.socket(); s.bind(("127.0.0.1", 0)); print(s.getsockname()[1])')
@@ -31,7 +31,7 @@ until_moment() {
 }
 
 is 'hall init' 'added 6' "$(./hall init --db "$room/hall.db" --people examples/people.csv)"
-./hall serve --db "$room/hall.db" --port "$port" --connections 14 &
+./hall serve --db "$room/hall.db" --port "$port" --connections 15 &
 server=$!
 for _ in $(seq 100); do
   (exec 3<>"/dev/tcp/127.0.0.1/$port") 2>/dev/null && break
@@ -41,7 +41,7 @@ done
 is 'a puzzle is put' '{"state":"new","text":"sudoku/4/4/123434122143432g"}' \
   "$(ask bob-key-1 PUT /puzzles/bob/p1 '{"text":"https://puzz.link/p?sudoku/4/4/123434122143432g"}')"
 is 'a puzzle is certified' '{"state":"one"}' "$(ask bob-key-1 POST /puzzles/bob/p1/certificate '{"budget":200000}')"
-start=$(($(date +%s) - 52))
+start=$(($(date +%s) + 4))
 sheet="version = 1
 title = \"Noon\"
 start = \"$(date --utc --date="@$start" +%Y-%m-%dT%H:%M:%SZ)\"
@@ -57,9 +57,13 @@ points = 40
 "
 is 'a draft is put' '{"round":"noon"}' "$(ask dora-key PUT /rounds/noon "$sheet")"
 is 'a draft is released' '{"released":"noon"}' "$(ask dora-key POST /rounds/noon/release)"
+is 'a round before its start' '{"denied":7}' "$(ask eve-key-1 GET /rounds/noon)"
+until_moment "$start"
 is 'a round is read' \
   "{\"bonus\":2,\"id\":\"noon\",\"minutes\":1,\"mode\":\"instant\",\"penalty\":5,\"protest_minutes\":1,\"puzzles\":[{\"number\":1,\"points\":40,\"text\":\"sudoku/4/4/123434122143432g\"}],\"start\":$start,\"title\":\"Noon\"}" \
   "$(ask eve-key-1 GET /rounds/noon)"
+# A whole minute before the end would give the bonus.
+until_moment $((start + 1))
 is 'a wrong answer' '{"received":1,"verdict":"wrong U2 U4"}' "$(ask eve-key-1 PUT /rounds/noon/answers/1/first '{"answer":"1234341221434312"}')"
 is 'a right answer' '{"received":2,"verdict":"right"}' "$(ask eve-key-1 PUT /rounds/noon/answers/1/second '{"answer":"1234341221434321"}')"
 is 'an answer sent again' '{"received":2,"verdict":"right"}' "$(ask eve-key-1 PUT /rounds/noon/answers/1/second '{"answer":"1234341221434321"}')"

@@ -323,7 +323,10 @@ const WITHOUT_VALUE: [(&[&str], &str); 3] = [
 fn an_option_without_its_value_is_named(rt: HostRuntime) {
     for (place, (words, option)) in WITHOUT_VALUE.iter().enumerate() {
         let read = read(&rt, words);
-        assert!(rt; matches!(&read, Err(told) if told.as_str().contains(option)), "line {place}");
+        assert!(rt;
+            matches!(&read, Err(told) if told.as_str().contains(option)),
+            "line {place}"
+        );
     }
 }
 

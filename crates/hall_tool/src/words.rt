@@ -45,16 +45,30 @@ pub enum Command {
     /// Judge the answer on standard input.
     Judge,
     /// Search for the solutions of the puzzle on standard input, in at most so many visits: 0 to 1,000,000.
-    Solve { budget: u64 },
+    Solve {
+        budget: u64,
+    },
     /// Import the people of the entry list at the path `people` into the database file at the path `db`.
-    Init { db: Word, people: Word },
+    Init {
+        db: Word,
+        people: Word,
+    },
     /// Serve the database file at the path `db` on this port of 127.0.0.1, 1 to 65,535, and so many connections, 1 to
     /// 1,000,000.
-    Serve { db: Word, port: u64, connections: u64 },
+    Serve {
+        db: Word,
+        port: u64,
+        connections: u64,
+    },
     /// Answer the records on standard input, beginning with the people of the entry list at the path.
-    Replay { people: Word },
+    Replay {
+        people: Word,
+    },
     /// Write the table of the round of this name, from the database file at the path `db`.
-    Table { db: Word, round: Word },
+    Table {
+        db: Word,
+        round: Word,
+    },
     /// Show a page of help.
     Help(Page),
     /// Show the version.
