@@ -41,7 +41,7 @@ done
 is 'a puzzle is put' '{"state":"new","text":"sudoku/4/4/123434122143432g"}' \
   "$(ask bob-key-1 PUT /puzzles/bob/p1 '{"text":"https://puzz.link/p?sudoku/4/4/123434122143432g"}')"
 is 'a puzzle is certified' '{"state":"one"}' "$(ask bob-key-1 POST /puzzles/bob/p1/certificate '{"budget":200000}')"
-start=$(($(date +%s) + 4))
+start=$(($(date +%s) + 6))
 sheet="version = 1
 title = \"Noon\"
 start = \"$(date --utc --date="@$start" +%Y-%m-%dT%H:%M:%SZ)\"
