@@ -1,5 +1,6 @@
 pub mod Chain
 pub mod Close
+pub mod Colour
 pub mod Count
 pub mod Dot
 pub mod Follow

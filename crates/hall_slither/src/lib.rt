@@ -3,6 +3,7 @@
 
 mod chain;
 mod close;
+mod colour;
 mod count;
 mod dot;
 mod ends;

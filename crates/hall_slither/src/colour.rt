@@ -1,0 +1,163 @@
+//! Colours of cells, inside the loop or outside, as far as sides that are set tell them.
+ghost use Rattle.std.specs.Prelude.{◌≡◌, ◌<◌, ◌+◌, ℕ, Bool, false, IfOk, IfSome, List, length};
+ghost use Rattle.hall_grid.specs.Board.{IsSize, cells};
+ghost use Rattle.hall_grid.specs.Slither.{all_sides};
+ghost use Rattle.hall_slither.specs.Colour.{turned, cells_by, Obeys, AreTurned};
+
+use hall_grid::Size;
+use std::alloc::{AllocError, Global};
+use std::marker::Model;
+
+/// A cell whose colour tells this one's.
+#[derive(Clone, Copy)]
+pub(crate) struct Link {
+    to: usize,
+    /// Whether the two colours differ.
+    differs: bool,
+    /// How many cells hang on this one.
+    weight: usize,
+}
+
+/// What is known of the cells' colours: each hangs on another one or, as a root, on itself. The last one stands for
+/// all that is outside of the board.
+#[derive(Drop)]
+pub(crate) struct Colours {
+    links: Vec<Link>,
+}
+
+impl Model for Colours {
+    ghost use Rattle.std.specs.Prelude.{List, All, ◌<◌, length};
+    ghost use Rattle.hall_slither.specs.declared.colour.Link.{Link};
+
+    ghost Value = { List Link };
+
+    ghost view = { λ c. c.links.items };
+
+    ghost invariant = { λ c. All (λ link. link.to < length c.links.items) c.links.items };
+}
+
+/// The other value where they differ.
+pub(crate) fn turned(differs: bool, value: bool) -> bool
+    ensures { result ≡ turned differs value }
+{
+    if differs { !value } else { value }
+}
+
+/// The cells on both sides of a side; the number after the last cell stands for what is outside.
+pub(crate) fn cells_by(size: Size, side: usize) -> (usize, usize)
+    requires size { IsSize size }
+    requires side { side < all_sides size }
+    ensures cells { result ≡ cells_by size side }
+    ensures first { result.0 < cells size + 1 }
+    ensures second { result.1 < cells size + 1 }
+{
+    let outside = size.cells();
+    let flat_sides = size.flat_sides();
+    if side < flat_sides {
+        let above = if side < size.cols { outside } else { side - size.cols };
+        let below = if side < outside { side } else { outside };
+        (above, below)
+    } else {
+        let row = (side - flat_sides) / (size.cols + 1);
+        let col = (side - flat_sides) % (size.cols + 1);
+        let left = if col > 0 { row * size.cols + (col - 1) } else { outside };
+        let right = if col < size.cols { row * size.cols + col } else { outside };
+        (left, right)
+    }
+}
+
+impl Colours {
+    /// Nothing is known of so many cells.
+    pub(crate) fn new(alloc: Global, count: usize) -> Result<Colours, AllocError>
+        ensures size { IfOk result (λ c. length c ≡ count) }
+        ensures obeyed { IfOk result (λ c. (colour : ℕ → Bool) → Obeys c colour) }
+    {
+        let mut links = Vec::with_capacity(alloc, count)?;
+        for cell in 0..count {
+            links.push(Link { to: cell, differs: false, weight: 1 })?;
+        }
+        Ok(Colours { links })
+    }
+
+    /// Forgets all.
+    pub(crate) fn clear(&mut self)
+        ensures size { length self.new ≡ length self.old }
+        ensures obeyed { (colour : ℕ → Bool) → Obeys self.new colour }
+    {
+        for cell in 0..self.links.len() {
+            self.links[cell] = Link { to: cell, differs: false, weight: 1 };
+        }
+    }
+
+    /// Knows what the other one knows; both are for as many cells.
+    pub(crate) fn copy_from(&mut self, other: &Colours)
+        requires { length self.old ≡ length other.now }
+        ensures { self.new ≡ other.now }
+    {
+        self.links.copy_from_slice(&other.links);
+    }
+
+    /// The cell on which the cell hangs in the end, and whether their colours differ.
+    fn root_of(&self, cell: usize) -> Option<(usize, bool)>
+        requires { cell < length self.now }
+        ensures root { IfSome result (λ r. r.0 < length self.now) }
+        ensures turned { IfSome result (λ r. (colour : ℕ → Bool) → Obeys self.now colour → AreTurned r.1 cell r.0 colour) }
+    {
+        let mut at = cell;
+        let mut differs = false;
+        for _ in 0..self.links.len() {
+            let link = self.links[at];
+            if link.to == at {
+                return Some((at, differs));
+            }
+            differs = turned(link.differs, differs);
+            at = link.to;
+        }
+        None
+    }
+
+    /// Whether the colours of two cells differ, where it is known.
+    pub(crate) fn differ(&self, first: usize, second: usize) -> Option<bool>
+        requires first { first < length self.now }
+        requires second { second < length self.now }
+        ensures { IfSome result (λ d. (colour : ℕ → Bool) → Obeys self.now colour → AreTurned d first second colour) }
+    {
+        let (root, first_differs) = self.root_of(first)?;
+        let (other, second_differs) = self.root_of(second)?;
+        if root == other {
+            Some(turned(first_differs, second_differs))
+        } else {
+            None
+        }
+    }
+
+    /// Learns whether the colours of two cells differ; false where that contradicts what is known.
+    pub(crate) fn learn(&mut self, first: usize, second: usize, differs: bool) -> bool
+        requires first { first < length self.old }
+        requires second { second < length self.old }
+        ensures size { length self.new ≡ length self.old }
+        ensures obeyed { (colour : ℕ → Bool) → Obeys self.old colour → AreTurned differs first second colour
+            → Obeys self.new colour }
+        ensures contradicted { result ≡ false
+            → (colour : ℕ → Bool) → Obeys self.old colour → AreTurned differs first second colour → ⊥ }
+    {
+        let (Some((root, first_differs)), Some((other, second_differs))) =
+            (self.root_of(first), self.root_of(second))
+        else {
+            return true;
+        };
+        let apart = turned(differs, turned(first_differs, second_differs));
+        if root == other {
+            return !apart;
+        }
+        let weight = self.links[root].weight.saturating_add(self.links[other].weight);
+        let (upper, lower) = if self.links[root].weight < self.links[other].weight {
+            (other, root)
+        } else {
+            (root, other)
+        };
+        self.links[lower] = Link { to: upper, differs: apart, weight: self.links[lower].weight };
+        self.links[upper].weight = weight;
+        true
+    }
+}
