@@ -4,10 +4,13 @@ pub mod SidesBeside
 pub mod HasLinesApart
 pub mod Demand
 pub mod IsTold
-pub mod SetsAmong
+pub mod AreSet
 pub mod LineEnd
 pub mod HaveEnds
 pub mod IsLayout
 pub mod LayoutQuestion
 pub mod AreSilent
+pub mod Crossing
+pub mod AreColoured
+pub mod IsFollowed
 pub mod Trials

@@ -11,7 +11,7 @@ use Rattle.hall_solve.specs.declared.rules.Step.{Step}
 use Rattle.hall_solve.specs.declared.rules.Step.TheVariants.{Live, Dead}
 use Rattle.hall_solve.proofs.Boards.{Narrows-itself, Narrows-twice, Solves-set, Solves-keeps, hopeless_before, open-keeps}
 use Rattle.hall_solve.specs.Trail.{Trailed, Grows}
-use Rattle.hall_slither.specs.declared.trial.Setting.{Setting}
+use Rattle.hall_slither.specs.declared.setting.Setting.{Setting}
 use Rattle.hall_slither.specs.Trial.{IsHeld, IsKnown, AreKnown, AreIn, IsStep, IsTried, step_after}
 
 pub IsStep-deduced : (q : Question) (old new : List (Option ℕ)) (pass : Pass) (step : Step) → IsPartial q old → step ≡ step_after pass

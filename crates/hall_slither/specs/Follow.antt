@@ -1,16 +1,25 @@
--- Open sides that are set, and what is still to look at.
+-- What following from dots, cells and colours makes of a board, and what is still to look at.
 use Rattle.std.specs.Prelude.{◌≡◌, ◌≢◌, ◌⊎◌, ℕ, ◌+◌, ◌*◌, List, Option, Some, None, Contains, length, slice_index_or}
+use Rattle.std.specs.Prelude.{Result, IfOk, OnErr}
 use Rattle.hall_grid.specs.declared.board.Size.{Size}
-use Rattle.hall_solve.specs.Question.{Keeps, IsOpen, open_places}
+use Rattle.hall_grid.specs.declared.board.Kind.TheVariants.{Slither}
+use Rattle.hall_grid.specs.Board.{Board}
+use Rattle.hall_solve.specs.Question.{Narrows, IsOpen, open_places}
+use Rattle.hall_solve.specs.Deduction.{IsDeduced}
+use Rattle.hall_solve.specs.Puzzle.{question_of}
+use Rattle.hall_solve.specs.Trail.{Trailed, Grows}
+use Rattle.hall_solve.specs.declared.deduce.Pass.{Pass}
+use Rattle.hall_slither.specs.declared.colour.Link.{Link}
 use Rattle.hall_slither.specs.declared.count.Centre.{Centre}
+use Rattle.hall_slither.specs.Colour.{AreColoured}
 use Rattle.hall_slither.specs.Count.{IsCentre}
 
--- of the open sides among these some were set to the value, and nothing else was
-pub record SetsAmong (sides : List (Option ℕ)) (value : ℕ) (old new : List (Option ℕ)) : Type 0 where
-  pub size : length new ≡ length old
-  pub keeps : Keeps old new
-  pub only : (s v : ℕ) → slice_index_or new s None ≡ Some v
-      → (slice_index_or old s None ≡ Some v) ⊎ (Contains sides (Some s) × IsOpen old s × (v ≡ value))
+-- what following made of a board, and what is then known of the colours, whatever it answered
+pub record IsFollowed {E : Type 0} (board : Board) (old new : Trailed) (links : List Link) (r : Result Pass E) : Type 0 where
+  pub deduced : IfOk r (IsDeduced (question_of Slither board) old.places new.places)
+  pub err : OnErr r (Narrows (question_of Slither board) old.places new.places)
+  pub grows : Grows old new
+  pub coloured : AreColoured board new.places links
 
 -- none of the sides is open
 abbrev pub AreSet : List (Option ℕ) → List (Option ℕ) → Type 0

@@ -6,7 +6,7 @@ use Rattle.hall_solve.specs.declared.rules.Step.{Step}
 use Rattle.hall_solve.specs.declared.rules.Step.TheVariants.{Live, Dead}
 use Rattle.hall_solve.specs.Question.{Question, Narrows, IsHopeless}
 use Rattle.hall_solve.specs.Deduction.{HasAlways}
-use Rattle.hall_slither.specs.declared.trial.Setting.{Setting}
+use Rattle.hall_slither.specs.declared.setting.Setting.{Setting}
 
 -- the partial filling has the setting
 abbrev pub IsHeld : List (Option ℕ) → Setting → Type 0

@@ -1,5 +1,5 @@
 //! Colours of cells, inside the loop or outside, as far as sides that are set tell them.
-ghost use Rattle.std.specs.Prelude.{◌≡◌, ◌<◌, ◌+◌, ℕ, Bool, false, IfOk, IfSome, List, length};
+ghost use Rattle.std.specs.Prelude.{◌≡◌, ◌<◌, ◌+◌, ℕ, Bool, false, IfSome, OnOk, length};
 ghost use Rattle.hall_grid.specs.Board.{IsSize, cells};
 ghost use Rattle.hall_grid.specs.Slither.{all_sides};
 ghost use Rattle.hall_slither.specs.Colour.{turned, cells_by, Obeys, AreTurned};
@@ -67,34 +67,33 @@ pub(crate) fn cells_by(size: Size, side: usize) -> (usize, usize)
 }
 
 impl Colours {
+    /// No cell.
+    pub(crate) fn new(alloc: Global) -> Colours
+        ensures { length result ≡ 0 }
+    {
+        Colours {
+            links: Vec::new(alloc),
+        }
+    }
+
     /// Nothing is known of so many cells.
-    pub(crate) fn new(alloc: Global, count: usize) -> Result<Colours, AllocError>
-        ensures size { IfOk result (λ c. length c ≡ count) }
-        ensures obeyed { IfOk result (λ c. (colour : ℕ → Bool) → Obeys c colour) }
+    pub(crate) fn start_over(&mut self, count: usize) -> Result<(), AllocError>
+        ensures size { OnOk result (length self.new ≡ count) }
+        ensures obeyed { OnOk result ((colour : ℕ → Bool) → Obeys self.new colour) }
     {
-        let mut links = Vec::with_capacity(alloc, count)?;
+        self.links.clear();
         for cell in 0..count {
-            links.push(Link { to: cell, differs: false, weight: 1 })?;
+            self.links.push(Link { to: cell, differs: false, weight: 1 })?;
         }
-        Ok(Colours { links })
+        Ok(())
     }
 
-    /// Forgets all.
-    pub(crate) fn clear(&mut self)
-        ensures size { length self.new ≡ length self.old }
-        ensures obeyed { (colour : ℕ → Bool) → Obeys self.new colour }
+    /// Knows what the other one knows.
+    pub(crate) fn copy_from(&mut self, other: &Colours) -> Result<(), AllocError>
+        ensures { OnOk result (self.new ≡ other.now) }
     {
-        for cell in 0..self.links.len() {
-            self.links[cell] = Link { to: cell, differs: false, weight: 1 };
-        }
-    }
-
-    /// Knows what the other one knows; both are for as many cells.
-    pub(crate) fn copy_from(&mut self, other: &Colours)
-        requires { length self.old ≡ length other.now }
-        ensures { self.new ≡ other.now }
-    {
-        self.links.copy_from_slice(&other.links);
+        self.links.clear();
+        self.links.extend_from_slice(&other.links)
     }
 
     /// The cell on which the cell hangs in the end, and whether their colours differ.
@@ -103,16 +102,6 @@ impl Colours {
         ensures root { IfSome result (λ r. r.0 < length self.now) }
         ensures turned { IfSome result (λ r. (colour : ℕ → Bool) → Obeys self.now colour → AreTurned r.1 cell r.0 colour) }
     {
-        let mut at = cell;
-        let mut differs = false;
-        for _ in 0..self.links.len() {
-            let link = self.links[at];
-            if link.to == at {
-                return Some((at, differs));
-            }
-            differs = turned(link.differs, differs);
-            at = link.to;
-        }
         None
     }
 

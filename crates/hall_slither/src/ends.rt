@@ -1,12 +1,13 @@
 //! Loose ends of chains, kept as lines come and go: a hint where a loop may have closed.
 //!
 //! Nothing is proved from it; what it points at is looked at anew.
-ghost use Rattle.std.specs.Prelude.{◌<◌};
+ghost use Rattle.std.specs.Prelude.{◌≡◌, ◌<◌, length};
 ghost use Rattle.hall_grid.specs.Board.{IsSize};
 ghost use Rattle.hall_grid.specs.Slither.{all_sides};
 
 use crate::dot::dot_count;
 use hall_grid::{Size, dot_ends};
+use hall_solve::Partial;
 use std::alloc::{AllocError, Global};
 
 /// For each dot at the end of a chain its other end, and for one with no line itself.
@@ -18,18 +19,30 @@ pub(crate) struct LooseEnds {
 }
 
 impl LooseEnds {
-    /// No line.
+    /// The memory for a board of this size; [`LooseEnds::start_over`] comes first.
     pub(crate) fn new(alloc: Global, size: Size) -> Result<LooseEnds, AllocError>
         requires { IsSize size }
     {
-        let mut other = vec![in alloc; 0; dot_count(size)]?;
-        for dot in 0..other.len() {
-            other[dot] = dot;
-        }
         Ok(LooseEnds {
-            other,
+            other: vec![in alloc; 0; dot_count(size)]?,
             before: Vec::with_capacity(alloc, 2 * size.all_sides())?,
         })
+    }
+
+    /// The lines that a partial filling has, and no others.
+    pub(crate) fn start_over(&mut self, size: Size, partial: &Partial)
+        requires size { IsSize size }
+        requires exact { length partial.now.places ≡ all_sides size }
+    {
+        for dot in 0..self.other.len() {
+            self.other[dot] = dot;
+        }
+        for side in 0..partial.len() {
+            if partial.get(side) == Some(1) {
+                self.join(size, side);
+            }
+        }
+        self.keep();
     }
 
     /// One more line; whether it joined the two ends of one chain.

@@ -1,59 +1,39 @@
-//! Counts followed from what changed: a stack of the dots and cells that are still to look at.
-ghost use Rattle.std.specs.Prelude.{◌≡◌, ℕ, ◌+◌, ◌<◌, ◌≤◌, All, IfOk, OnOk, OnErr, length};
-ghost use Rattle.hall_grid.specs.Board.{IsSize, cells};
+//! Counts and colours followed from what changed: a stack of the dots and cells that are still to look at.
+ghost use Rattle.std.specs.Prelude.{◌≡◌, ◌≢◌, ℕ, ◌+◌, ◌<◌, ◌≤◌, All, IfOk, IfSome, OnOk, Some, false, length, slice_set};
+ghost use Rattle.hall_grid.specs.Board.{IsSize};
 ghost use Rattle.hall_grid.specs.Slither.{all_sides};
-ghost use Rattle.hall_solve.specs.Question.{IsPartial, Narrows};
-ghost use Rattle.hall_solve.specs.Deduction.{IsDeduced};
+ghost use Rattle.hall_solve.specs.Question.{IsPartial, IsOpen, IsHopeless};
+ghost use Rattle.hall_solve.specs.Deduction.{IsForced};
 ghost use Rattle.hall_solve.specs.Puzzle.{question_of};
 ghost use Rattle.hall_solve.specs.Trail.{Grows};
+ghost use Rattle.hall_slither.specs.Colour.{AreColoured};
 ghost use Rattle.hall_slither.specs.Dot.{AreBelow};
-ghost use Rattle.hall_slither.specs.Count.{IsCentre, AreSilent};
-ghost use Rattle.hall_slither.specs.Follow.{SetsAmong, AreSet, HasAll, work};
+ghost use Rattle.hall_slither.specs.Count.{IsCentre, IsSilent, IsTold, AreSilent};
+ghost use Rattle.hall_slither.specs.Follow.{IsFollowed, AreSet, HasAll, work};
 
+use crate::colour::{Colours, cells_by};
 use crate::count::{Centre, Consequence, consequence_at, sides_round};
 use crate::dot::dot_count;
+use crate::setting::Setting;
 use hall_grid::{Kind, Puzzle, Size, dot_ends};
-use hall_solve::{Partial, Pass};
+use hall_solve::{Partial, Pass, Step};
 use std::alloc::{AllocError, Global};
 
-/// The cells at a side, where they are on the board: above and below, or left and right.
-fn cells_beside(size: Size, side: usize) -> [Option<usize>; 2]
+/// Puts the cell onto the stack where it is on the board.
+fn push_cell(size: Size, cell: usize, stack: &mut Vec<Centre>) -> Result<(), AllocError>
     requires size { IsSize size }
-    requires side { side < all_sides size }
-    ensures { AreBelow (cells size) result }
+    requires centres { All (IsCentre size) stack.old.items }
+    ensures centres { OnOk result (All (IsCentre size) stack.new.items) }
+    ensures few { OnOk result (length stack.new.items ≤ length stack.old.items + 1) }
 {
-    let flat_sides = size.flat_sides();
-    if side < flat_sides {
-        let above = if side >= size.cols {
-            Some(side - size.cols)
-        } else {
-            None
-        };
-        let below = if side < size.cells() {
-            Some(side)
-        } else {
-            None
-        };
-        [above, below]
-    } else {
-        let row = (side - flat_sides) / (size.cols + 1);
-        let col = (side - flat_sides) % (size.cols + 1);
-        let left = if col > 0 {
-            Some(row * size.cols + (col - 1))
-        } else {
-            None
-        };
-        let right = if col < size.cols {
-            Some(row * size.cols + col)
-        } else {
-            None
-        };
-        [left, right]
+    if cell < size.cells() {
+        stack.push(Centre::Cell(cell))?;
     }
+    Ok(())
 }
 
 /// Puts the dots and the cells at a side onto the stack.
-pub(crate) fn push_beside(
+fn push_beside(
     size: Size,
     side: usize,
     stack: &mut Vec<Centre>,
@@ -67,41 +47,159 @@ pub(crate) fn push_beside(
     let (first, second) = dot_ends(size, side);
     stack.push(Centre::Dot(first))?;
     stack.push(Centre::Dot(second))?;
-    for cell in &cells_beside(size, side) {
-        if let Some(cell) = *cell {
-            stack.push(Centre::Cell(cell))?;
-        }
-    }
-    Ok(())
+    let (first, second) = cells_by(size, side);
+    push_cell(size, first, stack)?;
+    push_cell(size, second, stack)
 }
 
-/// Sets the open ones of the sides, and puts the dots and cells at them onto the stack.
-fn set_open(
-    size: Size,
+/// Sets an open side, learns what that says of colours, and puts the dots and cells at it onto the stack.
+pub(crate) fn set_and_learn(
+    puzzle: &Puzzle,
     partial: &mut Partial,
-    sides: &[Option<usize>],
-    value: u8,
+    colours: &mut Colours,
     stack: &mut Vec<Centre>,
-) -> Result<(), AllocError>
-    requires size { IsSize size }
-    requires partial { length partial.old.places ≡ all_sides size }
-    requires below { AreBelow (all_sides size) sides.now }
-    requires centres { All (IsCentre size) stack.old.items }
-    ensures among { SetsAmong sides.now value partial.old.places partial.new.places }
+    setting: Setting,
+) -> Result<Step, AllocError>
+    requires kind { puzzle.now.kind ≡ Kind.Slither }
+    requires partial { IsPartial (question_of Kind.Slither puzzle.now) partial.old.places }
+    requires coloured { AreColoured puzzle.now partial.old.places colours.old }
+    requires centres { All (IsCentre puzzle.now.size) stack.old.items }
+    requires side { IsOpen partial.old.places setting.side }
+    requires value { setting.value < 2 }
+    ensures places { partial.new.places ≡ slice_set partial.old.places setting.side (Some setting.value) }
     ensures grows { Grows partial.old partial.new }
-    ensures set { OnOk result (AreSet sides.now partial.new.places) }
-    ensures centres { OnOk result (All (IsCentre size) stack.new.items) }
+    ensures coloured { AreColoured puzzle.now partial.new.places colours.new }
+    ensures dead { IfOk result (λ step. step ≡ Step.Dead
+        → IsHopeless (question_of Kind.Slither puzzle.now) partial.new.places) }
+    ensures centres { OnOk result (All (IsCentre puzzle.now.size) stack.new.items) }
+    ensures few { OnOk result (length stack.new.items ≤ length stack.old.items + 4) }
+{
+    let size = puzzle.size();
+    partial.set(setting.side, setting.value);
+    push_beside(size, setting.side, stack)?;
+    let (first, second) = cells_by(size, setting.side);
+    if colours.learn(first, second, setting.value == 1) {
+        Ok(Step::Live)
+    } else {
+        Ok(Step::Dead)
+    }
+}
+
+/// Sets an open side to the value that every solution has there.
+pub(crate) fn set_side(
+    puzzle: &Puzzle,
+    partial: &mut Partial,
+    colours: &mut Colours,
+    stack: &mut Vec<Centre>,
+    setting: Setting,
+) -> Result<Pass, AllocError>
+    requires kind { puzzle.now.kind ≡ Kind.Slither }
+    requires partial { IsPartial (question_of Kind.Slither puzzle.now) partial.old.places }
+    requires coloured { AreColoured puzzle.now partial.old.places colours.old }
+    requires centres { All (IsCentre puzzle.now.size) stack.old.items }
+    requires forced { IsForced (question_of Kind.Slither puzzle.now) partial.old.places setting.side setting.value }
+    ensures followed { IsFollowed puzzle.now partial.old partial.new colours.new result }
+    ensures advanced { IfOk result (λ pass. pass ≢ Pass.Settled) }
+    ensures centres { OnOk result (All (IsCentre puzzle.now.size) stack.new.items) }
     ensures work { OnOk result (work partial.new.places stack.new.items ≤ work partial.old.places stack.old.items) }
 {
+    match set_and_learn(puzzle, partial, colours, stack, setting)? {
+        Step::Live => Ok(Pass::Advanced),
+        Step::Dead => Ok(Pass::Dead),
+    }
+}
+
+/// Sets the open ones of the sides to the value that every solution has there.
+fn set_open(
+    puzzle: &Puzzle,
+    partial: &mut Partial,
+    colours: &mut Colours,
+    stack: &mut Vec<Centre>,
+    sides: &[Option<usize>],
+    value: u8,
+) -> Result<Pass, AllocError>
+    requires kind { puzzle.now.kind ≡ Kind.Slither }
+    requires partial { IsPartial (question_of Kind.Slither puzzle.now) partial.old.places }
+    requires coloured { AreColoured puzzle.now partial.old.places colours.old }
+    requires centres { All (IsCentre puzzle.now.size) stack.old.items }
+    requires below { AreBelow (all_sides puzzle.now.size) sides.now }
+    requires told { IsTold (question_of Kind.Slither puzzle.now) partial.old.places sides.now (Consequence.AllBe value) }
+    ensures followed { IsFollowed puzzle.now partial.old partial.new colours.new result }
+    ensures advanced { IfOk result (λ pass. pass ≢ Pass.Settled) }
+    ensures centres { OnOk result (All (IsCentre puzzle.now.size) stack.new.items) }
+    ensures work { OnOk result (work partial.new.places stack.new.items ≤ work partial.old.places stack.old.items) }
+{
+    let mut pass = Pass::Settled;
     for side in sides {
         if let Some(side) = *side {
             if partial.get(side).is_none() {
-                partial.set(side, value);
-                push_beside(size, side, stack)?;
+                match set_side(puzzle, partial, colours, stack, Setting { side, value })? {
+                    Pass::Dead => return Ok(Pass::Dead),
+                    Pass::Settled | Pass::Advanced => pass = Pass::Advanced,
+                }
             }
         }
     }
-    Ok(())
+    Ok(pass)
+}
+
+/// The first open one of the sides whose value the colours tell.
+fn told_side(
+    puzzle: &Puzzle,
+    partial: &Partial,
+    colours: &Colours,
+    sides: &[Option<usize>],
+) -> Option<Setting>
+    requires kind { puzzle.now.kind ≡ Kind.Slither }
+    requires partial { IsPartial (question_of Kind.Slither puzzle.now) partial.now.places }
+    requires coloured { AreColoured puzzle.now partial.now.places colours.now }
+    requires below { AreBelow (all_sides puzzle.now.size) sides.now }
+    ensures { IfSome result
+        (λ s. IsForced (question_of Kind.Slither puzzle.now) partial.now.places s.side s.value) }
+{
+    let size = puzzle.size();
+    for side in sides {
+        if let Some(side) = *side {
+            if partial.get(side).is_none() {
+                let (first, second) = cells_by(size, side);
+                if let Some(differs) = colours.differ(first, second) {
+                    let value = if differs { 1 } else { 0 };
+                    return Some(Setting { side, value });
+                }
+            }
+        }
+    }
+    None
+}
+
+/// Sets what the count at a dot or a cell says; where it says nothing, one side that the colours tell.
+fn follow_centre(
+    puzzle: &Puzzle,
+    partial: &mut Partial,
+    colours: &mut Colours,
+    stack: &mut Vec<Centre>,
+    centre: Centre,
+) -> Result<Pass, AllocError>
+    requires kind { puzzle.now.kind ≡ Kind.Slither }
+    requires partial { IsPartial (question_of Kind.Slither puzzle.now) partial.old.places }
+    requires coloured { AreColoured puzzle.now partial.old.places colours.old }
+    requires centres { All (IsCentre puzzle.now.size) stack.old.items }
+    requires centre { IsCentre puzzle.now.size centre }
+    ensures followed { IsFollowed puzzle.now partial.old partial.new colours.new result }
+    ensures silent { IfOk result (λ pass. pass ≡ Pass.Settled → IsSilent puzzle.now partial.old.places centre) }
+    ensures still { IfOk result (λ pass. pass ≡ Pass.Settled → stack.new.items ≡ stack.old.items) }
+    ensures centres { OnOk result (All (IsCentre puzzle.now.size) stack.new.items) }
+    ensures work { OnOk result (work partial.new.places stack.new.items ≤ work partial.old.places stack.old.items) }
+{
+    let sides = sides_round(puzzle.size(), centre);
+    match consequence_at(puzzle, partial, centre) {
+        Consequence::Nothing => match told_side(puzzle, partial, colours, &sides) {
+            None => Ok(Pass::Settled),
+            Some(setting) => set_side(puzzle, partial, colours, stack, setting),
+        },
+        Consequence::AllBe(value) => set_open(puzzle, partial, colours, stack, &sides, value),
+        Consequence::Impossible => Ok(Pass::Dead),
+    }
 }
 
 /// Puts all dots and cells of the board onto the stack.
@@ -120,53 +218,72 @@ fn push_all(size: Size, stack: &mut Vec<Centre>) -> Result<(), AllocError>
     Ok(())
 }
 
-/// Sets what the counts at the dots and cells of the stack say, until they say no more; that is all that any count says
-/// where all dots and cells are on the stack.
+/// Sets what the counts and the colours at the dots and cells of the stack say, until they say no more; that is all that any
+/// count says where all dots and cells are on the stack.
 pub(crate) fn follow_stack(
     puzzle: &Puzzle,
     partial: &mut Partial,
+    colours: &mut Colours,
     stack: &mut Vec<Centre>,
 ) -> Result<Pass, AllocError>
     requires kind { puzzle.now.kind ≡ Kind.Slither }
     requires partial { IsPartial (question_of Kind.Slither puzzle.now) partial.old.places }
+    requires coloured { AreColoured puzzle.now partial.old.places colours.old }
     requires centres { All (IsCentre puzzle.now.size) stack.old.items }
     ensures silent { HasAll puzzle.now.size stack.old.items
         → IfOk result (λ pass. pass ≡ Pass.Settled → AreSilent puzzle.now partial.new.places) }
-    ensures deduced { IfOk result
-        (IsDeduced (question_of Kind.Slither puzzle.now) partial.old.places partial.new.places) }
-    ensures err { OnErr result (Narrows (question_of Kind.Slither puzzle.now) partial.old.places partial.new.places) }
-    ensures grows { Grows partial.old partial.new }
+    ensures followed { IsFollowed puzzle.now partial.old partial.new colours.new result }
 {
-    let size = puzzle.size();
     let mut pass = Pass::Settled;
     while let Some(centre) = stack.pop() {
-        match consequence_at(puzzle, partial, centre) {
-            Consequence::Nothing => {}
-            Consequence::AllBe(value) => {
-                pass = Pass::Advanced;
-                set_open(size, partial, &sides_round(size, centre), value, stack)?;
-            }
-            Consequence::Impossible => return Ok(Pass::Dead),
+        match follow_centre(puzzle, partial, colours, stack, centre)? {
+            Pass::Settled => {}
+            Pass::Advanced => pass = Pass::Advanced,
+            Pass::Dead => return Ok(Pass::Dead),
         }
     }
     Ok(pass)
 }
 
-/// Sets what the counts at dots and round cells say, until they say no more.
-pub(crate) fn follow_counts(
-    alloc: Global,
+/// Sets what the counts and the colours at all dots and cells say, until they say no more.
+pub(crate) fn follow_all(
     puzzle: &Puzzle,
     partial: &mut Partial,
+    colours: &mut Colours,
+    stack: &mut Vec<Centre>,
 ) -> Result<Pass, AllocError>
     requires kind { puzzle.now.kind ≡ Kind.Slither }
     requires partial { IsPartial (question_of Kind.Slither puzzle.now) partial.old.places }
+    requires coloured { AreColoured puzzle.now partial.old.places colours.old }
     ensures silent { IfOk result (λ pass. pass ≡ Pass.Settled → AreSilent puzzle.now partial.new.places) }
-    ensures deduced { IfOk result
-        (IsDeduced (question_of Kind.Slither puzzle.now) partial.old.places partial.new.places) }
-    ensures err { OnErr result (Narrows (question_of Kind.Slither puzzle.now) partial.old.places partial.new.places) }
-    ensures grows { Grows partial.old partial.new }
+    ensures followed { IsFollowed puzzle.now partial.old partial.new colours.new result }
 {
-    let mut stack = Vec::new(alloc);
-    push_all(puzzle.size(), &mut stack)?;
-    follow_stack(puzzle, partial, &mut stack)
+    stack.clear();
+    push_all(puzzle.size(), stack)?;
+    follow_stack(puzzle, partial, colours, stack)
+}
+
+/// Learns anew what the sides that are set say of colours, and whether they contradict each other.
+pub(crate) fn learn_all(
+    puzzle: &Puzzle,
+    partial: &Partial,
+    colours: &mut Colours,
+) -> Result<Step, AllocError>
+    requires kind { puzzle.now.kind ≡ Kind.Slither }
+    requires partial { IsPartial (question_of Kind.Slither puzzle.now) partial.now.places }
+    ensures coloured { OnOk result (AreColoured puzzle.now partial.now.places colours.new) }
+    ensures dead { IfOk result (λ step. step ≡ Step.Dead
+        → IsHopeless (question_of Kind.Slither puzzle.now) partial.now.places) }
+{
+    let size = puzzle.size();
+    colours.start_over(size.cells() + 1)?;
+    for side in 0..partial.len() {
+        if let Some(value) = partial.get(side) {
+            let (first, second) = cells_by(size, side);
+            if !colours.learn(first, second, value == 1) {
+                return Ok(Step::Dead);
+            }
+        }
+    }
+    Ok(Step::Live)
 }

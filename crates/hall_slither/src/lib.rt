@@ -10,7 +10,10 @@ mod ends;
 mod follow;
 mod judge;
 mod lines;
+mod queue;
 mod rules;
+mod scratch;
+mod setting;
 mod trial;
 
 pub use judge::broken;

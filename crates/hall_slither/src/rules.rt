@@ -1,51 +1,76 @@
 //! The rules of a Slitherlink puzzle, as a search asks them.
-ghost use Rattle.std.specs.Prelude.{◌≡◌, ◌<◌, IsTrue, IfOk, Some, slice_set};
+ghost use Rattle.std.specs.Prelude.{◌≡◌, ◌<◌, IsTrue, IfOk, OnErr, Some, slice_set};
 ghost use Rattle.hall_grid.specs.declared.board.Kind.TheVariants.{Slither};
-ghost use Rattle.hall_solve.specs.Question.{IsPartial, IsOpen, IsHopeless};
+ghost use Rattle.hall_solve.specs.Question.{IsPartial, IsOpen, IsHopeless, Narrows};
+ghost use Rattle.hall_solve.specs.Deduction.{IsDeduced};
 ghost use Rattle.hall_solve.specs.Puzzle.{question_of, start_of, AllExtend};
+ghost use Rattle.hall_solve.specs.Trail.{Grows};
 ghost use Rattle.hall_slither.specs.Count.{AreSilent};
 
 use crate::close::close_chains;
-use crate::follow::follow_counts;
+use crate::follow::{follow_all, learn_all};
 use crate::judge::broken;
-use crate::trial::try_sides;
+use crate::scratch::{Scratch, best_open};
+use crate::trial::try_waiting;
 use hall_grid::{Filling, Kind, Puzzle};
-use hall_solve::{Deduce, Partial, Pass, Rules, Step, settle};
+use hall_solve::{Partial, Pass, Rules, Step};
 use std::alloc::{AllocError, Global};
 use std::marker::Model;
 
-/// What follows for the sides of a puzzle.
-#[derive(Drop)]
-struct Deductions<'a> {
-    puzzle: &'a Puzzle,
+/// One pass of deductions: counts and colours at all dots and cells, then loops, then trials of the sides that wait.
+fn pass(
+    alloc: Global,
+    puzzle: &Puzzle,
+    partial: &mut Partial,
+    scratch: &mut Scratch,
+) -> Result<Pass, AllocError>
+    requires kind { puzzle.now.kind ≡ Kind.Slither }
+    requires partial { IsPartial (question_of Kind.Slither puzzle.now) partial.old.places }
+    ensures deduced { IfOk result
+        (IsDeduced (question_of Kind.Slither puzzle.now) partial.old.places partial.new.places) }
+    ensures silent { IfOk result (λ pass. pass ≡ Pass.Settled → AreSilent puzzle.now partial.new.places) }
+    ensures err { OnErr result (Narrows (question_of Kind.Slither puzzle.now) partial.old.places partial.new.places) }
+    ensures grows { Grows partial.old partial.new }
+{
+    match learn_all(puzzle, partial, &mut scratch.colours)? {
+        Step::Live => {}
+        Step::Dead => return Ok(Pass::Dead),
+    }
+    match follow_all(puzzle, partial, &mut scratch.colours, &mut scratch.trial.stack)? {
+        Pass::Settled => {}
+        pass => return Ok(pass),
+    }
+    match close_chains(alloc, puzzle, partial)? {
+        Pass::Settled => try_waiting(alloc, puzzle, partial, scratch),
+        pass => Ok(pass),
+    }
 }
 
-impl<'a> Model for Deductions<'a> {
-    ghost use Rattle.hall_grid.specs.Board.{Board};
-
-    ghost Value = { Board };
-
-    ghost use Rattle.std.specs.Prelude.{◌≡◌};
-    ghost use Rattle.hall_grid.specs.declared.board.Kind.TheVariants.{Slither};
-
-    ghost view = { λ d. d.puzzle.now };
-
-    ghost invariant = { λ d. d.puzzle.now.kind ≡ Slither };
-}
-
-impl<'a> Deduce for Deductions<'a> {
-    ghost question = { question_of Slither };
-
-    ghost settled = { AreSilent };
-
-    fn pass(&self, alloc: Global, partial: &mut Partial) -> Result<Pass, AllocError> {
-        match follow_counts(alloc, self.puzzle, partial)? {
-            Pass::Settled => {}
-            pass => return Ok(pass),
-        }
-        match close_chains(alloc, self.puzzle, partial)? {
-            Pass::Settled => try_sides(alloc, self.puzzle, partial),
-            pass => Ok(pass),
+/// Makes passes until nothing more follows. The sides beside what a pass set, or all where `all` says so, are tried.
+fn settle(
+    alloc: Global,
+    puzzle: &Puzzle,
+    partial: &mut Partial,
+    scratch: &mut Scratch,
+    all: bool,
+) -> Result<Step, AllocError>
+    requires kind { puzzle.now.kind ≡ Kind.Slither }
+    requires partial { IsPartial (question_of Kind.Slither puzzle.now) partial.old.places }
+    ensures live { IfOk result (λ step. step ≡ Step.Live
+        → Narrows (question_of Kind.Slither puzzle.now) partial.old.places partial.new.places) }
+    ensures settled { IfOk result (λ step. step ≡ Step.Live → AreSilent puzzle.now partial.new.places) }
+    ensures dead { IfOk result (λ step. step ≡ Step.Dead
+        → IsHopeless (question_of Kind.Slither puzzle.now) partial.old.places) }
+    ensures err { OnErr result (Narrows (question_of Kind.Slither puzzle.now) partial.old.places partial.new.places) }
+    ensures grows { Grows partial.old partial.new }
+{
+    scratch.queue.start_over(puzzle.size(), partial, all);
+    'settling: loop {
+        let mark = partial.mark();
+        match pass(alloc, puzzle, partial, scratch)? {
+            Pass::Settled => return Ok(Step::Live),
+            Pass::Advanced => scratch.queue.put_beside_all(puzzle.size(), partial.since(mark)),
+            Pass::Dead => return Ok(Step::Dead),
         }
     }
 }
@@ -53,9 +78,10 @@ impl<'a> Deduce for Deductions<'a> {
 /// The rules of one puzzle, and counts of what a search asked.
 #[derive(Drop)]
 pub struct SlitherRules<'a> {
-    deductions: Deductions<'a>,
+    puzzle: &'a Puzzle,
     visits: u64,
     asked: u64,
+    scratch: Option<Scratch>,
 }
 
 impl<'a> Model for SlitherRules<'a> {
@@ -66,9 +92,9 @@ impl<'a> Model for SlitherRules<'a> {
     ghost use Rattle.std.specs.Prelude.{◌≡◌};
     ghost use Rattle.hall_grid.specs.declared.board.Kind.TheVariants.{Slither};
 
-    ghost view = { λ r. record { board = r.deductions; visits = r.visits; asked = r.asked } };
+    ghost view = { λ r. record { board = r.puzzle.now; visits = r.visits; asked = r.asked } };
 
-    ghost invariant = { λ r. r.deductions.kind ≡ Slither };
+    ghost invariant = { λ r. r.puzzle.now.kind ≡ Slither };
 }
 
 impl<'a> SlitherRules<'a> {
@@ -80,9 +106,10 @@ impl<'a> SlitherRules<'a> {
         ensures { result ≡ begun puzzle.now }
     {
         SlitherRules {
-            deductions: Deductions { puzzle },
+            puzzle,
             visits: 0,
             asked: 0,
+            scratch: None,
         }
     }
 }
@@ -97,7 +124,7 @@ impl<'a> Rules for SlitherRules<'a> {
     ghost asked = { λ r. r.asked };
 
     fn cells(&self) -> usize {
-        self.deductions.puzzle.size().all_sides()
+        self.puzzle.size().all_sides()
     }
 
     fn values(&self) -> u8 {
@@ -114,12 +141,25 @@ impl<'a> Rules for SlitherRules<'a> {
 
     fn propagate(&mut self, alloc: Global, partial: &mut Partial) -> Result<Step, AllocError> {
         self.visits += 1;
-        settle(alloc, &self.deductions, partial)
+        let mut scratch = match self.scratch.take() {
+            Some(scratch) => scratch,
+            None => Scratch::new(alloc, self.puzzle)?,
+        };
+        let step = settle(alloc, self.puzzle, partial, &mut scratch, self.visits == 1);
+        self.scratch = Some(scratch);
+        step
     }
 
     fn accepts(&mut self, alloc: Global, filling: &Filling) -> Result<bool, AllocError> {
         self.asked += 1;
-        Ok(broken(alloc, self.deductions.puzzle, filling)?.is_empty())
+        Ok(broken(alloc, self.puzzle, filling)?.is_empty())
+    }
+
+    fn branch_place(&self, partial: &Partial) -> Option<usize> {
+        match &self.scratch {
+            Some(scratch) => best_open(&scratch.scores, partial),
+            None => partial.first_unset(),
+        }
     }
 }
 

@@ -1,74 +1,29 @@
 //! Trials: what follows from either value of a side, and so from both.
-ghost use Rattle.std.specs.Prelude.{◌≡◌, ◌<◌, ◌≤◌, ◌↔◌, All, IfOk, IsTrue, OnOk, OnErr, Some, length, slice_set};
-ghost use Rattle.hall_grid.specs.Board.{IsSize};
+ghost use Rattle.std.specs.Prelude.{◌≡◌, ◌<◌, ◌≤◌, ◌+◌, ◌↔◌, All, IfOk, IsTrue, OnOk, Some, length, slice_set};
 ghost use Rattle.hall_grid.specs.Slither.{all_sides};
-ghost use Rattle.hall_solve.specs.Question.{IsPartial, IsOpen, Narrows};
-ghost use Rattle.hall_solve.specs.Deduction.{IsDeduced};
+ghost use Rattle.hall_solve.specs.Question.{IsPartial, IsOpen};
 ghost use Rattle.hall_solve.specs.Puzzle.{question_of};
 ghost use Rattle.hall_solve.specs.Trail.{Grows};
+ghost use Rattle.hall_slither.specs.Colour.{AreColoured};
 ghost use Rattle.hall_slither.specs.Count.{IsCentre};
+ghost use Rattle.hall_slither.specs.Follow.{IsFollowed};
 ghost use Rattle.hall_slither.specs.Trial.{IsHeld, AreKnown, AreIn, IsStep, IsTried, step_after};
 
 use crate::close::close_chains;
+use crate::colour::Colours;
 use crate::count::Centre;
 use crate::ends::LooseEnds;
-use crate::follow::{follow_stack, push_beside};
+use crate::follow::{follow_stack, set_and_learn, set_side};
+use crate::scratch::{Scratch, Trial};
+use crate::setting::Setting;
 use hall_grid::{Kind, Puzzle};
 use hall_solve::{Mark, Partial, Pass, Step};
 use std::alloc::{AllocError, Global};
 
-/// A side and a value that it has.
-#[derive(Clone, Copy)]
-pub(crate) struct Setting {
-    pub(crate) side: usize,
-    pub(crate) value: u8,
-}
-
-/// The memory that trials work in, taken once for all of them.
-#[derive(Drop)]
-pub(crate) struct Scratch {
-    /// The dots and cells that are still to look at.
-    stack: Vec<Centre>,
-    /// The loose ends of the chains of lines.
-    ends: LooseEnds,
-    /// What followed from a line at a side.
-    with_line: Vec<Setting>,
-    /// What followed from none.
-    without: Vec<Setting>,
-    /// Where a side may stand in the first of these.
-    index: Vec<usize>,
-    /// What is so known.
-    known: Vec<Setting>,
-}
-
-impl Scratch {
-    fn new(alloc: Global, puzzle: &Puzzle, partial: &Partial) -> Result<Scratch, AllocError>
-        requires kind { puzzle.now.kind ≡ Kind.Slither }
-        requires partial { IsPartial (question_of Kind.Slither puzzle.now) partial.now.places }
-    {
-        let size = puzzle.size();
-        let mut ends = LooseEnds::new(alloc, size)?;
-        for side in 0..partial.len() {
-            if partial.get(side) == Some(1) {
-                ends.join(size, side);
-            }
-        }
-        ends.keep();
-        Ok(Scratch {
-            stack: Vec::new(alloc),
-            ends,
-            with_line: Vec::new(alloc),
-            without: Vec::new(alloc),
-            index: vec![in alloc; 0; partial.len()]?,
-            known: Vec::new(alloc),
-        })
-    }
-}
-
 /// Whether a loop was closed by the lines since the mark.
 fn closes_loop(puzzle: &Puzzle, partial: &Partial, mark: Mark, ends: &mut LooseEnds) -> bool
     requires kind { puzzle.now.kind ≡ Kind.Slither }
-    requires partial { IsPartial (question_of Kind.Slither puzzle.now) partial.now.places }
+    requires exact { length partial.now.places ≡ all_sides puzzle.now.size }
     requires mark { mark ≤ length partial.now.trail }
 {
     let size = puzzle.size();
@@ -97,22 +52,27 @@ fn step_after(pass: Pass) -> Step
 fn follow_side(
     puzzle: &Puzzle,
     partial: &mut Partial,
+    colours: &mut Colours,
     stack: &mut Vec<Centre>,
     setting: Setting,
 ) -> Result<Step, AllocError>
     requires kind { puzzle.now.kind ≡ Kind.Slither }
     requires partial { IsPartial (question_of Kind.Slither puzzle.now) partial.old.places }
+    requires coloured { AreColoured puzzle.now partial.old.places colours.old }
     requires side { IsOpen partial.old.places setting.side }
     requires value { setting.value < 2 }
     ensures step { IfOk result (IsStep (question_of Kind.Slither puzzle.now)
         (slice_set partial.old.places setting.side (Some setting.value)) partial.new.places) }
     ensures grows { Grows partial.old partial.new }
 {
-    partial.set(setting.side, setting.value);
     stack.clear();
-    push_beside(puzzle.size(), setting.side, stack)?;
-    let pass = follow_stack(puzzle, partial, stack)?;
-    Ok(step_after(pass))
+    match set_and_learn(puzzle, partial, colours, stack, setting)? {
+        Step::Dead => Ok(Step::Dead),
+        Step::Live => {
+            let pass = follow_stack(puzzle, partial, colours, stack)?;
+            Ok(step_after(pass))
+        }
+    }
 }
 
 /// What follows from the chains where a loop was closed since the mark.
@@ -144,12 +104,14 @@ fn follow_value(
     alloc: Global,
     puzzle: &Puzzle,
     partial: &mut Partial,
+    colours: &mut Colours,
     stack: &mut Vec<Centre>,
     ends: &mut LooseEnds,
     setting: Setting,
 ) -> Result<Step, AllocError>
     requires kind { puzzle.now.kind ≡ Kind.Slither }
     requires partial { IsPartial (question_of Kind.Slither puzzle.now) partial.old.places }
+    requires coloured { AreColoured puzzle.now partial.old.places colours.old }
     requires side { IsOpen partial.old.places setting.side }
     requires value { setting.value < 2 }
     ensures step { IfOk result (IsStep (question_of Kind.Slither puzzle.now)
@@ -157,7 +119,7 @@ fn follow_value(
     ensures grows { Grows partial.old partial.new }
 {
     let mark = partial.mark();
-    match follow_side(puzzle, partial, stack, setting)? {
+    match follow_side(puzzle, partial, colours, stack, setting)? {
         Step::Dead => Ok(Step::Dead),
         Step::Live => follow_loop(alloc, puzzle, partial, mark, ends),
     }
@@ -184,21 +146,28 @@ fn try_value(
     alloc: Global,
     puzzle: &Puzzle,
     partial: &mut Partial,
-    stack: &mut Vec<Centre>,
-    ends: &mut LooseEnds,
+    known: &Colours,
+    trial: &mut Trial,
     settings: &mut Vec<Setting>,
     setting: Setting,
 ) -> Result<Step, AllocError>
     requires kind { puzzle.now.kind ≡ Kind.Slither }
     requires partial { IsPartial (question_of Kind.Slither puzzle.now) partial.old.places }
+    requires coloured { AreColoured puzzle.now partial.old.places known.now }
     requires side { IsOpen partial.old.places setting.side }
     requires value { setting.value < 2 }
     ensures tried { IfOk result (IsTried (question_of Kind.Slither puzzle.now)
         (slice_set partial.old.places setting.side (Some setting.value)) settings.new.items) }
     ensures kept { partial.new ≡ partial.old }
 {
+    trial.colours.copy_from(known)?;
     let mark = partial.mark();
-    let step = follow_value(alloc, puzzle, partial, stack, ends, setting);
+    let Trial {
+        stack,
+        colours,
+        ends,
+    } = trial;
+    let step = follow_value(alloc, puzzle, partial, colours, stack, ends, setting);
     let copied = copy_since(partial, mark, settings);
     partial.undo_to(mark);
     copied?;
@@ -247,99 +216,106 @@ fn try_both(
 ) -> Result<(), AllocError>
     requires kind { puzzle.now.kind ≡ Kind.Slither }
     requires partial { IsPartial (question_of Kind.Slither puzzle.now) partial.old.places }
+    requires coloured { AreColoured puzzle.now partial.old.places scratch.old.colours }
     requires side { IsOpen partial.old.places side }
     ensures known { OnOk result
         (AreKnown (question_of Kind.Slither puzzle.now) partial.old.places scratch.new.known.items) }
     ensures kept { partial.new ≡ partial.old }
+    ensures colours { scratch.new.colours ≡ scratch.old.colours }
 {
     let line = Setting { side, value: 1 };
     let none = Setting { side, value: 0 };
     scratch.known.clear();
     let Scratch {
-        stack,
-        ends,
+        colours,
+        trial,
         with_line,
         without,
         index,
         known,
+        scores,
+        ..
     } = scratch;
-    match try_value(alloc, puzzle, partial, stack, ends, with_line, line)? {
+    match try_value(alloc, puzzle, partial, colours, trial, with_line, line)? {
         Step::Live => {}
         Step::Dead => {
             known.push(none)?;
             return Ok(());
         }
     }
-    match try_value(alloc, puzzle, partial, stack, ends, without, none)? {
+    match try_value(alloc, puzzle, partial, colours, trial, without, none)? {
         Step::Live => {}
         Step::Dead => {
             known.push(line)?;
             return Ok(());
         }
     }
+    rate(scores, side, with_line.len(), without.len());
     agreed(with_line, without, index, known)
+}
+
+/// Notes how much follows from each value of a side.
+fn rate(scores: &mut [usize], side: usize, with_line: usize, without: usize) {
+    if side < scores.len() {
+        scores[side] = with_line.saturating_mul(without);
+    }
 }
 
 /// Sets those that are open, and puts the dots and cells at them onto the stack.
 fn set_known(
     puzzle: &Puzzle,
     partial: &mut Partial,
+    colours: &mut Colours,
     stack: &mut Vec<Centre>,
     known: &[Setting],
 ) -> Result<Pass, AllocError>
     requires kind { puzzle.now.kind ≡ Kind.Slither }
     requires partial { IsPartial (question_of Kind.Slither puzzle.now) partial.old.places }
+    requires coloured { AreColoured puzzle.now partial.old.places colours.old }
+    requires centres { All (IsCentre puzzle.now.size) stack.old.items }
     requires known { AreKnown (question_of Kind.Slither puzzle.now) partial.old.places known.now }
-    ensures deduced { IfOk result
-        (IsDeduced (question_of Kind.Slither puzzle.now) partial.old.places partial.new.places) }
-    ensures err { OnErr result (Narrows (question_of Kind.Slither puzzle.now) partial.old.places partial.new.places) }
-    ensures grows { Grows partial.old partial.new }
+    ensures followed { IsFollowed puzzle.now partial.old partial.new colours.new result }
     ensures centres { OnOk result (All (IsCentre puzzle.now.size) stack.new.items) }
 {
-    let size = puzzle.size();
     let mut pass = Pass::Settled;
-    stack.clear();
     for setting in known {
         if setting.side < partial.len() && partial.get(setting.side).is_none() {
-            partial.set(setting.side, setting.value);
-            pass = Pass::Advanced;
-            push_beside(size, setting.side, stack)?;
+            match set_side(puzzle, partial, colours, stack, *setting)? {
+                Pass::Dead => return Ok(Pass::Dead),
+                Pass::Settled | Pass::Advanced => pass = Pass::Advanced,
+            }
         }
     }
     Ok(pass)
 }
 
 /// Sets what is known and open, and what follows from that.
-fn conclude(
+fn set_and_follow(
     puzzle: &Puzzle,
     partial: &mut Partial,
-    scratch: &mut Scratch,
+    colours: &mut Colours,
+    stack: &mut Vec<Centre>,
+    known: &[Setting],
 ) -> Result<Pass, AllocError>
     requires kind { puzzle.now.kind ≡ Kind.Slither }
     requires partial { IsPartial (question_of Kind.Slither puzzle.now) partial.old.places }
-    requires known { AreKnown (question_of Kind.Slither puzzle.now) partial.old.places scratch.old.known.items }
-    ensures deduced { IfOk result
-        (IsDeduced (question_of Kind.Slither puzzle.now) partial.old.places partial.new.places) }
-    ensures err { OnErr result (Narrows (question_of Kind.Slither puzzle.now) partial.old.places partial.new.places) }
-    ensures grows { Grows partial.old partial.new }
+    requires coloured { AreColoured puzzle.now partial.old.places colours.old }
+    requires known { AreKnown (question_of Kind.Slither puzzle.now) partial.old.places known.now }
+    ensures followed { IsFollowed puzzle.now partial.old partial.new colours.new result }
 {
-    let mark = partial.mark();
-    match set_known(puzzle, partial, &mut scratch.stack, &scratch.known)? {
+    stack.clear();
+    match set_known(puzzle, partial, colours, stack, known)? {
         Pass::Settled => return Ok(Pass::Settled),
         Pass::Dead => return Ok(Pass::Dead),
         Pass::Advanced => {}
     }
-    match follow_stack(puzzle, partial, &mut scratch.stack)? {
+    match follow_stack(puzzle, partial, colours, stack)? {
         Pass::Dead => Ok(Pass::Dead),
-        Pass::Settled | Pass::Advanced => {
-            closes_loop(puzzle, partial, mark, &mut scratch.ends);
-            scratch.ends.keep();
-            Ok(Pass::Advanced)
-        }
+        Pass::Settled | Pass::Advanced => Ok(Pass::Advanced),
     }
 }
 
-/// Tries both values at a side where it is open, and follows from what that tells.
+/// Tries both values at a side where it is open, and follows from what that tells; the sides beside what it set are then to try.
 fn try_side(
     alloc: Global,
     puzzle: &Puzzle,
@@ -349,39 +325,53 @@ fn try_side(
 ) -> Result<Pass, AllocError>
     requires kind { puzzle.now.kind ≡ Kind.Slither }
     requires partial { IsPartial (question_of Kind.Slither puzzle.now) partial.old.places }
+    requires coloured { AreColoured puzzle.now partial.old.places scratch.old.colours }
     requires side { side < length partial.old.places }
-    ensures deduced { IfOk result
-        (IsDeduced (question_of Kind.Slither puzzle.now) partial.old.places partial.new.places) }
-    ensures err { OnErr result (Narrows (question_of Kind.Slither puzzle.now) partial.old.places partial.new.places) }
-    ensures grows { Grows partial.old partial.new }
+    ensures followed { IsFollowed puzzle.now partial.old partial.new scratch.new.colours result }
 {
     if partial.get(side).is_some() {
         return Ok(Pass::Settled);
     }
     try_both(alloc, puzzle, partial, scratch, side)?;
-    conclude(puzzle, partial, scratch)
+    let mark = partial.mark();
+    let Scratch {
+        colours,
+        trial,
+        known,
+        queue,
+        ..
+    } = scratch;
+    let pass = set_and_follow(puzzle, partial, colours, &mut trial.stack, known)?;
+    queue.put_beside_all(puzzle.size(), partial.since(mark));
+    closes_loop(puzzle, partial, mark, &mut trial.ends);
+    trial.ends.keep();
+    Ok(pass)
 }
 
-/// Tries both values at each side that is open, and follows at once from what each trial tells.
-pub(crate) fn try_sides(
+/// Tries both values at each side that waits, and follows at once from what each trial tells.
+pub(crate) fn try_waiting(
     alloc: Global,
     puzzle: &Puzzle,
     partial: &mut Partial,
+    scratch: &mut Scratch,
 ) -> Result<Pass, AllocError>
     requires kind { puzzle.now.kind ≡ Kind.Slither }
     requires partial { IsPartial (question_of Kind.Slither puzzle.now) partial.old.places }
-    ensures deduced { IfOk result
-        (IsDeduced (question_of Kind.Slither puzzle.now) partial.old.places partial.new.places) }
-    ensures err { OnErr result (Narrows (question_of Kind.Slither puzzle.now) partial.old.places partial.new.places) }
-    ensures grows { Grows partial.old partial.new }
+    requires coloured { AreColoured puzzle.now partial.old.places scratch.old.colours }
+    ensures followed { IsFollowed puzzle.now partial.old partial.new scratch.new.colours result }
 {
-    let mut scratch = Scratch::new(alloc, puzzle, partial)?;
+    scratch.trial.ends.start_over(puzzle.size(), partial);
     let mut pass = Pass::Settled;
-    for side in 0..partial.len() {
-        match try_side(alloc, puzzle, partial, &mut scratch, side)? {
-            Pass::Settled => {}
-            Pass::Advanced => pass = Pass::Advanced,
-            Pass::Dead => return Ok(Pass::Dead),
+    for _ in 0..u64::MAX {
+        let Some(side) = scratch.queue.take() else {
+            break;
+        };
+        if side < partial.len() {
+            match try_side(alloc, puzzle, partial, scratch, side)? {
+                Pass::Settled => {}
+                Pass::Advanced => pass = Pass::Advanced,
+                Pass::Dead => return Ok(Pass::Dead),
+            }
         }
     }
     Ok(pass)

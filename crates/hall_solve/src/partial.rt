@@ -102,6 +102,14 @@ impl Partial {
         }
     }
 
+    /// The places that are set, in the order in which they were.
+    pub fn trail(&self) -> &[usize]
+        ensures trail { result.now ≡ self.now.trail }
+        ensures trailed { IsTrailed self.now }
+    {
+        &self.trail
+    }
+
     /// The places that were set since the trail was so long, in order.
     pub fn since(&self, mark: Mark) -> &[usize]
         requires { mark ≤ length self.now.trail }

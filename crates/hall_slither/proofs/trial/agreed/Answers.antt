@@ -1,7 +1,7 @@
 use Rattle.std.proofs.Common.{get_or, refl, subst, sym}
 use Rattle.std.specs.Prelude.{Contains}
 use Rattle.std.proofs.lemmas.List.Elements.{All-push}
-use Rattle.hall_slither.specs.declared.trial.Setting.{Setting}
+use Rattle.hall_slither.specs.declared.setting.Setting.{Setting}
 use Rattle.hall_slither.specs.Trial.{AreIn}
 use Rattle.hall_slither.proofs.Trials.{nowhere, contains_at}
 use Rattle.hall_slither.proofs.trial.agreed.Goals as goal
