@@ -5,7 +5,8 @@ use Rattle.std.proofs.lemmas.Bool.{cases_Bool, cases_eq, eq-eqb, eqb-true}
 use Rattle.hall_grid.specs.Board.{Board, IsBoard, cells}
 use Rattle.hall_grid.specs.declared.board.Kind.TheVariants.{Slither}
 use Rattle.hall_grid.specs.Slither.{all_sides, is_line}
-use Rattle.hall_solve.specs.Question.{Question, Solves, Keeps, IsHopeless}
+use Rattle.hall_solve.specs.Question.{Question, Solves, Keeps, IsHopeless, IsOpen}
+use Rattle.hall_solve.specs.Deduction.{IsForced}
 use Rattle.hall_solve.specs.Puzzle.{question_of}
 use Rattle.hall_solve.proofs.Boards.{Solves-keeps}
 use Rattle.hall_slither.specs.declared.colour.Link.{Link}
@@ -90,3 +91,18 @@ side_by_colours board p links f side differs kind is_board low told known s =
     sym (crossing board f side kind (size_of_board board kind is_board) s.right low) ∙ told (colour_of board.size f) (known.obeyed f s) in
     value_of (slice_index f side) differs (s.filling.in_range side low)
     (one_turned (is_line f side) differs (colour_of board.size f (cells_by board.size side).1) line)
+
+small_cond : (b : Bool) → cond b 1 0 < 2
+small_cond true = omega arith
+small_cond false = omega arith
+
+-- an open side whose value the colours tell
+pub forced_by_colours : (board : Board) (p : List (Option ℕ)) (links : List Link) (side a b value : ℕ) (differs : Bool) → board.kind ≡ Slither → IsBoard board
+    → side < all_sides board.size → IsOpen p side → (a, b) ≡ cells_by board.size side → ((colour : ℕ → Bool) → Obeys links colour → AreTurned differs a b colour)
+    → AreColoured board p links → value ≡ cond differs 1 0 → IsForced (question_of Slither board) p side value
+forced_by_colours board p links side a b value differs kind is_board low unset at told known is = record {
+  unset = unset;
+  in_range = let small = small_cond differs in omega arith;
+  forced = λ f s. side_by_colours board p links f side differs kind is_board low
+      (λ colour obeys. subst (λ (x : ℕ × ℕ). AreTurned differs x.0 x.1 colour) at (told colour obeys)) known s ∙ sym is;
+}

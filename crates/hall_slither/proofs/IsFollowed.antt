@@ -32,19 +32,22 @@ deduced_still : (q : Question) (a b c : List (Option ℕ)) (pass : Pass) → pas
 deduced_still q a b c pass alive h e = subst (λ p. IsDeduced q a p pass) (sym e) h
 
 -- nothing more was set
-pub IsFollowed-settled : {E : Type 0} (board : Board) (a b c : Trailed) (l m : List Link) (pass : Pass) → pass ≢ Dead
-    → IsFollowed {E = E} board a b l (Ok pass) → IsFollowed {E = E} board b c m (Ok Settled) → IsFollowed {E = E} board a c m (Ok pass)
-IsFollowed-settled board a b c l m pass alive first second = record {
+pub IsFollowed-settled : {E : Type 0} (board : Board) (a b c : Trailed) (l m : List Link) (pass next : Pass) → next ≡ Settled → pass ≢ Dead
+    → IsFollowed {E = E} board a b l (Ok pass) → IsFollowed {E = E} board b c m (Ok next) → IsFollowed {E = E} board a c m (Ok pass)
+IsFollowed-settled board a b c l m pass Settled is alive first second = record {
   deduced = deduced_still (question_of Slither board) a.places b.places c.places pass alive first.deduced second.deduced;
   err = tt;
   grows = Grows-twice a b c first.grows second.grows;
   coloured = second.coloured;
 }
+IsFollowed-settled board a b c l m pass Advanced is alive first second = absurd (cc)
+IsFollowed-settled board a b c l m pass Dead is alive first second = absurd (cc)
 
 -- more was set
-pub IsFollowed-advanced : {E : Type 0} (board : Board) (a b c : Trailed) (l m : List Link) (pass : Pass) → IsPartial (question_of Slither board) a.places → pass ≢ Dead
-    → IsFollowed {E = E} board a b l (Ok pass) → IsFollowed {E = E} board b c m (Ok Advanced) → IsFollowed {E = E} board a c m (Ok Advanced)
-IsFollowed-advanced board a b c l m pass partial alive first second =
+pub IsFollowed-advanced : {E : Type 0} (board : Board) (a b c : Trailed) (l m : List Link) (pass next : Pass) → next ≡ Advanced
+    → IsPartial (question_of Slither board) a.places → pass ≢ Dead → IsFollowed {E = E} board a b l (Ok pass) → IsFollowed {E = E} board b c m (Ok next)
+    → IsFollowed {E = E} board a c m (Ok Advanced)
+IsFollowed-advanced board a b c l m pass Advanced is partial alive first second =
     let narrows = Narrows-followed board a b l pass partial alive first in
     let le = open-narrows (question_of Slither board) a.places b.places partial narrows in
     let more = second.deduced in
@@ -54,15 +57,20 @@ IsFollowed-advanced board a b c l m pass partial alive first second =
       grows = Grows-twice a b c first.grows second.grows;
       coloured = second.coloured;
     }
+IsFollowed-advanced board a b c l m pass Settled is partial alive first second = absurd (cc)
+IsFollowed-advanced board a b c l m pass Dead is partial alive first second = absurd (cc)
 
-pub IsFollowed-dead : {E : Type 0} (board : Board) (a b c : Trailed) (l m : List Link) (pass : Pass) → IsPartial (question_of Slither board) a.places → pass ≢ Dead
-    → IsFollowed {E = E} board a b l (Ok pass) → IsFollowed {E = E} board b c m (Ok Dead) → IsFollowed {E = E} board a c m (Ok Dead)
-IsFollowed-dead board a b c l m pass partial alive first second = record {
+pub IsFollowed-dead : {E : Type 0} (board : Board) (a b c : Trailed) (l m : List Link) (pass next : Pass) → next ≡ Dead
+    → IsPartial (question_of Slither board) a.places → pass ≢ Dead → IsFollowed {E = E} board a b l (Ok pass) → IsFollowed {E = E} board b c m (Ok next)
+    → IsFollowed {E = E} board a c m (Ok Dead)
+IsFollowed-dead board a b c l m pass Dead is partial alive first second = record {
   deduced = hopeless_before (question_of Slither board) a.places b.places (Narrows-followed board a b l pass partial alive first) second.deduced;
   err = tt;
   grows = Grows-twice a b c first.grows second.grows;
   coloured = second.coloured;
 }
+IsFollowed-dead board a b c l m pass Settled is partial alive first second = absurd (cc)
+IsFollowed-dead board a b c l m pass Advanced is partial alive first second = absurd (cc)
 
 -- memory was refused
 pub IsFollowed-error : {E : Type 0} (board : Board) (a b : Trailed) (links : List Link) (r : Result Pass E) → IsErr r

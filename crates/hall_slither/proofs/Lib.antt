@@ -10,6 +10,7 @@ pub mod HaveEnds
 pub mod IsLayout
 pub mod LayoutQuestion
 pub mod AreSilent
+pub mod Turned
 pub mod Crossing
 pub mod AreColoured
 pub mod IsFollowed

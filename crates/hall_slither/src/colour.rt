@@ -54,14 +54,26 @@ pub(crate) fn cells_by(size: Size, side: usize) -> (usize, usize)
     let outside = size.cells();
     let flat_sides = size.flat_sides();
     if side < flat_sides {
-        let above = if side < size.cols { outside } else { side - size.cols };
+        let above = if side < size.cols {
+            outside
+        } else {
+            side - size.cols
+        };
         let below = if side < outside { side } else { outside };
         (above, below)
     } else {
         let row = (side - flat_sides) / (size.cols + 1);
         let col = (side - flat_sides) % (size.cols + 1);
-        let left = if col > 0 { row * size.cols + (col - 1) } else { outside };
-        let right = if col < size.cols { row * size.cols + col } else { outside };
+        let left = if col > 0 {
+            row * size.cols + (col - 1)
+        } else {
+            outside
+        };
+        let right = if col < size.cols {
+            row * size.cols + col
+        } else {
+            outside
+        };
         (left, right)
     }
 }
@@ -83,7 +95,11 @@ impl Colours {
     {
         self.links.clear();
         for cell in 0..count {
-            self.links.push(Link { to: cell, differs: false, weight: 1 })?;
+            self.links.push(Link {
+                to: cell,
+                differs: false,
+                weight: 1,
+            })?;
         }
         Ok(())
     }
@@ -102,6 +118,16 @@ impl Colours {
         ensures root { IfSome result (λ r. r.0 < length self.now) }
         ensures turned { IfSome result (λ r. (colour : ℕ → Bool) → Obeys self.now colour → AreTurned r.1 cell r.0 colour) }
     {
+        let mut at = cell;
+        let mut differs = false;
+        for _ in 0..self.links.len() {
+            let link = self.links[at];
+            if link.to == at {
+                return Some((at, differs));
+            }
+            differs = turned(link.differs, differs);
+            at = link.to;
+        }
         None
     }
 
@@ -114,7 +140,7 @@ impl Colours {
         let (root, first_differs) = self.root_of(first)?;
         let (other, second_differs) = self.root_of(second)?;
         if root == other {
-            Some(turned(first_differs, second_differs))
+            Some(turned(second_differs, first_differs))
         } else {
             None
         }
@@ -130,23 +156,42 @@ impl Colours {
         ensures contradicted { result ≡ false
             → (colour : ℕ → Bool) → Obeys self.old colour → AreTurned differs first second colour → ⊥ }
     {
-        let (Some((root, first_differs)), Some((other, second_differs))) =
-            (self.root_of(first), self.root_of(second))
-        else {
+        let (Some((root, first_differs)), Some((other, second_differs))) = (
+            self.root_of(first),
+            self.root_of(second),
+        ) else {
             return true;
         };
-        let apart = turned(differs, turned(first_differs, second_differs));
+        let apart = turned(second_differs, turned(differs, first_differs));
         if root == other {
             return !apart;
         }
-        let weight = self.links[root].weight.saturating_add(self.links[other].weight);
-        let (upper, lower) = if self.links[root].weight < self.links[other].weight {
-            (other, root)
+        if self.links[root].weight < self.links[other].weight {
+            self.hang(root, other, apart);
         } else {
-            (root, other)
-        };
-        self.links[lower] = Link { to: upper, differs: apart, weight: self.links[lower].weight };
-        self.links[upper].weight = weight;
+            self.hang(other, root, apart);
+        }
         true
+    }
+
+    /// Hangs a cell on another one.
+    fn hang(&mut self, lower: usize, upper: usize, differs: bool)
+        requires lower { lower < length self.old }
+        requires upper { upper < length self.old }
+        ensures size { length self.new ≡ length self.old }
+        ensures obeyed { (colour : ℕ → Bool) → Obeys self.old colour → AreTurned differs lower upper colour
+            → Obeys self.new colour }
+    {
+        let weight = self.links[lower].weight;
+        self.links[lower] = Link {
+            to: upper,
+            differs,
+            weight,
+        };
+        let link = self.links[upper];
+        self.links[upper] = Link {
+            weight: link.weight.saturating_add(weight),
+            ..link
+        };
     }
 }

@@ -33,11 +33,7 @@ fn push_cell(size: Size, cell: usize, stack: &mut Vec<Centre>) -> Result<(), All
 }
 
 /// Puts the dots and the cells at a side onto the stack.
-fn push_beside(
-    size: Size,
-    side: usize,
-    stack: &mut Vec<Centre>,
-) -> Result<(), AllocError>
+fn push_beside(size: Size, side: usize, stack: &mut Vec<Centre>) -> Result<(), AllocError>
     requires size { IsSize size }
     requires side { side < all_sides size }
     requires centres { All (IsCentre size) stack.old.items }

@@ -36,7 +36,12 @@ fn pass(
         Step::Live => {}
         Step::Dead => return Ok(Pass::Dead),
     }
-    match follow_all(puzzle, partial, &mut scratch.colours, &mut scratch.trial.stack)? {
+    match follow_all(
+        puzzle,
+        partial,
+        &mut scratch.colours,
+        &mut scratch.trial.stack,
+    )? {
         Pass::Settled => {}
         pass => return Ok(pass),
     }
@@ -69,7 +74,9 @@ fn settle(
         let mark = partial.mark();
         match pass(alloc, puzzle, partial, scratch)? {
             Pass::Settled => return Ok(Step::Live),
-            Pass::Advanced => scratch.queue.put_beside_all(puzzle.size(), partial.since(mark)),
+            Pass::Advanced => scratch
+                .queue
+                .put_beside_all(puzzle.size(), partial.since(mark)),
             Pass::Dead => return Ok(Step::Dead),
         }
     }
