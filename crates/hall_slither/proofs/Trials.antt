@@ -132,6 +132,10 @@ IsDeduced-advanced q a b c partial n h =
     let fewer = h.1 in
     (Narrows-twice q a b c n h.0, omega arith)
 
+pub OnErr-from : {T E : Type 0} (r : Result T E) (P : Type 0) → P → OnErr r P
+OnErr-from (Ok x) P h = tt
+OnErr-from (Err e) P h = h
+
 pub OnErr-after : {T E : Type 0} (q : Question) (a b c : List (Option ℕ)) (r : Result T E) → Narrows q a b → OnErr r (Narrows q b c) → OnErr r (Narrows q a c)
 OnErr-after q a b c (Ok x) n h = tt
 OnErr-after q a b c (Err x) n h = Narrows-twice q a b c n h

@@ -27,11 +27,12 @@ AreTurned-twice d e x y z colour first second = first ∙ ap (turned d) second �
 pub AreTurned-back : (d : Bool) (x y : ℕ) (colour : ℕ → Bool) → AreTurned d x y colour → AreTurned d y x colour
 AreTurned-back d x y colour h = sym (ap (turned d) h ∙ turned_twice d (colour y))
 
+unlike : (b : Bool) → b ≡ not b → ⊥
+unlike true e = cc
+unlike false e = cc
+
 pub unlike_itself : (d : Bool) (x : ℕ) (colour : ℕ → Bool) → not d ≡ false → AreTurned d x x colour → ⊥
-unlike_itself true x colour e h = unlike (colour x) h where
-  unlike : (b : Bool) → b ≡ not b → ⊥
-  unlike true e = (cc)
-  unlike false e = (cc)
+unlike_itself true x colour e h = unlike (colour x) h
 unlike_itself false x colour e h = absurd (cc)
 
 -- one link more that the colours follow

@@ -1,5 +1,5 @@
 //! Counts and colours followed from what changed: a stack of the dots and cells that are still to look at.
-ghost use Rattle.std.specs.Prelude.{◌≡◌, ◌≢◌, ℕ, ◌+◌, ◌<◌, ◌≤◌, All, IfOk, IfSome, OnOk, Some, false, length, slice_set};
+ghost use Rattle.std.specs.Prelude.{◌≡◌, ◌≢◌, ℕ, ◌+◌, ◌<◌, ◌≤◌, All, IfOk, IfSome, OnOk, Some, None, length, slice_index_or, slice_set};
 ghost use Rattle.hall_grid.specs.Board.{IsSize};
 ghost use Rattle.hall_grid.specs.Slither.{all_sides};
 ghost use Rattle.hall_solve.specs.Question.{IsPartial, IsOpen, IsHopeless};
@@ -48,6 +48,28 @@ fn push_beside(size: Size, side: usize, stack: &mut Vec<Centre>) -> Result<(), A
     push_cell(size, second, stack)
 }
 
+/// Learns what a side that is set says of colours, and whether that contradicts what is known.
+fn learn_side(
+    puzzle: &Puzzle,
+    partial: &Partial,
+    colours: &mut Colours,
+    setting: Setting,
+) -> Step
+    requires kind { puzzle.now.kind ≡ Kind.Slither }
+    requires partial { IsPartial (question_of Kind.Slither puzzle.now) partial.now.places }
+    requires coloured { AreColoured puzzle.now partial.now.places colours.old }
+    requires set { slice_index_or partial.now.places setting.side None ≡ Some setting.value }
+    ensures coloured { AreColoured puzzle.now partial.now.places colours.new }
+    ensures dead { result ≡ Step.Dead → IsHopeless (question_of Kind.Slither puzzle.now) partial.now.places }
+{
+    let (first, second) = cells_by(puzzle.size(), setting.side);
+    if colours.learn(first, second, setting.value == 1) {
+        Step::Live
+    } else {
+        Step::Dead
+    }
+}
+
 /// Sets an open side, learns what that says of colours, and puts the dots and cells at it onto the stack.
 pub(crate) fn set_and_learn(
     puzzle: &Puzzle,
@@ -70,15 +92,9 @@ pub(crate) fn set_and_learn(
     ensures centres { OnOk result (All (IsCentre puzzle.now.size) stack.new.items) }
     ensures few { OnOk result (length stack.new.items ≤ length stack.old.items + 4) }
 {
-    let size = puzzle.size();
     partial.set(setting.side, setting.value);
-    push_beside(size, setting.side, stack)?;
-    let (first, second) = cells_by(size, setting.side);
-    if colours.learn(first, second, setting.value == 1) {
-        Ok(Step::Live)
-    } else {
-        Ok(Step::Dead)
-    }
+    push_beside(puzzle.size(), setting.side, stack)?;
+    Ok(learn_side(puzzle, partial, colours, setting))
 }
 
 /// Sets an open side to the value that every solution has there.
@@ -271,13 +287,12 @@ pub(crate) fn learn_all(
     ensures dead { IfOk result (λ step. step ≡ Step.Dead
         → IsHopeless (question_of Kind.Slither puzzle.now) partial.now.places) }
 {
-    let size = puzzle.size();
-    colours.start_over(size.cells() + 1)?;
+    colours.start_over(puzzle.size().cells() + 1)?;
     for side in 0..partial.len() {
         if let Some(value) = partial.get(side) {
-            let (first, second) = cells_by(size, side);
-            if !colours.learn(first, second, value == 1) {
-                return Ok(Step::Dead);
+            match learn_side(puzzle, partial, colours, Setting { side, value }) {
+                Step::Live => {}
+                Step::Dead => return Ok(Step::Dead),
             }
         }
     }

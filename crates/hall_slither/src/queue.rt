@@ -32,7 +32,10 @@ impl Queue {
         requires size { IsSize size }
         requires exact { length partial.now.places ≡ all_sides size }
     {
-        while self.take().is_some() {}
+        self.sides.clear();
+        for side in 0..self.waits.len() {
+            self.waits[side] = false;
+        }
         match partial.trail().last() {
             Some(side) if !all => self.put_beside_all(size, &[*side]),
             _ => {

@@ -4,7 +4,7 @@ use Rattle.std.specs.Prelude.{is_none}
 use Rattle.std.proofs.lemmas.Bool.{cases_eq, cases_lt}
 use Rattle.std.proofs.lemmas.List.{get_or-set_same, get_or-set_other, get_or_past, length-set, same_lists, get_or_default}
 use Rattle.std.proofs.lemmas.List.Sums.{sum_by-set, sum_by-cons}
-use Rattle.hall_solve.specs.Question.{Question, IsSame, IsFilling, IsPartial, Extends, Keeps, Solves, Narrows, IsWhole, IsHopeless, open_places}
+use Rattle.hall_solve.specs.Question.{Question, IsSame, IsFilling, IsPartial, Extends, Keeps, Solves, Narrows, IsWhole, IsHopeless, IsOpen, open_places}
 use Rattle.hall_solve.specs.Deduction.{IsForced}
 
 -- the weight of a place in the count of those that are open
@@ -164,3 +164,8 @@ forced_after q start p place value whole n e =
       Narrows-twice q start p (set p place (Some value)) n (Narrows-forced q p place value n.partial e),
       omega (arith, open-set p place value e.unset.0 e.unset.1),
     )
+
+-- the best of the first n places so far: an open one, or none where all are set
+abbrev pub IsBest : List (Option ℕ) → ℕ → Option ℕ → Type 0
+IsBest p n None = (k : ℕ) → k < n → get_or p k None ≢ None
+IsBest p n (Some i) = IsOpen p i

@@ -1,0 +1,23 @@
+use Rattle.std.proofs.Common.{◌≡◌, Some, set, sym, subst}
+use Rattle.hall_grid.specs.declared.board.Kind.TheVariants.{Slither}
+use Rattle.hall_solve.specs.Question.{IsPartial}
+use Rattle.hall_solve.specs.Puzzle.{question_of}
+use Rattle.hall_solve.proofs.Boards.{IsPartial-set}
+use Rattle.hall_solve.proofs.Trails.{Grows-twice}
+use Rattle.hall_slither.specs.Trial.{IsStep}
+use Rattle.hall_slither.proofs.Trials.{IsStep-deduced}
+use Rattle.hall_slither.proofs.trial.follow_side.Goals as goal
+
+pub returns-in_ok-pass-in-Live-clause-grows : goal.returns-in_ok-pass-in-Live-clause-grows
+returns-in_ok-pass-in-Live-clause-grows c =
+    Grows-twice c.args.partial.now c.set_and_learn.new.partial c.follow_stack.new.partial c.set_and_learn.ensures.grows c.follow_stack.ensures.followed.grows
+
+pub returns-in_ok-pass-in-Live-clause-step : goal.returns-in_ok-pass-in-Live-clause-step
+returns-in_ok-pass-in-Live-clause-step c =
+    let q = question_of Slither c.args.puzzle.now in
+    let start = set c.args.partial.now.places c.args.setting.side (Some c.args.setting.value) in
+    subst (λ p. IsStep q p c.follow_stack.new.partial.places c.step_after.result) c.set_and_learn.ensures.places
+    (IsStep-deduced q c.set_and_learn.new.partial.places c.follow_stack.new.partial.places c.in_ok-pass-in-Live.pass c.step_after.result
+    (subst (IsPartial q) (sym c.set_and_learn.ensures.places)
+    (IsPartial-set q c.args.partial.now.places c.args.setting.side c.args.setting.value c.requires.side.0 c.requires.value c.requires.partial))
+    c.step_after.ensures c.in_ok-pass-in-Live.ensures.followed.deduced)

@@ -1,0 +1,23 @@
+use Rattle.std.proofs.Common.{Some, set, subst, refl}
+use Rattle.hall_grid.specs.declared.board.Kind.TheVariants.{Slither}
+use Rattle.hall_solve.specs.Trail.{Trailed}
+use Rattle.hall_solve.specs.declared.rules.Step.{Step}
+use Rattle.hall_solve.specs.Puzzle.{question_of}
+use Rattle.hall_slither.specs.Trial.{AreKnown, IsTried}
+use Rattle.hall_slither.proofs.Trials.{AreKnown-agreed}
+use Rattle.hall_slither.proofs.trial.try_both.Goals as goal
+
+pub returns-clause-known : goal.returns-clause-known
+returns-clause-known c =
+    let q = question_of Slither c.args.puzzle.now in
+    let p = c.args.partial.now.places in
+    let first = c.try_value.new.settings.items in
+    let second = c.try_value-2.new.settings.items in
+    let one : AreKnown q (set p c.args.side (Some 1)) first =
+    subst (λ (x : Step). IsTried q (set p c.args.side (Some 1)) first x) c.in-Live.is c.in_ok-try_value.ensures.tried in
+    let later : AreKnown q (set c.try_value.new.partial.places c.args.side (Some 0)) second =
+    subst (λ (x : Step). IsTried q (set c.try_value.new.partial.places c.args.side (Some 0)) second x) c.in-Live-2.is c.in_ok-try_value-2.ensures.tried in
+    let none : AreKnown q (set p c.args.side (Some 0)) second =
+    subst (λ (b : Trailed). AreKnown q (set b.places c.args.side (Some 0)) second) c.try_value.ensures.kept later in
+    AreKnown-agreed c.agreed.result q p c.args.side c.deref.result.now c.deref-2.result.now c.agreed.new.settings.items refl c.requires.partial c.requires.side.0
+    (rw c.deref.ensures.value one) (rw c.deref-2.ensures.value none) c.agreed.ensures
