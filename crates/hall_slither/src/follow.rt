@@ -49,12 +49,7 @@ fn push_beside(size: Size, side: usize, stack: &mut Vec<Centre>) -> Result<(), A
 }
 
 /// Learns what a side that is set says of colours, and whether that contradicts what is known.
-fn learn_side(
-    puzzle: &Puzzle,
-    partial: &Partial,
-    colours: &mut Colours,
-    setting: Setting,
-) -> Step
+fn learn_side(puzzle: &Puzzle, partial: &Partial, colours: &mut Colours, setting: Setting) -> Step
     requires kind { puzzle.now.kind ≡ Kind.Slither }
     requires partial { IsPartial (question_of Kind.Slither puzzle.now) partial.now.places }
     requires coloured { AreColoured puzzle.now partial.now.places colours.old }

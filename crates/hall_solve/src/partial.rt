@@ -104,10 +104,9 @@ impl Partial {
 
     /// The places that are set, in the order in which they were.
     pub fn trail(&self) -> &[usize]
-        ensures trail { result.now ≡ self.now.trail }
-        ensures trailed { IsTrailed self.now }
+        ensures { result.now ≡ self.now.trail }
     {
-        &self.trail
+        self.trail.as_slice()
     }
 
     /// The places that were set since the trail was so long, in order.

@@ -97,7 +97,7 @@ fn solves(rt: HostRuntime) -> Result<(), Fail> {
 /// Each row needs the deduction that it names, or a trial of a side.
 ///
 /// Without that, the sides that it adds stay open, or the board isn't found dead.
-const DEDUCTIONS: [(&str, &str, &str, &str); 14] = [
+const DEDUCTIONS: [(&str, &str, &str, &str); 15] = [
     (
         "a dot with one side left has no line",
         "slither/2/1/h",
@@ -176,6 +176,12 @@ const DEDUCTIONS: [(&str, &str, &str, &str); 14] = [
         "slither/3/3/p",
         "100100001001/110000000011",
         "dead",
+    ),
+    (
+        "cells of one colour have no line between them",
+        "slither/3/3/o",
+        "???0?00?0???/??0??????00?",
+        "???0?00?0???/?00??????00?",
     ),
 ];
 

@@ -16,7 +16,7 @@ pub returns-then-root-other-clause-contradicted : goal.returns-then-root-other-c
 returns-then-root-other-clause-contradicted c = λ no colour obeys told.
     let found = c.in-Some-Some in
     let apart = of_roots colour c.args.first c.args.second found.root found.other c.args.differs found.first_differs found.second_differs c.turned-apart.result told
-        (found.ensures.turned colour obeys) (found.ensures'.turned colour obeys) (c.turned-apart.ensures ∙ ap (turned found.second_differs) c.turned.ensures) in
+    (found.ensures.turned colour obeys) (found.ensures'.turned colour obeys) (c.turned-apart.ensures ∙ ap (turned found.second_differs) c.turned.ensures) in
     unlike_itself c.turned-apart.result found.root colour no (subst (λ x. AreTurned c.turned-apart.result found.root x colour) (sym c.if-root-other.true) apart)
 
 pub returns-then-index-clause-obeyed : goal.returns-then-index-clause-obeyed
