@@ -91,7 +91,7 @@ impl<'a> Rules for SudokuRules<'a> {
 
     fn branch_place(&self, partial: &Partial) -> Option<usize> {
         match candidates(&self.units, partial) {
-            Some(candidates) => fewest(&candidates, partial),
+            Some(candidates) => fewest(&self.units, &candidates, partial),
             None => partial.first_unset(),
         }
     }

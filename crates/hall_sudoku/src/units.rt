@@ -125,6 +125,16 @@ impl Units {
     {
         self.boxes[cell] as usize
     }
+
+    /// Whether the cells have a unit in common.
+    pub(crate) fn share(&self, cell: usize, other: usize) -> bool
+        requires cell { cell < cells self.now }
+        requires other { other < cells self.now }
+    {
+        self.rows[cell] == self.rows[other]
+            || self.columns[cell] == self.columns[other]
+            || self.boxes[cell] == self.boxes[other]
+    }
 }
 
 /// Each cell's unit.
