@@ -77,6 +77,7 @@ impl Units {
         ensures division { IsDivision self.now (row self.now) result.now }
         ensures sudoku { HasSize Kind.Sudoku self.now }
         ensures small { (cell : ℕ) → cell < length result.now → slice_index result.now cell < MOST_UNITS }
+        ensures below { (cell : ℕ) → cell < length result.now → slice_index result.now cell < self.now.cols }
     {
         &self.rows
     }
@@ -86,6 +87,7 @@ impl Units {
         ensures division { IsDivision self.now (col self.now) result.now }
         ensures sudoku { HasSize Kind.Sudoku self.now }
         ensures small { (cell : ℕ) → cell < length result.now → slice_index result.now cell < MOST_UNITS }
+        ensures below { (cell : ℕ) → cell < length result.now → slice_index result.now cell < self.now.cols }
     {
         &self.columns
     }
@@ -95,6 +97,7 @@ impl Units {
         ensures division { IsDivision self.now (box self.now) result.now }
         ensures sudoku { HasSize Kind.Sudoku self.now }
         ensures small { (cell : ℕ) → cell < length result.now → slice_index result.now cell < MOST_UNITS }
+        ensures below { (cell : ℕ) → cell < length result.now → slice_index result.now cell < self.now.cols }
     {
         &self.boxes
     }
