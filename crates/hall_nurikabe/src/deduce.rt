@@ -139,9 +139,10 @@ fn force_groups(
         return Ok(true);
     };
     part_groups(position, labels, &owners, forced);
-    if close_groups(position, labels, sizes, forced) {
+    if is_group_large(position, labels, sizes) {
         return Ok(true);
     }
+    force_walls_beside(position, labels, sizes, &owners, forced);
     let exits = exits_of(alloc, position, labels)?;
     let growing = growing_groups(alloc, position.puzzle, labels, sizes, &owners)?;
     Ok(force_exits(position, labels, &exits, WHITE, &growing, forced))
@@ -220,29 +221,18 @@ fn part_groups(
     }
 }
 
-/// Forces walls round full groups; tells whether a group is too large.
-fn close_groups(
-    position: &Position,
-    labels: &[Option<usize>],
-    sizes: &[usize],
-    forced: &mut [Option<u8>],
-) -> bool
-    requires groups { AreRegions position.now.puzzle.now.size (IsSetTo position.now.partial.now.places 0)
+/// Whether a group has more cells than its number says.
+fn is_group_large(position: &Position, labels: &[Option<usize>], sizes: &[usize]) -> bool
+    requires { AreRegions position.now.puzzle.now.size (IsSetTo position.now.partial.now.places 0)
         labels.now sizes.now }
-    requires forced { AreForced position.now.puzzle.now position.now.partial.now.places forced.old }
-    ensures dead { IsTrue result
+    ensures { IsTrue result
         → IsHopeless (question_of Nurikabe position.now.puzzle.now) position.now.partial.now.places }
-    ensures forced { AreForced position.now.puzzle.now position.now.partial.now.places forced.new }
 {
     for cell in 0..position.puzzle.cells() {
         if let Clue::Number(given) = position.puzzle.clue(cell) {
             if let Some(label) = labels[cell] {
-                let size = sizes[label];
-                if size > usize::from(given) {
+                if sizes[label] > usize::from(given) {
                     return true;
-                }
-                if size == usize::from(given) {
-                    force_walls_beside(position, labels, label, forced);
                 }
             }
         }

@@ -1,16 +1,17 @@
 //! Values that every solution has.
 ghost use Rattle.std.specs.Prelude.{◌≡◌, ℕ, ◌<◌, IsTrue, length, slice_index_or, None, Some};
-ghost use Rattle.hall_grid.specs.Board.{cells, IsSize};
+ghost use Rattle.hall_grid.specs.Board.{cells};
 ghost use Rattle.hall_grid.specs.Component.{IsLabelled};
 ghost use Rattle.hall_solve.specs.Question.{Question, IsPartial};
 ghost use Rattle.hall_solve.specs.Deduction.{HasAlways, IsSound};
 ghost use Rattle.hall_grid.specs.declared.board.Kind.TheVariants.{Nurikabe};
 ghost use Rattle.hall_solve.specs.Puzzle.{question_of};
-ghost use Rattle.hall_nurikabe.specs.Forced.{AreForced, IsBeside, with_forced};
+ghost use Rattle.hall_nurikabe.specs.Forced.{AreForced, AreOwners, AreRegions, IsBesideFull, IsFull, IsSetTo, with_forced};
+ghost use Rattle.hall_nurikabe.specs.Counts.{AreCells};
 
 use crate::judge::WALL;
 use crate::position::Position;
-use hall_grid::{Puzzle, Size, neighbours};
+use hall_grid::{Clue, Puzzle, neighbours};
 use hall_solve::{Finding, Look, Partial};
 use std::alloc::{AllocError, Global};
 
@@ -71,41 +72,64 @@ pub(crate) fn force_label(
     }
 }
 
-/// Whether a cell beside the cell has the label.
-fn is_beside(size: Size, labels: &[Option<usize>], cell: usize, label: usize) -> bool
-    requires size { IsSize size }
-    requires cell { cell < cells size }
-    requires labels { length labels.now ≡ cells size }
-    ensures { IsTrue result → IsBeside size labels.now cell label }
+/// Whether a group of white cells of this size is a whole island: its owner's number says that size.
+fn is_full(puzzle: &Puzzle, owner: Option<usize>, size: usize) -> bool
+    requires { (cell : ℕ) → owner ≡ Some cell → cell < cells puzzle.now.size }
+    ensures { IsTrue result → IsFull puzzle.now owner size }
 {
-    for place in neighbours(size, cell) {
+    match owner {
+        None => false,
+        Some(cell) => match puzzle.clue(cell) {
+            Clue::Number(given) => size == usize::from(given),
+            Clue::Unknown | Clue::Blank => false,
+        },
+    }
+}
+
+/// Whether a cell beside the cell is in a group that is a whole island.
+fn is_beside_full(
+    puzzle: &Puzzle,
+    labels: &[Option<usize>],
+    sizes: &[usize],
+    owners: &[Option<usize>],
+    cell: usize,
+) -> bool
+    requires cell { cell < cells puzzle.now.size }
+    requires exact { length labels.now ≡ cells puzzle.now.size }
+    requires labels { AreCells labels.now }
+    requires sizes { length sizes.now ≡ cells puzzle.now.size }
+    requires owners { AreOwners puzzle.now labels.now owners.now }
+    ensures { IsTrue result → IsBesideFull puzzle.now labels.now sizes.now owners.now cell }
+{
+    for place in neighbours(puzzle.size(), cell) {
         if let Some(other) = place {
-            if labels[other] == Some(label) {
-                return true;
+            if let Some(label) = labels[other] {
+                if is_full(puzzle, owners[label], sizes[label]) {
+                    return true;
+                }
             }
         }
     }
     false
 }
 
-/// Forces walls at the cells without a label that stand beside one with the label.
+/// Forces walls at the cells without a label that stand beside a whole island.
 pub(crate) fn force_walls_beside(
     position: &Position,
     labels: &[Option<usize>],
-    label: usize,
+    sizes: &[usize],
+    owners: &[Option<usize>],
     forced: &mut [Option<u8>],
 )
-    requires labels { length labels.now ≡ cells position.now.puzzle.now.size }
-    requires always { (cell : ℕ) → cell < cells position.now.puzzle.now.size
-        → slice_index_or labels.now cell None ≡ None
-        → IsBeside position.now.puzzle.now.size labels.now cell label
-        → HasAlways (question_of Nurikabe position.now.puzzle.now) position.now.partial.now.places cell 1 }
+    requires groups { AreRegions position.now.puzzle.now.size (IsSetTo position.now.partial.now.places 0)
+        labels.now sizes.now }
+    requires labels { AreCells labels.now }
+    requires owners { AreOwners position.now.puzzle.now labels.now owners.now }
     requires forced { AreForced position.now.puzzle.now position.now.partial.now.places forced.old }
     ensures { AreForced position.now.puzzle.now position.now.partial.now.places forced.new }
 {
-    let size = position.puzzle.size();
     for cell in 0..position.puzzle.cells() {
-        if labels[cell].is_none() && is_beside(size, labels, cell, label) {
+        if labels[cell].is_none() && is_beside_full(position.puzzle, labels, sizes, owners, cell) {
             forced[cell] = Some(WALL);
         }
     }

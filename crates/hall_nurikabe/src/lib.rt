@@ -2,6 +2,7 @@
 #![tactic(auto)]
 
 mod blocks;
+mod branch;
 mod colour;
 mod deduce;
 mod exits;

@@ -1,6 +1,7 @@
 //! The rules of a Nurikabe puzzle, as a search asks them.
 ghost use Rattle.std.specs.Prelude.{◌≡◌, IfOk};
 
+use crate::branch::next_cell;
 use crate::deduce::Deductions;
 use crate::judge::broken;
 use hall_grid::{Filling, Kind, Puzzle};
@@ -8,10 +9,11 @@ use hall_solve::{Partial, Rules, Step, settle};
 use std::alloc::{AllocError, Global};
 use std::marker::Model;
 
-/// The rules of one puzzle, and counts of what a search asked.
+/// The rules of one puzzle, the cell to try next, and counts of what a search asked.
 #[derive(Debug, Drop)]
 pub struct NurikabeRules<'a> {
     puzzle: &'a Puzzle,
+    next: Option<usize>,
     visits: u64,
     asked: u64,
 }
@@ -39,6 +41,7 @@ impl<'a> NurikabeRules<'a> {
     {
         NurikabeRules {
             puzzle,
+            next: None,
             visits: 0,
             asked: 0,
         }
@@ -76,12 +79,25 @@ impl<'a> Rules for NurikabeRules<'a> {
         let deductions = Deductions {
             puzzle: self.puzzle,
         };
-        settle(alloc, &deductions, partial)
+        match settle(alloc, &deductions, partial)? {
+            Step::Dead => Ok(Step::Dead),
+            Step::Live => {
+                self.next = next_cell(alloc, self.puzzle, partial)?;
+                Ok(Step::Live)
+            }
+        }
     }
 
     fn accepts(&mut self, alloc: Global, filling: &Filling) -> Result<bool, AllocError> {
         self.asked += 1;
         let broken = broken(alloc, self.puzzle, filling)?;
         Ok(broken.is_empty())
+    }
+
+    fn branch_place(&self, partial: &Partial) -> Option<usize> {
+        match self.next {
+            Some(cell) if cell < partial.len() && partial.get(cell).is_none() => Some(cell),
+            _ => partial.first_unset(),
+        }
     }
 }

@@ -76,6 +76,20 @@ fn greatest(values: &[usize]) -> usize
     most
 }
 
+/// The greatest of the numbers that are at most so much, 0 where there is none.
+fn greatest_within(values: &[usize], bound: usize) -> usize
+    ensures bound { result ≤ bound }
+    ensures none { (i : ℕ) → slice_index values.now i ≤ bound → slice_index values.now i ≤ result }
+{
+    let mut most = 0;
+    for value in values {
+        if *value <= bound {
+            most = most.max(*value);
+        }
+    }
+    most
+}
+
 /// What numbers have left in the marked cells that they reach by sides over marked cells.
 ///
 /// It is one less with each step, and 0 where none comes.
@@ -91,8 +105,8 @@ pub(crate) fn steps_left(
     let mut left = numbers(alloc, puzzle)?;
     let mut reach = greatest(&left);
     while reach > 0 {
-        reach -= 1;
-        raise_next(puzzle.size(), marks, &mut left, reach);
+        raise_next(puzzle.size(), marks, &mut left, reach - 1);
+        reach = greatest_within(&left, reach - 1);
     }
     Ok(left)
 }

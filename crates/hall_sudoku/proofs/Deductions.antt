@@ -36,7 +36,7 @@ module _ (size : Size) (unit : ℕ → ℕ) (at : ℕ → ℕ → ℕ) (u : IsUn
       differ h.cell h.other.cell (omega (arith, h.within, exact)) (omega (arith, h.other.within, exact)) ne (sym h.other.unit_is) (s.extends h.cell h.value h.value_is ∙ sym (s.extends h.other.cell h.value h.other.value_is))
 
   -- each value stands somewhere in each unit
-  stands : (a v : ℕ) → a < size.cols → v < size.cols → ((cell : ℕ) → cell < cells size → unit cell ≡ a → get_or f cell 0 ≢ v) → ⊥
+  pub stands : (a v : ℕ) → a < size.cols → v < size.cols → ((cell : ℕ) → cell < cells size → unit cell ≡ a → get_or f cell 0 ≢ v) → ⊥
   stands a v ha hv nowhere =
       no_value_missing size.cols (λ k. get_or f (at a k) 0)
       (λ k hk. s.filling.in_range (at a k) (u.within a k ha hk))

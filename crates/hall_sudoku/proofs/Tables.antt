@@ -22,7 +22,7 @@ read_has xs k d v lt = (
 pub read_is : (xs : List ℕ) (k x v : ℕ) → k < length xs → x ≡ get_or xs k x → Has (get_or xs k 0) v → Has x v
 read_is xs k x v lt e h = subst (λ y. Has y v) (sym e) ((read_has xs k x v lt).1 h)
 
-is_read : (xs : List ℕ) (k x v : ℕ) → k < length xs → x ≡ get_or xs k x → Has x v → Has (get_or xs k 0) v
+pub is_read : (xs : List ℕ) (k x v : ℕ) → k < length xs → x ≡ get_or xs k x → Has x v → Has (get_or xs k 0) v
 is_read xs k x v lt e h = (read_has xs k x v lt).0 (subst (λ y. Has y v) e h)
 
 -- a set of a table after a write, and a set that only grew

@@ -86,20 +86,45 @@ pub(crate) fn candidates(units: &Units, partial: &Partial) -> Option<[Values; MO
     Some(candidates)
 }
 
-/// The open cell with the fewest candidates.
-pub(crate) fn fewest(candidates: &[Values], partial: &Partial) -> Option<usize>
-    requires { length partial.now.places ≤ length candidates.now }
+/// How much is known round a cell: a count of the open cells of its units that may have one of its values, those with
+/// two values left five times.
+fn ties(units: &Units, candidates: &[Values], partial: &Partial, cell: usize) -> u32
+    requires exact { length partial.now.places ≡ cells units.now }
+    requires room { cells units.now ≤ length candidates.now }
+    requires cell { cell < cells units.now }
+{
+    let mut ties: u32 = 0;
+    for other in 0..partial.len() {
+        if partial.get(other).is_none() && units.share(cell, other) {
+            let left = candidates[other];
+            if !left.and(candidates[cell]).is_empty() {
+                ties = ties.saturating_add(if left.count() == 2 { 5 } else { 1 });
+            }
+        }
+    }
+    ties
+}
+
+/// The open cell with the fewest candidates; of those the one round which most is known.
+pub(crate) fn fewest(units: &Units, candidates: &[Values], partial: &Partial) -> Option<usize>
+    requires exact { length partial.now.places ≡ cells units.now }
+    requires room { cells units.now ≤ length candidates.now }
     ensures unset { IfSome result (IsOpen partial.now.places) }
     ensures whole { IfNone result (IsWhole partial.now.places) }
 {
     let mut best: Option<usize> = None;
     let mut fewest = u32::MAX;
+    let mut most = 0;
     for cell in 0..partial.len() {
         if partial.get(cell).is_none() {
             let count = candidates[cell].count();
-            if best.is_none() || count < fewest {
-                best = Some(cell);
-                fewest = count;
+            if best.is_none() || count <= fewest {
+                let ties = ties(units, candidates, partial, cell);
+                if best.is_none() || count < fewest || ties > most {
+                    best = Some(cell);
+                    fewest = count;
+                    most = ties;
+                }
             }
         }
     }

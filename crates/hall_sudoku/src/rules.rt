@@ -5,6 +5,7 @@ ghost use Rattle.hall_solve.specs.Question.{IsPartial};
 
 use crate::candidates::{candidates, fewest};
 use crate::judge::broken;
+use crate::narrow::narrow;
 use crate::units::Units;
 use hall_grid::{Clue, Filling, Kind, Puzzle};
 use hall_solve::{Partial, Rules, Step, settle};
@@ -91,7 +92,10 @@ impl<'a> Rules for SudokuRules<'a> {
 
     fn branch_place(&self, partial: &Partial) -> Option<usize> {
         match candidates(&self.units, partial) {
-            Some(candidates) => fewest(&candidates, partial),
+            Some(mut candidates) => {
+                let _ = narrow(&self.units, partial, &mut candidates);
+                fewest(&self.units, &candidates, partial)
+            }
             None => partial.first_unset(),
         }
     }

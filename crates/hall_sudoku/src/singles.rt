@@ -5,12 +5,13 @@ ghost use Rattle.hall_solve.specs.Question.{IsPartial, IsHopeless};
 ghost use Rattle.hall_solve.specs.Deduction.{HasAlways, IsDeduced};
 ghost use Rattle.hall_solve.specs.Trail.{Grows};
 ghost use Rattle.hall_sudoku.specs.Units.{units_question};
-ghost use Rattle.hall_sudoku.specs.Settled.{IsSettled};
+ghost use Rattle.hall_sudoku.specs.Settled.{HaveNoClash, IsSettled};
 ghost use Rattle.hall_sudoku.specs.Candidates.{AreCandidates, AreFilled, AreSeen, AreShared, AreAllShared, AreComplete};
 ghost use Rattle.hall_sudoku.specs.Candidates.{AreAllComplete, IsMissing, Lacks, LacksNothing};
 ghost use Rattle.hall_sudoku.specs.Candidates.{IsSole, HasNoSole, HaveNoSole};
 
 use crate::candidates::candidates;
+use crate::narrow::narrow;
 use crate::units::{MOST_UNITS, Units};
 use crate::values::Values;
 use hall_solve::{Deduce, Partial, Pass};
@@ -25,7 +26,7 @@ struct Shared {
 }
 
 /// The values that some cell of each unit may have, and those that several may have.
-fn seen_and_shared(
+pub(crate) fn seen_and_shared(
     units: &[u8],
     candidates: &[Values],
 ) -> ([Values; MOST_UNITS], [Values; MOST_UNITS])
@@ -148,18 +149,40 @@ fn set_soles(units: &Units, candidates: &[Values], shared: &Shared, partial: &mu
     pass
 }
 
+/// Sets each open cell whose value follows from one cell or one unit, or finds that there is no solution.
+fn soles(units: &Units, candidates: &[Values], partial: &mut Partial) -> Pass
+    requires room { cells units.now ≤ length candidates.now }
+    requires partial { IsPartial (units_question units.now) partial.old.places }
+    requires candidates { AreCandidates units.now partial.old.places candidates.now }
+    requires filled { AreFilled units.now candidates.now }
+    requires apart { HaveNoClash units.now partial.old.places }
+    ensures deduced { IsDeduced (units_question units.now) partial.old.places partial.new.places result }
+    ensures grows { Grows partial.old partial.new }
+    ensures settled { result ≡ Pass.Settled → IsSettled units.now partial.new.places }
+{
+    match all_shared(units, candidates, partial) {
+        Some(shared) => set_soles(units, candidates, &shared, partial),
+        None => Pass::Dead,
+    }
+}
+
 impl Deduce for Units {
     ghost question = { units_question };
 
     ghost settled = { IsSettled };
 
     fn pass(&self, _alloc: Global, partial: &mut Partial) -> Result<Pass, AllocError> {
-        let Some(candidates) = candidates(self, partial) else {
+        let Some(mut candidates) = candidates(self, partial) else {
             return Ok(Pass::Dead);
         };
-        let Some(shared) = all_shared(self, &candidates, partial) else {
-            return Ok(Pass::Dead);
-        };
-        Ok(set_soles(self, &candidates, &shared, partial))
+        match soles(self, &candidates, partial) {
+            Pass::Settled => {}
+            pass => return Ok(pass),
+        }
+        if narrow(self, partial, &mut candidates) {
+            Ok(soles(self, &candidates, partial))
+        } else {
+            Ok(Pass::Dead)
+        }
     }
 }

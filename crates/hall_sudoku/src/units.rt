@@ -77,6 +77,7 @@ impl Units {
         ensures division { IsDivision self.now (row self.now) result.now }
         ensures sudoku { HasSize Kind.Sudoku self.now }
         ensures small { (cell : ℕ) → cell < length result.now → slice_index result.now cell < MOST_UNITS }
+        ensures below { (cell : ℕ) → cell < length result.now → slice_index result.now cell < self.now.cols }
     {
         &self.rows
     }
@@ -86,6 +87,7 @@ impl Units {
         ensures division { IsDivision self.now (col self.now) result.now }
         ensures sudoku { HasSize Kind.Sudoku self.now }
         ensures small { (cell : ℕ) → cell < length result.now → slice_index result.now cell < MOST_UNITS }
+        ensures below { (cell : ℕ) → cell < length result.now → slice_index result.now cell < self.now.cols }
     {
         &self.columns
     }
@@ -95,6 +97,7 @@ impl Units {
         ensures division { IsDivision self.now (box self.now) result.now }
         ensures sudoku { HasSize Kind.Sudoku self.now }
         ensures small { (cell : ℕ) → cell < length result.now → slice_index result.now cell < MOST_UNITS }
+        ensures below { (cell : ℕ) → cell < length result.now → slice_index result.now cell < self.now.cols }
     {
         &self.boxes
     }
@@ -124,6 +127,16 @@ impl Units {
         ensures small { result < MOST_UNITS }
     {
         self.boxes[cell] as usize
+    }
+
+    /// Whether the cells have a unit in common.
+    pub(crate) fn share(&self, cell: usize, other: usize) -> bool
+        requires cell { cell < cells self.now }
+        requires other { other < cells self.now }
+    {
+        self.rows[cell] == self.rows[other]
+            || self.columns[cell] == self.columns[other]
+            || self.boxes[cell] == self.boxes[other]
     }
 }
 

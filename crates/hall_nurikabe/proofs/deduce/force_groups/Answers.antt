@@ -17,8 +17,11 @@ exits_of-requires-clause-labels c = AreCells-from_regions _ c.args.position.now.
 pub force_exits-requires-clause-growing : goal.force_exits-requires-clause-growing
 force_exits-requires-clause-growing c =
     let o = (rw c.in-Some.is at c.in_ok-owners.ensures) in
-    let g = (rw c.deref-2.ensures.value at c.in_ok-growing.ensures) in
-    rw c.deref-4.ensures.value
+    let g = (rw c.deref-3.ensures.value at c.in_ok-growing.ensures) in
+    rw c.deref-5.ensures.value
     (λ label h. let k = g.marked label h in
     group_grows c.args.position.now.puzzle.now c.args.position.now.kind c.args.position.now.partial.now.places c.args.position.now.fits
     c.args.position.now.clues c.args.labels.now c.args.sizes.now c.in-Some.owners.items c.requires.groups o label k.0 k.1)
+
+pub force_walls_beside-requires-clause-labels : goal.force_walls_beside-requires-clause-labels
+force_walls_beside-requires-clause-labels c = AreCells-from_regions _ c.args.position.now.puzzle.now.size _ _ c.requires.groups.components

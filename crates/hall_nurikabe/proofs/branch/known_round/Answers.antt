@@ -1,0 +1,29 @@
+use Rattle.std.proofs.Common.{◌<◌, subst, arith}
+use Rattle.hall_grid.specs.declared.board.Size.{Size}
+use Rattle.hall_grid.specs.Board.{cells}
+use Rattle.hall_grid.proofs.Labelling.{place_in}
+use Rattle.hall_nurikabe.proofs.branch.known_round.Goals as goal
+
+pub get-requires : goal.get-requires
+get-requires c =
+    let low : c.in-Some.other < cells c.size.result =
+    ((c.neighbours-place-items.ensures.touching c.in-Some.other).0
+    (place_in c.neighbours-place-items.result c.loop-place.place-index _ _ (omega arith) c.in-Some.is)).0 in
+    let here = subst (λ (s : Size). c.in-Some.other < cells s) c.size.ensures.size low in
+    omega (arith, here, c.args.position.now.fits.size)
+
+pub offset_bounds-labels-other : goal.offset_bounds-labels-other
+offset_bounds-labels-other c =
+    let low : c.in-Some.other < cells c.size.result =
+    ((c.neighbours-place-items.ensures.touching c.in-Some.other).0
+    (place_in c.neighbours-place-items.result c.loop-place.place-index _ _ (omega arith) c.in-Some.is)).0 in
+    let here = subst (λ (s : Size). c.in-Some.other < cells s) c.size.ensures.size low in
+    omega (arith, here, c.requires.exact)
+
+pub bounds : goal.bounds
+bounds c =
+    let low : c.in-Some.other < cells c.size.result =
+    ((c.neighbours-place-items.ensures.touching c.in-Some.other).0
+    (place_in c.neighbours-place-items.result c.loop-place.place-index _ _ (omega arith) c.in-Some.is)).0 in
+    let here = subst (λ (s : Size). c.in-Some.other < cells s) c.size.ensures.size low in
+    omega (arith, here, c.requires.exact)
