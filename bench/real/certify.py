@@ -1,30 +1,32 @@
 #!/usr/bin/env python3
-"""Measures `hall solve` and a SAT solver (Debian's `picosat`) on the boards of bench/real, in one run.
+"""Measures the search and a SAT solver (Debian's `picosat`) on the boards of bench/real, in one run.
 
-    python3 bench/real/certify.py [NAME ..]
+    python3 bench/real/certify.py [--program PROGRAM] [NAME ..]
 
-For each file NAME.txt of bench/real it prints how many boards the program certifies within its default budget, the mean and
-greatest time of the program and of the SAT solver, and the mean and greatest count of visits. The program's time is the best
-of three runs less the best of three with budget 0, which only start it and read the puzzle. The SAT solver's is what its
-library took to find the solution and that there is no other, with and without the adding of clauses, which is called from
-Python, one literal at a time; what Python takes to find the clauses isn't counted.
+PROGRAM is built from the sources in bench/real/program; without it, it is built and left in bench/real/program/out.
+
+For each file NAME.txt of bench/real it prints how many boards the search certifies within the default budget of `hall solve`,
+the mean and greatest time of the search and of the SAT solver, and the mean and greatest count of visits. The search's time is
+the processor time of the search alone, the least of three runs. The SAT solver's is what its library took to find the solution
+and that there is no other, with and without the adding of clauses, which is called from Python, one literal at a time; what
+Python takes to find the clauses isn't counted.
 """
+import argparse
 import os
 import subprocess
 import sys
-import time
 
 HERE = os.path.dirname(os.path.abspath(__file__))
 sys.path.insert(0, os.path.dirname(HERE))
+import built
 from real.nurikabe import Nurikabe
 from real.sat import Solver, search
 from real.slither import Slither
 from real.sudoku import Sudoku
 from real.text import numbers, sides
 
-PROGRAM = os.path.join(HERE, "..", "..", "crates", "hall", "out", "hall")
-BUDGET = 200000
 RUNS = 3
+STANDS_ON = ["hall_grid", "hall_solve", "hall_sudoku", "hall_slither", "hall_nurikabe"]
 
 
 def read(text):
@@ -54,62 +56,51 @@ def sat_times(text, answer):
     return 1000 * (solver.adding + solver.solving), 1000 * solver.solving
 
 
-def solve(text, budget):
-    began = time.perf_counter()
-    done = subprocess.run([PROGRAM, "solve", "--budget", str(budget)], input=text + "\n", capture_output=True, text=True)
-    return done.stdout.rstrip("\n"), time.perf_counter() - began
+def search_all(program, texts):
+    """For each puzzle text what the search finds, the values of its one solution, its visits and its milliseconds."""
+    done = subprocess.run([program], input="".join(text + "\n" for text in texts), capture_output=True, text=True, check=True)
+    rows = [line.split() for line in done.stdout.splitlines()]
+    return [(found, values.strip(",").split(","), int(visits), int(spent) / 1e6) for found, values, visits, spent in rows]
 
 
-def best(text, budget, runs=RUNS):
-    return min(solve(text, budget)[1] for _ in range(runs))
-
-
-def visits_of(text):
-    """The least budget with which the search comes to an end."""
-    low, high = 0, 1
-    while high < BUDGET and solve(text, high)[0] == "gave up":
-        low, high = high, min(2 * high, BUDGET)
-    while low + 1 < high:
-        middle = (low + high) // 2
-        if solve(text, middle)[0] == "gave up":
-            low = middle
-        else:
-            high = middle
-    return high
+def is_right(text, answer, said, values):
+    """Whether the search gave up or found the answer."""
+    return said == "gave-up" or (said == "one" and read(text)[0].answer([int(value) for value in values]) == answer)
 
 
 def mean(values):
     return sum(values) / len(values) if values else float("nan")
 
 
-def measure(name):
-    times, sat, solving, visits, certified, count = [], [], [], [], 0, 0
-    for line in open(os.path.join(HERE, name + ".txt")):
-        text, answer = line.split()
-        count += 1
-        said, first = solve(text, BUDGET)
-        both = sat_times(text, answer)
-        sat.append(both[0])
-        solving.append(both[1])
-        if said not in ("one " + answer, "gave up"):
+def measure(program, name):
+    with open(os.path.join(HERE, name + ".txt"), encoding="utf-8") as file:
+        boards = [line.split() for line in file]
+    runs = [search_all(program, [text for text, _ in boards]) for _ in range(RUNS)]
+    for (text, answer), (said, values, _, _) in zip(boards, runs[0]):
+        if not is_right(text, answer, said, values):
             raise SystemExit(f"WRONG {text} {said}")
-        certified += said != "gave up"
-        took = first if first > 1 else best(text, BUDGET)
-        times.append(1000 * max(took - best(text, 0), 0))
-        if said != "gave up" and first < 2:
-            visits.append(visits_of(text))
+    certified = sum(said == "one" for said, _, _, _ in runs[0])
+    visits = [count for _, _, count, _ in runs[0]]
+    times = [min(spent for _, _, _, spent in rows) for rows in zip(*runs)]
+    sat, solving = zip(*(sat_times(text, answer) for text, answer in boards))
     print(
-        f"{name:12} {certified:3} of {count:3}  {mean(times):9.1f} {max(times):9.1f} ms"
-        f"  SAT {mean(sat):8.1f} {max(sat):8.1f} ms, solving {mean(solving):7.1f} {max(solving):7.1f} ms  visits {mean(visits):8.1f} {max(visits, default=0):7}",
+        f"{name:12} {certified:3} of {len(boards):3}  {mean(times):9.2f} {max(times):9.2f} ms"
+        f"  SAT {mean(sat):8.1f} {max(sat):8.1f} ms, solving {mean(solving):7.1f} {max(solving):7.1f} ms"
+        f"  visits {mean(visits):8.1f} {max(visits):7}",
         flush=True,
     )
 
 
 def main():
-    names = sys.argv[1:] or sorted(name[:-4] for name in os.listdir(HERE) if name.endswith(".txt"))
+    parser = argparse.ArgumentParser(description="Measures the search and a SAT solver on the boards of bench/real.")
+    parser.add_argument("--program")
+    parser.add_argument("names", nargs="*")
+    words = parser.parse_args()
+    program = words.program or built.build("real_bench", os.path.join(HERE, "program"), STANDS_ON)
+    names = words.names or sorted(name[:-4] for name in os.listdir(HERE) if name.endswith(".txt"))
     print("(each time and count: the mean, and the greatest)")
     for name in names:
-        measure(name)
+        measure(program, name)
 
 
 main()

@@ -1,4 +1,4 @@
-use Rattle.std.proofs.Common.{◌<◌, ℕ, length, get_or, subst, arith, below_more}
+use Rattle.std.proofs.Common.{◌<◌, ℕ, length, get_or, arith, below_more}
 use Rattle.hall_sudoku.specs.Values.{Has}
 use Rattle.hall_sudoku.proofs.Tables.{is_read}
 use Rattle.hall_sudoku.proofs.narrow.all_filled.Goals as goal

@@ -1,4 +1,4 @@
-use Rattle.std.proofs.Common.{◌<◌, get_or, arith}
+use Rattle.std.proofs.Common.{get_or, arith}
 use Rattle.hall_sudoku.proofs.Sizes.{square_of}
 use Rattle.hall_sudoku.proofs.Confined.{confined_from}
 use Rattle.hall_sudoku.proofs.parts.Parts.confined.Goals as goal
