@@ -1,5 +1,5 @@
 #!/usr/bin/env python3
-"""Measures `./hall serve`: requests a second on one kept connection, beside a plain Python server over SQLite's own library.
+"""Measures `./hall serve`: requests a second on one kept connection, beside a plain Python server over SQLite's own library, asked by the same client (ask.c).
 
     python3 bench/serve.py [--requests N] [--answers N,N..]
 
@@ -7,7 +7,6 @@ For each number of answers that others have stored: ReadRound, Submit, Answers (
 (/dev/shm). The plain server reads and writes the same rows, with a sync for each answer, and judges nothing. The time of opening the file is told too.
 """
 import argparse
-import http.client
 import http.server
 import json
 import os
@@ -122,61 +121,67 @@ def free_port():
         return it.getsockname()[1]
 
 
-def connect(port):
+def record(method, path, key, body):
+    """The request's bytes, after a line with their number."""
+    text = f"{method} {path} HTTP/1.1\r\nHost: 127.0.0.1\r\nHall-Key: {key}\r\n"
+    text += "\r\n" if body is None else f"Content-Length: {len(body)}\r\n\r\n{body}"
+    return f"{len(text)}\n{text}"
+
+
+def rate(client, port, kind, count):
+    """Requests a second; each is answered 200."""
+    asked = "".join(record(*request) for request in requests(kind, count))
+    ran = subprocess.run([client, str(port)], input=asked.encode(), stdout=subprocess.PIPE, check=True)
+    return count * 1e9 / int(ran.stdout)
+
+
+def wait_for(port):
     for _ in range(3000):
         try:
-            conn = http.client.HTTPConnection("127.0.0.1", port, timeout=60)
-            conn.connect()
-            conn.sock.setsockopt(socket.IPPROTO_TCP, socket.TCP_NODELAY, 1)
-            return conn
+            return socket.create_connection(("127.0.0.1", port)).close()
         except ConnectionRefusedError:
             time.sleep(0.01)
     raise ConnectionRefusedError(port)
 
 
-def rate(port, kind, count):
-    """Requests a second; each is answered 200."""
-    asked = list(requests(kind, count))
-    begun = time.perf_counter()
-    for first in range(0, count, 1000):
-        conn = connect(port)
-        for method, path, key, body in asked[first:first + 1000]:
-            conn.request(method, path, body, {"Hall-Key": key})
-            reply = conn.getresponse()
-            told = reply.read()
-            if reply.status != 200:
-                sys.exit(f"{method} {path} was answered {reply.status}: {told[:200]}")
-        conn.close()
-    return count / (time.perf_counter() - begun)
-
-
 KINDS = ["ReadRound", "Answers", "Table", "Submit"]
 
 
-def of_hall(path, counts):
+def of_hall(client, path, counts):
     port = free_port()
     begun = time.perf_counter()
     server = subprocess.Popen([f"{ROOT}/hall", "serve", "--db", path, "--port", str(port)])
     try:
-        connect(port).close()
+        wait_for(port)
         opened = time.perf_counter() - begun
-        return opened, [rate(port, kind, count) for kind, count in zip(KINDS, counts)]
+        return opened, [rate(client, port, kind, count) for kind, count in zip(KINDS, counts)]
     finally:
         server.terminate()
         server.wait()
 
 
-def of_plain(path, counts):
+def of_plain(client, path, counts):
     Plain.conn = sqlite3.connect(path, check_same_thread=False)
     Plain.conn.execute("PRAGMA synchronous = FULL")
     server = http.server.HTTPServer(("127.0.0.1", 0), Plain)
     server.socket.setsockopt(socket.IPPROTO_TCP, socket.TCP_NODELAY, 1)
     threading.Thread(target=server.serve_forever, daemon=True).start()
-    rates = [rate(server.server_port, kind, count) for kind, count in zip(KINDS, counts)]
+    rates = [rate(client, server.server_port, kind, count) for kind, count in zip(KINDS, counts)]
     server.shutdown()
     server.server_close()
     Plain.conn.close()
     return rates
+
+
+def measure(client, where, folder, answers, count):
+    counts = [count, count, max(20, count // 10), count]
+    with tempfile.TemporaryDirectory(prefix="hall-bench-", dir=folder) as room:
+        fill(f"{room}/hall.db", answers)
+        fill(f"{room}/plain.db", answers)
+        opened, ours = of_hall(client, f"{room}/hall.db", counts)
+        plain = of_plain(client, f"{room}/plain.db", counts)
+        told = ", ".join(f"{kind} {one:.0f} ({one / other:.1f} times {other:.0f})" for kind, one, other in zip(KINDS, ours, plain))
+        print(f"{where}, {answers} answers: opened in {opened:.2f} s; a second: {told}", flush=True)
 
 
 def main():
@@ -184,16 +189,12 @@ def main():
     parser.add_argument("--requests", type=int, default=1000)
     parser.add_argument("--answers", default="100,10000,100000")
     args = parser.parse_args()
-    for where, folder in (("disk", None), ("memory", "/dev/shm")):
-        for answers in map(int, args.answers.split(",")):
-            counts = [args.requests, args.requests, max(20, args.requests // 10), args.requests]
-            with tempfile.TemporaryDirectory(prefix="hall-bench-", dir=folder) as room:
-                fill(f"{room}/hall.db", answers)
-                fill(f"{room}/plain.db", answers)
-                opened, ours = of_hall(f"{room}/hall.db", counts)
-                plain = of_plain(f"{room}/plain.db", counts)
-                told = ", ".join(f"{kind} {one:.0f} ({one / other:.1f} times {other:.0f})" for kind, one, other in zip(KINDS, ours, plain))
-                print(f"{where}, {answers} answers: opened in {opened:.2f} s; a second: {told}", flush=True)
+    with tempfile.TemporaryDirectory(prefix="hall-bench-") as tools:
+        client = f"{tools}/ask"
+        subprocess.run(["gcc", "-O2", "-o", client, f"{ROOT}/bench/ask.c"], check=True)
+        for where, folder in (("disk", None), ("memory", "/dev/shm")):
+            for answers in map(int, args.answers.split(",")):
+                measure(client, where, folder, answers, args.requests)
 
 
 if __name__ == "__main__":
