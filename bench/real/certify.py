@@ -1,7 +1,7 @@
 #!/usr/bin/env python3
 """Measures the search and a SAT solver (Debian's `picosat`) on the boards of bench/real, in one run.
 
-    python3 bench/real/certify.py [--program PROGRAM] [NAME ..]
+    python3 bench/real/certify.py [--program PROGRAM] [--instructions] [NAME ..]
 
 PROGRAM is built from the sources in bench/real/program; without it, it is built and left in bench/real/program/out.
 
@@ -9,7 +9,8 @@ For each file NAME.txt of bench/real it prints how many boards the search certif
 the mean and greatest time of the search and of the SAT solver, and the mean and greatest count of visits. The search's time is
 the processor time of the search alone, the least of three runs. The SAT solver's is what its library took to find the solution
 and that there is no other, with and without the adding of clauses, which is called from Python, one literal at a time; what
-Python takes to find the clauses isn't counted.
+Python takes to find the clauses isn't counted. With `--instructions` it also counts what the program executes for the first
+three boards of each file (`valgrind --tool=callgrind`), the reading of the puzzle among it: the same on every machine.
 """
 import argparse
 import os
@@ -63,6 +64,17 @@ def search_all(program, texts):
     return [(found, values.strip(",").split(","), int(visits), int(spent) / 1e6) for found, values, visits, spent in rows]
 
 
+def instructions(program, texts):
+    """How many millions of instructions the program executes for each of the puzzle texts, the mean."""
+    words = ["valgrind", "--tool=callgrind", "--callgrind-out-file=/dev/null", program]
+
+    def count(lines):
+        done = subprocess.run(words, input="".join(text + "\n" for text in lines), capture_output=True, text=True, check=True)
+        return next(int(line.split()[-1]) for line in done.stderr.splitlines() if "Collected" in line)
+
+    return (count(texts) - count([])) / len(texts) / 1e6
+
+
 def is_right(text, answer, said, values):
     """Whether the search gave up or found the answer."""
     return said == "gave-up" or (said == "one" and read(text)[0].answer([int(value) for value in values]) == answer)
@@ -72,7 +84,7 @@ def mean(values):
     return sum(values) / len(values) if values else float("nan")
 
 
-def measure(program, name):
+def measure(program, name, counts):
     with open(os.path.join(HERE, name + ".txt"), encoding="utf-8") as file:
         boards = [line.split() for line in file]
     runs = [search_all(program, [text for text, _ in boards]) for _ in range(RUNS)]
@@ -89,18 +101,21 @@ def measure(program, name):
         f"  visits {mean(visits):8.1f} {max(visits):7}",
         flush=True,
     )
+    if counts:
+        print(f"{'':12} {instructions(program, [text for text, _ in boards[:3]]):9.1f} million instructions a board", flush=True)
 
 
 def main():
     parser = argparse.ArgumentParser(description="Measures the search and a SAT solver on the boards of bench/real.")
     parser.add_argument("--program")
+    parser.add_argument("--instructions", action="store_true")
     parser.add_argument("names", nargs="*")
     words = parser.parse_args()
     program = words.program or built.build("real_bench", os.path.join(HERE, "program"), STANDS_ON)
     names = words.names or sorted(name[:-4] for name in os.listdir(HERE) if name.endswith(".txt"))
     print("(each time and count: the mean, and the greatest)")
     for name in names:
-        measure(program, name)
+        measure(program, name, words.instructions)
 
 
 main()
