@@ -19,7 +19,8 @@ abbrev pub crossed : Size → List ℕ → ℕ → ℕ → Bool
 crossed size f r zero = is_line f (upright_side size r 0)
 crossed size f r (suc c) = turned (is_line f (upright_side size r (suc c))) (crossed size f r c)
 
--- the colour of a cell: whether it lies inside the loop; the number after the last cell stands for all that is outside of the board
+-- the colour of a cell: whether it lies inside the loop; the number after the last cell stands for what is outside of
+-- the board
 abbrev pub colour_of : Size → List ℕ → ℕ → Bool
 colour_of size f cell = if nat_lt cell (cells size) then crossed size f (row size cell) (col size cell) else false
 

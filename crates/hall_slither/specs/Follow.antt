@@ -15,7 +15,8 @@ use Rattle.hall_slither.specs.Colour.{AreColoured}
 use Rattle.hall_slither.specs.Count.{IsCentre}
 
 -- what following made of a board, and what is then known of the colours, whatever it answered
-pub record IsFollowed {E : Type 0} (board : Board) (old new : Trailed) (links : List Link) (r : Result Pass E) : Type 0 where
+pub record IsFollowed {E : Type 0} (board : Board) (old new : Trailed) (links : List Link) (r : Result Pass E)
+    : Type 0 where
   pub deduced : IfOk r (IsDeduced (question_of Slither board) old.places new.places)
   pub err : OnErr r (Narrows (question_of Slither board) old.places new.places)
   pub grows : Grows old new

@@ -116,7 +116,8 @@ impl Colours {
     fn root_of(&self, cell: usize) -> Option<(usize, bool)>
         requires { cell < length self.now }
         ensures root { IfSome result (λ r. r.0 < length self.now) }
-        ensures turned { IfSome result (λ r. (colour : ℕ → Bool) → Obeys self.now colour → AreTurned r.1 cell r.0 colour) }
+        ensures turned { IfSome result
+            (λ r. (colour : ℕ → Bool) → Obeys self.now colour → AreTurned r.1 cell r.0 colour) }
     {
         let mut at = cell;
         let mut differs = false;

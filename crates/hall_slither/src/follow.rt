@@ -1,5 +1,6 @@
 //! Counts and colours followed from what changed: a stack of the dots and cells that are still to look at.
-ghost use Rattle.std.specs.Prelude.{◌≡◌, ◌≢◌, ℕ, ◌+◌, ◌<◌, ◌≤◌, All, IfOk, IfSome, OnOk, Some, None, length, slice_index_or, slice_set};
+ghost use Rattle.std.specs.Prelude.{◌≡◌, ◌≢◌, ℕ, ◌+◌, ◌<◌, ◌≤◌, All, IfOk, IfSome, OnOk, Some, None};
+ghost use Rattle.std.specs.Prelude.{length, slice_index_or, slice_set};
 ghost use Rattle.hall_grid.specs.Board.{IsSize};
 ghost use Rattle.hall_grid.specs.Slither.{all_sides};
 ghost use Rattle.hall_solve.specs.Question.{IsPartial, IsOpen, IsHopeless};
@@ -130,7 +131,8 @@ fn set_open(
     requires coloured { AreColoured puzzle.now partial.old.places colours.old }
     requires centres { All (IsCentre puzzle.now.size) stack.old.items }
     requires below { AreBelow (all_sides puzzle.now.size) sides.now }
-    requires told { IsTold (question_of Kind.Slither puzzle.now) partial.old.places sides.now (Consequence.AllBe value) }
+    requires told { IsTold (question_of Kind.Slither puzzle.now) partial.old.places sides.now
+        (Consequence.AllBe value) }
     ensures followed { IsFollowed puzzle.now partial.old partial.new colours.new result }
     ensures advanced { IfOk result (λ pass. pass ≢ Pass.Settled) }
     ensures centres { OnOk result (All (IsCentre puzzle.now.size) stack.new.items) }
@@ -225,8 +227,8 @@ fn push_all(size: Size, stack: &mut Vec<Centre>) -> Result<(), AllocError>
     Ok(())
 }
 
-/// Sets what the counts and the colours at the dots and cells of the stack say, until they say no more; that is all that any
-/// count says where all dots and cells are on the stack.
+/// Sets what the counts and the colours at the dots and cells of the stack say, until they say no more; that is all
+/// that any count says where all dots and cells are on the stack.
 pub(crate) fn follow_stack(
     puzzle: &Puzzle,
     partial: &mut Partial,

@@ -76,7 +76,7 @@ impl Queue {
     }
 
     /// Puts the sides into it that share a dot or a cell with a side.
-    pub(crate) fn put_beside(&mut self, size: Size, side: usize)
+    fn put_beside(&mut self, size: Size, side: usize)
         requires size { IsSize size }
         requires side { side < all_sides size }
     {

@@ -51,8 +51,9 @@ fn pass(
     }
 }
 
-/// Makes passes until nothing more follows. The sides beside what a pass set, or all where `all` says so, are tried.
-fn settle(
+/// Makes passes until nothing more follows. Tried are the sides beside the one that was set last, or all where `all`
+/// says so, and those beside what a pass sets.
+fn settle_sides(
     alloc: Global,
     puzzle: &Puzzle,
     partial: &mut Partial,
@@ -152,7 +153,7 @@ impl<'a> Rules for SlitherRules<'a> {
             Some(scratch) => scratch,
             None => Scratch::new(alloc, self.puzzle)?,
         };
-        let step = settle(alloc, self.puzzle, partial, &mut scratch, self.visits == 1);
+        let step = settle_sides(alloc, self.puzzle, partial, &mut scratch, self.visits == 1);
         self.scratch = Some(scratch);
         step
     }

@@ -1,4 +1,4 @@
-//! The memory that a search works in, taken once.
+//! The memory that a search works in, kept from visit to visit.
 ghost use Rattle.std.specs.Prelude.{◌≡◌, IfSome, IfNone};
 ghost use Rattle.hall_solve.specs.Question.{IsOpen, IsWhole};
 

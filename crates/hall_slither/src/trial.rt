@@ -146,21 +146,21 @@ fn try_value(
     alloc: Global,
     puzzle: &Puzzle,
     partial: &mut Partial,
-    known: &Colours,
+    colours_so_far: &Colours,
     trial: &mut Trial,
     settings: &mut Vec<Setting>,
     setting: Setting,
 ) -> Result<Step, AllocError>
     requires kind { puzzle.now.kind ≡ Kind.Slither }
     requires partial { IsPartial (question_of Kind.Slither puzzle.now) partial.old.places }
-    requires coloured { AreColoured puzzle.now partial.old.places known.now }
+    requires coloured { AreColoured puzzle.now partial.old.places colours_so_far.now }
     requires side { IsOpen partial.old.places setting.side }
     requires value { setting.value < 2 }
     ensures tried { IfOk result (IsTried (question_of Kind.Slither puzzle.now)
         (slice_set partial.old.places setting.side (Some setting.value)) settings.new.items) }
     ensures kept { partial.new ≡ partial.old }
 {
-    trial.colours.copy_from(known)?;
+    trial.colours.copy_from(colours_so_far)?;
     let mark = partial.mark();
     let Trial {
         stack,
@@ -315,7 +315,8 @@ fn set_and_follow(
     }
 }
 
-/// Tries both values at a side where it is open, and follows from what that tells; the sides beside what it set are then to try.
+/// Tries both values at a side where it is open, and follows from what that tells; the sides beside what it set are
+/// then to try.
 fn try_side(
     alloc: Global,
     puzzle: &Puzzle,

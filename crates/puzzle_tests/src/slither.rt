@@ -97,7 +97,7 @@ fn solves(rt: HostRuntime) -> Result<(), Fail> {
 /// Each row needs the deduction that it names, or a trial of a side.
 ///
 /// Without that, the sides that it adds stay open, or the board isn't found dead.
-const DEDUCTIONS: [(&str, &str, &str, &str); 15] = [
+const DEDUCTIONS: [(&str, &str, &str, &str); 17] = [
     (
         "a dot with one side left has no line",
         "slither/2/1/h",
@@ -182,6 +182,18 @@ const DEDUCTIONS: [(&str, &str, &str, &str); 15] = [
         "slither/3/3/o",
         "???0?00?0???/??0??????00?",
         "???0?00?0???/?00??????00?",
+    ),
+    (
+        "cells of two colours have a line between them",
+        "slither/3/3/o",
+        "???1?00?0???/??0??????00?",
+        "???100000???/?10??00??00?",
+    ),
+    (
+        "cells of one colour with a line between them",
+        "slither/3/3/o",
+        "???0?00?0???/?10??????00?",
+        "dead",
     ),
 ];
 

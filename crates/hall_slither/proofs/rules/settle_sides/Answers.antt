@@ -8,7 +8,7 @@ use Rattle.hall_solve.specs.declared.deduce.Pass.TheVariants.{Advanced}
 use Rattle.hall_solve.proofs.Boards.{Narrows-twice}
 use Rattle.hall_solve.proofs.Trails.{Grows-twice}
 use Rattle.hall_slither.proofs.Trials.{OnErr-from}
-use Rattle.hall_slither.proofs.rules.settle.Goals as goal
+use Rattle.hall_slither.proofs.rules.settle_sides.Goals as goal
 
 pub returns-in_err-pass-clause-err : goal.returns-in_err-pass-clause-err
 returns-in_err-pass-clause-err c =

@@ -2,7 +2,7 @@ use Rattle.hall_grid.specs.declared.board.Kind.TheVariants.{Slither}
 use Rattle.hall_solve.specs.Question.{Narrows, open_places}
 use Rattle.hall_solve.specs.Puzzle.{question_of}
 use Rattle.hall_solve.specs.Trail.{Grows}
-use Rattle.hall_slither.proofs.rules.settle.Given as goal
+use Rattle.hall_slither.proofs.rules.settle_sides.Given as goal
 
 abbrev pub decreases-settling : goal.decreases-settling
 decreases-settling l = open_places l.partial.places
