@@ -1,0 +1,30 @@
+//! Values that these tests are made of.
+use hall_policy::{Checked, TextKind, Within};
+use std::alloc::AllocGlobal;
+use std::process::Abort;
+
+pub(crate) fn text<K: TextKind>(rt: &(impl AllocGlobal + Abort), text: &str) -> Checked<K> {
+    let text = String::from_str(rt.alloc(), text).expect(rt, "memory");
+    Checked::new(text).expect(rt, "text")
+}
+
+pub(crate) fn number<const LEAST: u64, const MOST: u64>(
+    rt: &impl Abort,
+    n: u64,
+) -> Within<LEAST, MOST> {
+    Within::new(n).expect(rt, "number")
+}
+
+/// The bytes of a request: the key that is shown, the method and path, and the body.
+pub(crate) fn request(
+    rt: &(impl AllocGlobal + Abort),
+    key: &str,
+    line: &str,
+    body: &str,
+) -> String {
+    let request = format!(in rt.alloc();
+        "{line} HTTP/1.1\r\nHall-Key: {key}\r\nContent-Length: {}\r\n\r\n{body}",
+        body.len()
+    );
+    request.expect(rt, "memory")
+}
