@@ -55,3 +55,4 @@ pub mod AdoptLemmas
 pub mod FeedLemmas
 pub mod SelectedLemmas
 pub mod FeedListings
+pub mod Agrees

@@ -11,3 +11,4 @@ pub mod Places
 pub mod Scan
 pub mod Made
 pub mod Feed
+pub mod Cache

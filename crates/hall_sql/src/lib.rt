@@ -1,8 +1,10 @@
-//! The hall's world in SQL tables.
+//! The hall's world in SQL tables, and a cache before it.
 #![tactic(auto)]
 
 mod adopt;
 mod answers;
+mod cache;
+mod cached_store;
 mod calls;
 mod feed;
 mod make;
@@ -17,4 +19,5 @@ mod schema;
 mod sql_store;
 mod tables;
 
+pub use cached_store::CachedStore;
 pub use sql_store::SqlStore;

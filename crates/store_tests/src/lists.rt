@@ -1,9 +1,9 @@
-//! Lists of requests by chance: a hall over tables replies as one in maps does.
+//! Lists of requests by chance: a hall over tables replies as one in maps does, with a cache and without.
 use crate::opening::{Asked, MORNING, TEN, answered, open, routes};
 use crate::tables::empty_store;
 use hall_desk::Desk;
-use hall_http::Routes;
-use hall_sql::SqlStore;
+use hall_http::{Answer, Routes};
+use hall_sql::{CachedStore, SqlStore};
 use hall_store::MapStore;
 use sqlite::MemStore;
 use std::alloc::AllocGlobal;
@@ -526,26 +526,39 @@ fn pick_key(rt: &impl Abort, seed: &mut u64, usual: &'static str) -> &'static st
     }
 }
 
-/// The same hall twice.
+/// The same hall over each store.
 #[derive(Drop)]
 struct Halls {
     routes: Routes,
     maps: Desk<MapStore>,
     tables: Desk<SqlStore<MemStore>>,
+    cached: Desk<CachedStore<SqlStore<MemStore>>>,
 }
 
-fn open_both(rt: &(impl AllocGlobal + Abort)) -> Halls {
+fn open_all(rt: &(impl AllocGlobal + Abort)) -> Halls {
     let routes = routes(rt);
     let maps = open(rt, &routes, MapStore::new(rt.alloc()));
     let tables = open(rt, &routes, empty_store(rt));
+    let cached = open(
+        rt,
+        &routes,
+        CachedStore::new(rt.alloc(), empty_store(rt)),
+    );
     Halls {
         routes,
         maps,
         tables,
+        cached,
     }
 }
 
-/// Asks both halls the same, and sees that they reply the same.
+/// Sees that the reply is the wanted one.
+fn see_same(rt: &impl Abort, asked: &Asked, wanted: &Answer, found: &Answer) {
+    let is_same = wanted.as_bytes() == found.as_bytes();
+    assert!(rt; is_same, "{} of {} at {}", asked.2, asked.1, asked.0);
+}
+
+/// Asks all halls the same, and sees that they reply the same.
 fn ask(
     rt: &(impl AllocGlobal + Abort),
     halls: &mut Halls,
@@ -555,8 +568,9 @@ fn ask(
 ) {
     let wanted = answered(rt, &halls.routes, &mut halls.maps, asked);
     let found = answered(rt, &halls.routes, &mut halls.tables, asked);
-    let is_same = wanted.as_bytes() == found.as_bytes();
-    assert!(rt; is_same, "{} of {} at {}", asked.2, asked.1, asked.0);
+    see_same(rt, asked, &wanted, &found);
+    let found = answered(rt, &halls.routes, &mut halls.cached, asked);
+    see_same(rt, asked, &wanted, &found);
     note(counts, action, wanted.as_bytes());
 }
 
@@ -576,7 +590,7 @@ fn ask_any(
 
 /// Asks a list that the seed tells, and then the ending.
 fn ask_list(rt: &(impl AllocGlobal + Abort), counts: &mut Counts, seed: u64) {
-    let mut halls = open_both(rt);
+    let mut halls = open_all(rt);
     let mut seed = seed;
     for moments in &MOMENTS {
         for _ in 0..30 {
@@ -610,7 +624,7 @@ fn see_all(rt: &(impl AllocGlobal + Abort), counts: &Counts) {
 const SEEDS: [u64; 3] = [1, 2, 3];
 
 #[test]
-fn lists_of_requests_get_the_same_replies_from_both_stores(rt: HostRuntime) {
+fn lists_of_requests_get_the_same_replies_from_all_stores(rt: HostRuntime) {
     let mut counts = no_counts();
     for seed in SEEDS {
         ask_list(&rt, &mut counts, seed);

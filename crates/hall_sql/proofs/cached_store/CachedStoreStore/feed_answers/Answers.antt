@@ -1,0 +1,9 @@
+use Rattle.hall_store.specs.Store.{IsListing, is_in}
+use Rattle.hall_sql.proofs.Agrees.{fed_agrees}
+use Rattle.hall_sql.proofs.cached_store.CachedStoreStore.feed_answers.Goals as goal
+
+pub invariant_of-self : goal.invariant_of-self
+invariant_of-self g c =
+    fed_agrees c.feed_answers-told.result (g.S.Store.content c.self.inside.store) (g.S.Store.content c.feed_answers-told.new.self) c.self.inside.cache c.settle.new.self
+    g.K.AnswerSink.takes (λ world rows. IsListing world (is_in c.args.round.now) rows) c.args.sink.now c.feed_answers-told.new.sink
+    c.self.invariant c.feed_answers-told.ensures.kept c.feed_answers-told.ensures.fed c.settle.ensures.kept c.settle.ensures.forgot
