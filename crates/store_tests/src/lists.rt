@@ -539,11 +539,7 @@ fn open_all(rt: &(impl AllocGlobal + Abort)) -> Halls {
     let routes = routes(rt);
     let maps = open(rt, &routes, MapStore::new(rt.alloc()));
     let tables = open(rt, &routes, empty_store(rt));
-    let cached = open(
-        rt,
-        &routes,
-        CachedStore::new(rt.alloc(), empty_store(rt)),
-    );
+    let cached = open(rt, &routes, CachedStore::new(rt.alloc(), empty_store(rt)));
     Halls {
         routes,
         maps,
