@@ -46,7 +46,10 @@ same_alike v w same = record {
 holder_alike : (v w : World) → w.people ≡ v.people → (key : List ℕ) (found : Option Person) → IsKeyHolder v key found → IsKeyHolder w key found
 holder_alike v w same key found holds =
     let at = subst (λ (people : FinMap text_cmp Person). IsKeyHolder (record v { people = people }) key found) (sym same) (record {
-      found = holds.found; there = holds.there; alone = holds.alone; own = holds.own;
+      found = holds.found;
+      there = holds.there;
+      alone = holds.alone;
+      own = holds.own;
     }) in
     record { found = at.found; there = at.there; alone = at.alone; own = at.own }
 
@@ -125,9 +128,12 @@ Spares change = (world : World) → IsAlike world (changed change world)
 
 goes_made : {R : Type 0} (result : Result R StoreFault) (change : Change) (old new : Content) → Spares change → Makes change old new result
     → OnOk result ((new.honest → old.honest) × (new.honest → old.serves → new.serves × IsAlike old.world new.world))
-goes_made (Ok x) change old new spares makes = (makes.leads.honest, λ h s.
-    let made = makes.made h s in
-    (made.0, subst (IsAlike old.world) (sym made.1) (spares old.world)))
+goes_made (Ok x) change old new spares makes = (
+  makes.leads.honest,
+  λ h s.
+      let made = makes.made h s in
+      (made.0, subst (IsAlike old.world) (sym made.1) (spares old.world)),
+)
 goes_made (Err e) change old new spares makes = tt
 
 -- after a write that leaves people, rounds and puzzles

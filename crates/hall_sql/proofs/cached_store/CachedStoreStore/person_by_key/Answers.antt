@@ -17,7 +17,7 @@ invariant_of-self-in_default-found g c =
 pub invariant_of-self-in-Some-found : goal.invariant_of-self-in-Some-found
 invariant_of-self-in-Some-found g c =
     let settled = read_agrees c.person_by_key-told.result (g.S.Store.content c.self.inside.store) (g.S.Store.content c.person_by_key-told.new.self) c.self.inside.cache c.settle.new.self _
-        c.self.invariant c.person_by_key-told.ensures.kept c.person_by_key-told.ensures.served c.settle.ensures.kept c.settle.ensures.forgot in
+    c.self.invariant c.person_by_key-told.ensures.kept c.person_by_key-told.ensures.served c.settle.ensures.kept c.settle.ensures.forgot in
     noted_person (g.S.Store.content c.person_by_key-told.new.self) c.settle.new.self c.keep_person.new.self settled c.args.key.now c.in-Some-found.person
     c.keep_person.ensures.people c.keep_person.ensures.rounds c.keep_person.ensures.puzzles
     (found_stands c.person_by_key-told.result c.in_ok-found.found c.in-Some-found.person (g.S.Store.content c.person_by_key-told.new.self) (λ world found. IsKeyHolder world c.args.key.now found) c.in_ok-found.was c.in-Some-found.is c.person_by_key-told.ensures.served)

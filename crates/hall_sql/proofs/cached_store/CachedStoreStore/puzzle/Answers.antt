@@ -11,7 +11,7 @@ invariant_of-self-in_default-found g c =
 pub invariant_of-self-in-Some-found : goal.invariant_of-self-in-Some-found
 invariant_of-self-in-Some-found g c =
     let settled = read_agrees c.puzzle-told.result (g.S.Store.content c.self.inside.store) (g.S.Store.content c.puzzle-told.new.self) c.self.inside.cache c.settle.new.self _
-        c.self.invariant c.puzzle-told.ensures.kept c.puzzle-told.ensures.served c.settle.ensures.kept c.settle.ensures.forgot in
+    c.self.invariant c.puzzle-told.ensures.kept c.puzzle-told.ensures.served c.settle.ensures.kept c.settle.ensures.forgot in
     noted_puzzle (g.S.Store.content c.puzzle-told.new.self) c.settle.new.self c.keep_puzzle.new.self settled c.args.key.now c.in-Some-found.row
     c.keep_puzzle.ensures.puzzles c.keep_puzzle.ensures.people c.keep_puzzle.ensures.rounds
     (λ h. let it = (found_stands c.puzzle-told.result c.in_ok-found.found c.in-Some-found.row (g.S.Store.content c.puzzle-told.new.self) (λ world found. found ≡ get world.puzzles c.args.key.now) c.in_ok-found.was c.in-Some-found.is c.puzzle-told.ensures.served) h in (it.0, sym it.1))

@@ -17,7 +17,7 @@ invariant_of-self-in_default-found g c =
 pub invariant_of-self-in-Some-found : goal.invariant_of-self-in-Some-found
 invariant_of-self-in-Some-found g c =
     let settled = read_agrees c.round-told.result (g.S.Store.content c.self.inside.store) (g.S.Store.content c.round-told.new.self) c.self.inside.cache c.settle.new.self _
-        c.self.invariant c.round-told.ensures.kept c.round-told.ensures.served c.settle.ensures.kept c.settle.ensures.forgot in
+    c.self.invariant c.round-told.ensures.kept c.round-told.ensures.served c.settle.ensures.kept c.settle.ensures.forgot in
     noted_round (g.S.Store.content c.round-told.new.self) c.settle.new.self c.keep_round.new.self settled c.args.id.now c.in-Some-found.row
     c.keep_round.ensures.rounds c.keep_round.ensures.people c.keep_round.ensures.puzzles
     (found_stands c.round-told.result c.in_ok-found.found c.in-Some-found.row (g.S.Store.content c.round-told.new.self) (λ world found. IsRoundKept world c.args.id.now found) c.in_ok-found.was c.in-Some-found.is c.round-told.ensures.served)
