@@ -1,8 +1,6 @@
 -- A cache agrees with its store after each call.
-use Rattle.std.proofs.Common.{◌≡◌, ◌≢◌, ◌⊎◌, inl, inr, List, [], Option, Some, None, Result, Ok, Err, IfOk, OnOk, OnErr, refl, sym, ap, subst, ◌∙◌, ℕ}
-use Rattle.std.specs.Cmp.{IsTotalOrder}
+use Rattle.std.proofs.Common.{◌≡◌, ◌⊎◌, inl, inr, List, [], Option, Some, None, Result, Ok, Err, IfOk, OnOk, OnErr, refl, sym, ap, subst, ◌∙◌, ℕ}
 use Rattle.std.specs.declared.cmp.Ordering.{Ordering}
-use Rattle.std.specs.declared.cmp.Ordering.TheVariants.{Equal}
 use Rattle.std.specs.FinMap.{FinMap, IsAntisymmetric, get}
 use Rattle.std.specs.Map.{lookup}
 use Rattle.std.specs.BTreeMap as tree
@@ -15,9 +13,8 @@ use Rattle.hall_policy.specs.declared.record.RoundRow.{RoundRow}
 use Rattle.hall_policy.specs.declared.record.PuzzleKey.{PuzzleKey}
 use Rattle.hall_policy.specs.declared.record.PuzzleRow.{PuzzleRow}
 use Rattle.hall_policy.specs.declared.record.ProtestKey.{ProtestKey}
-use Rattle.hall_policy.specs.declared.record.ProtestRow.{ProtestRow}
 use Rattle.hall_policy.specs.declared.record.Ruling.{Ruling}
-use Rattle.hall_policy.proofs.Orders.{text_total, same_texts, puzzle_total, same_puzzle_keys}
+use Rattle.hall_policy.proofs.Orders.{same_texts, same_puzzle_keys}
 use Rattle.hall_store.specs.Caller.{IsKeyHolder}
 use Rattle.hall_store.specs.Change.{changed, with_ruling}
 use Rattle.hall_store.specs.Keyed.{Each}
@@ -192,3 +189,8 @@ module _ (content : Content) (before after : Cache) (agrees : Agrees content bef
     rounds = subst (λ (m : tree.BTreeMap (List ℕ) RoundRow). Each text_cmp m.entries (λ k x. Stands content (λ world. IsRoundKept world k (Some x)))) (sym rounds) agrees.rounds;
     puzzles = noted_each same_puzzle_keys before.puzzles after.puzzles key row _ noted stands agrees.puzzles;
   }
+
+-- after a look into the cache
+pub looked_agrees : (content : Content) (before after : Cache) → Agrees content before → (after ≡ before) ⊎ IsEmptied after → Agrees content after
+looked_agrees content before after agrees (inl same) = subst (Agrees content) (sym same) agrees
+looked_agrees content before after agrees (inr none) = empty_agrees content after none

@@ -1,5 +1,5 @@
 //! Copies of what a store told of people, rounds and puzzles.
-ghost use Rattle.std.specs.Prelude.{◌≡◌, ◌⊎◌, IfOk, OnErr};
+ghost use Rattle.std.specs.Prelude.{◌≡◌, ◌⊎◌, IfOk, IfSome, OnErr, Some};
 ghost use Rattle.std.specs.BTreeMap as tree;
 ghost use Rattle.hall_policy.specs.Text.{text_cmp};
 ghost use Rattle.hall_policy.specs.World.{puzzle_cmp};
@@ -10,8 +10,13 @@ use hall_store::StoreFault;
 use std::alloc::{AllocError, Global};
 use std::collections::BTreeMap;
 
-/// The most copies of a kind. Where one more comes, those of its kind are forgotten.
-const MOST: usize = 1000;
+/// The most copies of people, which is the most that an entry list has. Where one more comes, those of its kind are
+/// forgotten, here and below.
+const MOST_PEOPLE: usize = 5000;
+
+const MOST_ROUNDS: usize = 1000;
+
+const MOST_PUZZLES: usize = 1000;
 
 /// Copies of what a store told.
 #[derive(Drop)]
@@ -43,7 +48,7 @@ impl Cache {
     }
 
     /// Forgets all copies where the store refused a call: it may tell nothing any more.
-    pub(crate) fn settle<T>(&mut self, told: &Result<T, StoreFault>)
+    pub(crate) fn forget_if_refused<T>(&mut self, told: &Result<T, StoreFault>)
         ensures kept { IfOk told.now (λ _. self.new ≡ self.old) }
         ensures forgot { OnErr told.now (IsEmptied self.new) }
     {
@@ -52,64 +57,109 @@ impl Cache {
         }
     }
 
-    /// A copy of the person with the key.
-    pub(crate) fn person(&self, key: &Key) -> Result<Option<Person>, AllocError>
-        ensures { IfOk result (λ found. found ≡ tree.get text_cmp self.now.people key.now) }
+    /// A copy of the person with the key. Where there is no memory for it, all copies are forgotten, and there is none.
+    pub(crate) fn person(&mut self, key: &Key) -> Option<Person>
+        ensures found { IfSome result (λ found. tree.get text_cmp self.old.people key.now ≡ Some found) }
+        ensures kept { (self.new ≡ self.old) ⊎ IsEmptied self.new }
     {
-        match self.people.get(key) {
-            Some(person) => Ok(Some(person.clone()?)),
-            None => Ok(None),
+        match find_person(&self.people, key) {
+            Ok(found) => found,
+            Err(_) => {
+                self.clear();
+                None
+            }
         }
     }
 
-    /// A copy of the round.
-    pub(crate) fn round(&self, id: &RoundId) -> Result<Option<RoundRow>, AllocError>
-        ensures { IfOk result (λ found. found ≡ tree.get text_cmp self.now.rounds id.now) }
+    /// A copy of the round. Where there is no memory for it, all copies are forgotten, and there is none.
+    pub(crate) fn round(&mut self, id: &RoundId) -> Option<RoundRow>
+        ensures found { IfSome result (λ found. tree.get text_cmp self.old.rounds id.now ≡ Some found) }
+        ensures kept { (self.new ≡ self.old) ⊎ IsEmptied self.new }
     {
-        match self.rounds.get(id) {
-            Some(row) => Ok(Some(row.clone()?)),
-            None => Ok(None),
+        match find_round(&self.rounds, id) {
+            Ok(found) => found,
+            Err(_) => {
+                self.clear();
+                None
+            }
         }
     }
 
-    /// A copy of the puzzle.
-    pub(crate) fn puzzle(&self, key: &PuzzleKey) -> Result<Option<PuzzleRow>, AllocError>
-        ensures { IfOk result (λ found. found ≡ tree.get puzzle_cmp self.now.puzzles key.now) }
+    /// A copy of the puzzle. Where there is no memory for it, all copies are forgotten, and there is none.
+    pub(crate) fn puzzle(&mut self, key: &PuzzleKey) -> Option<PuzzleRow>
+        ensures found { IfSome result (λ found. tree.get puzzle_cmp self.old.puzzles key.now ≡ Some found) }
+        ensures kept { (self.new ≡ self.old) ⊎ IsEmptied self.new }
     {
-        match self.puzzles.get(key) {
-            Some(row) => Ok(Some(row.clone()?)),
-            None => Ok(None),
+        match find_puzzle(&self.puzzles, key) {
+            Ok(found) => found,
+            Err(_) => {
+                self.clear();
+                None
+            }
         }
     }
 
-    /// Keeps a copy of the person with the key. Refused, it keeps none.
+    /// Keeps a copy of the person with the key; an error is want of memory for it.
     pub(crate) fn keep_person(&mut self, key: &Key, person: &Person) -> Result<(), AllocError>
         ensures people { IsNoted text_cmp self.old.people self.new.people key.now person.now }
         ensures rounds { self.new.rounds ≡ self.old.rounds }
         ensures puzzles { self.new.puzzles ≡ self.old.puzzles }
     {
         let copy = person.clone()?;
-        note(&mut self.people, key.clone()?, copy)
+        note(&mut self.people, MOST_PEOPLE, key.clone()?, copy)
     }
 
-    /// Keeps a copy of the round. Refused, it keeps none.
+    /// Keeps a copy of the round; an error is want of memory for it.
     pub(crate) fn keep_round(&mut self, id: &RoundId, row: &RoundRow) -> Result<(), AllocError>
         ensures rounds { IsNoted text_cmp self.old.rounds self.new.rounds id.now row.now }
         ensures people { self.new.people ≡ self.old.people }
         ensures puzzles { self.new.puzzles ≡ self.old.puzzles }
     {
         let copy = row.clone()?;
-        note(&mut self.rounds, id.clone()?, copy)
+        note(&mut self.rounds, MOST_ROUNDS, id.clone()?, copy)
     }
 
-    /// Keeps a copy of the puzzle. Refused, it keeps none.
+    /// Keeps a copy of the puzzle; an error is want of memory for it.
     pub(crate) fn keep_puzzle(&mut self, key: &PuzzleKey, row: &PuzzleRow) -> Result<(), AllocError>
         ensures puzzles { IsNoted puzzle_cmp self.old.puzzles self.new.puzzles key.now row.now }
         ensures people { self.new.people ≡ self.old.people }
         ensures rounds { self.new.rounds ≡ self.old.rounds }
     {
-        let entry = entry_of(key, row)?;
-        note(&mut self.puzzles, entry.0, entry.1)
+        let (key, row) = entry_of(key, row)?;
+        note(&mut self.puzzles, MOST_PUZZLES, key, row)
+    }
+}
+
+fn find_person(people: &BTreeMap<Key, Person>, key: &Key) -> Result<Option<Person>, AllocError>
+    ensures { IfOk result (λ found. found ≡ tree.get text_cmp people.now key.now) }
+{
+    match people.get(key) {
+        Some(person) => Ok(Some(person.clone()?)),
+        None => Ok(None),
+    }
+}
+
+fn find_round(
+    rounds: &BTreeMap<RoundId, RoundRow>,
+    id: &RoundId,
+) -> Result<Option<RoundRow>, AllocError>
+    ensures { IfOk result (λ found. found ≡ tree.get text_cmp rounds.now id.now) }
+{
+    match rounds.get(id) {
+        Some(row) => Ok(Some(row.clone()?)),
+        None => Ok(None),
+    }
+}
+
+fn find_puzzle(
+    puzzles: &BTreeMap<PuzzleKey, PuzzleRow>,
+    key: &PuzzleKey,
+) -> Result<Option<PuzzleRow>, AllocError>
+    ensures { IfOk result (λ found. found ≡ tree.get puzzle_cmp puzzles.now key.now) }
+{
+    match puzzles.get(key) {
+        Some(row) => Ok(Some(row.clone()?)),
+        None => Ok(None),
     }
 }
 
@@ -120,24 +170,25 @@ fn entry_of(key: &PuzzleKey, row: &PuzzleRow) -> Result<(PuzzleKey, PuzzleRow), 
     Ok((key.clone()?, row.clone()?))
 }
 
-/// Forgets what the map has where it has the most.
-fn make_room<K: Ord + Drop, V: Drop>(map: &mut BTreeMap<K, V>)
+/// Forgets what the map has where it has so much.
+fn make_room<K: Ord + Drop, V: Drop>(map: &mut BTreeMap<K, V>, most: usize)
     ensures { (map.new ≡ map.old) ⊎ tree.IsEmpty map.new }
 {
-    if map.len() >= MOST {
+    if map.len() >= most {
         map.clear();
     }
 }
 
-/// Puts the value under the key. Refused, it puts none.
+/// Puts the value under the key of a map that is to have so much at the most; an error is want of memory for it.
 fn note<K: Ord + Drop, V: Drop>(
     map: &mut BTreeMap<K, V>,
+    most: usize,
     key: K,
     value: V,
 ) -> Result<(), AllocError>
     ensures { IsNoted K.cmp map.old map.new key value }
 {
-    make_room(map);
+    make_room(map, most);
     map.insert(key, value)?;
     Ok(())
 }

@@ -9,7 +9,11 @@ use hall_store::{RoundFlag, Store, StoreFault};
 use std::alloc::Global;
 use std::marker::Model;
 
-/// A store, and copies of what it told of people, rounds and puzzles.
+/// A store, and copies of what it told: of people by key, of rounds by id, and of puzzles. A read that finds a copy asks
+/// the store nothing.
+///
+/// There are at most 5,000 copies of people, and 1,000 of either other kind. All are forgotten before a write that may
+/// change one, and where the store refuses a call, which may have shut it.
 #[derive(Drop)]
 pub struct CachedStore<S: Store> {
     store: S,
@@ -46,13 +50,14 @@ impl<S: Store> Store for CachedStore<S> {
     ghost can_fail = { S.can_fail };
 
     fn person_by_key(&mut self, alloc: Global, key: &Key) -> Result<Option<Person>, StoreFault> {
-        if let Some(person) = self.cache.person(key)? {
+        if let Some(person) = self.cache.person(key) {
             return Ok(Some(person));
         }
         let told = self.store.person_by_key(alloc, key);
-        self.cache.settle(&told);
+        self.cache.forget_if_refused(&told);
         let found = told?;
         if let Some(person) = &found {
+            // Without memory for it, there is no copy.
             let _ = self.cache.keep_person(key, person);
         }
         Ok(found)
@@ -60,7 +65,7 @@ impl<S: Store> Store for CachedStore<S> {
 
     fn person(&mut self, alloc: Global, name: &Name) -> Result<Option<Person>, StoreFault> {
         let told = self.store.person(alloc, name);
-        self.cache.settle(&told);
+        self.cache.forget_if_refused(&told);
         told
     }
 
@@ -70,13 +75,14 @@ impl<S: Store> Store for CachedStore<S> {
     }
 
     fn puzzle(&mut self, alloc: Global, key: &PuzzleKey) -> Result<Option<PuzzleRow>, StoreFault> {
-        if let Some(row) = self.cache.puzzle(key)? {
+        if let Some(row) = self.cache.puzzle(key) {
             return Ok(Some(row));
         }
         let told = self.store.puzzle(alloc, key);
-        self.cache.settle(&told);
+        self.cache.forget_if_refused(&told);
         let found = told?;
         if let Some(row) = &found {
+            // Without memory for it, there is no copy.
             let _ = self.cache.keep_puzzle(key, row);
         }
         Ok(found)
@@ -84,19 +90,19 @@ impl<S: Store> Store for CachedStore<S> {
 
     fn puzzles_of(&mut self, alloc: Global, author: &Name) -> Result<Vec<PuzzleRow>, StoreFault> {
         let told = self.store.puzzles_of(alloc, author);
-        self.cache.settle(&told);
+        self.cache.forget_if_refused(&told);
         told
     }
 
     fn all_puzzles(&mut self, alloc: Global) -> Result<Vec<PuzzleRow>, StoreFault> {
         let told = self.store.all_puzzles(alloc);
-        self.cache.settle(&told);
+        self.cache.forget_if_refused(&told);
         told
     }
 
     fn puzzles_put(&mut self, alloc: Global, author: &Name) -> Result<u64, StoreFault> {
         let told = self.store.puzzles_put(alloc, author);
-        self.cache.settle(&told);
+        self.cache.forget_if_refused(&told);
         told
     }
 
@@ -116,13 +122,14 @@ impl<S: Store> Store for CachedStore<S> {
     }
 
     fn round(&mut self, alloc: Global, id: &RoundId) -> Result<Option<RoundRow>, StoreFault> {
-        if let Some(row) = self.cache.round(id)? {
+        if let Some(row) = self.cache.round(id) {
             return Ok(Some(row));
         }
         let told = self.store.round(alloc, id);
-        self.cache.settle(&told);
+        self.cache.forget_if_refused(&told);
         let found = told?;
         if let Some(row) = &found {
+            // Without memory for it, there is no copy.
             let _ = self.cache.keep_round(id, row);
         }
         Ok(found)
@@ -130,7 +137,7 @@ impl<S: Store> Store for CachedStore<S> {
 
     fn rounds(&mut self, alloc: Global) -> Result<Vec<Round>, StoreFault> {
         let told = self.store.rounds(alloc);
-        self.cache.settle(&told);
+        self.cache.forget_if_refused(&told);
         told
     }
 
@@ -151,13 +158,13 @@ impl<S: Store> Store for CachedStore<S> {
 
     fn rounds_using(&mut self, alloc: Global, key: &PuzzleKey) -> Result<Vec<RoundId>, StoreFault> {
         let told = self.store.rounds_using(alloc, key);
-        self.cache.settle(&told);
+        self.cache.forget_if_refused(&told);
         told
     }
 
     fn answer(&mut self, alloc: Global, key: &AnswerKey) -> Result<Option<AnswerRow>, StoreFault> {
         let told = self.store.answer(alloc, key);
-        self.cache.settle(&told);
+        self.cache.forget_if_refused(&told);
         told
     }
 
@@ -169,7 +176,7 @@ impl<S: Store> Store for CachedStore<S> {
         number: PuzzleNumber,
     ) -> Result<u64, StoreFault> {
         let told = self.store.answers_given(alloc, entrant, round, number);
-        self.cache.settle(&told);
+        self.cache.forget_if_refused(&told);
         told
     }
 
@@ -182,7 +189,7 @@ impl<S: Store> Store for CachedStore<S> {
         n: AnswerNumber,
     ) -> Result<bool, StoreFault> {
         let told = self.store.is_number_taken(alloc, entrant, round, number, n);
-        self.cache.settle(&told);
+        self.cache.forget_if_refused(&told);
         told
     }
 
@@ -193,19 +200,19 @@ impl<S: Store> Store for CachedStore<S> {
         round: &RoundId,
     ) -> Result<Vec<AnswerRow>, StoreFault> {
         let told = self.store.answers_of(alloc, entrant, round);
-        self.cache.settle(&told);
+        self.cache.forget_if_refused(&told);
         told
     }
 
     fn answers_in(&mut self, alloc: Global, round: &RoundId) -> Result<Vec<AnswerRow>, StoreFault> {
         let told = self.store.answers_in(alloc, round);
-        self.cache.settle(&told);
+        self.cache.forget_if_refused(&told);
         told
     }
 
     fn add_answer(&mut self, alloc: Global, row: AnswerRow) -> Result<(), StoreFault> {
         let told = self.store.add_answer(alloc, row);
-        self.cache.settle(&told);
+        self.cache.forget_if_refused(&told);
         told
     }
 
@@ -216,7 +223,7 @@ impl<S: Store> Store for CachedStore<S> {
         sink: &mut K,
     ) -> Result<(), StoreFault> {
         let told = self.store.feed_answers(alloc, round, sink);
-        self.cache.settle(&told);
+        self.cache.forget_if_refused(&told);
         told
     }
 
@@ -227,7 +234,7 @@ impl<S: Store> Store for CachedStore<S> {
         round: &RoundId,
     ) -> Result<bool, StoreFault> {
         let told = self.store.has_answered(alloc, entrant, round);
-        self.cache.settle(&told);
+        self.cache.forget_if_refused(&told);
         told
     }
 
@@ -237,7 +244,7 @@ impl<S: Store> Store for CachedStore<S> {
         key: &ProtestKey,
     ) -> Result<Option<ProtestRow>, StoreFault> {
         let told = self.store.protest(alloc, key);
-        self.cache.settle(&told);
+        self.cache.forget_if_refused(&told);
         told
     }
 
@@ -248,13 +255,13 @@ impl<S: Store> Store for CachedStore<S> {
         round: &RoundId,
     ) -> Result<u64, StoreFault> {
         let told = self.store.protests_made(alloc, entrant, round);
-        self.cache.settle(&told);
+        self.cache.forget_if_refused(&told);
         told
     }
 
     fn has_open_protest(&mut self, alloc: Global, round: &RoundId) -> Result<bool, StoreFault> {
         let told = self.store.has_open_protest(alloc, round);
-        self.cache.settle(&told);
+        self.cache.forget_if_refused(&told);
         told
     }
 
@@ -265,7 +272,7 @@ impl<S: Store> Store for CachedStore<S> {
         round: &RoundId,
     ) -> Result<Vec<ProtestRow>, StoreFault> {
         let told = self.store.protests_of(alloc, entrant, round);
-        self.cache.settle(&told);
+        self.cache.forget_if_refused(&told);
         told
     }
 
@@ -275,13 +282,13 @@ impl<S: Store> Store for CachedStore<S> {
         round: &RoundId,
     ) -> Result<Vec<ProtestRow>, StoreFault> {
         let told = self.store.protests_in(alloc, round);
-        self.cache.settle(&told);
+        self.cache.forget_if_refused(&told);
         told
     }
 
     fn add_protest(&mut self, alloc: Global, row: ProtestRow) -> Result<(), StoreFault> {
         let told = self.store.add_protest(alloc, row);
-        self.cache.settle(&told);
+        self.cache.forget_if_refused(&told);
         told
     }
 
@@ -292,7 +299,7 @@ impl<S: Store> Store for CachedStore<S> {
         ruling: Ruling,
     ) -> Result<(), StoreFault> {
         let told = self.store.rule_protest(alloc, key, ruling);
-        self.cache.settle(&told);
+        self.cache.forget_if_refused(&told);
         told
     }
 
@@ -303,7 +310,7 @@ impl<S: Store> Store for CachedStore<S> {
         sink: &mut K,
     ) -> Result<(), StoreFault> {
         let told = self.store.feed_protests(alloc, round, sink);
-        self.cache.settle(&told);
+        self.cache.forget_if_refused(&told);
         told
     }
 }

@@ -4,6 +4,6 @@ use Rattle.hall_sql.proofs.cached_store.CachedStoreStore.feed_answers.Goals as g
 
 pub invariant_of-self : goal.invariant_of-self
 invariant_of-self g c =
-    fed_agrees c.feed_answers-told.result (g.S.Store.content c.self.inside.store) (g.S.Store.content c.feed_answers-told.new.self) c.self.inside.cache c.settle.new.self
+    fed_agrees c.feed_answers-told.result (g.S.Store.content c.self.inside.store) (g.S.Store.content c.feed_answers-told.new.self) c.self.inside.cache c.forget_if_refused.new.self
     g.K.AnswerSink.takes (λ world rows. IsListing world (is_in c.args.round.now) rows) c.args.sink.now c.feed_answers-told.new.sink
-    c.self.invariant c.feed_answers-told.ensures.kept c.feed_answers-told.ensures.fed c.settle.ensures.kept c.settle.ensures.forgot
+    c.self.invariant c.feed_answers-told.ensures.kept c.feed_answers-told.ensures.fed c.forget_if_refused.ensures.kept c.forget_if_refused.ensures.forgot
