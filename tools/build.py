@@ -7,32 +7,26 @@ Run by ./hall. All that the kit says goes to build.log; what this prints goes to
 """
 import glob
 import os
+import shutil
 import subprocess
 import sys
+import threading
 import time
+
+sys.path.insert(0, os.path.dirname(os.path.realpath(shutil.which("rt") or "rt")))
+import rtlib  # noqa: E402
 
 ROOT = os.path.dirname(os.path.dirname(os.path.realpath(__file__)))
 LOG = f"{ROOT}/build.log"
 PROGRAM = f"{ROOT}/crates/hall/out/hall"
 MEMORY_OF_ONE = 3 << 30
 EVERY = 15
-# A crate has few functions to prove at its end, and the next one then takes the processors.
-SIDE_BY_SIDE = 2
+# More processors than this hardly shorten the proof of one crate.
+MOST_OF_ONE = 4
 
 
 def tell(text):
     print(f"hall: {text}", file=sys.stderr, flush=True)
-
-
-def needed():
-    """The crates that the program stands on, and it, in the order of crates.txt: each after those that it stands on itself, which are its value."""
-    with open(f"{ROOT}/crates.txt", encoding="utf-8") as file:
-        lines = [line.partition("#")[0].partition(":") for line in file]
-    stands_on = {name.split()[0]: below.split() for name, mark, below in lines if mark}
-    wanted = ["hall"]
-    for name in wanted:
-        wanted += [below for below in stands_on[name] if below in stands_on and below not in wanted]
-    return {name: [below for below in stands_on[name] if below in wanted] for name in stands_on if name in wanted}
 
 
 def at_once():
@@ -49,66 +43,78 @@ def counted(name):
 
 
 class Build:
-    """Two crates proved side by side, each once those that it stands on are built."""
+    """The crates that the program stands on, each proved once those below it are built, those with most work behind them first.
 
-    def __init__(self, crates, most):
-        self.crates = crates
+    `rt lib` holds the locks of all crates below its own, so that two of them wait for each other: this holds the locks of all crates, and calls what `rt lib` calls."""
+
+    def __init__(self, program, most):
+        self.crates = program.below()
         self.most = most
-        self.built = set()
-        self.running = {}
-        self.begun = {}
+        self.built, self.running, self.begun, self.failed = set(), {}, {}, None
+        self.changed = threading.Condition()
 
-    def tell_of(self, name, word):
-        proved, functions = counted(name)
-        minutes = (time.time() - self.begun[name]) / 60
-        place = f"{list(self.crates).index(name) + 1} of {len(self.crates)}"
-        tell(f"{name:14} {place:>8}  {word:6} {min(proved, functions):4} of {functions:4} functions {minutes:6.1f} minutes")
+    def behind(self, crate):
+        """The lines of the longest chain of crates that wait for this one, with its own."""
+        above = [self.behind(it) for it in self.crates if crate in it.deps]
+        return crate.count(rb"\n") + max(above, default=0)
 
-    def ready(self):
-        free = [name for name in self.crates if name not in self.built and name not in self.running]
-        return [name for name in free if self.built.issuperset(self.crates[name])]
+    def tell_of(self, crate, word):
+        proved, functions = counted(crate.name)
+        minutes = (time.time() - self.begun[crate]) / 60
+        place = f"{self.crates.index(crate) + 1} of {len(self.crates) + 1}"
+        tell(f"{crate.name:14} {place:>8}  {word:6} {min(proved, functions):4} of {functions:4} functions {minutes:6.1f} minutes")
 
-    def start(self, log):
-        for name in self.ready()[: SIDE_BY_SIDE - len(self.running)]:
-            words = ["rt", "run" if name == "hall" else "lib", "--jobs", str(self.most)]
-            how = {"cwd": f"{ROOT}/crates/{name}", "stdin": subprocess.DEVNULL, "stdout": log, "stderr": subprocess.STDOUT}
-            self.begun[name] = time.time()
-            self.running[name] = subprocess.Popen(words, **how)
+    def prove(self, crate, jobs):
+        with open(LOG, "a", encoding="utf-8") as crate.out:
+            os.makedirs(f"{crate.folder}/out", exist_ok=True)
+            status = crate.build_rlib(["--jobs", str(jobs)], anew=False)
+        with self.changed:
+            del self.running[crate]
+            self.built.add(crate)
+            self.failed = self.failed or status
+            self.tell_of(crate, "failed" if status else "built")
+            self.changed.notify()
 
-    def gather(self):
-        """Takes note of the crates that ended; the first that failed."""
-        for name, process in list(self.running.items()):
-            if process.poll() is None:
-                continue
-            del self.running[name]
-            if name != "hall" and process.returncode:
-                return name
-            self.built.add(name)
-            self.tell_of(name, "built")
-        return None
+    def start(self):
+        """Starts what may be proved now; the processors that no crate waits for go to those that are started."""
+        ready = [it for it in self.crates if it not in self.built and it not in self.running and self.built.issuperset(it.below())]
+        ready.sort(key=self.behind, reverse=True)
+        for place, crate in enumerate(ready):
+            idle = self.most - sum(self.running.values())
+            if idle > 0:
+                jobs = min(MOST_OF_ONE, max(1, -(-idle // (len(ready) - place))))
+                self.running[crate], self.begun[crate] = jobs, time.time()
+                threading.Thread(target=self.prove, args=(crate, jobs)).start()
 
-    def run(self, log):
-        """Whether all was built."""
-        shown = time.time()
-        while len(self.built) < len(self.crates):
-            self.start(log)
-            time.sleep(1)
-            if self.gather():
-                for process in self.running.values():
-                    process.terminate()
-                return False
-            if time.time() - shown > EVERY:
-                shown = time.time()
-                for name in self.running:
-                    self.tell_of(name, "so far")
-        return True
+    def run(self):
+        """Whether all were built."""
+        held = rtlib.lock(self.crates)
+        with self.changed:
+            while len(self.built) < len(self.crates) and not (self.failed and not self.running):
+                if not self.failed:
+                    self.start()
+                if not self.changed.wait(EVERY):
+                    for crate in self.running:
+                        self.tell_of(crate, "so far")
+        for it in held:
+            os.close(it)
+        return not self.failed
 
 
 def main():
-    crates, most = needed(), at_once()
-    tell(f"proving and building {len(crates)} crates, with {most} processors; build.log has what the prover says")
-    with open(LOG, "wb") as log:
-        done = Build(crates, most).run(log)
+    rtlib.guarded()
+    os.chdir(ROOT)
+    program = next(it for it in rtlib.crates_below(ROOT) if it.name == "hall")
+    most = at_once()
+    tell(f"proving and building {len(program.below()) + 1} crates, with {most} processors; build.log has what the prover says")
+    open(LOG, "wb").close()
+    done = Build(program, most).run()
+    if done:
+        tell("hall: the program itself is proved, and then compiled for a minute or more")
+        with open(LOG, "ab") as log:
+            words = ["rt", "run", "--jobs", str(min(most, MOST_OF_ONE)), "--", "--version"]
+            how = {"cwd": program.folder, "stdin": subprocess.DEVNULL, "stdout": log, "stderr": subprocess.STDOUT}
+            done = not subprocess.run(words, check=False, **how).returncode
     if not done or not os.access(PROGRAM, os.X_OK):
         with open(LOG, encoding="utf-8", errors="replace") as log:
             print("".join(log.readlines()[-20:]), file=sys.stderr)
@@ -118,4 +124,5 @@ def main():
     return 0
 
 
-sys.exit(main())
+if __name__ == "__main__":
+    sys.exit(main())

@@ -1,12 +1,13 @@
 //! The database of a command, and what is said where it can't be had.
-use hall_sql::SqlStore;
-use sqlite::{Alter, Connection, Error, ErrorCode, File, FileStore, MemStore};
+use crate::fault::{NO_MEMORY, fault};
+use crate::task::Task;
+use hall_sql::{CachedStore, SqlStore};
+use hall_store::Store;
+use sqlite::{Alter, Connection, Error, ErrorCode};
 use std::fs;
 use std::io::ErrorKind;
+use std::process::ExitCode;
 use std::rt::Files;
-
-/// The hall's tables in a file.
-pub(crate) type FileTables = SqlStore<FileStore<File>>;
 
 const NO_FILE: &str = "there is no such database file: `hall init` makes one";
 
@@ -19,52 +20,53 @@ const OTHER_TABLES: &str =
 
 const FULL: &str = "the disk is full: make room on it, and try again";
 
-const NO_MEMORY: &str = "there is not enough memory: make room, and try again";
-
 const UNREADABLE: &str =
     "the database file can't be opened: see that it and its folder may be read and written";
 
-/// The hall's tables in the file at the path, made there where the file is new; or what to do.
-pub(crate) fn open_or_make(rt: &HostRuntime, path: &str) -> Result<FileTables, &'static str> {
-    adopt(connect(rt, path)?, OTHER_TABLES)
-}
-
-/// The hall's tables in the file at the path, which is there; or what to do.
-pub(crate) fn open(rt: &HostRuntime, path: &str) -> Result<FileTables, &'static str> {
-    if is_missing(rt, path) {
-        return Err(NO_FILE);
+/// Does the task with the hall in the file at the path, made there where the file is new.
+pub(crate) fn in_new_file<T: Task>(rt: &HostRuntime, path: &str, task: T) -> ExitCode {
+    match Connection::open(rt, path) {
+        Ok(conn) => over_connection(rt, conn, OTHER_TABLES, task),
+        Err(error) => fault(rt, advice(error)),
     }
-    open_or_make(rt, path)
 }
 
-/// The hall's tables, without rows, in memory; or what to do.
-pub(crate) fn open_in_memory(rt: &impl AllocGlobal) -> Result<SqlStore<MemStore>, &'static str> {
-    let Ok(conn) = Connection::open_in_memory(rt.alloc()) else {
-        return Err(NO_MEMORY);
-    };
-    adopt(conn, NO_MEMORY)
+/// Does the task with the hall in the file at the path, which is there.
+pub(crate) fn in_file<T: Task>(rt: &HostRuntime, path: &str, task: T) -> ExitCode {
+    if is_missing(rt, path) {
+        return fault(rt, NO_FILE);
+    }
+    in_new_file(rt, path, task)
+}
+
+/// Does the task with a hall in memory, where nothing is yet.
+pub(crate) fn in_memory<T: Task>(rt: &HostRuntime, task: T) -> ExitCode {
+    match Connection::open_in_memory(rt.alloc()) {
+        Ok(conn) => over_connection(rt, conn, NO_MEMORY, task),
+        Err(_) => fault(rt, NO_MEMORY),
+    }
+}
+
+/// Does the task with the hall in the tables of the connection; where it has others, or none can be made, says so.
+fn over_connection<S: Alter + Drop, T: Task>(
+    rt: &HostRuntime,
+    conn: Connection<S>,
+    otherwise: &str,
+    task: T,
+) -> ExitCode {
+    match SqlStore::over(conn) {
+        Ok(store) => over_cache(rt, store, task),
+        Err(_) => fault(rt, otherwise),
+    }
+}
+
+/// Does the task with the store, behind a cache.
+fn over_cache<S: Store, T: Task>(rt: &HostRuntime, store: S, task: T) -> ExitCode {
+    task.run(rt, CachedStore::new(rt.alloc(), store))
 }
 
 fn is_missing(rt: &impl Files, path: &str) -> bool {
     matches!(fs::open(rt, path), Err(error) if error.kind() == ErrorKind::NotFound)
-}
-
-fn connect(rt: &HostRuntime, path: &str) -> Result<Connection<FileStore<File>>, &'static str> {
-    match Connection::open(rt, path) {
-        Ok(conn) => Ok(conn),
-        Err(error) => Err(advice(error)),
-    }
-}
-
-/// The tables of the connection; or what to do where it has others, or none can be made.
-fn adopt<S: Alter + Drop>(
-    conn: Connection<S>,
-    otherwise: &'static str,
-) -> Result<SqlStore<S>, &'static str> {
-    match SqlStore::over(conn) {
-        Ok(store) => Ok(store),
-        Err(_) => Err(otherwise),
-    }
 }
 
 /// What to do where a file isn't opened.

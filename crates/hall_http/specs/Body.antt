@@ -45,36 +45,42 @@ in_range f least most (negsuc n) = Err f
 abbrev pub flag_at : Field → List ℕ → Members → Result Bool FormFault
 flag_at f name ms = or_fault (fault.Missing f) (option_and_then as_bool (get_member name ms))
 
--- the answer text of a body: 0 to 4,000 printable bytes
+-- the answer text among the members: 0 to 4,000 printable bytes
+abbrev pub answer_among : Members → Result (List ℕ) FormFault
+answer_among ms = text_at field.Answer (codes "answer") ms >>= of_kind (fault.Range field.Answer) 0 4000 is_printable
+
+-- the answer text of a body
 abbrev pub answer_in : List ℕ → Result (List ℕ) FormFault
-answer_in body =
-    object_in (codes "answer" ∷ []) body
-    >>= text_at field.Answer (codes "answer")
-    >>= of_kind (fault.Range field.Answer) 0 4000 is_printable
+answer_in body = object_in (codes "answer" ∷ []) body >>= answer_among
 
--- the puzzle text of a body: 1 to 8,000 printable bytes
+-- the puzzle text among the members: 1 to 8,000 printable bytes
+abbrev pub text_among : Members → Result (List ℕ) FormFault
+text_among ms = text_at field.Text (codes "text") ms >>= of_kind (fault.Range field.Text) 1 8000 is_printable
+
+-- the puzzle text of a body
 abbrev pub text_in : List ℕ → Result (List ℕ) FormFault
-text_in body =
-    object_in (codes "text" ∷ []) body
-    >>= text_at field.Text (codes "text")
-    >>= of_kind (fault.Range field.Text) 1 8000 is_printable
+text_in body = object_in (codes "text" ∷ []) body >>= text_among
 
--- the budget of a body: 0 to 1,000,000
+-- the budget among the members: 0 to 1,000,000
+abbrev pub budget_among : Members → Result ℕ FormFault
+budget_among ms = integer_at field.Budget (codes "budget") ms >>= in_range (fault.Range field.Budget) 0 1000000
+
+-- the budget of a body
 abbrev pub budget_in : List ℕ → Result ℕ FormFault
-budget_in body =
-    object_in (codes "budget" ∷ []) body
-    >>= integer_at field.Budget (codes "budget")
-    >>= in_range (fault.Range field.Budget) 0 1000000
+budget_in body = object_in (codes "budget" ∷ []) body >>= budget_among
 
--- the number and the text of a protest: 1 to 99, and 1 to 200 printable bytes
-abbrev pub protest_in : List ℕ → Result (ℕ × List ℕ) FormFault
-protest_in body =
-    object_in (codes "number" ∷ codes "text" ∷ []) body
-    >>= (λ ms. integer_at field.Number (codes "number") ms
+-- the number and the text of a protest among the members: 1 to 99, and 1 to 200 printable bytes
+abbrev pub protest_among : Members → Result (ℕ × List ℕ) FormFault
+protest_among ms =
+    integer_at field.Number (codes "number") ms
     >>= in_range (fault.Range field.Number) 1 99
     >>= (λ number. text_at field.Text (codes "text") ms
     >>= of_kind (fault.Range field.Text) 1 200 is_printable
-    >>= (λ text. Ok (number, text))))
+    >>= (λ text. Ok (number, text)))
+
+-- the number and the text of a protest of a body
+abbrev pub protest_in : List ℕ → Result (ℕ × List ℕ) FormFault
+protest_in body = object_in (codes "number" ∷ codes "text" ∷ []) body >>= protest_among
 
 -- the points of a ruling: -1,000 to 1,000
 abbrev pub points_in : ℤ → Result ℤ FormFault
@@ -88,11 +94,13 @@ ruling_from (pos zero) false = Ok Rejected
 ruling_from (pos (suc n)) false = Err (fault.Range field.Points)
 ruling_from (negsuc n) false = Err (fault.Range field.Points)
 
--- the ruling of a body: its points, and whether the protest is upheld
-abbrev pub ruling_in : List ℕ → Result Ruling FormFault
-ruling_in body =
-    object_in (codes "points" ∷ codes "upheld" ∷ []) body
-    >>= (λ ms. integer_at field.Points (codes "points") ms
+-- the ruling among the members: its points, and whether the protest is upheld
+abbrev pub ruling_among : Members → Result Ruling FormFault
+ruling_among ms =
+    integer_at field.Points (codes "points") ms
     >>= points_in
-    >>= (λ points. flag_at field.Upheld (codes "upheld") ms
-    >>= ruling_from points))
+    >>= (λ points. flag_at field.Upheld (codes "upheld") ms >>= ruling_from points)
+
+-- the ruling of a body
+abbrev pub ruling_in : List ℕ → Result Ruling FormFault
+ruling_in body = object_in (codes "points" ∷ codes "upheld" ∷ []) body >>= ruling_among

@@ -6,6 +6,7 @@ ghost use Rattle.serde_json.specs.Errors.{IsMemory};
 ghost use Rattle.serde_json.specs.View.{members_view};
 ghost use Rattle.hall_http.specs.Given.{Gives};
 ghost use Rattle.hall_http.specs.Body.{object_in, answer_in, text_in, budget_in, protest_in, ruling_in};
+ghost use Rattle.hall_http.specs.Body.{answer_among, text_among, budget_among, protest_among, ruling_among};
 ghost use Rattle.hall_http.specs.Body.{text_at, integer_at, flag_at, in_range, points_in, ruling_from};
 
 use crate::form::{Field, FormFault, RequestFault};
@@ -127,13 +128,30 @@ fn in_range<const LEAST: u64, const MOST: u64>(
     Within::new(value).ok_or(outside)
 }
 
+/// The answer among the members.
+fn answer_among(alloc: Global, members: &Map<String, Value>) -> Result<AnswerText, RequestFault>
+    ensures { Gives (λ t. t) result (answer_among (members_view members.now.entries)) }
+{
+    let text = text_at(members, "answer", Field::Answer)?;
+    checked(alloc, text.as_bytes(), FormFault::Range(Field::Answer))
+}
+
 /// The answer that a body spells.
 pub(crate) fn read_answer(alloc: Global, body: &[u8]) -> Result<AnswerText, RequestFault>
     ensures { Gives (λ t. t) result (answer_in body.now) }
 {
     let members = read_object(alloc, body, &["answer"])?;
-    let text = text_at(&members, "answer", Field::Answer)?;
-    checked(alloc, text.as_bytes(), FormFault::Range(Field::Answer))
+    let answer = answer_among(alloc, &members);
+    drop(members);
+    answer
+}
+
+/// The puzzle text among the members.
+fn text_among(alloc: Global, members: &Map<String, Value>) -> Result<PuzzleText, RequestFault>
+    ensures { Gives (λ t. t) result (text_among (members_view members.now.entries)) }
+{
+    let text = text_at(members, "text", Field::Text)?;
+    checked(alloc, text.as_bytes(), FormFault::Range(Field::Text))
 }
 
 /// The puzzle text that a body spells.
@@ -141,8 +159,17 @@ pub(crate) fn read_text(alloc: Global, body: &[u8]) -> Result<PuzzleText, Reques
     ensures { Gives (λ t. t) result (text_in body.now) }
 {
     let members = read_object(alloc, body, &["text"])?;
-    let text = text_at(&members, "text", Field::Text)?;
-    checked(alloc, text.as_bytes(), FormFault::Range(Field::Text))
+    let text = text_among(alloc, &members);
+    drop(members);
+    text
+}
+
+/// The budget among the members.
+fn budget_among(members: &Map<String, Value>) -> Result<Budget, RequestFault>
+    ensures { Gives (λ n. n) result (budget_among (members_view members.now.entries)) }
+{
+    let budget = integer_at(members, "budget", Field::Budget)?;
+    in_range(budget, FormFault::Range(Field::Budget))
 }
 
 /// The budget that a body spells.
@@ -150,8 +177,23 @@ pub(crate) fn read_budget(alloc: Global, body: &[u8]) -> Result<Budget, RequestF
     ensures { Gives (λ n. n) result (budget_in body.now) }
 {
     let members = read_object(alloc, body, &["budget"])?;
-    let budget = integer_at(&members, "budget", Field::Budget)?;
-    in_range(budget, FormFault::Range(Field::Budget))
+    let budget = budget_among(&members);
+    drop(members);
+    budget
+}
+
+/// The number and the text of a protest among the members.
+fn protest_among(
+    alloc: Global,
+    members: &Map<String, Value>,
+) -> Result<(PuzzleNumber, ProtestText), RequestFault>
+    ensures { Gives (λ protest. protest) result (protest_among (members_view members.now.entries)) }
+{
+    let number = integer_at(members, "number", Field::Number)?;
+    let number = in_range(number, FormFault::Range(Field::Number))?;
+    let text = text_at(members, "text", Field::Text)?;
+    let text = checked(alloc, text.as_bytes(), FormFault::Range(Field::Text))?;
+    Ok((number, text))
 }
 
 /// The number and the text of a protest that a body spells.
@@ -162,11 +204,9 @@ pub(crate) fn read_protest(
     ensures { Gives (λ protest. protest) result (protest_in body.now) }
 {
     let members = read_object(alloc, body, &["number", "text"])?;
-    let number = integer_at(&members, "number", Field::Number)?;
-    let number = in_range(number, FormFault::Range(Field::Number))?;
-    let text = text_at(&members, "text", Field::Text)?;
-    let text = checked(alloc, text.as_bytes(), FormFault::Range(Field::Text))?;
-    Ok((number, text))
+    let protest = protest_among(alloc, &members);
+    drop(members);
+    protest
 }
 
 /// The points of a ruling.
@@ -193,12 +233,21 @@ fn ruling_of(points: RulingPoints, upheld: bool) -> Result<Ruling, RequestFault>
     }
 }
 
+/// The ruling among the members.
+fn ruling_among(members: &Map<String, Value>) -> Result<Ruling, RequestFault>
+    ensures { Gives (λ ruling. ruling) result (ruling_among (members_view members.now.entries)) }
+{
+    let points = points_of(integer_at(members, "points", Field::Points)?)?;
+    let upheld = flag_at(members, "upheld", Field::Upheld)?;
+    ruling_of(points, upheld)
+}
+
 /// The ruling that a body spells.
 pub(crate) fn read_ruling(alloc: Global, body: &[u8]) -> Result<Ruling, RequestFault>
     ensures { Gives (λ ruling. ruling) result (ruling_in body.now) }
 {
     let members = read_object(alloc, body, &["points", "upheld"])?;
-    let points = points_of(integer_at(&members, "points", Field::Points)?)?;
-    let upheld = flag_at(&members, "upheld", Field::Upheld)?;
-    ruling_of(points, upheld)
+    let ruling = ruling_among(&members);
+    drop(members);
+    ruling
 }

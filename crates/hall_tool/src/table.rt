@@ -5,6 +5,7 @@ ghost use Rattle.hall_grid.specs.Device.{HasFailed};
 ghost use Rattle.hall_policy.specs.Ranges.{IsRoundId};
 ghost use Rattle.hall_store.specs.Store.{Kept};
 ghost use Rattle.hall_desk.specs.Desk.{kept_by};
+ghost use Rattle.hall_desk.specs.Plan.{planned_reply};
 ghost use Rattle.hall_desk.specs.declared.reply.Reply.{Reply};
 ghost use Rattle.hall_http.specs.Device.{WritesPart};
 ghost use Rattle.hall_tool.specs.SeedText.{denial_of};
@@ -12,7 +13,7 @@ ghost use Rattle.hall_tool.specs.TableText.{IsTableOver, IsTableWritten, TableTe
 
 use crate::ending::Ending;
 use crate::fault::ToolFault;
-use hall_desk::{Desk, Reply};
+use hall_desk::{Desk, Plan, Reply};
 use hall_grid::Counted;
 use hall_http::write_all;
 use hall_policy::{Action, Moment, Request, RoundId};
@@ -57,6 +58,16 @@ fn written(alloc: Global, reply: &Reply) -> Result<Ending, ToolFault>
     }
 }
 
+/// What is written of the plan for a table.
+fn written_of(alloc: Global, plan: Plan) -> Result<Ending, ToolFault>
+    ensures written { IfOk result (λ a. IsTableWritten (planned_reply plan) (string_bytes a.line) a.status) }
+    ensures cause { IfErr result (λ e. (e ≡ ToolFault.Memory) ⊎ (e ≡ ToolFault.Store)) }
+{
+    let ending = written(alloc, plan.reply());
+    drop(plan);
+    ending
+}
+
 /// The round's table, as it is written.
 fn table_of<S: Store>(
     alloc: Global,
@@ -76,8 +87,10 @@ fn table_of<S: Store>(
         key: None,
         action: Action::Table { round },
     };
-    match desk.plan(alloc, t, &request) {
-        Ok(plan) => written(alloc, plan.reply()),
+    let planned = desk.plan(alloc, t, &request);
+    drop(request);
+    match planned {
+        Ok(plan) => written_of(alloc, plan),
         Err(StoreFault::Memory) => Err(ToolFault::Memory),
         Err(StoreFault::Failed) => Err(ToolFault::Store),
     }

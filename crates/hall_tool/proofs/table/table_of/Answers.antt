@@ -7,5 +7,6 @@ use Rattle.hall_tool.proofs.table.table_of.Goals as goal
 
 pub returns-in-Ok-clause-told : goal.returns-in-Ok-clause-told
 returns-in-Ok-clause-told g c =
-    let told = table_told (g.S.Store.content (kept_by c.plan.new.self)) c.args.round c.in-Ok.plan c.in-Some.t c.in-Some.ensures.value c.in-Ok.ensures.planned in
-    IfOk-weaker c.written.result _ _ (λ ending written. (planned_reply c.in-Ok.plan, told, rw c.reply.ensures at written)) c.written.ensures.written
+    let new = g.S.Store.content (kept_by c.plan-planned.new.self) in
+    let told = table_told new c.args.round c.in-Ok.plan c.in-Some.t c.in-Some.ensures.value c.in-Ok.ensures.planned in
+    IfOk-weaker c.written_of.result _ _ (λ ending written. (planned_reply c.in-Ok.plan, told, written)) c.written_of.ensures.written
