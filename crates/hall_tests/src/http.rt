@@ -11,11 +11,6 @@ use std::net::{Net, Shutdown, TcpListener, TcpStream};
 use std::process::Abort;
 use std::test::Fail;
 
-/// The input, the replies that are written, and how the replay ends.
-type Replayed = (&'static [u8], &'static [u8], Result<(), ReplayFault>);
-
-const CUT: Result<(), ReplayFault> = Err(ReplayFault::Record);
-
 const NO_ROUTE: &[u8] = b"\
     HTTP/1.1 404 Not Found\r\n\
     Content-Type: application/json\r\n\
@@ -28,29 +23,6 @@ const NOT_WHOLE: &[u8] = b"\
     Content-Length: 13\r\n\r\n\
     {\"form\":\"F7\"}";
 
-const REPLAYS: [Replayed; 20] = [
-    (b"", b"", Ok(())),
-    (b"@1 17\nA /b HTTP/1.1\r\n\r\n", NO_ROUTE, Ok(())),
-    (b"@1 17\nA /b HTTP/1.1\r\n\r\n@", NO_ROUTE, CUT),
-    (b"@1 17\nA /b HTTP/1.1\r\n\r\njunk\n@1 0\n", NO_ROUTE, CUT),
-    (b"@1 18\nA /b HTTP/1.1\r\n\r\n", b"", CUT),
-    (b"@1 5", b"", CUT),
-    (b"@1 5\nGET", b"", CUT),
-    (b"@1 5\n12345", NOT_WHOLE, Ok(())),
-    (b"@1 5\n12345@", NOT_WHOLE, CUT),
-    (b"@0 0\n", NOT_WHOLE, Ok(())),
-    (b"@4102444800 0\n@", NOT_WHOLE, CUT),
-    (b"@4102444801 0\n", b"", CUT),
-    (b"@1 73729\n", b"", CUT),
-    (b"junk\n", b"", CUT),
-    (b"@01 0\n", b"", CUT),
-    (b"@1 00\n", b"", CUT),
-    (b"@1  0\n", b"", CUT),
-    (b"@1 0\r\n", b"", CUT),
-    (b"@+1 0\n", b"", CUT),
-    (b"@11111111111111111", b"", CUT),
-];
-
 /// Replays over the opening world.
 fn replayed<R: Read, W: Write>(
     rt: &(impl AllocGlobal + Abort),
@@ -59,19 +31,6 @@ fn replayed<R: Read, W: Write>(
 ) -> Result<(), ReplayFault> {
     let mut desk = opening_desk(rt);
     replay(rt.alloc(), &mut desk, reader, writer)
-}
-
-#[test]
-fn a_replay_ends_with_its_whole_records(rt: HostRuntime) {
-    for (place, (input, replies, end)) in REPLAYS.iter().enumerate() {
-        let mut writer = Counted::new(Vec::new(rt.alloc()));
-        let ended = replayed(&rt, &mut Counted::new(*input), &mut writer);
-        assert!(rt; ended == *end, "replay {place}");
-        assert!(rt;
-            writer.into_inner().as_slice() == *replies,
-            "replay {place}"
-        );
-    }
 }
 
 /// Records that certify the puzzle of round r1, release it, read it too early and answer it.

@@ -12,8 +12,6 @@ mod http;
 #[cfg(test)]
 mod limited;
 #[cfg(test)]
-mod lists;
-#[cfg(test)]
 mod opening;
 #[cfg(test)]
 mod policy;
@@ -24,12 +22,8 @@ mod requests;
 #[cfg(test)]
 mod score;
 #[cfg(test)]
-mod sheets;
-#[cfg(test)]
 mod socket;
 #[cfg(test)]
 mod store;
 #[cfg(test)]
 mod tool;
-#[cfg(test)]
-mod words;
