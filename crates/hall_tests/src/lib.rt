@@ -16,19 +16,11 @@ mod lists;
 #[cfg(test)]
 mod opening;
 #[cfg(test)]
-mod policy;
-#[cfg(test)]
-mod reads;
-#[cfg(test)]
 mod requests;
-#[cfg(test)]
-mod score;
 #[cfg(test)]
 mod sheets;
 #[cfg(test)]
 mod socket;
-#[cfg(test)]
-mod store;
 #[cfg(test)]
 mod tool;
 #[cfg(test)]
