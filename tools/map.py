@@ -36,7 +36,7 @@ def stands_in(name, text, path):
 def wrong_rows(text):
     """The names that stand in none of their row's files, and the files that aren't there."""
     for row in rows(text):
-        paths = re.findall(r"`(crates/[^`]*\.\w+)`", " ".join(row))
+        paths = re.findall(r"`(crates/(?:[^`]*\.\w+|probe/stdin))`", " ".join(row))
         examples = re.findall(r"`(examples/[^`]*\.\w+)`", " ".join(row))
         gone = [path for path in paths + examples if not os.path.isfile(f"{ROOT}/{path}")]
         yield from (f"{MAP} names {path}, which isn't there" for path in gone)

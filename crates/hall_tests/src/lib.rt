@@ -14,16 +14,6 @@ mod limited;
 #[cfg(test)]
 mod opening;
 #[cfg(test)]
-mod policy;
-#[cfg(test)]
-mod reads;
-#[cfg(test)]
-mod requests;
-#[cfg(test)]
-mod score;
-#[cfg(test)]
 mod socket;
-#[cfg(test)]
-mod store;
 #[cfg(test)]
 mod tool;

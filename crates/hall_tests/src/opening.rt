@@ -1,11 +1,10 @@
 //! The world that most tests begin with: six people, three puzzles that nobody certified yet, and three drafts.
 use crate::fixtures::request;
-use crate::limited::LimitedStore;
 use hall_desk::{Desk, Reply};
 use hall_http::{Routes, answer_bytes};
 use hall_policy::Moment;
 use hall_sheet::read_people;
-use hall_store::{MapStore, Store};
+use hall_store::MapStore;
 use std::alloc::AllocGlobal;
 use std::process::Abort;
 
@@ -76,12 +75,9 @@ const PUTS: [(&str, &str, &str); 6] = [
     ("dora-key", "PUT /rounds/r3", UNCERTAIN),
 ];
 
-/// How many calls of its store the opening makes.
-const CALLS: u64 = 49;
-
-/// A hall over the store, which held nothing before.
-fn open<S: Store>(rt: &(impl AllocGlobal + Abort), store: S) -> Desk<S> {
-    let mut desk = Desk::new(store);
+/// A hall in ordered maps.
+pub(crate) fn opening_desk(rt: &(impl AllocGlobal + Abort)) -> Desk<MapStore> {
+    let mut desk = Desk::new(MapStore::new(rt.alloc()));
     let people = read_people(rt.alloc(), PEOPLE.as_bytes()).expect(rt, "people");
     let reply = desk.seed(rt.alloc(), &people);
     assert!(rt; matches!(&reply, Reply::Imported(6)));
@@ -93,18 +89,4 @@ fn open<S: Store>(rt: &(impl AllocGlobal + Abort), store: S) -> Desk<S> {
         assert!(rt; answer.as_bytes().starts_with(b"HTTP/1.1 200 OK"), "{line}");
     }
     desk
-}
-
-/// A hall in ordered maps.
-pub(crate) fn opening_desk(rt: &(impl AllocGlobal + Abort)) -> Desk<MapStore> {
-    open(rt, MapStore::new(rt.alloc()))
-}
-
-/// A hall over a store that answers so many calls more.
-pub(crate) fn limited_desk(rt: &(impl AllocGlobal + Abort), left: u64) -> Desk<LimitedStore> {
-    let store = LimitedStore {
-        store: MapStore::new(rt.alloc()),
-        left: left.wrapping_add(CALLS),
-    };
-    open(rt, store)
 }
