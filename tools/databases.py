@@ -114,27 +114,39 @@ def each_call_is_asked():
     files.check("calls that no request makes", sorted(failing - asked), [])
 
 
+def see_scene(room, scene, statement, failing):
+    """Asks the scene's requests after the statement: those that make a failing call are answered 503, and no other is."""
+    replies = replies_after(room, scene, statement)
+    for asked, reply in zip(scene["requests"], replies, strict=True):
+        fails = not set(failing).isdisjoint(asked["calls"])
+        name = f"{statement}: {asked.get('key', 'nobody')} {asked['line']}, {scene['name']}, {reply}"
+        files.check(name, reply == FAULT if fails else reply[0] != 503, True)
+    return replies
+
+
 def rows_that_are_no_records(room):
     for group in ROWS["no_records"]:
-        failing = set(group["calls"])
         for statement in group["after"]:
             for scene in ROWS["scenes"]:
-                replies = replies_after(room, scene, statement)
-                wanted = [not failing.isdisjoint(it["calls"]) for it in scene["requests"]]
-                for asked, reply, fails in zip(scene["requests"], replies, wanted, strict=True):
-                    name = f"{statement}: {asked.get('key', 'nobody')} {asked['line']}, {scene['name']}, {reply}"
-                    files.check(name, reply == FAULT if fails else reply[0] != 503, True)
+                see_scene(room, scene, statement, group["calls"])
 
 
 def rows_at_the_ends_of_their_ranges(room):
-    for statement in ROWS["records"]["after"]:
-        same = True
-        for scene in ROWS["scenes"]:
-            replies = replies_after(room, scene, statement)
-            same = same and replies == [(it["status"], it["reply"]) for it in scene["requests"]]
-            for asked, reply in zip(scene["requests"], replies, strict=True):
-                files.check(f"{statement}: {asked['line']}, {scene['name']}, {reply}", reply[0] != 503, True)
-        files.check(f"{statement}: all replies stay", same, False)
+    for group in ROWS["records"]:
+        for statement in group["after"]:
+            same = True
+            for scene in ROWS["scenes"]:
+                replies = see_scene(room, scene, statement, group["calls"])
+                same = same and replies == [(it["status"], it["reply"]) for it in scene["requests"]]
+            files.check(f"{statement}: all replies stay", same, False)
+
+
+def verdicts_by_their_sums(room):
+    asked = {"key": "eve-key-1", "line": "GET /rounds/r1/answers"}
+    for it in ROWS["verdicts"]:
+        statement = f"UPDATE answers SET verdict = {it['sum']} WHERE entrant = 'eve'"
+        (_, body), = replies_after(room, {"name": "over", "requests": [asked]}, statement)
+        files.check(statement, body.rpartition('"verdict":')[2], f'"{it["name"]}"}}]}}')
 
 
 def rows_that_the_tables_refuse(room):
@@ -161,7 +173,7 @@ def main():
     with tempfile.TemporaryDirectory(prefix="hall-databases-") as room:
         first_files(room)
         each_call_is_asked()
-        for of in (the_world_is_told, rows_that_the_tables_refuse, rows_that_are_no_records, rows_at_the_ends_of_their_ranges):
+        for of in (the_world_is_told, verdicts_by_their_sums, rows_that_the_tables_refuse, rows_that_are_no_records, rows_at_the_ends_of_their_ranges):
             of(room)
     print(f"rows of database files: {files.passed} as wanted, {files.failed} not")
     sys.exit(1 if files.failed else 0)
