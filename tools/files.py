@@ -6,11 +6,13 @@
 Prints a line for each case that went wrong, and last how many there were; exits with 1 where one did.
 """
 import os
+import re
 import shutil
 import sqlite3
 import subprocess
 import sys
 import tempfile
+import tomllib
 
 ROOT = os.path.dirname(os.path.dirname(os.path.realpath(__file__)))
 PEOPLE = f"{ROOT}/examples/people.csv"
@@ -163,24 +165,50 @@ def files_of_sqlite(room):
     looked_into("people into sqlite3's tables", empty)
 
 
+def is_refused(name, room, *scripts):
+    """Sees that the file that the scripts make is refused, and stays as it was."""
+    path = written(f"{room}/shape.db", *scripts)
+    with open(path, "rb") as it:
+        before = it.read()
+    check(name, hall("init", "--db", path, "--people", PEOPLE), (b"", 3, True))
+    with open(path, "rb") as it:
+        check(f"{name}, the file", it.read() == before, True)
+    os.remove(path)
+
+
+def is_taken(name, room, *scripts):
+    """Sees that the file that the scripts make is taken over, and holds nobody."""
+    path = written(f"{room}/shape.db", *scripts)
+    check(name, hall("init", "--db", path, "--people", PEOPLE), (b"added 6\n", 0, False))
+    looked_into(name, path)
+    for ending in ("", "-wal"):
+        if os.path.exists(path + ending):
+            os.remove(path + ending)
+
+
+def with_table(name, by):
+    """The tables with another statement in the place of the one that makes the table of that name."""
+    made = [f"CREATE TABLE {it}" for it in TABLES.split("CREATE TABLE ")[1:]]
+    at = [it.split()[2] for it in made].index(name)
+    return "".join([*made[:at], by, *made[at + 1 :]])
+
+
 def other_shapes(room):
-    for name, change in [
-        ("a seventh table", "CREATE TABLE notes (a TEXT NOT NULL) STRICT"),
-        ("a column more", "ALTER TABLE people ADD COLUMN mail TEXT"),
-        ("an index more", "CREATE INDEX titles ON rounds (title)"),
-        ("a view", "CREATE VIEW names AS SELECT name FROM people"),
-        ("a table less", "DROP TABLE protests"),
-        ("another name", "ALTER TABLE people RENAME COLUMN pass TO word"),
-    ]:
-        path = written(f"{room}/shape.db", TABLES, change)
-        with open(path, "rb") as it:
-            before = it.read()
-        check(name, hall("init", "--db", path, "--people", PEOPLE), (b"", 3, True))
-        with open(path, "rb") as it:
-            check(f"{name}, the file", it.read() == before, True)
-        os.remove(path)
-    path = written(f"{room}/shape.db", "CREATE TABLE accounts (id INTEGER PRIMARY KEY, name TEXT)")
-    check("another program's tables", hall("init", "--db", path, "--people", PEOPLE), (b"", 3, True))
+    with open(f"{ROOT}/examples/databases/shapes.toml", "rb") as it:
+        shapes = tomllib.load(it)
+    is_taken("an empty file", room)
+    for change in shapes["left"]:
+        is_taken(change, room, TABLES, change)
+    for of in shapes["worded"]:
+        is_taken(of["by"], room, with_table(of["table"], of["by"] + "\n;"))
+    for change in shapes["added"]:
+        is_refused(change, room, TABLES, change)
+    for change in shapes["others"]:
+        is_refused(change, room, change)
+    for of in shapes["changed"]:
+        is_refused(of["by"], room, with_table(of["table"], of["by"] + ";"))
+    for name in re.findall("CREATE TABLE (\\w+)", TABLES):
+        is_refused(f"no table {name}", room, with_table(name, ""))
 
 
 def rows_that_are_none(room):

@@ -1,19 +1,10 @@
-//! Tests of the puzzle crates, by calls that any crate may make.
-//!
-//! A module bears the name of the crate that it tests, without `hall_`.
+//! Tests of the puzzle crates, by calls that any crate may make. What the program tells of puzzles is tested by
+//! `tools/puzzles.py`.
 #![tactic(auto)]
 
 #[cfg(test)]
+mod deductions;
+#[cfg(test)]
 mod grid;
 #[cfg(test)]
-mod kinds;
-#[cfg(test)]
-mod nurikabe;
-#[cfg(test)]
-mod search;
-#[cfg(test)]
-mod slither;
-#[cfg(test)]
 mod solve;
-#[cfg(test)]
-mod sudoku;

@@ -7,7 +7,8 @@ use hall_grid::Filling;
 use hall_solve::{
     Deduce, Finding, Look, Outcome, Partial, Pass, Rules, Step, search, settle, sweep,
 };
-use std::alloc::{AllocError, Global};
+use std::alloc::{AllocError, AllocGlobal, Global};
+use std::process::Abort;
 use std::test::Fail;
 
 #[derive(Drop)]
@@ -115,92 +116,90 @@ fn make_kind(cells: usize, values: u8, limit: u8, deduces: bool) -> Kind
     }
 }
 
-/// An outcome in a word, and the first values of the fillings that it hands out.
-type Shown = (&'static str, Option<u8>, Option<u8>);
-
-fn shown(outcome: &Outcome) -> Shown {
-    match outcome {
-        Outcome::None => ("none", None, None),
-        Outcome::One(filling) => ("one", filling.as_slice().first().copied(), None),
-        Outcome::More(a, b) => (
-            "more",
-            a.as_slice().first().copied(),
-            b.as_slice().first().copied(),
-        ),
-        Outcome::GaveUp => ("gave up", None, None),
-    }
+/// An outcome in words, with the first values of the fillings that it hands out.
+fn outcome_text(rt: &(impl AllocGlobal + Abort), outcome: &Outcome) -> String {
+    let text = match outcome {
+        Outcome::None => String::from_str(rt.alloc(), "none"),
+        Outcome::One(one) => format!(in rt.alloc(); "one {}", first_of(one)),
+        Outcome::More(a, b) => format!(in rt.alloc(); "more {} {}", first_of(a), first_of(b)),
+        Outcome::GaveUp => String::from_str(rt.alloc(), "gave up"),
+    };
+    text.expect(rt, "memory")
 }
 
-/// What a search finds with such rules, how often it visited, and how often it asked.
-fn searched(
-    alloc: Global,
-    cells: usize,
-    values: u8,
-    limit: u8,
-    deduces: bool,
-    budget: u64,
-) -> Result<(Shown, u64, u64), Fail> {
-    if cells < 1 {
-        return Err(Fail::from("no cell"));
-    }
+fn first_of(filling: &Filling) -> u8 {
+    filling.as_slice().first().copied().unwrap_or(u8::MAX)
+}
+
+fn number(rt: &impl Abort, word: Option<&str>) -> u64 {
+    word.expect(rt, "word").parse::<u64>().expect(rt, "number")
+}
+
+fn small(rt: &impl Abort, word: Option<&str>) -> u8 {
+    word.expect(rt, "word").parse::<u8>().expect(rt, "number")
+}
+
+/// Cells, values, limit, whether it deduces, and budget; how often it visits, how often it asks, and the outcome.
+const SEARCHES: &str = "\
+2 2 0 plain 100 7 4 none
+2 2 0 plain 7 7 4 none
+2 2 0 plain 6 6 3 gave up
+2 2 0 plain 0 0 0 gave up
+1 3 1 plain 100 4 3 one 0
+1 3 1 plain 3 3 2 gave up
+1 3 2 plain 3 3 2 more 0 1
+1 3 2 plain 2 2 1 gave up
+2 2 1 plain 100 4 2 more 0 0
+1 3 1 deduces 1 1 1 one 0
+1 3 0 deduces 1 1 0 none
+2 3 1 deduces 100 3 2 more 0 0
+1 0 5 plain 1 1 0 none";
+
+/// Sees what a search with such rules finds, how often it visits, and how often it asks.
+fn see_search(rt: &(impl AllocGlobal + Abort), row: &str) {
+    let mut words = row.splitn(6, ' ');
+    let cells = number(rt, words.next()) as usize;
+    let values = small(rt, words.next());
+    let limit = small(rt, words.next());
+    let deduces = words.next() == Some("deduces");
+    let budget = number(rt, words.next());
+    assert!(rt; cells != 0);
     let mut rules = make_kind(cells, values, limit, deduces);
-    let start = Partial::new(alloc, cells)?;
-    let outcome = search(alloc, &mut rules, &start, budget)?;
-    Ok((shown(&outcome), rules.visits, rules.asked))
+    let start = Partial::new(rt.alloc(), cells).expect(rt, "memory");
+    let outcome = search(rt.alloc(), &mut rules, &start, budget).expect(rt, "memory");
+    let outcome = outcome_text(rt, &outcome);
+    let told = format!(in rt.alloc(); "{} {} {outcome}", rules.visits, rules.asked);
+    let told = told.expect(rt, "memory");
+    assert!(rt; words.next() == Some(told.as_str()), "{row}: {told}");
 }
-
-/// Cells, values, limit, whether it deduces, and budget; the outcome, how often it visits, and how often it asks.
-const SEARCHES: [(usize, u8, u8, bool, u64, Shown, u64, u64); 13] = [
-    (2, 2, 0, false, 100, ("none", None, None), 7, 4),
-    (2, 2, 0, false, 7, ("none", None, None), 7, 4),
-    (2, 2, 0, false, 6, ("gave up", None, None), 6, 3),
-    (2, 2, 0, false, 0, ("gave up", None, None), 0, 0),
-    (1, 3, 1, false, 100, ("one", Some(0), None), 4, 3),
-    (1, 3, 1, false, 3, ("gave up", None, None), 3, 2),
-    (1, 3, 2, false, 3, ("more", Some(0), Some(1)), 3, 2),
-    (1, 3, 2, false, 2, ("gave up", None, None), 2, 1),
-    (2, 2, 1, false, 100, ("more", Some(0), Some(0)), 4, 2),
-    (1, 3, 1, true, 1, ("one", Some(0), None), 1, 1),
-    (1, 3, 0, true, 1, ("none", None, None), 1, 0),
-    (2, 3, 1, true, 100, ("more", Some(0), Some(0)), 3, 2),
-    (1, 0, 5, false, 1, ("none", None, None), 1, 0),
-];
 
 /// Each node of a tree is visited once.
 ///
 /// A tree of 1 + 2 + 4 nodes takes seven visits, and its four whole fillings are asked about once each.
 #[test]
-fn wastes_no_visits(rt: HostRuntime) -> Result<(), Fail> {
-    for (cells, values, limit, deduces, budget, answer, visits, asked) in SEARCHES {
-        let found = searched(rt.alloc(), cells, values, limit, deduces, budget)?;
-        assert_eq!(rt;
-            found,
-            (answer, visits, asked),
-            "{cells} {values} {limit} {budget}"
-        );
+fn wastes_no_visits(rt: HostRuntime) {
+    for row in SEARCHES.lines() {
+        see_search(&rt, row);
     }
-    Ok(())
 }
 
 #[test]
-fn sets_and_undoes_places(rt: HostRuntime) -> Result<(), Fail> {
-    let mut board = Partial::new(rt.alloc(), 3)?;
-    assert_eq!(rt; board.len(), 3);
-    assert_eq!(rt; board.first_unset(), Some(0));
+fn sets_and_undoes_places(rt: HostRuntime) {
+    let mut board = Partial::new(rt.alloc(), 3).expect(&rt, "memory");
+    assert!(rt; board.len() == 3 && board.first_unset() == Some(0));
     board.set(0, 7);
     let mark = board.mark();
     board.set(2, 9);
     board.set(1, 8);
-    assert_eq!(rt; board.first_unset(), None);
-    let filling = board.filling(rt.alloc())?;
-    assert_eq!(rt; filling.as_slice(), [7, 8, 9].as_slice());
+    assert!(rt; board.first_unset().is_none());
+    let filling = board.filling(rt.alloc()).expect(&rt, "memory");
     board.undo_to(mark);
-    assert_eq!(rt; board.as_slice(), [Some(7), None, None].as_slice());
-    assert_eq!(rt; board.first_unset(), Some(1));
+    assert!(rt; board.as_slice() == [Some(7), None, None].as_slice());
+    assert!(rt; board.first_unset() == Some(1));
     board.set(1, 4);
-    assert_eq!(rt; board.as_slice(), [Some(7), Some(4), None].as_slice());
-    assert_eq!(rt; filling.into_vec().as_slice(), [7, 8, 9].as_slice());
-    Ok(())
+    assert!(rt; board.as_slice() == [Some(7), Some(4), None].as_slice());
+    assert!(rt; filling.as_slice() == [7, 8, 9].as_slice());
+    assert!(rt; filling.into_vec().as_slice() == [7, 8, 9].as_slice());
 }
 
 #[test]

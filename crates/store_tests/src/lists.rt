@@ -1,629 +1,340 @@
 //! Lists of requests by chance: a hall over tables replies as one in maps does, with a cache and without.
-use crate::opening::{Asked, MORNING, TEN, answered, open, routes};
+use crate::opening::{Asked, answered, number_of, open, request_told, routes};
 use crate::tables::empty_store;
-use hall_desk::Desk;
-use hall_http::{Answer, Routes};
-use hall_sql::{CachedStore, SqlStore};
-use hall_store::MapStore;
-use sqlite::MemStore;
+use hall_http::Answer;
+use hall_sql::CachedStore;
+use hall_store::{MapStore, Store};
 use std::alloc::AllocGlobal;
 use std::process::Abort;
 
-/// A newcomer, and a person who is known already.
-const LIST: &str = "name,key,roles\nhal,hal-key-1,entrant+author\neve,eve-key-1,entrant\n";
+/// Requests that may come, at another moment and perhaps with another key than that of one who may ask it.
+const ROWS: &str = "\
+0|0|dora-key|POST /people|name,key,roles~hal,hal-key-1,entrant+author~eve,eve-key-1,entrant~
+0|0|dora-key|POST /people|name,key,roles~ivy,ivy-key-1,entrant~jan,eve-key-1,entrant~
+0|0|dora-key|POST /people|name,key,roles~kim,kim-key-1,judge~
+1|0|bob-key-1|PUT /puzzles/bob/p3|{\"text\":\"sudoku/4/4/123434122143432g\"}
+1|0|bob-key-1|PUT /puzzles/bob/p3|{\"text\":\"sudoku/4/4/v\"}
+1|0|bob-key-1|PUT /puzzles/bob/p1|{\"text\":\"sudoku/4/4/v\"}
+1|0|bob-key-1|PUT /puzzles/bob/p2|{\"text\":\"sudoku/4/4/123434122143432g\"}
+1|0|ada-key-1|PUT /puzzles/ada/q2|{\"text\":\"sudoku/4/4/123434122143432g\"}
+1|0|ada-key-1|PUT /puzzles/bob/p3|{\"text\":\"sudoku/4/4/123434122143432g\"}
+1|0|dora-key|PUT /puzzles/zoe/p1|{\"text\":\"sudoku/4/4/123434122143432g\"}
+1|0|bob-key-1|PUT /puzzles/bob/p3|{\"text\":\"sudoku/4/4/1\"}
+2|0|bob-key-1|GET /puzzles/bob/p3|
+2|0|bob-key-1|GET /puzzles/bob/v|
+2|0|dora-key|GET /puzzles/ada/q2|
+3|0|dora-key|GET /puzzles|
+3|0|bob-key-1|GET /puzzles|
+4|0|bob-key-1|POST /puzzles/bob/p3/certificate|{\"budget\":200000}
+4|0|bob-key-1|POST /puzzles/bob/v/certificate|{\"budget\":200000}
+4|0|bob-key-1|POST /puzzles/bob/v/certificate|{\"budget\":1}
+4|0|dora-key|POST /puzzles/ada/q2/certificate|{\"budget\":200000}
+5|0|dora-key|PUT /rounds/r1|version = 1~title = \"Ten\"~start = \"2026-05-02T10:00:00Z\"~minutes = 20~\
+protest_minutes = 5~mode = \"instant\"~penalty = 1~bonus = 1~\
+puzzle = [{author = \"bob\", label = \"p2\", points = 10}]~
+5|0|dora-key|PUT /rounds/r3|version = 1~title = \"Ten\"~start = \"2026-05-02T10:00:00Z\"~minutes = 20~\
+protest_minutes = 5~mode = \"instant\"~penalty = 1~bonus = 1~\
+puzzle = [{author = \"bob\", label = \"p2\", points = 10}]~
+5|0|dora-key|PUT /rounds/r5|version = 1~title = \"Morning\"~start = \"2026-05-02T09:00:00Z\"~minutes = 60~\
+protest_minutes = 30~mode = \"instant\"~penalty = 5~bonus = 2~\
+puzzle = [{author = \"bob\", label = \"p1\", points = 40}]~
+5|0|dora-key|PUT /rounds/r4|version = 1~title = \"Ten\"~start = \"2026-05-02T10:00:00Z\"~minutes = 20~\
+protest_minutes = 5~mode = \"instant\"~penalty = 1~bonus = 1~\
+puzzle = [{author = \"bob\", label = \"p2\", points = 10}]~
+5|0|dora-key|PUT /rounds/r5|version = 1~
+6|0|dora-key|POST /rounds/r1/release|
+6|0|dora-key|POST /rounds/r3/release|
+6|0|dora-key|POST /rounds/r4/release|
+6|0|dora-key|POST /rounds/r4/release|
+6|0|dora-key|POST /rounds/r5/release|
+7|0|dora-key|GET /rounds|
+7|0|eve-key-1|GET /rounds|
+8|0|eve-key-1|GET /rounds/r1|
+8|0|ada-key-1|GET /rounds/r2|
+8|0|dora-key|GET /rounds/r3|
+8|0|fay-key-1|GET /rounds/r4|
+9|0|eve-key-1|PUT /rounds/r1/answers/1/k1|{\"answer\":\"1234341221434312\"}
+9|0|eve-key-1|PUT /rounds/r1/answers/1/k1|{\"answer\":\"1234341221434321\"}
+9|0|eve-key-1|PUT /rounds/r1/answers/1/k2|{\"answer\":\"1234341221434321\"}
+9|0|fay-key-1|PUT /rounds/r1/answers/1/a|{\"answer\":\"1234341221434312\"}
+9|0|fay-key-1|PUT /rounds/r1/answers/1/b|{\"answer\":\"1234341221434321\"}
+9|0|ada-key-1|PUT /rounds/r1/answers/1/k1|{\"answer\":\"1234341221434321\"}
+9|0|gil-key-1|PUT /rounds/r1/answers/1/k1|{\"answer\":\"1234341221434312\"}
+9|0|eve-key-1|PUT /rounds/r2/answers/1/k1|{\"answer\":\"1234341221434312\"}
+9|0|fay-key-1|PUT /rounds/r2/answers/1/a|{\"answer\":\"1234341221434321\"}
+9|0|ada-key-1|PUT /rounds/r2/answers/1/k1|{\"answer\":\"1234341221434321\"}
+9|0|eve-key-1|PUT /rounds/r4/answers/1/k1|{\"answer\":\"1234341221434321\"}
+9|0|eve-key-1|PUT /rounds/r4/answers/2/k1|{\"answer\":\"1234341221434321\"}
+9|0|fay-key-1|PUT /rounds/r1/answers/2/k1|{\"answer\":\"1234341221434321\"}
+10|0|eve-key-1|GET /rounds/r1/answers|
+10|0|dora-key|GET /rounds/r1/answers|
+10|0|fay-key-1|GET /rounds/r2/answers|
+11|0|eve-key-1|GET /rounds/r1/solutions|
+11|0|dora-key|GET /rounds/r2/solutions|
+12|0|eve-key-1|PUT /rounds/r1/protests/w1|{\"number\":1,\"text\":\"unclear\"}
+12|0|eve-key-1|PUT /rounds/r1/protests/w1|{\"number\":1,\"text\":\"wrong\"}
+12|0|fay-key-1|PUT /rounds/r1/protests/w1|{\"number\":1,\"text\":\"unclear\"}
+12|0|gil-key-1|PUT /rounds/r1/protests/w2|{\"number\":1,\"text\":\"unclear\"}
+12|0|fay-key-1|PUT /rounds/r2/protests/w1|{\"number\":1,\"text\":\"late\"}
+13|0|rex-key-1|GET /rounds/r1/protests|
+13|0|eve-key-1|GET /rounds/r1/protests|
+13|0|dora-key|GET /rounds/r2/protests|
+14|0|rex-key-1|PUT /rounds/r1/rulings/eve/w1|{\"points\":-5,\"upheld\":true}
+14|0|rex-key-1|PUT /rounds/r1/rulings/eve/w1|{\"points\":0,\"upheld\":false}
+14|0|rex-key-1|PUT /rounds/r1/rulings/fay/w1|{\"points\":1000,\"upheld\":true}
+14|0|gil-key-1|PUT /rounds/r1/rulings/fay/w1|{\"points\":7,\"upheld\":true}
+14|0|gil-key-1|PUT /rounds/r2/rulings/fay/w1|{\"points\":7,\"upheld\":true}
+14|0|rex-key-1|PUT /rounds/r1/rulings/eve/w1|{\"points\":5,\"upheld\":false}
+15|0|dora-key|POST /rounds/r1/publish|
+15|0|dora-key|POST /rounds/r2/publish|
+16|0|eve-key-1|GET /rounds/r1/table|
+16|0|no-such-key|GET /rounds/r2/table|
+2|0|bob-key-1|GET /puzzles/bob|
+16|0|dora-key|GET /rounds/r9/table|";
 
-/// Two newcomers, the second of whom has a key of another person.
-const CONFLICT: &str = "name,key,roles\nivy,ivy-key-1,entrant\njan,eve-key-1,entrant\n";
-
-const ONE: &str = "{\"text\":\"sudoku/4/4/123434122143432g\"}";
-
-const MANY: &str = "{\"text\":\"sudoku/4/4/v\"}";
-
-const RIGHT: &str = "{\"answer\":\"1234341221434321\"}";
-
-const WRONG: &str = "{\"answer\":\"1234341221434312\"}";
-
-/// A request that may come: the number of its action, the key of one who may ask it, the method and path, and the body.
-type Row = (usize, &'static str, &'static str, &'static str);
-
-const ROWS: [Row; 74] = [
-    (0, "dora-key", "POST /people", LIST),
-    (0, "dora-key", "POST /people", CONFLICT),
-    (
-        0,
-        "dora-key",
-        "POST /people",
-        "name,key,roles\nkim,kim-key-1,judge\n",
-    ),
-    (1, "bob-key-1", "PUT /puzzles/bob/p3", ONE),
-    (1, "bob-key-1", "PUT /puzzles/bob/p3", MANY),
-    (1, "bob-key-1", "PUT /puzzles/bob/p1", MANY),
-    (1, "bob-key-1", "PUT /puzzles/bob/p2", ONE),
-    (1, "ada-key-1", "PUT /puzzles/ada/q2", ONE),
-    (1, "ada-key-1", "PUT /puzzles/bob/p3", ONE),
-    (1, "dora-key", "PUT /puzzles/zoe/p1", ONE),
-    (
-        1,
-        "bob-key-1",
-        "PUT /puzzles/bob/p3",
-        "{\"text\":\"sudoku/4/4/1\"}",
-    ),
-    (2, "bob-key-1", "GET /puzzles/bob/p3", ""),
-    (2, "bob-key-1", "GET /puzzles/bob/v", ""),
-    (2, "dora-key", "GET /puzzles/ada/q2", ""),
-    (3, "dora-key", "GET /puzzles", ""),
-    (3, "bob-key-1", "GET /puzzles", ""),
-    (
-        4,
-        "bob-key-1",
-        "POST /puzzles/bob/p3/certificate",
-        "{\"budget\":200000}",
-    ),
-    (
-        4,
-        "bob-key-1",
-        "POST /puzzles/bob/v/certificate",
-        "{\"budget\":200000}",
-    ),
-    (
-        4,
-        "bob-key-1",
-        "POST /puzzles/bob/v/certificate",
-        "{\"budget\":1}",
-    ),
-    (
-        4,
-        "dora-key",
-        "POST /puzzles/ada/q2/certificate",
-        "{\"budget\":200000}",
-    ),
-    (5, "dora-key", "PUT /rounds/r1", TEN),
-    (5, "dora-key", "PUT /rounds/r3", TEN),
-    (5, "dora-key", "PUT /rounds/r5", MORNING),
-    (5, "dora-key", "PUT /rounds/r4", TEN),
-    (5, "dora-key", "PUT /rounds/r5", "version = 1\n"),
-    (6, "dora-key", "POST /rounds/r1/release", ""),
-    (6, "dora-key", "POST /rounds/r3/release", ""),
-    (6, "dora-key", "POST /rounds/r4/release", ""),
-    (6, "dora-key", "POST /rounds/r4/release", ""),
-    (6, "dora-key", "POST /rounds/r5/release", ""),
-    (7, "dora-key", "GET /rounds", ""),
-    (7, "eve-key-1", "GET /rounds", ""),
-    (8, "eve-key-1", "GET /rounds/r1", ""),
-    (8, "ada-key-1", "GET /rounds/r2", ""),
-    (8, "dora-key", "GET /rounds/r3", ""),
-    (8, "fay-key-1", "GET /rounds/r4", ""),
-    (9, "eve-key-1", "PUT /rounds/r1/answers/1/k1", WRONG),
-    (9, "eve-key-1", "PUT /rounds/r1/answers/1/k1", RIGHT),
-    (9, "eve-key-1", "PUT /rounds/r1/answers/1/k2", RIGHT),
-    (9, "fay-key-1", "PUT /rounds/r1/answers/1/a", WRONG),
-    (9, "fay-key-1", "PUT /rounds/r1/answers/1/b", RIGHT),
-    (9, "ada-key-1", "PUT /rounds/r1/answers/1/k1", RIGHT),
-    (9, "gil-key-1", "PUT /rounds/r1/answers/1/k1", WRONG),
-    (9, "eve-key-1", "PUT /rounds/r2/answers/1/k1", WRONG),
-    (9, "fay-key-1", "PUT /rounds/r2/answers/1/a", RIGHT),
-    (9, "ada-key-1", "PUT /rounds/r2/answers/1/k1", RIGHT),
-    (9, "eve-key-1", "PUT /rounds/r4/answers/1/k1", RIGHT),
-    (9, "eve-key-1", "PUT /rounds/r4/answers/2/k1", RIGHT),
-    (9, "fay-key-1", "PUT /rounds/r1/answers/2/k1", RIGHT),
-    (10, "eve-key-1", "GET /rounds/r1/answers", ""),
-    (10, "dora-key", "GET /rounds/r1/answers", ""),
-    (10, "fay-key-1", "GET /rounds/r2/answers", ""),
-    (11, "eve-key-1", "GET /rounds/r1/solutions", ""),
-    (11, "dora-key", "GET /rounds/r2/solutions", ""),
-    (
-        12,
-        "eve-key-1",
-        "PUT /rounds/r1/protests/w1",
-        "{\"number\":1,\"text\":\"unclear\"}",
-    ),
-    (
-        12,
-        "eve-key-1",
-        "PUT /rounds/r1/protests/w1",
-        "{\"number\":1,\"text\":\"wrong\"}",
-    ),
-    (
-        12,
-        "fay-key-1",
-        "PUT /rounds/r1/protests/w1",
-        "{\"number\":1,\"text\":\"unclear\"}",
-    ),
-    (
-        12,
-        "gil-key-1",
-        "PUT /rounds/r1/protests/w2",
-        "{\"number\":1,\"text\":\"unclear\"}",
-    ),
-    (
-        12,
-        "fay-key-1",
-        "PUT /rounds/r2/protests/w1",
-        "{\"number\":1,\"text\":\"late\"}",
-    ),
-    (13, "rex-key-1", "GET /rounds/r1/protests", ""),
-    (13, "eve-key-1", "GET /rounds/r1/protests", ""),
-    (13, "dora-key", "GET /rounds/r2/protests", ""),
-    (
-        14,
-        "rex-key-1",
-        "PUT /rounds/r1/rulings/eve/w1",
-        "{\"points\":-5,\"upheld\":true}",
-    ),
-    (
-        14,
-        "rex-key-1",
-        "PUT /rounds/r1/rulings/eve/w1",
-        "{\"points\":0,\"upheld\":false}",
-    ),
-    (
-        14,
-        "rex-key-1",
-        "PUT /rounds/r1/rulings/fay/w1",
-        "{\"points\":1000,\"upheld\":true}",
-    ),
-    (
-        14,
-        "gil-key-1",
-        "PUT /rounds/r1/rulings/fay/w1",
-        "{\"points\":7,\"upheld\":true}",
-    ),
-    (
-        14,
-        "gil-key-1",
-        "PUT /rounds/r2/rulings/fay/w1",
-        "{\"points\":7,\"upheld\":true}",
-    ),
-    (
-        14,
-        "rex-key-1",
-        "PUT /rounds/r1/rulings/eve/w1",
-        "{\"points\":5,\"upheld\":false}",
-    ),
-    (15, "dora-key", "POST /rounds/r1/publish", ""),
-    (15, "dora-key", "POST /rounds/r2/publish", ""),
-    (16, "eve-key-1", "GET /rounds/r1/table", ""),
-    (16, "no-such-key", "GET /rounds/r2/table", ""),
-    (2, "bob-key-1", "GET /puzzles/bob", ""),
-    (16, "dora-key", "GET /rounds/r9/table", ""),
-];
-
-const KEYS: [&str; 9] = [
-    "dora-key",
-    "ada-key-1",
-    "bob-key-1",
-    "eve-key-1",
-    "fay-key-1",
-    "gil-key-1",
-    "rex-key-1",
-    "no-such-key",
-    "short",
-];
+const KEYS: &str = "\
+dora-key
+ada-key-1
+bob-key-1
+eve-key-1
+fay-key-1
+gil-key-1
+rex-key-1
+no-such-key
+short";
 
 /// The moments at which requests come, hour by hour: those at which a round begins, ends or closes, and those before.
-const MOMENTS: [[u64; 4]; 6] = [
-    [1, 1_777_712_398, 1_777_712_399, 1_777_712_400],
-    [1_777_712_400, 1_777_712_460, 1_777_714_199, 1_777_714_200],
-    [1_777_714_200, 1_777_715_000, 1_777_715_999, 1_777_716_000],
-    [1_777_715_999, 1_777_716_000, 1_777_717_199, 1_777_717_200],
-    [1_777_717_500, 1_777_717_799, 1_777_717_800, 1_777_719_599],
-    [1_777_717_800, 1_777_719_599, 1_777_719_600, 4_102_444_800],
-];
-
-/// A round of a puzzle that no other round has.
-const ALONE: &str = "\
-    version = 1\n\
-    title = \"Alone\"\n\
-    start = \"2026-05-02T09:00:00Z\"\n\
-    minutes = 60\n\
-    protest_minutes = 30\n\
-    mode = \"instant\"\n\
-    penalty = 0\n\
-    bonus = 0\n\
-    puzzle = [{author = \"bob\", label = \"p4\", points = 40}]\n";
+const MOMENTS: &str = "\
+1 1777712398 1777712399 1777712400
+1777712400 1777712460 1777714199 1777714200
+1777714200 1777715000 1777715999 1777716000
+1777715999 1777716000 1777717199 1777717200
+1777717500 1777717799 1777717800 1777719599
+1777717800 1777719599 1777719600 4102444800";
 
 /// What each list ends with: a release that is too late, seven protests, rulings of what is open, publications and
 /// tables.
-const ENDING: [(usize, Asked); 32] = [
-    (1, (1_777_720_000, "bob-key-1", "PUT /puzzles/bob/p4", ONE)),
-    (
-        4,
-        (
-            1_777_720_000,
-            "bob-key-1",
-            "POST /puzzles/bob/p4/certificate",
-            "{\"budget\":200000}",
-        ),
-    ),
-    (5, (1_777_720_000, "dora-key", "PUT /rounds/r6", ALONE)),
-    (
-        6,
-        (1_777_720_000, "dora-key", "POST /rounds/r6/release", ""),
-    ),
-    (
-        12,
-        (
-            1_777_716_000,
-            "gil-key-1",
-            "PUT /rounds/r1/protests/w2",
-            "{\"number\":1,\"text\":\"unclear\"}",
-        ),
-    ),
-    (
-        14,
-        (
-            1_777_720_000,
-            "gil-key-1",
-            "PUT /rounds/r1/rulings/gil/w2",
-            "{\"points\":9,\"upheld\":true}",
-        ),
-    ),
-    (
-        14,
-        (
-            1_777_720_000,
-            "rex-key-1",
-            "PUT /rounds/r1/rulings/gil/w2",
-            "{\"points\":1,\"upheld\":true}",
-        ),
-    ),
-    (
-        12,
-        (
-            1_777_716_000,
-            "eve-key-1",
-            "PUT /rounds/r1/protests/w1",
-            "{\"number\":1,\"text\":\"unclear\"}",
-        ),
-    ),
-    (
-        12,
-        (
-            1_777_716_000,
-            "eve-key-1",
-            "PUT /rounds/r1/protests/w2",
-            "{\"number\":1,\"text\":\"unclear\"}",
-        ),
-    ),
-    (
-        12,
-        (
-            1_777_716_000,
-            "eve-key-1",
-            "PUT /rounds/r1/protests/w3",
-            "{\"number\":1,\"text\":\"unclear\"}",
-        ),
-    ),
-    (
-        12,
-        (
-            1_777_716_000,
-            "eve-key-1",
-            "PUT /rounds/r1/protests/w4",
-            "{\"number\":1,\"text\":\"unclear\"}",
-        ),
-    ),
-    (
-        12,
-        (
-            1_777_716_000,
-            "eve-key-1",
-            "PUT /rounds/r1/protests/w5",
-            "{\"number\":1,\"text\":\"unclear\"}",
-        ),
-    ),
-    (
-        12,
-        (
-            1_777_716_000,
-            "eve-key-1",
-            "PUT /rounds/r1/protests/w6",
-            "{\"number\":1,\"text\":\"unclear\"}",
-        ),
-    ),
-    (
-        15,
-        (1_777_720_000, "dora-key", "POST /rounds/r1/publish", ""),
-    ),
-    (
-        14,
-        (
-            1_777_720_000,
-            "rex-key-1",
-            "PUT /rounds/r1/rulings/eve/w1",
-            "{\"points\":3,\"upheld\":true}",
-        ),
-    ),
-    (
-        14,
-        (
-            1_777_720_000,
-            "rex-key-1",
-            "PUT /rounds/r1/rulings/eve/w2",
-            "{\"points\":0,\"upheld\":false}",
-        ),
-    ),
-    (
-        14,
-        (
-            1_777_720_000,
-            "rex-key-1",
-            "PUT /rounds/r1/rulings/eve/w3",
-            "{\"points\":0,\"upheld\":true}",
-        ),
-    ),
-    (
-        14,
-        (
-            1_777_720_000,
-            "rex-key-1",
-            "PUT /rounds/r1/rulings/eve/w4",
-            "{\"points\":-9,\"upheld\":true}",
-        ),
-    ),
-    (
-        14,
-        (
-            1_777_720_000,
-            "rex-key-1",
-            "PUT /rounds/r1/rulings/eve/w5",
-            "{\"points\":9,\"upheld\":true}",
-        ),
-    ),
-    (
-        14,
-        (
-            1_777_720_000,
-            "rex-key-1",
-            "PUT /rounds/r1/rulings/fay/w1",
-            "{\"points\":0,\"upheld\":false}",
-        ),
-    ),
-    (
-        14,
-        (
-            1_777_720_000,
-            "rex-key-1",
-            "PUT /rounds/r1/rulings/gil/w2",
-            "{\"points\":0,\"upheld\":false}",
-        ),
-    ),
-    (
-        14,
-        (
-            1_777_720_000,
-            "rex-key-1",
-            "PUT /rounds/r2/rulings/fay/w1",
-            "{\"points\":2,\"upheld\":true}",
-        ),
-    ),
-    (
-        13,
-        (1_777_720_000, "rex-key-1", "GET /rounds/r1/protests", ""),
-    ),
-    (
-        15,
-        (1_777_720_000, "dora-key", "POST /rounds/r1/publish", ""),
-    ),
-    (
-        15,
-        (1_777_720_000, "dora-key", "POST /rounds/r2/publish", ""),
-    ),
-    (16, (1_777_720_000, "eve-key-1", "GET /rounds/r1/table", "")),
-    (16, (1_777_720_000, "eve-key-1", "GET /rounds/r2/table", "")),
-    (
-        10,
-        (1_777_720_000, "dora-key", "GET /rounds/r1/answers", ""),
-    ),
-    (
-        10,
-        (1_777_720_000, "dora-key", "GET /rounds/r2/answers", ""),
-    ),
-    (7, (1_777_720_000, "dora-key", "GET /rounds", "")),
-    (3, (1_777_720_000, "dora-key", "GET /puzzles", "")),
-    (
-        9,
-        (
-            1_777_715_999,
-            "eve-key-1",
-            "PUT /rounds/r1/answers/1/k9",
-            RIGHT,
-        ),
-    ),
-];
+const ENDING: &str = "\
+1|1777720000|bob-key-1|PUT /puzzles/bob/p4|{\"text\":\"sudoku/4/4/123434122143432g\"}
+4|1777720000|bob-key-1|POST /puzzles/bob/p4/certificate|{\"budget\":200000}
+5|1777720000|dora-key|PUT /rounds/r6|version = 1~title = \"Alone\"~start = \"2026-05-02T09:00:00Z\"~minutes = 60~\
+protest_minutes = 30~mode = \"instant\"~penalty = 0~bonus = 0~\
+puzzle = [{author = \"bob\", label = \"p4\", points = 40}]~
+6|1777720000|dora-key|POST /rounds/r6/release|
+12|1777716000|gil-key-1|PUT /rounds/r1/protests/w2|{\"number\":1,\"text\":\"unclear\"}
+14|1777720000|gil-key-1|PUT /rounds/r1/rulings/gil/w2|{\"points\":9,\"upheld\":true}
+14|1777720000|rex-key-1|PUT /rounds/r1/rulings/gil/w2|{\"points\":1,\"upheld\":true}
+12|1777716000|eve-key-1|PUT /rounds/r1/protests/w1|{\"number\":1,\"text\":\"unclear\"}
+12|1777716000|eve-key-1|PUT /rounds/r1/protests/w2|{\"number\":1,\"text\":\"unclear\"}
+12|1777716000|eve-key-1|PUT /rounds/r1/protests/w3|{\"number\":1,\"text\":\"unclear\"}
+12|1777716000|eve-key-1|PUT /rounds/r1/protests/w4|{\"number\":1,\"text\":\"unclear\"}
+12|1777716000|eve-key-1|PUT /rounds/r1/protests/w5|{\"number\":1,\"text\":\"unclear\"}
+12|1777716000|eve-key-1|PUT /rounds/r1/protests/w6|{\"number\":1,\"text\":\"unclear\"}
+15|1777720000|dora-key|POST /rounds/r1/publish|
+14|1777720000|rex-key-1|PUT /rounds/r1/rulings/eve/w1|{\"points\":3,\"upheld\":true}
+14|1777720000|rex-key-1|PUT /rounds/r1/rulings/eve/w2|{\"points\":0,\"upheld\":false}
+14|1777720000|rex-key-1|PUT /rounds/r1/rulings/eve/w3|{\"points\":0,\"upheld\":true}
+14|1777720000|rex-key-1|PUT /rounds/r1/rulings/eve/w4|{\"points\":-9,\"upheld\":true}
+14|1777720000|rex-key-1|PUT /rounds/r1/rulings/eve/w5|{\"points\":9,\"upheld\":true}
+14|1777720000|rex-key-1|PUT /rounds/r1/rulings/fay/w1|{\"points\":0,\"upheld\":false}
+14|1777720000|rex-key-1|PUT /rounds/r1/rulings/gil/w2|{\"points\":0,\"upheld\":false}
+14|1777720000|rex-key-1|PUT /rounds/r2/rulings/fay/w1|{\"points\":2,\"upheld\":true}
+13|1777720000|rex-key-1|GET /rounds/r1/protests|
+15|1777720000|dora-key|POST /rounds/r1/publish|
+15|1777720000|dora-key|POST /rounds/r2/publish|
+16|1777720000|eve-key-1|GET /rounds/r1/table|
+16|1777720000|eve-key-1|GET /rounds/r2/table|
+10|1777720000|dora-key|GET /rounds/r1/answers|
+10|1777720000|dora-key|GET /rounds/r2/answers|
+7|1777720000|dora-key|GET /rounds|
+3|1777720000|dora-key|GET /puzzles|
+9|1777715999|eve-key-1|PUT /rounds/r1/answers/1/k9|{\"answer\":\"1234341221434321\"}";
 
-const STATUSES: [&str; 4] = [
-    "HTTP/1.1 200 OK",
-    "HTTP/1.1 400 Bad Request",
-    "HTTP/1.1 403 Forbidden",
-    "HTTP/1.1 404 Not Found",
-];
+/// How the replies of each status begin.
+const STATUSES: &str = "\
+HTTP/1.1 200 OK
+HTTP/1.1 400 Bad Request
+HTTP/1.1 403 Forbidden
+HTTP/1.1 404 Not Found";
 
 /// How the reply ends that denies by a rule, in the order of their numbers.
-const DENIALS: [&str; 20] = [
-    "{\"denied\":1}",
-    "{\"denied\":2}",
-    "{\"denied\":3}",
-    "{\"denied\":4}",
-    "{\"denied\":5}",
-    "{\"denied\":6}",
-    "{\"denied\":7}",
-    "{\"denied\":8}",
-    "{\"denied\":9}",
-    "{\"denied\":10}",
-    "{\"denied\":11}",
-    "{\"denied\":12}",
-    "{\"denied\":13}",
-    "{\"denied\":14}",
-    "{\"denied\":15}",
-    "{\"denied\":16}",
-    "{\"denied\":17}",
-    "{\"denied\":18}",
-    "{\"denied\":19}",
-    "{\"denied\":20}",
-];
+const DENIALS: &str = "\
+{\"denied\":1}
+{\"denied\":2}
+{\"denied\":3}
+{\"denied\":4}
+{\"denied\":5}
+{\"denied\":6}
+{\"denied\":7}
+{\"denied\":8}
+{\"denied\":9}
+{\"denied\":10}
+{\"denied\":11}
+{\"denied\":12}
+{\"denied\":13}
+{\"denied\":14}
+{\"denied\":15}
+{\"denied\":16}
+{\"denied\":17}
+{\"denied\":18}
+{\"denied\":19}
+{\"denied\":20}";
 
-/// How many replies had each status, how many denied by each rule, and how often each action was done.
-#[derive(Drop)]
-struct Counts {
-    statuses: [u64; 4],
-    denials: [u64; 20],
-    done: [u64; 17],
+/// The lines of a table.
+fn lines_of(rt: &(impl AllocGlobal + Abort), table: &'static str) -> Vec<&'static str> {
+    table.lines().collect(rt.alloc()).expect(rt, "memory")
 }
 
-fn no_counts() -> Counts {
-    Counts {
-        statuses: [0; 4],
-        denials: [0; 20],
-        done: [0; 17],
-    }
-}
-
-fn tick(counts: &mut [u64], place: usize) {
-    if let Some(count) = counts.get_mut(place) {
-        *count = count.saturating_add(1);
-    }
-}
-
-fn has_status(reply: &[u8], status: &str) -> bool {
-    reply.starts_with(status.as_bytes())
-}
-
-/// Counts a reply to a request of the action.
-fn note(counts: &mut Counts, action: usize, reply: &[u8]) {
-    for (place, status) in STATUSES.iter().enumerate() {
-        if has_status(reply, status) {
-            tick(&mut counts.statuses, place);
-        }
-    }
-    for (place, denial) in DENIALS.iter().enumerate() {
-        if reply.ends_with(denial.as_bytes()) {
-            tick(&mut counts.denials, place);
-        }
-    }
-    if has_status(reply, STATUSES[0]) {
-        tick(&mut counts.done, action);
-    }
-}
-
-/// The row of a table that a number tells, which goes on to the next number.
-fn pick<'a, T>(rt: &impl Abort, seed: &mut u64, rows: &'a [T]) -> &'a T {
+/// The one of a list that a number tells, which goes on to the next number.
+fn pick(rt: &impl Abort, seed: &mut u64, list: &[&'static str]) -> &'static str {
     *seed = seed
         .wrapping_mul(6_364_136_223_846_793_005)
         .wrapping_add(1_442_695_040_888_963_407);
-    let count = rows.len() as u64;
+    let count = list.len() as u64;
     assert!(rt; count != 0);
     let place = (*seed >> 33) % count;
-    rows.get(place as usize).expect(rt, "row")
+    list.get(place as usize).expect(rt, "row")
 }
 
-/// The key that is shown: three times of four that of one who may ask.
-fn pick_key(rt: &impl Abort, seed: &mut u64, usual: &'static str) -> &'static str {
-    if *pick(rt, seed, &[true, true, true, false]) {
-        usual
-    } else {
-        *pick(rt, seed, &KEYS)
-    }
-}
-
-/// The same hall over each store.
+/// The tables from which a list is picked.
 #[derive(Drop)]
-struct Halls {
-    routes: Routes,
-    maps: Desk<MapStore>,
-    tables: Desk<SqlStore<MemStore>>,
-    cached: Desk<CachedStore<SqlStore<MemStore>>>,
+struct Tables {
+    rows: Vec<&'static str>,
+    keys: Vec<&'static str>,
 }
 
-fn open_all(rt: &(impl AllocGlobal + Abort)) -> Halls {
-    let routes = routes(rt);
-    let maps = open(rt, &routes, MapStore::new(rt.alloc()));
-    let tables = open(rt, &routes, empty_store(rt));
-    let cached = open(rt, &routes, CachedStore::new(rt.alloc(), empty_store(rt)));
-    Halls {
-        routes,
-        maps,
-        tables,
-        cached,
-    }
-}
-
-/// Sees that the reply is the wanted one.
-fn see_same(rt: &impl Abort, asked: &Asked, wanted: &Answer, found: &Answer) {
-    let is_same = wanted.as_bytes() == found.as_bytes();
-    assert!(rt; is_same, "{} of {} at {}", asked.2, asked.1, asked.0);
-}
-
-/// Asks all halls the same, and sees that they reply the same.
-fn ask(
-    rt: &(impl AllocGlobal + Abort),
-    halls: &mut Halls,
-    counts: &mut Counts,
-    action: usize,
-    asked: &Asked,
-) {
-    let wanted = answered(rt, &halls.routes, &mut halls.maps, asked);
-    let found = answered(rt, &halls.routes, &mut halls.tables, asked);
-    see_same(rt, asked, &wanted, &found);
-    let found = answered(rt, &halls.routes, &mut halls.cached, asked);
-    see_same(rt, asked, &wanted, &found);
-    note(counts, action, wanted.as_bytes());
-}
-
-/// Asks one request by chance.
-fn ask_any(
-    rt: &(impl AllocGlobal + Abort),
-    halls: &mut Halls,
-    counts: &mut Counts,
+/// One request by chance: three times of four with the key of one who may ask it.
+fn pick_request(
+    rt: &impl Abort,
+    tables: &Tables,
     seed: &mut u64,
-    moments: &[u64],
+    moments: &[&'static str],
+) -> Asked<'static> {
+    let mut request = request_told(rt, pick(rt, seed, tables.rows.as_slice()));
+    if pick(rt, seed, &["usual", "usual", "usual", "any"]) == "any" {
+        request.key = pick(rt, seed, tables.keys.as_slice());
+    }
+    request.moment = number_of(rt, pick(rt, seed, moments));
+    request
+}
+
+/// Adds thirty requests of an hour.
+fn add_hour(
+    rt: &(impl AllocGlobal + Abort),
+    list: &mut Vec<Asked<'static>>,
+    tables: &Tables,
+    seed: &mut u64,
+    moments: &'static str,
 ) {
-    let (action, usual, line, body) = pick(rt, seed, &ROWS);
-    let key = pick_key(rt, seed, *usual);
-    let moment = *pick(rt, seed, moments);
-    ask(rt, halls, counts, *action, &(moment, key, *line, *body));
+    let moments: Vec<&'static str> = moments.split(' ').collect(rt.alloc()).expect(rt, "memory");
+    for _ in 0..30 {
+        let request = pick_request(rt, tables, seed, moments.as_slice());
+        list.push(request).expect(rt, "memory");
+    }
 }
 
-/// Asks a list that the seed tells, and then the ending.
-fn ask_list(rt: &(impl AllocGlobal + Abort), counts: &mut Counts, seed: u64) {
-    let mut halls = open_all(rt);
+/// The list that a seed tells, and then the ending.
+fn list_of(rt: &(impl AllocGlobal + Abort), seed: u64) -> Vec<Asked<'static>> {
+    let tables = Tables {
+        rows: lines_of(rt, ROWS),
+        keys: lines_of(rt, KEYS),
+    };
     let mut seed = seed;
-    for moments in &MOMENTS {
-        for _ in 0..30 {
-            ask_any(rt, &mut halls, counts, &mut seed, moments);
+    let mut list = Vec::new(rt.alloc());
+    for moments in MOMENTS.lines() {
+        add_hour(rt, &mut list, &tables, &mut seed, moments);
+    }
+    for row in ENDING.lines() {
+        list.push(request_told(rt, row)).expect(rt, "memory");
+    }
+    list
+}
+
+/// What a hall over a store that held nothing replies to the list.
+fn replies<S: Store>(
+    rt: &(impl AllocGlobal + Abort),
+    store: S,
+    list: &[Asked<'static>],
+) -> Vec<Answer> {
+    let routes = routes(rt);
+    let mut desk = open(rt, &routes, store);
+    let mut replies = Vec::new(rt.alloc());
+    for asked in list {
+        let reply = answered(rt, &routes, &mut desk, asked);
+        replies.push(reply).expect(rt, "memory");
+    }
+    replies
+}
+
+/// Sees that the replies to the list are the wanted ones.
+fn see_same(rt: &impl Abort, list: &[Asked<'static>], wanted: &[Answer], found: &[Answer]) {
+    assert!(rt; wanted.len() == list.len() && found.len() == list.len());
+    for (asked, (one, other)) in list.iter().zip(wanted.iter().zip(found)) {
+        let is_same = one.as_bytes() == other.as_bytes();
+        assert!(rt;
+            is_same,
+            "{} of {} at {}",
+            asked.line, asked.key, asked.moment
+        );
+    }
+}
+
+/// What was seen, one bit each: the actions that were done, the statuses, and the rules that denied.
+#[derive(Clone, Copy)]
+struct Seen {
+    done: u64,
+    statuses: u64,
+    denials: u64,
+}
+
+/// The set with the place in it.
+fn with(set: u64, place: u64) -> u64 {
+    set | (1 << (place % 64))
+}
+
+/// Notes a reply to a request of the action.
+fn note(seen: &mut Seen, action: u64, reply: &[u8]) {
+    for (place, status) in STATUSES.lines().enumerate() {
+        if reply.starts_with(status.as_bytes()) {
+            seen.statuses = with(seen.statuses, place as u64);
         }
     }
-    for (action, asked) in &ENDING {
-        ask(rt, &mut halls, counts, *action, asked);
-    }
-}
-
-/// Adds each of them that was never counted.
-fn add_missing(rt: &(impl AllocGlobal + Abort), missing: &mut String, counts: &[u64], kind: &str) {
-    for (place, count) in counts.iter().enumerate() {
-        if *count == 0 {
-            let word = format!(in rt.alloc(); " {kind} {place}").expect(rt, "memory");
-            missing.push_str(word.as_str()).expect(rt, "memory");
+    for (place, denial) in DENIALS.lines().enumerate() {
+        if reply.ends_with(denial.as_bytes()) {
+            seen.denials = with(seen.denials, place as u64);
         }
     }
+    if reply.starts_with(b"HTTP/1.1 200 OK") {
+        seen.done = with(seen.done, action);
+    }
 }
 
-/// Sees that each of them was counted.
-fn see_all(rt: &(impl AllocGlobal + Abort), counts: &Counts) {
-    let mut missing = String::new(rt.alloc());
-    add_missing(rt, &mut missing, &counts.statuses, "status");
-    add_missing(rt, &mut missing, &counts.denials, "denial");
-    add_missing(rt, &mut missing, &counts.done, "action");
-    assert!(rt; missing.is_empty(), "never:{missing}");
+/// Asks all halls the list that the seed tells, and sees that they reply the same.
+fn ask_list(rt: &(impl AllocGlobal + Abort), seen: &mut Seen, seed: u64) {
+    let list = list_of(rt, seed);
+    let wanted = replies(rt, MapStore::new(rt.alloc()), list.as_slice());
+    let found = replies(rt, empty_store(rt), list.as_slice());
+    see_same(rt, list.as_slice(), wanted.as_slice(), found.as_slice());
+    let cached = CachedStore::new(rt.alloc(), empty_store(rt));
+    let found = replies(rt, cached, list.as_slice());
+    see_same(rt, list.as_slice(), wanted.as_slice(), found.as_slice());
+    for (asked, reply) in list.iter().zip(wanted.iter()) {
+        note(seen, asked.action, reply.as_bytes());
+    }
 }
-
-const SEEDS: [u64; 3] = [1, 2, 3];
 
 #[test]
 fn lists_of_requests_get_the_same_replies_from_all_stores(rt: HostRuntime) {
-    let mut counts = no_counts();
-    for seed in SEEDS {
-        ask_list(&rt, &mut counts, seed);
+    let mut seen = Seen {
+        done: 0,
+        statuses: 0,
+        denials: 0,
+    };
+    for seed in 1..4 {
+        ask_list(&rt, &mut seen, seed);
     }
-    see_all(&rt, &counts);
+    // Each of the 17 actions was done, each of the 4 statuses came, and each of the 20 rules denied.
+    assert!(rt; seen.done == 0x1_ffff, "actions {:b}", seen.done);
+    assert!(rt; seen.statuses == 0xf, "statuses {:b}", seen.statuses);
+    assert!(rt; seen.denials == 0xf_ffff, "denials {:b}", seen.denials);
 }

@@ -7,8 +7,32 @@ use hall_store::Store;
 use std::alloc::AllocGlobal;
 use std::process::Abort;
 
-/// A request: the moment, the key that is shown, the method and path, and the body.
-pub(crate) type Asked = (u64, &'static str, &'static str, &'static str);
+/// A request: the number of its action, the moment, the key that is shown, the method and path, and the body, in which
+/// `~` ends a line.
+#[derive(Clone, Copy)]
+pub(crate) struct Asked<'a> {
+    pub(crate) action: u64,
+    pub(crate) moment: u64,
+    pub(crate) key: &'a str,
+    pub(crate) line: &'a str,
+    body: &'a str,
+}
+
+pub(crate) fn number_of(rt: &impl Abort, word: &str) -> u64 {
+    word.parse::<u64>().expect(rt, "number")
+}
+
+/// The request that a line of a table tells.
+pub(crate) fn request_told<'a>(rt: &impl Abort, row: &'a str) -> Asked<'a> {
+    let mut cells = row.split('|');
+    Asked {
+        action: number_of(rt, cells.next().expect(rt, "action")),
+        moment: number_of(rt, cells.next().expect(rt, "moment")),
+        key: cells.next().expect(rt, "key"),
+        line: cells.next().expect(rt, "line"),
+        body: cells.next().expect(rt, "body"),
+    }
+}
 
 /// Gil may both answer and rule.
 const PEOPLE: &str = "\
@@ -21,116 +45,44 @@ const PEOPLE: &str = "\
     gil,gil-key-1,entrant+referee\n\
     rex,rex-key-1,referee\n";
 
-/// From nine o'clock on 2 May 2026.
-pub(crate) const MORNING: &str = "\
-    version = 1\n\
-    title = \"Morning\"\n\
-    start = \"2026-05-02T09:00:00Z\"\n\
-    minutes = 60\n\
-    protest_minutes = 30\n\
-    mode = \"instant\"\n\
-    penalty = 5\n\
-    bonus = 2\n\
-    puzzle = [{author = \"bob\", label = \"p1\", points = 40}]\n";
-
-/// From half past nine.
-const LATE: &str = "\
-    version = 1\n\
-    title = \"Late\"\n\
-    start = \"2026-05-02T09:30:00Z\"\n\
-    minutes = 60\n\
-    protest_minutes = 30\n\
-    mode = \"sealed\"\n\
-    penalty = 0\n\
-    bonus = 0\n\
-    puzzle = [{author = \"ada\", label = \"q1\", points = 30}]\n";
-
-/// The morning's round with a puzzle that has many solutions.
-const UNCERTAIN: &str = "\
-    version = 1\n\
-    title = \"Morning\"\n\
-    start = \"2026-05-02T09:00:00Z\"\n\
-    minutes = 60\n\
-    protest_minutes = 30\n\
-    mode = \"instant\"\n\
-    penalty = 5\n\
-    bonus = 2\n\
-    puzzle = [{author = \"bob\", label = \"v\", points = 40}]\n";
-
-/// From ten o'clock.
-pub(crate) const TEN: &str = "\
-    version = 1\n\
-    title = \"Ten\"\n\
-    start = \"2026-05-02T10:00:00Z\"\n\
-    minutes = 20\n\
-    protest_minutes = 5\n\
-    mode = \"instant\"\n\
-    penalty = 1\n\
-    bonus = 1\n\
-    puzzle = [{author = \"bob\", label = \"p2\", points = 10}]\n";
-
-/// Four puzzles are put and two certified; of four rounds two are released.
-const OPENING: [Asked; 13] = [
-    (
-        0,
-        "bob-key-1",
-        "PUT /puzzles/bob/p1",
-        "{\"text\":\"sudoku/4/4/123434122143432g\"}",
-    ),
-    (
-        0,
-        "bob-key-1",
-        "PUT /puzzles/bob/p2",
-        "{\"text\":\"sudoku/4/4/123434122143g32g\"}",
-    ),
-    (
-        0,
-        "bob-key-1",
-        "PUT /puzzles/bob/v",
-        "{\"text\":\"sudoku/4/4/v\"}",
-    ),
-    (
-        0,
-        "ada-key-1",
-        "PUT /puzzles/ada/q1",
-        "{\"text\":\"nurikabe/2/2/1i\"}",
-    ),
-    (
-        0,
-        "bob-key-1",
-        "POST /puzzles/bob/p1/certificate",
-        "{\"budget\":200000}",
-    ),
-    (
-        0,
-        "bob-key-1",
-        "POST /puzzles/bob/p2/certificate",
-        "{\"budget\":200000}",
-    ),
-    (
-        0,
-        "ada-key-1",
-        "POST /puzzles/ada/q1/certificate",
-        "{\"budget\":200000}",
-    ),
-    (0, "dora-key", "PUT /rounds/r1", MORNING),
-    (0, "dora-key", "PUT /rounds/r2", LATE),
-    (0, "dora-key", "PUT /rounds/r3", UNCERTAIN),
-    (0, "dora-key", "PUT /rounds/r4", TEN),
-    (0, "dora-key", "POST /rounds/r1/release", ""),
-    (0, "dora-key", "POST /rounds/r2/release", ""),
-];
+/// Four puzzles are put and three certified; of four rounds two are released. They begin at nine o'clock on 2 May 2026,
+/// but r2 at half past nine and r4 at ten; the puzzle of r3 has many solutions.
+const OPENING: &str = "\
+1|0|bob-key-1|PUT /puzzles/bob/p1|{\"text\":\"sudoku/4/4/123434122143432g\"}
+1|0|bob-key-1|PUT /puzzles/bob/p2|{\"text\":\"sudoku/4/4/123434122143g32g\"}
+1|0|bob-key-1|PUT /puzzles/bob/v|{\"text\":\"sudoku/4/4/v\"}
+1|0|ada-key-1|PUT /puzzles/ada/q1|{\"text\":\"nurikabe/2/2/1i\"}
+4|0|bob-key-1|POST /puzzles/bob/p1/certificate|{\"budget\":200000}
+4|0|bob-key-1|POST /puzzles/bob/p2/certificate|{\"budget\":200000}
+4|0|ada-key-1|POST /puzzles/ada/q1/certificate|{\"budget\":200000}
+5|0|dora-key|PUT /rounds/r1|version = 1~title = \"Morning\"~start = \"2026-05-02T09:00:00Z\"~minutes = 60~\
+protest_minutes = 30~mode = \"instant\"~penalty = 5~bonus = 2~\
+puzzle = [{author = \"bob\", label = \"p1\", points = 40}]~
+5|0|dora-key|PUT /rounds/r2|version = 1~title = \"Late\"~start = \"2026-05-02T09:30:00Z\"~minutes = 60~\
+protest_minutes = 30~mode = \"sealed\"~penalty = 0~bonus = 0~\
+puzzle = [{author = \"ada\", label = \"q1\", points = 30}]~
+5|0|dora-key|PUT /rounds/r3|version = 1~title = \"Morning\"~start = \"2026-05-02T09:00:00Z\"~minutes = 60~\
+protest_minutes = 30~mode = \"instant\"~penalty = 5~bonus = 2~\
+puzzle = [{author = \"bob\", label = \"v\", points = 40}]~
+5|0|dora-key|PUT /rounds/r4|version = 1~title = \"Ten\"~start = \"2026-05-02T10:00:00Z\"~minutes = 20~\
+protest_minutes = 5~mode = \"instant\"~penalty = 1~bonus = 1~\
+puzzle = [{author = \"bob\", label = \"p2\", points = 10}]~
+6|0|dora-key|POST /rounds/r1/release|
+6|0|dora-key|POST /rounds/r2/release|";
 
 /// What the desk replies.
 pub(crate) fn answered<S: Store>(
     rt: &(impl AllocGlobal + Abort),
     routes: &Routes,
     desk: &mut Desk<S>,
-    asked: &Asked,
+    asked: &Asked<'_>,
 ) -> Answer {
-    let (moment, key, line, body) = asked;
-    let bytes = request(rt, key, line, body);
-    let moment = number(rt, *moment);
+    let body = asked
+        .body
+        .replace(rt.alloc(), '~', "\n")
+        .expect(rt, "memory");
+    let bytes = request(rt, asked.key, asked.line, body.as_str());
+    let moment = number(rt, asked.moment);
     answer_bytes(rt.alloc(), routes, desk, moment, bytes.as_bytes())
 }
 
@@ -139,7 +91,7 @@ pub(crate) fn is_done<S: Store>(
     rt: &(impl AllocGlobal + Abort),
     routes: &Routes,
     desk: &mut Desk<S>,
-    asked: &Asked,
+    asked: &Asked<'_>,
 ) -> bool {
     let answer = answered(rt, routes, desk, asked);
     answer.as_bytes().starts_with(b"HTTP/1.1 200 OK")
@@ -165,8 +117,11 @@ pub(crate) fn open<S: Store>(
     store: S,
 ) -> Desk<S> {
     let mut desk = seeded(rt, store);
-    for asked in &OPENING {
-        assert!(rt; is_done(rt, routes, &mut desk, asked), "{}", asked.2);
+    for row in OPENING.lines() {
+        assert!(rt;
+            is_done(rt, routes, &mut desk, &request_told(rt, row)),
+            "{row}"
+        );
     }
     desk
 }

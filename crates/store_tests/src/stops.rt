@@ -3,7 +3,7 @@ use crate::files::{
     Image, MOST_CALLS, Part, Stopped, empty_image, image_of, images_after, is_blown, stopped,
     tables, whole,
 };
-use crate::opening::{Asked, is_done, routes, seeded};
+use crate::opening::{Asked, is_done, number_of, request_told, routes, seeded};
 use crate::world::world_text;
 use hall_desk::Desk;
 use hall_http::Routes;
@@ -12,210 +12,77 @@ use sqlite::Alter;
 use std::alloc::AllocGlobal;
 use std::process::Abort;
 
-/// A newcomer among two who are known.
-const LIST: &str =
-    "name,key,roles\neve,eve-key-1,entrant\nhal,hal-key-1,entrant+author\nrex,rex-key-1,referee\n";
-
-/// A round of two puzzles.
-const DRAFT: &str = "\
-    version = 1\n\
-    title = \"Draft\"\n\
-    start = \"2026-05-02T09:00:00Z\"\n\
-    minutes = 20\n\
-    protest_minutes = 10\n\
-    mode = \"sealed\"\n\
-    penalty = 0\n\
-    bonus = 0\n\
-    puzzle = [{author = \"bob\", label = \"p2\", points = 30}, {author = \"bob\", label = \"p1\", points = 20}]\n";
-
-/// The same round, of one puzzle.
-const MORNING: &str = "\
-    version = 1\n\
-    title = \"Morning\"\n\
-    start = \"2026-05-02T09:00:00Z\"\n\
-    minutes = 60\n\
-    protest_minutes = 30\n\
-    mode = \"instant\"\n\
-    penalty = 5\n\
-    bonus = 2\n\
-    puzzle = [{author = \"bob\", label = \"p1\", points = 40}]\n";
-
-/// The people at first, and those after the list.
-const PEOPLE: &str = "
-person ada ada-key-1 author entrant
-person bob bob-key-1 author
-person dora dora-key director
-person eve eve-key-1 entrant
-person fay fay-key-1 entrant
-person gil gil-key-1 referee entrant
-person rex rex-key-1 referee";
-
-const MORE_PEOPLE: &str = "
-person ada ada-key-1 author entrant
-person bob bob-key-1 author
-person dora dora-key director
-person eve eve-key-1 entrant
-person fay fay-key-1 entrant
-person gil gil-key-1 referee entrant
-person hal hal-key-1 author entrant
-person rex rex-key-1 referee";
-
-const P1: &str = "\npuzzle bob p1 sudoku/4/4/123434122143432g 1234341221434321";
-
-const P2: &str = "\npuzzle bob p2 sudoku/4/4/v new";
-
-const R1: &str = "\nround r1 Morning 1777712400 60 30 instant 5 2";
-
-const PLACE: &str = "\nplace bob p1 40";
-
-const ANSWER: &str = "\nanswer eve 1 k1 1 1777712500 1234341221434321 0";
-
-/// A command, and the lines of the world that it leaves.
-type Step = (Asked, &'static [&'static str]);
-
 /// A round from a list of people to its publication: each of the nine commands that write, and two of them over what
 /// stands there already.
-const STEPS: [Step; 12] = [
-    ((0, "dora-key", "POST /people", LIST), &[MORE_PEOPLE]),
-    (
-        (
-            0,
-            "bob-key-1",
-            "PUT /puzzles/bob/p1",
-            "{\"text\":\"nurikabe/2/2/1i\"}",
-        ),
-        &[MORE_PEOPLE, "\npuzzle bob p1 nurikabe/2/2/1i new"],
-    ),
-    (
-        (
-            0,
-            "bob-key-1",
-            "PUT /puzzles/bob/p2",
-            "{\"text\":\"sudoku/4/4/v\"}",
-        ),
-        &[MORE_PEOPLE, "\npuzzle bob p1 nurikabe/2/2/1i new", P2],
-    ),
-    (
-        (
-            0,
-            "bob-key-1",
-            "PUT /puzzles/bob/p1",
-            "{\"text\":\"sudoku/4/4/123434122143432g\"}",
-        ),
-        &[
-            MORE_PEOPLE,
-            "\npuzzle bob p1 sudoku/4/4/123434122143432g new",
-            P2,
-        ],
-    ),
-    (
-        (
-            0,
-            "bob-key-1",
-            "POST /puzzles/bob/p1/certificate",
-            "{\"budget\":200000}",
-        ),
-        &[MORE_PEOPLE, P1, P2],
-    ),
-    (
-        (0, "dora-key", "PUT /rounds/r1", DRAFT),
-        &[
-            MORE_PEOPLE,
-            P1,
-            P2,
-            "\nround r1 Draft 1777712400 20 10 sealed 0 0",
-            "\nplace bob p2 30\nplace bob p1 20",
-        ],
-    ),
-    (
-        (0, "dora-key", "PUT /rounds/r1", MORNING),
-        &[MORE_PEOPLE, P1, P2, R1, PLACE],
-    ),
-    (
-        (0, "dora-key", "POST /rounds/r1/release", ""),
-        &[MORE_PEOPLE, P1, P2, R1, " released", PLACE],
-    ),
-    (
-        (
-            1_777_712_500,
-            "eve-key-1",
-            "PUT /rounds/r1/answers/1/k1",
-            "{\"answer\":\"1234341221434321\"}",
-        ),
-        &[MORE_PEOPLE, P1, P2, R1, " released", PLACE, ANSWER],
-    ),
-    (
-        (
-            1_777_716_000,
-            "eve-key-1",
-            "PUT /rounds/r1/protests/w1",
-            "{\"number\":1,\"text\":\"unclear\"}",
-        ),
-        &[
-            MORE_PEOPLE,
-            P1,
-            P2,
-            R1,
-            " released",
-            PLACE,
-            ANSWER,
-            "\nprotest eve w1 1 unclear open 0",
-        ],
-    ),
-    (
-        (
-            1_777_716_100,
-            "rex-key-1",
-            "PUT /rounds/r1/rulings/eve/w1",
-            "{\"points\":-5,\"upheld\":true}",
-        ),
-        &[
-            MORE_PEOPLE,
-            P1,
-            P2,
-            R1,
-            " released",
-            PLACE,
-            ANSWER,
-            "\nprotest eve w1 1 unclear upheld -5",
-        ],
-    ),
-    (
-        (1_777_720_000, "dora-key", "POST /rounds/r1/publish", ""),
-        &[
-            MORE_PEOPLE,
-            P1,
-            P2,
-            R1,
-            " released published",
-            PLACE,
-            ANSWER,
-            "\nprotest eve w1 1 unclear upheld -5",
-        ],
-    ),
-];
+const STEPS: &str = "\
+0|0|dora-key|POST /people|name,key,roles~eve,eve-key-1,entrant~hal,hal-key-1,entrant+author~rex,rex-key-1,referee~
+1|0|bob-key-1|PUT /puzzles/bob/p1|{\"text\":\"nurikabe/2/2/1i\"}
+1|0|bob-key-1|PUT /puzzles/bob/p2|{\"text\":\"sudoku/4/4/v\"}
+1|0|bob-key-1|PUT /puzzles/bob/p1|{\"text\":\"sudoku/4/4/123434122143432g\"}
+4|0|bob-key-1|POST /puzzles/bob/p1/certificate|{\"budget\":200000}
+5|0|dora-key|PUT /rounds/r1|version = 1~title = \"Draft\"~start = \"2026-05-02T09:00:00Z\"~minutes = 20~\
+protest_minutes = 10~mode = \"sealed\"~penalty = 0~bonus = 0~\
+puzzle = [{author = \"bob\", label = \"p2\", points = 30}, {author = \"bob\", label = \"p1\", points = 20}]~
+5|0|dora-key|PUT /rounds/r1|version = 1~title = \"Morning\"~start = \"2026-05-02T09:00:00Z\"~minutes = 60~\
+protest_minutes = 30~mode = \"instant\"~penalty = 5~bonus = 2~\
+puzzle = [{author = \"bob\", label = \"p1\", points = 40}]~
+6|0|dora-key|POST /rounds/r1/release|
+9|1777712500|eve-key-1|PUT /rounds/r1/answers/1/k1|{\"answer\":\"1234341221434321\"}
+12|1777716000|eve-key-1|PUT /rounds/r1/protests/w1|{\"number\":1,\"text\":\"unclear\"}
+14|1777716100|rex-key-1|PUT /rounds/r1/rulings/eve/w1|{\"points\":-5,\"upheld\":true}
+15|1777720000|dora-key|POST /rounds/r1/publish|";
 
-/// Whether the text is made of these parts.
-fn is_made_of(text: &str, parts: &[&str]) -> bool {
-    let mut rest = text;
-    for part in parts {
-        match rest.strip_prefix(*part) {
-            Some(left) => rest = left,
-            None => return false,
+/// The lines of the world, each with the first and the last number of steps after which it stands.
+const WORLDS: &str = "\
+0 12 person ada ada-key-1 author entrant
+0 12 person bob bob-key-1 author
+0 12 person dora dora-key director
+0 12 person eve eve-key-1 entrant
+0 12 person fay fay-key-1 entrant
+0 12 person gil gil-key-1 referee entrant
+1 12 person hal hal-key-1 author entrant
+0 12 person rex rex-key-1 referee
+2 3 puzzle bob p1 nurikabe/2/2/1i new
+4 4 puzzle bob p1 sudoku/4/4/123434122143432g new
+5 12 puzzle bob p1 sudoku/4/4/123434122143432g 1234341221434321
+3 12 puzzle bob p2 sudoku/4/4/v new
+6 6 round r1 Draft 1777712400 20 10 sealed 0 0
+6 6 place bob p2 30
+6 6 place bob p1 20
+7 7 round r1 Morning 1777712400 60 30 instant 5 2
+8 11 round r1 Morning 1777712400 60 30 instant 5 2 released
+12 12 round r1 Morning 1777712400 60 30 instant 5 2 released published
+7 12 place bob p1 40
+9 12 answer eve 1 k1 1 1777712500 1234341221434321 0
+10 10 protest eve w1 1 unclear open 0
+11 12 protest eve w1 1 unclear upheld -5";
+
+/// The line of the world that a row tells, where it stands after so many steps.
+fn line_after<'a>(rt: &impl Abort, row: &'a str, steps: u64) -> Option<&'a str> {
+    let (first, rest) = row.split_once(' ').expect(rt, "first");
+    let (last, line) = rest.split_once(' ').expect(rt, "last");
+    if number_of(rt, first) <= steps && steps <= number_of(rt, last) {
+        Some(line)
+    } else {
+        None
+    }
+}
+
+/// The world after so many steps, as a text.
+fn world_after(rt: &(impl AllocGlobal + Abort), steps: u64) -> String {
+    let mut world = String::new(rt.alloc());
+    for row in WORLDS.lines() {
+        if let Some(line) = line_after(rt, row, steps) {
+            world.push_str("\n").expect(rt, "memory");
+            world.push_str(line).expect(rt, "memory");
         }
     }
-    rest.is_empty()
+    world
 }
 
 /// Whether the text tells the world after so many steps.
-fn is_world(text: &str, steps: usize) -> bool {
-    let Some(place) = steps.checked_sub(1) else {
-        return text == PEOPLE;
-    };
-    match STEPS.get(place) {
-        Some((_, parts)) => is_made_of(text, *parts),
-        None => false,
-    }
+fn is_world(rt: &(impl AllocGlobal + Abort), text: &str, steps: u64) -> bool {
+    world_after(rt, steps).as_str() == text
 }
 
 /// The world that a store over tables tells.
@@ -234,7 +101,7 @@ fn is_acknowledged<S: Alter + Drop>(
     rt: &(impl AllocGlobal + Abort),
     routes: &Routes,
     store: SqlStore<S>,
-    asked: &Asked,
+    asked: &Asked<'_>,
 ) -> bool {
     let mut desk = Desk::new(store);
     is_done(rt, routes, &mut desk, asked)
@@ -245,7 +112,7 @@ fn asks_over(
     rt: &(impl AllocGlobal + Abort),
     routes: &Routes,
     files: &mut Stopped,
-    asked: &Asked,
+    asked: &Asked<'_>,
 ) -> bool {
     match tables(rt, files) {
         Some(store) => is_acknowledged(rt, routes, store, asked),
@@ -276,8 +143,8 @@ struct Found {
 #[derive(Drop)]
 struct Case {
     image: Image,
-    asked: Asked,
-    steps: usize,
+    asked: Asked<'static>,
+    steps: u64,
 }
 
 /// Opens what a stop left, and sees that it holds the world before the command or the one after it, and this one where
@@ -290,11 +157,15 @@ fn see_world(
     found: &mut Found,
 ) {
     let world = world_in(rt, left);
-    if is_world(world.as_str(), case.steps.saturating_add(1)) {
+    if is_world(rt, world.as_str(), case.steps.saturating_add(1)) {
         found.after = found.after.saturating_add(1);
     } else {
-        let is_before = is_world(world.as_str(), case.steps);
-        assert!(rt; is_before && !is_acknowledged, "{}: {world}", case.asked.2);
+        let is_before = is_world(rt, world.as_str(), case.steps);
+        assert!(rt;
+            is_before && !is_acknowledged,
+            "{}: {world}",
+            case.asked.line
+        );
         found.before = found.before.saturating_add(1);
     }
 }
@@ -312,7 +183,7 @@ fn see_stop(
     let mut files = stopped(rt, &case.image, part, calls);
     let is_acknowledged = asks_over(rt, routes, &mut files, &case.asked);
     let is_whole = !is_blown(&mut files);
-    assert!(rt; is_acknowledged || !is_whole, "{}", case.asked.2);
+    assert!(rt; is_acknowledged || !is_whole, "{}", case.asked.line);
     for image in &images_after(rt, &mut files) {
         see_world(rt, case, image, is_acknowledged, found);
     }
@@ -332,26 +203,31 @@ fn see_stops(rt: &(impl AllocGlobal + Abort), routes: &Routes, case: &Case, part
             break;
         }
     }
-    assert!(rt; is_whole, "{} makes more calls", case.asked.2);
-    assert!(rt; found.before != 0 && found.after != 0, "{}", case.asked.2);
+    assert!(rt; is_whole, "{} makes more calls", case.asked.line);
+    assert!(rt;
+        found.before != 0 && found.after != 0,
+        "{}",
+        case.asked.line
+    );
 }
 
 /// What the files hold after the command.
 fn image_after(rt: &(impl AllocGlobal + Abort), routes: &Routes, case: &Case) -> Image {
     let mut files = whole(rt, &case.image);
     let is_acknowledged = asks_over(rt, routes, &mut files, &case.asked);
-    assert!(rt; is_acknowledged, "{}", case.asked.2);
+    assert!(rt; is_acknowledged, "{}", case.asked.line);
     image_of(rt, &files)
 }
 
 /// Takes all steps, and stops those from the first place up to the last one.
-fn see_steps(rt: &(impl AllocGlobal + Abort), first: usize, last: usize) {
+fn see_steps(rt: &(impl AllocGlobal + Abort), first: u64, last: u64) {
     let routes = routes(rt);
     let mut image = first_image(rt);
-    for (steps, (asked, _)) in STEPS.iter().enumerate() {
+    let mut steps: u64 = 0;
+    for row in STEPS.lines() {
         let case = Case {
             image,
-            asked: *asked,
+            asked: request_told(rt, row),
             steps,
         };
         if first <= steps && steps <= last {
@@ -359,6 +235,7 @@ fn see_steps(rt: &(impl AllocGlobal + Abort), first: usize, last: usize) {
             see_stops(rt, &routes, &case, Part::Database);
         }
         image = image_after(rt, &routes, &case);
+        steps = steps.saturating_add(1);
     }
 }
 

@@ -1,5 +1,5 @@
 use Rattle.hall_solve.specs.Question.{IsPartial}
-use Rattle.puzzle_tests.proofs.kinds.set_places.Given as goal
+use Rattle.puzzle_tests.proofs.deductions.set_places.Given as goal
 
 abbrev pub invariant-loop-letter : goal.invariant-loop-letter
 invariant-loop-letter g l = IsPartial (g.R.Rules.question l.rules) l.partial.places
