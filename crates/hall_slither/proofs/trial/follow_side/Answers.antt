@@ -21,3 +21,7 @@ returns-in_ok-pass-in-Live-clause-step c =
     (subst (IsPartial q) (sym c.set_and_learn.ensures.places)
     (IsPartial-set q c.args.partial.now.places c.args.setting.side c.args.setting.value c.requires.side.0 c.requires.value c.requires.partial))
     c.step_after.ensures c.in_ok-pass-in-Live.ensures.followed.deduced)
+
+pub returns-in_err-pass-in-Live-clause-grows : goal.returns-in_err-pass-in-Live-clause-grows
+returns-in_err-pass-in-Live-clause-grows c =
+    Grows-twice c.args.partial.now c.set_and_learn.new.partial c.follow_stack.new.partial c.set_and_learn.ensures.grows c.follow_stack.ensures.followed.grows
