@@ -1,3 +1,4 @@
+use Rattle.std.proofs.lemmas.Result.{IfOk-from_err}
 use Rattle.hall_solve.proofs.Trails.{Grows-itself}
 use Rattle.std.proofs.Common.{◌≡◌, subst}
 use Rattle.std.specs.Prelude.{Result, Ok, Err, IfOk, OnErr, List, Option, ℕ}
@@ -44,3 +45,6 @@ returns-in_err-chains-clause-grows c = Grows-itself c.args.partial.now
 
 pub returns-then-has_wrong_loop-clause-grows : goal.returns-then-has_wrong_loop-clause-grows
 returns-then-has_wrong_loop-clause-grows c = Grows-itself c.args.partial.now
+
+pub returns-in_err-chains-clause-deduced : goal.returns-in_err-chains-clause-deduced
+returns-in_err-chains-clause-deduced c = IfOk-from_err c.from_residual.result _ c.from_residual.ensures.0

@@ -1,3 +1,4 @@
+use Rattle.std.proofs.lemmas.Result.{IfOk-from_err}
 use Rattle.std.proofs.Common.{◌≡◌, ◌≢◌, ◌∙◌, get_or, None, sym, subst, inl, inr, arith, rules}
 use Rattle.std.specs.Prelude.{Ok}
 use Rattle.std.specs.declared.alloc.AllocError.{AllocError}
@@ -71,3 +72,12 @@ loop-side-init c = record {
   centres = c.requires.centres;
   work = omega arith;
 }
+
+pub returns-in_err-set_side-clause-advanced : goal.returns-in_err-set_side-clause-advanced
+returns-in_err-set_side-clause-advanced c = IfOk-from_err c.from_residual.result _ c.from_residual.ensures.0
+
+pub returns-in_err-set_side-clause-centres : goal.returns-in_err-set_side-clause-centres
+returns-in_err-set_side-clause-centres c = IfOk-from_err c.from_residual.result _ c.from_residual.ensures.0
+
+pub returns-in_err-set_side-clause-work : goal.returns-in_err-set_side-clause-work
+returns-in_err-set_side-clause-work c = IfOk-from_err c.from_residual.result _ c.from_residual.ensures.0

@@ -1,3 +1,4 @@
+use Rattle.std.proofs.lemmas.Result.{IfOk-from_err}
 use Rattle.std.proofs.Common.{◌≡◌, ◌∙◌, get_or, None, sym, inl, inr, arith}
 use Rattle.std.proofs.lemmas.List.Elements.{All-get_or}
 use Rattle.hall_grid.specs.declared.board.Kind.TheVariants.{Slither}
@@ -43,3 +44,6 @@ loop-setting-init c = record {
   alive = λ (e : Settled ≡ Dead). cc;
   centres = c.requires.centres;
 }
+
+pub returns-in_err-set_side-clause-centres : goal.returns-in_err-set_side-clause-centres
+returns-in_err-set_side-clause-centres c = IfOk-from_err c.from_residual.result _ c.from_residual.ensures.0
