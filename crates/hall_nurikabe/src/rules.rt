@@ -10,7 +10,7 @@ use std::alloc::{AllocError, Global};
 use std::marker::Model;
 
 /// The rules of one puzzle, the cell to try next, and counts of what a search asked.
-#[derive(Debug, Drop)]
+#[derive(Drop)]
 pub struct NurikabeRules<'a> {
     puzzle: &'a Puzzle,
     next: Option<usize>,

@@ -3,7 +3,7 @@
 use crate::partial::Mark;
 
 /// A value that a search chose for a place, and how long the trail was before.
-#[derive(Clone, Copy, Debug)]
+#[derive(Clone, Copy)]
 pub(crate) struct Choice {
     pub(crate) mark: Mark,
     pub(crate) place: usize,

@@ -13,7 +13,7 @@ use crate::rules::Step;
 use std::alloc::{AllocError, Global};
 
 /// What a look at one spot found.
-#[derive(Clone, Copy, Debug, PartialEq, Eq)]
+#[derive(Clone, Copy, PartialEq, Eq)]
 pub enum Finding {
     /// Nothing new.
     Nothing,

@@ -3,7 +3,7 @@
 use hall_grid::Filling;
 
 /// What a search found.
-#[derive(Debug, Drop)]
+#[derive(Drop)]
 pub enum Outcome {
     /// No filling solves.
     None,

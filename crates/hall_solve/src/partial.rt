@@ -11,7 +11,7 @@ use std::marker::Model;
 /// A board whose places have a value or are unset, with the trail of those that were set.
 ///
 /// The trail has each place that is set once, in the order in which they were set.
-#[derive(Debug, Drop)]
+#[derive(Drop)]
 pub struct Partial {
     places: Vec<Option<u8>>,
     trail: Vec<usize>,
@@ -30,7 +30,7 @@ impl Model for Partial {
 }
 
 /// How long a trail was: [`Partial::undo_to`] goes back to it.
-#[derive(Clone, Copy, Debug)]
+#[derive(Clone, Copy)]
 pub struct Mark {
     length: usize,
 }

@@ -13,7 +13,7 @@ use std::alloc::{AllocError, Global};
 use std::marker::Model;
 
 /// The rules of one puzzle, and counts of what a search asked.
-#[derive(Debug, Drop)]
+#[derive(Drop)]
 pub struct SudokuRules<'a> {
     puzzle: &'a Puzzle,
     units: Units,

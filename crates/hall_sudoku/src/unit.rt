@@ -7,7 +7,7 @@ ghost use Rattle.hall_sudoku.specs.Unit.{unit_of};
 use hall_grid::Size;
 
 /// A way to divide the board into units.
-#[derive(Clone, Copy, Debug, PartialEq, Eq)]
+#[derive(Clone, Copy)]
 pub(crate) enum Unit {
     Row,
     Column,

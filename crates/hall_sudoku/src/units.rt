@@ -17,7 +17,7 @@ pub(crate) const MOST_UNITS: usize = 16;
 pub(crate) const MOST_CELLS: usize = 256;
 
 /// The row, the column and the box of each cell of a board.
-#[derive(Debug, Drop)]
+#[derive(Drop)]
 pub(crate) struct Units {
     size: Size,
     rows: Vec<u8>,

@@ -5,7 +5,7 @@ ghost use Rattle.hall_sudoku.specs.Values.{Has, HasTwo};
 use std::marker::Model;
 
 /// A set of values below 32, one bit for each.
-#[derive(Clone, Copy, Debug, PartialEq, Eq)]
+#[derive(Clone, Copy)]
 pub(crate) struct Values {
     bits: u32,
 }

@@ -1,3 +1,4 @@
+use Rattle.std.proofs.lemmas.Result.{IfOk-from_err}
 use Rattle.std.proofs.Common.{◌+◌, string_bytes, arith, subst, sym, ap}
 use Rattle.hall_grid.proofs.AppendsBody.{IsWritten, IsWritten-more, AppendsBody-from_IsWritten}
 use Rattle.hall_grid.proofs.write.push_body.Goals as goal
@@ -14,3 +15,6 @@ pub returns : goal.returns
 returns c =
     AppendsBody-from_IsWritten c.args.puzzle.now _ _ c.loop-cell.cell c.cells.ensures.board c.loop-cell.invariant
     (omega (arith, c.cells.ensures.cells))
+
+pub returns-in_err-push_form : goal.returns-in_err-push_form
+returns-in_err-push_form c = IfOk-from_err c.from_residual.result _ c.from_residual.ensures.0

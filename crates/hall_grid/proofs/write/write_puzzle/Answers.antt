@@ -1,3 +1,4 @@
+use Rattle.std.proofs.lemmas.Result.{IfOk-from_err}
 use Rattle.std.proofs.Common.{◌≡◌, ◌++◌, ℕ, List, ◌∙◌, ap, string_bytes}
 use Rattle.hall_grid.specs.declared.board.Kind.{Kind}
 use Rattle.hall_grid.specs.declared.board.Size.{Size}
@@ -43,3 +44,27 @@ returns-clause-only c = λ other canonical.
     one_canonical_text other _ c.args.puzzle.now c.size.ensures.board canonical
     (whole_text c.args.puzzle.now _ _
     (string_bytes c.in_ok-text.text) _ c.kind.ensures.kind c.size.ensures.size head adds)
+
+pub returns-in_err-text-clause-canonical : goal.returns-in_err-text-clause-canonical
+returns-in_err-text-clause-canonical c = IfOk-from_err c.from_residual.result _ c.from_residual.ensures.0
+
+pub returns-in_err-text-clause-reads_back : goal.returns-in_err-text-clause-reads_back
+returns-in_err-text-clause-reads_back c = IfOk-from_err c.from_residual.result _ c.from_residual.ensures.0
+
+pub returns-in_err-text-clause-printable : goal.returns-in_err-text-clause-printable
+returns-in_err-text-clause-printable c = IfOk-from_err c.from_residual.result _ c.from_residual.ensures.0
+
+pub returns-in_err-text-clause-only : goal.returns-in_err-text-clause-only
+returns-in_err-text-clause-only c = IfOk-from_err c.from_residual.result _ c.from_residual.ensures.0
+
+pub returns-in_err-push_body-clause-canonical : goal.returns-in_err-push_body-clause-canonical
+returns-in_err-push_body-clause-canonical c = IfOk-from_err c.from_residual-in_err-push_body.result _ c.from_residual-in_err-push_body.ensures.0
+
+pub returns-in_err-push_body-clause-reads_back : goal.returns-in_err-push_body-clause-reads_back
+returns-in_err-push_body-clause-reads_back c = IfOk-from_err c.from_residual-in_err-push_body.result _ c.from_residual-in_err-push_body.ensures.0
+
+pub returns-in_err-push_body-clause-printable : goal.returns-in_err-push_body-clause-printable
+returns-in_err-push_body-clause-printable c = IfOk-from_err c.from_residual-in_err-push_body.result _ c.from_residual-in_err-push_body.ensures.0
+
+pub returns-in_err-push_body-clause-only : goal.returns-in_err-push_body-clause-only
+returns-in_err-push_body-clause-only c = IfOk-from_err c.from_residual-in_err-push_body.result _ c.from_residual-in_err-push_body.ensures.0

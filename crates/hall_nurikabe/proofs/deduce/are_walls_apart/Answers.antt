@@ -1,3 +1,4 @@
+use Rattle.std.proofs.lemmas.Result.{IfOk-from_err}
 use Rattle.std.proofs.Common.{◌≡◌, length, drop, ◌∙◌, arith}
 use Rattle.std.proofs.lemmas.List.{take_all, take-append-le}
 use Rattle.hall_grid.proofs.AreComponents.{AreComponents-members}
@@ -15,3 +16,9 @@ returns c = λ yes.
     labels.items c.deref-2.result.now
     (AreComponents-members _ _ _ _ _ c.in_ok-open.ensures.marked (rw (c.size.ensures.size, c.deref.ensures.value) at c.in_ok-labels.ensures))
     (rw back (rw c.deref_mut.ensures.value at c.keep_labels.ensures)) (c.labels_differ.ensures.0 yes)
+
+pub returns-in_err-open : goal.returns-in_err-open
+returns-in_err-open c = IfOk-from_err c.from_residual.result _ c.from_residual.ensures.0
+
+pub returns-in_err-labels : goal.returns-in_err-labels
+returns-in_err-labels c = IfOk-from_err c.from_residual-in_err-labels.result _ c.from_residual-in_err-labels.ensures.0

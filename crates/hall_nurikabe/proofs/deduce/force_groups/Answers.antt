@@ -1,3 +1,4 @@
+use Rattle.std.proofs.lemmas.Result.{IfOk-from_err}
 use Rattle.hall_nurikabe.proofs.AreBroken.{AreCells-from_regions}
 use Rattle.hall_nurikabe.proofs.HasAlways.{two_hopeless}
 use Rattle.hall_nurikabe.proofs.NeedsMore.{group_grows}
@@ -25,3 +26,21 @@ force_exits-requires-clause-growing c =
 
 pub force_walls_beside-requires-clause-labels : goal.force_walls_beside-requires-clause-labels
 force_walls_beside-requires-clause-labels c = AreCells-from_regions _ c.args.position.now.puzzle.now.size _ _ c.requires.groups.components
+
+pub returns-in_err-owners-clause-dead : goal.returns-in_err-owners-clause-dead
+returns-in_err-owners-clause-dead c = IfOk-from_err c.from_residual.result _ c.from_residual.ensures.0
+
+pub returns-in_err-owners-clause-forced : goal.returns-in_err-owners-clause-forced
+returns-in_err-owners-clause-forced c = IfOk-from_err c.from_residual.result _ c.from_residual.ensures.0
+
+pub returns-in_err-exits-clause-dead : goal.returns-in_err-exits-clause-dead
+returns-in_err-exits-clause-dead c = IfOk-from_err c.from_residual-in_err-exits.result _ c.from_residual-in_err-exits.ensures.0
+
+pub returns-in_err-exits-clause-forced : goal.returns-in_err-exits-clause-forced
+returns-in_err-exits-clause-forced c = IfOk-from_err c.from_residual-in_err-exits.result _ c.from_residual-in_err-exits.ensures.0
+
+pub returns-in_err-growing-clause-dead : goal.returns-in_err-growing-clause-dead
+returns-in_err-growing-clause-dead c = IfOk-from_err c.from_residual-in_err-growing.result _ c.from_residual-in_err-growing.ensures.0
+
+pub returns-in_err-growing-clause-forced : goal.returns-in_err-growing-clause-forced
+returns-in_err-growing-clause-forced c = IfOk-from_err c.from_residual-in_err-growing.result _ c.from_residual-in_err-growing.ensures.0

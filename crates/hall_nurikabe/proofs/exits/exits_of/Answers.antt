@@ -1,3 +1,4 @@
+use Rattle.std.proofs.lemmas.Result.{IfOk-from_err}
 use Rattle.std.proofs.Common.{◌≡◌, ℕ, Option, Some, None, true, length, arith, ◌∙◌}
 use Rattle.std.specs.Option.{is_some}
 use Rattle.hall_grid.proofs.Floods.{written}
@@ -18,3 +19,6 @@ loop-cell-preserved c = elim c.if-is_none.branch [
       (rw w.deref_mut.ensures.value at w.add_exit.ensures.adds) (rw c.size-size.ensures.size at w.add_exit.ensures.beside) c.loop-cell.invariant)
   | else-is_none w ↦ rw w.exits-is (KnowsExits-skip _ _ _ _ _ (λ unset. let some = w.if-is_none.ensures in absurd (taken c.get.result (c.get.ensures ∙ unset) some)) c.loop-cell.invariant)
 ]
+
+pub returns-in_err-exits : goal.returns-in_err-exits
+returns-in_err-exits c = IfOk-from_err c.from_residual.result _ c.from_residual.ensures.0

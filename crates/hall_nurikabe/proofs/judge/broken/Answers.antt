@@ -1,3 +1,4 @@
+use Rattle.std.proofs.lemmas.Result.{IfOk-from_err}
 use Rattle.std.proofs.Common.{◌≡◌, length, refl, arith}
 use Rattle.hall_grid.specs.Board.{cells, Touch}
 use Rattle.hall_grid.specs.Nurikabe.{IsWhite, IsWall}
@@ -62,3 +63,24 @@ returns c =
         ),
       ),
     )
+
+pub returns-in_err-walls : goal.returns-in_err-walls
+returns-in_err-walls c = IfOk-from_err c.from_residual.result _ c.from_residual.ensures.0
+
+pub returns-in_err-whites : goal.returns-in_err-whites
+returns-in_err-whites c = IfOk-from_err c.from_residual-in_err-whites.result _ c.from_residual-in_err-whites.ensures.0
+
+pub returns-in_err-numbered : goal.returns-in_err-numbered
+returns-in_err-numbered c = IfOk-from_err c.from_residual-in_err-numbered.result _ c.from_residual-in_err-numbered.ensures.0
+
+pub returns-in_err-wall_labels : goal.returns-in_err-wall_labels
+returns-in_err-wall_labels c = IfOk-from_err c.from_residual-in_err-wall_labels.result _ c.from_residual-in_err-wall_labels.ensures.0
+
+pub returns-in_err-islands : goal.returns-in_err-islands
+returns-in_err-islands c = IfOk-from_err c.from_residual-in_err-islands.result _ c.from_residual-in_err-islands.ensures.0
+
+pub returns-in_err-numbers : goal.returns-in_err-numbers
+returns-in_err-numbers c = IfOk-from_err c.from_residual-in_err-numbers.result _ c.from_residual-in_err-numbers.ensures.0
+
+pub returns-in_err-sizes : goal.returns-in_err-sizes
+returns-in_err-sizes c = IfOk-from_err c.from_residual-in_err-sizes.result _ c.from_residual-in_err-sizes.ensures.0

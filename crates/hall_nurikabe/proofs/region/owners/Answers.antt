@@ -1,3 +1,4 @@
+use Rattle.std.proofs.lemmas.Result.{IfOk-from_err}
 use Rattle.std.proofs.Common.{◌≡◌, get_or, None, true, false, sym, ◌∙◌, arith}
 use Rattle.std.proofs.lemmas.List.{get_or_default}
 use Rattle.hall_nurikabe.proofs.Marks.{numbered_clue}
@@ -35,3 +36,6 @@ loop-cell-preserved c = elim c.if-is_number.branch [
 
 pub returns : goal.returns
 returns c = AreOwners-from_below _ _ _ c.loop-cell.cell (omega arith) c.loop-cell.invariant
+
+pub returns-in_err-owners : goal.returns-in_err-owners
+returns-in_err-owners c = IfOk-from_err c.from_residual.result _ c.from_residual.ensures.0

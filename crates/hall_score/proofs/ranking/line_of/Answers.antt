@@ -1,3 +1,4 @@
+use Rattle.std.proofs.lemmas.Result.{IfOk-from_err}
 use Rattle.std.proofs.Common.{◌≡◌, ◌∙◌, ap, arith, to_z, of_z, w64}
 use Rattle.std.proofs.lemmas.Int.{ints}
 use Rattle.hall_score.specs.Standings.{rank_of}
@@ -12,3 +13,6 @@ pub returns : goal.returns
 returns c = λ totals moved.
     let total : to_z w64 (of_z w64 c.args.entrant.now.1) ≡ c.args.entrant.now.1 = omega (arith, ints) in
     same_line _ _ (c.rank_of.ensures ∙ (rank_among _ totals c.args.rising.now moved ∙ ap (rank_of totals) total)) c.in_ok-clone.ensures.cases total
+
+pub returns-in_err-clone : goal.returns-in_err-clone
+returns-in_err-clone c = IfOk-from_err c.from_residual.result _ c.from_residual.ensures.0

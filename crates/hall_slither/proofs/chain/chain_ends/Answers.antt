@@ -1,3 +1,4 @@
+use Rattle.std.proofs.lemmas.Result.{IfOk-from_err}
 use Rattle.std.proofs.Common.{◌≡◌, ◌+◌, ◌<◌, ◌∙◌, length, get_or, set, sym, ap, subst, arith}
 use Rattle.std.proofs.lemmas.List.{get_or_default}
 use Rattle.hall_slither.specs.Chain.{HaveEnds, with_end}
@@ -25,3 +26,6 @@ loop-dot-preserved c =
           (HaveEnds-end size lines labels c.requires.labels dot there.1.0 label ends c.loop-dot.invariant there.1.1 there.1.2 room))
       | in_default w ↦ rw w.ends-is (HaveEnds-next size lines labels c.requires.labels dot ends c.loop-dot.invariant w.in_default.ensures.none)
     ]
+
+pub returns-in_err-ends : goal.returns-in_err-ends
+returns-in_err-ends c = IfOk-from_err c.from_residual.result _ c.from_residual.ensures.0

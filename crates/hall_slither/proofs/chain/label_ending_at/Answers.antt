@@ -1,3 +1,4 @@
+use Rattle.std.proofs.lemmas.Grind.{common_steps}
 use Rattle.std.proofs.Common.{get_or, Some, None, sym, refl, subst, arith}
 use Rattle.std.specs.Prelude.{Contains}
 use Rattle.hall_grid.specs.Slither.{all_sides, IsLine, ShareDot}
@@ -32,3 +33,6 @@ returns-clause-some c =
     let has = subst (λ sides. Contains sides (Some c.in-Some.side)) c.sides_at.ensures c.in-Some.ensures.found.0 in
     label_touches c.args.size c.args.lines.now c.args.labels.now c.requires.labels c.in-Some.side c.args.dot (get_or c.args.labels.now c.in-Some.side None) refl
     (end_of_contained c.args.size c.args.dot c.in-Some.side c.requires.size.some_cols c.requires.board has)
+
+pub returns-clause-none : goal.returns-clause-none
+returns-clause-none c = grind (arith, common_steps)

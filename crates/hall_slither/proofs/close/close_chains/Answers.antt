@@ -1,3 +1,5 @@
+use Rattle.std.proofs.lemmas.Result.{IfOk-from_err}
+use Rattle.hall_solve.proofs.Trails.{Grows-itself}
 use Rattle.std.proofs.Common.{◌≡◌, subst}
 use Rattle.std.specs.Prelude.{Result, Ok, Err, IfOk, OnErr, List, Option, ℕ}
 use Rattle.hall_grid.specs.Board.{Board}
@@ -37,3 +39,12 @@ returns-then-has_wrong_loop-clause-deduced c =
     subst (λ b. IsDeduced (question_of Slither b) c.args.partial.now.places c.args.partial.now.places Dead) c.in_ok-chains.ensures.board
     (IsDeduced-puzzle c.in_ok-chains.chains c.args.partial.now.places c.in_ok-chains.ensures.lines c.args.partial.now.places Dead
     (c.has_wrong_loop.ensures.hopeless c.if-has_wrong_loop.true c.args.partial.now.places))
+
+pub returns-in_err-chains-clause-grows : goal.returns-in_err-chains-clause-grows
+returns-in_err-chains-clause-grows c = Grows-itself c.args.partial.now
+
+pub returns-then-has_wrong_loop-clause-grows : goal.returns-then-has_wrong_loop-clause-grows
+returns-then-has_wrong_loop-clause-grows c = Grows-itself c.args.partial.now
+
+pub returns-in_err-chains-clause-deduced : goal.returns-in_err-chains-clause-deduced
+returns-in_err-chains-clause-deduced c = IfOk-from_err c.from_residual.result _ c.from_residual.ensures.0

@@ -6,7 +6,7 @@ use Rattle.hall_solve.specs.declared.deduce.Pass.{Pass}
 use Rattle.hall_solve.specs.declared.deduce.Pass.TheVariants.{Settled, Advanced, Dead}
 use Rattle.hall_slither.specs.Count.{IsCentre, IsSilent}
 use Rattle.hall_slither.specs.Follow.{IsFollowed}
-use Rattle.hall_slither.proofs.IsFollowed.{IsFollowed-settled, IsFollowed-advanced, IsFollowed-dead, IsFollowed-failed}
+use Rattle.hall_slither.proofs.IsFollowed.{IsFollowed-settled, IsFollowed-advanced, IsFollowed-dead, IsFollowed-failed, IsFollowed-start}
 use Rattle.hall_slither.proofs.follow.follow_stack.Goals as goal
 
 pub returns-in_err-follow_centre-clause-followed : goal.returns-in_err-follow_centre-clause-followed
@@ -57,3 +57,19 @@ returns-clause-silent c = λ all settled x is. elim (c.loop-centre.invariant.sil
   | inl has ↦ absurd (let low : has.0 < length c.loop-centre.stack.items = has.1 in let empty = c.in_default.ensures.cases in let size = c.loop-centre.stack.ok.0 in omega arith)
   | inr silent ↦ silent
 ]
+
+pub loop-centre-init : goal.loop-centre-init
+loop-centre-init c = record {
+  followed = IsFollowed-start c.args.puzzle.now c.args.partial.now c.args.colours.now c.requires.coloured;
+  alive = λ (e : Settled ≡ Dead). cc;
+  centres = c.requires.centres;
+  silent = λ all settled centre is. inl (all centre is);
+}
+
+pub follow_centre-requires-clause-centres : goal.follow_centre-requires-clause-centres
+follow_centre-requires-clause-centres c =
+    (All-pop (IsCentre c.args.puzzle.now.size) c.loop-centre.stack.items c.pop.new.self.items (Some c.in-Some.centre) c.in-Some.ensures.items c.loop-centre.invariant.centres).0
+
+pub follow_centre-requires-clause-centre : goal.follow_centre-requires-clause-centre
+follow_centre-requires-clause-centre c =
+    (All-pop (IsCentre c.args.puzzle.now.size) c.loop-centre.stack.items c.pop.new.self.items (Some c.in-Some.centre) c.in-Some.ensures.items c.loop-centre.invariant.centres).1

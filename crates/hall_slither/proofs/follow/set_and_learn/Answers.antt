@@ -1,3 +1,4 @@
+use Rattle.std.proofs.lemmas.Result.{IfOk-from_err}
 use Rattle.std.proofs.Common.{◌≡◌, get_or, Some, None, set, sym, subst}
 use Rattle.std.proofs.lemmas.List.{get_or-set_same}
 use Rattle.hall_solve.proofs.Boards.{set_keeps}
@@ -21,3 +22,12 @@ pub learn_side-requires-clause-set : goal.learn_side-requires-clause-set
 learn_side-requires-clause-set c =
     subst (λ p. get_or p c.args.setting.side None ≡ Some c.args.setting.value) (sym c.set.ensures.places)
     (get_or-set_same c.args.partial.now.places c.args.setting.side (Some c.args.setting.value) None c.requires.side.0)
+
+pub returns-in_err-push_beside-clause-dead : goal.returns-in_err-push_beside-clause-dead
+returns-in_err-push_beside-clause-dead c = IfOk-from_err c.from_residual.result _ c.from_residual.ensures.0
+
+pub returns-in_err-push_beside-clause-centres : goal.returns-in_err-push_beside-clause-centres
+returns-in_err-push_beside-clause-centres c = IfOk-from_err c.from_residual.result _ c.from_residual.ensures.0
+
+pub returns-in_err-push_beside-clause-few : goal.returns-in_err-push_beside-clause-few
+returns-in_err-push_beside-clause-few c = IfOk-from_err c.from_residual.result _ c.from_residual.ensures.0

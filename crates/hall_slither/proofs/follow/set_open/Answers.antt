@@ -1,11 +1,12 @@
-use Rattle.std.proofs.Common.{◌≡◌, ◌≢◌, ◌∙◌, get_or, None, sym, subst, inl, inr, arith}
+use Rattle.std.proofs.lemmas.Result.{IfOk-from_err}
+use Rattle.std.proofs.Common.{◌≡◌, ◌≢◌, ◌∙◌, get_or, None, sym, subst, inl, inr, arith, rules}
 use Rattle.std.specs.Prelude.{Ok}
 use Rattle.std.specs.declared.alloc.AllocError.{AllocError}
 use Rattle.hall_solve.specs.declared.deduce.Pass.{Pass}
 use Rattle.hall_solve.specs.declared.deduce.Pass.TheVariants.{Settled, Advanced, Dead}
 use Rattle.hall_slither.specs.Follow.{IsFollowed}
 use Rattle.hall_slither.proofs.AreSet.{AreSet-more, AreSet-all, set_from}
-use Rattle.hall_slither.proofs.IsFollowed.{IsFollowed-advanced, IsFollowed-dead, IsFollowed-failed}
+use Rattle.hall_slither.proofs.IsFollowed.{IsFollowed-advanced, IsFollowed-dead, IsFollowed-failed, IsFollowed-start}
 use Rattle.hall_slither.proofs.follow.set_open.Goals as goal
 use Rattle.hall_slither.proofs.follow.set_open.Goals.{in-Some+then-is_none+in_ok-set_side+in-Settled, in-Some+else-is_none, in_default}
 
@@ -62,3 +63,21 @@ returns-clause-advanced c = λ e.
     let same = subst (λ (x : Pass). IsFollowed {E = AllocError} c.args.puzzle.now c.args.partial.now c.loop-side.partial c.loop-side.colours (Ok x)) e c.loop-side.invariant.followed in
     let told = c.requires.told.1 in
     all told.0 told.1 (subst (λ p. get_or p told.0 None ≡ None) (sym same.deduced) told.2.1)
+
+pub loop-side-init : goal.loop-side-init
+loop-side-init c = record {
+  followed = IsFollowed-start c.args.puzzle.now c.args.partial.now c.args.colours.now c.requires.coloured;
+  alive = λ (e : Settled ≡ Dead). cc;
+  set = search rules;
+  centres = c.requires.centres;
+  work = omega arith;
+}
+
+pub returns-in_err-set_side-clause-advanced : goal.returns-in_err-set_side-clause-advanced
+returns-in_err-set_side-clause-advanced c = IfOk-from_err c.from_residual.result _ c.from_residual.ensures.0
+
+pub returns-in_err-set_side-clause-centres : goal.returns-in_err-set_side-clause-centres
+returns-in_err-set_side-clause-centres c = IfOk-from_err c.from_residual.result _ c.from_residual.ensures.0
+
+pub returns-in_err-set_side-clause-work : goal.returns-in_err-set_side-clause-work
+returns-in_err-set_side-clause-work c = IfOk-from_err c.from_residual.result _ c.from_residual.ensures.0

@@ -1,3 +1,4 @@
+use Rattle.std.proofs.lemmas.Result.{IfOk-from_err}
 use Rattle.std.proofs.Common.{set, Some, sym, subst}
 use Rattle.hall_grid.specs.declared.board.Kind.TheVariants.{Slither}
 use Rattle.hall_solve.specs.Question.{Narrows, IsHopeless}
@@ -39,3 +40,12 @@ returns-in-Dead-clause-followed c =
       grows = c.set_and_learn.ensures.grows;
       coloured = c.set_and_learn.ensures.coloured;
     }
+
+pub returns-in_err-set_and_learn-clause-advanced : goal.returns-in_err-set_and_learn-clause-advanced
+returns-in_err-set_and_learn-clause-advanced c = IfOk-from_err c.from_residual.result _ c.from_residual.ensures.0
+
+pub returns-in_err-set_and_learn-clause-centres : goal.returns-in_err-set_and_learn-clause-centres
+returns-in_err-set_and_learn-clause-centres c = IfOk-from_err c.from_residual.result _ c.from_residual.ensures.0
+
+pub returns-in_err-set_and_learn-clause-work : goal.returns-in_err-set_and_learn-clause-work
+returns-in_err-set_and_learn-clause-work c = IfOk-from_err c.from_residual.result _ c.from_residual.ensures.0

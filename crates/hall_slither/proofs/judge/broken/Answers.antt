@@ -1,3 +1,4 @@
+use Rattle.std.proofs.lemmas.Result.{IfOk-from_err}
 use Rattle.std.proofs.Common.{refl}
 use Rattle.hall_grid.specs.declared.board.Kind.TheVariants.{Slither}
 use Rattle.hall_grid.proofs.Naming.{broken_are}
@@ -30,3 +31,6 @@ returns c =
         ),
       ),
     )
+
+pub returns-in_err-has_lines_apart : goal.returns-in_err-has_lines_apart
+returns-in_err-has_lines_apart c = IfOk-from_err c.from_residual.result _ c.from_residual.ensures.0

@@ -1,3 +1,5 @@
+use Rattle.std.proofs.lemmas.Result.{IfOk-from_err}
+use Rattle.hall_solve.proofs.Trails.{Grows-itself, Grows-twice}
 use Rattle.std.proofs.Common.{◌≡◌, subst, sym}
 use Rattle.hall_grid.specs.declared.board.Kind.TheVariants.{Slither}
 use Rattle.hall_solve.specs.declared.deduce.Pass.{Pass}
@@ -15,3 +17,38 @@ returns-in-Settled-2-clause-silent c =
     subst (λ (x : Pass). IsDeduced q c.follow_all.new.partial.places c.close_chains.new.partial.places x) c.in-Settled-2.is c.in_ok-pass-2.ensures.deduced in
     silent_still q board c.close_chains.new.partial.places c.try_waiting.new.partial.places c.try_waiting.result
     (subst (λ p. AreSilent board p) (sym same) (c.in_ok-pass.ensures.silent c.in-Settled.is)) c.try_waiting.ensures.followed.deduced
+
+pub returns-in_err-learn_all-clause-grows : goal.returns-in_err-learn_all-clause-grows
+returns-in_err-learn_all-clause-grows c = Grows-itself c.args.partial.now
+
+pub returns-in-Dead-clause-grows : goal.returns-in-Dead-clause-grows
+returns-in-Dead-clause-grows c = Grows-itself c.args.partial.now
+
+pub returns-in_err-pass-2-clause-grows : goal.returns-in_err-pass-2-clause-grows
+returns-in_err-pass-2-clause-grows c = Grows-twice c.args.partial.now c.follow_all.new.partial c.close_chains.new.partial c.follow_all.ensures.followed.grows c.close_chains.ensures.grows
+
+pub returns-in-Settled-2-clause-grows : goal.returns-in-Settled-2-clause-grows
+returns-in-Settled-2-clause-grows c =
+    Grows-twice c.args.partial.now c.follow_all.new.partial c.try_waiting.new.partial c.follow_all.ensures.followed.grows
+    (Grows-twice c.follow_all.new.partial c.close_chains.new.partial c.try_waiting.new.partial c.close_chains.ensures.grows c.try_waiting.ensures.followed.grows)
+
+pub returns-in_default-2-clause-grows : goal.returns-in_default-2-clause-grows
+returns-in_default-2-clause-grows c = Grows-twice c.args.partial.now c.follow_all.new.partial c.close_chains.new.partial c.follow_all.ensures.followed.grows c.close_chains.ensures.grows
+
+pub returns-in_err-learn_all-clause-deduced : goal.returns-in_err-learn_all-clause-deduced
+returns-in_err-learn_all-clause-deduced c = IfOk-from_err c.from_residual.result _ c.from_residual.ensures.0
+
+pub returns-in_err-learn_all-clause-silent : goal.returns-in_err-learn_all-clause-silent
+returns-in_err-learn_all-clause-silent c = IfOk-from_err c.from_residual.result _ c.from_residual.ensures.0
+
+pub returns-in_err-pass-clause-deduced : goal.returns-in_err-pass-clause-deduced
+returns-in_err-pass-clause-deduced c = IfOk-from_err c.from_residual-in_err-pass.result _ c.from_residual-in_err-pass.ensures.0
+
+pub returns-in_err-pass-clause-silent : goal.returns-in_err-pass-clause-silent
+returns-in_err-pass-clause-silent c = IfOk-from_err c.from_residual-in_err-pass.result _ c.from_residual-in_err-pass.ensures.0
+
+pub returns-in_err-pass-2-clause-deduced : goal.returns-in_err-pass-2-clause-deduced
+returns-in_err-pass-2-clause-deduced c = IfOk-from_err c.from_residual-in_err-pass-2.result _ c.from_residual-in_err-pass-2.ensures.0
+
+pub returns-in_err-pass-2-clause-silent : goal.returns-in_err-pass-2-clause-silent
+returns-in_err-pass-2-clause-silent c = IfOk-from_err c.from_residual-in_err-pass-2.result _ c.from_residual-in_err-pass-2.ensures.0

@@ -1,3 +1,4 @@
+use Rattle.std.proofs.lemmas.Result.{IfOk-from_err}
 use Rattle.std.proofs.Common.{subst}
 use Rattle.hall_grid.specs.declared.board.Kind.TheVariants.{Slither}
 use Rattle.hall_solve.specs.Question.{Narrows}
@@ -34,3 +35,12 @@ settling-preserved c =
       narrows = Narrows-twice q c.args.partial.now.places c.settling.partial.places c.pass.new.partial.places c.settling.invariant.narrows more.0;
       grows = Grows-twice c.args.partial.now c.settling.partial c.pass.new.partial c.settling.invariant.grows c.pass.ensures.grows;
     }
+
+pub returns-in_err-pass-clause-live : goal.returns-in_err-pass-clause-live
+returns-in_err-pass-clause-live c = IfOk-from_err c.from_residual.result _ c.from_residual.ensures.0
+
+pub returns-in_err-pass-clause-settled : goal.returns-in_err-pass-clause-settled
+returns-in_err-pass-clause-settled c = IfOk-from_err c.from_residual.result _ c.from_residual.ensures.0
+
+pub returns-in_err-pass-clause-dead : goal.returns-in_err-pass-clause-dead
+returns-in_err-pass-clause-dead c = IfOk-from_err c.from_residual.result _ c.from_residual.ensures.0

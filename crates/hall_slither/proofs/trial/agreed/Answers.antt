@@ -1,3 +1,4 @@
+use Rattle.std.proofs.lemmas.Result.{IfOk-from_err}
 use Rattle.std.proofs.Common.{get_or, refl, subst, sym}
 use Rattle.std.specs.Prelude.{Contains}
 use Rattle.std.proofs.lemmas.List.Elements.{All-push}
@@ -20,3 +21,6 @@ loop-setting-preserved c =
       | then-setting-index-2+else-place-first w ↦ rw w.settings-is c.loop-setting.invariant
       | else-setting-index-2 w ↦ rw w.settings-is c.loop-setting.invariant
     ]
+
+pub returns-in_err-push : goal.returns-in_err-push
+returns-in_err-push c = IfOk-from_err c.from_residual.result _ c.from_residual.ensures.0

@@ -1,3 +1,4 @@
+use Rattle.std.proofs.lemmas.Result.{IfOk-from_err}
 use Rattle.std.proofs.Common.{◌≡◌, Some, set, sym, subst}
 use Rattle.hall_grid.specs.declared.board.Kind.TheVariants.{Slither}
 use Rattle.hall_solve.specs.Question.{IsPartial}
@@ -21,3 +22,13 @@ returns-in_ok-pass-in-Live-clause-step c =
     (subst (IsPartial q) (sym c.set_and_learn.ensures.places)
     (IsPartial-set q c.args.partial.now.places c.args.setting.side c.args.setting.value c.requires.side.0 c.requires.value c.requires.partial))
     c.step_after.ensures c.in_ok-pass-in-Live.ensures.followed.deduced)
+
+pub returns-in_err-pass-in-Live-clause-grows : goal.returns-in_err-pass-in-Live-clause-grows
+returns-in_err-pass-in-Live-clause-grows c =
+    Grows-twice c.args.partial.now c.set_and_learn.new.partial c.follow_stack.new.partial c.set_and_learn.ensures.grows c.follow_stack.ensures.followed.grows
+
+pub returns-in_err-set_and_learn-clause-step : goal.returns-in_err-set_and_learn-clause-step
+returns-in_err-set_and_learn-clause-step c = IfOk-from_err c.from_residual.result _ c.from_residual.ensures.0
+
+pub returns-in_err-pass-in-Live-clause-step : goal.returns-in_err-pass-in-Live-clause-step
+returns-in_err-pass-in-Live-clause-step c = IfOk-from_err c.from_residual-in_err-pass-in-Live.result _ c.from_residual-in_err-pass-in-Live.ensures.0

@@ -1,3 +1,4 @@
+use Rattle.std.proofs.lemmas.Result.{IfOk-from_err}
 use Rattle.std.proofs.Common.{Some, set, subst}
 use Rattle.std.specs.Prelude.{Result, Ok, Err, IfOk, List, Option, ℕ}
 use Rattle.hall_solve.specs.declared.rules.Step.{Step}
@@ -23,3 +24,6 @@ returns-in-Live-clause-step c =
 pub returns-in-Live-clause-grows : goal.returns-in-Live-clause-grows
 returns-in-Live-clause-grows c =
     Grows-twice c.args.partial.now c.follow_side.new.partial c.follow_loop.new.partial c.follow_side.ensures.grows c.follow_loop.ensures.grows
+
+pub returns-in_err-follow_side-clause-step : goal.returns-in_err-follow_side-clause-step
+returns-in_err-follow_side-clause-step c = IfOk-from_err c.from_residual.result _ c.from_residual.ensures.0

@@ -1,12 +1,13 @@
+use Rattle.std.proofs.lemmas.Result.{IfOk-from_err}
 use Rattle.std.proofs.Common.{◌≡◌, ◌∙◌, get_or, None, sym, inl, inr, arith}
 use Rattle.std.proofs.lemmas.List.Elements.{All-get_or}
 use Rattle.hall_grid.specs.declared.board.Kind.TheVariants.{Slither}
 use Rattle.hall_solve.specs.Question.{IsOpen}
 use Rattle.hall_solve.specs.Puzzle.{question_of}
-use Rattle.hall_solve.specs.declared.deduce.Pass.TheVariants.{Advanced, Dead}
+use Rattle.hall_solve.specs.declared.deduce.Pass.TheVariants.{Advanced, Dead, Settled}
 use Rattle.hall_slither.specs.Trial.{IsKnown}
 use Rattle.hall_slither.proofs.AreSet.{unset_from}
-use Rattle.hall_slither.proofs.IsFollowed.{Narrows-followed, IsFollowed-advanced, IsFollowed-dead, IsFollowed-failed}
+use Rattle.hall_slither.proofs.IsFollowed.{Narrows-followed, IsFollowed-advanced, IsFollowed-dead, IsFollowed-failed, IsFollowed-start}
 use Rattle.hall_slither.proofs.Trials.{IsForced-known, nowhere}
 use Rattle.hall_slither.proofs.trial.set_known.Goals as goal
 use Rattle.hall_slither.proofs.trial.set_known.Goals.{then-setting-len+then-is_none+in_ok-set_side+in-Settled, else-setting-len}
@@ -36,3 +37,13 @@ loop-setting-preserved c =
           }
       | else-setting-len w ↦ rw (w.partial-is, w.colours-is, w.stack-is, w.pass-is) so_far
     ]
+
+pub loop-setting-init : goal.loop-setting-init
+loop-setting-init c = record {
+  followed = IsFollowed-start c.args.puzzle.now c.args.partial.now c.args.colours.now c.requires.coloured;
+  alive = λ (e : Settled ≡ Dead). cc;
+  centres = c.requires.centres;
+}
+
+pub returns-in_err-set_side-clause-centres : goal.returns-in_err-set_side-clause-centres
+returns-in_err-set_side-clause-centres c = IfOk-from_err c.from_residual.result _ c.from_residual.ensures.0

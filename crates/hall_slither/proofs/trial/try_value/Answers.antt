@@ -1,3 +1,4 @@
+use Rattle.std.proofs.lemmas.Result.{IfOk-from_err}
 use Rattle.std.proofs.Common.{◌≡◌, ℕ, Some, set, subst, length}
 use Rattle.hall_solve.specs.Trail.{Trailed, IsTrailed, Grows, IsUndone}
 use Rattle.hall_solve.proofs.Trails.{undone_same}
@@ -23,3 +24,9 @@ pub returns-clause-tried : goal.returns-clause-tried
 returns-clause-tried c =
     IsTried-step (question_of Slither c.args.puzzle.now) (set c.args.partial.now.places c.args.setting.side (Some c.args.setting.value))
     c.follow_value-step.new.partial.places c.copy_since-copied.new.settings.items c.follow_value-step.result c.follow_value-step.ensures.step c.in_ok-copied.ensures.held
+
+pub returns-in_err-copy_from-clause-tried : goal.returns-in_err-copy_from-clause-tried
+returns-in_err-copy_from-clause-tried c = IfOk-from_err c.from_residual.result _ c.from_residual.ensures.0
+
+pub returns-in_err-copied-clause-tried : goal.returns-in_err-copied-clause-tried
+returns-in_err-copied-clause-tried c = IfOk-from_err c.from_residual-in_err-copied.result _ c.from_residual-in_err-copied.ensures.0

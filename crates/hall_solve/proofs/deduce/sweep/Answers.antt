@@ -1,3 +1,4 @@
+use Rattle.std.proofs.lemmas.Result.{IfOk-from_err}
 use Rattle.std.proofs.Common.{◌≡◌, subst, sym}
 use Rattle.hall_solve.specs.Question.{Narrows}
 use Rattle.hall_solve.specs.Deduction.{IsDeduced, IsForced, IsSound}
@@ -37,3 +38,6 @@ loop-spot-preserved g c =
             alive = λ (eq : Advanced ≡ Dead). cc;
           }))
     ]
+
+pub returns-in_err-look-clause-deduced : goal.returns-in_err-look-clause-deduced
+returns-in_err-look-clause-deduced g c = IfOk-from_err c.from_residual.result _ c.from_residual.ensures.0

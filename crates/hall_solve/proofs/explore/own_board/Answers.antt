@@ -1,3 +1,4 @@
+use Rattle.std.proofs.lemmas.Result.{IfOk-from_err}
 use Rattle.std.proofs.Common.{◌≡◌, ℕ, ◌<◌, ◌≤◌, ◌∷◌, [], ◌++◌, List, Option, Some, None, length, get_or, set, arith, sym, ◌∙◌, ap, inl, inr, refl}
 use Rattle.std.proofs.lemmas.Bool.{cases_eq}
 use Rattle.std.proofs.lemmas.List.{same_lists, get_or_default, get_or-set_same, get_or-set_other, length-set}
@@ -49,3 +50,9 @@ loop-place-preserved c =
     nothing : (x : Option ℕ) → ((v : ℕ) → x ≡ Some v → ⊥) → x ≡ None
     nothing None h = refl
     nothing (Some v) h = absurd (h v refl)
+
+pub returns-in_err-board-clause-places : goal.returns-in_err-board-clause-places
+returns-in_err-board-clause-places c = IfOk-from_err c.from_residual.result _ c.from_residual.ensures.0
+
+pub returns-in_err-board-clause-trailed : goal.returns-in_err-board-clause-trailed
+returns-in_err-board-clause-trailed c = IfOk-from_err c.from_residual.result _ c.from_residual.ensures.0

@@ -1,3 +1,4 @@
+use Rattle.std.proofs.lemmas.Result.{IfOk-from_err}
 use Rattle.std.proofs.Common.{◌≡◌, ℕ, ◌⊎◌, List, Some, None, IsTrue, false, arith, sym, ◌∙◌, subst, inl, inr}
 use Rattle.hall_solve.specs.declared.visit.Visited.{Visited}
 use Rattle.hall_solve.specs.declared.visit.Visited.TheVariants.{Closed, Whole, Open}
@@ -94,3 +95,51 @@ returns-clause-outcome g c =
       gives_up_late = λ _. omega (arith, more, c.visiting-test.false, c.visits.ensures);
       within_budget = omega arith;
     }
+
+pub returns-in_err-board-clause-outcome : goal.returns-in_err-board-clause-outcome
+returns-in_err-board-clause-outcome g c = IfOk-from_err c.from_residual.result _ c.from_residual.ensures.0
+
+pub returns-in_err-board-clause-spent : goal.returns-in_err-board-clause-spent
+returns-in_err-board-clause-spent g c = IfOk-from_err c.from_residual.result _ c.from_residual.ensures.0
+
+pub returns-in_err-board-clause-took : goal.returns-in_err-board-clause-took
+returns-in_err-board-clause-took g c = IfOk-from_err c.from_residual.result _ c.from_residual.ensures.0
+
+pub returns-in_err-board-clause-frugal : goal.returns-in_err-board-clause-frugal
+returns-in_err-board-clause-frugal g c = IfOk-from_err c.from_residual.result _ c.from_residual.ensures.0
+
+pub returns-in_err-stack-clause-outcome : goal.returns-in_err-stack-clause-outcome
+returns-in_err-stack-clause-outcome g c = IfOk-from_err c.from_residual-in_err-stack.result _ c.from_residual-in_err-stack.ensures.0
+
+pub returns-in_err-stack-clause-spent : goal.returns-in_err-stack-clause-spent
+returns-in_err-stack-clause-spent g c = IfOk-from_err c.from_residual-in_err-stack.result _ c.from_residual-in_err-stack.ensures.0
+
+pub returns-in_err-stack-clause-took : goal.returns-in_err-stack-clause-took
+returns-in_err-stack-clause-took g c = IfOk-from_err c.from_residual-in_err-stack.result _ c.from_residual-in_err-stack.ensures.0
+
+pub returns-in_err-stack-clause-frugal : goal.returns-in_err-stack-clause-frugal
+returns-in_err-stack-clause-frugal g c = IfOk-from_err c.from_residual-in_err-stack.result _ c.from_residual-in_err-stack.ensures.0
+
+pub returns-in_err-place-clause-outcome : goal.returns-in_err-place-clause-outcome
+returns-in_err-place-clause-outcome g c = IfOk-from_err c.from_residual-in_err-place.result _ c.from_residual-in_err-place.ensures.0
+
+pub returns-in_err-place-clause-spent : goal.returns-in_err-place-clause-spent
+returns-in_err-place-clause-spent g c = IfOk-from_err c.from_residual-in_err-place.result _ c.from_residual-in_err-place.ensures.0
+
+pub returns-in_err-place-clause-took : goal.returns-in_err-place-clause-took
+returns-in_err-place-clause-took g c = IfOk-from_err c.from_residual-in_err-place.result _ c.from_residual-in_err-place.ensures.0
+
+pub returns-in_err-place-clause-frugal : goal.returns-in_err-place-clause-frugal
+returns-in_err-place-clause-frugal g c = IfOk-from_err c.from_residual-in_err-place.result _ c.from_residual-in_err-place.ensures.0
+
+pub returns-in_err-descend-in-Open-clause-outcome : goal.returns-in_err-descend-in-Open-clause-outcome
+returns-in_err-descend-in-Open-clause-outcome g c = IfOk-from_err c.from_residual-in_err-descend-in-Open.result _ c.from_residual-in_err-descend-in-Open.ensures.0
+
+pub returns-in_err-descend-in-Open-clause-spent : goal.returns-in_err-descend-in-Open-clause-spent
+returns-in_err-descend-in-Open-clause-spent g c = IfOk-from_err c.from_residual-in_err-descend-in-Open.result _ c.from_residual-in_err-descend-in-Open.ensures.0
+
+pub returns-in_err-descend-in-Open-clause-took : goal.returns-in_err-descend-in-Open-clause-took
+returns-in_err-descend-in-Open-clause-took g c = IfOk-from_err c.from_residual-in_err-descend-in-Open.result _ c.from_residual-in_err-descend-in-Open.ensures.0
+
+pub returns-in_err-descend-in-Open-clause-frugal : goal.returns-in_err-descend-in-Open-clause-frugal
+returns-in_err-descend-in-Open-clause-frugal g c = IfOk-from_err c.from_residual-in_err-descend-in-Open.result _ c.from_residual-in_err-descend-in-Open.ensures.0

@@ -1,3 +1,4 @@
+use Rattle.std.proofs.lemmas.Result.{IfOk-from_err}
 use Rattle.std.proofs.Common.{◌≡◌, sym, ◌∙◌, subst, IsTrue}
 use Rattle.hall_solve.proofs.Boards.{whole_filling, IsFilling-whole}
 use Rattle.hall_solve.proofs.visit.judge.Goals as goal
@@ -23,3 +24,9 @@ returns-else-branch-clause-answer g c = λ h s.
     let same : h ≡ f = whole_filling p h f c.requires.whole (s.filling.size ∙ sym c.requires.partial.size) c.in_ok-filling.ensures.length s.extends c.in_ok-filling.ensures.extends in
     let right : IsTrue c.in_ok-accepts.field-0 = c.in_ok-accepts.ensures.right.1 (subst (λ x. (g.R.Rules.question c.args.rules.now).right x) same s.right) in
     cc
+
+pub returns-in_err-filling-clause-answer : goal.returns-in_err-filling-clause-answer
+returns-in_err-filling-clause-answer g c = IfOk-from_err c.from_residual.result _ c.from_residual.ensures.0
+
+pub returns-in_err-accepts-clause-answer : goal.returns-in_err-accepts-clause-answer
+returns-in_err-accepts-clause-answer g c = IfOk-from_err c.from_residual-in_err-accepts.result _ c.from_residual-in_err-accepts.ensures.0

@@ -1,3 +1,4 @@
+use Rattle.std.proofs.lemmas.Result.{IfOk-from_err}
 use Rattle.std.proofs.Common.{◌≡◌, ◌≢◌, ℕ, length, refl, subst}
 use Rattle.hall_solve.specs.declared.visit.Visited.{Visited}
 use Rattle.hall_solve.specs.declared.visit.Visited.TheVariants.{Closed, Whole, Open}
@@ -26,3 +27,6 @@ returns-in_default g c =
       at_visits = c.look.ensures.at_visits;
       same = c.look.ensures.same;
     }
+
+pub returns-in_err-visited-clause-visit : goal.returns-in_err-visited-clause-visit
+returns-in_err-visited-clause-visit g c = IfOk-from_err c.from_residual.result _ c.from_residual.ensures.0

@@ -1,3 +1,4 @@
+use Rattle.std.proofs.lemmas.Result.{IfOk-from_err}
 use Rattle.std.proofs.Common.{◌≡◌, Bool, true, List, ap, ◌∙◌, rules}
 use Rattle.std.specs.List.{filter, take_while}
 use Rattle.std.specs.Map.{values_of}
@@ -39,3 +40,6 @@ returns-in_err-take-clause-stopped g c =
     feeding_stopped g.K.AnswerSink.refuses c.args.sink.now c.loop-slot.sink c.take.new.self (filter (λ row. agree Round (slot_of row) c.args.first.now) (values_of es))
     (values_of (take_while test c.loop-slot.slot-iterator)) (values_of (take_while test rest)) entry.1 c.in_err-take.field-0.0 c.from_residual.result
     (ap values_of (ap (take_while test) c.in-Some.ensures.steps ∙ taken test entry rest passes)) c.loop-slot.invariant c.in_err-take.ensures.same c.in_err-take.ensures.refused c.from_residual.ensures.1
+
+pub returns-in_err-take-clause-fed : goal.returns-in_err-take-clause-fed
+returns-in_err-take-clause-fed g c = IfOk-from_err c.from_residual.result _ c.from_residual.ensures.0

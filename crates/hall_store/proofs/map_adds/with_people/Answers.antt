@@ -1,3 +1,4 @@
+use Rattle.std.proofs.lemmas.Result.{IfOk-from_err}
 use Rattle.std.proofs.Common.{◌≡◌, ◌+◌, true, false, ◌∷◌, drop, is_some, sym, ap, ◌∙◌, arith, rules}
 use Rattle.std.specs.Map.{lookup}
 use Rattle.std.specs.BTreeMap.{is_at}
@@ -32,3 +33,12 @@ loop-person-preserved c =
           ap (λ m. from_entries m.entries) w.people-is ∙ one_known es item known
     ] in
     ap (λ m. with_people m rest) step ∙ ap (with_people (from_entries es)) (sym next) ∙ c.loop-person.invariant
+
+pub returns-in_err-people : goal.returns-in_err-people
+returns-in_err-people c = IfOk-from_err c.from_residual.result _ c.from_residual.ensures.0
+
+pub returns-in_err-clone : goal.returns-in_err-clone
+returns-in_err-clone c = IfOk-from_err c.from_residual-in_err-clone.result _ c.from_residual-in_err-clone.ensures.0
+
+pub returns-in_err-put_person : goal.returns-in_err-put_person
+returns-in_err-put_person c = IfOk-from_err c.from_residual-in_err-put_person.result _ c.from_residual-in_err-put_person.ensures.0

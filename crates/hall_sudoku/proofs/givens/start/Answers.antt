@@ -1,3 +1,4 @@
+use Rattle.std.proofs.lemmas.Result.{IfOk-from_err}
 use Rattle.std.proofs.Common.{◌≡◌, ◌≢◌, ◌-◌, ◌<◌, Some, None, length, sym, ◌∙◌, ap, subst, arith}
 use Rattle.std.specs.Prelude.{slice_get}
 use Rattle.std.proofs.lemmas.List.{length-set, get_or-set_other}
@@ -37,3 +38,12 @@ returns c =
       partial = subst (λ p. IsPartial (question_of Sudoku board) p) (sym is_start) (start_partial board c.requires c.cells.ensures.board);
       solutions = λ f filling right. subst (λ p. Extends f p) (sym is_start) (start_extends board f c.requires c.cells.ensures.board right);
     }
+
+pub returns-in_err-partial-clause-givens : goal.returns-in_err-partial-clause-givens
+returns-in_err-partial-clause-givens c = IfOk-from_err c.from_residual.result _ c.from_residual.ensures.0
+
+pub returns-in_err-partial-clause-partial : goal.returns-in_err-partial-clause-partial
+returns-in_err-partial-clause-partial c = IfOk-from_err c.from_residual.result _ c.from_residual.ensures.0
+
+pub returns-in_err-partial-clause-solutions : goal.returns-in_err-partial-clause-solutions
+returns-in_err-partial-clause-solutions c = IfOk-from_err c.from_residual.result _ c.from_residual.ensures.0

@@ -1,3 +1,4 @@
+use Rattle.std.proofs.lemmas.Grind.{common_steps}
 use Rattle.std.proofs.Common.{◌≡◌, ◌<◌, None, get_or, sym, ◌∙◌, ap, subst, arith, below_more}
 use Rattle.hall_solve.specs.Question.{IsOpen, Narrows}
 use Rattle.hall_solve.specs.Deduction.{IsForced, IsDeduced}
@@ -51,3 +52,9 @@ loop-cell-preserved c =
             (λ unset. absurd (some_of c.get.result c.is_none.result c.is_none.ensures w.if-is_none.false (c.get.ensures ∙ ap (λ q. get_or q cell None) (subst (λ (x : Pass). IsDeduced q c.args.partial.now.places p x) eq c.loop-cell.invariant.deduced) ∙ unset)));
       })
     ]
+
+pub loop-cell-init : goal.loop-cell-init
+loop-cell-init c = grind (arith, common_steps)
+
+pub set-requires : goal.set-requires
+set-requires c = grind (arith, common_steps)

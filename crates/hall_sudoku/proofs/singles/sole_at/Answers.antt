@@ -1,3 +1,4 @@
+use Rattle.std.proofs.lemmas.Grind.{common_steps}
 use Rattle.std.proofs.Common.{◌≡◌, ◌<◌, ℕ, List, length, get_or, sym, ◌∙◌, subst, arith}
 use Rattle.std.proofs.lemmas.List.{get_or_default}
 use Rattle.hall_grid.specs.Board.{row, col}
@@ -29,3 +30,9 @@ returns-clause-none c =
       boxes = λ v h. at_unit shared.boxes c.box_number.result (box size cell) c.index-shared-box_number.result v c.box_number.ensures.number (omega (arith, c.box_number.ensures.small, c.requires.boxes)) (all v (subst (λ x. Has x v) (sym same) h)).2;
     })
     c.least.ensures.none
+
+pub returns-in-Some-clause-some : goal.returns-in-Some-clause-some
+returns-in-Some-clause-some c = grind (arith, common_steps)
+
+pub returns-clause-some : goal.returns-clause-some
+returns-clause-some c = grind (arith, common_steps)
