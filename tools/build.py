@@ -48,8 +48,7 @@ class Build:
     `rt lib` holds the locks of all crates below its own, so that two of them wait for each other: this holds the locks of all crates, and calls what `rt lib` calls."""
 
     def __init__(self, program, most):
-        self.crates = program.below()
-        self.most = most
+        self.program, self.crates, self.most = program, program.below(), most
         self.built, self.running, self.begun, self.failed = set(), {}, {}, None
         self.changed = threading.Condition()
 
@@ -61,10 +60,11 @@ class Build:
     def tell_of(self, crate, word):
         proved, functions = counted(crate.name)
         minutes = (time.time() - self.begun[crate]) / 60
-        place = f"{self.crates.index(crate) + 1} of {len(self.crates) + 1}"
+        place = f"{[*self.crates, self.program].index(crate) + 1} of {len(self.crates) + 1}"
         tell(f"{crate.name:14} {place:>8}  {word:6} {min(proved, functions):4} of {functions:4} functions {minutes:6.1f} minutes")
 
     def prove(self, crate, jobs):
+        stood = crate.is_built()
         with open(LOG, "a", encoding="utf-8") as crate.out:
             os.makedirs(f"{crate.folder}/out", exist_ok=True)
             status = crate.build_rlib(["--jobs", str(jobs)], anew=False)
@@ -72,7 +72,8 @@ class Build:
             del self.running[crate]
             self.built.add(crate)
             self.failed = self.failed or status
-            self.tell_of(crate, "failed" if status else "built")
+            if not stood:
+                self.tell_of(crate, "failed" if status else "built")
             self.changed.notify()
 
     def start(self):
@@ -86,8 +87,8 @@ class Build:
                 self.running[crate], self.begun[crate] = jobs, time.time()
                 threading.Thread(target=self.prove, args=(crate, jobs)).start()
 
-    def run(self):
-        """Whether all were built."""
+    def libraries(self):
+        """Whether all libraries were built."""
         held = rtlib.lock(self.crates)
         with self.changed:
             while len(self.built) < len(self.crates) and not (self.failed and not self.running):
@@ -100,6 +101,20 @@ class Build:
             os.close(it)
         return not self.failed
 
+    def run(self):
+        """Whether the libraries and the program were built."""
+        if not self.libraries():
+            return False
+        self.begun[self.program] = time.time()
+        words = ["rt", "run", "--jobs", str(min(self.most, MOST_OF_ONE)), "--", "--version"]
+        how = {"cwd": self.program.folder, "stdin": subprocess.DEVNULL, "stderr": subprocess.STDOUT}
+        with open(LOG, "ab") as log, subprocess.Popen(words, stdout=log, **how) as running:
+            while True:
+                try:
+                    return running.wait(EVERY) == 0
+                except subprocess.TimeoutExpired:
+                    self.tell_of(self.program, "so far")
+
 
 def main():
     rtlib.guarded()
@@ -109,12 +124,6 @@ def main():
     tell(f"proving and building {len(program.below()) + 1} crates, with {most} processors; build.log has what the prover says")
     open(LOG, "wb").close()
     done = Build(program, most).run()
-    if done:
-        tell("hall: the program itself is proved, and then compiled for a minute or more")
-        with open(LOG, "ab") as log:
-            words = ["rt", "run", "--jobs", str(min(most, MOST_OF_ONE)), "--", "--version"]
-            how = {"cwd": program.folder, "stdin": subprocess.DEVNULL, "stdout": log, "stderr": subprocess.STDOUT}
-            done = not subprocess.run(words, check=False, **how).returncode
     if not done or not os.access(PROGRAM, os.X_OK):
         with open(LOG, encoding="utf-8", errors="replace") as log:
             print("".join(log.readlines()[-20:]), file=sys.stderr)
