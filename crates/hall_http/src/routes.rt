@@ -163,21 +163,32 @@ fn parts_of<'p>(params: &Params<'_, 'p>) -> Parts<'p>
         (walk params.now.pattern.now params.now.text.now params.now.path.now params.now.names.now 0 0) }
 {
     let mut left = params.iter();
-    let mut parts = Parts {
-        first: "",
-        second: "",
-        third: "",
+    let Some((_, first)) = left.next() else {
+        return Parts {
+            first: "",
+            second: "",
+            third: "",
+        };
     };
-    if let Some((_, first)) = left.next() {
-        parts.first = first;
-        if let Some((_, second)) = left.next() {
-            parts.second = second;
-            if let Some((_, third)) = left.next() {
-                parts.third = third;
-            }
-        }
+    let Some((_, second)) = left.next() else {
+        return Parts {
+            first,
+            second: "",
+            third: "",
+        };
+    };
+    let Some((_, third)) = left.next() else {
+        return Parts {
+            first,
+            second,
+            third: "",
+        };
+    };
+    Parts {
+        first,
+        second,
+        third,
     }
-    parts
 }
 
 /// The place of a path, and what its parameters took.

@@ -56,3 +56,4 @@ pub mod FeedLemmas
 pub mod SelectedLemmas
 pub mod FeedListings
 pub mod Agrees
+pub mod EachLemmas

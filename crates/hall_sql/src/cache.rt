@@ -105,8 +105,8 @@ impl Cache {
         ensures rounds { self.new.rounds ≡ self.old.rounds }
         ensures puzzles { self.new.puzzles ≡ self.old.puzzles }
     {
-        let copy = person.clone()?;
-        note(&mut self.people, MOST_PEOPLE, key.clone()?, copy)
+        let key = key.clone()?;
+        note(&mut self.people, MOST_PEOPLE, key, person.clone()?)
     }
 
     /// Keeps a copy of the round; an error is want of memory for it.
@@ -115,8 +115,8 @@ impl Cache {
         ensures people { self.new.people ≡ self.old.people }
         ensures puzzles { self.new.puzzles ≡ self.old.puzzles }
     {
-        let copy = row.clone()?;
-        note(&mut self.rounds, MOST_ROUNDS, id.clone()?, copy)
+        let id = id.clone()?;
+        note(&mut self.rounds, MOST_ROUNDS, id, row.clone()?)
     }
 
     /// Keeps a copy of the puzzle; an error is want of memory for it.

@@ -158,10 +158,11 @@ impl Record for PuzzleRow {
 fn answer_key_at(row: &Row) -> Result<AnswerKey, StoreFault>
     ensures { IfOk result (IsAnswerKeyIn row.now) }
 {
+    let number = number_at(row, 2)?;
     Ok(AnswerKey {
         entrant: text_at(row, 0)?,
         round: text_at(row, 1)?,
-        number: number_at(row, 2)?,
+        number,
         token: text_at(row, 3)?,
     })
 }
@@ -177,11 +178,11 @@ impl Record for AnswerRow {
     ghost read = { answer_in };
 
     fn from_row(_: Global, row: &Row) -> Result<AnswerRow, StoreFault> {
-        let key = answer_key_at(row)?;
         let n = number_at(row, 4)?;
         let moment = number_at(row, 5)?;
-        let answer = text_at(row, 6)?;
         let verdict = verdict_at(row, 7)?;
+        let answer = text_at(row, 6)?;
+        let key = answer_key_at(row)?;
         Ok(AnswerRow {
             key,
             n,
@@ -248,12 +249,12 @@ impl Record for ProtestRow {
     ghost read = { protest_in };
 
     fn from_row(_: Global, row: &Row) -> Result<ProtestRow, StoreFault> {
+        let number = number_at(row, 3)?;
+        let ruling = ruling_at(row, 5, 6)?;
         let entrant = text_at(row, 0)?;
         let round = text_at(row, 1)?;
         let token = text_at(row, 2)?;
-        let number = number_at(row, 3)?;
         let text = text_at(row, 4)?;
-        let ruling = ruling_at(row, 5, 6)?;
         Ok(ProtestRow {
             key: ProtestKey {
                 entrant,
@@ -293,8 +294,6 @@ impl Record for Round {
     ghost read = { round_in };
 
     fn from_row(_: Global, row: &Row) -> Result<Round, StoreFault> {
-        let id = text_at(row, 0)?;
-        let title = text_at(row, 1)?;
         let start = number_at(row, 2)?;
         let minutes = number_at(row, 3)?;
         let protest_minutes = number_at(row, 4)?;
@@ -303,6 +302,8 @@ impl Record for Round {
         let bonus = number_at(row, 7)?;
         let released = flag_at(row, 8)?;
         let published = flag_at(row, 9)?;
+        let id = text_at(row, 0)?;
+        let title = text_at(row, 1)?;
         Ok(Round {
             id,
             title,
@@ -325,11 +326,11 @@ impl Record for Place {
     ghost read = { place_in };
 
     fn from_row(_: Global, row: &Row) -> Result<Place, StoreFault> {
-        let round = text_at(row, 0)?;
         let number = number_at(row, 1)?;
+        let points = number_at(row, 4)?;
+        let round = text_at(row, 0)?;
         let author = text_at(row, 2)?;
         let label = text_at(row, 3)?;
-        let points = number_at(row, 4)?;
         Ok((
             PlaceKey { round, number },
             Entry {

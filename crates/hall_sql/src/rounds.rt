@@ -1,5 +1,5 @@
 //! The table of rounds.
-ghost use Rattle.std.specs.Prelude.{◌≡◌, ℕ, List, map, IfOk, IfSome};
+ghost use Rattle.std.specs.Prelude.{◌≡◌, ◌++◌, ◌∷◌, [], ℕ, List, length, map, suc, IfOk, IfSome, OnOk};
 ghost use Rattle.std.specs.FinMap.{get, values};
 ghost use Rattle.sqlite.specs.Held.{state};
 ghost use Rattle.sqlite.specs.State.{HasCleanDisk};
@@ -126,19 +126,29 @@ fn places_of<S: Alter>(
     read_all(alloc, &rows)
 }
 
+/// Adds the entry of a place. Refused where the place isn't the next.
+fn add_entry(entries: &mut Vec<Entry>, place: Place) -> Result<(), StoreFault>
+    ensures added { OnOk result (entries.new.items ≡ entries.old.items ++ place.1 ∷ []) }
+    ensures next { OnOk result (place.0.number ≡ suc (length entries.old.items)) }
+{
+    let (key, entry) = place;
+    if key.number.get() != entries.len() as u64 + 1 {
+        return Err(StoreFault::Failed);
+    }
+    match entries.push(entry) {
+        Ok(()) => Ok(()),
+        Err(_) => Err(StoreFault::Memory),
+    }
+}
+
 /// The entries of places that are numbered from 1 on.
 fn entries_of(alloc: Global, places: Vec<Place>) -> Result<Vec<Entry>, StoreFault>
     ensures { IfOk result
         (λ entries. (entries.items ≡ map (λ place. place.1) places.items) × AreNumbered places.items) }
 {
     let mut entries = Vec::new(alloc);
-    for (key, entry) in places {
-        if key.number.get() != entries.len() as u64 + 1 {
-            return Err(StoreFault::Failed);
-        }
-        if entries.push(entry).is_err() {
-            return Err(StoreFault::Memory);
-        }
+    for place in places {
+        add_entry(&mut entries, place)?;
     }
     Ok(entries)
 }
