@@ -1,7 +1,7 @@
 //! The two files of a database in memory, which may fail from some call on.
 use crate::lent::Lent;
-use hall_sql::SqlStore;
-use sqlite::{Connection, FileStore, Files, Options};
+use crate::tables::{Ask, ask_over};
+use sqlite::{Alter, Connection, FileStore, Files, Options};
 use sqlite_disk::{Crash, Disk, Fuse, Memory};
 use std::alloc::AllocGlobal;
 use std::process::Abort;
@@ -123,21 +123,28 @@ fn connected<'a>(rt: &impl AllocGlobal, files: &'a mut Stopped) -> Option<Connec
     Connection::open_files(rt.alloc(), lent, options).ok()
 }
 
-/// The hall's tables in the files, made there where there are none.
-pub(crate) fn tables<'a>(
-    rt: &impl AllocGlobal,
-    files: &'a mut Stopped,
-) -> Option<SqlStore<Lending<'a>>> {
-    SqlStore::over(connected(rt, files)?).ok()
+/// Asks it of the hall in the files, made there where there is none. Whether it could be asked.
+pub(crate) fn ask_in<A: Ask>(
+    rt: &(impl AllocGlobal + Abort),
+    files: &mut Stopped,
+    ask: &mut A,
+) -> bool {
+    match connected(rt, files) {
+        Some(conn) => ask_over(rt, conn, ask),
+        None => false,
+    }
 }
 
-/// How many tables stand in the files.
-pub(crate) fn tables_in(rt: &(impl AllocGlobal + Abort), image: &Image) -> i64 {
-    let mut files = whole(rt, image);
-    let mut conn = connected(rt, &mut files).expect(rt, "opened again");
+fn count_tables<S: Alter + Drop>(rt: &impl Abort, mut conn: Connection<S>) -> i64 {
     let row = conn.query_row(
         "SELECT count(*) FROM sqlite_schema WHERE type = 'table'",
         &[],
     );
     row.expect(rt, "row").get(0).expect(rt, "count")
+}
+
+/// How many tables stand in the files.
+pub(crate) fn tables_in(rt: &(impl AllocGlobal + Abort), image: &Image) -> i64 {
+    let mut files = whole(rt, image);
+    count_tables(rt, connected(rt, &mut files).expect(rt, "opened again"))
 }

@@ -1,6 +1,6 @@
 //! Lists of requests by chance: a hall over tables replies as one in maps does, with a cache and without.
 use crate::opening::{Asked, answered, number_of, open, request_told, routes};
-use crate::tables::empty_store;
+use crate::tables::{Ask, ask_over, connection};
 use hall_http::Answer;
 use hall_sql::CachedStore;
 use hall_store::{MapStore, Store};
@@ -250,20 +250,47 @@ fn list_of(rt: &(impl AllocGlobal + Abort), seed: u64) -> Vec<Asked<'static>> {
     list
 }
 
-/// What a hall over a store that held nothing replies to the list.
-fn replies<S: Store>(
-    rt: &(impl AllocGlobal + Abort),
-    store: S,
-    list: &[Asked<'static>],
-) -> Vec<Answer> {
-    let routes = routes(rt);
-    let mut desk = open(rt, &routes, store);
-    let mut replies = Vec::new(rt.alloc());
-    for asked in list {
-        let reply = answered(rt, &routes, &mut desk, asked);
-        replies.push(reply).expect(rt, "memory");
+/// A list, and what a hall over a store that held nothing replies to it.
+#[derive(Drop)]
+struct Replies<'a> {
+    list: &'a [Asked<'static>],
+    replies: Vec<Answer>,
+}
+
+impl Ask for Replies<'_> {
+    fn ask<S: Store, R: AllocGlobal + Abort>(&mut self, rt: &R, store: S) {
+        let routes = routes(rt);
+        let mut desk = open(rt, &routes, store);
+        for asked in self.list {
+            let reply = answered(rt, &routes, &mut desk, asked);
+            self.replies.push(reply).expect(rt, "memory");
+        }
     }
-    replies
+}
+
+/// The same behind a cache.
+#[derive(Drop)]
+struct Cached<'a> {
+    replies: Replies<'a>,
+}
+
+impl Ask for Cached<'_> {
+    fn ask<S: Store, R: AllocGlobal + Abort>(&mut self, rt: &R, store: S) {
+        self.replies.ask(rt, CachedStore::new(rt.alloc(), store));
+    }
+}
+
+fn no_replies<'a>(rt: &(impl AllocGlobal + Abort), list: &'a [Asked<'static>]) -> Replies<'a> {
+    Replies {
+        list,
+        replies: Vec::new(rt.alloc()),
+    }
+}
+
+/// Asks it of a hall in new tables.
+fn ask_tables<A: Ask>(rt: &(impl AllocGlobal + Abort), ask: &mut A) {
+    let is_asked = ask_over(rt, connection(rt, &[]), ask);
+    assert!(rt; is_asked, "tables");
 }
 
 /// Sees that the replies to the list are the wanted ones.
@@ -312,13 +339,22 @@ fn note(seen: &mut Seen, action: u64, reply: &[u8]) {
 /// Asks all halls the list that the seed tells, and sees that they reply the same.
 fn ask_list(rt: &(impl AllocGlobal + Abort), seen: &mut Seen, seed: u64) {
     let list = list_of(rt, seed);
-    let wanted = replies(rt, MapStore::new(rt.alloc()), list.as_slice());
-    let found = replies(rt, empty_store(rt), list.as_slice());
-    see_same(rt, list.as_slice(), wanted.as_slice(), found.as_slice());
-    let cached = CachedStore::new(rt.alloc(), empty_store(rt));
-    let found = replies(rt, cached, list.as_slice());
-    see_same(rt, list.as_slice(), wanted.as_slice(), found.as_slice());
-    for (asked, reply) in list.iter().zip(wanted.iter()) {
+    let mut wanted = no_replies(rt, list.as_slice());
+    wanted.ask(rt, MapStore::new(rt.alloc()));
+    let mut found = no_replies(rt, list.as_slice());
+    ask_tables(rt, &mut found);
+    see_same(rt, list.as_slice(), &wanted.replies, &found.replies);
+    let mut cached = Cached {
+        replies: no_replies(rt, list.as_slice()),
+    };
+    ask_tables(rt, &mut cached);
+    see_same(
+        rt,
+        list.as_slice(),
+        &wanted.replies,
+        &cached.replies.replies,
+    );
+    for (asked, reply) in list.iter().zip(wanted.replies.iter()) {
         note(seen, asked.action, reply.as_bytes());
     }
 }

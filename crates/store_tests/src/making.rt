@@ -1,9 +1,21 @@
 //! Making the tables in an empty file, which is stopped: one of the two files fails from some call on.
 use crate::files::{
-    MOST_CALLS, Part, empty_image, images_after, is_blown, stopped, tables, tables_in,
+    MOST_CALLS, Part, ask_in, empty_image, images_after, is_blown, stopped, tables_in,
 };
+use crate::tables::Ask;
+use hall_store::Store;
 use std::alloc::AllocGlobal;
 use std::process::Abort;
+
+/// Asks for nothing but the tables.
+#[derive(Clone, Copy)]
+struct Making;
+
+impl Ask for Making {
+    fn ask<S: Store, R: AllocGlobal + Abort>(&mut self, _rt: &R, store: S) {
+        drop(store);
+    }
+}
 
 /// How many of the files that were opened again held no tables, and how many all six.
 #[derive(Clone, Copy)]
@@ -16,7 +28,7 @@ struct Found {
 /// Whether no call was refused.
 fn see_stop(rt: &(impl AllocGlobal + Abort), part: Part, calls: u64, found: &mut Found) -> bool {
     let mut files = stopped(rt, &empty_image(rt), part, calls);
-    let is_made = tables(rt, &mut files).is_some();
+    let is_made = ask_in(rt, &mut files, &mut Making);
     let is_whole = !is_blown(&mut files);
     assert!(rt; is_made || !is_whole, "call {calls}");
     for image in &images_after(rt, &mut files) {

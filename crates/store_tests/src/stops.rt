@@ -1,14 +1,14 @@
 //! Commands that are stopped: one of the two files fails from some call on, and the database is opened again.
 use crate::files::{
-    Image, MOST_CALLS, Part, Stopped, empty_image, image_of, images_after, is_blown, stopped,
-    tables, whole,
+    Image, MOST_CALLS, Part, Stopped, ask_in, empty_image, image_of, images_after, is_blown,
+    stopped, whole,
 };
 use crate::opening::{Asked, is_done, number_of, request_told, routes, seeded};
+use crate::tables::Ask;
 use crate::world::world_text;
 use hall_desk::Desk;
 use hall_http::Routes;
-use hall_sql::SqlStore;
-use sqlite::Alter;
+use hall_store::Store;
 use std::alloc::AllocGlobal;
 use std::process::Abort;
 
@@ -85,26 +85,43 @@ fn is_world(rt: &(impl AllocGlobal + Abort), text: &str, steps: u64) -> bool {
     world_after(rt, steps).as_str() == text
 }
 
-/// The world that a store over tables tells.
-fn told<S: Alter + Drop>(rt: &(impl AllocGlobal + Abort), mut store: SqlStore<S>) -> String {
-    world_text(rt, &mut store)
+/// The world that a hall tells.
+#[derive(Drop)]
+struct Telling {
+    world: String,
+}
+
+impl Ask for Telling {
+    fn ask<S: Store, R: AllocGlobal + Abort>(&mut self, rt: &R, mut store: S) {
+        self.world = world_text(rt, &mut store);
+    }
 }
 
 /// The world in the files, which are opened again.
 fn world_in(rt: &(impl AllocGlobal + Abort), image: &Image) -> String {
     let mut files = whole(rt, image);
-    told(rt, tables(rt, &mut files).expect(rt, "opened again"))
+    let mut telling = Telling {
+        world: String::new(rt.alloc()),
+    };
+    let is_opened = ask_in(rt, &mut files, &mut telling);
+    assert!(rt; is_opened, "opened again");
+    telling.world
 }
 
-/// Whether a desk over the tables acknowledges the command.
-fn is_acknowledged<S: Alter + Drop>(
-    rt: &(impl AllocGlobal + Abort),
-    routes: &Routes,
-    store: SqlStore<S>,
-    asked: &Asked<'_>,
-) -> bool {
-    let mut desk = Desk::new(store);
-    is_done(rt, routes, &mut desk, asked)
+/// A command, and whether a hall acknowledged it.
+#[derive(Clone, Copy)]
+struct Asking<'a> {
+    routes: &'a Routes,
+    asked: Asked<'a>,
+    is_acknowledged: bool,
+}
+
+impl Ask for Asking<'_> {
+    fn ask<S: Store, R: AllocGlobal + Abort>(&mut self, rt: &R, store: S) {
+        let (routes, asked) = (self.routes, self.asked);
+        let mut desk = Desk::new(store);
+        self.is_acknowledged = is_done(rt, routes, &mut desk, &asked);
+    }
 }
 
 /// Whether the command is acknowledged that is asked over the files.
@@ -114,21 +131,29 @@ fn asks_over(
     files: &mut Stopped,
     asked: &Asked<'_>,
 ) -> bool {
-    match tables(rt, files) {
-        Some(store) => is_acknowledged(rt, routes, store, asked),
-        None => false,
-    }
+    let mut asking = Asking {
+        routes,
+        asked: *asked,
+        is_acknowledged: false,
+    };
+    ask_in(rt, files, &mut asking) && asking.is_acknowledged
 }
 
-/// Puts the first people into the tables.
-fn seed<S: Alter + Drop>(rt: &(impl AllocGlobal + Abort), store: SqlStore<S>) {
-    let _desk = seeded(rt, store);
+/// Puts the first people into a hall.
+#[derive(Clone, Copy)]
+struct Seeding;
+
+impl Ask for Seeding {
+    fn ask<S: Store, R: AllocGlobal + Abort>(&mut self, rt: &R, store: S) {
+        let _desk = seeded(rt, store);
+    }
 }
 
 /// The files of the hall before its first command.
 fn first_image(rt: &(impl AllocGlobal + Abort)) -> Image {
     let mut files = whole(rt, &empty_image(rt));
-    seed(rt, tables(rt, &mut files).expect(rt, "tables"));
+    let is_made = ask_in(rt, &mut files, &mut Seeding);
+    assert!(rt; is_made, "tables");
     image_of(rt, &files)
 }
 

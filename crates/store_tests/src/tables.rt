@@ -1,7 +1,7 @@
 //! The tables of the hall, and rows of them.
 use hall_sql::SqlStore;
-use hall_store::StoreFault;
-use sqlite::{Connection, MemStore};
+use hall_store::{Store, StoreFault};
+use sqlite::{Alter, Connection, MemStore};
 use std::alloc::AllocGlobal;
 use std::process::Abort;
 
@@ -67,9 +67,24 @@ pub(crate) fn filled(rt: &(impl AllocGlobal + Abort)) -> Connection<MemStore> {
     connection(rt, &[TABLES, ROWS])
 }
 
-/// A store over a connection with nothing.
-pub(crate) fn empty_store(rt: &(impl AllocGlobal + Abort)) -> SqlStore<MemStore> {
-    over(connection(rt, &[])).expect(rt, "store")
+/// What is asked of a hall, whichever store keeps it.
+pub(crate) trait Ask {
+    fn ask<S: Store, R: AllocGlobal + Abort>(&mut self, rt: &R, store: S);
+}
+
+/// Asks it of the hall in the tables of the connection, made there where there are none. Whether it could be asked.
+pub(crate) fn ask_over<S: Alter + Drop, A: Ask>(
+    rt: &(impl AllocGlobal + Abort),
+    conn: Connection<S>,
+    ask: &mut A,
+) -> bool {
+    match SqlStore::over(conn) {
+        Ok(store) => {
+            ask.ask(rt, store);
+            true
+        }
+        Err(_) => false,
+    }
 }
 
 /// A store over the connection.
