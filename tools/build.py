@@ -23,6 +23,8 @@ MEMORY_OF_ONE = 3 << 30
 EVERY = 15
 # More processors than this hardly shorten the proof of one crate.
 MOST_OF_ONE = 4
+# How far those that others wait less for stand back.
+STANDS_BACK = 10
 
 
 def tell(text):
@@ -43,13 +45,14 @@ def counted(name):
 
 
 class Build:
-    """The crates that the program stands on, each proved once those below it are built, those with most work behind them first.
+    """The crates that the program stands on, each proved once those below it are built. The one with most work behind it has all processors, and the
+    others take what it leaves.
 
     `rt lib` holds the locks of all crates below its own, so that two of them wait for each other: this holds the locks of all crates, and calls what `rt lib` calls."""
 
     def __init__(self, program, most):
         self.program, self.crates, self.most = program, program.below(), most
-        self.built, self.running, self.begun, self.failed = set(), {}, {}, None
+        self.built, self.running, self.begun, self.failed = set(), set(), {}, None
         self.changed = threading.Condition()
 
     def behind(self, crate):
@@ -63,13 +66,16 @@ class Build:
         place = f"{[*self.crates, self.program].index(crate) + 1} of {len(self.crates) + 1}"
         tell(f"{crate.name:14} {place:>8}  {word:6} {min(proved, functions):4} of {functions:4} functions {minutes:6.1f} minutes")
 
-    def prove(self, crate, jobs):
+    def prove(self, crate, jobs, stands_back):
+        # A process has the priority of the thread that starts it.
+        own = os.getpriority(os.PRIO_PROCESS, 0)
+        os.setpriority(os.PRIO_PROCESS, threading.get_native_id(), min(19, own + stands_back))
         stood = crate.is_built()
         with open(LOG, "a", encoding="utf-8") as crate.out:
             os.makedirs(f"{crate.folder}/out", exist_ok=True)
             status = crate.build_rlib(["--jobs", str(jobs)], anew=False)
         with self.changed:
-            del self.running[crate]
+            self.running.remove(crate)
             self.built.add(crate)
             self.failed = self.failed or status
             if not stood:
@@ -77,15 +83,15 @@ class Build:
             self.changed.notify()
 
     def start(self):
-        """Starts what may be proved now; the processors that no crate waits for go to those that are started."""
+        """Starts what may be proved now, at most as many crates as there are processors."""
         ready = [it for it in self.crates if it not in self.built and it not in self.running and self.built.issuperset(it.below())]
         ready.sort(key=self.behind, reverse=True)
-        for place, crate in enumerate(ready):
-            idle = self.most - sum(self.running.values())
-            if idle > 0:
-                jobs = min(MOST_OF_ONE, max(1, -(-idle // (len(ready) - place))))
-                self.running[crate], self.begun[crate] = jobs, time.time()
-                threading.Thread(target=self.prove, args=(crate, jobs)).start()
+        for crate in ready[: self.most - len(self.running)]:
+            is_first = all(self.behind(crate) > self.behind(it) for it in self.running)
+            jobs = min(MOST_OF_ONE, self.most if is_first else max(1, self.most // 2))
+            self.running.add(crate)
+            self.begun[crate] = time.time()
+            threading.Thread(target=self.prove, args=(crate, jobs, 0 if is_first else STANDS_BACK)).start()
 
     def libraries(self):
         """Whether all libraries were built."""
