@@ -15,7 +15,7 @@ from collections import defaultdict
 
 ROOT = os.path.dirname(os.path.dirname(os.path.realpath(__file__)))
 EVERY = 0.5
-TICK = os.sysconf("SC_CLK_TCK")
+TICK, PAGE = os.sysconf("SC_CLK_TCK"), os.sysconf("SC_PAGE_SIZE")
 TASKS = ("proof", "tests", "edits")
 
 
@@ -25,31 +25,33 @@ def read(path):
 
 
 def provers():
-    """The prover's processes: (pid, start), words, folder, seconds used."""
+    """The prover's processes: (pid, start), words, folder, seconds used, bytes of memory."""
     for pid in filter(str.isdigit, os.listdir("/proc")):
         try:
             words = read(f"/proc/{pid}/cmdline").split("\0")
             if os.path.basename(words[0]).startswith("rattle") and "--crate-name" in words:
                 fields = read(f"/proc/{pid}/stat").rsplit(")", 1)[1].split()
-                yield (pid, fields[19]), words, os.readlink(f"/proc/{pid}/cwd"), (int(fields[11]) + int(fields[12])) / TICK
+                used = (int(fields[11]) + int(fields[12])) / TICK
+                yield (pid, fields[19]), words, os.readlink(f"/proc/{pid}/cwd"), used, int(fields[21]) * PAGE
         except OSError:
             continue
 
 
 class Times:
-    """Seconds by crate and task, and by the folder in which an edit is tried."""
+    """Seconds by crate and task, and by the folder in which an edit is tried; and the most memory of one process of a crate."""
 
     def __init__(self):
-        self.used, self.edits = {}, {}
+        self.used, self.edits, self.most = {}, {}, defaultdict(int)
 
     def look(self):
-        for process, words, folder, seconds in provers():
+        for process, words, folder, seconds, memory in provers():
             name = words[words.index("--crate-name") + 1]
             is_edit = "/rt-edit-" in folder
             if not (is_edit and os.path.isdir(f"{ROOT}/crates/{name}") or f"{folder}/".startswith(f"{ROOT}/")):
                 continue
             task = "edits" if is_edit else "tests" if "--test" in words else "proof"
             self.used[process] = name, task, seconds
+            self.most[name] = max(self.most[name], memory)
             if is_edit:
                 self.edits.setdefault(folder, (name, {}))[1][process] = seconds
 
@@ -59,9 +61,10 @@ class Times:
             minutes[name][task] += seconds / 60
         sums = {task: sum(row[task] for row in minutes.values()) for task in TASKS}
         rows = sorted(minutes.items(), key=lambda row: -sum(row[1].values())) + [("all", sums)]
-        yield f"{'processor minutes':24}" + "".join(f"{task:>8}" for task in (*TASKS, "sum"))
+        self.most["all"] = max(self.most.values(), default=0)
+        yield f"{'processor minutes':24}" + "".join(f"{task:>8}" for task in (*TASKS, "sum", "GB"))
         for name, row in rows:
-            yield f"{name:24}" + "".join(f"{it:8.1f}" for it in (*row.values(), sum(row.values())))
+            yield f"{name:24}" + "".join(f"{it:8.1f}" for it in (*row.values(), sum(row.values()), self.most[name] / 1e9))
 
     def edit_lines(self):
         """The edits of a crate are tried in the order of their names, and then the crate itself; what is tried once more comes last."""
