@@ -61,7 +61,7 @@ took_answers : (round : RoundRow) (protests : List ProtestRow) (done rows : List
 took_answers round protests done [] before after held taken =
     subst (λ (t : Tally). IsTallyOf round protests (done ++ []) t) (sym taken) (subst (λ (rs : List AnswerRow). IsTallyOf round protests rs before) (sym (append-nil done)) held)
 took_answers round protests done (row ∷ rows) before after held (next, takes, taken) =
-    subst (λ (rs : List AnswerRow). IsTallyOf round protests rs after) (append_assoc done (row ∷ []) rows) (took_answers round protests (done ++ row ∷ []) rows next after (takes round protests done held) taken)
+    subst (λ (rs : List AnswerRow). IsTallyOf round protests rs after) (append_assoc done (row ∷ []) rows) (took_answers round protests (done ++ row ∷ []) rows next after (takes round protests done held).1 taken)
 
 -- ---- an answer that is refused
 -- the order of turns is total

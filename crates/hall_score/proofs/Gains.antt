@@ -116,31 +116,34 @@ gain_none ks s f rows none nothing = record {
 }
 
 -- ---- a row that scores
-count_next : (k low n : ℕ) → count_by (λ j. k == j) (range_with_len low (suc n)) ≡ one_if (k == low) + count_by (λ j. k == j) (range_with_len (low + 1) n)
-count_next k low n = sum_by-cons (λ j. one_if (k == j)) low (range_with_len (low + 1) n)
+sum_next : (c k low n : ℕ) → sum_by (λ j. cond (k == j) c 0) (range_with_len low (suc n)) ≡ cond (k == low) c 0 + sum_by (λ j. cond (k == j) c 0) (range_with_len (low + 1) n)
+sum_next c k low n = sum_by-cons (λ j. cond (k == j) c 0) low (range_with_len (low + 1) n)
 
 -- among numbers that rise by one, a number in their range stands once
-count_below : (k low n : ℕ) → k < low → count_by (λ j. k == j) (range_with_len low n) ≡ 0
-count_below k low zero h = refl
-count_below k low (suc n) h =
-    let rest = count_below k (low + 1) n (omega arith) in
-    let here : one_if (k == low) ≡ 0 = grind (arith, nat_tests) in
-    omega (arith, here, rest, count_next k low n)
+sum_below : (c k low n : ℕ) → k < low → sum_by (λ j. cond (k == j) c 0) (range_with_len low n) ≡ 0
+sum_below c k low zero h = refl
+sum_below c k low (suc n) h =
+    let rest = sum_below c k (low + 1) n (omega arith) in
+    let here : cond (k == low) c 0 ≡ 0 = grind (arith, nat_tests) in
+    omega (arith, here, rest, sum_next c k low n)
 
-count_once : (k low n : ℕ) → low ≤ k → k < low + n → count_by (λ j. k == j) (range_with_len low n) ≡ 1
-count_once k low zero h g = absurd (omega arith)
-count_once k low (suc n) h g = elim (k == low) as (λ b. (k == low) ≡ b → count_by (λ j. k == j) (range_with_len low (suc n)) ≡ 1) [
+pub sum_once : (c k low n : ℕ) → low ≤ k → k < low + n → sum_by (λ j. cond (k == j) c 0) (range_with_len low n) ≡ c
+sum_once c k low zero h g = absurd (omega arith)
+sum_once c k low (suc n) h g = elim (k == low) as (λ b. (k == low) ≡ b → sum_by (λ j. cond (k == j) c 0) (range_with_len low (suc n)) ≡ c) [
   | true ↦ λ e.
       let same : k ≡ low = grind (arith, nat_tests) in
-      let rest = count_below k (low + 1) n (omega arith) in
-      let here : one_if (k == low) ≡ 1 = ap one_if e in
-      omega (arith, here, rest, count_next k low n)
+      let rest = sum_below c k (low + 1) n (omega arith) in
+      let here : cond (k == low) c 0 ≡ c = ap (λ b. cond b c 0) e in
+      omega (arith, here, rest, sum_next c k low n)
   | false ↦ λ e.
       let apart : (k ≡ low) → ⊥ = λ same. grind (arith, nat_tests) in
-      let rest = count_once k (low + 1) n (omega (arith, apart)) (omega arith) in
-      let here : one_if (k == low) ≡ 0 = ap one_if e in
-      omega (arith, here, rest, count_next k low n)
+      let rest = sum_once c k (low + 1) n (omega (arith, apart)) (omega arith) in
+      let here : cond (k == low) c 0 ≡ 0 = ap (λ b. cond b c 0) e in
+      omega (arith, here, rest, sum_next c k low n)
 ] refl
+
+count_once : (k low n : ℕ) → low ≤ k → k < low + n → count_by (λ j. k == j) (range_with_len low n) ≡ 1
+count_once k low n h g = sum_once 1 k low n h g
 
 and_true : (a b : Bool) → b ≡ true → ((a && b) || false) ≡ a
 and_true true b e = cc

@@ -7,5 +7,7 @@ pub mod Works
 pub mod Tallies
 pub mod Permuted
 pub mod Ranks
+pub mod Once
+pub mod Counting
+pub mod RightTotals
 mod Worked
-mod Once

@@ -50,7 +50,7 @@ lt_max : (k a b c : ℕ) → c ≡ max a b → nat_lt k c ≡ (nat_lt k a || nat
 lt_max k a b c e = grind (arith, nat_tests)
 
 -- a moment is before the last one exactly where it is before one that scores
-above : (s : AnswerRow → Bool) (rows : List AnswerRow) (k : ℕ) → nat_lt k (lasting s rows) ≡ list_any (λ row. s row && nat_lt k row.moment) rows
+pub above : (s : AnswerRow → Bool) (rows : List AnswerRow) (k : ℕ) → nat_lt k (lasting s rows) ≡ list_any (λ row. s row && nat_lt k row.moment) rows
 above s [] k = lt_false k 0 (omega arith)
 above s (row ∷ rows) k =
     let rest = above s rows k in

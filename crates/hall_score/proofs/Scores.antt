@@ -78,6 +78,13 @@ entry_within entries (suc k) e = elim (slice_get entries k) as (λ o. slice_get 
   | Some entry ↦ λ at some. let within = slice_get_within entries k entry at in (omega arith, omega arith)
 ] refl e
 
+-- and each number of the round has an entry
+pub has_entry : (entries : List Entry) (k : ℕ) → 1 ≤ k → k ≤ length entries → is_some (entry_at entries k) ≡ true
+has_entry entries zero least most = absurd (omega arith)
+has_entry [] (suc k) least most = absurd (omega arith)
+has_entry (entry ∷ entries) (suc zero) least most = refl
+has_entry (entry ∷ entries) (suc (suc k)) least most = has_entry entries (suc k) (omega arith) (omega arith)
+
 -- where none of the rows scores, all that they give is the last one's
 pub only_last : (round : RoundRow) (rows : List AnswerRow) (row : AnswerRow) (c : Score) → All (λ before. does_score round (rows ++ row ∷ []) before ≡ false) rows → does_score round (rows ++ row ∷ []) row ≡ true → c.points ≡ points_for round (rows ++ row ∷ []) row → c.solved ≡ 1 → c.last ≡ row.moment → IsScoreOf round (rows ++ row ∷ []) c
 only_last round rows row c none scores ep eq el =

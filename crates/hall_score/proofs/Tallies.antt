@@ -1,5 +1,5 @@
 -- What a tally has taken, row by row.
-use Rattle.std.proofs.Common.{arith, ◌≡◌, ◌<◌, ◌+◌, ◌+ℤ◌, ◌⊎◌, inl, inr, ℕ, ℤ, pos, Bool, true, false, List, [], ◌∷◌, ◌++◌, length, All, Contains, Option, Some, None, refl, sym, ap, subst, get_or, ◌∙◌, append_assoc, filter, is_some}
+use Rattle.std.proofs.Common.{arith, ◌≡◌, ◌≤◌, ◌<◌, ◌+◌, ◌+ℤ◌, ◌⊎◌, inl, inr, ℕ, ℤ, pos, Bool, true, false, List, [], ◌∷◌, ◌++◌, length, All, Contains, Option, Some, None, refl, sym, ap, subst, get_or, ◌∙◌, append_assoc, filter, is_some}
 use Rattle.std.specs.BTreeMap.{is_at}
 use Rattle.std.specs.Ordering.{nat_cmp, ordering_then, ordering_reverse, is_eq}
 use Rattle.std.specs.declared.cmp.Ordering.{Ordering}
@@ -22,7 +22,7 @@ use Rattle.hall_policy.specs.declared.record.RoundRow.{RoundRow}
 use Rattle.hall_policy.proofs.Orders.{text_total, same_texts}
 use Rattle.hall_score.specs.Total.{total_of, answer_points, protest_points}
 use Rattle.hall_score.specs.Work.{IsWorkOf, IsAhead}
-use Rattle.hall_score.specs.Tally.{answers_by, protests_by, AreTotalsOf, turn_cmp, AreRulingsOf, IsLastOf, AreHeld, IsTallyOf, TakesAnswer, RefusesAnswer, TakesProtest, RefusesProtest, IsLater, IsNextOf, IsPastOf}
+use Rattle.hall_score.specs.Tally.{answers_by, protests_by, AreTotalsOf, turn_cmp, AreRulingsOf, IsLastOf, AreHeld, IsTallyOf, IsNext, TakesAnswer, RefusesAnswer, TakesProtest, RefusesProtest, IsLater, IsNextOf, IsPastOf}
 use Rattle.hall_score.specs.Ruled.{ruled_at, points_ruled, count_ruled}
 use Rattle.hall_score.specs.declared.held.Work.{Work}
 use Rattle.hall_score.specs.declared.held.Rulings.{Rulings}
@@ -170,37 +170,88 @@ all_below round protests answers totals (Some entrant) row held later =
     (λ k d within. text_less_trans (get_or held.earlier k d).key.entrant entrant.name row.key.entrant (held.before k d within) later)
     (λ k d within. subst (λ n. text_cmp n row.key.entrant ≡ Less) (sym (held.is_own k d within)) later))
 
-pub begin_takes : (before after : Tally) (row : AnswerRow) (entrant : Entrant) → IsLater before.last row → after.round ≡ before.round → after.ruled ≡ before.ruled → after.last ≡ Some entrant → entrant.name ≡ row.key.entrant → IsWorkOf before.round (row ∷ []) entrant.work → ((round : RoundRow) (protests : List ProtestRow) (answers : List AnswerRow) → IsTallyOf round protests answers before → AreTotalsOf round protests answers after.totals) → TakesAnswer before row after
-begin_takes before after row entrant later same_round same_ruled last named work closed round protests answers is = record {
-  round_is = same_round ∙ is.round_is;
-  rulings_are = subst (λ r. AreRulingsOf protests (ruled_at r)) (sym same_ruled) is.rulings_are;
-  answers_are = subst (AreHeld round protests (answers ++ row ∷ []) after.totals) (sym last) (record {
-    earlier = answers;
-    own = row ∷ [];
-    whole = refl;
-    before = subst (λ n. All (λ r. text_cmp r.key.entrant n ≡ Less) answers) (sym named) (all_below round protests answers before.totals before.last row is.answers_are later);
-    is_own = alone (λ r. r.key.entrant ≡ entrant.name) row (sym named);
-    work = subst (λ r. IsWorkOf r (row ∷ []) entrant.work) is.round_is work;
-    totals_are = closed round protests answers is;
-  });
-}
+-- an answer of a later entrant comes after all of them
+below_next : (answers : List AnswerRow) (row : AnswerRow) → All (λ r. text_cmp r.key.entrant row.key.entrant ≡ Less) answers → IsNext answers row
+below_next answers row below k d within =
+    let before = get_or answers k d in
+    ap (λ o. ordering_then o (ordering_then (nat_cmp before.key.number row.key.number) (nat_cmp before.n row.n))) (below k d within)
 
-pub next_takes : (before after : Tally) (row : AnswerRow) (entrant next : Entrant) → before.last ≡ Some entrant → entrant.name ≡ row.key.entrant → after.round ≡ before.round → after.ruled ≡ before.ruled → after.totals ≡ before.totals → after.last ≡ Some next → next.name ≡ entrant.name → ((rows : List AnswerRow) → IsWorkOf before.round rows entrant.work → IsWorkOf before.round (rows ++ row ∷ []) next.work) → TakesAnswer before row after
-next_takes before after row entrant next last named same_round same_ruled same_totals now_last still_named more round protests answers is =
-    let held : IsLastOf round protests answers before.totals entrant = subst (AreHeld round protests answers before.totals) last is.answers_are in
-    record {
-      round_is = same_round ∙ is.round_is;
-      rulings_are = subst (λ r. AreRulingsOf protests (ruled_at r)) (sym same_ruled) is.rulings_are;
-      answers_are = subst (AreHeld round protests (answers ++ row ∷ []) after.totals) (sym now_last) (record {
-        earlier = held.earlier;
-        own = held.own ++ row ∷ [];
-        whole = ap (λ l. l ++ row ∷ []) held.whole ∙ append_assoc held.earlier held.own (row ∷ []);
-        before = subst (λ n. All (λ r. text_cmp r.key.entrant n ≡ Less) held.earlier) (sym still_named) held.before;
-        is_own = subst (λ n. All (λ r. r.key.entrant ≡ n) (held.own ++ row ∷ [])) (sym still_named) (All-push (λ r. r.key.entrant ≡ entrant.name) held.own row held.is_own (sym named));
-        work = subst (λ r. IsWorkOf r (held.own ++ row ∷ []) next.work) is.round_is (more held.own (subst (λ r. IsWorkOf r held.own entrant.work) (sym is.round_is) held.work));
-        totals_are = subst (AreTotalsOf round protests held.earlier) (sym same_totals) held.totals_are;
-      });
-    }
+nat_below : (a b : ℕ) → a < b → nat_cmp a b ≡ Less
+nat_below a b h = grind (arith, nat_tests)
+
+nat_tie : (a b : ℕ) → a ≡ b → nat_cmp a b ≡ Equal
+nat_tie a b e = grind (arith, nat_tests)
+
+-- of one entrant, an answer to a later puzzle comes after, and to the same puzzle one with a greater n
+turn_less : (before row : AnswerRow) → before.key.entrant ≡ row.key.entrant → (before.key.number < row.key.number) ⊎ ((before.key.number ≡ row.key.number) × (before.n < row.n)) → turn_cmp before row ≡ Less
+turn_less before row same ahead =
+    let tie : text_cmp before.key.entrant row.key.entrant ≡ Equal = subst (λ e. text_cmp before.key.entrant e ≡ Equal) same (text_same before.key.entrant) in
+    ap (λ o. ordering_then o (ordering_then (nat_cmp before.key.number row.key.number) (nat_cmp before.n row.n))) tie
+    ∙ elim ahead [
+      | inl lower ↦ ap (λ o. ordering_then o (nat_cmp before.n row.n)) (nat_below before.key.number row.key.number lower)
+      | inr fewer ↦ ap (λ o. ordering_then o (nat_cmp before.n row.n)) (nat_tie before.key.number row.key.number fewer.0) ∙ nat_below before.n row.n fewer.1
+    ]
+
+closed_less : (before row : AnswerRow) (work : Work) → before.key.number < work.number → IsAhead work row → before.key.number < row.key.number
+closed_less before row work below (inl lower) = omega (arith, below, lower)
+closed_less before row work below (inr fewer) = omega (arith, below, fewer.0)
+
+current_less : (before row : AnswerRow) (work : Work) → before.key.number ≡ work.number → before.n ≤ work.n → IsAhead work row → (before.key.number < row.key.number) ⊎ ((before.key.number ≡ row.key.number) × (before.n < row.n))
+current_less before row work here up_to (inl lower) = inl (omega (arith, here, lower))
+current_less before row work here up_to (inr fewer) = inr (here ∙ fewer.0, omega (arith, up_to, fewer.1))
+
+-- the last entrant's answer that is ahead of the own ones comes after all of them
+ahead_next : (round : RoundRow) (protests : List ProtestRow) (answers : List AnswerRow) (totals : List (List ℕ × ℤ)) (entrant : Entrant) (row : AnswerRow) → IsLastOf round protests answers totals entrant → entrant.name ≡ row.key.entrant → IsAhead entrant.work row → IsNext answers row
+ahead_next round protests answers totals entrant row held named ahead =
+    let work = held.work in
+    let own : (before : AnswerRow) → before.key.entrant ≡ entrant.name → (before.key.number < row.key.number) ⊎ ((before.key.number ≡ row.key.number) × (before.n < row.n)) → turn_cmp before row ≡ Less = λ before is less. turn_less before row (is ∙ named) less in
+    let whole : answers ≡ held.earlier ++ (work.closed ++ work.current) = held.whole ∙ ap (λ l. held.earlier ++ l) work.whole in
+    let owned : All (λ r. r.key.entrant ≡ entrant.name) (work.closed ++ work.current) = subst (All (λ r. r.key.entrant ≡ entrant.name)) work.whole held.is_own in
+    subst (λ l. IsNext l row) (sym whole)
+    (All-append (λ r. turn_cmp r row ≡ Less) held.earlier (work.closed ++ work.current)
+    (below_next held.earlier row (subst (λ n. All (λ r. text_cmp r.key.entrant n ≡ Less) held.earlier) named held.before))
+    (All-append (λ r. turn_cmp r row ≡ Less) work.closed work.current
+    (λ k d within. let r = get_or work.closed k d in own r (All-contains (λ x. x.key.entrant ≡ entrant.name) (work.closed ++ work.current) r owned (Contains-append_left work.closed work.current r (Contains-get_or work.closed k d within)))
+    (inl (closed_less r row entrant.work (work.before k d within) ahead)))
+    (λ k d within. let r = get_or work.current k d in own r (All-contains (λ x. x.key.entrant ≡ entrant.name) (work.closed ++ work.current) r owned (Contains-append_right work.closed work.current r (Contains-get_or work.current k d within)))
+    (current_less r row entrant.work (work.here k d within) (work.up_to k d within) ahead))))
+
+pub begin_takes : (before after : Tally) (row : AnswerRow) (entrant : Entrant) → IsLater before.last row → after.round ≡ before.round → after.ruled ≡ before.ruled → after.last ≡ Some entrant → entrant.name ≡ row.key.entrant → IsWorkOf before.round (row ∷ []) entrant.work → ((round : RoundRow) (protests : List ProtestRow) (answers : List AnswerRow) → IsTallyOf round protests answers before → AreTotalsOf round protests answers after.totals) → TakesAnswer before row after
+begin_takes before after row entrant later same_round same_ruled last named work closed round protests answers is = (
+  below_next answers row (all_below round protests answers before.totals before.last row is.answers_are later),
+  record {
+    round_is = same_round ∙ is.round_is;
+    rulings_are = subst (λ r. AreRulingsOf protests (ruled_at r)) (sym same_ruled) is.rulings_are;
+    answers_are = subst (AreHeld round protests (answers ++ row ∷ []) after.totals) (sym last) (record {
+      earlier = answers;
+      own = row ∷ [];
+      whole = refl;
+      before = subst (λ n. All (λ r. text_cmp r.key.entrant n ≡ Less) answers) (sym named) (all_below round protests answers before.totals before.last row is.answers_are later);
+      is_own = alone (λ r. r.key.entrant ≡ entrant.name) row (sym named);
+      work = subst (λ r. IsWorkOf r (row ∷ []) entrant.work) is.round_is work;
+      totals_are = closed round protests answers is;
+    });
+  },
+)
+
+pub next_takes : (before after : Tally) (row : AnswerRow) (entrant next : Entrant) → before.last ≡ Some entrant → entrant.name ≡ row.key.entrant → IsAhead entrant.work row → after.round ≡ before.round → after.ruled ≡ before.ruled → after.totals ≡ before.totals → after.last ≡ Some next → next.name ≡ entrant.name → ((rows : List AnswerRow) → IsWorkOf before.round rows entrant.work → IsWorkOf before.round (rows ++ row ∷ []) next.work) → TakesAnswer before row after
+next_takes before after row entrant next last named ahead same_round same_ruled same_totals now_last still_named more round protests answers is =
+    let held : IsLastOf round protests answers before.totals entrant = subst (AreHeld round protests answers before.totals) last is.answers_are in (
+      ahead_next round protests answers before.totals entrant row held named ahead,
+      record {
+        round_is = same_round ∙ is.round_is;
+        rulings_are = subst (λ r. AreRulingsOf protests (ruled_at r)) (sym same_ruled) is.rulings_are;
+        answers_are = subst (AreHeld round protests (answers ++ row ∷ []) after.totals) (sym now_last) (record {
+          earlier = held.earlier;
+          own = held.own ++ row ∷ [];
+          whole = ap (λ l. l ++ row ∷ []) held.whole ∙ append_assoc held.earlier held.own (row ∷ []);
+          before = subst (λ n. All (λ r. text_cmp r.key.entrant n ≡ Less) held.earlier) (sym still_named) held.before;
+          is_own = subst (λ n. All (λ r. r.key.entrant ≡ n) (held.own ++ row ∷ [])) (sym still_named) (All-push (λ r. r.key.entrant ≡ entrant.name) held.own row held.is_own (sym named));
+          work = subst (λ r. IsWorkOf r (held.own ++ row ∷ []) next.work) is.round_is (more held.own (subst (λ r. IsWorkOf r held.own entrant.work) (sym is.round_is) held.work));
+          totals_are = subst (AreTotalsOf round protests held.earlier) (sym same_totals) held.totals_are;
+        });
+      },
+    )
 
 -- ---- an answer that isn't the next
 then_equal : (a b : Ordering) → a ≡ Equal → ordering_then a b ≡ Less → b ≡ Less
@@ -319,7 +370,7 @@ pub took_answers : (round : RoundRow) (protests : List ProtestRow) (before : Tal
 took_answers round protests before taken [] after is chain = subst (λ l. IsTallyOf round protests l after) (sym (append-nil taken)) (subst (IsTallyOf round protests taken) (sym chain) is)
 took_answers round protests before taken (row ∷ answers) after is chain =
     subst (λ l. IsTallyOf round protests l after) (append_assoc taken (row ∷ []) answers)
-    (took_answers round protests chain.0 (taken ++ row ∷ []) answers after (chain.1 round protests taken is) chain.2)
+    (took_answers round protests chain.0 (taken ++ row ∷ []) answers after (chain.1 round protests taken is).1 chain.2)
 
 pub took_protests : (round : RoundRow) (before : Tally) (taken protests : List ProtestRow) (after : Tally) → IsTallyOf round taken [] before → HasTaken TakesProtest before protests after → IsTallyOf round (taken ++ protests) [] after
 took_protests round before taken [] after is chain = subst (λ l. IsTallyOf round l [] after) (sym (append-nil taken)) (subst (IsTallyOf round taken []) (sym chain) is)

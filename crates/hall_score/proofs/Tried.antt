@@ -87,7 +87,7 @@ outer_false true true c e = e
 outer_false true false c e = refl
 outer_false false b c e = refl
 
-not_true : (b : Bool) → (b ≡ true → ⊥) → b ≡ false
+pub not_true : (b : Bool) → (b ≡ true → ⊥) → b ≡ false
 not_true true h = absurd (h refl)
 not_true false h = refl
 

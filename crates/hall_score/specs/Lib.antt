@@ -4,3 +4,4 @@ pub mod Table
 pub mod Work
 pub mod Ruled
 pub mod Tally
+pub mod Laws

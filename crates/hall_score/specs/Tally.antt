@@ -73,11 +73,12 @@ pub record IsTallyOf (round : RoundRow) (protests : List ProtestRow) (answers : 
   pub rulings_are : AreRulingsOf protests (ruled_at tally.ruled)
   pub answers_are : AreHeld round protests answers tally.totals tally.last
 
--- whatever the tally has taken, it has now taken the answer too
+-- whatever answers the tally has taken, this one comes after each of them, and the tally has now taken it too
 abbrev pub TakesAnswer : Tally → AnswerRow → Tally → Type 0
 TakesAnswer before row after =
     (round : RoundRow) (protests : List ProtestRow) (answers : List AnswerRow) →
-    IsTallyOf round protests answers before → IsTallyOf round protests (answers ++ row ∷ []) after
+    IsTallyOf round protests answers before →
+    IsNext answers row × IsTallyOf round protests (answers ++ row ∷ []) after
 
 -- whatever answers the tally has taken, this one doesn't come after each of them
 abbrev pub RefusesAnswer : Tally → AnswerRow → Type 0

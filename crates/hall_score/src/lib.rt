@@ -2,6 +2,7 @@
 #![tactic(auto)]
 
 mod held;
+mod law;
 mod points;
 mod ranking;
 mod ruled;
@@ -12,6 +13,7 @@ mod totals;
 mod tries;
 mod work;
 
+pub use law::law_totals;
 pub use points::total;
 pub use ranking::{Line, standings};
 pub use table::table_text;
