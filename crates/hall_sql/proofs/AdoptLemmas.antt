@@ -1,7 +1,6 @@
 -- What a connection is once it is taken over, or is not.
-use Rattle.std.proofs.Common.{◌≡◌, ◌≤◌, inl, inr, [], true, false, IsTrue, refl, sym, ap, subst, ◌∙◌, arith}
+use Rattle.std.proofs.Common.{◌≡◌, inl, inr, [], true, false, IsTrue, refl, sym, ap, subst, ◌∙◌, arith}
 use Rattle.std.specs.List.{AllByRecursion}
-use Rattle.sqlite_trees.specs.View.{doubt}
 use Rattle.sqlite_trees.specs.declared.store.Store.{Ghosts}
 use Rattle.sqlite.specs.declared.error.Error.{Error}
 use Rattle.sqlite.specs.Effect.{Database}
@@ -12,10 +11,11 @@ use Rattle.sqlite.specs.Steps.{FailsToCommit}
 use Rattle.hall_store.specs.Maps.{empty_world}
 use Rattle.hall_sql.specs.Tables.{no_schema, hall_schema}
 use Rattle.hall_sql.specs.Rows.{world_of}
-use Rattle.hall_sql.specs.Standing.{AreKeyed, AreAllKeyed, Rests, HasAdopted, HasDeclined}
+use Rattle.hall_sql.specs.Standing.{Lasts, AreKeyed, AreAllKeyed, Rests, HasAdopted, HasDeclined}
 use Rattle.hall_sql.specs.Inside.{Carries}
 use Rattle.hall_sql.specs.Made.{all_tables, IsBare, Awaits, HasGrown}
 use Rattle.hall_sql.specs.Scan.{AreScanned}
+use Rattle.hall_sql.proofs.LastLemmas.{last_none, last_then, last_begun}
 use Rattle.hall_sql.proofs.TransactionLemmas.{commit_refused}
 
 -- tables with no rows hold nobody and nothing
@@ -45,13 +45,13 @@ bare_hall held it = subst (λ s. IsBare s held) it.lacks it.bare
 
 -- what changes nothing is refused
 pub declined_itself : (s : State) → HasDeclined s s
-declined_itself s = record { follows = record { clean = omega arith; opened = λ clean opens. opens }; same = λ clean opens. refl }
+declined_itself s = record { follows = record { lasts = last_none s; opened = λ clean opens. opens }; same = λ clean opens. refl }
 
 -- what rests is refused
-pub rests_declined : (old new : State) → (IsTrue old.is_open → old.now ≡ old.committed) → doubt old.is_clean ≤ doubt new.is_clean → (HasCleanDisk new → Rests old new)
+pub rests_declined : (old new : State) → (IsTrue old.is_open → old.now ≡ old.committed) → Lasts old new → (HasCleanDisk new → Rests old new)
     → HasDeclined old new
-rests_declined old new settled falls rests = record {
-  follows = record { clean = falls; opened = λ clean opens. was (rests clean) opens };
+rests_declined old new settled lasts rests = record {
+  follows = record { lasts = lasts; opened = λ clean opens. was (rests clean) opens };
   same = λ clean opens. same (rests clean) opens;
 }
   where
@@ -65,8 +65,8 @@ rests_declined old new settled falls rests = record {
 
 -- the hall's tables stood
 pub scanned_adopted : (old new : State) → old.in_transaction ≡ false → (IsTrue old.is_open → old.now ≡ old.committed) → old.now.schema ≡ hall_schema
-    → doubt old.is_clean ≤ doubt new.is_clean → (HasCleanDisk new → AreScanned all_tables old new) → HasAdopted old new
-scanned_adopted old new mode settled has falls scanned =
+    → Lasts old new → (HasCleanDisk new → AreScanned all_tables old new) → HasAdopted old new
+scanned_adopted old new mode settled has lasts scanned =
     let left = λ (clean : HasCleanDisk new). (scanned clean).left in
     let was = λ (clean : HasCleanDisk new). sym (left clean).is_open ∙ (scanned clean).serves in
     record {
@@ -75,7 +75,7 @@ scanned_adopted old new mode settled has falls scanned =
         settled = λ clean opens. ((left clean).now_is ∙ settled (was clean) ∙ sym (left clean).committed_is, ap (λ (d : Database). d.schema) (left clean).now_is ∙ has);
         keyed = λ clean opens. subst (λ (d : Database). AreAllKeyed d.trees) (sym (left clean).now_is) (scanned clean).keyed;
       };
-      follows = record { clean = falls; opened = λ clean opens. was clean };
+      follows = record { lasts = lasts; opened = λ clean opens. was clean };
       serves = λ clean. (scanned clean).serves;
       stood = λ clean. inl (has, (left clean).now_is);
     }
@@ -86,32 +86,32 @@ module _ {S : Type 0} (g : Ghosts S) (held : Held S) (settled : IsTrue (state g 
   base = state g (record held { in_transaction = true })
 
   -- rolled back, the tables are as they were
-  pub rolled_declined : (mid end : State) → Carries base mid → doubt mid.is_clean ≤ doubt end.is_clean → (HasCleanDisk end → IsRolledBack mid end) → HasDeclined (state g held) end
-  rolled_declined mid end carries falls rolled =
-      let now : HasCleanDisk end → HasCleanDisk mid = λ (clean : HasCleanDisk end). let was : HasCleanDisk mid = omega (arith, falls, clean) in was in
+  pub rolled_declined : (mid end : State) → Carries base mid → Lasts mid end → (HasCleanDisk end → IsRolledBack mid end) → HasDeclined (state g held) end
+  rolled_declined mid end carries lasts rolled =
+      let now : HasCleanDisk end → HasCleanDisk mid = λ (clean : HasCleanDisk end). let was : HasCleanDisk mid = omega (arith, lasts.clean, clean) in was in
       let keeps = λ (clean : HasCleanDisk end). carries.kept (now clean) refl in
       let opens_mid = λ (clean : HasCleanDisk end) (opens : IsTrue end.is_open). (rolled clean).was_open opens in
       let opens_old = λ (clean : HasCleanDisk end) (opens : IsTrue end.is_open). (keeps clean).was_open (opens_mid clean opens) in
       record {
-        follows = record { clean = omega (arith, carries.falls, falls); opened = opens_old };
+        follows = record { lasts = last_then (state g held) mid end (last_begun g held mid carries.lasts) lasts; opened = opens_old };
         same = λ clean opens. ((rolled clean).undone opens).0 ∙ (keeps clean).committed (opens_mid clean opens) ∙ sym (settled (opens_old clean opens));
       }
 
   -- so they are where the commit was refused
   pub refused_declined : (error : Error) (mid end : State) → Carries base mid → (HasCleanDisk mid → IsTrue base.in_transaction → HasGrown all_tables [] base mid)
-      → doubt mid.is_clean ≤ doubt end.is_clean → (HasCleanDisk end → FailsToCommit mid end error) → HasDeclined (state g held) end
-  refused_declined error mid end carries grown falls fails =
-      rolled_declined mid end carries falls (λ clean.
-      let was : HasCleanDisk mid = omega (arith, falls, clean) in
+      → Lasts mid end → (HasCleanDisk end → FailsToCommit mid end error) → HasDeclined (state g held) end
+  refused_declined error mid end carries grown lasts fails =
+      rolled_declined mid end carries lasts (λ clean.
+      let was : HasCleanDisk mid = omega (arith, lasts.clean, clean) in
       commit_refused mid end error (grown was refl).mode (fails clean))
 
   -- committed, the hall stands with an empty world
   pub committed_adopted : (mid end : State) → held.schema ≡ no_schema → Carries base mid → (HasCleanDisk mid → IsTrue base.in_transaction → HasGrown all_tables [] base mid)
-      → doubt mid.is_clean ≤ doubt end.is_clean → end.in_transaction ≡ false
+      → Lasts mid end → end.in_transaction ≡ false
       → (HasCleanDisk end → IsTrue mid.in_transaction × Shows mid end mid.now mid.now false × KeepsCounts mid end × (end.marks ≡ []))
       → HasAdopted (state g held) end
-  committed_adopted mid end none carries grown falls ended ok =
-      let now : HasCleanDisk end → HasCleanDisk mid = λ (clean : HasCleanDisk end). let was : HasCleanDisk mid = omega (arith, falls, clean) in was in
+  committed_adopted mid end none carries grown lasts ended ok =
+      let now : HasCleanDisk end → HasCleanDisk mid = λ (clean : HasCleanDisk end). let was : HasCleanDisk mid = omega (arith, lasts.clean, clean) in was in
       let bare : HasCleanDisk end → IsBare hall_schema end.now = λ (clean : HasCleanDisk end).
       subst (IsBare hall_schema) (sym (ok clean).1.now_is) (bare_hall mid.now ((grown (now clean) refl).made (awaits_all base.now none))) in
       record {
@@ -120,7 +120,7 @@ module _ {S : Type 0} (g : Ghosts S) (held : Held S) (settled : IsTrue (state g 
           settled = λ clean opens. ((ok clean).1.now_is ∙ sym (ok clean).1.committed_is, (bare clean).is);
           keyed = λ clean opens. all_bare_keyed end.now.trees (bare clean).empty;
         };
-        follows = record { clean = omega (arith, carries.falls, falls); opened = λ clean opens. (carries.kept (now clean) refl).was_open (ok clean).1.was_open };
+        follows = record { lasts = last_then (state g held) mid end (last_begun g held mid carries.lasts) lasts; opened = λ clean opens. (carries.kept (now clean) refl).was_open (ok clean).1.was_open };
         serves = λ clean. (ok clean).1.is_open;
         stood = λ clean. inr (none, bare_world end.now.trees (bare clean).empty);
       }

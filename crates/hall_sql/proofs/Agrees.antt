@@ -108,16 +108,16 @@ pub read_agrees : {R : Type 0} (result : Result R StoreFault) (old new : Content
 read_agrees result old new before after Means agrees kept served same forgot =
     settled result old new before after agrees same forgot (goes_read result old new kept (serves_told result new Means served))
 
-serves_fed : {K X : Type 0} (result : Result (Unit {0}) StoreFault) (Takes : K → X → K → Type 0) (AreRows : World → List X → Type 0) (new : Content) (sink_before sink_after : K)
-    → Fed Takes AreRows new sink_before result sink_after → OnOk result (new.honest → new.serves)
-serves_fed (Ok x) Takes AreRows new sink_before sink_after fed = λ h. (fed h).0
-serves_fed (Err e) Takes AreRows new sink_before sink_after fed = tt
+serves_fed : {K X : Type 0} (result : Result (Unit {0}) StoreFault) (Takes : K → X → K → Type 0) (AreRows : World → List X → Type 0) (old new : Content) (sink_before sink_after : K)
+    → Fed Takes AreRows old new sink_before result sink_after → OnOk result (new.honest → new.serves)
+serves_fed (Ok x) Takes AreRows old new sink_before sink_after fed = λ h. (fed h).0
+serves_fed (Err e) Takes AreRows old new sink_before sink_after fed = tt
 
 -- after rows were fed
 pub fed_agrees : {K X : Type 0} (result : Result (Unit {0}) StoreFault) (old new : Content) (before after : Cache) (Takes : K → X → K → Type 0) (AreRows : World → List X → Type 0) (sink_before sink_after : K)
-    → Agrees old before → Kept old new → Fed Takes AreRows new sink_before result sink_after → IfOk result (λ _. after ≡ before) → OnErr result (IsEmptied after) → Agrees new after
+    → Agrees old before → Kept old new → Fed Takes AreRows old new sink_before result sink_after → IfOk result (λ _. after ≡ before) → OnErr result (IsEmptied after) → Agrees new after
 fed_agrees result old new before after Takes AreRows sink_before sink_after agrees kept fed same forgot =
-    settled result old new before after agrees same forgot (goes_read result old new kept (serves_fed result Takes AreRows new sink_before sink_after fed))
+    settled result old new before after agrees same forgot (goes_read result old new kept (serves_fed result Takes AreRows old new sink_before sink_after fed))
 
 -- the change leaves people, rounds and puzzles
 abbrev pub Spares : Change → Type 0
@@ -128,7 +128,7 @@ goes_made : {R : Type 0} (result : Result R StoreFault) (change : Change) (old n
 goes_made (Ok x) change old new spares makes = (
   makes.leads.honest,
   λ h s.
-      let made = makes.made h s in
+      let made = makes.made h in
       (made.0, subst (IsAlike old.world) (sym made.1) (spares old.world)),
 )
 goes_made (Err e) change old new spares makes = tt

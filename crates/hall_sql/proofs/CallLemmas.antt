@@ -1,5 +1,5 @@
 -- What the calls of a connection leave.
-use Rattle.std.proofs.Common.{◌≡◌, inl, inr, ℕ, ◌≤◌, List, [], true, false, Option, Some, None, Ok, Err, IsTrue, sym, ap, subst, ◌∙◌, arith}
+use Rattle.std.proofs.Common.{◌≡◌, inl, inr, ℕ, List, [], true, false, Option, Some, None, Ok, Err, IsTrue, sym, ap, subst, ◌∙◌, arith}
 use Rattle.std.proofs.lemmas.Bool.{cases_Bool}
 use Rattle.sqlite.specs.declared.types.Value.TheVariants.{Null}
 use Rattle.sqlite.specs.declared.error.Error.{Error}
@@ -17,10 +17,9 @@ use Rattle.sqlite.specs.Listing.{understood, reads_listing}
 use Rattle.sqlite.specs.Clock.{timed}
 use Rattle.sqlite.specs.State.{State, HasCleanDisk, IsUnchanged, Fails, IsNotRun, FailsToQuery, FailsToShow, RunsCommand, Executes, ExecutesIn, Shown, ShowsRows, shows_rows, Runs, ReleasesAt}
 use Rattle.sqlite.proofs.Callers.{IsPlain, command_of, reads_as}
-use Rattle.sqlite_trees.specs.View.{doubt}
 use Rattle.hall_sql.specs.Tables.{hall_schema}
 use Rattle.hall_sql.specs.Statements.{plain_query}
-use Rattle.hall_sql.specs.Standing.{IsHall, AreAllKeyed, Rests, Rested, IsSelection}
+use Rattle.hall_sql.specs.Standing.{Lasts, IsHall, AreAllKeyed, Rests, Rested, IsSelection}
 use Rattle.hall_sql.proofs.Selections.{selected}
 
 failed : (old new : State) (U : Type 0) (e : Error) → Fails old new U e → Rests old new
@@ -65,9 +64,9 @@ ends_mode old new (inl h) mode = h.0.mode ∙ mode
 ends_mode old new (inr h) mode = h.autocommit
 
 -- a call that rests leaves the content as it was
-pub rested : (old new : State) → IsHall old → doubt old.is_clean ≤ doubt new.is_clean → (HasCleanDisk old → HasCleanDisk new → Rests old new) → Rested old new
-rested old new hall falls h =
-    let before = λ (clean : HasCleanDisk new). let was : HasCleanDisk old = omega (arith, falls, clean) in was in
+pub rested : (old new : State) → IsHall old → Lasts old new → (HasCleanDisk old → HasCleanDisk new → Rests old new) → Rested old new
+rested old new hall lasts h =
+    let before = λ (clean : HasCleanDisk new). let was : HasCleanDisk old = omega (arith, lasts.clean, clean) in was in
     let it = λ (clean : HasCleanDisk new). h (before clean) clean in
     let held = λ (clean : HasCleanDisk new) (opens : IsTrue new.is_open). hall.settled (before clean) (was_open old new (it clean) opens) in
     let same = λ (clean : HasCleanDisk new) (opens : IsTrue new.is_open). rest_same old new (it clean) (held clean opens).0 opens in
@@ -77,7 +76,7 @@ rested old new hall falls h =
         keyed = λ clean opens. subst (λ (d : Database). AreAllKeyed d.trees) (sym (same clean opens).0) (hall.keyed (before clean) (was_open old new (it clean) opens));
         settled = λ clean opens. ((same clean opens).0 ∙ (held clean opens).0 ∙ sym (same clean opens).1, ap (λ (d : Database). d.schema) (same clean opens).0 ∙ (held clean opens).1);
       };
-      follows = record { clean = falls; opened = λ clean opens. was_open old new (it clean) opens };
+      follows = record { lasts = lasts; opened = λ clean opens. was_open old new (it clean) opens };
       same = λ clean opens. (same clean opens).0;
     }
 

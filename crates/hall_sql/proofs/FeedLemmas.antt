@@ -1,9 +1,8 @@
 -- What a sink has taken of the rows that a query gives.
-use Rattle.std.proofs.Common.{◌≡◌, ◌≤◌, ◌⊎◌, inl, inr, ℕ, List, [], ◌∷◌, ◌++◌, map, flat_map, true, false, Bool, Option, Some, None, Result, Ok, Err, IsTrue, option_to_list, refl, sym, ap, subst, ◌∙◌, arith}
+use Rattle.std.proofs.Common.{◌≡◌, ◌⊎◌, inl, inr, ℕ, List, [], ◌∷◌, ◌++◌, map, flat_map, false, Option, Some, None, Result, Ok, Err, IsTrue, option_to_list, refl, sym, ap, subst, ◌∙◌, arith}
 use Rattle.std.proofs.lemmas.Grind.{flat_map-append}
 use Rattle.std.specs.Result.{IsErrAnd}
 use Rattle.sqlite_trees.specs.declared.store.Store.{Ghosts}
-use Rattle.sqlite_trees.specs.View.{doubt}
 use Rattle.sqlite.specs.declared.types.Value.TheVariants.{Null}
 use Rattle.sqlite.specs.Order.{Row}
 use Rattle.sqlite.specs.Term.{Term}
@@ -12,10 +11,10 @@ use Rattle.sqlite.specs.Effect.{Database, IsDatabase}
 use Rattle.sqlite.specs.Tree.{Trees}
 use Rattle.sqlite.specs.Program.{overlay}
 use Rattle.sqlite.specs.Held.{Held, state}
-use Rattle.sqlite.specs.Given.{HasGiven, HasBegun, Advances}
+use Rattle.sqlite.specs.Given.{HasBegun, Advances}
 use Rattle.sqlite.specs.Listing.{understood, reads_listing}
 use Rattle.sqlite.specs.Command.TheVariants.{Select}
-use Rattle.sqlite.specs.State.{State, HasCleanDisk, IsUnchanged, Begins, Shown}
+use Rattle.sqlite.specs.State.{State, HasCleanDisk, IsUnchanged}
 use Rattle.sqlite.proofs.Callers.{IsPlain, command_of, begins_as, given_begin, begun_plain, unchanged_then}
 use Rattle.hall_policy.specs.World.{World}
 use Rattle.hall_policy.specs.Sink.{HasTaken}
@@ -24,7 +23,7 @@ use Rattle.hall_sql.specs.Tables.{hall_schema}
 use Rattle.hall_sql.specs.Rows.{world_of}
 use Rattle.hall_sql.specs.Statements.{plain_query}
 use Rattle.hall_sql.specs.Standing.{AreAllKeyed, IsHall, Rests, Rested, IsSelection, content_of}
-use Rattle.hall_sql.specs.Feed.{Steps, HasRead, AreAll, AreFirst, FedRows, FedBefore}
+use Rattle.hall_sql.specs.Feed.{HasRead, AreAll, AreFirst, FedRows}
 use Rattle.hall_sql.proofs.CallLemmas.{answers_selection, shown_was_open}
 use Rattle.hall_sql.proofs.ContentLemmas.{all_read}
 use Rattle.hall_sql.proofs.Selections.{selected}
@@ -151,44 +150,27 @@ module _ {S X : Type 0} (g : Ghosts S) (read : Row → Option X) (sql : List ℕ
         )
 
   -- a sink that has taken a query's rows has taken the world's
-  pub fed_before : {K E : Type 0} (Takes : K → X → K → Type 0) (AreRows : World → List X → Type 0) (old new : State)
+  pub fed_rows : {K E : Type 0} (Takes : K → X → K → Type 0) (AreRows : World → List X → Type 0) (old new : State)
       (before after : K) (result : Result (Unit {0}) E) → IsHall old → Rested old new
       → (IsTrue old.is_open → IsDatabase old.now) → Lists read tree terms project order params old.now AreRows
       → FedRows g read Takes sql params old new before result after
-      → FedBefore Takes AreRows (content_of old) (content_of new) before result after
-  fed_before Takes AreRows old new before after (Ok done) hall rested sound lists fed = λ clean.
-      let was : HasCleanDisk old = omega (arith, rested.follows.clean, clean) in
+      → Fed Takes AreRows (content_of old) (content_of new) before result after
+  fed_rows Takes AreRows old new before after (Ok done) hall rested sound lists fed = λ clean.
+      let was : HasCleanDisk old = omega (arith, rested.follows.lasts.clean, clean) in
       let it = fed.2 clean in
       let opened = it.1.served in
       let all = all_listed AreRows old (hall.settled was opened).1 (hall.keyed was opened) (sound opened) lists fed.0 it.1 in
       (it.0, (fed.0, all, fed.1))
-  fed_before {K} {E} Takes AreRows old new before after (Err fault) hall rested sound lists fed = (fed.0, fed.1, go fed.2)
+  fed_rows {K} {E} Takes AreRows old new before after (Err fault) hall rested sound lists fed = (fed.0, fed.1, go fed.2)
     where
       go : ((fed.0 ≡ []) ⊎ (HasCleanDisk new → AreFirst g read sql params old fed.0))
-          → (fed.0 ≡ []) ⊎ (HasCleanDisk new → (left : List X) × AreRows (world_of old.now.trees) (fed.0 ++ left))
+          → (fed.0 ≡ []) ⊎ (HasCleanDisk new → IsTrue old.is_open × ((left : List X) × AreRows (world_of old.now.trees) (fed.0 ++ left)))
       go (inl none) = inl none
       go (inr part) = inr (λ clean.
-          let was : HasCleanDisk old = omega (arith, rested.follows.clean, clean) in
+          let was : HasCleanDisk old = omega (arith, rested.follows.lasts.clean, clean) in
           let it = part clean in
           let opened = it.served in
-          first_listed AreRows old (hall.settled was opened).1 (hall.keyed was opened) (sound opened) lists fed.0 it)
-
--- and the world before is the world after, where the store still serves
-pub fed_after : {K X E : Type 0} (Takes : K → X → K → Type 0) (AreRows : World → List X → Type 0) (old new : State)
-    (before after : K) (result : Result (Unit {0}) E) → Rested old new
-    → FedBefore Takes AreRows (content_of old) (content_of new) before result after
-    → Fed Takes AreRows (content_of new) before result after
-fed_after {K} {X} Takes AreRows old new before after (Ok done) rested fed = λ clean.
-    let it = fed clean in
-    (it.0, (it.1.0, subst (λ (d : Database). AreRows (world_of d.trees) it.1.0) (sym (rested.same clean it.0)) it.1.1, it.1.2))
-fed_after {K} {X} Takes AreRows old new before after (Err fault) rested fed = (fed.0, fed.1, go fed.2)
-  where
-    go : ((fed.0 ≡ []) ⊎ (HasCleanDisk new → (left : List X) × AreRows (world_of old.now.trees) (fed.0 ++ left)))
-        → (fed.0 ≡ []) ⊎ (HasCleanDisk new → IsTrue new.is_open → (left : List X) × AreRows (world_of new.now.trees) (fed.0 ++ left))
-    go (inl none) = inl none
-    go (inr part) = inr (λ clean opens.
-        let it = part clean in
-        (it.0, subst (λ (d : Database). AreRows (world_of d.trees) (fed.0 ++ it.0)) (sym (rested.same clean opens)) it.1))
+          (opened, first_listed AreRows old (hall.settled was opened).1 (hall.keyed was opened) (sound opened) lists fed.0 it))
 
 -- a call that is refused after the first rows
 pub fed_first : {S K X E : Type 0} (g : Ghosts S) (read : Row → Option X) (Takes : K → X → K → Type 0) (sql : List ℕ) (params : Row)

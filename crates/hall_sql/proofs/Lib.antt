@@ -1,4 +1,5 @@
 pub mod Selections
+pub mod LastLemmas
 pub mod CallLemmas
 pub mod ColumnLemmas
 pub mod MapLemmas

@@ -1,15 +1,13 @@
 -- What the statements on rounds say of the world.
-use Rattle.std.proofs.Common.{◌≡◌, ◌≤◌, ℕ, List, [], ◌∷◌, length, map, flat_map, slice_get, Bool, true, Option, Some, None, option_to_list, refl, sym, ap, subst, ◌∙◌}
-use Rattle.std.specs.List.{list_all, AllByRecursion}
+use Rattle.std.proofs.Common.{◌≡◌, ℕ, List, [], ◌∷◌, map, flat_map, Bool, true, Option, Some, None, option_to_list, refl, sym, ap, subst, ◌∙◌}
+use Rattle.std.specs.List.{AllByRecursion}
 use Rattle.std.specs.List.Sorted.{IsPermutation}
-use Rattle.std.specs.FinMap.{get, values}
-use Rattle.std.specs.Ordering.{eq_by_cmp}
+use Rattle.std.specs.FinMap.{values}
 use Rattle.sqlite.specs.declared.types.Value.TheVariants.{Text}
 use Rattle.sqlite.specs.Effect.{IsDatabase}
 use Rattle.sqlite.specs.Order.{Row}
 use Rattle.sqlite.specs.State.{State, Shown}
 use Rattle.sqlite.specs.Table.{Table}
-use Rattle.sqlite.specs.Term.{holds}
 use Rattle.sqlite.specs.Tree.{Trees}
 use Rattle.sqlite_schema.specs.declared.schema.Constraint.TheVariants.{Unique}
 use Rattle.sqlite_schema.specs.Rules.{agree, passes}
@@ -28,8 +26,7 @@ use Rattle.hall_sql.specs.Values.{name_in, kind_in, within, mode_in, flag_in}
 use Rattle.hall_sql.specs.Rows.{round_in, round_of, world_of}
 use Rattle.hall_sql.specs.Standing.{AreKeyed}
 use Rattle.hall_sql.specs.Statements.{all_rounds_text}
-use Rattle.hall_sql.proofs.ColumnLemmas.{kind_column, column_equals, last_equal}
-use Rattle.hall_sql.proofs.FoundLemmas.{asked_found}
+use Rattle.hall_sql.proofs.ColumnLemmas.{kind_column}
 use Rattle.hall_sql.proofs.ListedLemmas.{by_order, values_asked}
 use Rattle.hall_sql.proofs.RoundTexts.{round_columns, id_order, all_rounds_is}
 use Rattle.hall_sql.proofs.UniqueLemmas.{equal_texts, first_not, records_listed}

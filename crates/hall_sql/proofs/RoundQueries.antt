@@ -9,7 +9,6 @@ use Rattle.sqlite.proofs.Callers.{IsPlain, command_of}
 use Rattle.hall_sql.specs.Tables.{hall_schema}
 use Rattle.hall_sql.specs.Statements.{plain_query, places_with_text, places_of_text}
 use Rattle.hall_sql.proofs.PeopleTexts.{equals, rising}
-use Rattle.hall_sql.proofs.RoundTexts.{round_columns, round_names}
 
 abbrev pub place_columns : List Term
 place_columns = col 1 1 ∷ col 1 2 ∷ col 1 3 ∷ col 1 4 ∷ col 1 5 ∷ []

@@ -1,5 +1,5 @@
 -- The records that a query's rows are, where some of the table's rows may be none.
-use Rattle.std.proofs.Common.{◌≡◌, ℕ, List, [], ◌∷◌, ◌++◌, map, filter, flat_map, is_some, Bool, true, false, cond, Option, Some, None, option_to_list, refl, sym, ap, subst, ◌∙◌}
+use Rattle.std.proofs.Common.{◌≡◌, ℕ, List, [], ◌∷◌, ◌++◌, map, filter, is_some, Bool, true, false, cond, Option, Some, None, option_to_list, refl, sym, ap, subst, ◌∙◌}
 use Rattle.std.specs.List.{list_all}
 use Rattle.std.specs.List.Sorted.{IsPermutation, IsSorted}
 use Rattle.std.specs.Cmp.{IsTotalOrder, IsStrictWeakOrder, on_total, upto}

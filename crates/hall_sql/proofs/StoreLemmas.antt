@@ -7,6 +7,7 @@ use Rattle.hall_store.specs.Store.{Served}
 use Rattle.hall_sql.specs.Tables.{hall_schema}
 use Rattle.hall_sql.specs.Rows.{world_of}
 use Rattle.hall_sql.specs.Standing.{AreAllKeyed, IsHall, Rested, content_of}
+use Rattle.hall_sql.proofs.LastLemmas.{last_then}
 
 -- what a query over the hall's tables tells has its meaning in the world that stays
 pub told_so : (old new : State) (Means : World → Type 0) → IsHall old → Rested old new
@@ -15,7 +16,7 @@ pub told_so : (old new : State) (Means : World → Type 0) → IsHall old → Re
     → HasCleanDisk new → IsTrue new.is_open × Means (world_of new.now.trees)
 told_so old new Means hall rested serves means clean =
     let opens = serves clean in
-    let was : HasCleanDisk old = omega (arith, rested.follows.clean, clean) in
+    let was : HasCleanDisk old = omega (arith, rested.follows.lasts.clean, clean) in
     let opened = rested.follows.opened clean opens in
     (opens, subst (λ (d : Database). Means (world_of d.trees)) (sym (rested.same clean opens)) (means clean opened (hall.settled was opened).1 (hall.keyed was opened)))
 
@@ -36,11 +37,11 @@ served_so new (Err e) Means serves means = tt
 -- a call that rests after one that did
 pub rests_on : (old mid new : State) → Rested old mid → Rested mid new → Rested old new
 rests_on old mid new first second =
-    let before = λ (clean : HasCleanDisk new). let was : HasCleanDisk mid = omega (arith, second.follows.clean, clean) in was in
+    let before = λ (clean : HasCleanDisk new). let was : HasCleanDisk mid = omega (arith, second.follows.lasts.clean, clean) in was in
     record {
       hall = second.hall;
       follows = record {
-        clean = omega (arith, first.follows.clean, second.follows.clean);
+        lasts = last_then old mid new first.follows.lasts second.follows.lasts;
         opened = λ clean opens. first.follows.opened (before clean) (second.follows.opened clean opens);
       };
       same = λ clean opens. second.same clean opens ∙ first.same (before clean) (second.follows.opened clean opens);

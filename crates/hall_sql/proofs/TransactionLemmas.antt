@@ -1,6 +1,5 @@
 -- What a transaction leaves, whether it is committed or rolled back.
-use Rattle.std.proofs.Common.{◌≡◌, ◌≤◌, inl, inr, [], true, false, IsTrue, Ok, Err, refl, sym, ap, subst, ◌∙◌, arith}
-use Rattle.sqlite_trees.specs.View.{doubt}
+use Rattle.std.proofs.Common.{◌≡◌, inl, inr, [], true, false, IsTrue, Ok, Err, refl, sym, ap, subst, ◌∙◌, arith}
 use Rattle.sqlite_trees.specs.declared.store.Store.{Ghosts}
 use Rattle.sqlite.specs.declared.error.Error.{Error}
 use Rattle.sqlite.specs.Effect.{Database}
@@ -9,13 +8,14 @@ use Rattle.sqlite.specs.State.{State, HasCleanDisk, KeepsCounts, IsRolledBack, S
 use Rattle.sqlite.specs.Steps.{FailsToCommit}
 use Rattle.hall_store.specs.declared.change.Change.{Change}
 use Rattle.hall_sql.specs.Rows.{world_of}
-use Rattle.hall_sql.specs.Standing.{AreAllKeyed, IsHall, Rested, Wrote}
+use Rattle.hall_sql.specs.Standing.{Lasts, AreAllKeyed, IsHall, Rested, Wrote}
 use Rattle.hall_sql.specs.Inside.{IsHallData, Carries, Did, Changes}
+use Rattle.hall_sql.proofs.LastLemmas.{last_none, last_then, last_begun}
 use Rattle.hall_sql.proofs.WriteLemmas.{made_wrote, rested_wrote}
 
 -- what changes nothing rests
 pub rests_itself : (s : State) → IsHall s → Rested s s
-rests_itself s hall = record { hall = hall; follows = record { clean = omega arith; opened = λ clean opens. opens }; same = λ clean opens. refl }
+rests_itself s hall = record { hall = hall; follows = record { lasts = last_none s; opened = λ clean opens. opens }; same = λ clean opens. refl }
 
 -- and wrote nothing, where it is refused
 pub wrote_nothing : {R E : Type 0} (change : Change) (s : State) (fault : E) → IsHall s → Wrote {R = R} change s s (Err fault)
@@ -40,11 +40,11 @@ module _ {S : Type 0} (g : Ghosts S) (held : Held S) (hall : IsHall (state g hel
   base = state g (record held { in_transaction = true })
 
   -- rolled back, the content is as it was
-  pub rolled_rested : (mid end : State) → Carries base mid → doubt mid.is_clean ≤ doubt end.is_clean → end.in_transaction ≡ false
+  pub rolled_rested : (mid end : State) → Carries base mid → Lasts mid end → end.in_transaction ≡ false
       → (HasCleanDisk end → IsRolledBack mid end) → Rested (state g held) end
-  rolled_rested mid end carries falls ended rolled =
-      let now : HasCleanDisk end → HasCleanDisk mid = λ (clean : HasCleanDisk end). let was : HasCleanDisk mid = omega (arith, falls, clean) in was in
-      let before : HasCleanDisk end → HasCleanDisk (state g held) = λ (clean : HasCleanDisk end). let was : HasCleanDisk base = omega (arith, carries.falls, falls, clean) in was in
+  rolled_rested mid end carries lasts ended rolled =
+      let now : HasCleanDisk end → HasCleanDisk mid = λ (clean : HasCleanDisk end). let was : HasCleanDisk mid = omega (arith, lasts.clean, clean) in was in
+      let before : HasCleanDisk end → HasCleanDisk (state g held) = λ (clean : HasCleanDisk end). let was : HasCleanDisk base = omega (arith, carries.lasts.clean, lasts.clean, clean) in was in
       let keeps = λ (clean : HasCleanDisk end). carries.kept (now clean) refl in
       let opens_mid = λ (clean : HasCleanDisk end) (opens : IsTrue end.is_open). (rolled clean).was_open opens in
       let opens_old = λ (clean : HasCleanDisk end) (opens : IsTrue end.is_open). (keeps clean).was_open (opens_mid clean opens) in
@@ -57,34 +57,34 @@ module _ {S : Type 0} (g : Ghosts S) (held : Held S) (hall : IsHall (state g hel
           settled = λ clean opens. (((rolled clean).undone opens).0 ∙ sym ((rolled clean).undone opens).1, ap (λ (d : Database). d.schema) (same clean opens) ∙ (settled clean opens).1);
           keyed = λ clean opens. subst (λ (d : Database). AreAllKeyed d.trees) (sym (same clean opens)) (hall.keyed (before clean) (opens_old clean opens));
         };
-        follows = record { clean = omega (arith, carries.falls, falls); opened = opens_old };
+        follows = record { lasts = last_then (state g held) mid end (last_begun g held mid carries.lasts) lasts; opened = opens_old };
         same = same;
       }
 
   -- rolled back, the world was left
-  pub rolled_wrote : {R E : Type 0} (change : Change) (fault : E) (mid end : State) → Carries base mid → doubt mid.is_clean ≤ doubt end.is_clean → end.in_transaction ≡ false
+  pub rolled_wrote : {R E : Type 0} (change : Change) (fault : E) (mid end : State) → Carries base mid → Lasts mid end → end.in_transaction ≡ false
       → (HasCleanDisk end → IsRolledBack mid end) → Wrote {R = R} change (state g held) end (Err fault)
-  rolled_wrote change fault mid end carries falls ended rolled = rested_wrote change (state g held) end fault (rolled_rested mid end carries falls ended rolled)
+  rolled_wrote change fault mid end carries lasts ended rolled = rested_wrote change (state g held) end fault (rolled_rested mid end carries lasts ended rolled)
 
   -- so it was where the commit was refused
   pub refused_wrote : {R E : Type 0} (change : Change) (fault : E) (error : Error) (Does : Database → Database → Type 0) (mid end : State)
       → Carries base mid → (HasCleanDisk mid → IsTrue base.in_transaction → Did Does base mid)
-      → doubt mid.is_clean ≤ doubt end.is_clean → end.in_transaction ≡ false
+      → Lasts mid end → end.in_transaction ≡ false
       → (HasCleanDisk end → FailsToCommit mid end error) → Wrote {R = R} change (state g held) end (Err fault)
-  refused_wrote change fault error Does mid end carries did falls ended fails =
-      rolled_wrote change fault mid end carries falls ended (λ clean.
-      let was : HasCleanDisk mid = omega (arith, falls, clean) in
+  refused_wrote change fault error Does mid end carries did lasts ended fails =
+      rolled_wrote change fault mid end carries lasts ended (λ clean.
+      let was : HasCleanDisk mid = omega (arith, lasts.clean, clean) in
       commit_refused mid end error (did was refl).steps.mode (fails clean))
 
   -- committed, the change is made
   pub committed_wrote : {R E : Type 0} (change : Change) (done : R) (mid end : State)
       → Carries base mid → (HasCleanDisk mid → IsTrue base.in_transaction → Did (Changes change) base mid)
-      → doubt mid.is_clean ≤ doubt end.is_clean → end.in_transaction ≡ false
+      → Lasts mid end → end.in_transaction ≡ false
       → (HasCleanDisk end → IsTrue mid.in_transaction × Shows mid end mid.now mid.now false × KeepsCounts mid end × (end.marks ≡ []))
       → Wrote {E = E} change (state g held) end (Ok done)
-  committed_wrote change done mid end carries did falls ended ok =
-      made_wrote change (state g held) end done (omega (arith, carries.falls, falls)) (λ was clean.
-      let clean_mid : HasCleanDisk mid = omega (arith, falls, clean) in
+  committed_wrote change done mid end carries did lasts ended ok =
+      made_wrote change (state g held) end done (last_then (state g held) mid end (last_begun g held mid carries.lasts) lasts) (λ was clean.
+      let clean_mid : HasCleanDisk mid = omega (arith, lasts.clean, clean) in
       let shown = (ok clean).1 in
       let opened = (carries.kept clean_mid refl).was_open shown.was_open in
       let ours : IsHallData base.now = record { schema = (hall.settled was opened).1; keyed = hall.keyed was opened } in

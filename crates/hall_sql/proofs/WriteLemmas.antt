@@ -1,6 +1,5 @@
 -- From what a statement that writes leaves to what the trait of stores says.
-use Rattle.std.proofs.Common.{◌≡◌, ◌≤◌, ℕ, ℤ, pos, List, Bool, true, false, cond, if◌then◌else◌, IsTrue, Result, Ok, Err, None, refl, sym, ap, ◌∙◌, arith}
-use Rattle.sqlite_trees.specs.View.{doubt}
+use Rattle.std.proofs.Common.{◌≡◌, inl, ℕ, ℤ, pos, List, Bool, true, false, cond, if◌then◌else◌, IsTrue, Result, Ok, Err, None, refl, sym, ap, ◌∙◌, arith}
 use Rattle.sqlite.specs.declared.types.Value.{Value}
 use Rattle.sqlite.specs.declared.types.Value.TheVariants.{Null, Int}
 use Rattle.sqlite.specs.Cast.{cast}
@@ -16,7 +15,9 @@ use Rattle.hall_store.specs.Change.{changed}
 use Rattle.hall_store.specs.declared.change.Change.{Change}
 use Rattle.hall_sql.specs.Tables.{hall_schema}
 use Rattle.hall_sql.specs.Rows.{world_of}
-use Rattle.hall_sql.specs.Standing.{AreAllKeyed, IsHall, Rested, HasMade, Wrote, content_of}
+use Rattle.hall_sql.specs.Standing.{Lasts, AreAllKeyed, IsHall, Rested, HasMade, Wrote, content_of}
+use Rattle.hall_store.proofs.Knowing.{leads_then}
+use Rattle.hall_sql.proofs.LastLemmas.{follows_leads}
 
 -- a write outside a transaction is committed
 pub writes_hall : (old new : State) (command : Command) (text : List ℕ) (given : Row) (count : ℕ) → old.in_transaction ≡ false
@@ -28,10 +29,10 @@ writes_hall old new command text given count mode w has keyed = record {
 }
 
 -- a statement that ran makes the change
-pub made_wrote : {R E : Type 0} (change : Change) (old new : State) (done : R) → doubt old.is_clean ≤ doubt new.is_clean
+pub made_wrote : {R E : Type 0} (change : Change) (old new : State) (done : R) → Lasts old new
     → (HasCleanDisk old → HasCleanDisk new → HasMade change old new) → Wrote {E = E} change old new (Ok done)
-made_wrote change old new done falls made =
-    let before = λ (clean : HasCleanDisk new). let was : HasCleanDisk old = omega (arith, falls, clean) in was in
+made_wrote change old new done lasts made =
+    let before = λ (clean : HasCleanDisk new). let was : HasCleanDisk old = omega (arith, lasts.clean, clean) in was in
     let it = λ (clean : HasCleanDisk new). made (before clean) clean in
     record {
       hall = record {
@@ -40,8 +41,13 @@ made_wrote change old new done falls made =
         keyed = λ clean opens. (it clean).hall.keyed clean opens;
       };
       makes = record {
-        leads = record { honest = before; serves = λ clean opens. (it clean).was_open };
-        made = λ clean opened. ((it clean).serves, (it clean).world);
+        leads = record {
+          honest = before;
+          serves = λ clean opens. (it clean).was_open;
+          counts = lasts.counts;
+          lasts = λ clean opens. inl (it clean).serves;
+        };
+        made = λ clean. ((it clean).serves, (it clean).world);
       };
     }
 
@@ -50,10 +56,7 @@ pub rested_wrote : {R E : Type 0} (change : Change) (old new : State) (fault : E
 rested_wrote change old new fault rested = record {
   hall = rested.hall;
   makes = record {
-    leads = record {
-      honest = λ clean. let was : HasCleanDisk old = omega (arith, rested.follows.clean, clean) in was;
-      serves = λ clean opens. rested.follows.opened clean opens;
-    };
+    leads = follows_leads old new rested.follows;
     made = λ clean opens. ap (λ (d : Database). world_of d.trees) (rested.same clean opens);
   };
 }
@@ -63,20 +66,18 @@ pub rested_then : {R E : Type 0} (change : Change) (old mid new : State) (result
     → (HasCleanDisk mid → IsTrue mid.is_open) → Wrote change mid new result → Wrote change old new result
 rested_then {R} {E} change old mid new result rested serves wrote =
     let before = wrote.makes.leads.honest in
-    let first = λ (clean : HasCleanDisk new). let mid_clean = before clean in let was : HasCleanDisk old = omega (arith, rested.follows.clean, mid_clean) in was in
     let world = λ (clean : HasCleanDisk new). ap (λ (d : Database). world_of d.trees) (rested.same (before clean) (serves (before clean))) in
     record {
       hall = wrote.hall;
       makes = record {
-        leads = record { honest = first; serves = λ clean opens. rested.follows.opened (before clean) (serves (before clean)) };
-        made = by result wrote.makes.made before world;
+        leads = leads_then (content_of old) (content_of mid) (content_of new) (follows_leads old mid rested.follows) wrote.makes.leads;
+        made = by result wrote.makes.made world;
       };
     }
   where
-    by : (result : Result R E) → Made change (content_of mid) (content_of new) result → (HasCleanDisk new → HasCleanDisk mid)
-        → (HasCleanDisk new → world_of mid.now.trees ≡ world_of old.now.trees) → Made change (content_of old) (content_of new) result
-    by (Ok done) made before world = λ clean opened. let it = made clean (serves (before clean)) in (it.0, it.1 ∙ ap (changed change) (world clean))
-    by (Err fault) made before world = λ clean opens. made clean opens ∙ world clean
+    by : (result : Result R E) → Made change (content_of mid) (content_of new) result → (HasCleanDisk new → world_of mid.now.trees ≡ world_of old.now.trees) → Made change (content_of old) (content_of new) result
+    by (Ok done) made world = λ clean. let it = made clean in (it.0, it.1 ∙ ap (changed change) (world clean))
+    by (Err fault) made world = λ clean opens. made clean opens ∙ world clean
 
 -- a query that left the world made a change that changes nothing
 pub rested_made : {R E : Type 0} (change : Change) (old new : State) (done : R) → Rested old new → (HasCleanDisk new → IsTrue new.is_open)
@@ -84,11 +85,8 @@ pub rested_made : {R E : Type 0} (change : Change) (old new : State) (done : R) 
 rested_made change old new done rested serves nothing = record {
   hall = rested.hall;
   makes = record {
-    leads = record {
-      honest = λ clean. let was : HasCleanDisk old = omega (arith, rested.follows.clean, clean) in was;
-      serves = λ clean opens. rested.follows.opened clean opens;
-    };
-    made = λ clean opened.
+    leads = follows_leads old new rested.follows;
+    made = λ clean.
         let world = ap (λ (d : Database). world_of d.trees) (rested.same clean (serves clean)) in
         (serves clean, sym (nothing clean) ∙ ap (changed change) world);
   };
@@ -100,12 +98,12 @@ pub wrote_too : {R E : Type 0} (change other : Change) (old new : State) (result
     → Wrote change old new result → Wrote other old new result
 wrote_too {R} {E} change other old new result same wrote = record {
   hall = wrote.hall;
-  makes = record { leads = record { honest = wrote.makes.leads.honest; serves = wrote.makes.leads.serves }; made = by result wrote.makes.made wrote.makes.leads.honest };
+  makes = record { leads = wrote.makes.leads; made = by result wrote.makes.made wrote.makes.leads.honest };
 }
   where
     by : (result : Result R E) → Made change (content_of old) (content_of new) result → (HasCleanDisk new → HasCleanDisk old)
         → Made other (content_of old) (content_of new) result
-    by (Ok done) made before = λ clean opened. let it = made clean opened in (it.0, it.1 ∙ same (before clean))
+    by (Ok done) made before = λ clean. let it = made clean in (it.0, it.1 ∙ same (before clean))
     by (Err fault) made before = made
 
 -- worlds are one where their maps are

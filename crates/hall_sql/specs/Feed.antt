@@ -1,14 +1,12 @@
 -- Rows that are given to a sink one after another.
-use Rattle.std.specs.Prelude.{◌≡◌, ◌⊎◌, ◌++◌, ℕ, Bool, true, false, List, [], map, Option, Some, None}
+use Rattle.std.specs.Prelude.{◌≡◌, ◌⊎◌, ℕ, Bool, true, false, List, [], map, Option, Some, None}
 use Rattle.std.specs.Prelude.{Result, Ok, Err, IsTrue}
 use Rattle.sqlite_trees.specs.declared.store.Store.{Ghosts}
 use Rattle.sqlite.specs.Order.{Row}
 use Rattle.sqlite.specs.Held.{Held, state}
 use Rattle.sqlite.specs.Given.{Advances, HasGiven}
 use Rattle.sqlite.specs.State.{State, HasCleanDisk, IsUnchanged, Begins, Shown}
-use Rattle.hall_policy.specs.World.{World}
 use Rattle.hall_policy.specs.Sink.{HasTaken}
-use Rattle.hall_store.specs.Store.{Content}
 
 -- one row more was read, and the sink took its record; or there is none
 abbrev pub Steps : {S K X : Type 0} → Ghosts S → (Row → Option X) → (K → X → K → Type 0) →
@@ -66,13 +64,3 @@ FedRows {S} {K} {X} g read Takes sql params old new before (Ok done) after =
 FedRows {S} {K} {X} g read Takes sql params old new before (Err fault) after =
     (taken : List X) × HasTaken Takes before taken after
     × ((taken ≡ []) ⊎ (HasCleanDisk new → AreFirst g read sql params old taken))
-
--- The sink has taken all the rows of the world before; or, where the call is refused, some of the first ones, also
--- where the store serves no more.
-abbrev pub FedBefore : {K X E : Type 0} → (K → X → K → Type 0) →
-    (World → List X → Type 0) → Content → Content → K → Result (Unit {0}) E → K → Type 0
-FedBefore {K} {X} Takes AreRows old new before (Ok done) after =
-    new.honest → new.serves × ((rows : List X) × AreRows old.world rows × HasTaken Takes before rows after)
-FedBefore {K} {X} Takes AreRows old new before (Err fault) after =
-    (taken : List X) × HasTaken Takes before taken after
-    × ((taken ≡ []) ⊎ (new.honest → (left : List X) × AreRows old.world (taken ++ left)))

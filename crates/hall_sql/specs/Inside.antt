@@ -1,7 +1,6 @@
 -- What calls inside a transaction leave.
-use Rattle.std.specs.Prelude.{◌≡◌, ◌≤◌, None, IsTrue}
+use Rattle.std.specs.Prelude.{◌≡◌, None, IsTrue}
 use Rattle.std.specs.FinMap.{get, insert}
-use Rattle.sqlite_trees.specs.View.{doubt}
 use Rattle.sqlite.specs.Effect.{Database}
 use Rattle.sqlite.specs.State.{State, HasCleanDisk, KeepsCommit}
 use Rattle.hall_policy.specs.World.{World}
@@ -10,16 +9,17 @@ use Rattle.hall_store.specs.Change.{changed}
 use Rattle.hall_store.specs.declared.change.Change.{Change}
 use Rattle.hall_sql.specs.Tables.{hall_schema}
 use Rattle.hall_sql.specs.Rows.{world_of}
-use Rattle.hall_sql.specs.Standing.{AreAllKeyed}
+use Rattle.hall_sql.specs.Standing.{AreAllKeyed, Lasts}
 
 -- the tables are the hall's, and no two rows of one have one rowid
 pub record IsHallData (held : Database) : Type 0 where
   pub schema : held.schema ≡ hall_schema
   pub keyed : AreAllKeyed held.trees
 
--- Whether it ran or was refused: no fault is forgotten, and nothing is committed.
+-- Whether it ran or was refused: no fault is forgotten, only one that is counted shuts the store, and nothing is
+-- committed.
 pub record Carries (old new : State) : Type 0 where
-  pub falls : doubt old.is_clean ≤ doubt new.is_clean
+  pub lasts : Lasts old new
   pub kept : HasCleanDisk new → IsTrue old.in_transaction → KeepsCommit old new
 
 -- Where it ran, the transaction goes on, over the hall's tables.

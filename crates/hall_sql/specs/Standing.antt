@@ -15,7 +15,7 @@ use Rattle.sqlite.specs.Tree.{Trees}
 use Rattle.sqlite.specs.Term.{holds, eval_all}
 use Rattle.sqlite.specs.Query.{Query, output, output_cmp}
 use Rattle.sqlite.specs.State.{State, HasCleanDisk, IsUnchanged, IsRolledBack}
-use Rattle.hall_store.specs.Store.{Content, Makes}
+use Rattle.hall_store.specs.Store.{Content, MoreFaults, Makes}
 use Rattle.hall_store.specs.Change.{changed}
 use Rattle.hall_store.specs.Maps.{empty_world}
 use Rattle.hall_store.specs.declared.change.Change.{Change}
@@ -46,9 +46,15 @@ pub record IsHall (s : State) : Type 0 where
   pub settled : HasCleanDisk s → IsTrue s.is_open → (s.now ≡ s.committed) × (s.now.schema ≡ hall_schema)
   pub keyed : HasCleanDisk s → IsTrue s.is_open → AreAllKeyed s.now.trees
 
--- no fault is forgotten, and a store that is shut stays so
-pub record Follows (old new : State) : Type 0 where
+-- no fault is forgotten, and only a fault that is counted shuts the store
+pub record Lasts (old new : State) : Type 0 where
   pub clean : doubt old.is_clean ≤ doubt new.is_clean
+  pub counts : old.faults ≤ new.faults
+  pub closes : HasCleanDisk new → IsTrue old.is_open → IsTrue new.is_open ⊎ MoreFaults old.faults new.faults
+
+-- so it was left, and a store that is shut stays so
+pub record Follows (old new : State) : Type 0 where
+  pub lasts : Lasts old new
   pub opened : HasCleanDisk new → IsTrue new.is_open → IsTrue old.is_open
 
 -- the connection was left as it was, or it was rolled back
@@ -68,10 +74,15 @@ pub record IsSelection (q : Query) (table : List Row) (params : Row) (rows : Lis
   pub sorted : IsSorted (λ a b. output_cmp q (output q (params ∷ a ∷ [])) (output q (params ∷ b ∷ []))) found
   pub shown : rows ≡ map (λ row. eval_all q.project (params ∷ row ∷ [])) found
 
--- The content of a connection: it is honest while its disk is clean, serves while it is open, and its world is what its
--- tables hold.
+-- The content of a connection: it is honest while its disk is clean, serves while it is open, counts the disk's faults,
+-- and its world is what its tables hold.
 abbrev pub content_of : State → Content
-content_of s = record { honest = HasCleanDisk s; serves = IsTrue s.is_open; world = world_of s.now.trees }
+content_of s = record {
+  honest = HasCleanDisk s;
+  serves = IsTrue s.is_open;
+  faults = s.faults;
+  world = world_of s.now.trees;
+}
 
 -- the table in this tree has one row more, with a rowid of its own, and each other table is as it was
 pub record HasAdded (schema : Schema) (tree : ℕ) (values : Row) (old new : Database) : Type 0 where

@@ -1,5 +1,5 @@
 //! The table of answers.
-ghost use Rattle.std.specs.Prelude.{◌≡◌, ◌≤◌, ◌↔◌, IsTrue, Ok, IfOk, OnErr};
+ghost use Rattle.std.specs.Prelude.{◌≡◌, ◌↔◌, IsTrue, Ok, IfOk, OnErr};
 ghost use Rattle.std.specs.FinMap.{get};
 ghost use Rattle.sqlite.specs.Held.{state};
 ghost use Rattle.hall_store.specs.Store.{Served, IsListing, is_of, is_in, IsNumberTaken, HasSubmitted, Asks};
@@ -7,11 +7,10 @@ ghost use Rattle.hall_policy.specs.Rules.{answers_given};
 ghost use Rattle.hall_store.specs.Change.{CanAddAnswer};
 ghost use Rattle.hall_store.specs.declared.change.Change.TheVariants.{AddAnswer};
 ghost use Rattle.hall_policy.specs.Ranges.{IsAnswerRow};
-ghost use Rattle.sqlite_trees.specs.View.{doubt};
 ghost use Rattle.sqlite.specs.State.{HasCleanDisk, Executes};
 ghost use Rattle.hall_sql.specs.Statements.{add_answer_text};
 ghost use Rattle.hall_sql.specs.Columns.{answer_params};
-ghost use Rattle.hall_sql.specs.Standing.{IsHall, Rested, Wrote, content_of};
+ghost use Rattle.hall_sql.specs.Standing.{IsHall, Rested, Wrote, content_of, Lasts};
 
 use crate::calls::{ask, run};
 use crate::record::{at_most_one, read_all};
@@ -183,7 +182,7 @@ const ADD_ANSWER: &str =
 /// Writes the columns of an answer.
 fn write<S: Alter>(conn: &mut Connection<S>, row: &AnswerRow) -> Result<usize, StoreFault>
     requires hall { IsHall (state S.Store conn.old) }
-    ensures clean { doubt (state S.Store conn.old).is_clean ≤ doubt (state S.Store conn.new).is_clean }
+    ensures lasts { Lasts (state S.Store conn.old) (state S.Store conn.new) }
     ensures refused { OnErr result (Rested (state S.Store conn.old) (state S.Store conn.new)) }
     ensures runs { HasCleanDisk (state S.Store conn.new) → IfOk result (λ count.
         Executes add_answer_text (answer_params row.now) (state S.Store conn.old) (state S.Store conn.new) (Ok count)) }

@@ -1,13 +1,12 @@
 //! One statement each: what it leaves of the connection.
-ghost use Rattle.std.specs.Prelude.{◌≡◌, ◌≤◌, true, IsTrue, Ok, IfOk, OnOk, OnErr};
+ghost use Rattle.std.specs.Prelude.{◌≡◌, true, IsTrue, Ok, IfOk, OnOk, OnErr};
 ghost use Rattle.sqlite.specs.Values.{bound};
 ghost use Rattle.sqlite.specs.Held.{state};
 ghost use Rattle.sqlite.specs.Given.{IsPlain};
 ghost use Rattle.sqlite.specs.Listing.{understood};
 ghost use Rattle.sqlite.specs.State.{HasCleanDisk, Shown, Executes};
-ghost use Rattle.sqlite_trees.specs.View.{doubt};
 ghost use Rattle.hall_sql.specs.Tables.{hall_schema};
-ghost use Rattle.hall_sql.specs.Standing.{IsHall, Rested};
+ghost use Rattle.hall_sql.specs.Standing.{IsHall, Rested, Lasts};
 ghost use Rattle.hall_sql.specs.Inside.{Carries};
 
 use hall_store::StoreFault;
@@ -49,7 +48,7 @@ pub(crate) fn run<S: Alter>(
     params: &[ValueRef<'_>],
 ) -> Result<usize, StoreFault>
     requires hall { IsHall (state S.Store conn.old) }
-    ensures clean { doubt (state S.Store conn.old).is_clean ≤ doubt (state S.Store conn.new).is_clean }
+    ensures lasts { Lasts (state S.Store conn.old) (state S.Store conn.new) }
     ensures refused { OnErr result (Rested (state S.Store conn.old) (state S.Store conn.new)) }
     ensures runs { HasCleanDisk (state S.Store conn.new) → IfOk result (λ count.
         Executes sql.now (bound params.now) (state S.Store conn.old) (state S.Store conn.new) (Ok count)) }

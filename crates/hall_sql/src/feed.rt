@@ -1,6 +1,5 @@
 //! The rows of a round, given to a sink one at a time.
-ghost use Rattle.std.specs.Prelude.{◌≡◌, ◌≤◌, IfOk, OnOk, OnErr};
-ghost use Rattle.sqlite_trees.specs.View.{doubt};
+ghost use Rattle.std.specs.Prelude.{◌≡◌, IfOk, OnOk, OnErr};
 ghost use Rattle.sqlite.specs.Values.{bound};
 ghost use Rattle.sqlite.specs.Held.{state};
 ghost use Rattle.sqlite.specs.Given.{IsPlain};
@@ -8,8 +7,8 @@ ghost use Rattle.sqlite.specs.Listing.{understood};
 ghost use Rattle.sqlite.specs.State.{HasCleanDisk};
 ghost use Rattle.hall_store.specs.Store.{Fed, IsListing, is_in, protests_in};
 ghost use Rattle.hall_sql.specs.Tables.{hall_schema};
-ghost use Rattle.hall_sql.specs.Standing.{IsHall, Rests, Rested, content_of};
-ghost use Rattle.hall_sql.specs.Feed.{Steps, FedRows, FedBefore};
+ghost use Rattle.hall_sql.specs.Standing.{IsHall, Rests, Rested, content_of, Lasts};
+ghost use Rattle.hall_sql.specs.Feed.{Steps, FedRows};
 
 use crate::answers::ANSWERS_IN;
 use crate::calls::fault_of;
@@ -55,7 +54,7 @@ fn step<S: Alter, K, T: GivenTo<K> + Drop>(
     sink: &mut K,
 ) -> Result<bool, StoreFault>
     ensures same_reference { rows.new.conn.ghost_name ≡ rows.old.conn.ghost_name }
-    ensures clean { doubt (state S.Store rows.old.conn.now).is_clean ≤ doubt (state S.Store rows.new.conn.now).is_clean }
+    ensures lasts { Lasts (state S.Store rows.old.conn.now) (state S.Store rows.new.conn.now) }
     ensures rests { HasCleanDisk (state S.Store rows.new.conn.now) →
         Rests (state S.Store rows.old.conn.now) (state S.Store rows.new.conn.now) }
     ensures stepped { IfOk result
@@ -108,10 +107,8 @@ pub(crate) fn feed_answers<S: Alter, K: AnswerSink>(
 ) -> Result<(), StoreFault>
     requires hall { IsHall (state S.Store conn.old) }
     ensures rested { Rested (state S.Store conn.old) (state S.Store conn.new) }
-    ensures begun { FedBefore K.takes (λ world rows. IsListing world (is_in round.now) rows)
-        (content_of (state S.Store conn.old)) (content_of (state S.Store conn.new)) sink.old result sink.new }
     ensures fed { Fed K.takes (λ world rows. IsListing world (is_in round.now) rows)
-        (content_of (state S.Store conn.new)) sink.old result sink.new }
+        (content_of (state S.Store conn.old)) (content_of (state S.Store conn.new)) sink.old result sink.new }
 {
     let _schema = conn.schema();
     feed::<S, K, AnswerRow>(conn, alloc, ANSWERS_IN, params![round.as_str()], sink)
@@ -126,10 +123,8 @@ pub(crate) fn feed_protests<S: Alter, K: ProtestSink>(
 ) -> Result<(), StoreFault>
     requires hall { IsHall (state S.Store conn.old) }
     ensures rested { Rested (state S.Store conn.old) (state S.Store conn.new) }
-    ensures begun { FedBefore K.takes (λ world rows. rows ≡ protests_in world round.now)
-        (content_of (state S.Store conn.old)) (content_of (state S.Store conn.new)) sink.old result sink.new }
     ensures fed { Fed K.takes (λ world rows. rows ≡ protests_in world round.now)
-        (content_of (state S.Store conn.new)) sink.old result sink.new }
+        (content_of (state S.Store conn.old)) (content_of (state S.Store conn.new)) sink.old result sink.new }
 {
     let _schema = conn.schema();
     feed::<S, K, ProtestRow>(conn, alloc, PROTESTS_IN, params![round.as_str()], sink)

@@ -1,7 +1,6 @@
 //! The table of protests.
-ghost use Rattle.std.specs.Prelude.{◌≡◌, ◌≤◌, ◌↔◌, IsTrue, Ok, IfOk, IfSome, OnErr};
+ghost use Rattle.std.specs.Prelude.{◌≡◌, ◌↔◌, IsTrue, Ok, IfOk, IfSome, OnErr};
 ghost use Rattle.std.specs.FinMap.{get};
-ghost use Rattle.sqlite_trees.specs.View.{doubt};
 ghost use Rattle.sqlite.specs.Held.{state};
 ghost use Rattle.sqlite.specs.State.{HasCleanDisk, Executes};
 ghost use Rattle.hall_policy.specs.Ranges.{IsProtestRow, IsRuling};
@@ -12,7 +11,7 @@ ghost use Rattle.hall_store.specs.Change.{CanAddProtest};
 ghost use Rattle.hall_store.specs.declared.change.Change.TheVariants.{AddProtest, RuleProtest};
 ghost use Rattle.hall_sql.specs.Statements.{add_protest_text, rule_protest_text};
 ghost use Rattle.hall_sql.specs.Columns.{protest_params, ruling_code, ruling_params, IsAlone};
-ghost use Rattle.hall_sql.specs.Standing.{IsHall, Rested, Wrote, content_of};
+ghost use Rattle.hall_sql.specs.Standing.{IsHall, Rested, Wrote, content_of, Lasts};
 
 use crate::calls::{ask, run};
 use crate::record::{at_most_one, read_all};
@@ -162,7 +161,7 @@ const ADD_PROTEST: &str =
 /// Writes the columns of a protest.
 fn write<S: Alter>(conn: &mut Connection<S>, row: &ProtestRow) -> Result<usize, StoreFault>
     requires hall { IsHall (state S.Store conn.old) }
-    ensures clean { doubt (state S.Store conn.old).is_clean ≤ doubt (state S.Store conn.new).is_clean }
+    ensures lasts { Lasts (state S.Store conn.old) (state S.Store conn.new) }
     ensures refused { OnErr result (Rested (state S.Store conn.old) (state S.Store conn.new)) }
     ensures runs { HasCleanDisk (state S.Store conn.new) → IfOk result (λ count.
         Executes add_protest_text (protest_params row.now) (state S.Store conn.old) (state S.Store conn.new)
@@ -210,7 +209,7 @@ fn write_ruling<S: Alter>(
 ) -> Result<usize, StoreFault>
     requires hall { IsHall (state S.Store conn.old) }
     ensures in_range { IfSome ruling.now IsRuling }
-    ensures clean { doubt (state S.Store conn.old).is_clean ≤ doubt (state S.Store conn.new).is_clean }
+    ensures lasts { Lasts (state S.Store conn.old) (state S.Store conn.new) }
     ensures refused { OnErr result (Rested (state S.Store conn.old) (state S.Store conn.new)) }
     ensures runs { HasCleanDisk (state S.Store conn.new) → IfOk result (λ count. Executes rule_protest_text
         (ruling_params key.now ruling.now) (state S.Store conn.old) (state S.Store conn.new) (Ok count)) }

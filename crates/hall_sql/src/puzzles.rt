@@ -1,16 +1,15 @@
 //! The table of puzzles.
-ghost use Rattle.std.specs.Prelude.{◌≡◌, ◌≤◌, IsTrue, Ok, IfOk, OnErr};
+ghost use Rattle.std.specs.Prelude.{◌≡◌, IsTrue, Ok, IfOk, OnErr};
 ghost use Rattle.std.specs.FinMap.{get, values};
 ghost use Rattle.sqlite.specs.Held.{state};
 ghost use Rattle.hall_store.specs.Store.{Served, puzzles_of};
 ghost use Rattle.hall_policy.specs.Rules.{puzzles_put};
-ghost use Rattle.sqlite_trees.specs.View.{doubt};
 ghost use Rattle.sqlite.specs.State.{HasCleanDisk, Executes};
 ghost use Rattle.hall_grid.specs.Text.{SpellsText};
 ghost use Rattle.hall_policy.specs.Ranges.{IsPuzzleKey, IsState};
 ghost use Rattle.hall_store.specs.declared.change.Change.TheVariants.{PutPuzzle, SetState};
 ghost use Rattle.hall_sql.specs.Columns.{puzzle_params, HasSoMany, state_code, solution_of};
-ghost use Rattle.hall_sql.specs.Standing.{IsHall, Rested, Wrote, content_of};
+ghost use Rattle.hall_sql.specs.Standing.{IsHall, Rested, Wrote, content_of, Lasts};
 
 use crate::calls::{ask, run};
 use crate::record::{at_most_one, read_all};
@@ -155,7 +154,7 @@ fn write<S: Alter>(
 ) -> Result<usize, StoreFault>
     requires hall { IsHall (state S.Store conn.old) }
     ensures in_range { IsState row.now.state }
-    ensures clean { doubt (state S.Store conn.old).is_clean ≤ doubt (state S.Store conn.new).is_clean }
+    ensures lasts { Lasts (state S.Store conn.old) (state S.Store conn.new) }
     ensures refused { OnErr result (Rested (state S.Store conn.old) (state S.Store conn.new)) }
     ensures runs { HasCleanDisk (state S.Store conn.new) → IfOk result (λ count. Executes sql.now
         (puzzle_params text.now row.now) (state S.Store conn.old) (state S.Store conn.new) (Ok count)) }
@@ -183,8 +182,7 @@ fn put_new<S: Alter>(
     requires hall { IsHall (state S.Store conn.old) }
     requires spells { SpellsText text.now row.now.puzzle }
     requires found { HasCleanDisk (state S.Store conn.old) → HasSoMany row.now.key (state S.Store conn.old) 0 }
-    ensures clean { doubt (state S.Store conn.old).is_clean ≤ doubt (state S.Store conn.new).is_clean }
-    ensures wrote { Wrote (PutPuzzle row.now) (state S.Store conn.old) (state S.Store conn.new) result }
+    ensures { Wrote (PutPuzzle row.now) (state S.Store conn.old) (state S.Store conn.new) result }
 {
     in_range(&row.key);
     match write(conn, ADD, row, text) {
@@ -202,8 +200,7 @@ fn put_over<S: Alter>(
     requires hall { IsHall (state S.Store conn.old) }
     requires spells { SpellsText text.now row.now.puzzle }
     requires found { HasCleanDisk (state S.Store conn.old) → HasSoMany row.now.key (state S.Store conn.old) 1 }
-    ensures clean { doubt (state S.Store conn.old).is_clean ≤ doubt (state S.Store conn.new).is_clean }
-    ensures wrote { Wrote (PutPuzzle row.now) (state S.Store conn.old) (state S.Store conn.new) result }
+    ensures { Wrote (PutPuzzle row.now) (state S.Store conn.old) (state S.Store conn.new) result }
 {
     in_range(&row.key);
     match write(conn, REPLACE, row, text) {
@@ -222,8 +219,7 @@ fn put_found<S: Alter>(
     requires hall { IsHall (state S.Store conn.old) }
     requires spells { SpellsText text.now row.now.puzzle }
     requires found { HasCleanDisk (state S.Store conn.old) → HasSoMany row.now.key (state S.Store conn.old) count }
-    ensures clean { doubt (state S.Store conn.old).is_clean ≤ doubt (state S.Store conn.new).is_clean }
-    ensures wrote { Wrote (PutPuzzle row.now) (state S.Store conn.old) (state S.Store conn.new) result }
+    ensures { Wrote (PutPuzzle row.now) (state S.Store conn.old) (state S.Store conn.new) result }
 {
     match count {
         0 => put_new(conn, row, text),

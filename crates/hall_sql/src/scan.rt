@@ -1,10 +1,9 @@
 //! Whether the rowids of a table are integers, of which none stands twice.
-ghost use Rattle.std.specs.Prelude.{◌≡◌, ◌≤◌, IsTrue, IfOk, OnOk, OnErr};
-ghost use Rattle.sqlite_trees.specs.View.{doubt};
+ghost use Rattle.std.specs.Prelude.{◌≡◌, IsTrue, IfOk, OnOk, OnErr};
 ghost use Rattle.sqlite.specs.Held.{state};
 ghost use Rattle.sqlite.specs.State.{HasCleanDisk, IsUnchanged};
 ghost use Rattle.hall_sql.specs.Tables.{hall_schema};
-ghost use Rattle.hall_sql.specs.Standing.{Rests};
+ghost use Rattle.hall_sql.specs.Standing.{Rests, Lasts};
 ghost use Rattle.hall_sql.specs.Scan.{IsAbove, Scanned, IsTableKeyed, AreScanned};
 
 use crate::calls::fault_of;
@@ -24,7 +23,7 @@ fn is_above(last: Option<i64>, id: i64) -> bool
 /// The next rowid, which is above the last. Refused where it is not.
 fn next_id<S: Alter>(rows: &mut Rows<'_, S>, last: Option<i64>) -> Result<Option<i64>, StoreFault>
     ensures same_reference { rows.new.conn.ghost_name ≡ rows.old.conn.ghost_name }
-    ensures clean { doubt (state S.Store rows.old.conn.now).is_clean ≤ doubt (state S.Store rows.new.conn.now).is_clean }
+    ensures lasts { Lasts (state S.Store rows.old.conn.now) (state S.Store rows.new.conn.now) }
     ensures rests { HasCleanDisk (state S.Store rows.new.conn.now)
         → Rests (state S.Store rows.old.conn.now) (state S.Store rows.new.conn.now) }
     ensures scanned { HasCleanDisk (state S.Store rows.new.conn.now)
@@ -49,7 +48,7 @@ fn next_id<S: Alter>(rows: &mut Rows<'_, S>, last: Option<i64>) -> Result<Option
 /// Refused where a rowid of the table is no integer or stands twice.
 fn check_rowids<S: Alter>(conn: &mut Connection<S>, table: HallTable) -> Result<(), StoreFault>
     requires schema { HasCleanDisk (state S.Store conn.old) → conn.old.schema ≡ hall_schema }
-    ensures clean { doubt (state S.Store conn.old).is_clean ≤ doubt (state S.Store conn.new).is_clean }
+    ensures lasts { Lasts (state S.Store conn.old) (state S.Store conn.new) }
     ensures rests { HasCleanDisk (state S.Store conn.new)
         → Rests (state S.Store conn.old) (state S.Store conn.new) }
     ensures scanned { HasCleanDisk (state S.Store conn.new)
@@ -76,7 +75,7 @@ pub(crate) fn check_all_rowids<S: Alter>(
     tables: &[HallTable],
 ) -> Result<(), StoreFault>
     requires schema { HasCleanDisk (state S.Store conn.old) → conn.old.schema ≡ hall_schema }
-    ensures clean { doubt (state S.Store conn.old).is_clean ≤ doubt (state S.Store conn.new).is_clean }
+    ensures lasts { Lasts (state S.Store conn.old) (state S.Store conn.new) }
     ensures refused { HasCleanDisk (state S.Store conn.new)
         → OnErr result (Rests (state S.Store conn.old) (state S.Store conn.new)) }
     ensures scanned { HasCleanDisk (state S.Store conn.new)

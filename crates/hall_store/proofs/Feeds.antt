@@ -6,7 +6,7 @@ use Rattle.hall_policy.specs.World.{World}
 use Rattle.hall_policy.specs.declared.sink.SinkFault.{SinkFault}
 use Rattle.hall_policy.specs.declared.sink.SinkFault.TheVariants.{Refused}
 use Rattle.hall_policy.specs.Sink.{HasTaken}
-use Rattle.hall_store.specs.Store.{Content, Fed, IsRefusedNext, Stops}
+use Rattle.hall_store.specs.Store.{Content, Kept, Fed, IsRefusedNext, Stops}
 use Rattle.hall_store.specs.declared.fault.StoreFault.{StoreFault}
 use Rattle.hall_store.specs.declared.fault.StoreFault.TheVariants.{Failed}
 
@@ -15,6 +15,13 @@ pub record Feeding {K X : Type 0} (Takes : K → X → K → Type 0) (before : K
   pub taken : List X
   pub took : HasTaken Takes before taken now
   pub whole : rows ≡ taken ++ rest
+
+-- what was fed is all of the world after
+pub fed_now : {K X : Type 0} (Takes : K → X → K → Type 0) (AreRows : World → List X → Type 0) (old new : Content) (before after : K) → Kept old new →
+    Fed {E = StoreFault} Takes AreRows old new before (Ok tt) after → new.honest → new.serves × ((rows : List X) × AreRows new.world rows × HasTaken Takes before rows after)
+fed_now Takes AreRows old new before after kept fed h =
+    let it = fed h in
+    (it.0, (it.1.0, subst (λ (w : World). AreRows w it.1.0) (sym (kept.world h it.0)) it.1.1, it.1.2))
 
 -- one more at the end
 took_more : {K X : Type 0} (Takes : K → X → K → Type 0) (before now next : K) (taken : List X) (row : X) → HasTaken Takes before taken now → Takes now row next →
@@ -49,20 +56,20 @@ module _ {K X : Type 0} {Takes : K → X → K → Type 0} where
   }
 
   -- a store that gave its rows to the sink
-  module _ (Refuses : K → X → Type 0) (AreRows : World → List X → Type 0) (new : Content) (before after : K) (rows : List X) (are : AreRows new.world rows) (serves : new.serves) where
-    pub fed_whole : HasTaken Takes before rows after → Fed {E = StoreFault} Takes AreRows new before (Ok tt) after
+  module _ (Refuses : K → X → Type 0) (AreRows : World → List X → Type 0) (store : Content) (before after : K) (rows : List X) (are : AreRows store.world rows) (serves : store.serves) where
+    pub fed_whole : HasTaken Takes before rows after → Fed {E = StoreFault} Takes AreRows store store before (Ok tt) after
     fed_whole took _ = (serves, (rows, are, took))
 
-    fed_partly : (cause : SinkFault) (fault : StoreFault) → Stops Takes Refuses before rows after cause → Fed Takes AreRows new before (Err fault) after
-    fed_partly cause fault stops = (stops.taken, stops.took, inr (λ _ _. (stops.row ∷ stops.left, subst (AreRows new.world) stops.whole are)))
+    fed_partly : (cause : SinkFault) (fault : StoreFault) → Stops Takes Refuses before rows after cause → Fed Takes AreRows store store before (Err fault) after
+    fed_partly cause fault stops = (stops.taken, stops.took, inr (λ _. (serves, (stops.row ∷ stops.left, subst (AreRows store.world) stops.whole are))))
 
     refused_next : (cause : SinkFault) (fault : StoreFault) → Stops Takes Refuses before rows after cause → (fault ≡ Failed ↔ cause ≡ Refused) → fault ≡ Failed →
-        IsRefusedNext Takes Refuses AreRows new before after
+        IsRefusedNext Takes Refuses AreRows store store before after
     refused_next cause fault stops gives failed =
-        (stops.taken, stops.row, stops.took, stops.refused (gives.0 failed), λ _. (serves, (stops.left, subst (AreRows new.world) stops.whole are)))
+        (stops.taken, stops.row, stops.took, stops.refused (gives.0 failed), λ _. (serves, (stops.left, subst (AreRows store.world) stops.whole are)))
 
     -- the sink's fault is handed on as the store's
     pub fed_or_refused : (cause : SinkFault) (result : Result (Unit {0}) StoreFault) → Stops Takes Refuses before rows after cause → IsErrAnd result (λ fault. fault ≡ Failed ↔ cause ≡ Refused) →
-        Fed Takes AreRows new before result after × IfErr result (λ fault. fault ≡ Failed → ⊥ ⊎ IsRefusedNext Takes Refuses AreRows new before after)
+        Fed Takes AreRows store store before result after × IfErr result (λ fault. fault ≡ Failed → ⊥ ⊎ IsRefusedNext Takes Refuses AreRows store store before after)
     fed_or_refused cause (Ok done) stops gives = absurd gives
     fed_or_refused cause (Err fault) stops gives = (fed_partly cause fault stops, λ failed. inr (refused_next cause fault stops gives failed))

@@ -1,19 +1,59 @@
 -- What was found stays true over calls that leave the world.
-use Rattle.std.proofs.Common.{inl, inr, subst, sym, ◌∙◌, refl, Result, Ok, Err, IfOk}
+use Rattle.std.proofs.Common.{◌≡◌, ◌⊎◌, ℕ, ◌≤◌, arith, inl, inr, subst, sym, ◌∙◌, refl, Result, Ok, Err, IfOk}
 use Rattle.hall_policy.specs.World.{World}
-use Rattle.hall_store.specs.Store.{Content, Kept, Told, Served, Over}
+use Rattle.hall_store.specs.Store.{Content, Leads, Kept, MoreFaults, Told, Served, Over}
+
+-- more faults over one of two calls are more over both
+pub more_before : (a b c : ℕ) → MoreFaults a b → b ≤ c → MoreFaults a c
+more_before a b c (inl more) on = inl (omega (arith, more, on))
+more_before a b c (inr top) on = inr (omega (arith, top, on))
+
+pub more_after : (a b c : ℕ) → a ≤ b → MoreFaults b c → MoreFaults a c
+more_after a b c on (inl more) = inl (omega (arith, more, on))
+more_after a b c on (inr top) = inr top
+
+-- a call that changes nothing leads on
+pub leads_same : (a : Content) → Leads a a
+leads_same a = record { honest = λ h. h; serves = λ h s. s; counts = omega arith; lasts = λ h s. inl s }
+
+-- a store that served serves after both, or more faults were counted
+pub lasts_then : (a b c : Content) → a.faults ≤ b.faults → b.faults ≤ c.faults → (a.serves → b.serves ⊎ MoreFaults a.faults b.faults)
+    → (b.serves → c.serves ⊎ MoreFaults b.faults c.faults) → a.serves → c.serves ⊎ MoreFaults a.faults c.faults
+lasts_then a b c on more first second s = after (first s)
+  where
+    last : c.serves ⊎ MoreFaults b.faults c.faults → c.serves ⊎ MoreFaults a.faults c.faults
+    last (inl serves) = inl serves
+    last (inr faults) = inr (more_after a.faults b.faults c.faults on faults)
+
+    after : b.serves ⊎ MoreFaults a.faults b.faults → c.serves ⊎ MoreFaults a.faults c.faults
+    after (inl serves) = last (second serves)
+    after (inr faults) = inr (more_before a.faults b.faults c.faults faults more)
+
+-- two calls that lead on, one after the other
+pub leads_then : (a b c : Content) → Leads a b → Leads b c → Leads a c
+leads_then a b c first second = record {
+  honest = λ h. first.honest (second.honest h);
+  serves = λ h s. first.serves (second.honest h) (second.serves h s);
+  counts = omega (arith, first.counts, second.counts);
+  lasts = λ h. lasts_then a b c first.counts second.counts (first.lasts (second.honest h)) (second.lasts h);
+}
+
+-- a call that leaves the world leads on
+pub kept_leads : (a b : Content) → Kept a b → Leads a b
+kept_leads a b kept = record { honest = kept.honest; serves = kept.serves; counts = kept.counts; lasts = kept.lasts }
+
+-- and one that leads on and leaves the world keeps it
+pub leads_kept : (a b : Content) → Leads a b → (b.honest → b.serves → b.world ≡ a.world) → Kept a b
+leads_kept a b leads world = record { honest = leads.honest; serves = leads.serves; counts = leads.counts; lasts = leads.lasts; world = world }
 
 -- a call that changes nothing leaves the world
 pub kept_same : (a : Content) → Kept a a
-kept_same a = record { honest = λ h. h; serves = λ h s. s; world = λ h s. refl }
+kept_same a = leads_kept a a (leads_same a) (λ h s. refl)
 
 -- two calls that leave the world, one after the other
 pub kept_then : (a b c : Content) → Kept a b → Kept b c → Kept a c
-kept_then a b c first second = record {
-  honest = λ h. first.honest (second.honest h);
-  serves = λ h s. first.serves (second.honest h) (second.serves h s);
-  world = λ h s. second.world h s ∙ first.world (second.honest h) (second.serves h s);
-}
+kept_then a b c first second = leads_kept a c (leads_then a b c (kept_leads a b first) (kept_leads b c second))
+    (λ h s. second.world h s ∙ first.world (second.honest h) (second.serves h s))
 
 -- what was true before a call that leaves the world is true after it
 pub carried : (P : World → Type 0) (a b : Content) → Kept a b → (a.honest → a.serves → P a.world) → b.honest → b.serves → P b.world

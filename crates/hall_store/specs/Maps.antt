@@ -1,12 +1,10 @@
 -- The world that ordered maps keep.
-use Rattle.std.specs.Prelude.{◌≡◌, ◌≢◌, ◌⊎◌, ⊤, ℕ, ◌+◌, Bool, true, false, IsTrue, List, [], ◌∷◌, map, Contains}
-use Rattle.std.specs.Prelude.{Some, None}
+use Rattle.std.specs.Prelude.{⊤, ℕ, ◌+◌, List, [], ◌∷◌, map}
 use Rattle.std.specs.List.{flat_map}
-use Rattle.std.specs.FinMap.{from_entries, empty, get, insert}
-use Rattle.hall_policy.specs.World.{World, entry_at}
+use Rattle.std.specs.FinMap.{from_entries, empty}
+use Rattle.hall_policy.specs.World.{World}
 use Rattle.hall_policy.specs.declared.record.Round.{Round}
 use Rattle.hall_policy.specs.declared.record.Entry.{Entry}
-use Rattle.hall_policy.specs.declared.record.Person.{Person}
 use Rattle.hall_policy.specs.declared.record.PlaceKey.{PlaceKey}
 use Rattle.hall_policy.specs.declared.record.RoundRow.{RoundRow}
 use Rattle.hall_store.specs.Keyed.{answer_in}
@@ -38,9 +36,9 @@ world_of store = record {
   protests = from_entries store.protests.entries;
 }
 
--- ordered maps have no device that could lie or fail
+-- ordered maps have no device that could lie or fail, so no fault is counted
 abbrev pub content_of : MapStore → Content
-content_of store = record { honest = ⊤; serves = ⊤; world = world_of store }
+content_of store = record { honest = ⊤; serves = ⊤; faults = 0; world = world_of store }
 
 -- nobody and nothing
 abbrev pub empty_world : World

@@ -1,5 +1,5 @@
 -- What the calls of a store say, where its device was honest and the store still serves.
-use Rattle.std.specs.Prelude.{◌≡◌, ◌↔◌, ◌⊎◌, ◌&&◌, ◌++◌, ℕ, Bool, List, [], ◌∷◌, Result, Ok, Err, IfErr, Option, Some, None, Contains}
+use Rattle.std.specs.Prelude.{◌≡◌, ◌↔◌, ◌⊎◌, ◌&&◌, ◌++◌, ℕ, ◌<◌, ◌≤◌, Bool, List, [], ◌∷◌, Result, Ok, Err, IfErr, Option, Some, None, Contains}
 use Rattle.std.specs.List.{filter}
 use Rattle.std.specs.List.Sorted.{IsSorted, IsPermutation}
 use Rattle.std.specs.Ordering.{nat_cmp, ordering_then}
@@ -25,22 +25,31 @@ use Rattle.hall_store.specs.declared.fault.StoreFault.TheVariants.{Failed}
 use Rattle.hall_store.specs.Change.{changed}
 
 -- What a store keeps, and while that can be told: `honest`, so far the device has returned what was written, and no one
--- else has written; `serves`, no fault of the device has shut the store.
+-- else has written; `serves`, no fault of the device has shut the store; `faults`, how often the device has failed.
 pub record Content : Type 1 where
   pub honest : Type 0
   pub serves : Type 0
+  pub faults : ℕ
   pub world : World
 
+-- the device has failed once more, or so often that it is no longer counted
+abbrev pub MoreFaults : ℕ → ℕ → Type 0
+MoreFaults old new = (old < new) ⊎ (18446744073709551615 ≤ new)
+
 -- A call leads from one content to another: where the device was honest to the end, it was so before, and where the
--- store then still serves, it served before.
+-- store then still serves, it served before. No fault is forgotten, and only a fault that is counted shuts the store.
 pub record Leads (old new : Content) : Type 0 where
   pub honest : new.honest → old.honest
   pub serves : new.honest → new.serves → old.serves
+  pub counts : old.faults ≤ new.faults
+  pub lasts : new.honest → old.serves → new.serves ⊎ MoreFaults old.faults new.faults
 
 -- A call leaves the world: it leads on, and the world is the one before.
 pub record Kept (old new : Content) : Type 0 where
   pub honest : new.honest → old.honest
   pub serves : new.honest → new.serves → old.serves
+  pub counts : old.faults ≤ new.faults
+  pub lasts : new.honest → old.serves → new.serves ⊎ MoreFaults old.faults new.faults
   pub world : new.honest → new.serves → new.world ≡ old.world
 
 -- What a call of the store answers has its meaning, and the store still serves, where the device was honest. Nothing is
@@ -64,9 +73,9 @@ Fails can_fail result = IfErr result (λ fault. fault ≡ Failed → can_fail)
 abbrev pub Asks : Content → (World → Type 0) → Type 0
 Asks content Needs = content.honest → content.serves → Needs content.world
 
--- A call makes the change, or is refused and leaves the world.
+-- A call makes the change in a store that serves, or is refused and leaves the world.
 abbrev pub Made : {R E : Type 0} → Change → Content → Content → Result R E → Type 0
-Made change old new (Ok done) = new.honest → old.serves → new.serves × (new.world ≡ changed change old.world)
+Made change old new (Ok done) = new.honest → new.serves × (new.world ≡ changed change old.world)
 Made change old new (Err fault) = new.honest → new.serves → new.world ≡ old.world
 
 -- A call leads on, and makes the change or leaves the world.
@@ -160,18 +169,19 @@ pub record Stops {K X : Type 0} (Takes : K → X → K → Type 0) (Refuses : K 
   pub took : HasTaken Takes before taken after
   pub refused : fault ≡ Refused → Refuses after row
 
--- The sink has taken all the rows; or, where the call is refused, some of the first ones.
+-- The sink has taken all the rows of the world before; or, where the call is refused, some of the first ones, also
+-- where the store serves no more.
 abbrev pub Fed : {K X E : Type 0} → (K → X → K → Type 0) →
-    (World → List X → Type 0) → Content → K → Result (Unit {0}) E → K → Type 0
-Fed {K} {X} Takes AreRows new before (Ok done) after =
-    new.honest → new.serves × ((rows : List X) × AreRows new.world rows × HasTaken Takes before rows after)
-Fed {K} {X} Takes AreRows new before (Err fault) after =
+    (World → List X → Type 0) → Content → Content → K → Result (Unit {0}) E → K → Type 0
+Fed {K} {X} Takes AreRows old new before (Ok done) after =
+    new.honest → new.serves × ((rows : List X) × AreRows old.world rows × HasTaken Takes before rows after)
+Fed {K} {X} Takes AreRows old new before (Err fault) after =
     (taken : List X) × HasTaken Takes before taken after
-    × ((taken ≡ []) ⊎ (new.honest → new.serves → (left : List X) × AreRows new.world (taken ++ left)))
+    × ((taken ≡ []) ⊎ (new.honest → old.serves × ((left : List X) × AreRows old.world (taken ++ left))))
 
--- the sink has taken the first rows, and refuses the next one
+-- the sink has taken the first rows of the world before, and refuses the next one; that leaves a store that serves
 abbrev pub IsRefusedNext : {K X : Type 0} → (K → X → K → Type 0) →
-    (K → X → Type 0) → (World → List X → Type 0) → Content → K → K → Type 0
-IsRefusedNext {K} {X} Takes Refuses AreRows new before after =
+    (K → X → Type 0) → (World → List X → Type 0) → Content → Content → K → K → Type 0
+IsRefusedNext {K} {X} Takes Refuses AreRows old new before after =
     (taken : List X) × (row : X) × HasTaken Takes before taken after × Refuses after row
-    × (new.honest → new.serves × ((left : List X) × AreRows new.world (taken ++ row ∷ left)))
+    × (new.honest → new.serves × ((left : List X) × AreRows old.world (taken ++ row ∷ left)))

@@ -194,10 +194,11 @@ pub trait Store: Drop {
         sink: &mut K,
     ) -> Result<(), StoreFault>
         ensures kept { Kept (content self.old) (content self.new) }
-        ensures fed { Fed K.takes (λ world rows. IsListing world (is_in round.now) rows) (content self.new)
-            sink.old result sink.new }
+        ensures fed { Fed K.takes (λ world rows. IsListing world (is_in round.now) rows)
+            (content self.old) (content self.new) sink.old result sink.new }
         ensures fault { IfErr result (λ fault. fault ≡ Failed → can_fail ⊎ IsRefusedNext K.takes K.refuses
-            (λ world rows. IsListing world (is_in round.now) rows) (content self.new) sink.old sink.new) };
+            (λ world rows. IsListing world (is_in round.now) rows) (content self.old) (content self.new)
+            sink.old sink.new) };
 
     /// Whether the entrant has an answer in the round.
     fn has_answered(
@@ -280,8 +281,9 @@ pub trait Store: Drop {
         sink: &mut K,
     ) -> Result<(), StoreFault>
         ensures kept { Kept (content self.old) (content self.new) }
-        ensures fed { Fed K.takes (λ world rows. rows ≡ protests_in world round.now) (content self.new)
-            sink.old result sink.new }
+        ensures fed { Fed K.takes (λ world rows. rows ≡ protests_in world round.now)
+            (content self.old) (content self.new) sink.old result sink.new }
         ensures fault { IfErr result (λ fault. fault ≡ Failed → can_fail ⊎ IsRefusedNext K.takes K.refuses
-            (λ world rows. rows ≡ protests_in world round.now) (content self.new) sink.old sink.new) };
+            (λ world rows. rows ≡ protests_in world round.now) (content self.old) (content self.new)
+            sink.old sink.new) };
 }

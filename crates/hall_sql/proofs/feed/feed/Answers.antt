@@ -1,12 +1,12 @@
-use Rattle.std.proofs.Common.{rules, arith, ◌≡◌, ◌≤◌, ◌∙◌, ◌++◌, inl, inr, true, false, refl, sym, subst, IsTrue, [], ◌∷◌}
-use Rattle.sqlite_trees.specs.View.{doubt}
+use Rattle.std.proofs.Common.{rules, arith, ◌≡◌, ◌∙◌, ◌++◌, inr, true, false, refl, sym, subst, IsTrue, [], ◌∷◌}
 use Rattle.sqlite.specs.Values.{bound}
 use Rattle.sqlite.specs.Held.{state}
 use Rattle.sqlite.specs.State.{HasCleanDisk}
 use Rattle.hall_policy.specs.Sink.{HasTaken}
 use Rattle.hall_sql.specs.Feed.{Steps}
+use Rattle.hall_sql.proofs.LastLemmas.{survived, last_then}
 use Rattle.hall_sql.proofs.CallLemmas.{rested, query_refused}
-use Rattle.hall_sql.proofs.FeedLemmas.{rests_then, taken_more, read_none, read_more, read_all, read_first, fed_first}
+use Rattle.hall_sql.proofs.FeedLemmas.{taken_more, read_none, read_more, read_all, read_first, fed_first}
 use Rattle.hall_sql.proofs.feed.feed.Goals as goal
 
 pub returns-in-Err-clause-rested : goal.returns-in-Err-clause-rested
@@ -15,14 +15,14 @@ returns-in-Err-clause-rested g c =
     let new = state g.S.Store c.query.follows.lender-at-none in
     let held = c.query.follows.holds-at-none in
     let refused = rw c.in-Err.is at held in
-    rested old new c.requires.hall refused.survives.clean
+    rested old new c.requires.hall (survived _ _ _ refused.survives)
     (λ was clean. query_refused old new c.args.sql.now (bound c.args.params.now) c.in-Err.error (refused.err clean))
 
 pub feed-init : goal.feed-init
 feed-init g c =
     let it = c.in-Ok.ensures in (
       refl,
-      it.survives.clean,
+      survived _ _ _ it.survives,
       (
         [],
         refl,
@@ -40,15 +40,15 @@ feed-preserved g c =
     let after = c.step.new.rows.conn.now in
     let so = c.feed.invariant.2 in
     let is : c.in_ok-step.field-0 ≡ true = search rules in
-    let falls : doubt old.is_clean ≤ doubt (state g.S.Store after).is_clean = omega (arith, c.feed.invariant.1, c.step.ensures.clean) in
+    let lasts = last_then old (state g.S.Store before) (state g.S.Store after) c.feed.invariant.1 c.step.ensures.lasts in
     let stepped = subst (Steps g.S.Store g.T.Record.read g.T.GivenTo.takes before after c.feed.sink c.step.new.sink) is c.in_ok-step.ensures.stepped in (
       c.step.ensures.same_reference ∙ c.feed.invariant.0,
-      falls,
+      lasts,
       (
         so.0 ++ stepped.0 ∷ [],
         taken_more g.T.GivenTo.takes c.args.sink.now c.feed.sink c.step.new.sink so.0 stepped.0 so.1 stepped.1,
         λ clean.
-            let mid : HasCleanDisk (state g.S.Store before) = omega (arith, c.step.ensures.clean, clean) in
+            let mid : HasCleanDisk (state g.S.Store before) = omega (arith, c.step.ensures.lasts.clean, clean) in
             let row = stepped.2 clean in
             read_more g.S.Store g.T.Record.read c.args.sql.now (bound c.args.params.now) old before after so.0 (so.2 mid)
             stepped.0 row.0 row.1.0 row.1.1 row.1.2,
@@ -67,7 +67,7 @@ returns-then-not-branch-clause-fed g c =
       subst (HasTaken g.T.GivenTo.takes c.args.sink.now so.0) (sym stepped.0) so.1,
       λ clean.
           let late : HasCleanDisk (state g.S.Store after) = subst (λ h. HasCleanDisk (state g.S.Store h)) same clean in
-          let mid : HasCleanDisk (state g.S.Store before) = omega (arith, c.step.ensures.clean, late) in
+          let mid : HasCleanDisk (state g.S.Store before) = omega (arith, c.step.ensures.lasts.clean, late) in
           let last = stepped.1 late in (
             subst (λ h. IsTrue (state g.S.Store h).is_open) (sym same) last.0.0.is_open,
             read_all g.S.Store g.T.Record.read c.args.sql.now (bound c.args.params.now) (state g.S.Store c.args.conn.now) before after so.0
@@ -98,5 +98,5 @@ returns-in_err-step-clause-fed g c =
     (subst (HasTaken g.T.GivenTo.takes c.args.sink.now so.0) (sym c.in_err-step.ensures.same) so.1)
     (λ clean.
     let late : HasCleanDisk (state g.S.Store after) = subst (λ h. HasCleanDisk (state g.S.Store h)) same clean in
-    let mid : HasCleanDisk (state g.S.Store before) = omega (arith, c.step.ensures.clean, late) in
+    let mid : HasCleanDisk (state g.S.Store before) = omega (arith, c.step.ensures.lasts.clean, late) in
     read_first g.S.Store g.T.Record.read c.args.sql.now (bound c.args.params.now) (state g.S.Store c.args.conn.now) before before so.0 (so.2 mid))

@@ -6,24 +6,19 @@ use Rattle.hall_sql.specs.Rows.{answer_in}
 use Rattle.hall_sql.specs.Statements.{answers_in_text}
 use Rattle.hall_sql.proofs.AnswerTexts.{listing_order, answer_columns, answers_in_is}
 use Rattle.hall_sql.proofs.PeopleTexts.{equals}
-use Rattle.hall_sql.proofs.FeedLemmas.{fed_before, fed_after}
+use Rattle.hall_sql.proofs.FeedLemmas.{fed_rows}
 use Rattle.hall_sql.proofs.FeedListings.{answers_in_selected}
 use Rattle.hall_sql.proofs.feed.feed_answers.Goals as goal
 
 pub feed-requires-clause-plain : goal.feed-requires-clause-plain
 feed-requires-clause-plain g c = answers_in_is.2
 
-pub returns-clause-begun : goal.returns-clause-begun
-returns-clause-begun g c =
+pub returns-clause-fed : goal.returns-clause-fed
+returns-clause-fed g c =
     let old = state g.S.Store c.args.conn.now in
     let params = Text c.args.round.now ∷ [] in
-    fed_before g.S.Store answer_in answers_in_text params 9 (equals 2 0 ∷ []) answer_columns listing_order _
+    fed_rows g.S.Store answer_in answers_in_text params 9 (equals 2 0 ∷ []) answer_columns listing_order _
     answers_in_is.0 answers_in_is.1 answers_in_is.2 (λ db. refl) g.K.AnswerSink.takes (λ world rows. IsListing world (is_in c.args.round.now) rows)
     old (state g.S.Store c.feed.new.conn) c.args.sink.now c.feed.new.sink c.feed.result c.requires.hall c.feed.ensures.rested
     (λ opened. (c.schema-schema.ensures.live opened).0) (answers_in_selected old c.args.round.now)
     (rw (c.params-to_sql.ensures, c.as_str.ensures.text) at c.feed.ensures.fed)
-
-pub returns-clause-fed : goal.returns-clause-fed
-returns-clause-fed g c =
-    fed_after g.K.AnswerSink.takes (λ world rows. IsListing world (is_in c.args.round.now) rows) (state g.S.Store c.args.conn.now)
-    (state g.S.Store c.feed.new.conn) c.args.sink.now c.feed.new.sink c.feed.result c.feed.ensures.rested (returns-clause-begun g c)

@@ -6,24 +6,19 @@ use Rattle.hall_sql.specs.Rows.{protest_in}
 use Rattle.hall_sql.specs.Statements.{protests_in_text}
 use Rattle.hall_sql.proofs.ProtestTexts.{key_order, protest_columns, protests_in_is}
 use Rattle.hall_sql.proofs.PeopleTexts.{equals}
-use Rattle.hall_sql.proofs.FeedLemmas.{fed_before, fed_after}
+use Rattle.hall_sql.proofs.FeedLemmas.{fed_rows}
 use Rattle.hall_sql.proofs.FeedListings.{protests_in_selected}
 use Rattle.hall_sql.proofs.feed.feed_protests.Goals as goal
 
 pub feed-requires-clause-plain : goal.feed-requires-clause-plain
 feed-requires-clause-plain g c = protests_in_is.2
 
-pub returns-clause-begun : goal.returns-clause-begun
-returns-clause-begun g c =
+pub returns-clause-fed : goal.returns-clause-fed
+returns-clause-fed g c =
     let old = state g.S.Store c.args.conn.now in
     let params = Text c.args.round.now ∷ [] in
-    fed_before g.S.Store protest_in protests_in_text params 12 (equals 2 0 ∷ []) protest_columns key_order _
+    fed_rows g.S.Store protest_in protests_in_text params 12 (equals 2 0 ∷ []) protest_columns key_order _
     protests_in_is.0 protests_in_is.1 protests_in_is.2 (λ db. refl) g.K.ProtestSink.takes (λ world rows. rows ≡ protests_in world c.args.round.now)
     old (state g.S.Store c.feed.new.conn) c.args.sink.now c.feed.new.sink c.feed.result c.requires.hall c.feed.ensures.rested
     (λ opened. (c.schema-schema.ensures.live opened).0) (protests_in_selected old c.args.round.now)
     (rw (c.params-to_sql.ensures, c.as_str.ensures.text) at c.feed.ensures.fed)
-
-pub returns-clause-fed : goal.returns-clause-fed
-returns-clause-fed g c =
-    fed_after g.K.ProtestSink.takes (λ world rows. rows ≡ protests_in world c.args.round.now) (state g.S.Store c.args.conn.now)
-    (state g.S.Store c.feed.new.conn) c.args.sink.now c.feed.new.sink c.feed.result c.feed.ensures.rested (returns-clause-begun g c)

@@ -16,6 +16,6 @@ loop-table-preserved g c =
       it.same_reference ∙ so.0,
       carries_then base s after so.1 goes it.carries,
       λ clean mode.
-          let was : HasCleanDisk s = omega (arith, it.carries.falls, clean) in
+          let was : HasCleanDisk s = omega (arith, it.carries.lasts.clean, clean) in
           more_grown c.args.tables.now c.loop-table.table-index _ base s after c.loop-table-test.true (so.2 was mode) (it.done clean (goes was mode)),
     )

@@ -16,6 +16,6 @@ loop-person-preserved g c =
       it.same_reference ∙ so.0,
       carries_then base s after so.1 goes it.carries,
       λ clean mode.
-          let was : HasCleanDisk s = omega (arith, it.carries.falls, clean) in
+          let was : HasCleanDisk s = omega (arith, it.carries.lasts.clean, clean) in
           more_imported c.args.people.now c.loop-person.person-index c.person-item.result base s after c.loop-person-test.true c.person-item.is (so.2 was mode) (it.done clean (goes was mode)),
     )

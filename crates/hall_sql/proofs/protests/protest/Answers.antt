@@ -25,7 +25,7 @@ pub returns-clause-alone : goal.returns-clause-alone
 returns-clause-alone g c clean =
     let rested = c.ask.ensures.rested in
     let opens = c.in_ok-rows.ensures.serves clean in
-    let was : HasCleanDisk (state g.S.Store c.args.conn.now) = omega (arith, rested.follows.clean, clean) in
+    let was : HasCleanDisk (state g.S.Store c.args.conn.now) = omega (arith, rested.follows.lasts.clean, clean) in
     let opened = rested.follows.opened clean opens in
     let has : (state g.S.Store c.args.conn.now).now.schema ≡ hall_schema = (c.requires.hall.settled was opened).1 in
     IfOk-weaker c.at_most_one.result _ _

@@ -16,7 +16,7 @@ pub returns-clause-found : goal.returns-clause-found
 returns-clause-found g c clean =
     let rested = c.ask.ensures.rested in
     let opens = c.in_ok-ask.ensures.serves clean in
-    let was : HasCleanDisk (state g.S.Store c.args.conn.now) = omega (arith, rested.follows.clean, clean) in
+    let was : HasCleanDisk (state g.S.Store c.args.conn.now) = omega (arith, rested.follows.lasts.clean, clean) in
     let opened = rested.follows.opened clean opens in
     let has : (state g.S.Store c.args.conn.now).now.schema ≡ hall_schema = (c.requires.hall.settled was opened).1 in
     let many = puzzle_looked c.args.key.now (state g.S.Store c.args.conn.now) (state g.S.Store c.ask.new.conn) c.in_ok-ask.field-0.items has (rw (c.params-to_sql.ensures, c.params-to_sql-2.ensures, c.as_str.ensures.text, c.as_str-2.ensures.text) at (c.in_ok-ask.ensures.shown clean)) in

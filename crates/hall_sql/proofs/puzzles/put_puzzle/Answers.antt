@@ -6,4 +6,4 @@ use Rattle.hall_sql.proofs.puzzles.put_puzzle.Goals as goal
 pub returns : goal.returns
 returns g c =
     rested_then (PutPuzzle c.args.row.now) (state g.S.Store c.args.conn.now) (state g.S.Store c.look.new.conn) _ c.put_found.result
-    c.look.ensures.rested c.in_ok-count.ensures.serves c.put_found.ensures.wrote
+    c.look.ensures.rested c.in_ok-count.ensures.serves c.put_found.ensures

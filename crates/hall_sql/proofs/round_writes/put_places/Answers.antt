@@ -19,6 +19,6 @@ loop-entry-preserved g c =
       ap (λ n. n + 1) so.1,
       carries_then base s after so.2 goes it.carries,
       λ clean mode.
-          let was : HasCleanDisk s = omega (arith, it.carries.falls, clean) in
+          let was : HasCleanDisk s = omega (arith, it.carries.lasts.clean, clean) in
           more_did c.args.id.now entries i c.loop-entry.number c.entry-item.result base s after so.1 c.loop-entry-test.true c.entry-item.is (so.3 was mode) (it.done clean (goes was mode)),
     )

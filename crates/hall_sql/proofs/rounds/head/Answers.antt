@@ -24,7 +24,7 @@ returns-clause-alone g c clean =
     let new = state g.S.Store c.ask.new.conn in
     let rested = c.ask.ensures.rested in
     let opens = c.in_ok-rows.ensures.serves clean in
-    let was : HasCleanDisk old = omega (arith, rested.follows.clean, clean) in
+    let was : HasCleanDisk old = omega (arith, rested.follows.lasts.clean, clean) in
     let has : old.now.schema ≡ hall_schema = (c.requires.hall.settled was (rested.follows.opened clean opens)).1 in
     IfOk-weaker c.at_most_one.result _ _ (λ o h. head_stays c.args.id.now old new o (rested.same clean opens)
     (head_alone c.args.id.now old new c.in_ok-rows.rows.items c.in_ok-read_all.field-0.items o has

@@ -15,6 +15,6 @@ returns-clause-served g c =
     (λ clean.
     let rested = c.places_of.ensures.rested in
     let places = c.in_ok-places.ensures.served clean in
-    let was : HasCleanDisk mid = omega (arith, rested.follows.clean, clean) in
+    let was : HasCleanDisk mid = omega (arith, rested.follows.lasts.clean, clean) in
     let head = (c.in_ok-head.ensures.served was).1 ∙ ap (λ (d : Database). get (world_of d.trees).rounds c.args.id.now) (sym (rested.same clean places.0)) in
     c.row_of.ensures (world_of new.now.trees) c.args.id.now head places.1.whole)

@@ -1,5 +1,4 @@
-use Rattle.std.proofs.Common.{rules, arith, ◌≡◌, ◌≤◌, ◌∙◌, Some, None, refl, sym, ap, subst}
-use Rattle.sqlite_trees.specs.View.{doubt}
+use Rattle.std.proofs.Common.{rules, arith, ◌≡◌, ◌∙◌, Some, None, refl, sym, ap, subst}
 use Rattle.sqlite.specs.Effect.{Database}
 use Rattle.sqlite.specs.Held.{state}
 use Rattle.sqlite.specs.State.{HasCleanDisk, IsUnchanged}
@@ -8,6 +7,7 @@ use Rattle.hall_sql.specs.Tables.{hall_schema}
 use Rattle.hall_sql.specs.Standing.{AreKeyed}
 use Rattle.hall_sql.specs.Statements.{rowids_text}
 use Rattle.hall_sql.specs.Scan.{tree_of, Scanned}
+use Rattle.hall_sql.proofs.LastLemmas.{survived, last_then}
 use Rattle.hall_sql.proofs.CallLemmas.{query_refused}
 use Rattle.hall_sql.proofs.ScanLemmas.{scan_begun, scanned_end, scanned_more, ints_chain}
 use Rattle.hall_sql.proofs.scan.check_rowids.Goals as goal
@@ -22,7 +22,7 @@ pub scan-init : goal.scan-init
 scan-init g c =
     let it = c.in-Ok.ensures in (
       refl,
-      it.survives.clean,
+      survived _ _ _ it.survives,
       λ clean.
           let was : HasCleanDisk (state g.S.Store c.args.conn.now) = omega (arith, it.survives.clean, clean) in
           scan_begun g.S.Store c.args.table c.args.conn.now c.in-Ok.rows.conn.now (c.requires.schema was) (rw c.rowids_text.ensures at it.begun clean),
@@ -35,8 +35,8 @@ returns-in_default-clause-scanned g c clean =
     let after = state g.S.Store c.next_id.new.rows.conn.now in
     let same : c.conn-in_default-1.given.0 ≡ c.next_id.new.rows.conn.now = search rules in
     let late : HasCleanDisk after = subst (λ h. HasCleanDisk (state g.S.Store h)) same clean in
-    let mid : HasCleanDisk before = omega (arith, c.next_id.ensures.clean, late) in
-    let was : HasCleanDisk old = omega (arith, c.scan.invariant.1, mid) in
+    let mid : HasCleanDisk before = omega (arith, c.next_id.ensures.lasts.clean, late) in
+    let was : HasCleanDisk old = omega (arith, c.scan.invariant.1.clean, mid) in
     let so = c.scan.invariant.2 mid in
     let none : c.in_ok-id.field-0 ≡ None = search rules in
     let it = subst (Scanned g.S.Store c.scan.rows.conn.now c.next_id.new.rows.conn.now c.scan.last) none (c.in_ok-id.ensures.scanned late) in
@@ -50,11 +50,11 @@ scan-preserved g c =
     let old = state g.S.Store c.args.conn.now in
     let before = state g.S.Store c.scan.rows.conn.now in
     let after = state g.S.Store c.next_id.new.rows.conn.now in
-    let falls : doubt old.is_clean ≤ doubt after.is_clean = omega (arith, c.scan.invariant.1, c.next_id.ensures.clean) in (
+    let lasts = last_then old before after c.scan.invariant.1 c.next_id.ensures.lasts in (
       c.next_id.ensures.same_reference ∙ c.scan.invariant.0,
-      falls,
+      lasts,
       λ clean.
-          let mid : HasCleanDisk before = omega (arith, c.next_id.ensures.clean, clean) in
+          let mid : HasCleanDisk before = omega (arith, c.next_id.ensures.lasts.clean, clean) in
           let so = c.scan.invariant.2 mid in
           let is : c.in_ok-id.field-0 ≡ Some c.in-Some.id = search rules in
           let it = subst (Scanned g.S.Store c.scan.rows.conn.now c.next_id.new.rows.conn.now c.scan.last) is (c.in_ok-id.ensures.scanned clean) in

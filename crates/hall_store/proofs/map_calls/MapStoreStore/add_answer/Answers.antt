@@ -1,4 +1,4 @@
-use Rattle.std.proofs.Common.{◌≡◌, Result, Ok, Err, OnOk, OnErr, sym, ap, ◌∙◌, subst, map, List}
+use Rattle.std.proofs.Common.{arith, inl, ◌≡◌, Result, Ok, Err, OnOk, OnErr, sym, ap, ◌∙◌, subst, map, List}
 use Rattle.std.specs.FinMap.{from_entries, insert}
 use Rattle.std.specs.BTreeMap as tree
 use Rattle.hall_policy.specs.World.{answer_cmp}
@@ -28,8 +28,8 @@ returns-clause-makes c =
     ap (λ (es : List (AnswerSlot × AnswerRow)). from_entries {R = answer_cmp} (map answer_in es)) c.in_ok-put.ensures.entries
     ∙ answer_put slot row old.answers.entries (slot_free old slot row own can) (key_fresh old slot row own can) in
     record {
-      leads = record { honest = λ h. h; serves = λ h s. s };
-      made = λ _ _. (tt, λ i. record (world_of old) { answers = made i });
+      leads = record { honest = λ h. h; serves = λ h s. s; counts = omega arith; lasts = λ h s. inl s };
+      made = λ _. (tt, λ i. record (world_of old) { answers = made i });
     }
 
 pub invariant_of-self : goal.invariant_of-self

@@ -1,4 +1,4 @@
-use Rattle.std.proofs.Common.{◌≡◌, ap, sym, ◌∙◌}
+use Rattle.std.proofs.Common.{arith, inl, ◌≡◌, ap, sym, ◌∙◌}
 use Rattle.std.specs.FinMap.{from_entries, insert}
 use Rattle.hall_policy.specs.World.{protest_cmp}
 use Rattle.hall_policy.specs.declared.record.ProtestKey.{ProtestKey}
@@ -16,8 +16,8 @@ returns-clause-makes c =
     inserted protest_total same_protest_keys old.protests.entries c.put.new.map.entries c.in_ok-key.key c.args.row c.in_ok-put.ensures.updates.0
     ∙ ap (λ (k : ProtestKey). insert (from_entries {R = protest_cmp} old.protests.entries) k c.args.row) (sym c.in_ok-key.ensures.own) in
     record {
-      leads = record { honest = λ h. h; serves = λ h s. s };
-      made = λ _ _. (tt, λ i. record (world_of old) { protests = made i });
+      leads = record { honest = λ h. h; serves = λ h s. s; counts = omega arith; lasts = λ h s. inl s };
+      made = λ _. (tt, λ i. record (world_of old) { protests = made i });
     }
 
 pub invariant_of-self : goal.invariant_of-self

@@ -1,3 +1,4 @@
+use Rattle.std.proofs.Common.{inl, arith}
 use Rattle.hall_policy.proofs.Orders.{text_total, same_texts}
 use Rattle.hall_store.specs.Keyed.{IsRoundIndexed}
 use Rattle.hall_store.specs.Maps.{world_of}
@@ -16,8 +17,8 @@ returns-clause-makes c =
     let heads = heads_inserted es fs row.round.id row put.ok.0 put.was_ordered put.ordered in
     let places = places_relisted es fs row.round.id row put.ok.0 put.was_ordered put.ordered in
     record {
-      leads = record { honest = λ h. h; serves = λ h s. s };
-      made = λ _ _. (tt, λ i. record (world_of old) { rounds = heads i; places = places i });
+      leads = record { honest = λ h. h; serves = λ h s. s; counts = omega arith; lasts = λ h s. inl s };
+      made = λ _. (tt, λ i. record (world_of old) { rounds = heads i; places = places i });
     }
 
 pub invariant_of-self-2 : goal.invariant_of-self-2

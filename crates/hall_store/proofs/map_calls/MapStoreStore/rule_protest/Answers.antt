@@ -1,4 +1,4 @@
-use Rattle.std.proofs.Common.{◌≡◌, Some, None, sym, ap, ◌∙◌, rules}
+use Rattle.std.proofs.Common.{arith, inl, ◌≡◌, Some, None, sym, ap, ◌∙◌, rules}
 use Rattle.std.specs.Option.{option_copied_mut}
 use Rattle.std.specs.Map.{lookup}
 use Rattle.std.specs.BTreeMap.{is_at}
@@ -34,8 +34,8 @@ returns-clause-makes c =
     let made : from_entries {R = protest_cmp} (c.get_mut.follows.lender new).entries ≡ insert (from_entries es) key new =
     inserted protest_total same_protest_keys es (c.get_mut.follows.lender new).entries key new ((c.get_mut.follows.holds new).3 (search rules)).0 in
     record {
-      leads = record { honest = λ h. h; serves = λ h s. s };
-      made = λ _ _. (tt, (λ i. record (world_of old) { protests = made i }) ∙ ap (with_ruling (world_of old) key c.args.ruling) (sym found));
+      leads = record { honest = λ h. h; serves = λ h s. s; counts = omega arith; lasts = λ h s. inl s };
+      made = λ _. (tt, (λ i. record (world_of old) { protests = made i }) ∙ ap (with_ruling (world_of old) key c.args.ruling) (sym found));
     }
 
 pub invariant_of-self : goal.invariant_of-self

@@ -1,4 +1,4 @@
-use Rattle.std.proofs.Common.{◌≡◌, Some, None, sym, ap, ◌∙◌, refl, map, rules}
+use Rattle.std.proofs.Common.{arith, inl, ◌≡◌, Some, None, sym, ap, ◌∙◌, refl, map, rules}
 use Rattle.std.specs.List.{flat_map}
 use Rattle.std.specs.Option.{option_map, option_copied_mut}
 use Rattle.std.specs.Map.{lookup}
@@ -44,8 +44,8 @@ returns-clause-makes c =
     heads_inserted es fs id new updates before holds.4 ∙ ap (λ (r : Round). insert (from_entries {R = text_cmp} (map head_of es)) id r) c.set_flag.ensures in
     let places : from_entries {R = place_cmp} (flat_map places_in fs) ≡ from_entries (flat_map places_in es) = places_same es fs id new updates before holds.4 row seen refl in
     record {
-      leads = record { honest = λ h. h; serves = λ h s. s };
-      made = λ _ _. (tt, (λ i. record (world_of old) { rounds = heads i; places = places i }) ∙ ap (with_flag (world_of old) id c.args.flag) (sym kept));
+      leads = record { honest = λ h. h; serves = λ h s. s; counts = omega arith; lasts = λ h s. inl s };
+      made = λ _. (tt, (λ i. record (world_of old) { rounds = heads i; places = places i }) ∙ ap (with_flag (world_of old) id c.args.flag) (sym kept));
     }
 
 pub invariant_of-self : goal.invariant_of-self

@@ -1,0 +1,52 @@
+-- What calls leave of a connection, one after another.
+use Rattle.std.proofs.Common.{true, inl, inr, ℕ, ◌+◌, ◌-◌, ◌^◌, ◌≤◌, min, arith}
+use Rattle.std.proofs.lemmas.Bool.{cases_lt}
+use Rattle.sqlite_trees.specs.declared.store.Store.{Ghosts}
+use Rattle.sqlite.specs.Tree.{Trees}
+use Rattle.sqlite.specs.Held.{Held, state}
+use Rattle.sqlite.specs.State.{State, HasCleanDisk, Survives}
+use Rattle.hall_store.specs.Store.{Leads, MoreFaults}
+use Rattle.hall_store.proofs.Knowing.{lasts_then}
+use Rattle.hall_sql.specs.Standing.{Lasts, Follows, content_of}
+
+more_faults : (a b : ℕ) → min (a + 1) (2 ^ 64 - 1) ≤ b → MoreFaults a b
+more_faults a b more = elim (cases_lt a b) [
+  | inl less ↦ inl less
+  | inr top ↦ inr (omega (arith, more, top))
+]
+
+-- what the crate `sqlite` says that a call leaves
+pub survived : (old new : State) (Commits : Trees → Type 0) → Survives old new Commits → Lasts old new
+survived old new Commits it = record {
+  clean = it.clean;
+  counts = it.counts;
+  closes = λ clean opens. elim (it.closes clean opens) [
+    | inl left ↦ inl left
+    | inr more ↦ inr (more_faults old.faults new.faults more)
+  ];
+}
+
+pub last_none : (s : State) → Lasts s s
+last_none s = record { clean = omega arith; counts = omega arith; closes = λ clean opens. inl opens }
+
+pub last_then : (a b c : State) → Lasts a b → Lasts b c → Lasts a c
+last_then a b c first second = record {
+  clean = omega (arith, first.clean, second.clean);
+  counts = omega (arith, first.counts, second.counts);
+  closes = λ clean.
+      let mid : HasCleanDisk b = omega (arith, second.clean, clean) in
+      lasts_then (content_of a) (content_of b) (content_of c) first.counts second.counts (first.closes mid) (second.closes clean);
+}
+
+-- a transaction that begins leaves what a connection shows, but for its mode
+pub last_begun : {S : Type 0} (g : Ghosts S) (held : Held S) (mid : State) → Lasts (state g (record held { in_transaction = true })) mid → Lasts (state g held) mid
+last_begun g held mid it = record { clean = it.clean; counts = it.counts; closes = it.closes }
+
+-- what follows leads on
+pub follows_leads : (old new : State) → Follows old new → Leads (content_of old) (content_of new)
+follows_leads old new follows = record {
+  honest = λ clean. let was : HasCleanDisk old = omega (arith, follows.lasts.clean, clean) in was;
+  serves = follows.opened;
+  counts = follows.lasts.counts;
+  lasts = follows.lasts.closes;
+}
