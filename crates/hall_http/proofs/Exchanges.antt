@@ -1,18 +1,20 @@
 -- What the loop of a connection keeps, and how each of its ends follows.
-use Rattle.std.proofs.Common.{◌≡◌, ◌≢◌, ◌∙◌, sym, ap, subst, refl, arith, ℕ, ◌+◌, ◌<◌, ◌≤◌, inl, inr, List, [], ◌∷◌, ◌++◌}
+use Rattle.std.proofs.Common.{◌≡◌, ◌≢◌, ◌⊎◌, ◌∙◌, sym, ap, subst, refl, arith, ℕ, ◌+◌, ◌<◌, ◌≤◌, inl, inr, List, [], ◌∷◌, ◌++◌}
 use Rattle.std.proofs.Common.{length, take, drop, Option, append_assoc, length-append, length-drop}
 use Rattle.std.proofs.lemmas.List.{append-nil, take-append-drop}
 use Rattle.std.proofs.lemmas.List.Concat.{flat_map-append}
 use Rattle.std.proofs.lemmas.List.Elements.{All-nil, All-push}
 use Rattle.std.proofs.KnownBytes.{Appends-nil, Appends-trans, Consumes-nil, Consumes-trans}
 use Rattle.std.specs.Io.KnownBytes.{Appends, Consumes}
-use Rattle.hall_grid.specs.Device.{HasFailed}
-use Rattle.hall_http.specs.Head.{IsRequest, IsWhole, HasNone, NeverHas}
+use Rattle.hall_grid.specs.Device.{HasFailed, MadeCalls, Rises}
+use Rattle.hall_http.specs.Head.{IsRequest, IsWhole, IsUnfinished, NeverHas}
+use Rattle.hall_http.specs.Reading.{Reading, IsLast, at_first, after_read, after_answer}
+use Rattle.hall_http.proofs.Readings.{one_call_more}
 use Rattle.httparse.specs.Grammar.{RequestHead}
 use Rattle.hall_http.specs.Device.{WritesPart}
 use Rattle.hall_http.specs.Inbox.{ReadsMore}
 use Rattle.hall_http.specs.Connection.{Exchange, Exchanged, Session, requests_of, replies_of, AreOpen, IsOpen, IsClosing, closes}
-use Rattle.hall_http.specs.Served.{IsHandled, Ended, IsNoRequest, MayGoOn, refusal}
+use Rattle.hall_http.specs.Served.{IsHandled, Ended, IsNoRequest, MayGoOn, HaveRead, IsLastRequest, refusal}
 use Rattle.hall_http.specs.Sending.{Refuses, EndsInput}
 use Rattle.hall_http.specs.declared.connection.ServeEnd.{ServeEnd}
 use Rattle.hall_http.specs.declared.connection.ServeEnd.TheVariants as end
@@ -51,34 +53,41 @@ module _ {H C : Type 0} (answers : H → Option ℕ → List ℕ → List ℕ �
 
   -- after some turns: the requests answered, and what was read after them
   pub record Kept (stream after wrote written : Option (List ℕ)) (h : H) (c : C) (i : H) (d : C)
-      (inbox : List ℕ) (requests reads : ℕ) : Type 0 where
+      (inbox : List ℕ) (requests reads asked asks : ℕ) : Type 0 where
     pub done : List Exchange
     pub count : length done ≡ requests
     pub session : Session answers now_gives h c done i d
     pub consumed : Consumes stream after (requests_of done ++ inbox)
-    pub pieces : reads ≤ length (requests_of done ++ inbox)
+    pub reading : HaveRead done reads inbox
+    pub made : MadeCalls reads asked asks
+    pub latest : (requests < 1000)
+        ⊎ ((before : List Exchange) × (last : Exchange) × IsLastRequest before last done reads inbox)
     pub replied : Appends wrote written (replies_of done)
     pub opened : AreOpen done
     pub bounded : length inbox ≤ 81920
 
-  pub kept_start : (stream wrote : Option (List ℕ)) (h : H) (c : C) → Kept stream stream wrote wrote h c h c [] 0 0
-  kept_start stream wrote h c = record {
+  pub kept_start : (stream wrote : Option (List ℕ)) (h : H) (c : C) (asked : ℕ)
+      → Kept stream stream wrote wrote h c h c [] 0 0 asked asked
+  kept_start stream wrote h c asked = record {
     done = [];
     count = refl;
     session = (refl, refl);
     consumed = Consumes-nil stream;
-    pieces = omega arith;
+    reading = at_first;
+    made = inl (omega arith);
+    latest = inl (omega arith);
     replied = Appends-nil wrote;
     opened = All-nil (λ x. IsOpen x.request);
     bounded = omega arith;
   }
 
   module _ (stream after wrote written : Option (List ℕ)) (h : H) (c : C) (m : H) (n : C) (inbox : List ℕ)
-      (requests reads : ℕ) (kept : Kept stream after wrote written h c m n inbox requests reads) where
-    pub kept_read : (then : Option (List ℕ)) (piece : List ℕ) → 0 < length piece → length piece ≤ 4096
-        → length inbox < 73728 → Consumes after then piece
-        → Kept stream then wrote written h c m n (inbox ++ piece) requests (reads + 1)
-    kept_read then piece some few room more =
+      (requests reads asked asks : ℕ)
+      (kept : Kept stream after wrote written h c m n inbox requests reads asked asks) where
+    pub kept_read : (then : Option (List ℕ)) (piece : List ℕ) (later : ℕ) → requests < 1000 → IsUnfinished inbox
+        → 0 < length piece → length piece ≤ 4096 → Consumes after then piece → Rises asks later
+        → Kept stream then wrote written h c m n (inbox ++ piece) requests (reads + 1) asked later
+    kept_read then piece later room unfinished some few more rise =
         let all : requests_of kept.done ++ (inbox ++ piece) ≡ (requests_of kept.done ++ inbox) ++ piece =
         sym (append_assoc (requests_of kept.done) inbox piece) in
         record {
@@ -86,24 +95,26 @@ module _ {H C : Type 0} (answers : H → Option ℕ → List ℕ → List ℕ �
           count = kept.count;
           session = kept.session;
           consumed = rw all (Consumes-trans stream after then (requests_of kept.done ++ inbox) piece kept.consumed more);
-          pieces = rw all (omega (arith, kept.pieces, length-append (requests_of kept.done ++ inbox) piece));
+          reading = after_read kept.done reads inbox piece kept.reading unfinished some few;
+          made = one_call_more reads asked asks later kept.made rise;
+          latest = inl room;
           replied = kept.replied;
           opened = kept.opened;
-          bounded = omega (arith, length-append inbox piece);
+          bounded = omega (arith, length-append inbox piece, unfinished.short);
         }
 
     shorter : (size : ℕ) → length (drop size inbox) ≤ 81920
     shorter size = omega (arith, kept.bounded, length-drop size inbox)
 
     -- one more request is answered
-    module _ (x : Exchange) (i : H) (d : C) (size : ℕ) (asked : x.request ≡ take size inbox)
+    module _ (x : Exchange) (i : H) (d : C) (size : ℕ) (asks_for : x.request ≡ take size inbox)
         (exchanged : Exchanged answers now_gives m n x i d) where
       abbrev all : List Exchange
       all = kept.done ++ x ∷ []
 
       same_bytes : requests_of all ++ drop size inbox ≡ requests_of kept.done ++ inbox
       same_bytes =
-          ap (λ s. s ++ drop size inbox) (requests_more kept.done x ∙ ap (λ s. requests_of kept.done ++ s) asked)
+          ap (λ s. s ++ drop size inbox) (requests_more kept.done x ∙ ap (λ s. requests_of kept.done ++ s) asks_for)
           ∙ append_assoc (requests_of kept.done) (take size inbox) (drop size inbox)
           ∙ ap (λ s. requests_of kept.done ++ s) (take-append-drop size inbox)
 
@@ -118,109 +129,157 @@ module _ {H C : Type 0} (answers : H → Option ℕ → List ℕ → List ℕ �
           rw (replies_more kept.done x)
           (Appends-trans wrote written then (replies_of kept.done) x.reply kept.replied sent)
 
+      before_it : HaveRead kept.done reads (x.request ++ drop size inbox)
+      before_it =
+          subst (HaveRead kept.done reads)
+          (sym (ap (λ s. s ++ drop size inbox) asks_for ∙ take-append-drop size inbox)) kept.reading
+
+      is_last : IsLastRequest kept.done x all reads (drop size inbox)
+      is_last = record { all = refl; reading = before_it }
+
       pub kept_answered : (then : Option (List ℕ)) → IsOpen x.request → Appends written then x.reply
-          → Kept stream after wrote then h c i d (drop size inbox) (requests + 1) reads
+          → Kept stream after wrote then h c i d (drop size inbox) (requests + 1) reads asked asks
       kept_answered then stays sent = record {
         done = all;
         count = one_more;
         session = longer;
         consumed = rw same_bytes kept.consumed;
-        pieces = rw same_bytes kept.pieces;
+        reading = after_answer kept.done reads (drop size inbox) x before_it;
+        made = kept.made;
+        latest = inr (kept.done, x, is_last);
         replied = replied_all then sent;
         opened = All-push (λ x. IsOpen x.request) kept.done x kept.opened stays;
         bounded = shorter size;
       }
 
-      module _ (read_failed write_failed : Type 0) (room : requests < 1000) (then : Option (List ℕ)) where
-        ends_after : (e : ServeEnd) → Ended e after wrote then all (drop size inbox) read_failed write_failed
-            → IsHandled answers now_gives stream after wrote then h c i d read_failed write_failed e
+      module _ (read_failed write_failed : Type 0) (room : requests < 1000) (seldom : reads ≤ 100000)
+          (then : Option (List ℕ)) where
+        ends_after : (e : ServeEnd) → Ended e after wrote then all (drop size inbox) reads reads read_failed write_failed
+            → IsHandled answers now_gives stream after wrote then h c i d read_failed write_failed asked asks e
         ends_after e ended = record {
           exchanges = all;
           unread = drop size inbox;
+          pieces = reads;
+          reads = reads;
           session = longer;
           few = omega (arith, one_more);
+          seldom = seldom;
+          made = kept.made;
+          reading = after_answer kept.done reads (drop size inbox) x before_it;
           consumed = rw same_bytes kept.consumed;
           bounded = shorter size;
           ended = ended;
         }
 
         pub closes_last : IsClosing x.request → Appends written then x.reply
-            → IsHandled answers now_gives stream after wrote then h c i d read_failed write_failed end.Closed
+            → IsHandled answers now_gives stream after wrote then h c i d read_failed write_failed asked asks end.Closed
         closes_last shut sent =
-            ends_after end.Closed (replied_all then sent, inr (kept.done, x, refl, kept.opened, shut))
+            ends_after end.Closed (replied_all then sent, inr ((kept.done, x, is_last, kept.opened, shut), refl))
 
         -- the reply couldn't be written whole
         pub unsent : WritesPart written then x.reply → write_failed
-            → IsHandled answers now_gives stream after wrote then h c i d read_failed write_failed end.Device
+            → IsHandled answers now_gives stream after wrote then h c i d read_failed write_failed asked asks end.Device
         unsent part rose =
-            ends_after end.Device (inr (inl ((kept.done, x, written, refl, kept.opened, kept.replied, part), rose)))
+            ends_after end.Device
+            (inr (inl ((kept.done, x, written, is_last, kept.opened, kept.replied, part), rose, refl)))
 
     -- no further request is answered
     module _ (read_failed write_failed : Type 0) (most : requests ≤ 1000) where
-      ends : (then last : Option (List ℕ)) (e : ServeEnd) → Consumes after then []
-          → Ended e then wrote last kept.done inbox read_failed write_failed
-          → IsHandled answers now_gives stream then wrote last h c m n read_failed write_failed e
-      ends then last e none ended = record {
+      ends : (then last : Option (List ℕ)) (total later : ℕ) (e : ServeEnd) → Consumes after then []
+          → MadeCalls total asked later → total ≤ 100000
+          → Ended e then wrote last kept.done inbox reads total read_failed write_failed
+          → IsHandled answers now_gives stream then wrote last h c m n read_failed write_failed asked later e
+      ends then last total later e none made seldom ended = record {
         exchanges = kept.done;
         unread = inbox;
+        pieces = reads;
+        reads = total;
         session = kept.session;
         few = omega (arith, kept.count);
+        seldom = seldom;
+        made = made;
+        reading = kept.reading;
         consumed = subst (λ s. Consumes stream then s) (append-nil (requests_of kept.done ++ inbox))
             (Consumes-trans stream after then (requests_of kept.done ++ inbox) [] kept.consumed none);
         bounded = kept.bounded;
         ended = ended;
       }
 
-      pub full : 1000 ≤ requests
-          → IsHandled answers now_gives stream after wrote written h c m n read_failed write_failed end.Limit
-      full least =
-          ends after written end.Limit (Consumes-nil after) (kept.replied, kept.opened, inl (omega (arith, kept.count)))
+      -- without a further read
+      stops : (last : Option (List ℕ)) (e : ServeEnd) → reads ≤ 100000
+          → Ended e after wrote last kept.done inbox reads reads read_failed write_failed
+          → IsHandled answers now_gives stream after wrote last h c m n read_failed write_failed asked asks e
+      stops last e seldom ended = ends after last reads asks e (Consumes-nil after) kept.made seldom ended
 
-      pub read_out : HasNone inbox → 100000 ≤ reads
-          → IsHandled answers now_gives stream after wrote written h c m n read_failed write_failed end.Limit
-      read_out none many =
-          ends after written end.Limit (Consumes-nil after)
-          (kept.replied, kept.opened, inr (none, omega (arith, kept.pieces)))
+      pub full : 1000 ≤ requests → reads ≤ 100000
+          → IsHandled answers now_gives stream after wrote written h c m n read_failed write_failed asked asks end.Limit
+      full least seldom =
+          stops written end.Limit seldom
+          (kept.replied, kept.opened, refl, inl (omega (arith, kept.count), answered kept.latest))
+        where
+          answered : (requests < 1000)
+              ⊎ ((before : List Exchange) × (last : Exchange) × IsLastRequest before last kept.done reads inbox)
+              → (before : List Exchange) × (last : Exchange) × IsLastRequest before last kept.done reads inbox
+          answered (inl fewer) = absurd (omega (arith, fewer, least))
+          answered (inr last) = last
 
       -- a further request may come
       module _ (room : requests < 1000) where
         goes_on : MayGoOn kept.done
         goes_on = (kept.opened, omega (arith, kept.count))
 
-        -- a read was refused
-        pub unread_device : (then : Option (List ℕ)) (now : List ℕ) (failed fails : ℕ) (e : ReadFault)
-            → ReadsMore after then inbox now failed fails (Err e) → HasNone inbox → length inbox < 73728
-            → (HasFailed failed fails → read_failed)
-            → IsHandled answers now_gives stream then wrote written h c m n read_failed write_failed end.Device
-        unread_device then now failed fails fault.Device (same, taken, rose) none few told =
-            ends then written end.Device taken (inl (kept.replied, goes_on, none, told rose))
-        unread_device then now failed fails fault.Memory (many, piece, more, steady) none few told = absurd (omega arith)
+        pub read_out : IsUnfinished inbox → reads ≡ 100000
+            → IsHandled answers now_gives stream after wrote written h c m n read_failed write_failed asked asks
+            end.Limit
+        read_out unfinished all =
+            stops written end.Limit (omega arith) (kept.replied, kept.opened, refl, inr (goes_on.1, all, unfinished))
 
         -- the bytes that are left are refused
-        pub refuses : (then last : Option (List ℕ)) (failed fails : ℕ) (e : ServeEnd) → Consumes after then []
-            → IsNoRequest then inbox → Refuses e written last failed fails → (HasFailed failed fails → write_failed)
-            → IsHandled answers now_gives stream then wrote last h c m n read_failed write_failed e
-        refuses then last failed fails end.BadHead taken none sent told =
-            ends then last end.BadHead taken
-            (Appends-trans wrote written last (replies_of kept.done) refusal kept.replied sent, goes_on, none)
-        refuses then last failed fails end.Device taken none (part, rose) told =
-            ends then last end.Device taken (inr (inr ((written, goes_on, kept.replied, part), none, told rose)))
-        refuses then last failed fails end.Closed taken none sent told = absurd sent
-        refuses then last failed fails end.Limit taken none sent told = absurd sent
-
-        -- the input is at its end
-        pub at_end : (then last : Option (List ℕ)) (now : List ℕ) (rf rg failed fails : ℕ) (e : ServeEnd)
-            → ReadsMore after then inbox now rf rg (Ok false) → HasNone inbox
-            → EndsInput now e written last failed fails → (HasFailed failed fails → write_failed)
-            → IsHandled answers now_gives stream then wrote last h c m n read_failed write_failed e
-        at_end then last now rf rg failed fails e (same, taken, over, steady) none (inl (empty, closed, unsaid)) told =
-            rw (closed, unsaid) (ends then written end.Closed taken (kept.replied, inl (goes_on, sym same ∙ empty, over)))
-        at_end then last now rf rg failed fails e (same, taken, over, steady) none (inr (some, sent)) told =
-            refuses then last failed fails e taken
-            (inl (not_nil inbox (subst (λ s. 0 < length s) same some), none, over)) sent told
-
-        pub never_request : (last : Option (List ℕ)) (failed fails : ℕ) (e : ServeEnd) → NeverHas inbox
+        refuses : (then last : Option (List ℕ)) (total later failed fails : ℕ) (e : ServeEnd) → Consumes after then []
+            → MadeCalls total asked later → total ≤ 100000 → IsNoRequest then inbox reads total
             → Refuses e written last failed fails → (HasFailed failed fails → write_failed)
-            → IsHandled answers now_gives stream after wrote last h c m n read_failed write_failed e
-        never_request last failed fails e never sent told =
-            refuses after last failed fails e (Consumes-nil after) (inr never) sent told
+            → IsHandled answers now_gives stream then wrote last h c m n read_failed write_failed asked later e
+        refuses then last total later failed fails end.BadHead taken made seldom none sent told =
+            ends then last total later end.BadHead taken made seldom
+            (Appends-trans wrote written last (replies_of kept.done) refusal kept.replied sent, goes_on, none)
+        refuses then last total later failed fails end.Device taken made seldom none (part, rose) told =
+            ends then last total later end.Device taken made seldom
+            (inr (inr ((written, goes_on, kept.replied, part), none, told rose)))
+        refuses then last total later failed fails end.Closed taken made seldom none sent told = absurd sent
+        refuses then last total later failed fails end.Limit taken made seldom none sent told = absurd sent
+
+        pub never_request : reads ≤ 100000 → (last : Option (List ℕ)) (failed fails : ℕ) (e : ServeEnd) → NeverHas inbox
+            → Refuses e written last failed fails → (HasFailed failed fails → write_failed)
+            → IsHandled answers now_gives stream after wrote last h c m n read_failed write_failed asked asks e
+        never_request seldom last failed fails e never sent told =
+            refuses after last reads asks failed fails e (Consumes-nil after) kept.made seldom (inr (never, refl)) sent told
+
+        -- after one read more
+        module _ (unfinished : IsUnfinished inbox) (seldom : reads < 100000) (then : Option (List ℕ)) (now : List ℕ)
+            (later : ℕ) (rise : Rises asks later) where
+          one_read : MadeCalls (reads + 1) asked later
+          one_read = one_call_more reads asked asks later kept.made rise
+
+          -- it was refused
+          pub unread_device : (failed fails : ℕ) (e : ReadFault) → ReadsMore after then inbox now failed fails (Err e)
+              → (HasFailed failed fails → read_failed)
+              → IsHandled answers now_gives stream then wrote written h c m n read_failed write_failed asked later
+              end.Device
+          unread_device failed fails fault.Device (same, taken, rose) told =
+              ends then written (reads + 1) later end.Device taken one_read (omega arith)
+              (inl (kept.replied, goes_on, unfinished, told rose, refl))
+          unread_device failed fails fault.Memory (many, piece, more, steady) told =
+              absurd (omega (arith, unfinished.short))
+
+          -- the input is at its end
+          pub at_end : (last : Option (List ℕ)) (rf rg failed fails : ℕ) (e : ServeEnd)
+              → ReadsMore after then inbox now rf rg (Ok false) → EndsInput now e written last failed fails
+              → (HasFailed failed fails → write_failed)
+              → IsHandled answers now_gives stream then wrote last h c m n read_failed write_failed asked later e
+          at_end last rf rg failed fails e (same, taken, over, steady) (inl (empty, closed, unsaid)) told =
+              rw (closed, unsaid)
+              (ends then written (reads + 1) later end.Closed taken one_read (omega arith)
+              (kept.replied, inl (goes_on, sym same ∙ empty, over, refl)))
+          at_end last rf rg failed fails e (same, taken, over, steady) (inr (some, sent)) told =
+              refuses then last (reads + 1) later failed fails e taken one_read (omega arith)
+              (inl (not_nil inbox (subst (λ s. 0 < length s) same some), unfinished, over, refl)) sent told

@@ -1,18 +1,18 @@
 -- The first request of some bytes, by the head at their front.
-use Rattle.std.proofs.Common.{◌≡◌, ◌∙◌, sym, ap, refl, ℕ, ◌+◌, ◌<◌, ◌≤◌, List, [], ◌++◌, length, take, drop, map, arith, append_assoc, length-append, Option, Some, None, true, false, if◌then◌else◌}
+use Rattle.std.proofs.Common.{◌≡◌, ◌∙◌, sym, ap, refl, ℕ, ◌+◌, ◌<◌, ◌≤◌, List, [], ◌++◌, length, take, drop, map, arith, append_assoc, length-append, ◌-◌, inl, inr, replicate, Option, Some, None, true, false, if◌then◌else◌}
 use Rattle.std.proofs.lemmas.Option.{same_Some}
-use Rattle.std.proofs.lemmas.List.{length-map, length-take-le, append-nil, take-append-le, take-append-drop, take_at}
+use Rattle.std.proofs.lemmas.List.{length-map, length-replicate, length-take-le, append-nil, take-append-le, take-append-drop, take_at}
 use Rattle.std.proofs.Math.Seq.{take-append-add}
 use Rattle.std.proofs.lemmas.Bool.{and_parts}
 use Rattle.std.specs.Prelude.{nat_le, ◌&&◌, Bool}
 use Rattle.hall_http.specs.Head.{named, Header, field_limit}
 use Rattle.std.specs.Prelude.{codes, ◌==◌}
-use Rattle.httparse.specs.Grammar.{RequestHead, ReadsRequest, HasNoRequest, print_request}
+use Rattle.httparse.specs.Grammar.{RequestHead, ReadsRequest, HasNoRequest, MayBecomeRequest, print_request}
 use Rattle.httparse.specs.Spans.{RequestOverflows, name_and_value, header_bytes, IsRequestAt}
 use Rattle.httparse.specs.declared.spans.HeaderSpan.{HeaderSpan}
 use Rattle.httparse.specs.declared.spans.RequestSpans.{RequestSpans}
 use Rattle.httparse.proofs.GrammarLemmas.{ReadsRequest-append, request_prefix_free}
-use Rattle.hall_http.specs.Head.{body_size, headers_of, IsWhole, HasNone, NeverHas, head_limit, is_accepted}
+use Rattle.hall_http.specs.Head.{body_size, headers_of, IsWhole, HasNone, NeverHas, IsUnfinished, length_in, head_limit, is_accepted, within}
 
 size_of : RequestHead → Option ℕ
 size_of h = body_size (length (print_request h)) (headers_of h)
@@ -82,3 +82,46 @@ never_over bytes over more front rest split (k, body, whole) =
 pub size_at : (bytes : List ℕ) (headers : List HeaderSpan) (r : RequestSpans) (h : RequestHead) → IsRequestAt bytes headers r h
     → body_size r.len (map (header_bytes bytes) (take r.headers headers)) ≡ body_size (length (print_request h)) (headers_of h)
 size_at bytes headers r h found = rw (found.len, found.fields) refl
+
+accepted_size : (n : ℕ) (b : Bool) (o : Option ℕ) → (if b then o else None) ≡ Some n → o ≡ Some n
+accepted_size n true o h = h
+accepted_size n false o h = cc
+
+fits_within : (limit m n : ℕ) (b : Bool) → nat_le m limit ≡ b → (if b then Some m else None) ≡ Some n → n ≤ limit
+fits_within limit m n true e h = let same : m ≡ n = same_Some _ _ h in grind (arith, e)
+fits_within limit m n false e h = cc
+
+within_limit : (limit n : ℕ) (o : Option ℕ) → within limit o ≡ Some n → n ≤ limit
+within_limit limit n None h = cc
+within_limit limit n (Some m) h = fits_within limit m n (nat_le m limit) refl h
+
+pub small_body : (size n : ℕ) (headers : List Header) → body_size size headers ≡ Some n → n ≤ 65536
+small_body size n headers h =
+    let asked = length_in (named (codes "content-length") headers) in
+    within_limit 65536 n asked (accepted_size n (is_accepted size headers) (within 65536 asked) h)
+
+-- a whole head, and a part of its body
+pub lacks_body : (bytes : List ℕ) (h : RequestHead) (after : List ℕ) (n : ℕ) → ReadsRequest bytes h after
+    → body_size (length (print_request h)) (headers_of h) ≡ Some n → length after < n → IsUnfinished bytes
+lacks_body bytes h after n reads size few =
+    let more : List ℕ = replicate (n - length after) 0 in
+    let long : n ≡ length (after ++ more) =
+    omega (arith, length-append after more, length-replicate {A = ℕ} (n - length after) 0) in
+    let small = (small_head (length (print_request h)) n (headers_of h) size).0 in
+    let body = small_body (length (print_request h)) n (headers_of h) size in
+    let all : length bytes ≡ length (print_request h) + length after =
+    ap length reads.1 ∙ length-append (print_request h) after in
+    record {
+      none = none_yet bytes h after n reads size few;
+      short = omega (arith, small, body, all);
+      possible = inl (
+        more,
+        (h, after ++ more, record { reads = ReadsRequest-append bytes h after more reads; size = size ∙ ap Some long }),
+      );
+    }
+
+-- no whole head so far
+pub lacks_head : (bytes : List ℕ) → HasNoRequest bytes → MayBecomeRequest bytes → length bytes < 8192
+    → IsUnfinished bytes
+lacks_head bytes none may few =
+    record { none = none_in bytes none; short = omega arith; possible = inr (few, may) }

@@ -12,5 +12,6 @@ pub mod Cutting
 pub mod Turns
 pub mod Refusals
 pub mod Requests
+pub mod Readings
 pub mod Exchanges
 pub mod Runs

@@ -137,10 +137,11 @@ runs_sane old xs new run h s sane =
     subst Sane (sym (over.2 s)) (run_sane old.world over.1.requests over.1.replies over.0 over.1.timed over.1.run sane)
 
 module _ {H C : Type 0} (content : H → Content) (now_gives : C → Option ℕ → C → Type 0)
-    (stream after wrote written : Option (List ℕ)) (h : H) (c : C) (i : H) (d : C) (read_failed write_failed : Type 0) where
+    (stream after wrote written : Option (List ℕ)) (h : H) (c : C) (i : H) (d : C) (read_failed write_failed : Type 0)
+    (asked asks : ℕ) where
   pub handled_served : (e : ServeEnd)
-      → IsHandled (answers content now_gives) now_gives stream after wrote written h c i d read_failed write_failed e
-      → IsServed now_gives stream after wrote written (content h) (content i) c d read_failed write_failed e
+      → IsHandled (answers content now_gives) now_gives stream after wrote written h c i d read_failed write_failed asked asks e
+      → IsServed now_gives stream after wrote written (content h) (content i) c d read_failed write_failed asked asks e
   handled_served e handled = record {
     exchanges = handled.exchanges;
     unread = handled.unread;
@@ -148,14 +149,19 @@ module _ {H C : Type 0} (content : H → Content) (now_gives : C → Option ℕ 
     moments = session_moments content now_gives h c handled.exchanges i d handled.session;
     leads = session_leads content now_gives h c handled.exchanges i d handled.session;
     run = session_runs content now_gives h c handled.exchanges i d handled.session;
+    pieces = handled.pieces;
+    reads = handled.reads;
     few = handled.few;
+    seldom = handled.seldom;
+    made = handled.made;
+    reading = handled.reading;
     consumed = handled.consumed;
     bounded = handled.bounded;
     ended = handled.ended;
   }
 
   pub handled_sane : (e : ServeEnd)
-      → IsHandled (answers content now_gives) now_gives stream after wrote written h c i d read_failed write_failed e
+      → IsHandled (answers content now_gives) now_gives stream after wrote written h c i d read_failed write_failed asked asks e
       → SaneThen Sane (content h) (content i)
   handled_sane e handled =
       runs_sane (content h) handled.exchanges (content i)
@@ -176,10 +182,11 @@ idle now_gives store clock = record {
 -- what a connection leaves, however it ended
 pub run_through : {H C E : Type 0} (content : H → Content) (now_gives : C → Option ℕ → C → Type 0)
     (stream after wrote written : Option (List ℕ)) (h : H) (c : C) (i : H) (d : C) (read_failed write_failed : Type 0)
-    (r : Result ServeEnd E)
-    → IfOk r (IsServed now_gives stream after wrote written (content h) (content i) c d read_failed write_failed)
+    (asked asks : ℕ) (r : Result ServeEnd E)
+    → IfOk r (IsServed now_gives stream after wrote written (content h) (content i) c d read_failed write_failed asked
+    asks)
     → OnErr r (i ≡ h) → OnErr r (d ≡ c) → IsRunThrough now_gives (content h) (content i) c d
-run_through content now_gives stream after wrote written h c i d read_failed write_failed (Ok e) served same stood =
+run_through content now_gives stream after wrote written h c i d read_failed write_failed asked asks (Ok e) served same stood =
     record {
       exchanges = served.exchanges;
       whole = served.whole;
@@ -188,5 +195,5 @@ run_through content now_gives stream after wrote written h c i d read_failed wri
       leads = served.leads;
       run = served.run;
     }
-run_through content now_gives stream after wrote written h c i d read_failed write_failed (Err e) served same stood =
+run_through content now_gives stream after wrote written h c i d read_failed write_failed asked asks (Err e) served same stood =
     rw (same, stood) (idle now_gives (content h) c)

@@ -7,15 +7,19 @@ use Rattle.std.proofs.lemmas.List.Concat.{flat_map-append}
 use Rattle.std.proofs.lemmas.List.Elements.{All-nil, All-push}
 use Rattle.std.proofs.KnownBytes.{Appends-nil, Appends-trans, Consumes-nil, Consumes-trans}
 use Rattle.std.specs.Io.KnownBytes.{Appends, Consumes}
+use Rattle.hall_grid.specs.Device.{MadeCalls, Rises}
 use Rattle.hall_store.specs.Store.{Content, Leads}
 use Rattle.hall_http.specs.declared.fault.ReplayFault.{ReplayFault}
 use Rattle.hall_http.specs.declared.fault.ReplayFault.TheVariants as fault
 use Rattle.hall_http.specs.Device.{WritesPart}
+use Rattle.hall_http.specs.Reading.{Reading, IsLast, at_first, after_read, after_answer}
 use Rattle.hall_http.specs.Records.{Record, IsRecord, record_bytes, header_of, HasNoRecord, NeverHasRecord, IsCut}
+use Rattle.hall_http.specs.Records.{IsUnfinishedRecord}
 use Rattle.hall_http.specs.Records.{bytes_between}
 use Rattle.hall_http.specs.Answered.{Answers, AnswersOver}
 use Rattle.hall_http.specs.Replay.{AnsweredRecord, exchange_of, exchanges_of, records_of, replies_to}
-use Rattle.hall_http.specs.Replay.{IsReplayed, Ended}
+use Rattle.hall_http.specs.Replay.{IsReplayed, Ended, HaveReadRecords}
+use Rattle.hall_http.proofs.Readings.{one_call_more}
 use Rattle.hall_http.specs.Inbox.{ReadsMore}
 use Rattle.hall_http.proofs.Exchanges.{not_nil}
 use Rattle.hall_http.proofs.Runs.{Onward, answering_more, onward_runs}
@@ -47,35 +51,38 @@ never_nil h =
 
 -- after some turns: the records answered, and what was read after them
 pub record Kept (stream after wrote written : Option (List ℕ)) (old new : Content)
-    (inbox : List ℕ) (reads : ℕ) : Type 0 where
+    (inbox : List ℕ) (reads asked asks : ℕ) : Type 0 where
   pub done : List AnsweredRecord
   pub whole : All (λ x. IsRecord x.asked) done
   pub leads : Leads old new
   pub onward : new.honest → Onward old.world (exchanges_of done) new
   pub consumed : Consumes stream after (records_of done ++ inbox)
-  pub pieces : reads ≤ length (records_of done ++ inbox)
+  pub reading : HaveReadRecords done reads inbox
+  pub made : MadeCalls reads asked asks
   pub replied : Appends wrote written (replies_to done)
   pub bounded : length inbox ≤ 81920
 
-pub kept_start : (stream wrote : Option (List ℕ)) (store : Content) → Kept stream stream wrote wrote store store [] 0
-kept_start stream wrote store =
+pub kept_start : (stream wrote : Option (List ℕ)) (store : Content) (asked : ℕ)
+    → Kept stream stream wrote wrote store store [] 0 asked asked
+kept_start stream wrote store asked =
     record {
       done = [];
       whole = All-nil (λ x. IsRecord x.asked);
       leads = record { honest = λ h. h; serves = λ h s. s };
       onward = λ h. (store.world, refl, λ s. refl);
       consumed = Consumes-nil stream;
-      pieces = omega arith;
+      reading = at_first;
+      made = inl (omega arith);
       replied = Appends-nil wrote;
       bounded = omega arith;
     }
 
-module _ (stream after wrote written : Option (List ℕ)) (old new : Content) (inbox : List ℕ) (reads : ℕ)
-    (kept : Kept stream after wrote written old new inbox reads) where
-  pub kept_read : (then : Option (List ℕ)) (piece : List ℕ) → 0 < length piece → length piece ≤ 4096
-      → length inbox < 73746 → Consumes after then piece
-      → Kept stream then wrote written old new (inbox ++ piece) (reads + 1)
-  kept_read then piece some few room more =
+module _ (stream after wrote written : Option (List ℕ)) (old new : Content) (inbox : List ℕ) (reads asked asks : ℕ)
+    (kept : Kept stream after wrote written old new inbox reads asked asks) where
+  pub kept_read : (then : Option (List ℕ)) (piece : List ℕ) (later : ℕ) → IsUnfinishedRecord inbox → 0 < length piece
+      → length piece ≤ 4096 → Consumes after then piece → Rises asks later
+      → Kept stream then wrote written old new (inbox ++ piece) (reads + 1) asked later
+  kept_read then piece later unfinished some few more rise =
       let all : records_of kept.done ++ (inbox ++ piece) ≡ (records_of kept.done ++ inbox) ++ piece =
       sym (append_assoc (records_of kept.done) inbox piece) in
       record {
@@ -84,9 +91,10 @@ module _ (stream after wrote written : Option (List ℕ)) (old new : Content) (i
         leads = kept.leads;
         onward = kept.onward;
         consumed = rw all (Consumes-trans stream after then (records_of kept.done ++ inbox) piece kept.consumed more);
-        pieces = rw all (omega (arith, kept.pieces, length-append (records_of kept.done ++ inbox) piece));
+        reading = after_read kept.done reads inbox piece kept.reading unfinished some few;
+        made = one_call_more reads asked asks later kept.made rise;
         replied = kept.replied;
-        bounded = omega (arith, length-append inbox piece);
+        bounded = omega (arith, length-append inbox piece, unfinished.1);
       }
 
   shorter : (size : ℕ) → length (drop size inbox) ≤ 81920
@@ -139,89 +147,131 @@ module _ (stream after wrote written : Option (List ℕ)) (old new : Content) (i
       serves = λ h s. kept.leads.serves (leads.honest h) (leads.serves h s);
     }
 
+    before_it : HaveReadRecords kept.done reads (record_bytes r ++ drop end inbox)
+    before_it =
+        subst (HaveReadRecords kept.done reads)
+        (sym (ap (λ s. s ++ drop end inbox) (sym cut.whole) ∙ take-append-drop end inbox)) kept.reading
+
+    after_it : HaveReadRecords all reads (drop end inbox)
+    after_it = after_answer kept.done reads (drop end inbox) x before_it
+
     pub kept_answered : (then : Option (List ℕ)) → Appends written then text
-        → Kept stream after wrote then old next (drop end inbox) reads
+        → Kept stream after wrote then old next (drop end inbox) reads asked asks
     kept_answered then sent = record {
       done = all;
       whole = whole_all;
       leads = led;
       onward = longer;
       consumed = rw same_bytes kept.consumed;
-      pieces = rw same_bytes kept.pieces;
+      reading = after_it;
+      made = kept.made;
       replied = rw (replies_more kept.done x)
           (Appends-trans wrote written then (replies_to kept.done) text kept.replied sent);
       bounded = shorter end;
     }
 
     -- the text couldn't be written whole
-    pub unsent : {U : Type 0} (then : Option (List ℕ)) (read_failed write_failed : Type 0) → WritesPart written then text
-        → write_failed → IsReplayed {U = U} stream after wrote then old next read_failed write_failed (Err fault.Device)
-    unsent then read_failed write_failed part rose = record {
+    pub unsent : {U : Type 0} (then : Option (List ℕ)) (read_failed write_failed : Type 0) → reads ≤ 1000000000
+        → WritesPart written then text → write_failed
+        → IsReplayed {U = U} stream after wrote then old next read_failed write_failed asked asks (Err fault.Device)
+    unsent then read_failed write_failed seldom part rose = record {
       answered = all;
       unread = drop end inbox;
+      pieces = reads;
+      reads = reads;
       whole = whole_all;
       leads = led;
       run = λ h. onward_runs old (exchanges_of all) next (longer h);
+      seldom = seldom;
+      made = kept.made;
+      reading = after_it;
       consumed = rw same_bytes kept.consumed;
       bounded = shorter end;
-      ended = inr ((kept.done, x, written, refl, kept.replied, part), rose);
+      ended = inr (
+        (kept.done, x, written, record { all = refl; reading = before_it }, kept.replied, part),
+        rose,
+        refl,
+      );
     }
+
+  one_read : (later : ℕ) → Rises asks later → MadeCalls (reads + 1) asked later
+  one_read later rise = one_call_more reads asked asks later kept.made rise
 
   module _ {U : Type 0} (read_failed write_failed : Type 0) where
     -- how it ends with no further record answered
-    ends : (then : Option (List ℕ)) (end : Result U ReplayFault) → Consumes after then []
-        → Ended end then wrote written kept.done inbox read_failed write_failed
-        → IsReplayed {U = U} stream then wrote written old new read_failed write_failed end
-    ends then end none ended = record {
+    ends : (then : Option (List ℕ)) (total later : ℕ) (end : Result U ReplayFault) → Consumes after then []
+        → MadeCalls total asked later → total ≤ 1000000000
+        → Ended end then wrote written kept.done inbox reads total read_failed write_failed
+        → IsReplayed {U = U} stream then wrote written old new read_failed write_failed asked later end
+    ends then total later end none made seldom ended = record {
       answered = kept.done;
       unread = inbox;
+      pieces = reads;
+      reads = total;
       whole = kept.whole;
       leads = kept.leads;
       run = λ h. onward_runs old (exchanges_of kept.done) new (kept.onward h);
+      seldom = seldom;
+      made = made;
+      reading = kept.reading;
       consumed = subst (λ s. Consumes stream then s) (append-nil (records_of kept.done ++ inbox))
           (Consumes-trans stream after then (records_of kept.done ++ inbox) [] kept.consumed none);
       bounded = kept.bounded;
       ended = ended;
     }
 
-    -- a read was refused
-    pub unread_device : (then : Option (List ℕ)) → Consumes after then [] → HasNoRecord inbox → read_failed
-        → IsReplayed {U = U} stream then wrote written old new read_failed write_failed (Err fault.Device)
-    unread_device then none has rose = ends then (Err fault.Device) none (inl (kept.replied, has, rose))
-
-    pub too_many : HasNoRecord inbox → 1000000000 ≤ reads
-        → IsReplayed {U = U} stream after wrote written old new read_failed write_failed (Err fault.Record)
-    too_many has many =
-        ends after (Err fault.Record) (Consumes-nil after) (kept.replied, inr (has, omega (arith, kept.pieces)))
-
-    -- the input is at its end
-    pub at_end : (result : Result U ReplayFault) (then : Option (List ℕ)) (now : List ℕ) (rf rg : ℕ)
-        → ReadsMore after then inbox now rf rg (Ok false) → HasNoRecord inbox
-        → MatchResult result (λ _. now ≡ []) (λ e. (e ≡ fault.Record) × (0 < length now))
-        → IsReplayed {U = U} stream then wrote written old new read_failed write_failed result
-    at_end (Ok u) then now rf rg (same, none, over, steady) has empty =
-        ends then (Ok u) none (kept.replied, sym same ∙ empty, over)
-    at_end (Err e) then now rf rg (same, none, over, steady) has (is, some) =
-        rw is (ends then (Err fault.Record) none
-        (kept.replied, inl (not_nil inbox (subst (λ s. 0 < length s) same some), inl (has, over))))
+    pub too_many : IsUnfinishedRecord inbox → reads ≡ 1000000000
+        → IsReplayed {U = U} stream after wrote written old new read_failed write_failed asked asks (Err fault.Record)
+    too_many unfinished many =
+        ends after reads asks (Err fault.Record) (Consumes-nil after) kept.made (omega arith)
+        (kept.replied, inr (unfinished, many, refl))
 
     -- no record begins so
-    pub never_record : NeverHasRecord inbox
-        → IsReplayed {U = U} stream after wrote written old new read_failed write_failed (Err fault.Record)
-    never_record never =
-        ends after (Err fault.Record) (Consumes-nil after)
-        (kept.replied, inl ((λ e. never_nil (subst NeverHasRecord e never)), inr never))
+    pub never_record : reads ≤ 1000000000 → NeverHasRecord inbox
+        → IsReplayed {U = U} stream after wrote written old new read_failed write_failed asked asks (Err fault.Record)
+    never_record seldom never =
+        ends after reads asks (Err fault.Record) (Consumes-nil after) kept.made seldom
+        (kept.replied, inl ((λ e. never_nil (subst NeverHasRecord e never)), inr (never, refl)))
+
+    -- after one read more
+    module _ (unfinished : IsUnfinishedRecord inbox) (seldom : reads < 1000000000) (then : Option (List ℕ)) (later : ℕ)
+        (rise : Rises asks later) where
+      -- it was refused
+      pub unread_device : Consumes after then [] → read_failed
+          → IsReplayed {U = U} stream then wrote written old new read_failed write_failed asked later (Err fault.Device)
+      unread_device none rose =
+          ends then (reads + 1) later (Err fault.Device) none (one_read later rise) (omega arith)
+          (inl (kept.replied, unfinished, rose, refl))
+
+      -- the input is at its end
+      pub at_end : (result : Result U ReplayFault) (now : List ℕ) (rf rg : ℕ)
+          → ReadsMore after then inbox now rf rg (Ok false)
+          → MatchResult result (λ _. now ≡ []) (λ e. (e ≡ fault.Record) × (0 < length now))
+          → IsReplayed {U = U} stream then wrote written old new read_failed write_failed asked later result
+      at_end (Ok u) now rf rg (same, none, over, steady) empty =
+          ends then (reads + 1) later (Ok u) none (one_read later rise) (omega arith) (kept.replied, sym same ∙ empty, over, refl)
+      at_end (Err e) now rf rg (same, none, over, steady) (is, some) =
+          rw is
+          (ends then (reads + 1) later (Err fault.Record) none (one_read later rise) (omega arith)
+          (kept.replied,
+          inl (not_nil inbox (subst (λ s. 0 < length s) same some), inl (unfinished.0, over, refl))))
 
 -- nothing was read for want of memory
 pub unbegun : {U : Type 0} (stream wrote : Option (List ℕ)) (store : Content) (read_failed write_failed : Type 0)
-    → IsReplayed {U = U} stream stream wrote wrote store store read_failed write_failed (Err fault.Memory)
-unbegun stream wrote store read_failed write_failed = record {
+    (asked : ℕ) → IsReplayed {U = U} stream stream wrote wrote store store read_failed write_failed asked asked
+    (Err fault.Memory)
+unbegun stream wrote store read_failed write_failed asked = record {
   answered = [];
   unread = [];
+  pieces = 0;
+  reads = 0;
   whole = All-nil (λ x. IsRecord x.asked);
   leads = record { honest = λ h. h; serves = λ h s. s };
   run = λ h. onward_runs store [] store (store.world, refl, λ s. refl);
+  seldom = omega arith;
+  made = inl (omega arith);
+  reading = at_first;
   consumed = Consumes-nil stream;
   bounded = omega arith;
-  ended = (Appends-nil wrote, refl, refl);
+  ended = (Appends-nil wrote, refl, refl, refl);
 }

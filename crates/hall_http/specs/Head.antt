@@ -1,11 +1,11 @@
 -- One request on the wire: a head as httparse's grammar has it, and a body as long as the head says.
-use Rattle.std.specs.Prelude.{◌≡◌, ◌≤◌, ◌<◌, ◌+◌, ◌==◌, ℕ, List, [], ◌∷◌, ◌++◌, length, take, map, filter, Bool, ◌&&◌, if◌then◌else◌}
+use Rattle.std.specs.Prelude.{◌≡◌, ◌≤◌, ◌<◌, ◌+◌, ◌==◌, ◌⊎◌, ℕ, List, [], ◌∷◌, ◌++◌, length, take, map, filter, Bool, ◌&&◌, if◌then◌else◌}
 use Rattle.std.specs.Prelude.{nat_lt, nat_le, Option, Some, None, option_map, codes}
 use Rattle.std.specs.List.{list_all}
 use Rattle.std.specs.Char.{is_ascii_digit}
 use Rattle.std.specs.Str.{str_eq_ignore_ascii_case}
 use Rattle.std.specs.Str.Parse.{digits_value}
-use Rattle.httparse.specs.Grammar.{RequestHead, print_request, ReadsRequest}
+use Rattle.httparse.specs.Grammar.{RequestHead, print_request, ReadsRequest, MayBecomeRequest}
 use Rattle.httparse.specs.Spans.{name_and_value}
 use Rattle.hall_http.specs.declared.head.Found.{Found}
 use Rattle.hall_http.specs.declared.head.Found.TheVariants as found
@@ -85,6 +85,17 @@ HasNone bytes = (front rest : List ℕ) → bytes ≡ front ++ rest → ¬ (IsWh
 abbrev pub NeverHas : List ℕ → Type 0
 NeverHas bytes = (more : List ℕ) → HasNone (bytes ++ more)
 
+-- some bytes can follow that make them one whole request
+abbrev pub MayBecomeWhole : List ℕ → Type 0
+MayBecomeWhole bytes = (more : List ℕ) × IsWhole (bytes ++ more)
+
+-- No front of the bytes is a whole request, and they are fewer than the longest one has: they lack a part of a body
+-- alone; or some bytes can follow that make them a head of the grammar, or its target is still being read.
+pub record IsUnfinished (bytes : List ℕ) : Type 0 where
+  pub none : HasNone bytes
+  pub short : length bytes < head_limit + body_limit
+  pub possible : MayBecomeWhole bytes ⊎ ((length bytes < head_limit) × MayBecomeRequest bytes)
+
 -- the value that the first of these headers has
 abbrev pub first_value : List Header → Option (List ℕ)
 first_value [] = None
@@ -106,8 +117,8 @@ Finds found.None headers = headers ≡ []
 Finds (found.One value) headers = (name : List ℕ) × (headers ≡ (name, value.now) ∷ [])
 Finds found.Many headers = 1 < length headers
 
--- the first request ends there; it may become whole with more bytes; or never will
+-- the first request ends there; it is unfinished; or no bytes can make it whole
 abbrev pub Cuts : List ℕ → Cut → Type 0
 Cuts bytes (cut.Whole n) = (n ≤ length bytes) × IsWhole (take n bytes)
-Cuts bytes cut.More = HasNone bytes × (length bytes < head_limit + body_limit)
+Cuts bytes cut.More = IsUnfinished bytes
 Cuts bytes cut.Never = NeverHas bytes

@@ -8,6 +8,7 @@ pub mod Parts
 pub mod Request
 pub mod Device
 pub mod Answered
+pub mod Reading
 pub mod Records
 pub mod Replay
 pub mod Inbox

@@ -32,6 +32,10 @@ record_limit = 73746
 abbrev pub HasNoRecord : List ℕ → Type 0
 HasNoRecord bytes = (r : Record) (rest : List ℕ) → IsRecord r → bytes ≢ record_bytes r ++ rest
 
+-- no whole record stands at the front, and the bytes are fewer than the longest one has
+abbrev pub IsUnfinishedRecord : List ℕ → Type 0
+IsUnfinishedRecord bytes = HasNoRecord bytes × (length bytes < record_limit)
+
 -- no whole record stands at the front, however the bytes go on
 abbrev pub NeverHasRecord : List ℕ → Type 0
 NeverHasRecord bytes = (more : List ℕ) → HasNoRecord (bytes ++ more)
@@ -70,5 +74,5 @@ pub record IsCut (bytes : List ℕ) (r : Record) (start end : ℕ) : Type 0 wher
 -- bytes go on
 abbrev pub Cuts : List ℕ → Cut → Type 0
 Cuts bytes (Whole moment start end) = (r : Record) × (r.moment ≡ moment) × IsCut bytes r start end
-Cuts bytes More = HasNoRecord bytes × (length bytes < record_limit)
+Cuts bytes More = IsUnfinishedRecord bytes
 Cuts bytes Never = NeverHasRecord bytes

@@ -1,14 +1,16 @@
 -- A replay: records of a stream, answered one after another as the requests of a connection are.
-use Rattle.std.specs.Prelude.{◌≡◌, ◌≢◌, ◌≤◌, ◌⊎◌, ℕ, List, [], ◌∷◌, ◌++◌, length, map, flat_map, All, Option, Some}
+use Rattle.std.specs.Prelude.{◌≡◌, ◌≢◌, ◌≤◌, ◌+◌, ◌⊎◌, ℕ, List, [], ◌∷◌, ◌++◌, length, map, flat_map, All, Option, Some}
 use Rattle.std.specs.Prelude.{Result, Ok, Err}
 use Rattle.std.specs.Io.KnownBytes.{Appends, Consumes, IsAtEnd}
+use Rattle.hall_grid.specs.Device.{MadeCalls}
 use Rattle.hall_store.specs.Store.{Content, Leads}
 use Rattle.hall_http.specs.declared.fault.ReplayFault.{ReplayFault}
 use Rattle.hall_http.specs.declared.fault.ReplayFault.TheVariants as fault
 use Rattle.hall_http.specs.Device.{WritesPart}
 use Rattle.hall_http.specs.Connection.{Exchange}
 use Rattle.hall_http.specs.Serving.{RunsOver}
-use Rattle.hall_http.specs.Records.{Record, IsRecord, record_bytes, HasNoRecord, NeverHasRecord}
+use Rattle.hall_http.specs.Reading.{Reading, IsLast}
+use Rattle.hall_http.specs.Records.{Record, IsRecord, record_bytes, HasNoRecord, NeverHasRecord, IsUnfinishedRecord}
 
 -- a record, and the bytes that answer it
 pub record AnsweredRecord : Type 0 where
@@ -29,41 +31,56 @@ records_of xs = flat_map (λ x. record_bytes x.asked) xs
 abbrev pub replies_to : List AnsweredRecord → List ℕ
 replies_to xs = flat_map (λ x. x.reply) xs
 
--- what is left isn't empty and no whole record stands at its front: at the end of the input, or however it goes on
-abbrev pub LacksRecord : Option (List ℕ) → List ℕ → Type 0
-LacksRecord after unread = (unread ≢ []) × ((HasNoRecord unread × IsAtEnd after) ⊎ NeverHasRecord unread)
+-- these records were answered, so many reads gave bytes, and these bytes wait
+abbrev pub HaveReadRecords : List AnsweredRecord → ℕ → List ℕ → Type 0
+HaveReadRecords xs pieces unread =
+    Reading {X = AnsweredRecord} (λ x. record_bytes x.asked) IsUnfinishedRecord xs pieces unread
 
--- a part of the last reply wasn't written
-abbrev pub StopsAtLast : Option (List ℕ) → Option (List ℕ) → List AnsweredRecord → Type 0
-StopsAtLast wrote written xs =
-    (before : List AnsweredRecord) × (last : AnsweredRecord) × (between : Option (List ℕ)) × (xs ≡ before ++ last ∷ [])
+-- what is left isn't empty and no whole record stands at its front: where one read more told the end of the input, or
+-- however it goes on
+abbrev pub LacksRecord : Option (List ℕ) → List ℕ → ℕ → ℕ → Type 0
+LacksRecord after unread pieces reads =
+    (unread ≢ [])
+    × ((HasNoRecord unread × IsAtEnd after × (reads ≡ pieces + 1)) ⊎ (NeverHasRecord unread × (reads ≡ pieces)))
+
+-- a part of the last reply wasn't written; nothing is read after its record
+abbrev pub StopsAtLast : Option (List ℕ) → Option (List ℕ) → List AnsweredRecord → List ℕ → ℕ → Type 0
+StopsAtLast wrote written xs unread pieces =
+    (before : List AnsweredRecord) × (last : AnsweredRecord) × (between : Option (List ℕ))
+    × IsLast {X = AnsweredRecord} (λ x. record_bytes x.asked) IsUnfinishedRecord before last xs pieces unread
     × Appends wrote between (replies_to before) × WritesPart between written last.reply
 
--- How the replay ended: what was written, and why it ended. Well: at the end of the input. `Record`: what is left is no
--- record, or the bytes of a thousand million reads held no further one. `Device`: a read or a write failed. `Memory`:
--- before the first read.
+-- How the replay ended: what was written, and why it ended. `pieces` of its `reads` gave bytes. Well: a read told the
+-- end of the input, and nothing is left. `Record`: what is left is no record, or a thousand million reads gave bytes and
+-- what is left is unfinished. `Device`: a read or a write failed. `Memory`: before the first read.
 abbrev pub Ended : {U : Type 0} → Result U ReplayFault → Option (List ℕ) → Option (List ℕ) → Option (List ℕ)
-    → List AnsweredRecord → List ℕ → Type 0 → Type 0 → Type 0
-Ended (Ok done) after wrote written xs unread read_failed write_failed =
-    Appends wrote written (replies_to xs) × (unread ≡ []) × IsAtEnd after
-Ended (Err fault.Record) after wrote written xs unread read_failed write_failed =
+    → List AnsweredRecord → List ℕ → ℕ → ℕ → Type 0 → Type 0 → Type 0
+Ended (Ok done) after wrote written xs unread pieces reads read_failed write_failed =
+    Appends wrote written (replies_to xs) × (unread ≡ []) × IsAtEnd after × (reads ≡ pieces + 1)
+Ended (Err fault.Record) after wrote written xs unread pieces reads read_failed write_failed =
     Appends wrote written (replies_to xs)
-    × (LacksRecord after unread ⊎ (HasNoRecord unread × (1000000000 ≤ length (records_of xs ++ unread))))
-Ended (Err fault.Device) after wrote written xs unread read_failed write_failed =
-    (Appends wrote written (replies_to xs) × HasNoRecord unread × read_failed)
-    ⊎ (StopsAtLast wrote written xs × write_failed)
-Ended (Err fault.Memory) after wrote written xs unread read_failed write_failed =
-    Appends wrote written [] × (xs ≡ []) × (unread ≡ [])
+    × (LacksRecord after unread pieces reads
+    ⊎ (IsUnfinishedRecord unread × (reads ≡ 1000000000) × (reads ≡ pieces)))
+Ended (Err fault.Device) after wrote written xs unread pieces reads read_failed write_failed =
+    (Appends wrote written (replies_to xs) × IsUnfinishedRecord unread × read_failed × (reads ≡ pieces + 1))
+    ⊎ (StopsAtLast wrote written xs unread pieces × write_failed × (reads ≡ pieces))
+Ended (Err fault.Memory) after wrote written xs unread pieces reads read_failed write_failed =
+    Appends wrote written [] × (xs ≡ []) × (unread ≡ []) × (reads ≡ 0)
 
--- the stream was read as these records and then this rest, the records were answered by the replies of a run of the
--- hall, and the replay ended so
+-- the stream was read, in at most a thousand million reads, as these records and then this rest, the records were
+-- answered, each before a further read, by the replies of a run of the hall, and the replay ended so
 pub record IsReplayed {U : Type 0} (stream after wrote written : Option (List ℕ)) (old new : Content)
-    (read_failed write_failed : Type 0) (end : Result U ReplayFault) : Type 0 where
+    (read_failed write_failed : Type 0) (asked asks : ℕ) (end : Result U ReplayFault) : Type 0 where
   pub answered : List AnsweredRecord
   pub unread : List ℕ
+  pub pieces : ℕ
+  pub reads : ℕ
   pub whole : All (λ x. IsRecord x.asked) answered
   pub leads : Leads old new
   pub run : new.honest → RunsOver old (exchanges_of answered) new
+  pub seldom : reads ≤ 1000000000
+  pub made : MadeCalls reads asked asks
+  pub reading : HaveReadRecords answered pieces unread
   pub consumed : Consumes stream after (records_of answered ++ unread)
   pub bounded : length unread ≤ 81920
-  pub ended : Ended end after wrote written answered unread read_failed write_failed
+  pub ended : Ended end after wrote written answered unread pieces reads read_failed write_failed

@@ -1,9 +1,11 @@
 -- What serving one connection does.
-use Rattle.std.specs.Prelude.{◌≡◌, ◌≢◌, ◌<◌, ◌≤◌, ◌⊎◌, ℕ, List, [], ◌∷◌, ◌++◌, length, Option, All}
+use Rattle.std.specs.Prelude.{◌≡◌, ◌≢◌, ◌<◌, ◌≤◌, ◌+◌, ◌⊎◌, ℕ, List, [], ◌∷◌, ◌++◌, length, Option, All}
 use Rattle.std.specs.Io.KnownBytes.{Appends, Consumes, IsAtEnd}
 use Rattle.serde_json.specs.Written.{compact_text}
+use Rattle.hall_grid.specs.Device.{MadeCalls}
 use Rattle.hall_store.specs.Store.{Content, Leads}
-use Rattle.hall_http.specs.Head.{IsWhole, HasNone, NeverHas}
+use Rattle.hall_http.specs.Head.{IsWhole, IsUnfinished, NeverHas}
+use Rattle.hall_http.specs.Reading.{Reading, IsLast}
 use Rattle.hall_http.specs.Device.{WritesPart}
 use Rattle.hall_http.specs.Connection.{Exchange, Session, requests_of, replies_of, AreOpen, IsClosing}
 use Rattle.hall_http.specs.Serving.{AreMoments, RunsOver}
@@ -17,24 +19,43 @@ use Rattle.hall_http.specs.declared.connection.ServeEnd.TheVariants as end
 abbrev pub refusal : List ℕ
 refusal = wire_bytes (fault_status fault.NotWhole) media.Json (compact_text (fault_data fault.NotWhole))
 
--- no request can be made of the bytes: some are left at the end of the input, or however they go on
-abbrev pub IsNoRequest : Option (List ℕ) → List ℕ → Type 0
-IsNoRequest after unread = ((unread ≢ []) × HasNone unread × IsAtEnd after) ⊎ NeverHas unread
+-- these requests were answered, so many reads gave bytes, and these bytes wait
+abbrev pub HaveRead : List Exchange → ℕ → List ℕ → Type 0
+HaveRead xs pieces unread = Reading {X = Exchange} (λ x. x.request) IsUnfinished xs pieces unread
+
+-- the last of these requests was answered after the last read
+abbrev pub IsLastRequest : List Exchange → Exchange → List Exchange → ℕ → List ℕ → Type 0
+IsLastRequest before last xs pieces unread =
+    IsLast {X = Exchange} (λ x. x.request) IsUnfinished before last xs pieces unread
+
+-- no request can be made of the bytes: some are left where one read more told the end of the input; or however they go
+-- on
+abbrev pub IsNoRequest : Option (List ℕ) → List ℕ → ℕ → ℕ → Type 0
+IsNoRequest after unread pieces reads =
+    ((unread ≢ []) × IsUnfinished unread × IsAtEnd after × (reads ≡ pieces + 1)) ⊎ (NeverHas unread × (reads ≡ pieces))
 
 -- the connection stays open after each of these requests, and a further one may come
 abbrev pub MayGoOn : List Exchange → Type 0
 MayGoOn xs = AreOpen xs × (length xs < 1000)
 
--- the connection closes after the last request, and after none before it
-abbrev pub ClosesLast : List Exchange → Type 0
-ClosesLast xs =
-    (before : List Exchange) × (last : Exchange) × (xs ≡ before ++ last ∷ []) × AreOpen before × IsClosing last.request
+-- the connection closes after the last request, and after none before it; nothing is read after it
+abbrev pub ClosesLast : List Exchange → List ℕ → ℕ → Type 0
+ClosesLast xs unread pieces =
+    (before : List Exchange) × (last : Exchange) × IsLastRequest before last xs pieces unread × AreOpen before
+    × IsClosing last.request
 
--- a part of the last reply wasn't written
-abbrev pub BreaksLast : Option (List ℕ) → Option (List ℕ) → List Exchange → Type 0
-BreaksLast wrote written xs =
-    (before : List Exchange) × (last : Exchange) × (between : Option (List ℕ)) × (xs ≡ before ++ last ∷ [])
-    × AreOpen before × Appends wrote between (replies_of before) × WritesPart between written last.reply
+-- 1,000 requests were answered, and nothing was read after the last
+abbrev pub HasAnsweredAll : List Exchange → List ℕ → ℕ → Type 0
+HasAnsweredAll xs unread pieces =
+    (length xs ≡ 1000)
+    × ((before : List Exchange) × (last : Exchange) × IsLastRequest before last xs pieces unread)
+
+-- a part of the last reply wasn't written; nothing is read after its request
+abbrev pub BreaksLast : Option (List ℕ) → Option (List ℕ) → List Exchange → List ℕ → ℕ → Type 0
+BreaksLast wrote written xs unread pieces =
+    (before : List Exchange) × (last : Exchange) × (between : Option (List ℕ))
+    × IsLastRequest before last xs pieces unread × AreOpen before × Appends wrote between (replies_of before)
+    × WritesPart between written last.reply
 
 -- a part of the reply to bytes that are no request wasn't written
 abbrev pub BreaksRefusal : Option (List ℕ) → Option (List ℕ) → List Exchange → Type 0
@@ -42,48 +63,62 @@ BreaksRefusal wrote written xs =
     (between : Option (List ℕ)) × MayGoOn xs × Appends wrote between (replies_of xs)
     × WritesPart between written refusal
 
--- How the connection ended: what was written, and why it ended. `Closed`: the input is at its end, or the last request
--- closes. `BadHead`: what is left is no request. `Limit`: 1,000 requests were answered, or at least 100,000 bytes were
--- read and the rest is no whole request yet. `Device`: a read or a write failed.
-abbrev pub Ended : ServeEnd → Option (List ℕ) → Option (List ℕ) → Option (List ℕ) → List Exchange → List ℕ
+-- How the connection ended: what was written, and why it ended. `pieces` of its `reads` gave bytes. `Closed`: a read
+-- told the end of the input and nothing is left, or the last request closes. `BadHead`: what is left is no request.
+-- `Limit`: 1,000 requests were answered and nothing was read after; or 100,000 reads gave bytes, and what is left is
+-- unfinished. `Device`: a read or a write failed.
+abbrev pub Ended : ServeEnd → Option (List ℕ) → Option (List ℕ) → Option (List ℕ) → List Exchange → List ℕ → ℕ → ℕ
     → Type 0 → Type 0 → Type 0
-Ended end.Closed after wrote written xs unread read_failed write_failed =
-    Appends wrote written (replies_of xs) × ((MayGoOn xs × (unread ≡ []) × IsAtEnd after) ⊎ ClosesLast xs)
-Ended end.BadHead after wrote written xs unread read_failed write_failed =
-    Appends wrote written (replies_of xs ++ refusal) × MayGoOn xs × IsNoRequest after unread
-Ended end.Limit after wrote written xs unread read_failed write_failed =
-    Appends wrote written (replies_of xs) × AreOpen xs
-    × ((length xs ≡ 1000) ⊎ (HasNone unread × (100000 ≤ length (requests_of xs ++ unread))))
-Ended end.Device after wrote written xs unread read_failed write_failed =
-    (Appends wrote written (replies_of xs) × MayGoOn xs × HasNone unread × read_failed)
-    ⊎ (BreaksLast wrote written xs × write_failed)
-    ⊎ (BreaksRefusal wrote written xs × IsNoRequest after unread × write_failed)
+Ended end.Closed after wrote written xs unread pieces reads read_failed write_failed =
+    Appends wrote written (replies_of xs)
+    × ((MayGoOn xs × (unread ≡ []) × IsAtEnd after × (reads ≡ pieces + 1))
+    ⊎ (ClosesLast xs unread pieces × (reads ≡ pieces)))
+Ended end.BadHead after wrote written xs unread pieces reads read_failed write_failed =
+    Appends wrote written (replies_of xs ++ refusal) × MayGoOn xs × IsNoRequest after unread pieces reads
+Ended end.Limit after wrote written xs unread pieces reads read_failed write_failed =
+    Appends wrote written (replies_of xs) × AreOpen xs × (reads ≡ pieces)
+    × (HasAnsweredAll xs unread pieces ⊎ ((length xs < 1000) × (reads ≡ 100000) × IsUnfinished unread))
+Ended end.Device after wrote written xs unread pieces reads read_failed write_failed =
+    (Appends wrote written (replies_of xs) × MayGoOn xs × IsUnfinished unread × read_failed × (reads ≡ pieces + 1))
+    ⊎ (BreaksLast wrote written xs unread pieces × write_failed × (reads ≡ pieces))
+    ⊎ (BreaksRefusal wrote written xs × IsNoRequest after unread pieces reads × write_failed)
 
--- the stream was read as at most 1,000 requests and then this rest, a handler answered the requests, and the connection
--- ended so
+-- the stream was read, in at most 100,000 reads, as at most 1,000 requests and then this rest, a handler answered the
+-- requests, each before a further read, and the connection ended so
 pub record IsHandled {H C : Type 0} (answers : H → Option ℕ → List ℕ → List ℕ → H → Type 0)
     (now_gives : C → Option ℕ → C → Type 0) (stream after wrote written : Option (List ℕ))
-    (h : H) (c : C) (i : H) (d : C) (read_failed write_failed : Type 0) (end : ServeEnd) : Type 0 where
+    (h : H) (c : C) (i : H) (d : C) (read_failed write_failed : Type 0) (asked asks : ℕ) (end : ServeEnd) : Type 0 where
   pub exchanges : List Exchange
   pub unread : List ℕ
+  pub pieces : ℕ
+  pub reads : ℕ
   pub session : Session answers now_gives h c exchanges i d
   pub few : length exchanges ≤ 1000
+  pub seldom : reads ≤ 100000
+  pub made : MadeCalls reads asked asks
+  pub reading : HaveRead exchanges pieces unread
   pub consumed : Consumes stream after (requests_of exchanges ++ unread)
   pub bounded : length unread ≤ 81920
-  pub ended : Ended end after wrote written exchanges unread read_failed write_failed
+  pub ended : Ended end after wrote written exchanges unread pieces reads read_failed write_failed
 
--- the stream was read as at most 1,000 requests and then this rest, the requests were answered over a store at the
--- clock's moments, by the replies of a run of the hall, and the connection ended so
+-- the stream was read, in at most 100,000 reads, as at most 1,000 requests and then this rest, the requests were
+-- answered over a store at the clock's moments, each before a further read, by the replies of a run of the hall, and
+-- the connection ended so
 pub record IsServed {C : Type 0} (now_gives : C → Option ℕ → C → Type 0)
     (stream after wrote written : Option (List ℕ)) (old new : Content) (clock later : C)
-    (read_failed write_failed : Type 0) (end : ServeEnd) : Type 0 where
+    (read_failed write_failed : Type 0) (asked asks : ℕ) (end : ServeEnd) : Type 0 where
   pub exchanges : List Exchange
   pub unread : List ℕ
+  pub pieces : ℕ
+  pub reads : ℕ
   pub whole : All (λ x. IsWhole x.request) exchanges
   pub moments : AreMoments now_gives clock exchanges later
   pub leads : Leads old new
   pub run : new.honest → RunsOver old exchanges new
   pub few : length exchanges ≤ 1000
+  pub seldom : reads ≤ 100000
+  pub made : MadeCalls reads asked asks
+  pub reading : HaveRead exchanges pieces unread
   pub consumed : Consumes stream after (requests_of exchanges ++ unread)
   pub bounded : length unread ≤ 81920
-  pub ended : Ended end after wrote written exchanges unread read_failed write_failed
+  pub ended : Ended end after wrote written exchanges unread pieces reads read_failed write_failed

@@ -46,7 +46,7 @@ pub trait Clock {
 pub enum ServeEnd {
     /// At the end of the input, or after a request that closes it.
     Closed,
-    /// After a thousand requests or a hundred thousand reads.
+    /// After a thousand requests, or a hundred thousand reads that gave bytes.
     Limit,
     /// At bytes that are no request.
     BadHead,
@@ -64,7 +64,7 @@ pub(crate) enum Turn {
 
 /// Serves one connection: reads its requests, answers each in turn, and writes the replies.
 ///
-/// Refused for memory, it has read nothing. A request is answered before the next is looked at, and its reply written
+/// Refused for memory, it has read nothing. A request is answered before anything more is read, and its reply written
 /// once its change is made. Bytes that are no request are answered by the fault of their form, and end the connection.
 pub fn serve<S: Store, R: Read, W: Write, C: Clock>(
     alloc: Global,
@@ -81,7 +81,8 @@ pub fn serve<S: Store, R: Read, W: Write, C: Clock>(
         (R.remaining reader.old.device) (R.remaining reader.new.device)
         (W.contents writer.old.device) (W.contents writer.new.device)
         (S.content (kept_by desk.old)) (S.content (kept_by desk.new)) clock.old clock.new
-        (HasFailed reader.old.failures reader.new.failures) (HasFailed writer.old.failures writer.new.failures)) }
+        (HasFailed reader.old.failures reader.new.failures) (HasFailed writer.old.failures writer.new.failures)
+        reader.old.calls reader.new.calls) }
     ensures sane { SaneThen Sane (S.content (kept_by desk.old)) (S.content (kept_by desk.new)) }
     ensures unique { SaneThen HasUniqueSolutions (S.content (kept_by desk.old)) (S.content (kept_by desk.new)) }
     ensures right { SaneThen RightAnswersAreSolutions (S.content (kept_by desk.old)) (S.content (kept_by desk.new)) }
@@ -104,7 +105,8 @@ fn serve_requests<H: Handler, R: Read, W: Write, C: Clock>(
     ensures { IsHandled H.answers C.now_gives
         (R.remaining reader.old.device) (R.remaining reader.new.device)
         (W.contents writer.old.device) (W.contents writer.new.device) handler.old clock.old handler.new clock.new
-        (HasFailed reader.old.failures reader.new.failures) (HasFailed writer.old.failures writer.new.failures) result }
+        (HasFailed reader.old.failures reader.new.failures) (HasFailed writer.old.failures writer.new.failures)
+        reader.old.calls reader.new.calls result }
 {
     let mut requests = 0;
     let mut reads = 0;

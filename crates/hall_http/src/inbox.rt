@@ -1,6 +1,7 @@
 //! What was read of a stream and not passed yet.
 ghost use Rattle.std.specs.Prelude.{◌≡◌, ◌≤◌, ◌<◌, ◌+◌, ◌++◌, [], drop, length};
 ghost use Rattle.std.specs.Prelude.{IfOk, OnOk, OnErr, vec_len, vec_capacity};
+ghost use Rattle.hall_grid.specs.Device.{Rises};
 ghost use Rattle.hall_http.specs.Inbox.{ReadsMore};
 
 use hall_grid::Counted;
@@ -66,8 +67,9 @@ impl Inbox {
 
     /// Reads some more bytes; false at the end of the input.
     pub fn read_more<R: Read>(&mut self, reader: &mut Counted<R>) -> Result<bool, ReadFault>
-        ensures { ReadsMore (R.remaining reader.old.device) (R.remaining reader.new.device)
+        ensures read { ReadsMore (R.remaining reader.old.device) (R.remaining reader.new.device)
             self.old self.new reader.old.failures reader.new.failures result }
+        ensures asked { Rises reader.old.calls reader.new.calls }
     {
         let mut chunk = [0u8; CHUNK_SIZE];
         let count = match reader.read(&mut chunk) {

@@ -59,7 +59,8 @@ pub fn replay<R: Read, W: Write, S: Store>(
     ensures replayed { IsReplayed (R.remaining reader.old.device) (R.remaining reader.new.device)
         (W.contents writer.old.device) (W.contents writer.new.device)
         (S.content (kept_by desk.old)) (S.content (kept_by desk.new))
-        (HasFailed reader.old.failures reader.new.failures) (HasFailed writer.old.failures writer.new.failures) result }
+        (HasFailed reader.old.failures reader.new.failures) (HasFailed writer.old.failures writer.new.failures)
+        reader.old.calls reader.new.calls result }
     ensures sane { SaneThen Sane (S.content (kept_by desk.old)) (S.content (kept_by desk.new)) }
     ensures unique { SaneThen HasUniqueSolutions (S.content (kept_by desk.old)) (S.content (kept_by desk.new)) }
     ensures right { SaneThen RightAnswersAreSolutions (S.content (kept_by desk.old)) (S.content (kept_by desk.new)) }
@@ -81,7 +82,8 @@ fn answer_records<R: Read, W: Write, S: Store>(
     ensures { IsReplayed (R.remaining reader.old.device) (R.remaining reader.new.device)
         (W.contents writer.old.device) (W.contents writer.new.device)
         (S.content (kept_by desk.old)) (S.content (kept_by desk.new))
-        (HasFailed reader.old.failures reader.new.failures) (HasFailed writer.old.failures writer.new.failures) result }
+        (HasFailed reader.old.failures reader.new.failures) (HasFailed writer.old.failures writer.new.failures)
+        reader.old.calls reader.new.calls result }
 {
     let mut reads = 0;
     'records: loop {

@@ -11,16 +11,17 @@ records-init g c = record {
   writer = refl;
   kept = subst (λ (unread : List ℕ). Kept (g.R.Read.remaining c.args.reader.now.device) (g.R.Read.remaining c.args.reader.now.device)
       (g.W.Write.contents c.args.writer.now.device) (g.W.Write.contents c.args.writer.now.device)
-      (g.S.Store.content (kept_by c.args.desk.now)) (g.S.Store.content (kept_by c.args.desk.now)) unread 0)
-      (sym c.requires) (kept_start _ _ (g.S.Store.content (kept_by c.args.desk.now)));
+      (g.S.Store.content (kept_by c.args.desk.now)) (g.S.Store.content (kept_by c.args.desk.now)) unread 0
+      c.args.reader.now.calls c.args.reader.now.calls)
+      (sym c.requires) (kept_start _ _ (g.S.Store.content (kept_by c.args.desk.now)) _);
 }
 
 pub returns-in-Err : goal.returns-in-Err
 returns-in-Err g c =
     let (r, late, whole) = rw c.unread.ensures at c.in-Whole.ensures in
     let says = rw (c.unread-in-Whole.ensures, ← late) at c.answer_bytes-answer.ensures.answers in
-    unsent _ _ _ _ _ _ _ _ c.records.invariant.kept r c.in-Whole.start c.in-Whole.end _ _ whole c.answer_bytes-answer.ensures.leads says _
-    _ _ c.in-Err.ensures.part (rw c.records.invariant.writer at c.in-Err.ensures.device)
+    unsent _ _ _ _ _ _ _ _ _ _ c.records.invariant.kept r c.in-Whole.start c.in-Whole.end _ _ whole c.answer_bytes-answer.ensures.leads says _
+    _ _ c.records.invariant.few c.in-Err.ensures.part (rw c.records.invariant.writer at c.in-Err.ensures.device)
 
 pub records-preserved-in-Ok : goal.records-preserved-in-Ok
 records-preserved-in-Ok g c =
@@ -31,38 +32,41 @@ records-preserved-in-Ok g c =
       reader = c.records.invariant.reader;
       writer = c.in-Ok.ensures.same ∙ c.records.invariant.writer;
       kept = rw c.pass.ensures
-          (kept_answered _ _ _ _ _ _ _ _ c.records.invariant.kept r c.in-Whole.start c.in-Whole.end _ _ whole c.answer_bytes-answer.ensures.leads says
+          (kept_answered _ _ _ _ _ _ _ _ _ _ c.records.invariant.kept r c.in-Whole.start c.in-Whole.end _ _ whole c.answer_bytes-answer.ensures.leads says
           _ c.in-Ok.ensures.written);
     }
 
 pub records-preserved : goal.records-preserved
 records-preserved g c =
-    let (piece, some, few, same, more, steady) = rw c.in-Ok-true.field-0-test at c.in-Ok-true.ensures in
+    let (piece, some, few, same, more, steady) = rw c.in-Ok-true.field-0-test at c.in-Ok-true.ensures.read in
     record {
       few = omega (arith, c.records.invariant.few, c.if-reads-eq-READ_LIMIT.false);
       reader = steady ∙ c.records.invariant.reader;
       writer = c.records.invariant.writer;
-      kept = rw same (kept_read _ _ _ _ _ _ _ _ c.records.invariant.kept _ piece some few
-          (rw c.unread.ensures at c.in-More.ensures).1 more);
+      kept = rw same (kept_read _ _ _ _ _ _ _ _ _ _ c.records.invariant.kept _ piece _
+          (rw c.unread.ensures at c.in-More.ensures) some few more c.read_more.ensures.asked);
     }
 
 pub returns-in-Err-Device : goal.returns-in-Err-Device
 returns-in-Err-Device g c =
-    let (same, none, rose) = rw c.in-Err-Device.field-0-is at c.in-Err-Device.ensures in
-    unread_device _ _ _ _ _ _ _ _ c.records.invariant.kept _ _ _ none (rw c.unread.ensures at c.in-More.ensures).0
+    let (same, none, rose) = rw c.in-Err-Device.field-0-is at c.in-Err-Device.ensures.read in
+    unread_device _ _ _ _ _ _ _ _ _ _ c.records.invariant.kept _ _ (rw c.unread.ensures at c.in-More.ensures)
+    (omega (arith, c.records.invariant.few, c.if-reads-eq-READ_LIMIT.false)) _ _ c.read_more.ensures.asked none
     (rw c.records.invariant.reader at rose)
 
 pub returns-in-Never : goal.returns-in-Never
 returns-in-Never g c =
-    never_record _ _ _ _ _ _ _ _ c.records.invariant.kept _ _ (rw c.unread.ensures at c.in-Never.ensures)
+    never_record _ _ _ _ _ _ _ _ _ _ c.records.invariant.kept _ _ c.records.invariant.few
+    (rw c.unread.ensures at c.in-Never.ensures)
 
 pub returns-then-reads-eq-READ_LIMIT : goal.returns-then-reads-eq-READ_LIMIT
 returns-then-reads-eq-READ_LIMIT g c =
-    too_many _ _ _ _ _ _ _ _ c.records.invariant.kept _ _ (rw c.unread.ensures at c.in-More.ensures).0
-    (omega (arith, c.if-reads-eq-READ_LIMIT.true))
+    too_many _ _ _ _ _ _ _ _ _ _ c.records.invariant.kept _ _ (rw c.unread.ensures at c.in-More.ensures)
+    c.if-reads-eq-READ_LIMIT.true
 
 pub returns-in-Ok-false : goal.returns-in-Ok-false
 returns-in-Ok-false g c =
-    let ends = rw c.in-Ok-false.field-0-test at c.in-Ok-false.ensures in
-    at_end _ _ _ _ _ _ _ _ c.records.invariant.kept _ _ c.end_of_input.result _ c.read_more.new.self _ _ ends
-    (rw c.unread.ensures at c.in-More.ensures).0 (rw c.unread-in-Ok-false.ensures at c.end_of_input.ensures)
+    let ends = rw c.in-Ok-false.field-0-test at c.in-Ok-false.ensures.read in
+    at_end _ _ _ _ _ _ _ _ _ _ c.records.invariant.kept _ _ (rw c.unread.ensures at c.in-More.ensures)
+    (omega (arith, c.records.invariant.few, c.if-reads-eq-READ_LIMIT.false)) _ _ c.read_more.ensures.asked
+    c.end_of_input.result c.read_more.new.self _ _ ends (rw c.unread-in-Ok-false.ensures at c.end_of_input.ensures)

@@ -10,7 +10,7 @@ invariant-records g l = record {
   writer : l.writer.failures ≡ l.fn.writer.failures;
   kept : Kept (g.R.Read.remaining l.fn.reader.device) (g.R.Read.remaining l.reader.device)
       (g.W.Write.contents l.fn.writer.device) (g.W.Write.contents l.writer.device)
-      (g.S.Store.content (kept_by l.fn.desk)) (g.S.Store.content (kept_by l.desk)) l.inbox l.reads;
+      (g.S.Store.content (kept_by l.fn.desk)) (g.S.Store.content (kept_by l.desk)) l.inbox l.reads l.fn.reader.calls l.reader.calls;
 }
 
 abbrev pub decreases-records : goal.decreases-records

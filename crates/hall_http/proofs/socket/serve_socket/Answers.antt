@@ -14,5 +14,5 @@ returns-then-is_err-clause-right g c = λ h s sane. right_answers (g.S.Store.con
 
 pub returns-clause-run : goal.returns-clause-run
 returns-clause-run g c =
-    run_through (λ desk. g.S.Store.content (kept_by desk)) g.C.Clock.now_gives _ _ _ _ _ _ _ _ _ _ c.serve-ended.result
+    run_through (λ desk. g.S.Store.content (kept_by desk)) g.C.Clock.now_gives _ _ _ _ _ _ _ _ _ _ _ _ c.serve-ended.result
     c.serve-ended.ensures.served c.serve-ended.ensures.desk c.serve-ended.ensures.clock
