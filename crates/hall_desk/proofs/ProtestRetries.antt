@@ -176,15 +176,29 @@ module _ (world later : World) (remains : Remains world later) (caller : Option 
         (left, inr (inr (inr (says, (sym same_number ∙ same.0, sym same_text ∙ same.1)))))
     retried state given new Allow before decided = absurd (token_decides later caller u person id token again_number again_text row is stands 21 before (lit< tt))
 
--- an accepted protest stays accepted
-pub accepted_protests_stay : AcceptedProtestsStay
-accepted_protests_stay world kept later new t u key id token number text again_number again_text events given first life (inl (says, left)) = (left, inl says)
-accepted_protests_stay world kept later new t u key id token number text again_number again_text events given first life (inr (found, (decision, decides, decided))) =
+-- a retry of an accepted protest changes nothing, and is answered as one
+protests_stay : (world kept later : World) (t : ℕ) (key : Option (List ℕ)) (id token : List ℕ) (number : ℕ) (text : List ℕ) →
+    Step world t (record { key = key; action = action.Protest id token number text }) (reply.Protested token) kept → Remains kept later →
+    (u again_number : ℕ) (again_text : List ℕ) (given : Reply) (new : World) →
+    Step later u (record { key = key; action = action.Protest id token again_number again_text }) given new →
+    (new ≡ later) × IsProtestRetryOf later id token number text again_number again_text given
+protests_stay world kept later t key id token number text first between u again_number again_text given new (inl (says, left)) = (left, inl says)
+protests_stay world kept later t key id token number text first between u again_number again_text given new (inr (found, (decision, decides, decided))) =
     let h = accepted world kept t key id token number text first in
-    let between : Remains kept later = records_stay kept later events life in
     let remains : Remains world later = remains_on world kept later (step_remains world t (record { key = key; action = action.Protest id token number text }) (reply.Protested token) kept first) between in
     let same : caller_of later key ≡ caller_of world key = same_caller world later key h.person remains h.is in
     let stays = between.protests (record { entrant = h.person.name; round = id; token = token }) h.row h.stands in
     retried world later remains (caller_of later key) t u id token number text again_number again_text
     (subst (λ (c : Option Person). NoneBelow 6 world c (action.Protest id token number text) t) (sym same) h.none)
     h.person (same ∙ h.is) stays.after stays.found (ap (λ (r : ProtestRow). r.number) stays.same ∙ h.same_number) (ap (λ (r : ProtestRow). r.text) stays.same ∙ h.same_text) found given new decision decides decided
+
+-- an accepted protest stays accepted
+pub accepted_protests_stay : AcceptedProtestsStay
+accepted_protests_stay world kept later t key id token number text events first life =
+    let h = accepted world kept t key id token number text first in
+    let between : Remains kept later = records_stay kept later events life in
+    let stays = between.protests (record { entrant = h.person.name; round = id; token = token }) h.row h.stands in
+    (
+      (h.person, stays.after, h.is, stays.found, (ap (λ (r : ProtestRow). r.number) stays.same ∙ h.same_number, ap (λ (r : ProtestRow). r.text) stays.same ∙ h.same_text)),
+      protests_stay world kept later t key id token number text first between,
+    )

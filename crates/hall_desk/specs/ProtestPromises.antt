@@ -9,7 +9,7 @@ use Rattle.hall_policy.specs.declared.request.Action.{Action}
 use Rattle.hall_policy.specs.declared.request.Action.TheVariants.{Protest, Rule}
 use Rattle.hall_policy.specs.declared.request.Request.{Request}
 use Rattle.hall_store.specs.Caller.{caller_of}
-use Rattle.hall_desk.specs.Promises.{IsRulerDenied, IsRulingRetryAnswered}
+use Rattle.hall_desk.specs.Promises.{IsSameProtest, IsRulerDenied, IsRulingRetryAnswered}
 use Rattle.hall_desk.specs.Step.{Step}
 use Rattle.hall_desk.specs.History.{Event, History}
 use Rattle.hall_desk.specs.declared.reply.Reply.{Reply}
@@ -30,17 +30,19 @@ IsProtestRetryOf world id token number text again_number again_text given =
     × (place_of world id again_number ≢ None))
     ⊎ ((given ≡ reply.Protested token) × IsAgain number text again_number again_text)))
 
--- an accepted protest stays accepted: whatever happens between, and at whatever moment its token comes again,
--- the world stays, and the retry is answered as one
+-- an accepted protest stays accepted: whatever happens between, it stands with its number and text, and at whatever
+-- moment its token comes again, the world stays, and the retry is answered as one
 abbrev pub AcceptedProtestsStay : Type 0
 AcceptedProtestsStay =
-    (world kept later new : World) (t u : ℕ) (key : Option (List ℕ)) (id token : List ℕ)
-    (number : ℕ) (text : List ℕ) (again_number : ℕ) (again_text : List ℕ)
-    (events : List Event) (given : Reply) →
+    (world kept later : World) (t : ℕ) (key : Option (List ℕ)) (id token : List ℕ) (number : ℕ) (text : List ℕ)
+    (events : List Event) →
     Step world t (record { key = key; action = Protest id token number text }) (reply.Protested token) kept →
     History kept events later →
+    ((person : Person) × (row : ProtestRow) × (caller_of world key ≡ Some person)
+    × (protest_of later person.name id token ≡ Some row) × IsSameProtest row number text)
+    × ((u again_number : ℕ) (again_text : List ℕ) (given : Reply) (new : World) →
     Step later u (record { key = key; action = Protest id token again_number again_text }) given new →
-    (new ≡ later) × IsProtestRetryOf later id token number text again_number again_text given
+    (new ≡ later) × IsProtestRetryOf later id token number text again_number again_text given)
 
 -- an accepted protest's retry has its answer in every later world: the first reply for the same number and text, the
 -- denial of rule 4 for a number that the round doesn't have, the denial of the token's rule for another number or text
