@@ -14,10 +14,11 @@ use Rattle.hall_store.specs.Caller.{caller_of}
 use Rattle.hall_desk.specs.Shown.{told_verdict}
 use Rattle.hall_desk.specs.Step.{Step, FirstReply}
 use Rattle.hall_desk.specs.Promises.{RetriesAreAnswered}
+use Rattle.hall_desk.specs.Records.{Remains}
 use Rattle.hall_desk.specs.declared.reply.Reply.{Reply}
 use Rattle.hall_desk.specs.declared.reply.Reply.TheVariants as reply
 use Rattle.hall_desk.proofs.Tokens.{same_text_stands}
-use Rattle.hall_desk.proofs.Remaining.{Remains, remains_on, step_remains, run_remains}
+use Rattle.hall_desk.proofs.Remaining.{remains_on, step_remains, records_stay}
 use Rattle.hall_desk.proofs.Retries.{repeats_at_six, accepted, same_caller, same_told, was_released, none_forbids}
 
 module _ (world later : World) (remains : Remains world later) (t u : ℕ) (key : Option (List ℕ)) (id : List ℕ) (number : ℕ) (token answer again : List ℕ)
@@ -50,7 +51,7 @@ module _ (world later : World) (remains : Remains world later) (t u : ℕ) (key 
     replies_again : FirstReply later (caller_of later key) (action.Submit id number token again) first
     replies_again =
         let now = remains.rounds id round found (was_released world later remains (caller_of later key) t u id number token answer again round found none) in
-        (person, is, (now.after, row, now.found, stands, told ∙ ap (reply.Received row.n) (same_told round now.after row.verdict (sym now.mode))))
+        (person, is, (now.after, row, now.found, stands, told ∙ ap (reply.Received row.n) (same_told round now.after row.verdict (ap (λ (x : Round). x.mode) (sym now.same)))))
 
     -- so there is a step that answers it
     answers_again : (answer ≡ again → Step later u (record { key = key; action = action.Submit id number token again }) first later)
@@ -59,9 +60,9 @@ module _ (world later : World) (remains : Remains world later) (t u : ℕ) (key 
 
 -- the retry of an accepted answer has its answer
 pub retries_are_answered : RetriesAreAnswered
-retries_are_answered world kept later t u key id number token answer again n told requests replies first run =
+retries_are_answered world kept later t u key id number token answer again n told events first life =
     let h = accepted world kept t key id number token answer n told first in
-    let between : Remains kept later = run_remains kept requests replies later run in
+    let between : Remains kept later = records_stay kept later events life in
     let remains : Remains world later = remains_on world kept later (step_remains world t (record { key = key; action = action.Submit id number token answer }) (reply.Received n told) kept first) between in
     let same : caller_of later key ≡ caller_of world key = same_caller world later key h.person remains h.is in
     answers_again world later remains t u key id number token answer again h.round h.found

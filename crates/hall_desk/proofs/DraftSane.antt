@@ -25,7 +25,7 @@ use Rattle.hall_store.proofs.Changes.{get-relisted}
 use Rattle.hall_store.proofs.Tests.{not_true}
 use Rattle.hall_desk.specs.Found.{IsReleasedRound}
 use Rattle.hall_desk.specs.Step.{Allowed, draft_of}
-use Rattle.hall_desk.specs.Sane.{Sane, RefersToRows}
+use Rattle.hall_desk.specs.Sane.{Sane, RefersToRows, MayTakePart}
 use Rattle.hall_desk.specs.declared.reply.Reply.{Reply}
 use Rattle.hall_desk.proofs.Answering.{text_decides}
 
@@ -64,6 +64,11 @@ module _ (world : World) (id : List ℕ) (row : RoundRow) (places : FinMap place
   -- a released round stays one, since it is not the draft
   released_stays : (q : List ℕ) → IsReleasedRound world q → IsReleasedRound after q
   released_stays q (r, found, is) = (r, others_stay text_total same_texts world.rounds id row.round q r (another q (r, found, is)) found, is)
+
+  -- who may take part in a released round still may: its list stays
+  part_stays : (name q : List ℕ) → IsReleasedRound world q → MayTakePart world name q → MayTakePart after name q
+  part_stays name q released (person, there, entrant, no_author) =
+      (person, there, entrant, λ entry lists. no_author entry (lists.0, sym (at_other (record { round = q; number = lists.0 }) (another q released)) ∙ lists.1))
 
   module _ (own : row.round.id ≡ id) (in_range : IsRoundRow row) (there : (entry : Entry) → Contains row.puzzles entry → get world.puzzles entry.puzzle ≢ None) where
     draft_in_range : AreRowsInRange after
@@ -155,6 +160,8 @@ module _ (world : World) (id : List ℕ) (row : RoundRow) (places : FinMap place
         states = sane.states;
         answers_released = λ key answer found. released_stays key.round (sane.answers_released key answer found);
         protests_released = λ key protest found. released_stays key.round (sane.protests_released key protest found);
+        answerers = λ key answer found. part_stays key.entrant key.round (sane.answers_released key answer found) (sane.answerers key answer found);
+        protesters = λ key protest found. part_stays key.entrant key.round (sane.protests_released key protest found) (sane.protesters key protest found);
         verdicts = λ key answer found. let v = sane.verdicts key answer found in (v.0, v.1, place_stays (record { round = key.round; number = key.number }) v.0 (sane.answers_released key answer found) v.2, v.3, v.4);
         certified = λ q key stands. sane.certified q key (stood q key stands);
         in_one_round = λ a b key at_a at_b. sane.in_one_round a b key (stood a key at_a) (stood b key at_b);

@@ -5,7 +5,7 @@ use Rattle.std.specs.List.Sorted.{IsStrictlySortedBy}
 use Rattle.std.specs.FinMap.{IsAntisymmetric, get, values, from_entries}
 use Rattle.std.specs.Cmp.{IsTotalOrder}
 use Rattle.std.specs.declared.cmp.Ordering.{Ordering}
-use Rattle.hall_policy.specs.World.{World, same_text}
+use Rattle.hall_policy.specs.World.{same_text}
 use Rattle.hall_policy.specs.declared.record.Person.{Person}
 use Rattle.hall_policy.specs.declared.record.PuzzleRow.{PuzzleRow}
 use Rattle.hall_policy.specs.declared.record.AnswerRow.{AnswerRow}
@@ -59,6 +59,8 @@ empty_sane = record {
   states = λ key row found. absurd (nowhere puzzle_total PuzzleRow key row found);
   answers_released = λ key row found. absurd (nowhere answer_total AnswerRow key row found);
   protests_released = λ key row found. absurd (nowhere protest_total ProtestRow key row found);
+  answerers = λ key row found. absurd (nowhere answer_total AnswerRow key row found);
+  protesters = λ key row found. absurd (nowhere protest_total ProtestRow key row found);
   verdicts = λ key row found. absurd (nowhere answer_total AnswerRow key row found);
   certified = λ id key stands. absurd (nowhere text_total Round id stands.0 stands.2);
   in_one_round = λ a b key stands other. absurd (nowhere text_total Round a stands.0 stands.2);

@@ -145,6 +145,8 @@ module _ (world : World) (id : List ℕ) (round : Round) (released published : B
       states = sane.states;
       answers_released = λ key row found. stays_released key.round (sane.answers_released key row found);
       protests_released = λ key row found. stays_released key.round (sane.protests_released key row found);
+      answerers = sane.answerers;
+      protesters = sane.protesters;
       verdicts = sane.verdicts;
       certified = certified_then;
       in_one_round = one_round_then;

@@ -15,9 +15,9 @@ use Rattle.hall_policy.specs.declared.record.PuzzleState.{PuzzleState}
 use Rattle.hall_policy.specs.declared.request.Action.TheVariants as action
 use Rattle.hall_policy.proofs.Orders.{text_total, same_texts}
 use Rattle.hall_store.specs.Change.{with_person, with_people}
-use Rattle.hall_store.proofs.Inserts.{found_after, still_there}
+use Rattle.hall_store.proofs.Inserts.{found_after, others_stay, still_there}
 use Rattle.hall_desk.specs.Step.{Allowed}
-use Rattle.hall_desk.specs.Sane.{Sane, RefersToRows}
+use Rattle.hall_desk.specs.Sane.{Sane, RefersToRows, MayTakePart}
 use Rattle.hall_desk.specs.declared.reply.Reply.{Reply}
 
 -- ---- a person
@@ -82,6 +82,13 @@ module _ (world : World) (person : Person) (sane : Sane world) where
       homes = sane.typed.homes;
     }
 
+-- who may take part in a round still may
+still_takes_part : (world : World) (person : Person) → get world.people person.name ≡ None → (name round : List ℕ) → MayTakePart world name round →
+    MayTakePart (record world { people = insert world.people person.name person }) name round
+still_takes_part world person fresh name round (other, there, entrant, no_author) =
+    let differ : name ≢ person.name = λ same. let no : None ≡ Some other = sym fresh ∙ ap (get world.people) (sym same) ∙ there in cc in
+    (other, others_stay text_total same_texts world.people person.name person name other differ there, entrant, no_author)
+
 -- a person with a key of the own who is not director and entrant may be added
 pub person_sane : (world : World) (person : Person) → Sane world → IsPerson person → get world.people person.name ≡ None → ((name : List ℕ) (other : Person) → get world.people name ≡ Some other → other.key ≢ person.key) →
     (IsTrue person.roles.director → IsTrue person.roles.entrant → ⊥) → Sane (record world { people = insert world.people person.name person })
@@ -91,6 +98,8 @@ person_sane world person sane in_range fresh own_key one_role = record {
   states = sane.states;
   answers_released = sane.answers_released;
   protests_released = sane.protests_released;
+  answerers = λ key row found. still_takes_part world person fresh key.entrant key.round (sane.answerers key row found);
+  protesters = λ key row found. still_takes_part world person fresh key.entrant key.round (sane.protesters key row found);
   verdicts = sane.verdicts;
   certified = sane.certified;
   in_one_round = sane.in_one_round;

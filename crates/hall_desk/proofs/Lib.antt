@@ -21,6 +21,7 @@ pub mod ProtestSane
 pub mod ImportSane
 pub mod DraftSane
 pub mod StepsSane
+pub mod Histories
 pub mod Promises
 pub mod Tokens
 pub mod ProtestTokens
@@ -29,6 +30,8 @@ pub mod Remaining
 pub mod Retries
 pub mod Answered
 pub mod RulingsStay
+pub mod RulingAnswered
+pub mod SaneTokens
 pub mod ProtestRetries
 pub mod ProtestAnswered
 pub mod Stepping

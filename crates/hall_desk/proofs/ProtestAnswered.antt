@@ -1,5 +1,5 @@
 -- The retry of an accepted protest has its answer in every later world.
-use Rattle.std.proofs.Common.{◌≡◌, ◌≢◌, inr, ℕ, List, Option, Some, None, refl, sym, ◌∙◌, subst, arith, lit<}
+use Rattle.std.proofs.Common.{◌≡◌, ◌≢◌, inr, ℕ, List, Option, Some, None, refl, sym, ap, ◌∙◌, subst, arith, lit<}
 use Rattle.hall_policy.specs.World.{World, place_of, protest_of}
 use Rattle.hall_policy.specs.First.{First, NoneBelow}
 use Rattle.hall_policy.specs.declared.rule.Rule.TheVariants as rule
@@ -12,9 +12,10 @@ use Rattle.hall_policy.specs.declared.request.Request.{Request}
 use Rattle.hall_store.specs.Caller.{caller_of}
 use Rattle.hall_desk.specs.Step.{Step}
 use Rattle.hall_desk.specs.ProtestPromises.{IsAgain, ProtestRetriesAreAnswered}
+use Rattle.hall_desk.specs.Records.{Remains}
 use Rattle.hall_desk.specs.declared.reply.Reply.TheVariants as reply
 use Rattle.hall_desk.proofs.ProtestTokens.{same_protest_stands}
-use Rattle.hall_desk.proofs.Remaining.{Remains, remains_on, step_remains, run_remains}
+use Rattle.hall_desk.proofs.Remaining.{remains_on, step_remains, records_stay}
 use Rattle.hall_desk.proofs.Retries.{same_caller}
 use Rattle.hall_desk.proofs.ProtestRetries.{repeats_at_six, accepted, missing_is_other, forbids_missing}
 
@@ -80,12 +81,12 @@ module _ (world later : World) (remains : Remains world later) (t u : ℕ) (key 
 
 -- the retry of an accepted protest has its answer
 pub protest_retries_are_answered : ProtestRetriesAreAnswered
-protest_retries_are_answered world kept later t u key id token number text again_number again_text requests replies first run =
+protest_retries_are_answered world kept later t u key id token number text again_number again_text events first life =
     let h = accepted world kept t key id token number text first in
-    let between : Remains kept later = run_remains kept requests replies later run in
+    let between : Remains kept later = records_stay kept later events life in
     let remains : Remains world later = remains_on world kept later (step_remains world t (record { key = key; action = action.Protest id token number text }) (reply.Protested token) kept first) between in
     let same : caller_of later key ≡ caller_of world key = same_caller world later key h.person remains h.is in
     let stays = between.protests (record { entrant = h.person.name; round = id; token = token }) h.row h.stands in
     answers_again world later remains t u key id token number text again_number again_text
     (subst (λ (c : Option Person). NoneBelow 6 world c (action.Protest id token number text) t) (sym same) h.none)
-    h.person (same ∙ h.is) stays.after stays.found (stays.number ∙ h.same_number) (stays.text ∙ h.same_text)
+    h.person (same ∙ h.is) stays.after stays.found (ap (λ (r : ProtestRow). r.number) stays.same ∙ h.same_number) (ap (λ (r : ProtestRow). r.text) stays.same ∙ h.same_text)

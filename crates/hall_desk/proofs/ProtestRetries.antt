@@ -20,10 +20,11 @@ use Rattle.hall_store.specs.Caller.{caller_of}
 use Rattle.hall_desk.specs.Found.{IsReleasedRound}
 use Rattle.hall_desk.specs.Step.{Step, Decided, open_protest}
 use Rattle.hall_desk.specs.ProtestPromises.{IsProtestRetryOf, AcceptedProtestsStay}
+use Rattle.hall_desk.specs.Records.{Remains, StaysReleased}
 use Rattle.hall_desk.specs.declared.reply.Reply.{Reply}
 use Rattle.hall_desk.specs.declared.reply.Reply.TheVariants as reply
 use Rattle.hall_desk.proofs.ProtestTokens.{denied_by, token_decides, repeated_protest}
-use Rattle.hall_desk.proofs.Remaining.{Remains, StaysReleased, remains_on, step_remains, run_remains}
+use Rattle.hall_desk.proofs.Remaining.{remains_on, still_released, step_remains, records_stay}
 use Rattle.hall_desk.proofs.Retries.{same_caller}
 
 -- an accepted protest: no rule before the token's forbade it, and its row stands in the world after it
@@ -115,7 +116,7 @@ module _ (world later : World) (remains : Remains world later) (caller : Option 
   forbade rule.NoRole few h = inl h
   forbade rule.OtherAuthor few h = inl h
   forbade rule.Missing few (asked, inl missing) =
-      let no : true ≡ false = sym round_stays.released ∙ (missing round_stays.after round_stays.found).0 in
+      let no : true ≡ false = sym (still_released world later id was_released.0 round_stays was_released.2) ∙ (missing round_stays.after round_stays.found).0 in
       absurd (cc)
   forbade rule.Missing few (asked, inr gone) = inr (refl, gone)
   forbade rule.OwnPuzzle few (asked, (person, is, (entrant, (q, r, entry, named, at, (place, lists), own)))) =
@@ -175,15 +176,29 @@ module _ (world later : World) (remains : Remains world later) (caller : Option 
         (left, inr (inr (inr (says, (sym same_number ∙ same.0, sym same_text ∙ same.1)))))
     retried state given new Allow before decided = absurd (token_decides later caller u person id token again_number again_text row is stands 21 before (lit< tt))
 
--- an accepted protest stays accepted
-pub accepted_protests_stay : AcceptedProtestsStay
-accepted_protests_stay world kept later new t u key id token number text again_number again_text requests replies given first run (inl (says, left)) = (left, inl says)
-accepted_protests_stay world kept later new t u key id token number text again_number again_text requests replies given first run (inr (found, (decision, decides, decided))) =
+-- a retry of an accepted protest changes nothing, and is answered as one
+protests_stay : (world kept later : World) (t : ℕ) (key : Option (List ℕ)) (id token : List ℕ) (number : ℕ) (text : List ℕ) →
+    Step world t (record { key = key; action = action.Protest id token number text }) (reply.Protested token) kept → Remains kept later →
+    (u again_number : ℕ) (again_text : List ℕ) (given : Reply) (new : World) →
+    Step later u (record { key = key; action = action.Protest id token again_number again_text }) given new →
+    (new ≡ later) × IsProtestRetryOf later id token number text again_number again_text given
+protests_stay world kept later t key id token number text first between u again_number again_text given new (inl (says, left)) = (left, inl says)
+protests_stay world kept later t key id token number text first between u again_number again_text given new (inr (found, (decision, decides, decided))) =
     let h = accepted world kept t key id token number text first in
-    let between : Remains kept later = run_remains kept requests replies later run in
     let remains : Remains world later = remains_on world kept later (step_remains world t (record { key = key; action = action.Protest id token number text }) (reply.Protested token) kept first) between in
     let same : caller_of later key ≡ caller_of world key = same_caller world later key h.person remains h.is in
     let stays = between.protests (record { entrant = h.person.name; round = id; token = token }) h.row h.stands in
     retried world later remains (caller_of later key) t u id token number text again_number again_text
     (subst (λ (c : Option Person). NoneBelow 6 world c (action.Protest id token number text) t) (sym same) h.none)
-    h.person (same ∙ h.is) stays.after stays.found (stays.number ∙ h.same_number) (stays.text ∙ h.same_text) found given new decision decides decided
+    h.person (same ∙ h.is) stays.after stays.found (ap (λ (r : ProtestRow). r.number) stays.same ∙ h.same_number) (ap (λ (r : ProtestRow). r.text) stays.same ∙ h.same_text) found given new decision decides decided
+
+-- an accepted protest stays accepted
+pub accepted_protests_stay : AcceptedProtestsStay
+accepted_protests_stay world kept later t key id token number text events first life =
+    let h = accepted world kept t key id token number text first in
+    let between : Remains kept later = records_stay kept later events life in
+    let stays = between.protests (record { entrant = h.person.name; round = id; token = token }) h.row h.stands in
+    (
+      (h.person, stays.after, h.is, stays.found, (ap (λ (r : ProtestRow). r.number) stays.same ∙ h.same_number, ap (λ (r : ProtestRow). r.text) stays.same ∙ h.same_text)),
+      protests_stay world kept later t key id token number text first between,
+    )

@@ -22,10 +22,10 @@ use Rattle.hall_store.proofs.Inserts.{found_after}
 use Rattle.hall_store.proofs.Tests.{and_first, and_second}
 use Rattle.hall_desk.specs.Found.{IsReleasedRound}
 use Rattle.hall_desk.specs.Step.{Allowed, open_protest}
-use Rattle.hall_desk.specs.Sane.{Sane, RefersToRows, HasPlace}
+use Rattle.hall_desk.specs.Sane.{Sane, RefersToRows, HasPlace, MayTakePart}
 use Rattle.hall_desk.specs.declared.reply.Reply.{Reply}
 use Rattle.hall_desk.proofs.Answering.{text_decides}
-use Rattle.hall_desk.proofs.Releases.{released_found}
+use Rattle.hall_desk.proofs.Releases.{released_found, takes_part}
 
 -- whether the protest is one of the entrant in the round
 abbrev of_entrant : List ℕ → List ℕ → ProtestRow → Bool
@@ -40,7 +40,7 @@ module _ (world : World) (key : ProtestKey) (row : ProtestRow) where
   after_protest q r found = found_after protest_total same_protest_keys world.protests key row q r found
 
   module _ (own : row.key ≡ key) (in_range : IsProtestRow row) (sane : Sane world) (entrant : get world.people key.entrant ≢ None) (released : IsReleasedRound world key.round)
-      (place : HasPlace world key.round row.number) (settled : (round : Round) → get world.rounds key.round ≡ Some round → IsTrue round.published → row.ruling ≢ None)
+      (part : MayTakePart world key.entrant key.round) (place : HasPlace world key.round row.number) (settled : (round : Round) → get world.rounds key.round ≡ Some round → IsTrue round.published → row.ruling ≢ None)
       (room : get world.protests key ≡ None → protests_made world key.entrant key.round < 5) where
     few_new : (e r : List ℕ) → get world.protests key ≡ None → count_by (of_entrant e r) (values new_protests) ≤ 5
     few_new e r none = elim (of_entrant e r row) as (λ b. of_entrant e r row ≡ b → count_by (of_entrant e r) (values new_protests) ≡ protests_made world e r + cond b 1 0 → count_by (of_entrant e r) (values new_protests) ≤ 5) [
@@ -126,6 +126,11 @@ module _ (world : World) (key : ProtestKey) (row : ProtestRow) where
         | inl h ↦ subst (λ (k : ProtestKey). IsReleasedRound world k.round) (sym h.0) released
         | inr h ↦ sane.protests_released q r h.1
       ];
+      answerers = sane.answerers;
+      protesters = λ q r found. elim (after_protest q r found) [
+        | inl h ↦ subst (λ (k : ProtestKey). MayTakePart world k.entrant k.round) (sym h.0) part
+        | inr h ↦ sane.protesters q r h.1
+      ];
       verdicts = sane.verdicts;
       certified = sane.certified;
       in_one_round = sane.in_one_round;
@@ -158,10 +163,14 @@ protest_step world caller id token number text t found given new sane there aske
       text = asked.3;
       ruling = tt;
     } in
+    let released = released_found world caller (action.Protest id token number text) id refl (λ missing. (none rule.Missing (lit< tt)).0 ((2, lit< tt, refl), inl missing)) in
     subst Sane (sym made)
     (protest_sane world row.key row refl in_range sane
     (λ gone. let no : Some person ≡ None = sym (there person is) ∙ gone in cc)
-    (released_found world caller (action.Protest id token number text) id refl (λ missing. (none rule.Missing (lit< tt)).0 ((2, lit< tt, refl), inl missing)))
+    released
+    (takes_part world caller (action.Protest id token number text) person id is (there person is) refl refl released
+    (λ lacks. (none rule.NoRole (lit< tt)).0 ((1, lit< tt, refl), lacks))
+    (λ own. (none rule.OwnPuzzle (lit< tt)).0 ((3, lit< tt, refl), own)))
     (has_place world id number (λ gone. (none rule.Missing (lit< tt)).0 ((2, lit< tt, refl), inr gone)))
     (λ round kept published _. (none rule.Published (lit< tt)).0 ((7, lit< tt, refl), (id, round, refl, kept, published)))
     (λ _. lt_of_not-le (λ many. (none rule.LimitReached (lit< tt)).0 ((8, lit< tt, refl), (person, is, many)))))
@@ -178,6 +187,7 @@ rule_step world caller id entrant token ruling t found given new sane asked (row
     (protest_sane world key ruled (sane.typed.protests key row kept) in_range sane
     (sane.refers.protesters key row kept)
     (sane.protests_released key row kept)
+    (sane.protesters key row kept)
     (sane.refers.protested key row kept)
     (λ round at published unruled. let no : Some ruling ≡ None = unruled in cc)
     (λ gone. absurd (let no : Some row ≡ None = sym kept ∙ gone in cc)))

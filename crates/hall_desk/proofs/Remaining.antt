@@ -1,4 +1,4 @@
--- What no step, and so no run, takes away: who has a key, the answers and protests that stand, their rulings, and the
+-- What no event of a hall's life takes away: who has a key, the answers and protests that stand, their rulings, and the
 -- released rounds.
 use Rattle.std.proofs.Common.{◌≡◌, ◌≢◌, inl, inr, if◌then◌else◌, ℕ, suc, Bool, true, false, cond, List, [], ◌∷◌, Option, Some, None, Contains, refl, sym, ap, ◌∙◌, subst, arith, lit<}
 use Rattle.std.specs.Prelude.{find, is_some}
@@ -10,7 +10,7 @@ use Rattle.std.specs.Ordering.{is_eq}
 use Rattle.std.specs.declared.cmp.Ordering.{Ordering}
 use Rattle.std.specs.declared.cmp.Ordering.TheVariants.{Less, Equal, Greater}
 use Rattle.hall_policy.specs.Text.{text_cmp}
-use Rattle.hall_policy.specs.World.{World, place_of, protest_of, same_text, puzzle_cmp, place_cmp}
+use Rattle.hall_policy.specs.World.{World, protest_of, same_text, puzzle_cmp, place_cmp}
 use Rattle.hall_policy.specs.Rules.{Conflicts}
 use Rattle.hall_policy.specs.First.{NoneBelow}
 use Rattle.hall_policy.specs.declared.rule.Rule.TheVariants as rule
@@ -20,7 +20,6 @@ use Rattle.hall_policy.specs.declared.record.PuzzleState.{PuzzleState}
 use Rattle.hall_policy.specs.declared.record.PuzzleRow.{PuzzleRow}
 use Rattle.hall_policy.specs.declared.record.Round.{Round}
 use Rattle.hall_policy.specs.declared.record.Entry.{Entry}
-use Rattle.hall_policy.specs.declared.record.AnswerKey.{AnswerKey}
 use Rattle.hall_policy.specs.declared.record.AnswerRow.{AnswerRow}
 use Rattle.hall_policy.specs.declared.record.ProtestKey.{ProtestKey}
 use Rattle.hall_policy.specs.declared.record.ProtestRow.{ProtestRow}
@@ -33,8 +32,9 @@ use Rattle.hall_policy.proofs.Orders.{text_total, same_texts, answer_total, same
 use Rattle.hall_store.specs.Caller.{with_key, caller_of}
 use Rattle.hall_store.specs.Change.{with_person, with_people, relisted}
 use Rattle.hall_desk.specs.Found.{IsReleasedRound}
-use Rattle.hall_desk.specs.Step.{Step, Allowed, draft_of, answer_row, open_protest}
-use Rattle.hall_desk.specs.Run.{Run}
+use Rattle.hall_desk.specs.Step.{Step, Seed, Allowed, draft_of, answer_row, open_protest}
+use Rattle.hall_desk.specs.History.{Event, requested, seeded, Happens}
+use Rattle.hall_desk.specs.Records.{StaysReleased, StaysProtested, Remains, RecordsStay}
 use Rattle.hall_desk.specs.declared.reply.Reply.{Reply}
 use Rattle.hall_store.proofs.Changes.{with_people-known}
 use Rattle.hall_store.proofs.Inserts.{keys_apart, others_stay, inserted_there}
@@ -45,42 +45,23 @@ use Rattle.hall_desk.proofs.Tokens.{token_decides}
 use Rattle.hall_desk.proofs.ProtestTokens.{token_decides as protest_token_decides}
 use Rattle.hall_desk.proofs.Rulings.{ruling_decides}
 
--- a released round as it stays: in its mode, and with each place
-pub record StaysReleased (world later : World) (id : List ℕ) (round : Round) : Type 0 where
-  pub after : Round
-  pub found : get later.rounds id ≡ Some after
-  pub released : after.released ≡ true
-  pub mode : after.mode ≡ round.mode
-  pub places : (number : ℕ) → place_of later id number ≡ place_of world id number
-
--- a protest as it stays: with its number and text, and with its ruling once it has one
-pub record StaysProtested (later : World) (key : ProtestKey) (row : ProtestRow) : Type 0 where
-  pub after : ProtestRow
-  pub found : get later.protests key ≡ Some after
-  pub number : after.number ≡ row.number
-  pub text : after.text ≡ row.text
-  pub ruled : (ruling : Ruling) → row.ruling ≡ Some ruling → after.ruling ≡ Some ruling
-
--- who has a key is found by it; an answer that stands stays, and so does a protest; a released round stays
-pub record Remains (world later : World) : Type 0 where
-  pub callers : (key : Option (List ℕ)) (person : Person) → caller_of world key ≡ Some person → caller_of later key ≡ Some person
-  pub answers : (key : AnswerKey) (row : AnswerRow) → get world.answers key ≡ Some row → get later.answers key ≡ Some row
-  pub protests : (key : ProtestKey) (row : ProtestRow) → get world.protests key ≡ Some row → StaysProtested later key row
-  pub rounds : (id : List ℕ) (round : Round) → get world.rounds id ≡ Some round → round.released ≡ true → StaysReleased world later id round
+-- a released round that stays is released
+pub still_released : (world later : World) (id : List ℕ) (round : Round) → (stays : StaysReleased world later id round) → round.released ≡ true → stays.after.released ≡ true
+still_released world later id round stays is = ap (λ (r : Round). r.released) stays.same ∙ is
 
 -- a round that is found with its places is as it was
 stays_as_found : (world later : World) (id : List ℕ) (round : Round) → get later.rounds id ≡ Some round → round.released ≡ true → later.places ≡ world.places → StaysReleased world later id round
 stays_as_found world later id round at is places = record {
   after = round;
   found = at;
-  released = is;
-  mode = refl;
+  same = refl;
+  risen = λ published. published;
   places = λ number. ap (λ (m : FinMap place_cmp Entry). get m (record { round = id; number = number })) places;
 }
 
 -- a protest that is found as it was
 protest_as_found : (later : World) (key : ProtestKey) (row : ProtestRow) → get later.protests key ≡ Some row → StaysProtested later key row
-protest_as_found later key row at = record { after = row; found = at; number = refl; text = refl; ruled = λ ruling is. is }
+protest_as_found later key row at = record { after = row; found = at; same = refl; ruled = λ ruling is. is }
 
 -- the caller is told by the people alone
 callers_stay : (world later : World) → later.people ≡ world.people → (key : Option (List ℕ)) (person : Person) → caller_of world key ≡ Some person → caller_of later key ≡ Some person
@@ -89,7 +70,7 @@ callers_stay world later same (Some key) person is = ap (λ (people : FinMap tex
 
 -- a world keeps what it has
 remains_itself : (world : World) → Remains world world
-remains_itself world = record { callers = λ key person is. is; answers = λ key row at. at; protests = protest_as_found world; rounds = λ id round at is. stays_as_found world world id round at is refl }
+remains_itself world = record { people = λ name person at. at; callers = λ key person is. is; answers = λ key row at. at; protests = protest_as_found world; rounds = λ id round at is. stays_as_found world world id round at is refl }
 
 -- so does one that is the same
 remains_same : (world new : World) → new ≡ world → Remains world new
@@ -98,16 +79,28 @@ remains_same world new same = subst (λ (w : World). Remains world w) (sym same)
 -- what is kept of what was kept
 pub remains_on : (world mid later : World) → Remains world mid → Remains mid later → Remains world later
 remains_on world mid later first second = record {
+  people = λ name person at. second.people name person (first.people name person at);
   callers = λ key person is. second.callers key person (first.callers key person is);
   answers = λ key row at. second.answers key row (first.answers key row at);
   protests = λ key row at.
       let a = first.protests key row at in
       let b = second.protests key a.after a.found in
-      record { after = b.after; found = b.found; number = b.number ∙ a.number; text = b.text ∙ a.text; ruled = λ ruling is. b.ruled ruling (a.ruled ruling is) };
+      record {
+        after = b.after;
+        found = b.found;
+        same = b.same ∙ ap (λ (r : ProtestRow). let now : ProtestRow = record r { ruling = b.after.ruling } in now) a.same;
+        ruled = λ ruling is. b.ruled ruling (a.ruled ruling is);
+      };
   rounds = λ id round at is.
       let a = first.rounds id round at is in
-      let b = second.rounds id a.after a.found a.released in
-      record { after = b.after; found = b.found; released = b.released; mode = b.mode ∙ a.mode; places = λ number. b.places number ∙ a.places number };
+      let b = second.rounds id a.after a.found (still_released world mid id round a is) in
+      record {
+        after = b.after;
+        found = b.found;
+        same = b.same ∙ ap (λ (r : Round). let now : Round = record r { published = b.after.published } in now) a.same;
+        risen = λ published. b.risen (a.risen published);
+        places = λ number. b.places number ∙ a.places number;
+      };
 }
 
 -- a world whose puzzles change keeps the rest
@@ -115,7 +108,13 @@ puzzles_change : (world new : World) (puzzles : FinMap puzzle_cmp PuzzleRow) →
 puzzles_change world new puzzles made =
     let after : World = record world { puzzles = puzzles } in
     subst (λ (w : World). Remains world w) (sym made)
-    (record { callers = callers_stay world after refl; answers = λ key row at. at; protests = protest_as_found after; rounds = λ id round at is. stays_as_found world after id round at is refl })
+    (record {
+      people = λ name person at. at;
+      callers = callers_stay world after refl;
+      answers = λ key row at. at;
+      protests = protest_as_found after;
+      rounds = λ id round at is. stays_as_found world after id round at is refl;
+    })
 
 -- ---- an Import
 -- who is found first stays so, as a value that fails the test is put under a new key
@@ -173,17 +172,30 @@ still_callers : (world : World) (people : List Person) → ((person : Person) �
 still_callers world people fits None person is = is
 still_callers world people fits (Some key) person is = found_in_list world.people people key (not_given world people key person fits is) ∙ is
 
--- an Import's rule denies a list that conflicts with somebody
-import_remains : (world : World) (caller : Option Person) (people : List Person) (t : ℕ) (found : PuzzleState) (given : Reply) (new : World) →
-    NoneBelow 21 world caller (action.Import people) t → Allowed world caller (action.Import people) t found given new → Remains world new
-import_remains world caller people t found given new none (told, made) =
+-- people who conflict with nobody leave the rest
+people_join : (world : World) (people : List Person) (new : World) → ((person : Person) → Contains people person → ¬ (Conflicts world person)) →
+    new ≡ record world { people = with_people world.people people } → Remains world new
+people_join world people new fits made =
     let after : World = record world { people = with_people world.people people } in
     subst (λ (w : World). Remains world w) (sym made) (record {
-      callers = still_callers world people (λ person among conflict. (none rule.ListConflict (lit< tt)).0 ((2, lit< tt, refl), (person, among, conflict)));
+      people = λ name person at. with_people-known world.people people name person at;
+      callers = still_callers world people fits;
       answers = λ key row at. at;
       protests = protest_as_found after;
       rounds = λ id round at is. stays_as_found world after id round at is refl;
     })
+
+-- an Import's rule denies a list that conflicts with somebody
+import_remains : (world : World) (caller : Option Person) (people : List Person) (t : ℕ) (found : PuzzleState) (given : Reply) (new : World) →
+    NoneBelow 21 world caller (action.Import people) t → Allowed world caller (action.Import people) t found given new → Remains world new
+import_remains world caller people t found given new none (told, made) =
+    people_join world people new (λ person among conflict. (none rule.ListConflict (lit< tt)).0 ((2, lit< tt, refl), (person, among, conflict))) made
+
+-- and so does a list before any request
+seed_remains : (world : World) (people : List Person) (given : Reply) (new : World) → Seed world people given new → Remains world new
+seed_remains world people given new (inl h) = remains_same world new h.1
+seed_remains world people given new (inr (inl h)) = remains_same world new h.2
+seed_remains world people given new (inr (inr (clear, (told, made)))) = people_join world people new (λ person among conflict. clear (person, among, conflict)) made
 
 -- ---- a round
 -- a draft that is put leaves the released rounds
@@ -193,6 +205,7 @@ put_round_remains world caller id sheet t found given new none (told, made) =
     let draft : Round = draft_of id sheet in
     let after : World = record world { rounds = insert world.rounds id draft; places = relisted world.places id sheet.puzzles } in
     subst (λ (w : World). Remains world w) (sym made) (record {
+      people = λ name person at. at;
       callers = callers_stay world after refl;
       answers = λ key row at. at;
       protests = protest_as_found after;
@@ -201,18 +214,19 @@ put_round_remains world caller id sheet t found given new none (told, made) =
           record {
             after = r;
             found = others_stay text_total same_texts world.rounds id draft q r other at;
-            released = is;
-            mode = refl;
+            same = refl;
+            risen = λ published. published;
             places = λ number. relisted_other world.places id sheet.puzzles (record { round = q; number = number }) other;
           };
     })
 
--- a round that stays released where it was, and in its mode, leaves the rest
-round_changes : (world new : World) (id : List ℕ) (round now : Round) → get world.rounds id ≡ Some round → (round.released ≡ true → now.released ≡ true) → now.mode ≡ round.mode →
-    new ≡ record world { rounds = insert world.rounds id now } → Remains world new
-round_changes world new id round now kept stays mode made =
+-- a round of which a flag rises, that of publication where it was released before, leaves the rest
+round_changes : (world new : World) (id : List ℕ) (round now : Round) → get world.rounds id ≡ Some round → (round.released ≡ true → now ≡ record round { published = now.published }) →
+    (round.published ≡ true → now.published ≡ true) → new ≡ record world { rounds = insert world.rounds id now } → Remains world new
+round_changes world new id round now kept same risen made =
     let after : World = record world { rounds = insert world.rounds id now } in
     subst (λ (w : World). Remains world w) (sym made) (record {
+      people = λ name person at. at;
       callers = callers_stay world after refl;
       answers = λ key row at. at;
       protests = protest_as_found after;
@@ -223,11 +237,11 @@ round_changes world new id round now kept stays mode made =
             record {
               after = now;
               found = inserted_there text_total same_texts world.rounds id now q own;
-              released = stays (ap (λ (x : Round). x.released) one ∙ is);
-              mode = mode ∙ ap (λ (x : Round). x.mode) one;
+              same = same (ap (λ (x : Round). x.released) one ∙ is) ∙ ap (λ (x : Round). let risen_one : Round = record x { published = now.published } in risen_one) one;
+              risen = λ published. risen (ap (λ (x : Round). x.published) one ∙ published);
               places = λ number. refl;
             }
-        | inr other ↦ record { after = r; found = others_stay text_total same_texts world.rounds id now q r other at; released = is; mode = refl; places = λ number. refl }
+        | inr other ↦ stays_as_found world after q r (others_stay text_total same_texts world.rounds id now q r other at) is refl
       ];
     })
 
@@ -238,11 +252,12 @@ submit_remains world caller id number token answer t found given new none (perso
     let row : AnswerRow = answer_row world person id number token answer t verdict in
     let after : World = record world { answers = insert world.answers row.key row } in
     subst (λ (w : World). Remains world w) (sym made) (record {
+      people = λ name person at. at;
       callers = callers_stay world after refl;
       answers = λ key old at. others_stay answer_total same_answer_keys world.answers row.key row key old
           (λ own. token_decides world caller t person id number token answer old is (ap (get world.answers) (sym own) ∙ at) 21 none (lit< tt)) at;
       protests = protest_as_found after;
-      rounds = λ q r at is. record { after = r; found = at; released = is; mode = refl; places = λ number. refl };
+      rounds = λ q r at is. stays_as_found world after q r at is refl;
     })
 
 -- a Protest stores its row where none stands
@@ -252,11 +267,12 @@ protest_remains world caller id token number text t found given new none (person
     let row : ProtestRow = open_protest person id token number text in
     let after : World = record world { protests = insert world.protests row.key row } in
     subst (λ (w : World). Remains world w) (sym made) (record {
+      people = λ name person at. at;
       callers = callers_stay world after refl;
       answers = λ key old at. at;
       protests = λ key old at. protest_as_found after key old (others_stay protest_total same_protest_keys world.protests row.key row key old
           (λ own. protest_token_decides world caller t person id token number text old is (ap (get world.protests) (sym own) ∙ at) 21 none (lit< tt)) at);
-      rounds = λ q r at is. record { after = r; found = at; released = is; mode = refl; places = λ number. refl };
+      rounds = λ q r at is. stays_as_found world after q r at is refl;
     })
 
 -- a Rule rules its protest where no ruling stands
@@ -267,6 +283,7 @@ rule_remains world caller id entrant token ruling t found given new none (row, k
     let now : ProtestRow = record row { ruling = Some ruling } in
     let after : World = record world { protests = insert world.protests own_key now } in
     subst (λ (w : World). Remains world w) (sym made) (record {
+      people = λ name person at. at;
       callers = callers_stay world after refl;
       answers = λ key old at. at;
       protests = λ key old at. elim (keys_apart protest_total same_protest_keys key own_key) [
@@ -277,14 +294,17 @@ rule_remains world caller id entrant token ruling t found given new none (row, k
             record {
               after = now;
               found = inserted_there protest_total same_protest_keys world.protests own_key now key own;
-              number = ap (λ (r : ProtestRow). r.number) one;
-              text = ap (λ (r : ProtestRow). r.text) one;
+              same = ap (λ (r : ProtestRow). let ruled_one : ProtestRow = record r { ruling = Some ruling } in ruled_one) one;
               ruled = λ ruled is. absurd (ruling_decides world caller t id entrant token ruling ruled old there is 21 none (lit< tt));
             }
         | inr other ↦ protest_as_found after key old (others_stay protest_total same_protest_keys world.protests own_key now key old other at)
       ];
-      rounds = λ q r at is. record { after = r; found = at; released = is; mode = refl; places = λ number. refl };
+      rounds = λ q r at is. stays_as_found world after q r at is refl;
     })
+
+-- a round that is released already is left as it is by its release
+released_as_it_was : (round : Round) → round.released ≡ true → ◌≡◌ {A = Round} (record round { released = true }) (record round { published = round.published })
+released_as_it_was round is = ap (λ (b : Bool). let now : Round = record round { released = b } in now) (sym is)
 
 -- a PutPuzzle and a Certify change puzzles alone, a Release and a Publish one flag of their round; what else takes
 -- effect is said above
@@ -294,8 +314,8 @@ allowed_remains world caller (action.PutPuzzle key puzzle) t found given new non
 allowed_remains world caller (action.PutPuzzle key puzzle) t found given new none (text, canonical, inr h) = puzzles_change world new _ h.2
 allowed_remains world caller (action.Certify key budget) t found given new none (row, kept, inl h) = puzzles_change world new _ h.stored
 allowed_remains world caller (action.Certify key budget) t found given new none (row, kept, inr h) = remains_same world new h.same
-allowed_remains world caller (action.Release id) t found given new none (round, kept, told, made) = round_changes world new id round (record round { released = true }) kept (λ _. refl) refl made
-allowed_remains world caller (action.Publish id) t found given new none (round, kept, told, made) = round_changes world new id round (record round { published = true }) kept (λ is. is) refl made
+allowed_remains world caller (action.Release id) t found given new none (round, kept, told, made) = round_changes world new id round (record round { released = true }) kept (λ is. released_as_it_was round is) (λ is. is) made
+allowed_remains world caller (action.Publish id) t found given new none (round, kept, told, made) = round_changes world new id round (record round { published = true }) kept (λ _. refl) (λ _. refl) made
 allowed_remains world caller (action.Submit id number token answer) t found given new none h = submit_remains world caller id number token answer t found given new none h
 allowed_remains world caller (action.Import people) t found given new none h = import_remains world caller people t found given new none h
 allowed_remains world caller (action.PutRound id sheet) t found given new none h = put_round_remains world caller id sheet t found given new none h
@@ -318,10 +338,13 @@ step_remains world t request given new (inr (found, (Repeat, first, decided))) =
 step_remains world t request given new (inr (found, (Allow, none, decided))) =
     allowed_remains world (caller_of world request.key) request.action t found given new none decided
 
--- a run keeps them
-pub run_remains : (world : World) (requests : List (ℕ × Request)) (replies : List Reply) (last : World) → Run world requests replies last → Remains world last
-run_remains world [] [] last run = remains_same world last run
-run_remains world [] (r ∷ replies) last run = absurd run
-run_remains world (q ∷ requests) [] last run = absurd run
-run_remains world (q ∷ requests) (r ∷ replies) last run =
-    remains_on world run.0 last (step_remains world q.0 q.1 r run.0 run.1) (run_remains run.0 requests replies last run.2)
+-- an event of a hall's life keeps them
+event_remains : (world : World) (event : Event) (next : World) → Happens world event next → Remains world next
+event_remains world (requested t request given) next step = step_remains world t request given next step
+event_remains world (seeded people given) next seed = seed_remains world people given next seed
+
+-- and so does the whole life
+pub records_stay : RecordsStay
+records_stay world last [] life = remains_same world last life
+records_stay world last (event ∷ rest) life =
+    remains_on world life.0 last (event_remains world event life.0 life.1) (records_stay life.0 last rest life.2)

@@ -1,5 +1,5 @@
 -- An accepted answer stays accepted, whatever comes between.
-use Rattle.std.proofs.Common.{◌≡◌, ◌≢◌, ◌≤◌, inl, inr, ℕ, true, false, List, Option, Some, None, refl, sym, ap, ◌∙◌, subst, arith, lit<, if◌then◌else◌}
+use Rattle.std.proofs.Common.{◌≡◌, ◌≢◌, ◌⊎◌, ◌≤◌, inl, inr, ℕ, true, false, List, Option, Some, None, refl, sym, ap, ◌∙◌, subst, arith, lit<, if◌then◌else◌}
 use Rattle.std.proofs.Math.Bool.{and-false}
 use Rattle.std.specs.FinMap.{get}
 use Rattle.hall_policy.specs.World.{World, place_of}
@@ -20,11 +20,12 @@ use Rattle.hall_policy.proofs.Orders.{answer_total}
 use Rattle.hall_store.specs.Caller.{caller_of}
 use Rattle.hall_desk.specs.Shown.{told_verdict, is_sealed}
 use Rattle.hall_desk.specs.Step.{Step, Decided, answer_row}
-use Rattle.hall_desk.specs.Promises.{IsToldAgain, IsRetryOf, AcceptedAnswersStay}
+use Rattle.hall_desk.specs.Promises.{IsToldAgain, IsAcceptedNow, IsAcceptedRow, IsRetryOf, AcceptedAnswersStay}
+use Rattle.hall_desk.specs.Records.{Remains}
 use Rattle.hall_desk.specs.declared.reply.Reply.{Reply}
 use Rattle.hall_desk.specs.declared.reply.Reply.TheVariants as reply
 use Rattle.hall_desk.proofs.Tokens.{denied_by, token_decides, repeated_text, first_reply}
-use Rattle.hall_desk.proofs.Remaining.{Remains, remains_on, step_remains, run_remains}
+use Rattle.hall_desk.proofs.Remaining.{remains_on, still_released, step_remains, records_stay}
 
 -- an accepted answer: no rule before the token's forbade it, and its row stands in the world after it
 pub record IsAccepted (world kept : World) (t : ℕ) (caller : Option Person) (id : List ℕ) (number : ℕ) (token answer : List ℕ) (given : Reply) : Type 0 where
@@ -36,6 +37,7 @@ pub record IsAccepted (world kept : World) (t : ℕ) (caller : Option Person) (i
   pub stands : get kept.answers (record { entrant = person.name; round = id; number = number; token = token }) ≡ Some row
   pub text : row.answer ≡ answer
   pub told : given ≡ reply.Received row.n (told_verdict round row.verdict)
+  pub since : (get world.answers (record { entrant = person.name; round = id; number = number; token = token }) ≡ Some row) ⊎ IsAcceptedNow world t person.name id number token row
   pub none : NoneBelow 6 world caller (action.Submit id number token answer) t
 
 -- the one rule that repeats a Submit is the token's
@@ -59,6 +61,7 @@ accepted world kept t key id number token answer n told (inr (found, (Repeat, (r
   stands = ap (λ (w : World). get w.answers (record { entrant = person.name; round = id; number = number; token = token })) left ∙ stands;
   text = repeated_text world (caller_of world key) t person id number token answer row is stands r repeated;
   told = says;
+  since = inl stands;
   none = subst (λ (m : ℕ). NoneBelow m world (caller_of world key) (action.Submit id number token answer) t) (repeats_at_six world (caller_of world key) id number token answer r repeated) none;
 }
 accepted world kept t key id number token answer n told (inr (found, (Allow, none, (person, is, (round, entry, puzzle, verdict, at, place, grid, judged, (says, made)))))) =
@@ -72,6 +75,14 @@ accepted world kept t key id number token answer n told (inr (found, (Allow, non
       stands = ap (λ (w : World). get w.answers row.key) made ∙ get-insert_same answer_total world.answers row.key row;
       text = refl;
       told = says;
+      since = inr (record {
+        fresh = elim (get world.answers row.key) as (λ (o : Option AnswerRow). get world.answers row.key ≡ o → o ≡ None) [
+          | None ↦ λ e. refl
+          | Some old ↦ λ e. absurd (token_decides world (caller_of world key) t person id number token answer old is e 21 none (lit< tt))
+        ] refl;
+        moment = refl;
+        verdict = (entry, puzzle, place, grid, judged);
+      });
       none = λ r few. none r (omega arith);
     }
 
@@ -105,7 +116,7 @@ module _ (world later : World) (remains : Remains world later) (caller : Option 
   forbade rule.OtherAuthor few h = h
   forbade rule.Missing few (asked, inl missing) =
       let now = remains.rounds id round found was_released in
-      let no : true ≡ false = sym now.released ∙ (missing now.after now.found).0 in
+      let no : true ≡ false = sym (still_released world later id round now was_released) ∙ (missing now.after now.found).0 in
       absurd (cc)
   forbade rule.Missing few (asked, inr gone) = (asked, inr (sym ((remains.rounds id round found was_released).places number) ∙ gone))
   forbade rule.OwnPuzzle few (asked, (person, is, (entrant, (q, r, entry, named, at, (place, lists), own)))) =
@@ -143,7 +154,7 @@ module _ (world later : World) (remains : Remains world later) (caller : Option 
         let now = remains.rounds id round found was_released in
         let both : Some h.round ≡ Some now.after = sym h.kept ∙ now.found in
         let one : h.round ≡ now.after = cc in
-        let mode : h.round.mode ≡ round.mode = ap (λ (x : Round). x.mode) one ∙ now.mode in
+        let mode : h.round.mode ≡ round.mode = ap (λ (x : Round). x.mode) (one ∙ now.same) in
         (sym h.same_answer ∙ text, h.told ∙ ap (reply.Received row.n) (same_told h.round round row.verdict mode) ∙ sym told)
 
     -- a denial of the retry is that of the token's rule, for another text
@@ -162,14 +173,29 @@ module _ (world later : World) (remains : Remains world later) (caller : Option 
         (left, inr (inr (told_again given (first_reply later caller u person id number token again row is stands given (repeated_text later caller u person id number token again row is stands r repeated) says))))
     retried state given new Allow before decided = absurd (token_decides later caller u person id number token again row is stands 21 before (lit< tt))
 
--- an accepted answer stays accepted
-pub accepted_answers_stay : AcceptedAnswersStay
-accepted_answers_stay world kept later new t u key id number token answer again n told requests replies given first run (inl (says, left)) = (left, inl says)
-accepted_answers_stay world kept later new t u key id number token answer again n told requests replies given first run (inr (found, (decision, decides, decided))) =
+-- a retry of an accepted answer changes nothing, and is answered as one
+answers_stay : (world kept later : World) (t : ℕ) (key : Option (List ℕ)) (id : List ℕ) (number : ℕ) (token answer : List ℕ) (n : ℕ) (told : Option ℕ) →
+    Step world t (record { key = key; action = action.Submit id number token answer }) (reply.Received n told) kept → Remains kept later →
+    (u : ℕ) (again : List ℕ) (given : Reply) (new : World) → Step later u (record { key = key; action = action.Submit id number token again }) given new →
+    (new ≡ later) × IsRetryOf answer again (reply.Received n told) given
+answers_stay world kept later t key id number token answer n told first between u again given new (inl (says, left)) = (left, inl says)
+answers_stay world kept later t key id number token answer n told first between u again given new (inr (found, (decision, decides, decided))) =
     let h = accepted world kept t key id number token answer n told first in
-    let between : Remains kept later = run_remains kept requests replies later run in
     let remains : Remains world later = remains_on world kept later (step_remains world t (record { key = key; action = action.Submit id number token answer }) (reply.Received n told) kept first) between in
     let same : caller_of later key ≡ caller_of world key = same_caller world later key h.person remains h.is in
     retried world later remains (caller_of later key) t u id number token answer again h.round h.found
     (subst (λ (c : Option Person). NoneBelow 6 world c (action.Submit id number token answer) t) (sym same) h.none)
     h.person (same ∙ h.is) h.row (between.answers _ h.row h.stands) h.text (reply.Received n told) h.told found given new decision decides decided
+
+-- an accepted answer stays accepted
+pub accepted_answers_stay : AcceptedAnswersStay
+accepted_answers_stay world kept later t key id number token answer n told events first life =
+    let h = accepted world kept t key id number token answer n told first in
+    let between : Remains kept later = records_stay kept later events life in
+    let accepted_row : IsAcceptedRow world t h.person.name id number token answer (reply.Received n told) h.row = record {
+      told = record { round = h.round; kept = h.found; same_answer = h.text; told = h.told };
+      since = h.since;
+    } in (
+      (h.person, h.row, h.is, accepted_row, between.answers (record { entrant = h.person.name; round = id; number = number; token = token }) h.row h.stands),
+      answers_stay world kept later t key id number token answer n told first between,
+    )

@@ -1,8 +1,9 @@
 -- A ruling acts once.
-use Rattle.std.proofs.Common.{◌≡◌, ◌⊎◌, ◌<◌, ◌≤◌, inl, inr, ℕ, List, Option, Some, None, refl, sym, ap, ◌∙◌, subst, lit<, lit≤}
+use Rattle.std.proofs.Common.{◌≡◌, ◌⊎◌, ◌<◌, inl, inr, ℕ, zero, suc, true, false, List, Option, Some, None, Contains, refl, sym, ap, ◌∙◌, subst, arith, lit<}
 use Rattle.hall_policy.specs.World.{World, protest_of}
-use Rattle.hall_policy.specs.Actions.{number_of}
-use Rattle.hall_policy.specs.First.{NoneBelow, Forbids, Repeated}
+use Rattle.hall_policy.specs.Actions.{number_of, rules_asked}
+use Rattle.hall_policy.specs.Rules.{RoundIsMissing}
+use Rattle.hall_policy.specs.First.{NoneBelow, Sentence, Forbids, Repeated}
 use Rattle.hall_policy.specs.declared.rule.Rule.{Rule}
 use Rattle.hall_policy.specs.declared.rule.Rule.TheVariants as rule
 use Rattle.hall_policy.specs.declared.rule.Decision.TheVariants.{Allow, Repeat, Deny}
@@ -12,16 +13,20 @@ use Rattle.hall_policy.specs.declared.record.Ruling.{Ruling}
 use Rattle.hall_policy.specs.declared.request.Action.TheVariants as action
 use Rattle.hall_store.specs.Caller.{caller_of}
 use Rattle.hall_desk.specs.Step.{FirstReply}
-use Rattle.hall_desk.specs.Promises.{IsRulingRetryAnswered, RulingsActOnce}
+use Rattle.hall_desk.specs.Found.{IsReleasedRound}
+use Rattle.hall_desk.specs.Promises.{IsRulerDenied, IsRulingRetryAnswered, RulingsActOnce}
 use Rattle.hall_desk.specs.declared.reply.Reply.{Reply}
 use Rattle.hall_desk.specs.declared.reply.Reply.TheVariants as reply
 
--- a rule with a number up to 18 comes before the one on rulings, or is it
-up_to_ruling : (r : Rule) → ¬ (18 < number_of r) → (number_of r ≤ 17) ⊎ (r ≡ rule.RuledOtherwise)
-up_to_ruling rule.RuledOtherwise few = inr refl
-up_to_ruling rule.LimitReached few = absurd (few (lit< tt))
-up_to_ruling rule.ListConflict few = absurd (few (lit< tt))
-up_to_ruling _ few = inl (lit≤ tt)
+-- the rules that are asked of a ruling
+pub ruling_rules : (id entrant token : List ℕ) (ruling : Ruling) (r : Rule) → Contains (rules_asked (action.Rule id entrant token ruling)) r →
+    (r ≡ rule.UnknownKey) ⊎ ((r ≡ rule.NoRole) ⊎ ((r ≡ rule.Missing) ⊎ ((r ≡ rule.Involved) ⊎ (r ≡ rule.RuledOtherwise))))
+ruling_rules id entrant token ruling r (zero, within, is) = inl (sym is)
+ruling_rules id entrant token ruling r (suc zero, within, is) = inr (inl (sym is))
+ruling_rules id entrant token ruling r (suc (suc zero), within, is) = inr (inr (inl (sym is)))
+ruling_rules id entrant token ruling r (suc (suc (suc zero)), within, is) = inr (inr (inr (inl (sym is))))
+ruling_rules id entrant token ruling r (suc (suc (suc (suc zero))), within, is) = inr (inr (inr (inr (sym is))))
+ruling_rules id entrant token ruling r (suc (suc (suc (suc (suc i)))), within, is) = absurd (omega arith)
 
 module _ (world : World) (caller : Option Person) (t : ℕ) (id entrant token : List ℕ) (ruling ruled : Ruling) (row : ProtestRow)
     (stands : protest_of world entrant id token ≡ Some row) (so : row.ruling ≡ Some ruled) where
@@ -47,27 +52,42 @@ module _ (world : World) (caller : Option Person) (t : ℕ) (id entrant token : 
   repeated_ruling rule.RuledOtherwise (asked, (found, at, same)) = sym (one_ruling found ruling at same)
   repeated_ruling _ (asked, same) = absurd same
 
-  -- a rule that denies comes before the one on rulings, or is it, for another ruling
-  denied : (r : Rule) (k : ℕ) (given : Reply) → number_of r ≡ k → Forbids r world caller (action.Rule id entrant token ruling) t →
-      NoneBelow k world caller (action.Rule id entrant token ruling) t → given ≡ reply.Denied k → IsRulingRetryAnswered ruled ruling given
-  denied r k given own forbids none told = elim (up_to_ruling r (λ past. ruling_decides k none (subst (λ (n : ℕ). 18 < n) own past))) [
-    | inl before ↦ inr (inl (k, told, subst (λ (n : ℕ). n ≤ 17) own before))
-    | inr last ↦
-        let eighteen : k ≡ 18 = sym own ∙ ap number_of last in
-        let forbids_last : Forbids rule.RuledOtherwise world caller (action.Rule id entrant token ruling) t = subst (λ (x : Rule). Forbids x world caller (action.Rule id entrant token ruling) t) last forbids in
-        inr (inr (inl (told ∙ ap reply.Denied eighteen, λ same. forbids_last.1.1 (row, stands, so ∙ ap Some same))))
+  -- the round isn't there or is a draft, where the rule on what isn't there denies it: the protest stands
+  pub not_released : RoundIsMissing world caller (action.Rule id entrant token ruling) id → ¬ (IsReleasedRound world id)
+  not_released missing (round, kept, released) = let no : true ≡ false = sym released ∙ (missing round kept).0 in cc
+
+  -- what a rule says of the ruling that forbids it
+  forbidding : (r x : Rule) → r ≡ x → Forbids r world caller (action.Rule id entrant token ruling) t → Sentence x world caller (action.Rule id entrant token ruling) t
+  forbidding r x same forbids = (subst (λ (y : Rule). Forbids y world caller (action.Rule id entrant token ruling) t) same forbids).1
+
+  -- a rule that denies it is one on the ruler, that on what isn't there, or the one on rulings, for another ruling
+  denied : (r : Rule) (given : Reply) → Forbids r world caller (action.Rule id entrant token ruling) t → given ≡ reply.Denied (number_of r) →
+      ((given ≡ reply.Denied 4) × ¬ (IsReleasedRound world id))
+      ⊎ (IsRulerDenied world caller (action.Rule id entrant token ruling) t given ⊎ IsRulingRetryAnswered ruled ruling given)
+  denied r given forbids told = elim (ruling_rules id entrant token ruling r forbids.0) [
+    | inl same ↦ inr (inl (inl (told ∙ ap (λ (x : Rule). reply.Denied (number_of x)) same, forbidding r rule.UnknownKey same forbids)))
+    | inr (inl same) ↦ inr (inl (inr (inl (told ∙ ap (λ (x : Rule). reply.Denied (number_of x)) same, forbidding r rule.NoRole same forbids))))
+    | inr (inr (inl same)) ↦ elim (forbidding r rule.Missing same forbids) [
+      | inl missing ↦ inl (told ∙ ap (λ (x : Rule). reply.Denied (number_of x)) same, not_released missing)
+      | inr gone ↦ absurd (let no : Some row ≡ None = sym stands ∙ gone in cc)
+    ]
+    | inr (inr (inr (inl same))) ↦ inr (inl (inr (inr (told ∙ ap (λ (x : Rule). reply.Denied (number_of x)) same, forbidding r rule.Involved same forbids))))
+    | inr (inr (inr (inr same))) ↦ inr (inr (inr (inl (
+      told ∙ ap (λ (x : Rule). reply.Denied (number_of x)) same,
+      λ alike. (forbidding r rule.RuledOtherwise same forbids).1 (row, stands, so ∙ ap Some alike),
+    ))))
   ]
 
   -- the first reply tells the ruling that stands
   told_again : (given : Reply) → ruled ≡ ruling → FirstReply world caller (action.Rule id entrant token ruling) given → IsRulingRetryAnswered ruled ruling given
-  told_again given same (found, other, at, is, told) = inr (inr (inr (same, told ∙ ap reply.Ruled (one_ruling found other at is))))
+  told_again given same (found, other, at, is, told) = inr (inr (same, told ∙ ap reply.Ruled (one_ruling found other at is)))
 
 -- a ruling acts once
 pub rulings_act_once : RulingsActOnce
-rulings_act_once world t key id entrant token ruling ruled row given new stands so (inl (told, left)) = (left, inl told)
+rulings_act_once world t key id entrant token ruling ruled row given new stands so (inl (told, left)) = (left, inr (inr (inl told)))
 rulings_act_once world t key id entrant token ruling ruled row given new stands so (inr (found, (Deny k, (r, own, forbids, none), (told, left)))) =
-    (left, denied world (caller_of world key) t id entrant token ruling ruled row stands so r k given own forbids none told)
+    (left, denied world (caller_of world key) t id entrant token ruling ruled row stands so r given forbids (told ∙ ap reply.Denied (sym own)))
 rulings_act_once world t key id entrant token ruling ruled row given new stands so (inr (found, (Repeat, (r, repeated, none), (first, left)))) =
-    (left, told_again world (caller_of world key) t id entrant token ruling ruled row stands so given (repeated_ruling world (caller_of world key) t id entrant token ruling ruled row stands so r repeated) first)
+    (left, inr (inr (told_again world (caller_of world key) t id entrant token ruling ruled row stands so given (repeated_ruling world (caller_of world key) t id entrant token ruling ruled row stands so r repeated) first)))
 rulings_act_once world t key id entrant token ruling ruled row given new stands so (inr (found, (Allow, none, decided))) =
     absurd (ruling_decides world (caller_of world key) t id entrant token ruling ruled row stands so 21 none (lit< tt))

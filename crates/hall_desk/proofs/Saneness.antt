@@ -17,7 +17,7 @@ use Rattle.hall_desk.proofs.Answering.{text_decides}
 use Rattle.hall_store.proofs.Inserts.{found_after, others_stay, still_there}
 use Rattle.std.specs.Cmp.{unsigned_Decides}
 use Rattle.hall_desk.specs.Found.{IsReleasedRound}
-use Rattle.hall_desk.specs.Sane.{Sane, RefersToRows, IsTrueState, IsVerdictAt, HasPlace}
+use Rattle.hall_desk.specs.Sane.{Sane, RefersToRows, IsTrueState, IsVerdictAt, HasPlace, MayTakePart}
 
 and_all : (a b c : Bool) → a ≡ true → b ≡ true → c ≡ true → (a && (b && c)) ≡ true
 and_all true true true p q r = refl
@@ -114,6 +114,8 @@ module _ (world : World) (key : PuzzleKey) (row : PuzzleRow) where
       ];
       answers_released = sane.answers_released;
       protests_released = sane.protests_released;
+      answerers = sane.answerers;
+      protesters = sane.protesters;
       verdicts = λ k answer found.
           let v = sane.verdicts k answer found in
           let r = sane.answers_released k answer found in
@@ -145,7 +147,7 @@ module _ (world : World) (row : AnswerRow) where
   of_place entrant round number r = same_text r.key.entrant entrant && (same_text r.key.round round && (r.key.number == number))
 
   module _ (sane : Sane world) (in_range : IsAnswerRow row) (fresh : get world.answers row.key ≡ None) (entrant : get world.people row.key.entrant ≢ None) (released : IsReleasedRound world row.key.round)
-      (verdict : IsVerdictAt world row.key.round row.key.number row) (next : row.n ≡ answers_given world row.key.entrant row.key.round row.key.number + 1)
+      (part : MayTakePart world row.key.entrant row.key.round) (verdict : IsVerdictAt world row.key.round row.key.number row) (next : row.n ≡ answers_given world row.key.entrant row.key.round row.key.number + 1)
       (room : answers_given world row.key.entrant row.key.round row.key.number < 50) where
     counted_more : (e r : List ℕ) (n : ℕ) → count_by (of_place e r n) (values new_answers) ≡ answers_given world e r n + cond (of_place e r n row) 1 0
     counted_more e r n = count_by-insert_new answer_total (of_place e r n) world.answers row.key row fresh
@@ -257,6 +259,11 @@ module _ (world : World) (row : AnswerRow) where
         | inr h ↦ sane.answers_released q r h.1
       ];
       protests_released = sane.protests_released;
+      answerers = λ q r found. elim (after_submit q r found) [
+        | inl h ↦ subst (λ (k : AnswerKey). MayTakePart world k.entrant k.round) (sym h.0) part
+        | inr h ↦ sane.answerers q r h.1
+      ];
+      protesters = sane.protesters;
       verdicts = λ q r found. elim (after_submit q r found) [
         | inl h ↦ subst (λ (k : AnswerKey). IsVerdictAt world k.round k.number r) (sym h.0) (subst (λ (x : AnswerRow). IsVerdictAt world row.key.round row.key.number x) (sym h.1) verdict)
         | inr h ↦ sane.verdicts q r h.1

@@ -37,13 +37,13 @@ use Rattle.hall_desk.proofs.CertifySane.{certify_step}
 use Rattle.hall_desk.proofs.ImportSane.{import_step}
 use Rattle.hall_desk.proofs.DraftSane.{put_round_step}
 use Rattle.hall_desk.proofs.ReleaseSane.{release_step}
-use Rattle.hall_desk.proofs.Releases.{released_found}
+use Rattle.hall_desk.proofs.Releases.{released_found, takes_part}
 use Rattle.hall_desk.proofs.ProtestSane.{protest_step, rule_step}
 use Rattle.hall_desk.proofs.PublishSane.{publish_step}
 use Rattle.hall_desk.proofs.Promises.{verdicts_are_judged}
 
 -- the caller is there, under the own name
-caller_there : (world : World) → Sane world → (key : Option (List ℕ)) (person : Person) → caller_of world key ≡ Some person → get world.people person.name ≡ Some person
+pub caller_there : (world : World) → Sane world → (key : Option (List ℕ)) (person : Person) → caller_of world key ≡ Some person → get world.people person.name ≡ Some person
 caller_there world sane None person e = let no : None ≡ Some person = e in absurd (cc)
 caller_there world sane (Some key) person e =
     let under = find-value text_total (λ p. same_text p.key key) world.people person e in
@@ -88,7 +88,11 @@ submit_step world caller id number token answer t found given new sane there tim
     subst Sane (sym made)
     (submit_sane world row sane in_range fresh
     (λ gone. let no_one : Some person ≡ None = sym (there person is) ∙ gone in cc)
-    released (entry, puzzle, place, grid, judged) refl room)
+    released
+    (takes_part world caller (action.Submit id number token answer) person id is (there person is) refl refl released
+    (λ lacks. (none rule.NoRole (lit< tt)).0 ((1, lit< tt, refl), lacks))
+    (λ own. (none rule.OwnPuzzle (lit< tt)).0 ((3, lit< tt, refl), own)))
+    (entry, puzzle, place, grid, judged) refl room)
 
 allowed_sane : (world : World) (caller : Option Person) (asked : Action) (t : ℕ) (found : PuzzleState) (given : Reply) (new : World) → Sane world →
     ((person : Person) → caller ≡ Some person → get world.people person.name ≡ Some person) → IsMoment t → IsAction asked →

@@ -1,9 +1,9 @@
 -- A token whose answer was accepted acts once.
-use Rattle.std.proofs.Common.{◌≡◌, ◌≢◌, ◌⊎◌, ◌<◌, ◌≤◌, inl, inr, ℕ, List, Option, Some, refl, sym, ap, ◌∙◌, subst, lit<, lit≤}
+use Rattle.std.proofs.Common.{◌≡◌, ◌≢◌, ◌⊎◌, ◌<◌, ◌≤◌, inl, inr, ℕ, List, Option, Some, None, refl, sym, ap, ◌∙◌, subst, arith, lit<, lit≤}
 use Rattle.std.specs.FinMap.{get}
 use Rattle.hall_policy.specs.World.{World}
 use Rattle.hall_policy.specs.Actions.{number_of}
-use Rattle.hall_policy.specs.Rules.{SameContent}
+use Rattle.hall_policy.specs.Rules.{LacksRole, IsMissing, IsOwnPuzzle, SameContent}
 use Rattle.hall_policy.specs.First.{NoneBelow, Forbids, Repeated}
 use Rattle.hall_policy.specs.declared.rule.Rule.{Rule}
 use Rattle.hall_policy.specs.declared.rule.Rule.TheVariants as rule
@@ -14,7 +14,7 @@ use Rattle.hall_policy.specs.declared.request.Action.TheVariants as action
 use Rattle.hall_store.specs.Caller.{caller_of}
 use Rattle.hall_desk.specs.Shown.{told_verdict}
 use Rattle.hall_desk.specs.Step.{FirstReply}
-use Rattle.hall_desk.specs.Promises.{IsToldAgain, IsRetryAnswered, TokensActOnce}
+use Rattle.hall_desk.specs.Promises.{IsToldAgain, IsDeniedEarlier, IsRetryAnswered, TokensActOnce}
 use Rattle.hall_desk.specs.declared.reply.Reply.{Reply}
 use Rattle.hall_desk.specs.declared.reply.Reply.TheVariants as reply
 
@@ -73,17 +73,27 @@ module _ (world : World) (caller : Option Person) (t : ℕ) (person : Person) (i
         inr (sym own ∙ ap number_of tokens, λ same. forbids_token.1.1 (person, is, (row, stands, same)))
   ]
 
-  -- so a denial is by a rule before the token's, or for another text
+  -- a rule before the token's that denies it is that on roles, on what isn't there or on own puzzles: the caller is known, and no other author is asked of
+  pub denied_early : (r : Rule) (given : Reply) → number_of r ≤ 5 → Forbids r world caller (action.Submit id number token answer) t → given ≡ reply.Denied (number_of r) →
+      IsDeniedEarlier world (Some person) (action.Submit id number token answer) t given
+  denied_early rule.UnknownKey given few (asked, unknown) told = absurd (let no : Some person ≡ None = sym is ∙ unknown in cc)
+  denied_early rule.NoRole given few (asked, lacks) told = inl (told, subst (λ (c : Option Person). LacksRole c (action.Submit id number token answer)) is lacks)
+  denied_early rule.OtherAuthor given few (asked, (other, also, (director, key, named, differ))) told = absurd (let no : None ≡ Some key = named in cc)
+  denied_early rule.Missing given few (asked, missing) told = inr (inl (told, subst (λ (c : Option Person). IsMissing world c (action.Submit id number token answer)) is missing))
+  denied_early rule.OwnPuzzle given few (asked, owns) told = inr (inr (told, subst (λ (c : Option Person). IsOwnPuzzle world c (action.Submit id number token answer)) is owns))
+  denied_early _ given few forbids told = absurd (omega arith)
+
+  -- so a denial is by such a rule, or for another text
   denied : (r : Rule) (k : ℕ) (given : Reply) → number_of r ≡ k → Forbids r world caller (action.Submit id number token answer) t → NoneBelow k world caller (action.Submit id number token answer) t →
-      given ≡ reply.Denied k → IsRetryAnswered world id row answer given
+      given ≡ reply.Denied k → IsDeniedEarlier world (Some person) (action.Submit id number token answer) t given ⊎ IsRetryAnswered world id row answer given
   denied r k given own forbids none told = elim (denied_by r k own forbids none) [
-    | inl before ↦ inr (inl (k, told, subst (λ (n : ℕ). n ≤ 5) own before))
+    | inl before ↦ inl (denied_early r given before forbids (told ∙ ap reply.Denied (sym own)))
     | inr (six, other) ↦ inr (inr (inl (told ∙ ap reply.Denied six, other)))
   ]
 
 -- a token whose answer was accepted acts once
 pub tokens_act_once : TokensActOnce
-tokens_act_once world t key person id number token answer row given new is stands (inl (told, left)) = (left, inl told)
+tokens_act_once world t key person id number token answer row given new is stands (inl (told, left)) = (left, inr (inl told))
 tokens_act_once world t key person id number token answer row given new is stands (inr (found, (Deny k, (r, own, forbids, none), (told, left)))) =
     (left, denied world (caller_of world key) t person id number token answer row is stands r k given own forbids none told)
 tokens_act_once world t key person id number token answer row given new is stands (inr (found, (Repeat, (r, repeated, none), (first, left)))) =

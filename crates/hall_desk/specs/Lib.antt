@@ -6,6 +6,8 @@ pub mod Totals
 pub mod Judged
 pub mod Step
 pub mod Run
+pub mod History
+pub mod Records
 pub mod Sane
 pub mod Promises
 pub mod ProtestPromises

@@ -6,7 +6,7 @@ use Rattle.hall_grid.specs.Answer.{AnswerText, IsFilling, Verdict}
 use Rattle.hall_solve.specs.Puzzle.{IsRight}
 use Rattle.hall_policy.specs.World.{World}
 use Rattle.hall_policy.specs.Ranges.{IsWorld}
-use Rattle.hall_policy.specs.Rules.{StandsReleased, IsCertified, answers_given, protests_made, puzzles_put}
+use Rattle.hall_policy.specs.Rules.{Lists, StandsReleased, IsCertified, answers_given, protests_made, puzzles_put}
 use Rattle.hall_desk.specs.Found.{IsReleasedRound}
 use Rattle.hall_policy.specs.declared.record.Person.{Person}
 use Rattle.hall_policy.specs.declared.record.PuzzleKey.{PuzzleKey}
@@ -65,6 +65,12 @@ IsVerdictAt world round number row =
     (entry : Entry) × (puzzle : PuzzleRow) × (get world.places (record { round = round; number = number }) ≡ Some entry)
     × (get world.puzzles entry.puzzle ≡ Some puzzle) × Verdict puzzle.puzzle row.answer row.verdict
 
+-- a person of the name is an entrant, and author of none of the round's puzzles
+abbrev pub MayTakePart : World → List ℕ → List ℕ → Type 0
+MayTakePart world name round =
+    (person : Person) × (get world.people name ≡ Some person) × IsTrue person.roles.entrant
+    × ((entry : Entry) → Lists world round entry → entry.puzzle.author ≢ name)
+
 -- a sane world: what every step of the hall keeps
 pub record Sane (world : World) : Type 0 where
   -- each row is of its type and stands under its own key, and what it refers to is there
@@ -77,6 +83,11 @@ pub record Sane (world : World) : Type 0 where
       IsReleasedRound world key.round
   pub protests_released : (key : ProtestKey) (row : ProtestRow) → get world.protests key ≡ Some row →
       IsReleasedRound world key.round
+  -- who has an answer or a protest in a round may take part in it
+  pub answerers : (key : AnswerKey) (row : AnswerRow) → get world.answers key ≡ Some row →
+      MayTakePart world key.entrant key.round
+  pub protesters : (key : ProtestKey) (row : ProtestRow) → get world.protests key ≡ Some row →
+      MayTakePart world key.entrant key.round
   -- a stored verdict is that of its answer and its puzzle's text
   pub verdicts : (key : AnswerKey) (row : AnswerRow) → get world.answers key ≡ Some row →
       IsVerdictAt world key.round key.number row

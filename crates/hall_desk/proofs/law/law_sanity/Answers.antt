@@ -1,6 +1,7 @@
 use Rattle.hall_desk.proofs.EmptySane.{empty_sane}
 use Rattle.hall_desk.proofs.Seeding.{seed_sane}
 use Rattle.hall_desk.proofs.StepsSane.{step_sane, run_sane}
+use Rattle.hall_desk.proofs.Histories.{history_sane}
 use Rattle.hall_desk.proofs.Promises.{unique_solutions, right_answers, verdicts_are_judged}
 use Rattle.hall_desk.proofs.law.law_sanity.Goals as goal
 
@@ -13,4 +14,5 @@ returns c = record {
   judged = verdicts_are_judged;
   steps = λ world new t request given timed is sane step. step_sane world t request given new timed is step sane;
   runs = λ world last requests replies timed sane run. run_sane world requests replies last timed run sane;
+  lives = λ world last events typed sane life. history_sane events world last typed life sane;
 }

@@ -1,0 +1,9 @@
+use Rattle.hall_desk.proofs.Remaining.{records_stay}
+use Rattle.hall_desk.proofs.Histories.{runs_are_histories}
+use Rattle.hall_desk.proofs.law.law_records.Goals as goal
+
+pub returns-clause-stay : goal.returns-clause-stay
+returns-clause-stay c = records_stay
+
+pub returns-clause-runs : goal.returns-clause-runs
+returns-clause-runs c = runs_are_histories
