@@ -1,7 +1,14 @@
 //! Laws of the definitions, each the contract of a function that does nothing.
+ghost use Rattle.hall_desk.specs.Agreement.{AnswersAgree, StepsAgree};
 ghost use Rattle.hall_desk.specs.Promises.{SanityKeepsPromises, TokensActOnce, AcceptedAnswersStay, RetriesAreAnswered};
 ghost use Rattle.hall_desk.specs.Promises.{ProtestTokensActOnce, RulingsActOnce};
 ghost use Rattle.hall_desk.specs.ProtestPromises.{AcceptedProtestsStay, ProtestRetriesAreAnswered, RulingsStay};
+
+/// A sane world has one answer to a request.
+pub fn law_steps_agree()
+    ensures answers { AnswersAgree }
+    ensures steps { StepsAgree }
+{}
 
 /// A sane world keeps the promises, and steps and runs keep worlds sane.
 pub fn law_sanity()

@@ -33,7 +33,10 @@ mod tell_solutions;
 mod verdict;
 
 pub use desk::Desk;
-pub use law::{law_accepted_answers, law_accepted_protests, law_rulings, law_sanity, law_tokens};
+pub use law::{
+    law_accepted_answers, law_accepted_protests, law_rulings, law_sanity, law_steps_agree,
+    law_tokens,
+};
 pub use planned::Plan;
 pub use reply::{
     AnswerLine, ProtestLine, PuzzleLine, Reply, RoundLine, ShownPuzzle, ShownRound, StateName,
