@@ -1,5 +1,5 @@
 -- A request has one answer in a sane world.
-use Rattle.std.proofs.Common.{◌≡◌, ◌≢◌, ◌⊎◌, ◌&&◌, ◌||◌, inl, inr, ℕ, Bool, true, false, List, [], ◌∷◌, map, Option, Some, None, refl, sym, ap, ◌∙◌, subst}
+use Rattle.std.proofs.Common.{◌≡◌, ◌⊎◌, ◌&&◌, ◌||◌, inl, inr, ℕ, Bool, true, false, List, [], ◌∷◌, map, Option, Some, refl, sym, ap, ◌∙◌, subst}
 use Rattle.std.specs.List.{AllByRecursion}
 use Rattle.std.specs.FinMap.{get, insert}
 use Rattle.std.proofs.lemmas.Bool.{false≢true}
@@ -10,7 +10,6 @@ use Rattle.hall_policy.specs.World.{World, IsRoundAt, protest_of, same_text}
 use Rattle.hall_policy.specs.Ranges.{IsWorld, IsAction}
 use Rattle.hall_policy.specs.Rules.{TheCaller}
 use Rattle.hall_policy.specs.Actions.{rules_asked}
-use Rattle.hall_policy.specs.First.{First}
 use Rattle.hall_policy.specs.declared.rule.Rule.{Rule}
 use Rattle.hall_policy.specs.declared.rule.Decision.{Decision}
 use Rattle.hall_policy.specs.declared.rule.Decision.TheVariants.{Allow, Repeat, Deny}
@@ -33,10 +32,8 @@ use Rattle.hall_store.specs.Store.{IsListing}
 use Rattle.hall_desk.specs.Judged.{IsVerdictOn}
 use Rattle.hall_desk.specs.Totals.{AreTotals}
 use Rattle.hall_desk.specs.Shown.{state_name, sees_all, sees_answer, shows_verdict, answer_line, told_verdict, ShowsRound, AreSolutions}
-use Rattle.hall_desk.specs.Step.{new_row, is_open, answer_row, StandsAlready, IsPut, IsSearched, IsSettled, Allowed, FirstReply, Decided, Asked, IsAnswered, Step}
+use Rattle.hall_desk.specs.Step.{answer_row, StandsAlready, IsPut, IsSearched, IsSettled, Allowed, FirstReply, Decided, IsAnswered}
 use Rattle.hall_desk.specs.Step.{IsPuzzleRead, IsCertifiedBy, IsReleasedBy, IsSubmitted, IsListed, AreSolutionsTold, IsRuledBy, IsPublishedBy, IsTableRead}
-use Rattle.hall_desk.specs.Run.{IsTimed}
-use Rattle.hall_desk.specs.Sane.{Sane}
 use Rattle.hall_desk.specs.Agreement.{AnswersAgree, StepsAgree}
 use Rattle.hall_desk.specs.declared.reply.Reply.{Reply}
 use Rattle.hall_desk.specs.declared.reply.Reply.TheVariants as reply
