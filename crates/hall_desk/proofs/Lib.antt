@@ -36,3 +36,10 @@ pub mod ProtestRetries
 pub mod ProtestAnswered
 pub mod Stepping
 pub mod Seeding
+pub mod Deciding
+pub mod Viewed
+pub mod VerdictOnce
+pub mod Shows
+pub mod Listings
+pub mod TableOnce
+pub mod Agreeing

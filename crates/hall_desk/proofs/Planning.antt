@@ -26,8 +26,9 @@ use Rattle.hall_store.specs.Change.{changed, CanMake, with_flag}
 use Rattle.hall_desk.specs.Step.{Decided}
 use Rattle.hall_store.specs.Store.{Content, Kept, Told, Served, Asks, IsListing}
 use Rattle.hall_policy.specs.declared.record.AnswerRow.{AnswerRow}
-use Rattle.hall_desk.specs.Plans.{IsPlanFor, IsAllowedPlan, IsMadePlan, IsReading, Planned}
+use Rattle.hall_desk.specs.Plans.{IsPlanFor, IsAllowedPlan, IsMadePlan, HasNothingToWrite, HasSearched, Planned}
 use Rattle.hall_desk.specs.declared.planned.Plan.{Plan}
+use Rattle.hall_solve.specs.declared.searched.Visits.{Visits}
 use Rattle.hall_desk.specs.declared.reply.Reply.{Reply}
 use Rattle.hall_desk.specs.declared.reply.Reply.TheVariants.{PuzzlePut, Published, Released, AnswerList}
 use Rattle.hall_desk.specs.declared.reply.AnswerLine.{AnswerLine}
@@ -41,11 +42,12 @@ use Rattle.hall_store.specs.declared.change.RoundFlag.TheVariants as flag
 use Rattle.hall_store.proofs.Knowing.{pure_told, told_turn}
 
 -- a decision, and what it answers and changes, make a plan
-pub planned : (facts : Facts) (world : World) (t : ℕ) (request : Request) (decision : Decision) (given : Reply) (change : Change) →
+pub planned : (facts : Facts) (world : World) (t : ℕ) (request : Request) (decision : Decision) (given : Reply) (change : Change) (visits : Option Visits) →
     IsCaller world request.key facts.caller → IsDecided world facts request.action t decision →
     (outcome : PuzzleState) → Decided decision world facts.caller request.action t outcome given (changed change world) → CanMake change world →
-    ((decision ≢ Allow) ⊎ IsReading request.action → change ≡ Nothing) → IsPlanFor world t request (record { reply = given; change = change })
-planned facts world t request decision given change caller is outcome decided can quiet =
+    ((decision ≢ Allow) ⊎ HasNothingToWrite world request.action → change ≡ Nothing) →
+    HasSearched request.action (record { reply = given; change = change; visits = visits }) → IsPlanFor world t request (record { reply = given; change = change; visits = visits })
+planned facts world t request decision given change visits caller is outcome decided can quiet searched =
     let same : facts.caller ≡ caller_of world request.key = caller.found in
     record {
       answered = (
@@ -58,25 +60,27 @@ planned facts world t request decision given change caller is outcome decided ca
       );
       can = can;
       quiet = quiet;
+      searched = searched;
     }
 
 -- the plan of a puzzle that is new, or differs from the one that stands
 pub put_new : (world : World) (facts : Facts) (t : ℕ) (key copied_key : PuzzleKey) (puzzle copied : Board) (text : List ℕ) →
     copied_key ≡ key → copied ≡ puzzle → CanonicalText text puzzle → TrueUpTo 20 facts world (action.PutPuzzle key puzzle) → IsTrue facts.author_is_there →
     ((row : PuzzleRow) → facts.puzzle ≡ Some row → row.puzzle ≢ puzzle) →
-    IsAllowedPlan world facts.caller (action.PutPuzzle key puzzle) t (record { reply = PuzzlePut name.New text; change = change.PutPuzzle (record { key = copied_key; puzzle = copied; state = state.New }) })
+    IsAllowedPlan world facts.caller (action.PutPuzzle key puzzle) t (record { reply = PuzzlePut name.New text; change = change.PutPuzzle (record { key = copied_key; puzzle = copied; state = state.New }); visits = None })
 put_new world facts t key copied_key puzzle copied text same_key same_puzzle canonical told there differ =
-    subst (λ (k : PuzzleKey). TrueUpTo 20 facts world (action.PutPuzzle key puzzle) → IsAllowedPlan world facts.caller (action.PutPuzzle key puzzle) t (record { reply = PuzzlePut name.New text; change = change.PutPuzzle (record { key = k; puzzle = copied; state = state.New }) })) (sym same_key)
-    (subst (λ (p : Board). TrueUpTo 20 facts world (action.PutPuzzle key puzzle) → IsAllowedPlan world facts.caller (action.PutPuzzle key puzzle) t (record { reply = PuzzlePut name.New text; change = change.PutPuzzle (record { key = key; puzzle = p; state = state.New }) })) (sym same_puzzle)
+    subst (λ (k : PuzzleKey). TrueUpTo 20 facts world (action.PutPuzzle key puzzle) → IsAllowedPlan world facts.caller (action.PutPuzzle key puzzle) t (record { reply = PuzzlePut name.New text; change = change.PutPuzzle (record { key = k; puzzle = copied; state = state.New }); visits = None })) (sym same_key)
+    (subst (λ (p : Board). TrueUpTo 20 facts world (action.PutPuzzle key puzzle) → IsAllowedPlan world facts.caller (action.PutPuzzle key puzzle) t (record { reply = PuzzlePut name.New text; change = change.PutPuzzle (record { key = key; puzzle = p; state = state.New }); visits = None })) (sym same_puzzle)
     (λ all. record {
       allowed = λ found. (text, canonical, inr ((λ row kept. differ row (all.1.1.1.1.1.0.0 ∙ kept)), refl, refl));
       can = let author = all.1.1.1.0.0 there in (author.0, author.1);
-      quiet = λ reads. absurd reads;
+      quiet = λ stands. absurd (differ stands.0 (all.1.1.1.1.1.0.0 ∙ stands.1) stands.2);
+      searched = λ k at budget found certifies sets. absurd (cc);
     })) told
 
 -- a plan that is right whatever a search would find
 pub made_anyhow : (world : World) (caller : Option Person) (asked : Action) (t : ℕ) (plan : Plan) → IsAllowedPlan world caller asked t plan → IsMadePlan world caller asked t plan
-made_anyhow world caller asked t plan made = record { found = state.New; allowed = made.allowed state.New; can = made.can; quiet = made.quiet }
+made_anyhow world caller asked t plan made = record { found = state.New; allowed = made.allowed state.New; can = made.can; quiet = made.quiet; searched = made.searched }
 
 -- the plan that is made for an action, told of what was asked, which is that action
 module _ {E : Type 0} (facts : Facts) (asked named : Action) (t : ℕ) (is : asked ≡ named) where
@@ -113,34 +117,36 @@ served_plan (Err fault) new t request served = tt
 
 -- a plan that tells and flags the round of this id tells and flags that of an equal one
 flags_same : (world : World) (caller : Option Person) (asked : Action) (t : ℕ) (says : List ℕ → Reply) (set : RoundFlag) (id shown kept : List ℕ) → shown ≡ id → kept ≡ id →
-    IsAllowedPlan world caller asked t (record { reply = says id; change = change.SetRoundFlag id set }) →
-    IsAllowedPlan world caller asked t (record { reply = says shown; change = change.SetRoundFlag kept set })
+    IsAllowedPlan world caller asked t (record { reply = says id; change = change.SetRoundFlag id set; visits = None }) →
+    IsAllowedPlan world caller asked t (record { reply = says shown; change = change.SetRoundFlag kept set; visits = None })
 flags_same world caller asked t says set id shown kept same_shown same_kept plan =
-    subst (λ (x : List ℕ). IsAllowedPlan world caller asked t (record { reply = says x; change = change.SetRoundFlag kept set })) (sym same_shown)
-    (subst (λ (x : List ℕ). IsAllowedPlan world caller asked t (record { reply = says id; change = change.SetRoundFlag x set })) (sym same_kept) plan)
+    subst (λ (x : List ℕ). IsAllowedPlan world caller asked t (record { reply = says x; change = change.SetRoundFlag kept set; visits = None })) (sym same_shown)
+    (subst (λ (x : List ℕ). IsAllowedPlan world caller asked t (record { reply = says id; change = change.SetRoundFlag x set; visits = None })) (sym same_kept) plan)
 
 -- the plan of a round that is released
 pub released : (world : World) (facts : Facts) (t : ℕ) (id shown kept : List ℕ) (row : RoundRow) →
     shown ≡ id → kept ≡ id → TrueUpTo 20 facts world (action.Release id) → facts.round ≡ Some row →
-    IsAllowedPlan world facts.caller (action.Release id) t (record { reply = Released shown; change = change.SetRoundFlag kept flag.Released })
+    IsAllowedPlan world facts.caller (action.Release id) t (record { reply = Released shown; change = change.SetRoundFlag kept flag.Released; visits = None })
 released world facts t id shown kept row same_shown same_kept told seen =
     let at : IsRoundAt world id row = subst (λ (o : Option RoundRow). IsRoundFound world (Some id) o) seen told.1.1.0 in
     flags_same world facts.caller (action.Release id) t Released flag.Released id shown kept same_shown same_kept (record {
       allowed = λ found. (row.round, at.head, refl, ap (with_flag world id flag.Released) at.head);
       can = (row.round, at.head);
-      quiet = λ reads. absurd reads;
+      quiet = λ nothing. absurd nothing;
+      searched = λ k at budget found certifies sets. absurd (cc);
     })
 
 -- the plan of a round that is published
 pub published : (world : World) (facts : Facts) (t : ℕ) (id shown kept : List ℕ) (row : RoundRow) →
     shown ≡ id → kept ≡ id → TrueUpTo 20 facts world (action.Publish id) → facts.round ≡ Some row →
-    IsAllowedPlan world facts.caller (action.Publish id) t (record { reply = Published shown; change = change.SetRoundFlag kept flag.Published })
+    IsAllowedPlan world facts.caller (action.Publish id) t (record { reply = Published shown; change = change.SetRoundFlag kept flag.Published; visits = None })
 published world facts t id shown kept row same_shown same_kept told seen =
     let at : IsRoundAt world id row = subst (λ (o : Option RoundRow). IsRoundFound world (Some id) o) seen told.1.1.0 in
     flags_same world facts.caller (action.Publish id) t Published flag.Published id shown kept same_shown same_kept (record {
       allowed = λ found. (row.round, at.head, refl, ap (with_flag world id flag.Published) at.head);
       can = (row.round, at.head);
-      quiet = λ reads. absurd reads;
+      quiet = λ nothing. absurd nothing;
+      searched = λ k at budget found certifies sets. absurd (cc);
     })
 
 -- ---- the answers that a caller sees
@@ -157,7 +163,7 @@ pub listing_plan : (world : World) (facts : Facts) (id : List ℕ) (t : ℕ) (pe
     TrueUpTo 20 facts world (action.Answers id) → facts.caller ≡ Some person → facts.round ≡ Some row →
     all ≡ sees_all person row.round t → shows ≡ shows_verdict person row.round t →
     AreLinesOf world (λ answer. same_text answer.key.round id && (all || same_text answer.key.entrant person.name)) shows lines →
-    plan ≡ record { reply = AnswerList lines; change = Nothing } → IsMadePlan world facts.caller (action.Answers id) t plan
+    plan ≡ record { reply = AnswerList lines; change = Nothing; visits = None } → IsMadePlan world facts.caller (action.Answers id) t plan
 listing_plan world facts id t person row all shows lines plan told caller found same_all same listed is =
     let at : IsRoundAt world id row = subst (λ (o : Option RoundRow). IsRoundFound world (Some id) o) found told.1.1.0 in
     let rows : List AnswerRow = listed.0 in
@@ -179,4 +185,5 @@ listing_plan world facts id t person row all shows lines plan told caller found 
       );
       can = tt;
       quiet = λ _. refl;
+      searched = λ k at budget found certifies sets. absurd (cc);
     })

@@ -74,7 +74,7 @@ same_fillings Slither size f g m n few small e =
     sym (take-append-drop k f) ∙ ap (λ (xs : List ℕ). xs ++ drop k f) flat ∙ ap (λ (xs : List ℕ). take k g ++ xs) upright ∙ take-append-drop k g
 same_fillings Nurikabe size f g m n few small e = same_values nurikabe_byte 2 one_shade f g few small e
 
-one_filling : (board : Board) (text f g : List ℕ) → AnswerText board text f → AnswerText board text g → f ≡ g
+pub one_filling : (board : Board) (text f g : List ℕ) → AnswerText board text f → AnswerText board text g → f ≡ g
 one_filling board text f g a b =
     same_fillings board.kind board.size f g a.filling.exact b.filling.exact a.filling.ranges b.filling.ranges (sym a.written ∙ b.written)
 

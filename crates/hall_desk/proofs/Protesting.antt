@@ -34,5 +34,6 @@ protested world facts asked person t plan caller fresh place told there replied 
       found = state.New;
       allowed = (person, caller, (replied, ap (λ (change : Change). changed change world) changes));
       can = subst (λ (change : Change). CanMake change world) (sym changes) given;
-      quiet = λ reads. absurd reads;
+      quiet = λ nothing. absurd nothing;
+      searched = λ k at budget found certifies sets. absurd (cc);
     }

@@ -27,5 +27,6 @@ ruled world facts asked t plan there told replied changes =
       found = state.New;
       allowed = (row, kept, replied, ap (λ (change : Change). changed change world) changes ∙ ap (with_ruling world (ruled_key asked) asked.ruling) kept);
       can = subst (λ (change : Change). CanMake change world) (sym changes) (row, kept);
-      quiet = λ reads. absurd reads;
+      quiet = λ nothing. absurd nothing;
+      searched = λ k at budget found certifies sets. absurd (cc);
     }

@@ -1,5 +1,5 @@
 -- Runs over a store, one step more.
-use Rattle.std.proofs.Common.{◌≡◌, inl, inr, ℕ, zero, suc, ◌≤◌, length, take, arith, List, [], ◌∷◌, ◌++◌, refl, ◌∙◌, subst}
+use Rattle.std.proofs.Common.{◌≡◌, inl, inr, ℕ, zero, suc, ◌≤◌, length, take, arith, All, List, [], ◌∷◌, ◌++◌, refl, ◌∙◌, subst}
 use Rattle.hall_policy.specs.World.{World}
 use Rattle.hall_policy.specs.declared.request.Request.{Request}
 use Rattle.hall_store.specs.Store.{Content}
@@ -31,3 +31,8 @@ take_all [] zero h = refl
 take_all [] (suc n) h = refl
 take_all (x ∷ xs) zero h = absurd (omega arith)
 take_all (x ∷ xs) (suc n) h = let rest = take_all xs n (omega arith) in λ i. x ∷ rest i
+
+-- what holds of one element holds of each of the list of it
+pub all_one : {X : Type 0} (P : X → Type 0) (x : X) → P x → All P (x ∷ [])
+all_one P x h zero d within = h
+all_one P x h (suc k) d within = absurd (omega arith)

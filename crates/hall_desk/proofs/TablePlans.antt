@@ -1,5 +1,5 @@
 -- The plan of a table.
-use Rattle.std.proofs.Common.{◌≡◌, ◌≢◌, ℕ, List, Option, Some, refl, sym, ap, ◌∙◌, subst}
+use Rattle.std.proofs.Common.{◌≡◌, ◌≢◌, ℕ, List, Option, Some, None, refl, sym, ap, ◌∙◌, subst}
 use Rattle.hall_policy.specs.World.{World, IsRoundAt}
 use Rattle.hall_policy.specs.Facts.{TrueUpTo, IsRoundFound}
 use Rattle.hall_policy.specs.Decided.{IsDecided, IsDecidedUpTo}
@@ -36,18 +36,18 @@ module _ (old mid : Content) (facts : Facts) (t : ℕ) (request : Request) (id :
 
   module _ (decision : Decision) (decided : IsDecidedUpTo 20 facts request.action t decision) where
     -- a table that is denied
-    pub table_denied : (rule : ℕ) (plan : Plan) → decision ≡ Deny rule → plan ≡ record { reply = reply.Denied rule; change = Nothing } →
+    pub table_denied : (rule : ℕ) (plan : Plan) → decision ≡ Deny rule → plan ≡ record { reply = reply.Denied rule; change = Nothing; visits = None } →
         mid.honest → mid.serves × IsPlanFor mid.world t request plan
     table_denied rule plan denied made h = (
       (read h).0,
       subst (λ (p : Plan). IsPlanFor mid.world t request p) (sym made)
-          (planned facts mid.world t request (Deny rule) (reply.Denied rule) Nothing (caller_there h)
-          (subst (λ (d : Decision). IsDecided mid.world facts request.action t d) denied (decided mid.world (found h))) state.GaveUp (refl, refl) tt (λ _. refl)),
+          (planned facts mid.world t request (Deny rule) (reply.Denied rule) Nothing None (caller_there h)
+          (subst (λ (d : Decision). IsDecided mid.world facts request.action t d) denied (decided mid.world (found h))) state.GaveUp (refl, refl) tt (λ _. refl) (λ k at budget found certifies sets. absurd (cc))),
     )
 
     -- a table that is answered
     pub table_planned : (new : Content) (row : RoundRow) (text : List ℕ) (plan : Plan) → decision ≡ Allow → facts.round ≡ Some row → Kept mid new →
-        (new.honest → new.serves × IsTableOf new.world id row text) → plan ≡ record { reply = reply.Table text; change = Nothing } →
+        (new.honest → new.serves × IsTableOf new.world id row text) → plan ≡ record { reply = reply.Table text; change = Nothing; visits = None } →
         new.honest → new.serves × IsPlanFor new.world t request plan
     table_planned new row text plan allowed seen left served made h =
         let s : new.serves = (served h).0 in
@@ -56,12 +56,12 @@ module _ (old mid : Content) (facts : Facts) (t : ℕ) (request : Request) (id :
         carried (λ w. IsRoundAt w id row) mid new left (λ h0 s0. subst (λ (o : Option RoundRow). IsRoundFound mid.world (Some id) o) seen (read h0).1.row) h s in (
           s,
           subst (λ (p : Plan). IsPlanFor new.world t request p) (sym made)
-              (planned facts new.world t request Allow (reply.Table text) Nothing
+              (planned facts new.world t request Allow (reply.Table text) Nothing None
               (carried (λ w. IsCaller w request.key facts.caller) mid new left (λ h0 s0. caller_there h0) h s)
               (carried (λ w. IsDecided w facts request.action t Allow) mid new left
               (λ h0 s0. subst (λ (d : Decision). IsDecided mid.world facts request.action t d) allowed (decided mid.world (found h0))) h s)
               state.GaveUp
               (subst (λ (a : Action). Allowed new.world facts.caller a t state.GaveUp (reply.Table text) new.world) (sym is)
               ((row, table.0, text, at, table.1, table.2, refl), refl))
-              tt (λ _. refl)),
+              tt (λ _. refl) (λ k at budget found certifies sets. absurd (cc))),
         )

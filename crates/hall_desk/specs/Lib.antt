@@ -14,3 +14,4 @@ pub mod ProtestPromises
 pub mod Plan
 pub mod Handler
 pub mod Plans
+pub mod Agreement

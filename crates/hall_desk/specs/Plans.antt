@@ -1,5 +1,5 @@
 -- What a plan promises, and what a step over a store leaves.
-use Rattle.std.specs.Prelude.{◌≡◌, ◌⊎◌, ℕ, List, Option, Some, None, ◌≢◌, Result, Ok, Err, IfErr, Contains}
+use Rattle.std.specs.Prelude.{◌≡◌, ◌≤◌, ◌⊎◌, ℕ, List, Option, Some, None, false, ◌≢◌, Result, Ok, Err, IfErr, Contains, All}
 use Rattle.hall_store.specs.declared.change.Change.TheVariants as change
 use Rattle.hall_store.specs.declared.change.Change.TheVariants.{Nothing}
 use Rattle.std.specs.FinMap.{get}
@@ -9,12 +9,16 @@ use Rattle.hall_policy.specs.declared.record.Entry.{Entry}
 use Rattle.hall_policy.specs.declared.record.Person.{Person}
 use Rattle.hall_policy.specs.declared.record.PuzzleRow.{PuzzleRow}
 use Rattle.hall_policy.specs.declared.record.RoundRow.{RoundRow}
+use Rattle.hall_policy.specs.declared.record.PuzzleKey.{PuzzleKey}
 use Rattle.hall_policy.specs.declared.record.PuzzleState.{PuzzleState}
+use Rattle.hall_policy.specs.declared.record.PuzzleState.TheVariants as state
+use Rattle.hall_solve.specs.Searched.{visits_made}
+use Rattle.hall_solve.specs.declared.searched.Visits.{Visits}
 use Rattle.hall_policy.specs.declared.request.Action.{Action}
+use Rattle.hall_policy.specs.declared.request.Action.TheVariants.{PutPuzzle, Certify}
 use Rattle.hall_policy.specs.declared.request.Action.TheVariants.{ReadPuzzle, ListPuzzles, ListRounds, ReadRound}
 use Rattle.hall_policy.specs.declared.request.Action.TheVariants.{Answers, Solutions, Protests, Table}
 use Rattle.hall_policy.specs.declared.facts.Facts.{Facts}
-use Rattle.hall_policy.specs.declared.record.AnswerRow.{AnswerRow}
 use Rattle.hall_store.specs.Store.{Content, Over}
 use Rattle.hall_store.specs.declared.fault.StoreFault.{StoreFault}
 use Rattle.hall_store.specs.declared.fault.StoreFault.TheVariants.{Failed}
@@ -28,23 +32,41 @@ use Rattle.hall_policy.specs.declared.request.Request.{Request}
 use Rattle.hall_policy.specs.declared.rule.Decision.TheVariants.{Allow}
 use Rattle.hall_store.specs.Change.{changed, CanMake}
 use Rattle.hall_desk.specs.Plan.{planned_reply, planned_change}
-use Rattle.hall_desk.specs.Step.{Step, Seed, IsAnswered, Allowed, unknown_people}
+use Rattle.hall_desk.specs.Step.{Step, Seed, IsAnswered, Allowed, is_open, unknown_people}
 use Rattle.hall_desk.specs.Run.{Run}
 use Rattle.hall_desk.specs.declared.reply.Reply.{Reply}
 use Rattle.hall_desk.specs.declared.reply.Reply.TheVariants as reply
 use Rattle.hall_desk.specs.declared.planned.Plan.{Plan}
 
--- the action only reads
-abbrev pub IsReading : Action → Type 0
-IsReading (ReadPuzzle key) = Unit {0}
-IsReading ListPuzzles = Unit {0}
-IsReading ListRounds = Unit {0}
-IsReading (ReadRound round) = Unit {0}
-IsReading (Answers round) = Unit {0}
-IsReading (Solutions round) = Unit {0}
-IsReading (Protests round) = Unit {0}
-IsReading (Table round) = Unit {0}
-IsReading _ = ⊥
+-- the action has nothing to write where it is allowed: it only reads, or the same puzzle stands under the key already,
+-- or a search of the puzzle came to an end before
+abbrev pub HasNothingToWrite : World → Action → Type 0
+HasNothingToWrite world (ReadPuzzle key) = Unit {0}
+HasNothingToWrite world ListPuzzles = Unit {0}
+HasNothingToWrite world ListRounds = Unit {0}
+HasNothingToWrite world (ReadRound round) = Unit {0}
+HasNothingToWrite world (Answers round) = Unit {0}
+HasNothingToWrite world (Solutions round) = Unit {0}
+HasNothingToWrite world (Protests round) = Unit {0}
+HasNothingToWrite world (Table round) = Unit {0}
+HasNothingToWrite world (PutPuzzle key puzzle) =
+    (row : PuzzleRow) × (get world.puzzles key ≡ Some row) × (row.puzzle ≡ puzzle)
+HasNothingToWrite world (Certify key budget) =
+    (row : PuzzleRow) × (get world.puzzles key ≡ Some row) × (is_open row.state ≡ false)
+HasNothingToWrite world _ = ⊥
+
+-- at most the budget's visits were made, and all of them where the search gave up
+pub record HasSpent (budget : ℕ) (found : PuzzleState) (visits : Visits) : Type 0 where
+  pub within : visits_made visits ≤ budget
+  pub whole : found ≡ state.GaveUp → visits_made visits ≡ budget
+
+-- where the action is a Certify whose plan sets a state, the search was made: within the budget, and with all its
+-- visits where it gave up
+abbrev pub HasSearched : Action → Plan → Type 0
+HasSearched action plan =
+    (key at : PuzzleKey) (budget : ℕ) (found : PuzzleState) → action ≡ Certify key budget →
+    plan.change ≡ change.SetState at found →
+    (visits : Visits) × (plan.visits ≡ Some visits) × HasSpent budget found visits
 
 -- the plan's reply and change are those of the request as it is decided, for what the search would find, and the
 -- change may be made
@@ -53,15 +75,17 @@ pub record IsPlanFor (world : World) (t : ℕ) (request : Request) (plan : Plan)
       × IsAnswered world (record { moment = t; request = request; found = found })
       (planned_reply plan) (changed (planned_change plan) world)
   pub can : CanMake (planned_change plan) world
-  -- a denial, a repetition and an action that only reads have nothing to change
-  pub quiet : (answered.1.0 ≢ Allow) ⊎ IsReading request.action → planned_change plan ≡ Nothing
+  -- a denial, a repetition and an action that has nothing to write change nothing
+  pub quiet : (answered.1.0 ≢ Allow) ⊎ HasNothingToWrite world request.action → planned_change plan ≡ Nothing
+  pub searched : HasSearched request.action plan
 
 -- the plan's reply and change are those of the allowed action, whatever the search would find, and the change may be
--- made; an action that only reads has nothing to change
+-- made; an action that has nothing to write changes nothing
 pub record IsAllowedPlan (world : World) (caller : Option Person) (action : Action) (t : ℕ) (plan : Plan) : Type 0 where
   pub allowed : (found : PuzzleState) → Allowed world caller action t found plan.reply (changed plan.change world)
   pub can : CanMake plan.change world
-  pub quiet : IsReading action → plan.change ≡ Nothing
+  pub quiet : HasNothingToWrite world action → plan.change ≡ Nothing
+  pub searched : HasSearched action plan
 
 -- the plan is that of the allowed action in each world that the facts are true of
 abbrev pub IsPlanOf : Facts → Action → Plan → Type 0
@@ -69,12 +93,13 @@ IsPlanOf facts action plan =
     (world : World) → TrueUpTo 20 facts world action → (t : ℕ) → IsAllowedPlan world facts.caller action t plan
 
 -- the plan's reply and change are those of the allowed action, with what its search found, and the change may be
--- made; an action that only reads has nothing to change
+-- made; an action that has nothing to write changes nothing
 pub record IsMadePlan (world : World) (caller : Option Person) (action : Action) (t : ℕ) (plan : Plan) : Type 0 where
   pub found : PuzzleState
   pub allowed : Allowed world caller action t found plan.reply (changed plan.change world)
   pub can : CanMake plan.change world
-  pub quiet : IsReading action → plan.change ≡ Nothing
+  pub quiet : HasNothingToWrite world action → plan.change ≡ Nothing
+  pub searched : HasSearched action plan
 
 -- the plan is that of the allowed action, with what its search found, in each world that the facts are true of
 abbrev pub IsSearchPlanOf : Facts → Action → Plan → Type 0
@@ -95,9 +120,17 @@ pub record IsSeedPlan (world : World) (people : List Person) (plan : Plan) : Typ
 abbrev pub IsNobodys : Request → Type 0
 IsNobodys request = (request.key ≡ None) × ((round : List ℕ) → request.action ≢ Table round)
 
--- there is a plan, and it changes nothing
+-- each request is nobody's
+abbrev pub AreNobodys : List (ℕ × Request) → Type 0
+AreNobodys requests = All (λ asked. IsNobodys asked.1) requests
+
+-- the reply is another one than Unavailable
+abbrev pub IsAvailable : Reply → Type 0
+IsAvailable given = given ≢ reply.Unavailable
+
+-- there is a plan; it answers, and changes nothing
 abbrev pub IsQuietPlan : {E : Type 0} → Result Plan E → Type 0
-IsQuietPlan (Ok plan) = plan.change ≡ Nothing
+IsQuietPlan (Ok plan) = (plan.change ≡ Nothing) × IsAvailable plan.reply
 IsQuietPlan (Err fault) = ⊥
 
 -- Failed is answered for such a cause alone, or where the store's world isn't sane.

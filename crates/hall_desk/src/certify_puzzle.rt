@@ -1,11 +1,11 @@
 //! Certify: a puzzle is searched, and what is found becomes its state.
-ghost use Rattle.std.specs.Prelude.{◌≡◌, IfOk};
+ghost use Rattle.std.specs.Prelude.{◌≡◌, IfOk, Some};
 ghost use Rattle.hall_grid.specs.Answer.{AnswerText as Says, IsFilling};
 ghost use Rattle.hall_policy.specs.Implies.{IsAllowable};
 ghost use Rattle.hall_policy.specs.declared.request.Action.TheVariants.{Certify};
 ghost use Rattle.hall_desk.specs.Handler.{certify_action};
 ghost use Rattle.hall_desk.specs.Step.{is_open, IsFound};
-ghost use Rattle.hall_desk.specs.Plans.{IsSearchPlanOf};
+ghost use Rattle.hall_desk.specs.Plans.{IsSearchPlanOf, HasSpent};
 ghost use Rattle.hall_desk.specs.Shown.{state_name};
 
 use crate::handler::Handler;
@@ -17,7 +17,7 @@ use hall_grid::{Filling, Puzzle, write_answer};
 use hall_policy::{
     Action, AnswerText, Budget, Decision, Facts, Moment, PuzzleKey, PuzzleState, decide,
 };
-use hall_solve::Outcome;
+use hall_solve::{Outcome, Searched, Visits};
 use hall_store::{Change, Store, StoreFault};
 use std::alloc::{AllocError, Global};
 
@@ -87,21 +87,25 @@ fn certify_puzzle(
         return Ok(Plan {
             reply: Reply::Certified(state_name(&row.state)),
             change: Change::Nothing,
+            visits: None,
         });
     }
     let key = key.clone()?;
-    let state = find_state(alloc, &row.puzzle, budget.get())?;
-    Ok(searched(key, state))
+    let found = find_state(alloc, &row.puzzle, budget.get())?;
+    Ok(searched(key, found))
 }
 
 /// The plan that stores what a search found.
-fn searched(key: PuzzleKey, state: PuzzleState) -> Plan
-    ensures reply { result.reply ≡ Reply.Certified (state_name state) }
-    ensures change { result.change ≡ Change.SetState key state }
+fn searched(key: PuzzleKey, found: FoundState) -> Plan
+    ensures reply { result.reply ≡ Reply.Certified (state_name found.state) }
+    ensures change { result.change ≡ Change.SetState key found.state }
+    ensures visits { result.visits ≡ Some found.visits }
 {
+    let FoundState { state, visits } = found;
     Plan {
         reply: Reply::Certified(state_name(&state)),
         change: Change::SetState { key, state },
+        visits: Some(visits),
     }
 }
 
@@ -118,15 +122,36 @@ fn is_open(state: &PuzzleState) -> bool
     }
 }
 
-/// What the search of the puzzle finds in at most `budget` visits, as a state.
-fn find_state(alloc: Global, puzzle: &Puzzle, budget: u64) -> Result<PuzzleState, AllocError>
-    ensures { IfOk result (IsFound puzzle.now budget) }
+/// What a search found, as a state, and the visits that it made.
+#[derive(Drop)]
+struct FoundState {
+    state: PuzzleState,
+    visits: Visits,
+}
+
+/// What the search of the puzzle finds in at most `budget` visits.
+fn find_state(alloc: Global, puzzle: &Puzzle, budget: u64) -> Result<FoundState, AllocError>
+    ensures state { IfOk result (λ found. IsFound puzzle.now budget found.state) }
+    ensures spent { IfOk result (λ found. HasSpent budget found.state found.visits) }
 {
-    match certify(alloc, puzzle, budget)? {
-        Outcome::None => Ok(PuzzleState::NoSolution),
-        Outcome::One(solution) => Ok(PuzzleState::One(solution_text(alloc, puzzle, &solution)?)),
-        Outcome::More(_first, _second) => Ok(PuzzleState::More),
-        Outcome::GaveUp => Ok(PuzzleState::GaveUp),
+    let Searched { outcome, visits } = certify(alloc, puzzle, budget)?;
+    match outcome {
+        Outcome::None => Ok(FoundState {
+            state: PuzzleState::NoSolution,
+            visits,
+        }),
+        Outcome::One(solution) => Ok(FoundState {
+            state: PuzzleState::One(solution_text(alloc, puzzle, &solution)?),
+            visits,
+        }),
+        Outcome::More(_first, _second) => Ok(FoundState {
+            state: PuzzleState::More,
+            visits,
+        }),
+        Outcome::GaveUp => Ok(FoundState {
+            state: PuzzleState::GaveUp,
+            visits,
+        }),
     }
 }
 

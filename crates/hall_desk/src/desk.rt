@@ -1,5 +1,5 @@
 //! The desk: requests, answered over the world of a store.
-ghost use Rattle.std.specs.Prelude.{◌≡◌, IfOk, IsOk, OnErr};
+ghost use Rattle.std.specs.Prelude.{◌≡◌, IfOk, IsOk, OnErr, All};
 ghost use Rattle.hall_store.specs.Store.{Kept, Leads, Makes, Asks, Fails};
 ghost use Rattle.hall_store.specs.Change.{changed, CanMake};
 ghost use Rattle.hall_store.specs.declared.change.Change.{Change};
@@ -7,7 +7,8 @@ ghost use Rattle.hall_desk.specs.Desk.{kept_by, SaneThen};
 ghost use Rattle.hall_desk.specs.Sane.{Sane};
 ghost use Rattle.hall_desk.specs.Promises.{HasUniqueSolutions, RightAnswersAreSolutions};
 ghost use Rattle.hall_desk.specs.Plan.{planned_reply, planned_change};
-ghost use Rattle.hall_desk.specs.Plans.{Planned, Steps, Seeds, Runs, FailsIn, IsNobodys, IsQuietPlan};
+ghost use Rattle.hall_desk.specs.Plans.{Planned, Steps, Seeds, Runs, FailsIn};
+ghost use Rattle.hall_desk.specs.Plans.{IsNobodys, AreNobodys, IsAvailable, IsQuietPlan};
 
 use crate::plan::make_plan;
 use crate::planned::Plan;
@@ -62,11 +63,14 @@ impl<S: Store> Desk<S> {
         commit(alloc, &mut self.store, plan)
     }
 
-    /// Answers one request: a step of the hall. A fault is `Reply::Unavailable`.
+    /// Answers one request: a step of the hall. A fault is `Reply::Unavailable`, which a request without a key, other
+    /// than for a table, is never answered.
     pub fn step(&mut self, alloc: Global, t: Moment, request: &Request) -> Reply
         ensures leads { Leads (S.content (kept_by self.old)) (S.content (kept_by self.new)) }
         ensures steps { (S.content (kept_by self.new)).honest →
             Steps (S.content (kept_by self.old)) t request.now result (S.content (kept_by self.new)) }
+        ensures answered { IsNobodys request.now → IsAvailable result }
+        ensures untouched { IsNobodys request.now → kept_by self.new ≡ kept_by self.old }
         ensures sane { SaneThen Sane (S.content (kept_by self.old)) (S.content (kept_by self.new)) }
         ensures unique { SaneThen HasUniqueSolutions (S.content (kept_by self.old)) (S.content (kept_by self.new)) }
         ensures right { SaneThen RightAnswersAreSolutions (S.content (kept_by self.old))
@@ -96,6 +100,8 @@ impl<S: Store> Desk<S> {
         ensures leads { Leads (S.content (kept_by self.old)) (S.content (kept_by self.new)) }
         ensures runs { IfOk result (λ replies. (S.content (kept_by self.new)).honest →
             Runs (S.content (kept_by self.old)) requests.now replies.items (S.content (kept_by self.new))) }
+        ensures answered { IfOk result (λ replies. AreNobodys requests.now → All IsAvailable replies.items) }
+        ensures untouched { AreNobodys requests.now → kept_by self.new ≡ kept_by self.old }
         ensures sane { SaneThen Sane (S.content (kept_by self.old)) (S.content (kept_by self.new)) }
         ensures unique { SaneThen HasUniqueSolutions (S.content (kept_by self.old)) (S.content (kept_by self.new)) }
         ensures right { SaneThen RightAnswersAreSolutions (S.content (kept_by self.old))

@@ -67,6 +67,7 @@ pub(crate) fn plan_import<S: Store>(
     Ok(Plan {
         reply: Reply::Imported(added),
         change: Change::Import(people),
+        visits: None,
     })
 }
 

@@ -1,4 +1,5 @@
 //! Laws of the definitions, each the contract of a function that does nothing.
+ghost use Rattle.hall_desk.specs.Agreement.{AnswersAgree, StepsAgree};
 ghost use Rattle.hall_desk.specs.History.{RunsAreHistories};
 ghost use Rattle.hall_desk.specs.Records.{RecordsStay};
 ghost use Rattle.hall_desk.specs.Promises.{SanityKeepsPromises, TokensActOnce, AcceptedAnswersStay, RetriesAreAnswered};
@@ -6,6 +7,12 @@ ghost use Rattle.hall_desk.specs.Promises.{ProtestTokensActOnce, RulingsActOnce}
 ghost use Rattle.hall_desk.specs.Promises.{SaneTokensActOnce, SaneProtestTokensActOnce};
 ghost use Rattle.hall_desk.specs.ProtestPromises.{AcceptedProtestsStay, ProtestRetriesAreAnswered};
 ghost use Rattle.hall_desk.specs.ProtestPromises.{RulingsStay, RulingRetriesAreAnswered};
+
+/// A sane world has one answer to a request.
+pub fn law_steps_agree()
+    ensures answers { AnswersAgree }
+    ensures steps { StepsAgree }
+{}
 
 /// A sane world keeps the promises, and steps, runs and lives of the hall keep worlds sane.
 pub fn law_sanity()

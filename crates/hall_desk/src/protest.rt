@@ -144,6 +144,7 @@ fn protested(person: &Person, asked: &Protesting) -> Result<Plan, AllocError>
     Ok(Plan {
         reply: Reply::Protested(asked.token.clone()?),
         change: Change::AddProtest(stored),
+        visits: None,
     })
 }
 

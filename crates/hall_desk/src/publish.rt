@@ -70,5 +70,6 @@ fn publish_round(facts: &Facts, round: &RoundId) -> Result<Plan, AllocError>
             round: kept,
             flag: RoundFlag::Published,
         },
+        visits: None,
     })
 }

@@ -104,6 +104,7 @@ fn put_puzzle(
         Some(state) => Ok(Plan {
             reply: Reply::PuzzlePut { state, text },
             change: Change::Nothing,
+            visits: None,
         }),
         None => {
             let row = PuzzleRow {
@@ -117,6 +118,7 @@ fn put_puzzle(
                     text,
                 },
                 change: Change::PutPuzzle(row),
+                visits: None,
             })
         }
     }

@@ -59,6 +59,7 @@ impl<'a> Handler for Drafting<'a> {
         Ok(Plan {
             reply: Reply::RoundPut(shown),
             change: Change::PutRound(row),
+            visits: None,
         })
     }
 }

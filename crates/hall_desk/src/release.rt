@@ -81,5 +81,6 @@ fn release_round(facts: &Facts, round: &RoundId) -> Result<Plan, AllocError>
             round: kept,
             flag: RoundFlag::Released,
         },
+        visits: None,
     })
 }

@@ -119,6 +119,7 @@ fn ruled(asked: &RulingOn) -> Result<Plan, AllocError>
             key: key_of(asked)?,
             ruling: asked.ruling,
         },
+        visits: None,
     })
 }
 

@@ -2,18 +2,20 @@
 ghost use Rattle.std.specs.Prelude.{◌≡◌, IfOk};
 ghost use Rattle.hall_solve.specs.Question.{IsPartial};
 ghost use Rattle.hall_solve.specs.Puzzle.{OutcomeOfPuzzle, question_of, start_of};
+ghost use Rattle.hall_solve.specs.Searched.{visits_made, IsSpent};
 
 use hall_grid::{Kind, Puzzle};
 use hall_nurikabe::NurikabeRules;
 use hall_slither::SlitherRules;
-use hall_solve::{Outcome, Partial, search};
+use hall_solve::{Partial, Searched, search_counted};
 use hall_sudoku::SudokuRules;
 use std::alloc::{AllocError, Global};
 
 /// What the search of the puzzle finds in at most `budget` visits: no solution, one and no other, two different ones,
-/// or that it gave up.
-pub fn certify(alloc: Global, puzzle: &Puzzle, budget: u64) -> Result<Outcome, AllocError>
-    ensures { IfOk result (OutcomeOfPuzzle puzzle.now budget) }
+/// or that it gave up. It tells the visits that it made: where it gave up, the whole budget.
+pub fn certify(alloc: Global, puzzle: &Puzzle, budget: u64) -> Result<Searched, AllocError>
+    ensures outcome { IfOk result (λ searched. OutcomeOfPuzzle puzzle.now budget searched.outcome) }
+    ensures spent { IfOk result (λ searched. IsSpent budget searched.outcome (visits_made searched.visits)) }
 {
     let start = start(alloc, puzzle)?;
     search_from(alloc, puzzle, &start, budget)
@@ -37,14 +39,17 @@ fn search_from(
     puzzle: &Puzzle,
     start: &Partial,
     budget: u64,
-) -> Result<Outcome, AllocError>
+) -> Result<Searched, AllocError>
     requires start { start.now.places ≡ start_of puzzle.now.kind puzzle.now }
     requires partial { IsPartial (question_of puzzle.now.kind puzzle.now) start.now.places }
-    ensures { IfOk result (OutcomeOfPuzzle puzzle.now budget) }
+    ensures outcome { IfOk result (λ searched. OutcomeOfPuzzle puzzle.now budget searched.outcome) }
+    ensures spent { IfOk result (λ searched. IsSpent budget searched.outcome (visits_made searched.visits)) }
 {
     match puzzle.kind() {
-        Kind::Sudoku => search(alloc, &mut SudokuRules::new(alloc, puzzle)?, start, budget),
-        Kind::Slither => search(alloc, &mut SlitherRules::new(puzzle), start, budget),
-        Kind::Nurikabe => search(alloc, &mut NurikabeRules::new(puzzle), start, budget),
+        Kind::Sudoku => {
+            search_counted(alloc, &mut SudokuRules::new(alloc, puzzle)?, start, budget)
+        }
+        Kind::Slither => search_counted(alloc, &mut SlitherRules::new(puzzle), start, budget),
+        Kind::Nurikabe => search_counted(alloc, &mut NurikabeRules::new(puzzle), start, budget),
     }
 }

@@ -1,11 +1,11 @@
 //! Plans made and committed, one request after another.
-ghost use Rattle.std.specs.Prelude.{◌≡◌, ◌+◌, ◌≤◌, ◌<◌, ◌++◌, ◌∷◌, [], IfOk, IsOk, OnErr, vec_len, vec_capacity};
+ghost use Rattle.std.specs.Prelude.{◌≡◌, ◌+◌, ◌≤◌, ◌<◌, ◌++◌, ◌∷◌, [], IfOk, IsOk, OnErr, All, vec_len, vec_capacity};
 ghost use Rattle.hall_store.specs.Store.{Leads, Makes, Asks, Fails};
 ghost use Rattle.hall_store.specs.Change.{CanMake};
 ghost use Rattle.hall_store.specs.declared.change.Change.{Change};
 ghost use Rattle.hall_desk.specs.Desk.{SaneThen};
 ghost use Rattle.hall_desk.specs.Sane.{Sane};
-ghost use Rattle.hall_desk.specs.Plans.{Steps, Runs};
+ghost use Rattle.hall_desk.specs.Plans.{Steps, Runs, IsNobodys, AreNobodys, IsAvailable};
 
 use crate::plan::make_plan;
 use crate::planned::Plan;
@@ -26,7 +26,7 @@ pub(crate) fn commit<S: Store>(
     ensures nothing { plan.change ≡ Change.Nothing → IsOk result × (store.new ≡ store.old) }
     ensures reply { IfOk result (λ reply. reply ≡ plan.reply) }
 {
-    let Plan { reply, change } = plan;
+    let Plan { reply, change, .. } = plan;
     make(alloc, store, change)?;
     Ok(reply)
 }
@@ -56,6 +56,8 @@ pub(crate) fn step<S: Store>(alloc: Global, store: &mut S, t: Moment, request: &
     ensures leads { Leads (S.content store.old) (S.content store.new) }
     ensures steps { (S.content store.new).honest → Steps (S.content store.old) t request.now result
         (S.content store.new) }
+    ensures answered { IsNobodys request.now → IsAvailable result }
+    ensures untouched { IsNobodys request.now → store.new ≡ store.old }
     ensures sane { SaneThen Sane (S.content store.old) (S.content store.new) }
 {
     let _moment = t.get();
@@ -68,6 +70,8 @@ fn make_step<S: Store>(alloc: Global, store: &mut S, t: Moment, request: &Reques
     ensures leads { Leads (S.content store.old) (S.content store.new) }
     ensures steps { (S.content store.new).honest → Steps (S.content store.old) t request.now result
         (S.content store.new) }
+    ensures answered { IsNobodys request.now → IsAvailable result }
+    ensures untouched { IsNobodys request.now → store.new ≡ store.old }
 {
     match make_plan(alloc, store, t, request) {
         Ok(plan) => match commit(alloc, store, plan) {
@@ -88,6 +92,8 @@ pub(crate) fn run<S: Store>(
     ensures runs { IfOk result (λ replies. (S.content store.new).honest →
         Runs (S.content store.old) requests.now replies.items (S.content store.new)) }
     ensures sane { SaneThen Sane (S.content store.old) (S.content store.new) }
+    ensures answered { IfOk result (λ replies. AreNobodys requests.now → All IsAvailable replies.items) }
+    ensures untouched { AreNobodys requests.now → store.new ≡ store.old }
     ensures refused { OnErr result (store.new ≡ store.old) }
 {
     let mut replies = Vec::with_capacity(alloc, requests.len())?;

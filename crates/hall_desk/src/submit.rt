@@ -180,6 +180,7 @@ fn submitted(
     Ok(Plan {
         reply: received(&row.round, n, verdict),
         change: Change::AddAnswer(stored),
+        visits: None,
     })
 }
 

@@ -9,6 +9,7 @@ mod explore;
 mod outcome;
 mod partial;
 mod rules;
+mod searched;
 mod visit;
 
 pub use deduce::{Deduce, Finding, Look, Pass, settle, sweep};
@@ -16,3 +17,4 @@ pub use explore::search;
 pub use outcome::Outcome;
 pub use partial::{Mark, Partial};
 pub use rules::{Rules, Step};
+pub use searched::{Searched, Visits, search_counted};

@@ -1,4 +1,4 @@
-use Rattle.std.proofs.Common.{refl, sym, subst}
+use Rattle.std.proofs.Common.{None, refl, sym, subst}
 use Rattle.hall_policy.specs.declared.rule.Decision.TheVariants.{Deny}
 use Rattle.hall_policy.specs.declared.record.PuzzleState.TheVariants as state
 use Rattle.hall_store.specs.declared.change.Change.TheVariants as change
@@ -16,6 +16,6 @@ returns-in-Some-clause-told g c =
     let world = (g.S.Store.content c.args.store.now).world in (
       (λ h s. s),
       (λ h s. subst (λ (plan : Plan). IsPlanFor world c.args.turn.now.t request plan) (sym c.of.ensures)
-          (planned facts world c.args.turn.now.t request (Deny c.in-Some.rule) (reply.Denied c.in-Some.rule) change.Nothing (c.requires h s)
-          (c.in-Some.ensures.some world (caller_told facts world request.action)) state.GaveUp (refl, refl) tt (λ _. refl))),
+          (planned facts world c.args.turn.now.t request (Deny c.in-Some.rule) (reply.Denied c.in-Some.rule) change.Nothing None (c.requires h s)
+          (c.in-Some.ensures.some world (caller_told facts world request.action)) state.GaveUp (refl, refl) tt (λ _. refl) (λ k at budget found certifies sets. absurd (cc)))),
     )

@@ -1,4 +1,4 @@
-use Rattle.std.proofs.Common.{Option, inr, refl, sym, ap, ◌∙◌, subst}
+use Rattle.std.proofs.Common.{Option, None, inr, refl, sym, ap, ◌∙◌, subst}
 use Rattle.hall_desk.specs.Found.{IsThere}
 use Rattle.hall_policy.specs.declared.record.Person.{Person}
 use Rattle.hall_policy.specs.declared.record.PuzzleState.TheVariants as state
@@ -20,12 +20,12 @@ returns-in-Some-clause-planned g c =
       ap (λ (plan : Plan). plan.change) c.of.ensures,
       (λ world.
           subst (λ (plan : Plan). IsPlanFor world c.args.turn.now.t request plan) (sym c.of.ensures)
-          (planned facts world c.args.turn.now.t request (Deny c.in-Some.rule) (reply.Denied c.in-Some.rule) change.Nothing
+          (planned facts world c.args.turn.now.t request (Deny c.in-Some.rule) (reply.Denied c.in-Some.rule) change.Nothing None
           (record {
             found = c.requires.caller ∙ sym (ap (caller_of world) c.requires.key);
             there = subst (λ (who : Option Person). IsThere world who) (sym c.requires.caller) tt;
           })
-          (c.in-Some.ensures.some world (caller_told facts world request.action)) state.GaveUp (refl, refl) tt (λ _. refl))),
+          (c.in-Some.ensures.some world (caller_told facts world request.action)) state.GaveUp (refl, refl) tt (λ _. refl) (λ k at budget found certifies sets. absurd (cc)))),
     )
 
 pub unreachable-requires : goal.unreachable-requires

@@ -1,10 +1,11 @@
-use Rattle.std.proofs.Common.{◌≡◌, ◌+◌, ◌++◌, ◌∷◌, [], ℕ, List, take, refl, sym, ◌∙◌, subst, arith}
+use Rattle.std.proofs.Common.{◌≡◌, ◌+◌, ◌++◌, ◌∷◌, [], ℕ, List, All, take, refl, sym, ◌∙◌, subst, arith}
 use Rattle.std.proofs.lemmas.List.{take_more}
+use Rattle.std.proofs.lemmas.List.Elements.{All-nil, All-append}
 use Rattle.hall_policy.specs.declared.request.Request.{Request}
 use Rattle.hall_desk.specs.Run.{Run}
-use Rattle.hall_desk.specs.Plans.{Runs}
+use Rattle.hall_desk.specs.Plans.{Runs, IsNobodys, AreNobodys, IsAvailable}
 use Rattle.hall_desk.specs.declared.reply.Reply.{Reply}
-use Rattle.hall_desk.proofs.Runs.{runs_more, take_all}
+use Rattle.hall_desk.proofs.Runs.{runs_more, take_all, all_one}
 use Rattle.hall_desk.proofs.step.run.Goals as goal
 
 pub loop-asked-init : goal.loop-asked-init
@@ -16,6 +17,8 @@ loop-asked-init g c =
       room = made.capacity;
       leads = record { honest = λ h. h; serves = λ h s. s };
       runs = λ h. (world, subst (λ (replies : List Reply). Run world [] replies world) (sym made.items) refl, λ s. refl);
+      answered = λ nobodys. subst (λ (replies : List Reply). All IsAvailable replies) (sym made.items) (All-nil IsAvailable);
+      untouched = λ nobodys. refl;
       sane = λ h s world_sane. world_sane;
     }
 
@@ -30,7 +33,9 @@ loop-asked-preserved g c =
     let requests = c.args.requests.now in
     let index = c.loop-asked.asked-index in
     let asked = c.asked-item.result in
-    let more : take (index + 1) requests ≡ take index requests ++ asked ∷ [] = take_more requests index asked c.loop-asked-test.true ∙ (let here = sym c.asked-item.is in λ i. take index requests ++ here i ∷ []) in
+    let more : take (index + 1) requests ≡ take index requests ++ asked ∷ [] = take_more requests index asked c.loop-asked-test.true ∙ (let there = sym c.asked-item.is in λ i. take index requests ++ there i ∷ []) in
+    let here : AreNobodys requests → IsNobodys asked.1 =
+    λ nobodys. subst (λ (item : ℕ × Request). IsNobodys item.1) (sym c.asked-item.is) (nobodys index asked c.loop-asked-test.true) in
     record {
       count = omega (arith, kept.len, old.count);
       room = omega (arith, kept.capacity, old.room);
@@ -43,6 +48,11 @@ loop-asked-preserved g c =
           (subst (λ (replies : List Reply). Runs first (take index requests ++ asked ∷ []) replies new) (sym kept.items)
           (runs_more first before new (take index requests) c.loop-asked.replies.items asked c.step-reply.result
           (step.leads.serves h) (old.runs (step.leads.honest h)) (step.steps h)));
+      answered = λ nobodys.
+          subst (λ (replies : List Reply). All IsAvailable replies) (sym kept.items)
+          (All-append IsAvailable c.loop-asked.replies.items (c.step-reply.result ∷ []) (old.answered nobodys)
+          (all_one IsAvailable c.step-reply.result (step.answered (here nobodys))));
+      untouched = λ nobodys. step.untouched (here nobodys) ∙ old.untouched nobodys;
       sane = λ h s world_sane. step.sane h s (old.sane (step.leads.honest h) (step.leads.serves h s) world_sane);
     }
 

@@ -1,0 +1,57 @@
+//! A search that tells how many visits it made.
+ghost use Rattle.std.specs.Prelude.{◌≡◌, IfOk};
+ghost use Rattle.hall_solve.specs.Question.{IsPartial};
+ghost use Rattle.hall_solve.specs.Answer.{OutcomeOf};
+ghost use Rattle.hall_solve.specs.Searched.{visits_made, IsSpent};
+
+use crate::explore::search;
+use crate::outcome::Outcome;
+use crate::partial::Partial;
+use crate::rules::Rules;
+use std::alloc::{AllocError, Global};
+
+/// How many visits a search made. A search alone makes one of these, so who has one has searched.
+#[derive(Clone, Copy)]
+pub struct Visits {
+    count: u64,
+}
+
+impl Visits {
+    /// Their number.
+    pub fn get(self) -> u64
+        ensures { result ≡ visits_made self }
+    {
+        self.count
+    }
+}
+
+/// What a search found, and the visits that it made.
+#[derive(Drop)]
+pub struct Searched {
+    pub outcome: Outcome,
+    pub visits: Visits,
+}
+
+/// Searches as [`search`] does, and tells the visits.
+pub fn search_counted<R: Rules>(
+    alloc: Global,
+    rules: &mut R,
+    start: &Partial,
+    budget: u64,
+) -> Result<Searched, AllocError>
+    requires fresh { R.visits rules.old ≡ 0 }
+    requires not_asked { R.asked rules.old ≡ 0 }
+    requires start { IsPartial (R.question rules.old) start.now.places }
+    ensures outcome { IfOk result
+        (λ searched. OutcomeOf (R.question rules.old) start.now.places budget searched.outcome) }
+    ensures counted { IfOk result (λ searched. visits_made searched.visits ≡ R.visits rules.new) }
+    ensures spent { IfOk result (λ searched. IsSpent budget searched.outcome (visits_made searched.visits)) }
+{
+    let outcome = search(alloc, rules, start, budget)?;
+    Ok(Searched {
+        outcome,
+        visits: Visits {
+            count: rules.visits(),
+        },
+    })
+}
