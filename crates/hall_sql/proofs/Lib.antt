@@ -58,3 +58,4 @@ pub mod SelectedLemmas
 pub mod FeedListings
 pub mod Agrees
 pub mod EachLemmas
+pub mod OpenedLemmas

@@ -8,6 +8,7 @@ mod cached_store;
 mod calls;
 mod feed;
 mod make;
+mod open;
 mod people;
 mod protests;
 mod puzzles;
@@ -17,7 +18,10 @@ mod rounds;
 mod scan;
 mod schema;
 mod sql_store;
+mod system_files;
 mod tables;
 
 pub use cached_store::CachedStore;
+pub use open::{OpenFault, PathFiles, law_opened, open_at, open_in_memory, open_there};
 pub use sql_store::SqlStore;
+pub use system_files::SystemFiles;

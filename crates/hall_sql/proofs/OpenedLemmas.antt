@@ -1,0 +1,98 @@
+-- What an opened store shows of the files.
+use Rattle.std.proofs.Common.{◌≡◌, inl, inr, List, [], ◌∷◌, length, sym, ap, subst, refl, ◌∙◌, arith}
+use Rattle.std.proofs.Math.Logic.{∥∥₁_elim}
+use Rattle.std.specs.List.{AllZip}
+use Rattle.std.specs.Prelude.{IfOk, Result, Ok, Err}
+use Rattle.sqlite_trees.specs.declared.memory.MemStore.{MemStore}
+use Rattle.sqlite_trees.specs.Props.{Trees-set}
+use Rattle.sqlite_trees.specs.View.{doubt}
+use Rattle.sqlite.specs.Effect.{Database}
+use Rattle.sqlite.specs.Files.{AreFoundIn}
+use Rattle.sqlite.specs.Held.{Held, state}
+use Rattle.sqlite.specs.Recovery.{Image}
+use Rattle.sqlite.specs.Schema.{Schema}
+use Rattle.sqlite.specs.State.{State, HasCleanDisk, Opens, IsLive}
+use Rattle.sqlite.specs.Steps.{IsEmpty, over_memory}
+use Rattle.sqlite.specs.Tree.{Trees}
+use Rattle.sqlite_catalog.specs.Listing.{IsSound}
+use Rattle.hall_policy.specs.World.{World}
+use Rattle.hall_store.specs.Maps.{empty_world}
+use Rattle.hall_sql.specs.Tables.{no_schema, hall_schema}
+use Rattle.hall_sql.specs.Rows.{world_of}
+use Rattle.hall_sql.specs.Standing.{StoodOrEmpty, HasAdopted, content_of}
+use Rattle.hall_sql.specs.Opened.{StandsFor, HoldsWorld, FindsWorld, IsFound, Starts, MemoryServes, OneWorldIsFound}
+
+-- the database of a connection that was taken over
+stood : (old new : State) → IsSound old.now.schema old.now.trees → StoodOrEmpty old new
+    → StandsFor old.now.trees (world_of new.now.trees)
+stood old new sound (inl same) =
+    inl (subst (λ (s : Schema). IsSound s old.now.trees) same.0 sound, ap (λ (d : Database). world_of d.trees) same.1)
+stood old new sound (inr none) = inr (subst (λ (s : Schema). IsSound s old.now.trees) none.0 sound, none.1)
+
+-- files without a byte hold no table
+from_nothing : (image : Image) (db : Trees) (world : World) → AreFoundIn image db → StandsFor db world → image.db ≡ []
+    → world ≡ empty_world
+from_nothing image db world found (inr none) bytes = none.1
+from_nothing image db world (inl found) (inl stands) bytes =
+    let some = found.3.found.present in
+    let len : length image.db ≡ 0 = ap length bytes in
+    absurd (omega (arith, some, len))
+from_nothing image db world (inr empty) (inl stands) bytes = absurd (rw empty.1.1 at stands.0.lists.listed.tables)
+
+pub starts : (image : Image) (old new : State) → IsFound image old → HasAdopted old new → Starts image (content_of new)
+starts image old new file adopted clean =
+    let was : HasCleanDisk old = omega (arith, adopted.follows.clean, clean) in
+    let is = file.opened was in
+    let has = file.found was in
+    let stands : StandsFor old.committed.trees (world_of new.now.trees) =
+    subst (λ (d : Database). StandsFor d.trees (world_of new.now.trees)) is.0.clean
+    (stood old new (is.1 is.0.is_open).0 (adopted.stood clean)) in
+    (
+      adopted.serves clean,
+      record {
+        holds = λ db held. subst (λ (d : Trees). StandsFor d (world_of new.now.trees))
+        (∥∥₁_elim held (Trees-set _ _) (has.holds db)) stands;
+        reads = (old.committed.trees, has.reads, stands);
+        nothing = from_nothing image old.committed.trees (world_of new.now.trees) has.reads stands;
+      },
+    )
+
+-- a list with a table is not one with none
+apart : {A B : Type 0} (R : A → B → Type 0) (rows : List A) (b : B) (bs : List B) → AllZip R rows (b ∷ bs)
+    → AllZip R rows [] → ⊥
+apart R [] b bs some none = some
+apart R (row ∷ rows) b bs some none = none
+
+never_both : (db : Trees) → IsSound hall_schema db → IsSound no_schema db → ⊥
+never_both db hall none = apart _ _ _ _ hall.lists.listed.tables none.lists.listed.tables
+
+same_world : (db : Trees) (one other : World) → StandsFor db one → StandsFor db other → one ≡ other
+same_world db one other (inl a) (inl b) = a.1 ∙ sym b.1
+same_world db one other (inl a) (inr b) = absurd (never_both db a.0 b.0)
+same_world db one other (inr a) (inl b) = absurd (never_both db b.0 a.0)
+same_world db one other (inr a) (inr b) = a.1 ∙ sym b.1
+
+pub one_world : OneWorldIsFound
+one_world image held found has finds = same_world has.db found held (finds.holds has.db has.held) has.stands
+
+pub memory_serves : MemoryServes
+unfolding doubt
+memory_serves held = (refl, refl)
+
+-- a database without a table that was taken over holds an empty world
+hall_is_some : no_schema ≡ hall_schema → ⊥
+hall_is_some same = let tables = ap (λ (s : Schema). length s.tables) same in cc
+
+pub from_empty : (old new : State) → old.now.schema ≡ no_schema → StoodOrEmpty old new
+    → world_of new.now.trees ≡ empty_world
+from_empty old new none (inl same) = absurd (hall_is_some (sym none ∙ same.0))
+from_empty old new none (inr empty) = empty.1
+
+-- over memory the disk is clean
+pub empty_in_memory : {E : Type 0} (conn : Held MemStore) → IsEmpty (state over_memory conn)
+    → (result : Result (Held MemStore) E)
+    → IfOk result (λ store. HasAdopted (state over_memory conn) (state over_memory store))
+    → IfOk result (λ store. (content_of (state over_memory store)).world ≡ empty_world)
+empty_in_memory conn empty (Ok store) adopted =
+    from_empty (state over_memory conn) (state over_memory store) empty.2 (adopted.stood (memory_serves store).0)
+empty_in_memory conn empty (Err fault) adopted = tt

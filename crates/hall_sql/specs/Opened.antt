@@ -1,0 +1,86 @@
+-- The world that the files at a path held.
+use Rattle.std.specs.Prelude.{◌≡◌, ◌⊎◌, ℕ, Bool, true, false, List, []}
+use Rattle.sqlite_trees.specs.declared.memory.MemStore.{MemStore}
+use Rattle.sqlite.specs.Recovery.{Image}
+use Rattle.sqlite.specs.Tree.{Trees}
+use Rattle.sqlite.specs.Files.{HoldsDatabase, AreFoundIn}
+use Rattle.sqlite.specs.Held.{Held, state}
+use Rattle.sqlite.specs.Start.{FindsIn}
+use Rattle.sqlite.specs.State.{State, HasCleanDisk, Opens, IsLive}
+use Rattle.sqlite.specs.Steps.{over_memory}
+use Rattle.sqlite.specs.declared.error.Error.{Error}
+use Rattle.sqlite_catalog.specs.Listing.{IsSound}
+use Rattle.hall_policy.specs.World.{World}
+use Rattle.hall_store.specs.Store.{Content}
+use Rattle.hall_store.specs.Maps.{empty_world}
+use Rattle.hall_sql.specs.Tables.{no_schema, hall_schema}
+use Rattle.hall_sql.specs.Rows.{world_of}
+use Rattle.hall_sql.specs.Standing.{content_of}
+use Rattle.hall_sql.specs.declared.open.OpenFault.{OpenFault}
+use Rattle.hall_sql.specs.declared.open.OpenFault.TheVariants.{Missing, Unopened, Refused}
+
+-- where the device was honest, the connection stands for what the log and the database file hold
+pub record IsFound (image : Image) (s : State) : Type 0 where
+  pub opened : HasCleanDisk s → Opens s × IsLive s
+  pub found : HasCleanDisk s → FindsIn image s
+
+-- The database lists the hall's tables, whose rows stand for the world; or it lists no table, and the world is empty.
+abbrev pub StandsFor : Trees → World → Type 0
+StandsFor db world =
+    (IsSound hall_schema db × (world ≡ world_of db))
+    ⊎ (IsSound no_schema db × (world ≡ empty_world))
+
+-- the log and the database file hold a database that stands for the world
+pub record HoldsWorld (image : Image) (world : World) : Type 0 where
+  pub db : Trees
+  pub held : ∥ HoldsDatabase image db ∥₁
+  pub stands : StandsFor db world
+
+-- the world that is found in the log and the database file
+pub record FindsWorld (image : Image) (world : World) : Type 0 where
+  -- what database they hold stands for it
+  pub holds : (db : Trees) → ∥ HoldsDatabase image db ∥₁ → StandsFor db world
+  -- they recover to a database, or none was made yet
+  pub reads : (db : Trees) × AreFoundIn image db × StandsFor db world
+  -- where the database file has no byte, the world is empty
+  pub nothing : image.db ≡ [] → world ≡ empty_world
+
+-- Where the device was honest, the store serves, and its world is the one that the files held.
+abbrev pub Starts : Image → Content → Type 0
+Starts image content = content.honest → content.serves × FindsWorld image content.world
+
+-- asked for the database at the path alone, the files handed one out
+abbrev pub OpensAt : {F S : Type 0} → (F → List ℕ → Held S → F → Type 0) → F → List ℕ → F → Type 0
+OpensAt {F} {S} opens old path new = (was : Held S) × opens old path was new
+
+-- asked for the database at the path alone, the files refused by the error, or handed out one that was refused
+abbrev pub IsCauseAt : {F S : Type 0} → (F → List ℕ → Error → F → Type 0) → (F → List ℕ → Held S → F → Type 0)
+    → F → List ℕ → F → OpenFault → Type 0
+IsCauseAt refuses opens old path new Missing = ⊥
+IsCauseAt refuses opens old path new (Unopened error) = refuses old path error new
+IsCauseAt refuses opens old path new (Refused fault) = OpensAt opens old path new
+
+-- the files told that there is a file at the path, and then handed out the database
+abbrev pub OpensThere : {F S : Type 0} → (F → List ℕ → Bool → F → Type 0) → (F → List ℕ → Held S → F → Type 0)
+    → F → List ℕ → F → Type 0
+OpensThere {F} tells opens old path new = (there : F) × tells old path false there × OpensAt opens there path new
+
+-- the files told that there is no file at the path, and were asked nothing more; or that there is one, and the cause is
+-- that of its database
+abbrev pub IsCauseThere : {F S : Type 0} → (F → List ℕ → Bool → F → Type 0) → (F → List ℕ → Error → F → Type 0)
+    → (F → List ℕ → Held S → F → Type 0) → F → List ℕ → F → OpenFault → Type 0
+IsCauseThere tells refuses opens old path new Missing = tells old path true new
+IsCauseThere {F} tells refuses opens old path new cause =
+    (there : F) × tells old path false there × IsCauseAt refuses opens there path new cause
+
+-- ---- what the definitions give
+
+-- files that hold a world are found to hold no other
+abbrev pub OneWorldIsFound : Type 0
+OneWorldIsFound =
+    (image : Image) (held found : World) → HoldsWorld image held → FindsWorld image found → found ≡ held
+
+-- over memory a connection's content is honest and serves, whatever it holds
+abbrev pub MemoryServes : Type 0
+MemoryServes =
+    (held : Held MemStore) → (content_of (state over_memory held)).honest × (content_of (state over_memory held)).serves

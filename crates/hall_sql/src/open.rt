@@ -1,0 +1,116 @@
+//! The hall's tables in the files at a path, and in memory.
+ghost use Rattle.std.specs.Prelude.{◌≡◌, IfOk, IfErr, OnOk};
+ghost use Rattle.sqlite.specs.Held.{state};
+ghost use Rattle.sqlite.specs.Steps.{over_memory};
+ghost use Rattle.hall_store.specs.Maps.{empty_world};
+ghost use Rattle.hall_sql.specs.Standing.{content_of};
+ghost use Rattle.hall_sql.specs.Opened.{IsCauseAt, IsCauseThere, MemoryServes, OneWorldIsFound, OpensAt, OpensThere, Starts};
+
+use crate::sql_store::SqlStore;
+use hall_store::StoreFault;
+use sqlite::{Alter, Connection, Error, MemStore};
+use std::alloc::Global;
+use std::io;
+
+/// Why the files at a path give no store.
+#[derive(Drop)]
+pub enum OpenFault {
+    /// There is no file.
+    Missing,
+    /// The files can't be opened, or hold no database.
+    Unopened(Error),
+    /// The database has other tables than the hall's, or they can't be made.
+    Refused(StoreFault),
+}
+
+/// Files, each under its path, and the database files among them.
+///
+/// What is asked of them may change them, so that a contract tells what was asked, and in which order.
+pub trait PathFiles<S: Alter> {
+    ghost use Rattle.std.specs.Prelude.{◌≡◌, List, ℕ, Bool, IfOk, IfErr, OnErr};
+    ghost use Rattle.sqlite.specs.Recovery.{Image};
+    ghost use Rattle.sqlite.specs.Held.{Held, state};
+    ghost use Rattle.sqlite.specs.declared.error.Error.{Error};
+    ghost use Rattle.hall_sql.specs.Opened.{IsFound};
+
+    /// The log and the database file at a path.
+    ghost image_at: { List ℕ → Image };
+
+    /// Asked whether there is no file at the path, they tell so.
+    ghost tells: { Self → List ℕ → Bool → Self → Type 0 };
+
+    /// Asked for the bytes of the file at the path, they give these.
+    ghost gives: { Self → List ℕ → List ℕ → Self → Type 0 };
+
+    /// Asked for the bytes of the file at the path, they give none.
+    ghost withholds: { Self → List ℕ → Self → Type 0 };
+
+    /// Asked for the database at the path, they hand out this one.
+    ghost opens: { Self → List ℕ → Held S → Self → Type 0 };
+
+    /// Asked for the database at the path, they refuse by this error.
+    ghost refuses: { Self → List ℕ → Error → Self → Type 0 };
+
+    /// Whether there is no file at the path.
+    fn is_missing(&mut self, path: &str) -> bool
+        ensures { tells self.old path.now result self.new };
+
+    /// The bytes of the file at the path.
+    fn read(&mut self, path: &str) -> io::Result<Vec<u8>>
+        ensures given { IfOk result (λ bytes. gives self.old path.now bytes.items self.new) }
+        ensures withheld { OnErr result (withholds self.old path.now self.new) };
+
+    /// The database at the path, which is made where there is none.
+    fn open(&mut self, path: &str) -> Result<Connection<S>, Error>
+        ensures opened { IfOk result (λ conn. opens self.old path.now conn self.new) }
+        ensures found { IfOk result (λ conn. IsFound (image_at path.now) (state S.Store conn)) }
+        ensures refused { IfErr result (λ error. refuses self.old path.now error self.new) };
+}
+
+/// The hall's tables in the files at the path, made there where there is none.
+pub fn open_at<S: Alter + Drop, F: PathFiles<S>>(
+    files: &mut F,
+    path: &str,
+) -> Result<SqlStore<S>, OpenFault>
+    ensures opened { OnOk result (OpensAt F.opens files.old path.now files.new) }
+    ensures starts { IfOk result (λ store. Starts (F.image_at path.now) (content_of (state S.Store store))) }
+    ensures cause { IfErr result (IsCauseAt F.refuses F.opens files.old path.now files.new) }
+{
+    let conn = match files.open(path) {
+        Ok(conn) => conn,
+        Err(error) => return Err(OpenFault::Unopened(error)),
+    };
+    match SqlStore::over(conn) {
+        Ok(store) => Ok(store),
+        Err(fault) => Err(OpenFault::Refused(fault)),
+    }
+}
+
+/// The hall's tables in the files at the path, which are there.
+pub fn open_there<S: Alter + Drop, F: PathFiles<S>>(
+    files: &mut F,
+    path: &str,
+) -> Result<SqlStore<S>, OpenFault>
+    ensures opened { OnOk result (OpensThere F.tells F.opens files.old path.now files.new) }
+    ensures starts { IfOk result (λ store. Starts (F.image_at path.now) (content_of (state S.Store store))) }
+    ensures cause { IfErr result (IsCauseThere F.tells F.refuses F.opens files.old path.now files.new) }
+{
+    if files.is_missing(path) {
+        return Err(OpenFault::Missing);
+    }
+    open_at(files, path)
+}
+
+/// The hall's tables in memory, without a row.
+pub fn open_in_memory(alloc: Global) -> Result<SqlStore<MemStore>, StoreFault>
+    ensures { IfOk result (λ store. (content_of (state over_memory store)).world ≡ empty_world) }
+{
+    let conn = Connection::open_in_memory(alloc)?;
+    SqlStore::over(conn)
+}
+
+/// Files that hold a world are found to hold no other; and over memory, a store is honest and serves.
+pub fn law_opened()
+    ensures found { OneWorldIsFound }
+    ensures memory { MemoryServes }
+{}
