@@ -8,6 +8,7 @@ use Rattle.std.proofs.lemmas.List.Elements.{All-nil, All-push}
 use Rattle.std.proofs.KnownBytes.{Appends-nil, Appends-trans, Consumes-nil, Consumes-trans}
 use Rattle.std.specs.Io.KnownBytes.{Appends, Consumes}
 use Rattle.hall_store.specs.Store.{Content, Leads}
+use Rattle.hall_store.proofs.Knowing.{leads_same, leads_then}
 use Rattle.hall_http.specs.declared.fault.ReplayFault.{ReplayFault}
 use Rattle.hall_http.specs.declared.fault.ReplayFault.TheVariants as fault
 use Rattle.hall_http.specs.Device.{WritesPart}
@@ -62,7 +63,7 @@ kept_start stream wrote store =
     record {
       done = [];
       whole = All-nil (λ x. IsRecord x.asked);
-      leads = record { honest = λ h. h; serves = λ h s. s };
+      leads = leads_same store;
       onward = λ h. (store.world, refl, λ s. refl);
       consumed = Consumes-nil stream;
       pieces = omega arith;
@@ -134,10 +135,7 @@ module _ (stream after wrote written : Option (List ℕ)) (old new : Content) (i
     whole_all = All-push (λ x. IsRecord x.asked) kept.done x kept.whole cut.is
 
     led : Leads old next
-    led = record {
-      honest = λ h. kept.leads.honest (leads.honest h);
-      serves = λ h s. kept.leads.serves (leads.honest h) (leads.serves h s);
-    }
+    led = leads_then old new next kept.leads leads
 
     pub kept_answered : (then : Option (List ℕ)) → Appends written then text
         → Kept stream after wrote then old next (drop end inbox) reads
@@ -219,7 +217,7 @@ unbegun stream wrote store read_failed write_failed = record {
   answered = [];
   unread = [];
   whole = All-nil (λ x. IsRecord x.asked);
-  leads = record { honest = λ h. h; serves = λ h s. s };
+  leads = leads_same store;
   run = λ h. onward_runs store [] store (store.world, refl, λ s. refl);
   consumed = Consumes-nil stream;
   bounded = omega arith;
