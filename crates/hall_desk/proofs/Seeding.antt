@@ -1,6 +1,6 @@
 -- People who stand before any request.
-use Rattle.std.proofs.Common.{◌≡◌, inl, inr, ℕ, false, List, Result, Ok, IfOk, sym, ap, ◌∙◌, subst}
-use Rattle.std.specs.Prelude.{All}
+use Rattle.std.proofs.Common.{◌≡◌, ◌⊎◌, inl, inr, ℕ, false, List, Result, Ok, Err, IfOk, sym, ap, ◌∙◌, subst}
+use Rattle.std.specs.Prelude.{All, IsOk, OnErr}
 use Rattle.std.proofs.lemmas.Bool.{false≢true}
 use Rattle.hall_policy.specs.Facts.{TrueUpTo}
 use Rattle.hall_policy.specs.declared.facts.Facts.{Facts}
@@ -11,15 +11,18 @@ use Rattle.hall_policy.specs.Ranges.{IsPerson}
 use Rattle.hall_policy.specs.Rules.{HasConflict}
 use Rattle.hall_policy.specs.declared.record.Person.{Person}
 use Rattle.hall_policy.specs.declared.request.Action.TheVariants.{Import}
-use Rattle.hall_store.specs.Store.{Content, Kept, Leads}
+use Rattle.hall_store.specs.Store.{Content, Kept, Leads, Made}
 use Rattle.hall_store.specs.Change.{changed, CanMake}
 use Rattle.hall_store.specs.declared.change.Change.{Change}
+use Rattle.hall_store.specs.declared.change.Change.TheVariants.{Nothing}
 use Rattle.hall_desk.specs.Step.{Seed}
 use Rattle.hall_desk.specs.Sane.{Sane}
-use Rattle.hall_desk.specs.Plans.{IsMadePlan, IsImportPlan, IsSeedPlan, Seeds}
+use Rattle.hall_desk.specs.Plans.{IsMadePlan, IsImportPlan, IsSeedPlan, IsSeedReply, Seeds}
 use Rattle.hall_desk.specs.declared.reply.Reply.{Reply}
 use Rattle.hall_desk.specs.declared.planned.Plan.{Plan}
+use Rattle.hall_store.proofs.Knowing.{kept_then, leads_kept}
 use Rattle.hall_desk.proofs.ImportSane.{people_sane}
+use Rattle.hall_desk.proofs.Stepping.{committed}
 
 -- where nobody contradicts what is known, the plan that imports is that of the people
 pub seed_plan : (world : World) (people : List Person) (plan : Plan) → ¬ (HasConflict world (Import people)) → IsImportPlan world people plan → IsSeedPlan world people plan
@@ -39,21 +42,51 @@ import_plan world facts t people plan told clear is = record {
   searched = λ k at budget found certifies sets. absurd (cc);
 }
 
+-- a store that has made a plan's change served before it, and so it did where a plan without one was asked of it
+pub seeded_serves : {R : Type 0} (E : Type 0) (mid new : Content) (change : Change) (done : R) → (change ≡ Nothing → mid.honest → mid.serves) → Leads mid new
+    → (change ≡ Nothing) ⊎ Made {E = E} change mid new (Ok done) → new.honest → mid.serves
+seeded_serves E mid new change done asked leads (inl none) h = asked none (leads.honest h)
+seeded_serves E mid new change done asked leads (inr made) h = leads.serves h (made h).0
+
 -- a plan that was made over a store, and its change made there
-pub planned_seed : (old mid new : Content) (people : List Person) (plan : Plan) (given : Reply) → Kept old mid → (mid.honest → old.serves → mid.serves) →
+pub planned_seed : (old mid new : Content) (people : List Person) (plan : Plan) (given : Reply) → Kept old mid → (new.honest → mid.serves) →
     (mid.honest → mid.serves → IsSeedPlan mid.world people plan) → Leads mid new → given ≡ plan.reply →
     (new.honest → mid.serves → new.serves × (new.world ≡ changed plan.change mid.world)) → new.honest → Seeds old people given new
-planned_seed old mid new people plan given kept opened made leads told done h opens =
+planned_seed old mid new people plan given kept opened made leads told done h =
     let before = leads.honest h in
-    let serves = opened before opens in
+    let serves = opened h in
     let after = done h serves in
     inr (
-      opens,
+      kept.serves before serves,
       after.0,
       subst (λ (r : Reply). Seed old.world people r new.world) (sym told)
           (subst (λ (w : World). Seed w people plan.reply new.world) (kept.world before serves)
           (subst (λ (w : World). Seed mid.world people plan.reply w) (sym after.1) (made before serves).seeded)),
     )
+
+module _ {S : Type 0} (content : S → Content) (old : Content) (mid new : S) (people : List Person) (plan : Plan) (kept : Kept old (content mid))
+    (leads : Leads (content mid) (content new)) where
+  -- the commit was asked, and makes the plan's seed
+  pub seed_made : {E : Type 0} (result : Result Reply E) → (plan.change ≡ Nothing → (content mid).honest → (content mid).serves)
+      → ((content mid).honest → (content mid).serves → IsSeedPlan (content mid).world people plan)
+      → (plan.change ≡ Nothing → IsOk result × (new ≡ mid)) → (plan.change ≡ Nothing) ⊎ Made plan.change (content mid) (content new) result
+      → IfOk result (λ reply. reply ≡ plan.reply) → IfOk result (λ reply. (content new).honest → Seeds old people reply (content new))
+  seed_made {E} (Ok reply) asked told nothing made is =
+      planned_seed old (content mid) (content new) people plan reply kept (seeded_serves E (content mid) (content new) plan.change reply asked leads made) told leads is
+      (committed E content mid new plan.change reply (λ none. (nothing none).1) made)
+  seed_made (Err fault) asked told nothing made is = tt
+
+  -- or is refused, and leaves the world
+  pub seed_refused : {R E : Type 0} (result : Result R E) → (plan.change ≡ Nothing → IsOk result) → (plan.change ≡ Nothing) ⊎ Made plan.change (content mid) (content new) result
+      → OnErr result (Kept old (content new))
+  seed_refused (Ok done) nothing made = tt
+  seed_refused (Err fault) nothing (inl none) = absurd (let no = nothing none in cc)
+  seed_refused (Err fault) nothing (inr made) = kept_then old (content mid) (content new) kept (leads_kept (content mid) (content new) leads made)
+
+-- what a commit answers is the plan's reply
+pub seed_answered : {E : Type 0} (result : Result Reply E) (plan : Plan) → IsSeedReply plan.reply → IfOk result (λ reply. reply ≡ plan.reply) → IfOk result IsSeedReply
+seed_answered (Ok reply) plan is same = subst IsSeedReply (sym same) is
+seed_answered (Err fault) plan is same = tt
 
 -- it keeps a sane world
 pub seed_sane : (world : World) (people : List Person) (given : Reply) (new : World) → ArePeople people → All IsPerson people → Seed world people given new → Sane world → Sane new
@@ -63,9 +96,15 @@ seed_sane world people given new are each (inr (inr h)) sane =
     subst Sane (sym h.1.1) (people_sane world people sane are.different each (λ person among conflict. h.0 (person, among, conflict)))
 
 -- what was made of the people over a store keeps its world sane
-pub seeds_sane : (old new : Content) (people : List Person) (given : Reply) → ArePeople people → All IsPerson people → Leads old new → new.honest → new.serves →
+pub seed_sane_over : (old new : Content) (people : List Person) (given : Reply) → ArePeople people → All IsPerson people → Leads old new → new.honest → new.serves →
     Seeds old people given new → Sane old.world → Sane new.world
-seeds_sane old new people given are each leads h s seeds sane = elim (seeds (leads.serves h s)) [
+seed_sane_over old new people given are each leads h s seeds sane = elim seeds [
   | inl kept ↦ subst Sane (sym (kept.1 s)) sane
   | inr made ↦ seed_sane old.world people given new.world are each made.2 sane
 ]
+
+-- so it does where it was answered
+pub seeds_sane : {E : Type 0} (result : Result Reply E) (old new : Content) (people : List Person) → ArePeople people → All IsPerson people → Leads old new
+    → OnErr result (Kept old new) → IfOk result (λ reply. new.honest → Seeds old people reply new) → new.honest → new.serves → Sane old.world → Sane new.world
+seeds_sane (Ok reply) old new people are each leads kept seeds h s sane = seed_sane_over old new people reply are each leads h s (seeds h) sane
+seeds_sane (Err fault) old new people are each leads kept seeds h s sane = subst Sane (sym (kept.world h s)) sane

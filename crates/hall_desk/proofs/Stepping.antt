@@ -1,5 +1,5 @@
 -- A plan and its commit make a step.
-use Rattle.std.proofs.Common.{◌≡◌, inl, inr, ℕ, Result, Ok, Err, IfOk, sym, ap, ◌∙◌, subst}
+use Rattle.std.proofs.Common.{◌≡◌, ◌⊎◌, inl, inr, ℕ, Result, Ok, Err, IfOk, sym, ap, ◌∙◌, subst}
 use Rattle.hall_policy.specs.World.{World}
 use Rattle.hall_policy.specs.declared.request.Request.{Request}
 use Rattle.hall_store.specs.Store.{Content, Kept, Leads, Made}
@@ -7,8 +7,18 @@ use Rattle.hall_store.specs.Change.{changed}
 use Rattle.hall_desk.specs.Step.{Step}
 use Rattle.hall_desk.specs.Plans.{IsPlanFor, Planned, Steps}
 use Rattle.hall_store.specs.declared.change.Change.{Change}
+use Rattle.hall_store.specs.declared.change.Change.TheVariants.{Nothing}
 use Rattle.hall_desk.specs.declared.reply.Reply.{Reply}
 use Rattle.hall_desk.specs.declared.planned.Plan.{Plan}
+
+-- what a commit makes of the world of a store that served before
+pub committed : {S R : Type 0} (E : Type 0) (content : S → Content) (old new : S) (change : Change) (done : R) → (change ≡ Nothing → new ≡ old)
+    → (change ≡ Nothing) ⊎ Made {E = E} change (content old) (content new) (Ok done)
+    → (content new).honest → (content old).serves → (content new).serves × ((content new).world ≡ changed change (content old).world)
+committed E content old new change done nothing (inl none) h s =
+    subst (λ i. (content i).serves × ((content i).world ≡ changed change (content old).world)) (sym (nothing none))
+    (s, sym (ap (λ c. changed c (content old).world) none))
+committed E content old new change done nothing (inr made) h s = made h
 
 module _ (t : ℕ) (request : Request) where
   -- a plan that was made over a store, and its change made there

@@ -317,23 +317,23 @@ fails_as (Err e) Why fault is why = λ failed. why (sym is ∙ failed)
 
 module _ (cause : Type 0) (id : List ℕ) (round : RoundRow) (fresh : Tally) (held : IsTallyOf round [] [] fresh) where
   -- feeding protests fails for such a cause alone, or in a world that isn't sane
-  pub protests_fail : (new : Content) (after : Tally) → cause ⊎ IsRefusedNext TakesProtest RefusesProtest (λ world rows. rows ≡ protests_in world id) new fresh after →
+  pub protests_fail : (old new : Content) (after : Tally) → Kept old new → cause ⊎ IsRefusedNext TakesProtest RefusesProtest (λ world rows. rows ≡ protests_in world id) old new fresh after →
       cause ⊎ (new.honest → new.serves × ¬ (Sane new.world))
-  protests_fail new after (inl is) = inl is
-  protests_fail new after (inr (taken, next, took, refuses, rest)) = inr (λ h.
+  protests_fail old new after kept (inl is) = inl is
+  protests_fail old new after kept (inr (taken, next, took, refuses, rest)) = inr (λ h.
       let left = rest h in
-      (left.0, λ sane. too_many_protests new.world id round taken left.1.0 next fresh after held took refuses left.1.1 sane))
+      (left.0, λ sane. too_many_protests old.world id round taken left.1.0 next fresh after held took refuses left.1.1 (subst Sane (kept.world h left.0) sane)))
 
   module _ (mid new : Content) (between : Tally) (kept : Kept mid new)
       (first : mid.honest → mid.serves × ((rows : List ProtestRow) × (rows ≡ protests_in mid.world id) × HasTaken TakesProtest fresh rows between)) where
     -- feeding answers after them fails for such a cause alone, or in a world that isn't sane
-    pub answers_fail : (after : Tally) → cause ⊎ IsRefusedNext TakesAnswer RefusesAnswer (λ world rows. IsListing world (is_in id) rows) new between after →
+    pub answers_fail : (after : Tally) → cause ⊎ IsRefusedNext TakesAnswer RefusesAnswer (λ world rows. IsListing world (is_in id) rows) mid new between after →
         cause ⊎ (new.honest → new.serves × ¬ (Sane new.world))
     answers_fail after (inl is) = inl is
     answers_fail after (inr (taken, next, took, refuses, rest)) = inr (λ h.
         let left = rest h in
         let read = first (kept.honest h) in
-        (left.0, λ sane. none_refused new.world id round read.1.0 taken left.1.0 next fresh between after held read.1.2 took refuses left.1.1 sane))
+        (left.0, λ sane. none_refused mid.world id round read.1.0 taken left.1.0 next fresh between after held read.1.2 took refuses left.1.1 (subst Sane (kept.world h left.0) sane)))
 
     -- the totals of both
     pub totals_served : (after : Tally) (totals : List (List ℕ × ℤ)) →

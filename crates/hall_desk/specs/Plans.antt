@@ -159,9 +159,14 @@ Planned new t request (Err fault) = Unit {0}
 abbrev pub Steps : Content → ℕ → Request → Reply → Content → Type 0
 Steps old t request given new = Over (λ before after. Step before t request given after) old new
 
--- where the store served before, it made of the people what stands before any request
+-- The people were refused by what stands in every world before any request and leaves it; or the store served before
+-- and after, and made of the people what stands before any request.
 abbrev pub Seeds : Content → List Person → Reply → Content → Type 0
-Seeds old people given new = old.serves → Over (λ before after. Seed before people given after) old new
+Seeds old people given new = Over (λ before after. Seed before people given after) old new
+
+-- so many people were added, or the rule on lists denies
+abbrev pub IsSeedReply : Reply → Type 0
+IsSeedReply given = ((count : ℕ) × (given ≡ reply.Imported count)) ⊎ (given ≡ reply.Denied 20)
 
 -- the replies are a run of the hall to some world, and where the store still serves, that world is its own
 abbrev pub Runs : Content → List (ℕ × Request) → List Reply → Content → Type 0

@@ -1,14 +1,14 @@
 //! The desk: requests, answered over the world of a store.
-ghost use Rattle.std.specs.Prelude.{◌≡◌, IfOk, IsOk, OnErr, All};
-ghost use Rattle.hall_store.specs.Store.{Kept, Leads, Makes, Asks, Fails};
+ghost use Rattle.std.specs.Prelude.{◌≡◌, IfOk, IsOk, OnErr, All, ◌⊎◌};
+ghost use Rattle.hall_store.specs.Store.{Kept, Leads, Made, Asks, Fails};
 ghost use Rattle.hall_store.specs.Change.{changed, CanMake};
 ghost use Rattle.hall_store.specs.declared.change.Change.{Change};
 ghost use Rattle.hall_desk.specs.Desk.{kept_by, SaneThen};
 ghost use Rattle.hall_desk.specs.Sane.{Sane};
 ghost use Rattle.hall_desk.specs.Promises.{HasUniqueSolutions, RightAnswersAreSolutions};
 ghost use Rattle.hall_desk.specs.Plan.{planned_reply, planned_change};
-ghost use Rattle.hall_desk.specs.Plans.{Planned, Steps, Seeds, Runs, FailsIn};
-ghost use Rattle.hall_desk.specs.Plans.{IsNobodys, AreNobodys, IsAvailable, IsQuietPlan};
+ghost use Rattle.hall_desk.specs.Plans.{Planned, Steps, Seeds, Runs, FailsIn, IsNobodys, AreNobodys, IsAvailable};
+ghost use Rattle.hall_desk.specs.Plans.{IsQuietPlan, IsSeedReply};
 
 use crate::plan::make_plan;
 use crate::planned::Plan;
@@ -54,8 +54,9 @@ impl<S: Store> Desk<S> {
     /// without a change is never refused.
     pub fn commit(&mut self, alloc: Global, plan: Plan) -> Result<Reply, StoreFault>
         requires { Asks (S.content (kept_by self.old)) (CanMake (planned_change plan)) }
-        ensures makes { Makes (planned_change plan) (S.content (kept_by self.old))
-            (S.content (kept_by self.new)) result }
+        ensures leads { Leads (S.content (kept_by self.old)) (S.content (kept_by self.new)) }
+        ensures made { (planned_change plan ≡ Change.Nothing) ⊎ Made (planned_change plan)
+            (S.content (kept_by self.old)) (S.content (kept_by self.new)) result }
         ensures fault { Fails S.can_fail result }
         ensures nothing { planned_change plan ≡ Change.Nothing → IsOk result × (kept_by self.new ≡ kept_by self.old) }
         ensures reply { IfOk result (λ reply. reply ≡ planned_reply plan) }
@@ -79,15 +80,31 @@ impl<S: Store> Desk<S> {
         step(alloc, &mut self.store, t, request)
     }
 
-    /// Imports the people before any request: the rule on lists alone is asked. It answers `Reply::Imported`,
-    /// `Reply::Denied` by that rule, or `Reply::Unavailable`.
+    /// Imports the people before any request: the rule on lists alone is asked. It answers `Reply::Imported`, or
+    /// `Reply::Denied` by that rule. Refused, it has left the world; it fails only where a call of the store did.
+    pub fn try_seed(&mut self, alloc: Global, people: &People) -> Result<Reply, StoreFault>
+        ensures leads { Leads (S.content (kept_by self.old)) (S.content (kept_by self.new)) }
+        ensures seeds { IfOk result (λ reply. (S.content (kept_by self.new)).honest →
+            Seeds (S.content (kept_by self.old)) people.now reply (S.content (kept_by self.new))) }
+        ensures answered { IfOk result IsSeedReply }
+        ensures kept { OnErr result (Kept (S.content (kept_by self.old)) (S.content (kept_by self.new))) }
+        ensures fault { Fails S.can_fail result }
+        ensures sane { SaneThen Sane (S.content (kept_by self.old)) (S.content (kept_by self.new)) }
+    {
+        seed(alloc, &mut self.store, people)
+    }
+
+    /// Imports the people before any request, as `try_seed` does. A fault is `Reply::Unavailable`.
     pub fn seed(&mut self, alloc: Global, people: &People) -> Reply
         ensures leads { Leads (S.content (kept_by self.old)) (S.content (kept_by self.new)) }
         ensures seeds { (S.content (kept_by self.new)).honest →
             Seeds (S.content (kept_by self.old)) people.now result (S.content (kept_by self.new)) }
         ensures sane { SaneThen Sane (S.content (kept_by self.old)) (S.content (kept_by self.new)) }
     {
-        seed(alloc, &mut self.store, people)
+        match self.try_seed(alloc, people) {
+            Ok(reply) => reply,
+            Err(_) => Reply::Unavailable,
+        }
     }
 
     /// Answers the requests one after another: a run of the hall. Room for all replies is made before the first

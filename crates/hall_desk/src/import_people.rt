@@ -1,10 +1,10 @@
 //! Import: the people of a list whose names are unknown are added.
-ghost use Rattle.std.specs.Prelude.{◌≡◌, ◌≢◌, ◌↔◌, ◌⊎◌, ℕ, List, IsTrue, Contains};
+ghost use Rattle.std.specs.Prelude.{◌≡◌, ◌≢◌, ◌↔◌, ◌⊎◌, ℕ, List, IsTrue, IfOk, Contains};
 ghost use Rattle.std.specs.FinMap.{get};
 ghost use Rattle.hall_policy.specs.Rules.{Conflicts};
-ghost use Rattle.hall_store.specs.Store.{Kept, Told, Fails};
+ghost use Rattle.hall_store.specs.Store.{Kept, Served, Told, Fails};
 ghost use Rattle.hall_desk.specs.Step.{unknown_people};
-ghost use Rattle.hall_desk.specs.Plans.{IsImportPlan};
+ghost use Rattle.hall_desk.specs.Plans.{IsImportPlan, IsSeedReply};
 
 use crate::handler::Handler;
 use crate::planned::Plan;
@@ -59,6 +59,7 @@ pub(crate) fn plan_import<S: Store>(
 ) -> Result<Plan, StoreFault>
     ensures kept { Kept (S.content store.old) (S.content store.new) }
     ensures fault { Fails S.can_fail result }
+    ensures answered { IfOk result (λ plan. IsSeedReply plan.reply × (plan.change ≢ Change.Nothing)) }
     ensures told { Told (S.content store.old) (S.content store.new) result
         (λ world plan. IsImportPlan world people.now plan) }
 {
@@ -79,6 +80,7 @@ pub(crate) fn any_conflict<S: Store>(
 ) -> Result<bool, StoreFault>
     ensures kept { Kept (S.content store.old) (S.content store.new) }
     ensures fault { Fails S.can_fail result }
+    ensures asked { IfOk result (λ found. IsTrue found → (S.content store.new).honest → (S.content store.new).serves) }
     ensures told { Told (S.content store.old) (S.content store.new) result
         (λ world found. IsTrue found ↔ ((person : Person) × Contains people.now person × Conflicts world person)) }
 {
@@ -95,8 +97,7 @@ pub(crate) fn any_conflict<S: Store>(
 fn conflicts<S: Store>(alloc: Global, store: &mut S, person: &Person) -> Result<bool, StoreFault>
     ensures kept { Kept (S.content store.old) (S.content store.new) }
     ensures fault { Fails S.can_fail result }
-    ensures told { Told (S.content store.old) (S.content store.new) result
-        (λ world found. IsTrue found ↔ Conflicts world person.now) }
+    ensures served { Served (S.content store.new) result (λ world found. IsTrue found ↔ Conflicts world person.now) }
 {
     if is_changed(alloc, store, person)? {
         return Ok(true);
@@ -111,7 +112,7 @@ fn conflicts<S: Store>(alloc: Global, store: &mut S, person: &Person) -> Result<
 fn is_changed<S: Store>(alloc: Global, store: &mut S, person: &Person) -> Result<bool, StoreFault>
     ensures kept { Kept (S.content store.old) (S.content store.new) }
     ensures fault { Fails S.can_fail result }
-    ensures told { Told (S.content store.old) (S.content store.new) result
+    ensures served { Served (S.content store.new) result
         (λ world found. IsTrue found ↔ ((known : Person) × (get world.people person.now.name ≡ Some known)
         × ((known.key ≢ person.now.key) ⊎ (known.roles ≢ person.now.roles)))) }
 {
@@ -136,7 +137,7 @@ fn has_key_of_another<S: Store>(
 ) -> Result<bool, StoreFault>
     ensures kept { Kept (S.content store.old) (S.content store.new) }
     ensures fault { Fails S.can_fail result }
-    ensures told { Told (S.content store.old) (S.content store.new) result
+    ensures served { Served (S.content store.new) result
         (λ world found. IsTrue found ↔ ((other : List ℕ) × (known : Person) × (get world.people other ≡ Some known)
         × (other ≢ person.now.name) × (known.key ≡ person.now.key))) }
 {

@@ -1,9 +1,10 @@
 //! People who are imported before any request.
-ghost use Rattle.std.specs.Prelude.{◌≡◌};
+ghost use Rattle.std.specs.Prelude.{◌≡◌, IfOk, OnErr};
 ghost use Rattle.hall_store.specs.Store.{Kept, Leads, Told, Fails};
+ghost use Rattle.hall_store.specs.declared.change.Change.{Change};
 ghost use Rattle.hall_desk.specs.Desk.{SaneThen};
 ghost use Rattle.hall_desk.specs.Sane.{Sane};
-ghost use Rattle.hall_desk.specs.Plans.{IsSeedPlan, Seeds};
+ghost use Rattle.hall_desk.specs.Plans.{IsSeedPlan, IsSeedReply, Seeds};
 
 use crate::import_people::{any_conflict, plan_import};
 use crate::planned::Plan;
@@ -14,10 +15,17 @@ use hall_store::{Store, StoreFault};
 use std::alloc::Global;
 
 /// Imports the people, whom the rule on lists alone may forbid.
-pub(crate) fn seed<S: Store>(alloc: Global, store: &mut S, people: &People) -> Reply
+pub(crate) fn seed<S: Store>(
+    alloc: Global,
+    store: &mut S,
+    people: &People,
+) -> Result<Reply, StoreFault>
     ensures leads { Leads (S.content store.old) (S.content store.new) }
-    ensures seeds { (S.content store.new).honest → Seeds (S.content store.old) people.now result
-        (S.content store.new) }
+    ensures seeds { IfOk result (λ reply. (S.content store.new).honest → Seeds (S.content store.old) people.now reply
+        (S.content store.new)) }
+    ensures answered { IfOk result IsSeedReply }
+    ensures kept { OnErr result (Kept (S.content store.old) (S.content store.new)) }
+    ensures fault { Fails S.can_fail result }
     ensures sane { SaneThen Sane (S.content store.old) (S.content store.new) }
 {
     // They are read for the ranges that their types keep.
@@ -26,24 +34,25 @@ pub(crate) fn seed<S: Store>(alloc: Global, store: &mut S, people: &People) -> R
 }
 
 /// Makes the plan of the people, and commits it.
-fn make_seed<S: Store>(alloc: Global, store: &mut S, people: &People) -> Reply
+fn make_seed<S: Store>(alloc: Global, store: &mut S, people: &People) -> Result<Reply, StoreFault>
     ensures leads { Leads (S.content store.old) (S.content store.new) }
-    ensures seeds { (S.content store.new).honest → Seeds (S.content store.old) people.now result
-        (S.content store.new) }
+    ensures seeds { IfOk result (λ reply. (S.content store.new).honest → Seeds (S.content store.old) people.now reply
+        (S.content store.new)) }
+    ensures answered { IfOk result IsSeedReply }
+    ensures kept { OnErr result (Kept (S.content store.old) (S.content store.new)) }
+    ensures fault { Fails S.can_fail result }
 {
-    match plan_seed(alloc, store, people) {
-        Ok(plan) => match commit(alloc, store, plan) {
-            Ok(reply) => reply,
-            Err(_) => Reply::Unavailable,
-        },
-        Err(_) => Reply::Unavailable,
-    }
+    let plan = plan_seed(alloc, store, people)?;
+    commit(alloc, store, plan)
 }
 
-/// The plan of the people: a denial where one of them contradicts what is known.
+/// The plan of the people: a denial where one of them contradicts what is known, which a look-up told.
 fn plan_seed<S: Store>(alloc: Global, store: &mut S, people: &People) -> Result<Plan, StoreFault>
     ensures kept { Kept (S.content store.old) (S.content store.new) }
     ensures fault { Fails S.can_fail result }
+    ensures answered { IfOk result (λ plan. IsSeedReply plan.reply) }
+    ensures asked { IfOk result (λ plan. plan.change ≡ Change.Nothing → (S.content store.new).honest
+        → (S.content store.new).serves) }
     ensures told { Told (S.content store.old) (S.content store.new) result
         (λ world plan. IsSeedPlan world people.now plan) }
 {

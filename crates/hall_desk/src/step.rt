@@ -1,6 +1,7 @@
 //! Plans made and committed, one request after another.
 ghost use Rattle.std.specs.Prelude.{◌≡◌, ◌+◌, ◌≤◌, ◌<◌, ◌++◌, ◌∷◌, [], IfOk, IsOk, OnErr, All, vec_len, vec_capacity};
-ghost use Rattle.hall_store.specs.Store.{Leads, Makes, Asks, Fails};
+ghost use Rattle.std.specs.Prelude.{◌⊎◌};
+ghost use Rattle.hall_store.specs.Store.{Leads, Made, Asks, Fails};
 ghost use Rattle.hall_store.specs.Change.{CanMake};
 ghost use Rattle.hall_store.specs.declared.change.Change.{Change};
 ghost use Rattle.hall_desk.specs.Desk.{SaneThen};
@@ -21,7 +22,8 @@ pub(crate) fn commit<S: Store>(
     plan: Plan,
 ) -> Result<Reply, StoreFault>
     requires { Asks (S.content store.old) (CanMake plan.change) }
-    ensures makes { Makes plan.change (S.content store.old) (S.content store.new) result }
+    ensures leads { Leads (S.content store.old) (S.content store.new) }
+    ensures made { (plan.change ≡ Change.Nothing) ⊎ Made plan.change (S.content store.old) (S.content store.new) result }
     ensures fault { Fails S.can_fail result }
     ensures nothing { plan.change ≡ Change.Nothing → IsOk result × (store.new ≡ store.old) }
     ensures reply { IfOk result (λ reply. reply ≡ plan.reply) }
@@ -34,7 +36,8 @@ pub(crate) fn commit<S: Store>(
 /// Makes the change by its call of the store.
 fn make<S: Store>(alloc: Global, store: &mut S, change: Change) -> Result<(), StoreFault>
     requires { Asks (S.content store.old) (CanMake change) }
-    ensures makes { Makes change (S.content store.old) (S.content store.new) result }
+    ensures leads { Leads (S.content store.old) (S.content store.new) }
+    ensures made { (change ≡ Change.Nothing) ⊎ Made change (S.content store.old) (S.content store.new) result }
     ensures fault { Fails S.can_fail result }
     ensures nothing { change ≡ Change.Nothing → IsOk result × (store.new ≡ store.old) }
 {

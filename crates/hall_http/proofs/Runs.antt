@@ -3,6 +3,7 @@ use Rattle.std.proofs.Common.{◌≡◌, ◌∙◌, sym, subst, refl, arith, ℕ
 use Rattle.std.proofs.lemmas.List.Elements.{All-nil, All-cons}
 use Rattle.hall_policy.specs.World.{World}
 use Rattle.hall_store.specs.Store.{Content, Leads, Over}
+use Rattle.hall_store.proofs.Knowing.{leads_same, leads_then}
 use Rattle.hall_desk.specs.Run.{IsTimed, Run}
 use Rattle.hall_desk.specs.Sane.{Sane}
 use Rattle.hall_desk.specs.Desk.{SaneThen}
@@ -94,13 +95,9 @@ module _ {H C : Type 0} (content : H → Content) (now_gives : C → Option ℕ 
   pub session_leads : (h : H) (c : C) (xs : List Exchange) (i : H) (d : C) → Session answers now_gives h c xs i d
       → Leads (content h) (content i)
   session_leads h c [] i d (same, ends) =
-      subst (λ (i : H). Leads (content h) (content i)) (sym same) (record { honest = λ k. k; serves = λ k s. s })
+      subst (λ (i : H). Leads (content h) (content i)) (sym same) (leads_same (content h))
   session_leads h c (x ∷ xs) i d (m, n, (whole, time, says), rest) =
-      let later = session_leads m n xs i d rest in
-      record {
-        honest = λ k. says.leads.honest (later.honest k);
-        serves = λ k s. says.leads.serves (later.honest k) (later.serves k s);
-      }
+      leads_then (content h) (content m) (content i) says.leads (session_leads m n xs i d rest)
 
   -- the first exchange, and then the others from whatever world it leaves
   further : (old new : Content) (x : Exchange) (xs : List Exchange) (last : Content) (world : World)
@@ -175,7 +172,7 @@ idle now_gives store clock = record {
   whole = All-nil (λ x. IsWhole x.request);
   moments = refl;
   few = omega arith;
-  leads = record { honest = λ k. k; serves = λ k s. s };
+  leads = leads_same store;
   run = λ k. onward_runs store [] store (store.world, refl, λ s. refl);
 }
 

@@ -9,6 +9,7 @@ use Rattle.std.proofs.KnownBytes.{Appends-nil, Appends-trans, Consumes-nil, Cons
 use Rattle.std.specs.Io.KnownBytes.{Appends, Consumes}
 use Rattle.hall_grid.specs.Device.{MadeCalls, Rises}
 use Rattle.hall_store.specs.Store.{Content, Leads}
+use Rattle.hall_store.proofs.Knowing.{leads_same, leads_then}
 use Rattle.hall_http.specs.declared.fault.ReplayFault.{ReplayFault}
 use Rattle.hall_http.specs.declared.fault.ReplayFault.TheVariants as fault
 use Rattle.hall_http.specs.Device.{WritesPart}
@@ -68,7 +69,7 @@ kept_start stream wrote store asked =
     record {
       done = [];
       whole = All-nil (λ x. IsRecord x.asked);
-      leads = record { honest = λ h. h; serves = λ h s. s };
+      leads = leads_same store;
       onward = λ h. (store.world, refl, λ s. refl);
       consumed = Consumes-nil stream;
       reading = at_first;
@@ -142,10 +143,7 @@ module _ (stream after wrote written : Option (List ℕ)) (old new : Content) (i
     whole_all = All-push (λ x. IsRecord x.asked) kept.done x kept.whole cut.is
 
     led : Leads old next
-    led = record {
-      honest = λ h. kept.leads.honest (leads.honest h);
-      serves = λ h s. kept.leads.serves (leads.honest h) (leads.serves h s);
-    }
+    led = leads_then old new next kept.leads leads
 
     before_it : HaveReadRecords kept.done reads (record_bytes r ++ drop end inbox)
     before_it =
@@ -266,7 +264,7 @@ unbegun stream wrote store read_failed write_failed asked = record {
   pieces = 0;
   reads = 0;
   whole = All-nil (λ x. IsRecord x.asked);
-  leads = record { honest = λ h. h; serves = λ h s. s };
+  leads = leads_same store;
   run = λ h. onward_runs store [] store (store.world, refl, λ s. refl);
   seldom = omega arith;
   made = inl (omega arith);

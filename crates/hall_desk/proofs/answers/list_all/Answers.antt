@@ -1,10 +1,15 @@
 use Rattle.std.proofs.Common.{refl, ◌∙◌}
+use Rattle.hall_store.specs.Store.{IsListing, is_in}
+use Rattle.hall_store.proofs.Feeds.{fed_now}
+use Rattle.hall_desk.specs.Lines.{IsLineAdded}
 use Rattle.hall_desk.proofs.LinesTaken.{lines_of}
 use Rattle.hall_desk.proofs.answers.list_all.Goals as goal
 
 pub returns-clause-served : goal.returns-clause-served
 returns-clause-served g c = λ h.
-    let fed = c.in_ok-feed_answers.ensures.fed h in
+    let it = c.in_ok-feed_answers.ensures in
+    let fed = fed_now IsLineAdded (λ world rows. IsListing world (is_in c.args.round.now) rows) (g.S.Store.content c.args.store.now)
+    (g.S.Store.content c.feed_answers.new.self) _ _ it.kept it.fed h in
     let rows = fed.1.0 in (
       fed.0,
       (rows, fed.1.1, lines_of _ _ c.args.shows rows (c.new-2.ensures ∙ c.new.ensures.items) refl fed.1.2),

@@ -6,14 +6,15 @@ use Rattle.hall_store.proofs.Tests.{not_true}
 use Rattle.hall_desk.proofs.Answering.{find-Contains, text_decides}
 use Rattle.hall_desk.proofs.import_people.has_key_of_another.Goals as goal
 
-pub returns-in-Some-clause-told : goal.returns-in-Some-clause-told
-returns-in-Some-clause-told g c =
+pub returns-in-Some-clause-served : goal.returns-in-Some-clause-served
+returns-in-Some-clause-served g c =
     let read = c.in_ok-known.ensures in
     let world = (g.S.Store.content c.person_by_key.new.self).world in
     let person = c.args.person.now in
-    let known = c.in-Some.known in (
-      (λ h s. (read.served h).0),
-      (λ h s.
+    let known = c.in-Some.known in
+    λ h. (
+      (read.served h).0,
+      (
           let holder = (read.served h).1 in
           let there : get world.people known.name ≡ Some known =
           subst (λ (found : Option Person). IfSome found (λ p. get world.people p.name ≡ Some p)) c.in-Some.is holder.there in

@@ -3,14 +3,15 @@ use Rattle.std.specs.FinMap.{get}
 use Rattle.hall_policy.specs.declared.record.Person.{Person}
 use Rattle.hall_desk.proofs.import_people.is_changed.Goals as goal
 
-pub returns-in-Some-clause-told : goal.returns-in-Some-clause-told
-returns-in-Some-clause-told g c =
+pub returns-in-Some-clause-served : goal.returns-in-Some-clause-served
+returns-in-Some-clause-served g c =
     let read = c.in_ok-known.ensures in
     let world = (g.S.Store.content c.person.new.self).world in
     let person = c.args.person.now in
-    let known = c.in-Some.known in (
-      (λ h s. (read.served h).0),
-      (λ h s.
+    let known = c.in-Some.known in
+    λ h. (
+      (read.served h).0,
+      (
           let at : get world.people person.name ≡ Some known = sym (read.served h).1 ∙ c.in-Some.is in (
             (λ differs. (known, at, c.differs.ensures.0 differs)),
             (λ other.

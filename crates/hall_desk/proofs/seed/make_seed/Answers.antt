@@ -1,9 +1,19 @@
-use Rattle.hall_desk.proofs.Seeding.{planned_seed}
+use Rattle.hall_desk.proofs.Seeding.{seed_made, seed_refused, seed_answered}
 use Rattle.hall_desk.proofs.seed.make_seed.Goals as goal
 
-pub returns-in-Ok-commit-clause-seeds : goal.returns-in-Ok-commit-clause-seeds
-returns-in-Ok-commit-clause-seeds g c =
-    let made = c.in-Ok-commit.ensures in
-    let plan = c.in-Ok.ensures in
-    planned_seed (g.S.Store.content c.args.store.now) (g.S.Store.content c.plan_seed.new.store) (g.S.Store.content c.commit.new.store) c.args.people.now
-    c.in-Ok.plan c.in-Ok-commit.reply plan.kept plan.told.0 plan.told.1 made.makes.leads made.reply made.makes.made
+pub returns-clause-seeds : goal.returns-clause-seeds
+returns-clause-seeds g c =
+    let made = c.commit.ensures in
+    let plan = c.in_ok-plan.ensures in
+    seed_made g.S.Store.content (g.S.Store.content c.args.store.now) c.plan_seed.new.store c.commit.new.store c.args.people.now c.in_ok-plan.plan plan.kept made.leads
+    c.commit.result plan.asked plan.told.1 made.nothing made.made made.reply
+
+pub returns-clause-kept : goal.returns-clause-kept
+returns-clause-kept g c =
+    let made = c.commit.ensures in
+    let plan = c.in_ok-plan.ensures in
+    seed_refused g.S.Store.content (g.S.Store.content c.args.store.now) c.plan_seed.new.store c.commit.new.store c.args.people.now c.in_ok-plan.plan plan.kept made.leads
+    c.commit.result (λ none. (made.nothing none).0) made.made
+
+pub returns-clause-answered : goal.returns-clause-answered
+returns-clause-answered g c = seed_answered c.commit.result c.in_ok-plan.plan c.in_ok-plan.ensures.answered c.commit.ensures.reply

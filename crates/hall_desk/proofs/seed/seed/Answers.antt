@@ -2,6 +2,6 @@ use Rattle.hall_desk.proofs.Seeding.{seeds_sane}
 use Rattle.hall_desk.proofs.seed.seed.Goals as goal
 
 pub returns-clause-sane : goal.returns-clause-sane
-returns-clause-sane g c = λ h s.
-    seeds_sane (g.S.Store.content c.args.store.now) (g.S.Store.content c.make_seed.new.store) c.args.people.now c.make_seed.result
-    c.in_range.ensures.list c.in_range.ensures.each c.make_seed.ensures.leads h s (c.make_seed.ensures.seeds h)
+returns-clause-sane g c =
+    seeds_sane c.make_seed.result (g.S.Store.content c.args.store.now) (g.S.Store.content c.make_seed.new.store) c.args.people.now
+    c.in_range.ensures.list c.in_range.ensures.each c.make_seed.ensures.leads c.make_seed.ensures.kept c.make_seed.ensures.seeds

@@ -6,6 +6,7 @@ use Rattle.hall_desk.specs.Run.{Run}
 use Rattle.hall_desk.specs.Plans.{Runs, IsNobodys, AreNobodys, IsAvailable}
 use Rattle.hall_desk.specs.declared.reply.Reply.{Reply}
 use Rattle.hall_desk.proofs.Runs.{runs_more, take_all, all_one}
+use Rattle.hall_store.proofs.Knowing.{leads_same, leads_then}
 use Rattle.hall_desk.proofs.step.run.Goals as goal
 
 pub loop-asked-init : goal.loop-asked-init
@@ -15,7 +16,7 @@ loop-asked-init g c =
     record {
       count = made.len;
       room = made.capacity;
-      leads = record { honest = λ h. h; serves = λ h s. s };
+      leads = leads_same (g.S.Store.content c.args.store.now);
       runs = λ h. (world, subst (λ (replies : List Reply). Run world [] replies world) (sym made.items) refl, λ s. refl);
       answered = λ nobodys. subst (λ (replies : List Reply). All IsAvailable replies) (sym made.items) (All-nil IsAvailable);
       untouched = λ nobodys. refl;
@@ -39,10 +40,7 @@ loop-asked-preserved g c =
     record {
       count = omega (arith, kept.len, old.count);
       room = omega (arith, kept.capacity, old.room);
-      leads = record {
-        honest = λ h. old.leads.honest (step.leads.honest h);
-        serves = λ h s. old.leads.serves (step.leads.honest h) (step.leads.serves h s);
-      };
+      leads = leads_then first before new old.leads step.leads;
       runs = λ h.
           subst (λ (list : List (ℕ × Request)). Runs first list c.keep.new.replies.items new) (sym more)
           (subst (λ (replies : List Reply). Runs first (take index requests ++ asked ∷ []) replies new) (sym kept.items)

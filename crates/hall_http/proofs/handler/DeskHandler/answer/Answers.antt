@@ -1,4 +1,5 @@
 use Rattle.std.proofs.Common.{refl, inl}
+use Rattle.hall_store.proofs.Knowing.{leads_same}
 use Rattle.hall_http.proofs.Refusals.{unavailable_reply}
 use Rattle.hall_http.proofs.handler.DeskHandler.answer.Goals as goal
 
@@ -8,6 +9,6 @@ returns-in-Some g c =
 
 pub returns-in-None : goal.returns-in-None
 returns-in-None g c = rw c.in-None.is (record {
-  leads = record { honest = λ h. h; serves = λ h s. s };
+  leads = leads_same _;
   answers = λ h. inl ((λ world. (unavailable_reply, refl)), λ s. refl);
 })
