@@ -1,5 +1,5 @@
 -- The first request of some bytes, by the head at their front.
-use Rattle.std.proofs.Common.{◌≡◌, ◌∙◌, sym, ap, refl, ℕ, ◌+◌, ◌<◌, ◌≤◌, List, [], ◌++◌, length, take, drop, map, arith, append_assoc, length-append, ◌-◌, inl, inr, replicate, Option, Some, None, true, false, if◌then◌else◌}
+use Rattle.std.proofs.Common.{◌≡◌, ◌∙◌, sym, ap, subst, refl, ℕ, ◌+◌, ◌<◌, ◌≤◌, List, [], ◌++◌, length, take, drop, map, arith, append_assoc, length-append, ◌-◌, inl, inr, replicate, Option, Some, None, true, false, if◌then◌else◌}
 use Rattle.std.proofs.lemmas.Option.{same_Some}
 use Rattle.std.proofs.lemmas.List.{length-map, length-replicate, length-take-le, append-nil, take-append-le, take-append-drop, take_at}
 use Rattle.std.proofs.Math.Seq.{take-append-add}
@@ -12,7 +12,7 @@ use Rattle.httparse.specs.Spans.{RequestOverflows, name_and_value, header_bytes,
 use Rattle.httparse.specs.declared.spans.HeaderSpan.{HeaderSpan}
 use Rattle.httparse.specs.declared.spans.RequestSpans.{RequestSpans}
 use Rattle.httparse.proofs.GrammarLemmas.{ReadsRequest-append, request_prefix_free}
-use Rattle.hall_http.specs.Head.{body_size, headers_of, IsWhole, HasNone, NeverHas, IsUnfinished, length_in, head_limit, is_accepted, within}
+use Rattle.hall_http.specs.Head.{body_size, headers_of, IsWhole, HasNone, NeverHas, IsUnfinished, IsUnfinishedBelow, length_in, head_limit, is_accepted, within}
 
 size_of : RequestHead → Option ℕ
 size_of h = body_size (length (print_request h)) (headers_of h)
@@ -125,3 +125,26 @@ pub lacks_head : (bytes : List ℕ) → HasNoRequest bytes → MayBecomeRequest 
     → IsUnfinished bytes
 lacks_head bytes none may few =
     record { none = none_in bytes none; short = omega arith; possible = inr (few, may) }
+
+-- it stays so until all its bytes are there
+pub lacks_body_below : (bytes : List ℕ) (h : RequestHead) (after : List ℕ) (n : ℕ) → ReadsRequest bytes h after
+    → body_size (length (print_request h)) (headers_of h) ≡ Some n
+    → IsUnfinishedBelow (length (print_request h) + n) bytes
+lacks_body_below bytes h after n reads size more few =
+    let longer = ReadsRequest-append bytes h after more reads in
+    let all : length (bytes ++ more) ≡ length (print_request h) + length (after ++ more) =
+    ap length longer.1 ∙ length-append (print_request h) (after ++ more) in
+    lacks_body (bytes ++ more) h (after ++ more) n longer size (omega arith)
+
+-- nothing is said below no bytes
+pub below_none : (bytes : List ℕ) → IsUnfinishedBelow 0 bytes
+below_none bytes more few = absurd (omega arith)
+
+pub below_more : (least : ℕ) (bytes piece : List ℕ) → IsUnfinishedBelow least bytes
+    → IsUnfinishedBelow least (bytes ++ piece)
+below_more least bytes piece below more few = rw append_assoc (below (piece ++ more) (rw append_assoc at few))
+
+pub unfinished_now : (least : ℕ) (bytes : List ℕ) → IsUnfinishedBelow least bytes → length bytes < least
+    → IsUnfinished bytes
+unfinished_now least bytes below few =
+    subst IsUnfinished (append-nil bytes) (below [] (rw append-nil few))

@@ -117,8 +117,12 @@ Finds found.None headers = headers ≡ []
 Finds (found.One value) headers = (name : List ℕ) × (headers ≡ (name, value.now) ∷ [])
 Finds found.Many headers = 1 < length headers
 
--- the first request ends there; it is unfinished; or no bytes can make it whole
+-- the bytes stay unfinished, however they go on, as long as they are fewer than so many
+abbrev pub IsUnfinishedBelow : ℕ → List ℕ → Type 0
+IsUnfinishedBelow least bytes = (more : List ℕ) → length (bytes ++ more) < least → IsUnfinished (bytes ++ more)
+
+-- the first request ends there; it is unfinished, and stays so below so many bytes; or no bytes can make it whole
 abbrev pub Cuts : List ℕ → Cut → Type 0
 Cuts bytes (cut.Whole n) = (n ≤ length bytes) × IsWhole (take n bytes)
-Cuts bytes cut.More = IsUnfinished bytes
+Cuts bytes (cut.More least) = IsUnfinished bytes × IsUnfinishedBelow least bytes
 Cuts bytes cut.Never = NeverHas bytes

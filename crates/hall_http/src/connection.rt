@@ -11,7 +11,7 @@ ghost use Rattle.hall_http.specs.Served.{IsHandled, IsServed};
 use crate::closing::closes;
 use crate::device::write_all;
 use crate::handler::Handler;
-use crate::head::{Cut, cut_request};
+use crate::head::{Cut, cut_from};
 use crate::inbox::{Inbox, ReadFault};
 use crate::routes::Routes;
 use crate::session::{routes_and_inbox, send};
@@ -110,8 +110,9 @@ fn serve_requests<H: Handler, R: Read, W: Write, C: Clock>(
 {
     let mut requests = 0;
     let mut reads = 0;
+    let mut least = 0;
     while requests < REQUEST_LIMIT {
-        match cut_request(inbox.unread()) {
+        match cut_from(inbox.unread(), least) {
             Cut::Whole(size) => {
                 let turn = exchange(
                     alloc,
@@ -123,13 +124,15 @@ fn serve_requests<H: Handler, R: Read, W: Write, C: Clock>(
                 );
                 inbox.pass(size);
                 requests += 1;
+                least = 0;
                 match turn {
                     Turn::Open => {}
                     Turn::Closing => return ServeEnd::Closed,
                     Turn::Failed => return ServeEnd::Device,
                 }
             }
-            Cut::More => {
+            Cut::More(size) => {
+                least = size;
                 if reads == READ_LIMIT {
                     return ServeEnd::Limit;
                 }

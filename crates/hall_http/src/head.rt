@@ -2,7 +2,7 @@
 ghost use Rattle.std.specs.Prelude.{◌≡◌, ◌≤◌, ℕ, List, length, map, All, ◌++◌, ◌∷◌, [], MatchOption, option_map, codes};
 ghost use Rattle.std.specs.Str.{str_eq_ignore_ascii_case};
 ghost use Rattle.httparse.specs.Spans.{IsHeaderWithin, header_bytes, span_bytes};
-ghost use Rattle.hall_http.specs.Head.{named, Header, Finds, Cuts, IsWhole, first_value};
+ghost use Rattle.hall_http.specs.Head.{named, Header, Finds, Cuts, IsWhole, IsUnfinishedBelow, first_value};
 ghost use Rattle.hall_http.specs.Head.{IsLentBy, length_of_text, body_size};
 
 use httparse::Status;
@@ -19,9 +19,9 @@ const BODY_LIMIT: usize = 65_536;
 pub enum Cut {
     /// After so many bytes.
     Whole(usize),
-    /// More bytes can make it whole.
-    More,
-    /// No bytes can.
+    /// It is unfinished, and needn't be looked at again before so many bytes are there.
+    More(usize),
+    /// No bytes can make it whole.
     Never,
 }
 
@@ -123,13 +123,24 @@ pub fn cut_request(bytes: &[u8]) -> Cut
                 return Cut::Never;
             };
             if bytes.len() - head.len < room {
-                return Cut::More;
+                return Cut::More(head.len + room);
             }
             Cut::Whole(head.len + room)
         }
-        Ok(Status::Partial) if bytes.len() < HEAD_LIMIT => Cut::More,
+        Ok(Status::Partial) if bytes.len() < HEAD_LIMIT => Cut::More(0),
         _ => Cut::Never,
     }
+}
+
+/// The same, where the bytes are known to be unfinished below so many: no head is read anew for each piece of a body.
+pub(crate) fn cut_from(bytes: &[u8], least: usize) -> Cut
+    requires { IsUnfinishedBelow least bytes.now }
+    ensures { Cuts bytes.now result }
+{
+    if bytes.len() < least {
+        return Cut::More(least);
+    }
+    cut_request(bytes)
 }
 
 /// A whole request: what of its head asks for something, and its body.

@@ -1,6 +1,7 @@
 use Rattle.std.proofs.Common.{◌∙◌, ℕ, List, refl, sym, subst, arith}
 use Rattle.hall_http.proofs.Exchanges.{Kept, kept_start, kept_read, kept_answered, closes_last, unsent}
 use Rattle.hall_http.proofs.Exchanges.{unread_device, at_end, never_request}
+use Rattle.hall_http.proofs.Heads.{below_none, below_more}
 use Rattle.hall_http.specs.declared.inbox.ReadFault.TheVariants as fault
 use Rattle.hall_http.proofs.connection.serve_requests.Goals as goal
 
@@ -13,6 +14,7 @@ loop-requests-preserved-in-Open g c =
       seldom = c.loop-requests.invariant.seldom;
       reader = c.loop-requests.invariant.reader;
       writer = same ∙ c.loop-requests.invariant.writer;
+      below = below_none _;
       kept = rw c.pass.ensures (kept_answered _ _ _ _ _ _ _ _ _ _ _ _ _ _ _ c.loop-requests.invariant.kept turn.exchange _ _ c.in-Whole.size
           (rw c.unread-in-Whole.ensures at turn.asked) turn.exchanged _ stays wrote);
     }
@@ -45,6 +47,7 @@ loop-requests-init g c = record {
   seldom = omega arith;
   reader = refl;
   writer = refl;
+  below = below_none _;
   kept = subst (λ (unread : List ℕ). Kept g.H.Handler.answers g.C.Clock.now_gives
       (g.R.Read.remaining c.args.reader.now.device) (g.R.Read.remaining c.args.reader.now.device)
       (g.W.Write.contents c.args.writer.now.device) (g.W.Write.contents c.args.writer.now.device)
@@ -61,15 +64,16 @@ loop-requests-preserved g c =
       seldom = omega (arith, c.loop-requests.invariant.seldom, c.if-reads-eq-READ_LIMIT.false);
       reader = steady ∙ c.loop-requests.invariant.reader;
       writer = c.loop-requests.invariant.writer;
+      below = rw same (below_more _ _ piece (rw c.unread.ensures at c.in-More.ensures).1);
       kept = rw same (kept_read _ _ _ _ _ _ _ _ _ _ _ _ _ _ _ c.loop-requests.invariant.kept _ piece _
-          c.loop-requests-test.true (rw c.unread.ensures at c.in-More.ensures) some few more c.read_more.ensures.asked);
+          c.loop-requests-test.true (rw c.unread.ensures at c.in-More.ensures).0 some few more c.read_more.ensures.asked);
     }
 
 pub returns-in-Ok-false : goal.returns-in-Ok-false
 returns-in-Ok-false g c =
     let ends = rw c.in-Ok-false.field-0-test at c.in-Ok-false.ensures.read in
     at_end _ _ _ _ _ _ _ _ _ _ _ _ _ _ _ c.loop-requests.invariant.kept _ _ c.loop-requests.invariant.few
-    c.loop-requests-test.true (rw c.unread.ensures at c.in-More.ensures)
+    c.loop-requests-test.true (rw c.unread.ensures at c.in-More.ensures).0
     (omega (arith, c.loop-requests.invariant.seldom, c.if-reads-eq-READ_LIMIT.false)) _ c.read_more.new.self _
     c.read_more.ensures.asked _ _ _ _ _ c.end_of_input.result ends
     (rw c.unread-in-Ok-false.ensures at c.end_of_input.ensures)
@@ -79,6 +83,6 @@ pub returns-in-Err-Device : goal.returns-in-Err-Device
 returns-in-Err-Device g c =
     let refused = rw c.in-Err-Device.field-0-is at c.in-Err-Device.ensures.read in
     unread_device _ _ _ _ _ _ _ _ _ _ _ _ _ _ _ c.loop-requests.invariant.kept _ _ c.loop-requests.invariant.few
-    c.loop-requests-test.true (rw c.unread.ensures at c.in-More.ensures)
+    c.loop-requests-test.true (rw c.unread.ensures at c.in-More.ensures).0
     (omega (arith, c.loop-requests.invariant.seldom, c.if-reads-eq-READ_LIMIT.false)) _ c.read_more.new.self _
     c.read_more.ensures.asked _ _ fault.Device refused (λ rose. rw c.loop-requests.invariant.reader at rose)

@@ -1,4 +1,5 @@
 use Rattle.std.proofs.Common.{◌≡◌, ◌≤◌, ◌+◌, ◌-◌}
+use Rattle.hall_http.specs.Head.{IsUnfinishedBelow}
 use Rattle.hall_http.proofs.Exchanges.{Kept}
 use Rattle.hall_http.proofs.connection.serve_requests.Given as goal
 
@@ -8,6 +9,7 @@ invariant-loop-requests g l = record {
   seldom : l.reads ≤ 100000;
   reader : l.reader.failures ≡ l.fn.reader.failures;
   writer : l.writer.failures ≡ l.fn.writer.failures;
+  below : IsUnfinishedBelow l.least l.inbox;
   kept : Kept g.H.Handler.answers g.C.Clock.now_gives
       (g.R.Read.remaining l.fn.reader.device) (g.R.Read.remaining l.reader.device)
       (g.W.Write.contents l.fn.writer.device) (g.W.Write.contents l.writer.device)

@@ -2,7 +2,7 @@ use Rattle.std.proofs.Common.{arith, ◌≡◌, ◌≤◌, ◌<◌, ◌∙◌, s
 use Rattle.hall_http.specs.Head.{body_size, headers_of}
 use Rattle.httparse.specs.Grammar.{print_request, HasNoRequest, MayBecomeRequest}
 use Rattle.httparse.specs.Spans.{IsRequestOf, IsRequestWithin}
-use Rattle.hall_http.proofs.Heads.{never_without, whole_at, never_past, size_at, lacks_body, lacks_head}
+use Rattle.hall_http.proofs.Heads.{never_without, whole_at, never_past, size_at, lacks_body, lacks_body_below, lacks_head, below_none}
 use Rattle.hall_http.proofs.head.cut_request.Goals as goal
 
 pub returns-in_default-body_room : goal.returns-in_default-body_room
@@ -32,10 +32,13 @@ returns-then-bytes-head c =
     let (h, found) = of in
     let size : body_size (length (print_request h)) (headers_of h) ≡ Some c.in-Some.room = sym (size_at _ _ _ h found) ∙ sym c.body_room.ensures ∙ c.in-Some.is in
     let short : length (drop c.in-Ok-Complete.head.len c.args.bytes.now) < c.in-Some.room = simp length-drop c.if-bytes-head.true in
-    lacks_body c.args.bytes.now h _ c.in-Some.room found.reads size short
+    (
+      lacks_body c.args.bytes.now h _ c.in-Some.room found.reads size short,
+      rw found.len (lacks_body_below c.args.bytes.now h _ c.in-Some.room found.reads size),
+    )
 
 pub returns-in-Ok-Partial : goal.returns-in-Ok-Partial
 returns-in-Ok-Partial c =
     let none : HasNoRequest c.args.bytes.now = rw (c.in-Ok-Partial.is, c.in-Ok-Partial.field-0-is) at c.parse_request.ensures.partial in
     let may : MayBecomeRequest c.args.bytes.now = rw (c.in-Ok-Partial.is, c.in-Ok-Partial.field-0-is) at c.parse_request.ensures.unfinished in
-    lacks_head c.args.bytes.now none may c.if-bytes-lt-HEAD_LIMIT.true
+    (lacks_head c.args.bytes.now none may c.if-bytes-lt-HEAD_LIMIT.true, below_none c.args.bytes.now)
