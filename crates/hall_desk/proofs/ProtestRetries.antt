@@ -197,8 +197,7 @@ pub accepted_protests_stay : AcceptedProtestsStay
 accepted_protests_stay world kept later t key id token number text events first life =
     let h = accepted world kept t key id token number text first in
     let between : Remains kept later = records_stay kept later events life in
-    let stays = between.protests (record { entrant = h.person.name; round = id; token = token }) h.row h.stands in
-    (
+    let stays = between.protests (record { entrant = h.person.name; round = id; token = token }) h.row h.stands in (
       (h.person, stays.after, h.is, stays.found, (ap (λ (r : ProtestRow). r.number) stays.same ∙ h.same_number, ap (λ (r : ProtestRow). r.text) stays.same ∙ h.same_text)),
       protests_stay world kept later t key id token number text first between,
     )
