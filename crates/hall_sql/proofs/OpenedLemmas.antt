@@ -41,7 +41,7 @@ from_nothing image db world (inr empty) (inl stands) bytes = absurd (rw empty.1.
 
 pub starts : (image : Image) (old new : State) → IsFound image old → HasAdopted old new → Starts image (content_of new)
 starts image old new file adopted clean =
-    let was : HasCleanDisk old = omega (arith, adopted.follows.clean, clean) in
+    let was : HasCleanDisk old = omega (arith, adopted.follows.lasts.clean, clean) in
     let is = file.opened was in
     let has = file.found was in
     let stands : StandsFor old.committed.trees (world_of new.now.trees) =
