@@ -14,3 +14,6 @@ pub mod Refusals
 pub mod Requests
 pub mod Exchanges
 pub mod Runs
+pub mod Lines
+pub mod Once
+pub mod Asked

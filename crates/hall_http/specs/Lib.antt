@@ -1,4 +1,5 @@
 pub mod Given
+pub mod Clock
 pub mod Words
 pub mod Body
 pub mod Reply
@@ -15,4 +16,6 @@ pub mod Connection
 pub mod Serving
 pub mod Socket
 pub mod Served
+pub mod Line
 pub mod Sending
+pub mod Laws
