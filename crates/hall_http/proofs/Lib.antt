@@ -17,3 +17,4 @@ pub mod Runs
 pub mod Lines
 pub mod Once
 pub mod Asked
+pub mod Listening

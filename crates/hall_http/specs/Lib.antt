@@ -17,5 +17,6 @@ pub mod Serving
 pub mod Socket
 pub mod Served
 pub mod Line
+pub mod Listener
 pub mod Sending
 pub mod Laws
