@@ -2,14 +2,11 @@
 use Rattle.std.proofs.Common.{◌≡◌, ◌∙◌, sym, ap, subst, ℕ, inl, inr, List, Option, Some}
 use Rattle.std.specs.Prelude.{Result, Ok, Err}
 use Rattle.httparse.specs.Grammar.{RequestHead}
-use Rattle.hall_grid.specs.Board.{Board}
-use Rattle.hall_grid.specs.declared.fault.TextFault.{TextFault}
 use Rattle.hall_grid.proofs.SpellsOnePuzzle.{one_puzzle, no_text_fault, one_text_fault}
 use Rattle.hall_policy.specs.declared.record.PuzzleKey.{PuzzleKey}
 use Rattle.hall_policy.specs.declared.request.Action.{Action}
 use Rattle.hall_policy.specs.declared.request.Action.TheVariants as action
 use Rattle.hall_policy.specs.declared.request.Request.{Request}
-use Rattle.hall_http.specs.declared.form.PuzzleFault.{PuzzleFault}
 use Rattle.hall_http.specs.declared.form.FormFault.{FormFault}
 use Rattle.hall_http.specs.declared.form.FormFault.TheVariants as fault
 use Rattle.hall_http.specs.declared.routes.Route.{Route}

@@ -4,7 +4,7 @@ use Rattle.std.specs.Prelude.{Result, Ok, Err, IfOk, OnErr}
 use Rattle.std.proofs.KnownBytes.{Consumes-trans}
 use Rattle.std.specs.Io.KnownBytes.{Consumes}
 use Rattle.hall_grid.specs.Device.{HasFailed, Tally}
-use Rattle.hall_store.specs.Store.{Content, Leads}
+use Rattle.hall_store.specs.Store.{Content}
 use Rattle.hall_desk.specs.Sane.{Sane}
 use Rattle.hall_desk.specs.Desk.{SaneThen}
 use Rattle.hall_http.specs.Served.{IsServed}

@@ -1,5 +1,5 @@
 -- Connections served one after another.
-use Rattle.std.specs.Prelude.{◌≡◌, ◌<◌, ◌⊎◌, ℕ, zero, suc, List, Option, Result}
+use Rattle.std.specs.Prelude.{◌≡◌, ◌<◌, ◌⊎◌, ℕ, zero, suc, Option, Result}
 use Rattle.std.specs.declared.alloc.AllocError.{AllocError}
 use Rattle.hall_store.specs.Store.{Content}
 use Rattle.hall_http.specs.Line.{Ends, IsLineServed}

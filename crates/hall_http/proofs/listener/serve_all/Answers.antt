@@ -8,15 +8,15 @@ use Rattle.hall_http.proofs.listener.serve_all.Goals.{in-Client, in-Gone}
 pub loop-turn-preserved : goal.loop-turn-preserved
 loop-turn-preserved g c =
     elim c.match-accept.branch [
-    in-Client w ↦ served_turn g.L.Listener.accepts g.L.Client.Client.refuses g.L.Client.Client.goes
-    (λ desk. g.S.Store.content (kept_by desk)) g.C.Clock.now_gives c.loop-turn._turn c.args.listener.now c.args.desk.now
-    c.args.clock.now c.loop-turn.listener c.loop-turn.desk c.loop-turn.clock c.loop-turn.invariant c.accept.new.self
-    w.in-Client.client w.serve-ended.new.self w.serve-ended.new.desk c.match-accept.desk w.serve-ended.new.clock
-    c.match-accept.clock w.serve-ended.result w.in-Client.ensures w.serve-ended.ensures w.desk-is w.clock-is
-    | in-Gone w ↦ gone_turn g.L.Listener.accepts g.L.Client.Client.refuses g.L.Client.Client.goes
-    (λ desk. g.S.Store.content (kept_by desk)) g.C.Clock.now_gives c.loop-turn._turn c.args.listener.now c.args.desk.now
-    c.args.clock.now c.loop-turn.listener c.loop-turn.desk c.loop-turn.clock c.loop-turn.invariant c.accept.new.self
-    c.match-accept.desk c.match-accept.clock w.in-Gone.ensures w.desk-is w.clock-is
+      | in-Client w ↦ served_turn g.L.Listener.accepts g.L.Client.Client.refuses g.L.Client.Client.goes
+          (λ desk. g.S.Store.content (kept_by desk)) g.C.Clock.now_gives c.loop-turn._turn c.args.listener.now c.args.desk.now
+          c.args.clock.now c.loop-turn.listener c.loop-turn.desk c.loop-turn.clock c.loop-turn.invariant c.accept.new.self
+          w.in-Client.client w.serve-ended.new.self w.serve-ended.new.desk c.match-accept.desk w.serve-ended.new.clock
+          c.match-accept.clock w.serve-ended.result w.in-Client.ensures w.serve-ended.ensures w.desk-is w.clock-is
+      | in-Gone w ↦ gone_turn g.L.Listener.accepts g.L.Client.Client.refuses g.L.Client.Client.goes
+          (λ desk. g.S.Store.content (kept_by desk)) g.C.Clock.now_gives c.loop-turn._turn c.args.listener.now c.args.desk.now
+          c.args.clock.now c.loop-turn.listener c.loop-turn.desk c.loop-turn.clock c.loop-turn.invariant c.accept.new.self
+          c.match-accept.desk c.match-accept.clock w.in-Gone.ensures w.desk-is w.clock-is
     ]
 
 pub returns-in-Refused-clause-served : goal.returns-in-Refused-clause-served

@@ -11,10 +11,12 @@ returns-clause-line g c =
       written = None;
       failed_reads = c.serve_line.new.reader.failures;
       failed_writes = c.serve_line.new.writer.failures;
-    } in
-    (after, untold_line (Unit {0}) (λ desk. g.S.Store.content (kept_by desk)) g.C.Clock.now_gives _ _ after c.args.desk.now
-    c.args.clock.now c.serve_line.new.desk c.serve_line.new.clock c.serve_line.result c.new-reader.ensures.none
-    c.new-writer.ensures.none c.serve_line.ensures.line)
+    } in (
+      after,
+      untold_line (Unit {0}) (λ desk. g.S.Store.content (kept_by desk)) g.C.Clock.now_gives _ _ after c.args.desk.now
+          c.args.clock.now c.serve_line.new.desk c.serve_line.new.clock c.serve_line.result c.new-reader.ensures.none
+          c.new-writer.ensures.none c.serve_line.ensures.line,
+    )
 
 pub returns-clause-run : goal.returns-clause-run
 returns-clause-run g c =
