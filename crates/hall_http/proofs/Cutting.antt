@@ -9,11 +9,11 @@ use Rattle.hall_http.specs.Records.{bytes_between, IsCut, record_limit}
 use Rattle.hall_http.proofs.Splits.{Free, split_unique, free_front, found_free, found_split, found_none}
 use Rattle.hall_http.proofs.Headers.{header_free, header_short, header_reads, header_writes}
 
-line_free : (r : Record) → IsRecord r → Free 10 (header_of r.moment (length r.request))
+pub line_free : (r : Record) → IsRecord r → Free 10 (header_of r.moment (length r.request))
 line_free r is =
     let a = is.moment in let b = is.size in header_free r.moment (length r.request) (omega arith) (omega arith)
 
-split_record : (r : Record) (rest : List ℕ)
+pub split_record : (r : Record) (rest : List ℕ)
     → record_bytes r ++ rest ≡ header_of r.moment (length r.request) ++ 10 ∷ (r.request ++ rest)
 split_record r rest = append_assoc (header_of r.moment (length r.request)) (10 ∷ r.request) rest
 

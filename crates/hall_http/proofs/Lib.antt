@@ -15,3 +15,7 @@ pub mod Requests
 pub mod Readings
 pub mod Exchanges
 pub mod Runs
+pub mod Lines
+pub mod Once
+pub mod Asked
+pub mod Listening

@@ -10,7 +10,6 @@ use Rattle.hall_desk.specs.Desk.{SaneThen}
 use Rattle.hall_desk.proofs.StepsSane.{run_sane}
 use Rattle.hall_http.specs.Head.{IsWhole}
 use Rattle.hall_http.specs.Connection.{Exchange, Session}
-use Rattle.std.specs.Prelude.{Result, Ok, Err, IfOk, OnErr}
 use Rattle.hall_http.specs.Served.{IsHandled, IsServed}
 use Rattle.hall_http.specs.Socket.{IsRunThrough}
 use Rattle.hall_http.specs.declared.connection.ServeEnd.{ServeEnd}
@@ -175,22 +174,3 @@ idle now_gives store clock = record {
   leads = leads_same store;
   run = λ k. onward_runs store [] store (store.world, refl, λ s. refl);
 }
-
--- what a connection leaves, however it ended
-pub run_through : {H C E : Type 0} (content : H → Content) (now_gives : C → Option ℕ → C → Type 0)
-    (stream after wrote written : Option (List ℕ)) (h : H) (c : C) (i : H) (d : C) (read_failed write_failed : Type 0)
-    (asked asks : ℕ) (r : Result ServeEnd E)
-    → IfOk r (IsServed now_gives stream after wrote written (content h) (content i) c d read_failed write_failed asked
-    asks)
-    → OnErr r (i ≡ h) → OnErr r (d ≡ c) → IsRunThrough now_gives (content h) (content i) c d
-run_through content now_gives stream after wrote written h c i d read_failed write_failed asked asks (Ok e) served same stood =
-    record {
-      exchanges = served.exchanges;
-      whole = served.whole;
-      moments = served.moments;
-      few = served.few;
-      leads = served.leads;
-      run = served.run;
-    }
-run_through content now_gives stream after wrote written h c i d read_failed write_failed asked asks (Err e) served same stood =
-    rw (same, stood) (idle now_gives (content h) c)

@@ -1,4 +1,5 @@
 pub mod Given
+pub mod Clock
 pub mod Words
 pub mod Body
 pub mod Reply
@@ -16,4 +17,7 @@ pub mod Connection
 pub mod Serving
 pub mod Socket
 pub mod Served
+pub mod Line
+pub mod Listener
 pub mod Sending
+pub mod Laws

@@ -3,6 +3,7 @@
 
 mod answer;
 mod body;
+mod clock;
 mod closing;
 mod connection;
 mod device;
@@ -11,6 +12,9 @@ mod form;
 mod handler;
 mod head;
 mod inbox;
+mod law;
+mod line;
+mod listener;
 mod record;
 mod reply;
 mod request;
@@ -22,10 +26,14 @@ mod status;
 mod words;
 
 pub use answer::{Answer, answer_bytes};
+pub use clock::{SystemClock, moment_of};
 pub use connection::{Clock, ServeEnd, serve};
 pub use device::write_all;
 pub use fault::{DeviceFault, ReplayFault};
 pub use head::{Cut, cut_request};
+pub use law::law_requests;
+pub use line::{Line, serve_line};
+pub use listener::{Accepted, Client, Listener, ServeAllEnd, serve_all};
 pub use routes::Routes;
 pub use session::replay;
-pub use socket::{SystemClock, serve_socket};
+pub use socket::serve_socket;

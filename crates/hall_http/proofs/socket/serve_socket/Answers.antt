@@ -1,18 +1,32 @@
+use Rattle.std.proofs.Common.{None}
 use Rattle.hall_desk.specs.Desk.{kept_by}
-use Rattle.hall_desk.proofs.Promises.{unique_solutions, right_answers}
-use Rattle.hall_http.proofs.Runs.{idle, run_through}
+use Rattle.hall_http.specs.Line.{Ends, untold}
+use Rattle.hall_http.proofs.Lines.{line_run, line_desk, untold_line}
 use Rattle.hall_http.proofs.socket.serve_socket.Goals as goal
 
-pub returns-then-is_err-clause-run : goal.returns-then-is_err-clause-run
-returns-then-is_err-clause-run g c = idle g.C.Clock.now_gives (g.S.Store.content (kept_by c.args.desk.now)) _
-
-pub returns-then-is_err-clause-unique : goal.returns-then-is_err-clause-unique
-returns-then-is_err-clause-unique g c = λ h s sane. unique_solutions (g.S.Store.content (kept_by c.args.desk.now)).world sane
-
-pub returns-then-is_err-clause-right : goal.returns-then-is_err-clause-right
-returns-then-is_err-clause-right g c = λ h s sane. right_answers (g.S.Store.content (kept_by c.args.desk.now)).world sane
+pub returns-clause-line : goal.returns-clause-line
+returns-clause-line g c =
+    let after : Ends = record {
+      coming = None;
+      written = None;
+      reads = c.serve_line.new.reader.calls;
+      failed_reads = c.serve_line.new.reader.failures;
+      failed_writes = c.serve_line.new.writer.failures;
+    } in (
+      after,
+      untold_line (Unit {0}) (λ desk. g.S.Store.content (kept_by desk)) g.C.Clock.now_gives _ _ _ after c.args.desk.now
+          c.args.clock.now c.serve_line.new.desk c.serve_line.new.clock c.serve_line.result c.new-reader.ensures.unasked
+          c.new-reader.ensures.none c.new-writer.ensures.none c.serve_line.ensures.line,
+    )
 
 pub returns-clause-run : goal.returns-clause-run
 returns-clause-run g c =
-    run_through (λ desk. g.S.Store.content (kept_by desk)) g.C.Clock.now_gives _ _ _ _ _ _ _ _ _ _ _ _ c.serve-ended.result
-    c.serve-ended.ensures.served c.serve-ended.ensures.desk c.serve-ended.ensures.clock
+    let served = returns-clause-line g c in
+    line_run (Unit {0}) (λ desk. g.S.Store.content (kept_by desk)) g.C.Clock.now_gives untold served.0 c.args.desk.now
+    c.args.clock.now c.serve_line.new.desk c.serve_line.new.clock c.serve_line.result served.1
+
+pub returns-clause-desk : goal.returns-clause-desk
+returns-clause-desk g c =
+    let served = returns-clause-line g c in
+    line_desk (Unit {0}) (λ desk. g.S.Store.content (kept_by desk)) g.C.Clock.now_gives untold served.0 c.args.desk.now
+    c.args.clock.now c.serve_line.new.desk c.serve_line.new.clock c.serve_line.result served.1

@@ -1,0 +1,45 @@
+-- What bytes are as requests and as records, they are in one way.
+use Rattle.std.specs.Prelude.{◌≡◌, ℕ, List, ◌++◌, flat_map, All, Result}
+use Rattle.httparse.specs.Grammar.{RequestHead}
+use Rattle.hall_policy.specs.declared.request.Request.{Request}
+use Rattle.hall_http.specs.declared.form.FormFault.{FormFault}
+use Rattle.hall_http.specs.Head.{IsRequest, IsWhole, HasNone}
+use Rattle.hall_http.specs.Request.{RequestOf}
+use Rattle.hall_http.specs.Records.{Record, Records, HasNoRecord}
+
+-- bytes are one request, and no two
+abbrev pub AreOneRequest : Type 0
+AreOneRequest =
+    (bytes : List ℕ) (head other : RequestHead) (body more : List ℕ)
+    → IsRequest bytes head body → IsRequest bytes other more → (head ≡ other) × (body ≡ more)
+
+-- a stream begins with one whole request, and no two
+abbrev pub BeginsWithOneRequest : Type 0
+BeginsWithOneRequest =
+    (first other rest left : List ℕ)
+    → IsWhole first → IsWhole other → first ++ rest ≡ other ++ left → (first ≡ other) × (rest ≡ left)
+
+-- bytes ask for one thing, or have one first fault of their form
+abbrev pub AskForOneThing : Type 0
+AskForOneThing =
+    (bytes : List ℕ) (outcome other : Result Request FormFault)
+    → RequestOf bytes outcome → RequestOf bytes other → outcome ≡ other
+
+-- the stream is these whole requests and then this rest, which begins with no further one
+pub record Requests (stream : List ℕ) (requests : List (List ℕ)) (rest : List ℕ) : Type 0 where
+  pub whole : stream ≡ flat_map (λ request. request) requests ++ rest
+  pub each : All IsWhole requests
+  pub ended : HasNone rest
+
+-- a stream is one list of requests, and no two
+abbrev pub AreOneListOfRequests : Type 0
+AreOneListOfRequests =
+    (stream : List ℕ) (requests others : List (List ℕ)) (rest left : List ℕ)
+    → Requests stream requests rest → Requests stream others left → (requests ≡ others) × (rest ≡ left)
+
+-- an input is one list of records, and no two
+abbrev pub AreOneListOfRecords : Type 0
+AreOneListOfRecords =
+    (stream : List ℕ) (records others : List Record) (rest left : List ℕ)
+    → Records stream records rest → HasNoRecord rest → Records stream others left → HasNoRecord left
+    → (records ≡ others) × (rest ≡ left)
