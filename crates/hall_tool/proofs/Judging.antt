@@ -1,9 +1,8 @@
 -- What is read of an input decides its line.
-use Rattle.std.proofs.Common.{ℕ, ◌<◌, List, length, take, Option, Some, None, subst, inl, inr, arith}
-use Rattle.std.specs.Prelude.{IfSome}
+use Rattle.std.proofs.Common.{ℕ, ◌<◌, List, length, take, Option, Some, None, refl, subst, inl, inr, arith}
 use Rattle.std.proofs.lemmas.List.{take_all, length-take}
 use Rattle.std.proofs.lemmas.Bool.{cases_lt}
-use Rattle.hall_tool.specs.Input.{IsFront}
+use Rattle.hall_tool.specs.Input.{IsFront, IsInput}
 use Rattle.hall_tool.specs.JudgeText.{JudgeText}
 use Rattle.hall_tool.specs.SolveText.{SolveText}
 
@@ -39,16 +38,16 @@ solved_by_front budget = by_length (λ input line status. SolveText input budget
 pub known_decides : (Writes : List ℕ → List ℕ → ℕ → Type 0) → FrontDecides Writes
     → (known : Option (List ℕ)) (input line : List ℕ) (status : ℕ) (P : List ℕ → Type 0)
     → IsFront 8193 known input → Writes input line status → P line
-    → IfSome known (λ all. (line : List ℕ) × Writes all line status × P line)
-known_decides Writes decides None input line status P front w p = tt
+    → (input : List ℕ) × (line : List ℕ) × IsInput known input × Writes input line status × P line
+known_decides Writes decides None input line status P front w p = (input, line, tt, w, p)
 known_decides Writes decides (Some all) input line status P front w p =
-    (line, decides all line status (subst (λ input. Writes input line status) front w), p)
+    (all, line, refl, decides all line status (subst (λ input. Writes input line status) front w), p)
 
 -- the same, with the status told
 pub known_tells : (Writes : List ℕ → List ℕ → ℕ → Type 0) → FrontDecides Writes
     → (known : Option (List ℕ)) (input line : List ℕ) (status : ℕ) (P : List ℕ → Type 0)
     → IsFront 8193 known input → Writes input line status → P line
-    → IfSome known (λ all. (line : List ℕ) × (status : ℕ) × Writes all line status × P line)
-known_tells Writes decides None input line status P front w p = tt
+    → (input : List ℕ) × (line : List ℕ) × (status : ℕ) × IsInput known input × Writes input line status × P line
+known_tells Writes decides None input line status P front w p = (input, line, status, tt, w, p)
 known_tells Writes decides (Some all) input line status P front w p =
-    (line, status, decides all line status (subst (λ input. Writes input line status) front w), p)
+    (all, line, status, refl, decides all line status (subst (λ input. Writes input line status) front w), p)

@@ -23,11 +23,17 @@ are_spelled = record {
   budget = λ text budget is. inl (refl, (refl, is));
   init = λ db people. inl (refl, (refl, refl, refl));
   serve = λ db text port is. inl (refl, (refl, refl, is, refl));
+  connections = λ db text count port connections is limits. inl (refl, (refl, refl, is, limits));
   replay = λ path. inl (refl, (refl, refl));
   apart = inl (refl, (refl, refl));
   table = λ db round. inl (refl, (refl, refl, refl));
   help = inr (DisplayHelp, refl, (refl, refl));
+  judge_help = inr (DisplayHelp, refl, (refl, refl));
+  solve_help = inr (DisplayHelp, refl, (refl, refl));
+  init_help = inr (DisplayHelp, refl, (refl, refl));
   serve_help = inr (DisplayHelp, refl, (refl, refl));
+  replay_help = inr (DisplayHelp, refl, (refl, refl));
+  table_help = inr (DisplayHelp, refl, (refl, refl));
   version = inr (DisplayVersion, refl, refl);
 }
 

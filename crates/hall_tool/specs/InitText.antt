@@ -1,6 +1,13 @@
 -- What is written of an entry list that is imported into a file, and the exit status.
-use Rattle.std.specs.Prelude.{◌≡◌, ℕ, List, ◌++◌, codes, decimal}
-use Rattle.hall_store.specs.Store.{Content}
+use Rattle.std.specs.Prelude.{◌≡◌, ℕ, List, ◌++◌, codes, decimal, Option, Result, IfOk, IsErrOf}
+use Rattle.std.specs.Io.KnownBytes.{Appends}
+use Rattle.hall_grid.specs.Device.{HasFailed, Tally}
+use Rattle.hall_store.specs.Store.{Content, Kept, Leads}
+use Rattle.hall_desk.specs.Desk.{SaneThen}
+use Rattle.hall_desk.specs.Sane.{Sane}
+use Rattle.hall_http.specs.Device.{WritesPart}
+use Rattle.hall_tool.specs.declared.fault.ToolFault.{ToolFault}
+use Rattle.hall_tool.specs.declared.fault.ToolFault.TheVariants as tool
 use Rattle.hall_tool.specs.declared.seed.Seeded.{Seeded}
 use Rattle.hall_tool.specs.declared.seed.Seeded.TheVariants.{Refused, Denied, Added}
 use Rattle.hall_tool.specs.JudgeText.{line_of}
@@ -20,3 +27,17 @@ init_line (Added count) = added_line count
 abbrev pub InitText : List ℕ → Content → Content → List ℕ → ℕ → Type 0
 InitText list old new line status =
     (seeded : Seeded) × IsSeeded list old new seeded × (line ≡ init_line seeded) × (status ≡ seeded_status seeded)
+
+-- what came of the list was written on a line; at a device's fault, a first part of it; another fault left the world and
+-- the writer
+pub record IsInitRun {W : Type 0} (contents : W → Option (List ℕ)) (list : List ℕ) (old new : Content)
+    (writer written : Tally W) (result : Result ℕ ToolFault) : Type 0 where
+  pub leads : Leads old new
+  pub sane : SaneThen Sane old new
+  pub line : IfOk result (λ status. (line : List ℕ) × InitText list old new line status
+      × Appends (contents writer.device) (contents written.device) line)
+  pub device : IsErrOf result tool.Device → HasFailed writer.failures written.failures
+  pub part : IsErrOf result tool.Device → (line : List ℕ) × (status : ℕ) × InitText list old new line status
+      × WritesPart (contents writer.device) (contents written.device) line
+  pub memory : IsErrOf result tool.Memory → Kept old new × (written ≡ writer)
+  pub store : IsErrOf result tool.Store → Kept old new × (written ≡ writer)

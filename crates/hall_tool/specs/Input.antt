@@ -6,6 +6,10 @@ use Rattle.std.specs.Str.Lines.{lines}
 abbrev pub IsFront : ℕ → Option (List ℕ) → List ℕ → Type 0
 IsFront limit known bytes = IfSome known (λ all. bytes ≡ take limit all)
 
+-- this is the input, where that is known
+abbrev pub IsInput : Option (List ℕ) → List ℕ → Type 0
+IsInput known input = IfSome known (λ all. input ≡ all)
+
 -- the input is at most 8,192 bytes in two lines: each ends with a line feed, which the last one may lack,
 -- and loses a carriage return before it
 abbrev pub HasTwoLines : List ℕ → List ℕ → List ℕ → Type 0

@@ -1,14 +1,19 @@
 -- What is written of a round's table, and the exit status.
-use Rattle.std.specs.Prelude.{◌≡◌, ◌⊎◌, ℕ, List, None}
+use Rattle.std.specs.Prelude.{◌≡◌, ◌⊎◌, ℕ, List, None, Option, Result, IfOk, IsErrOf}
+use Rattle.std.specs.Io.KnownBytes.{Appends}
+use Rattle.hall_grid.specs.Device.{HasFailed, Tally}
 use Rattle.hall_policy.specs.Ranges.{IsRoundId}
 use Rattle.hall_policy.specs.World.{World}
 use Rattle.hall_policy.specs.declared.record.PuzzleState.{PuzzleState}
 use Rattle.hall_policy.specs.declared.request.Action.TheVariants.{Table}
-use Rattle.hall_store.specs.Store.{Content}
+use Rattle.hall_store.specs.Store.{Content, Kept}
 use Rattle.hall_desk.specs.Step.{IsAnswered}
 use Rattle.hall_desk.specs.declared.reply.Reply.{Reply}
 use Rattle.hall_desk.specs.declared.reply.Reply.TheVariants as reply
+use Rattle.hall_http.specs.Device.{WritesPart}
 use Rattle.hall_tool.specs.SeedText.{denial_of}
+use Rattle.hall_tool.specs.declared.fault.ToolFault.{ToolFault}
+use Rattle.hall_tool.specs.declared.fault.ToolFault.TheVariants as tool
 
 -- the table itself, and 0; or a denial on a line, and 2
 abbrev pub IsTableWritten : Reply → List ℕ → ℕ → Type 0
@@ -35,3 +40,16 @@ abbrev pub TableText : List ℕ → Content → List ℕ → ℕ → Type 0
 TableText round content text status =
     (¬ (IsRoundId round) × (text ≡ denial_of 4) × (status ≡ 2))
     ⊎ (IsRoundId round × ((given : Reply) × IsTableOver content round given × IsTableWritten given text status))
+
+-- the world stays, and the table or its denial was written; at a device's fault, a first part of it; another fault left
+-- the writer
+pub record IsTableRun {W : Type 0} (contents : W → Option (List ℕ)) (round : List ℕ) (old new : Content)
+    (writer written : Tally W) (result : Result ℕ ToolFault) : Type 0 where
+  pub kept : Kept old new
+  pub text : IfOk result (λ status. (text : List ℕ) × TableText round new text status
+      × Appends (contents writer.device) (contents written.device) text)
+  pub device : IsErrOf result tool.Device → HasFailed writer.failures written.failures
+  pub part : IsErrOf result tool.Device → (text : List ℕ) × (status : ℕ) × TableText round new text status
+      × WritesPart (contents writer.device) (contents written.device) text
+  pub memory : IsErrOf result tool.Memory → written ≡ writer
+  pub store : IsErrOf result tool.Store → written ≡ writer

@@ -121,7 +121,8 @@ AsksNone kind = (kind ≢ OutOfMemory) × (kind ≢ DisplayHelp) × (kind ≢ Di
 abbrev pub SpellOneCommand : Type 0
 SpellOneCommand = (words : List Text) (one other : Command) → Spells words one → Spells words other → one ≡ other
 
--- words of each command, with any path and any text of a number that it may be; `--help` alone and after a name
+-- words of each command, with each of its options, with any path and any text of a number that it may be; `--help` alone
+-- and after each name; `--version`
 pub record AreSpelled : Type 0 where
   pub judge : Spells (codes "judge" ∷ []) Judge
   pub solve : Spells (codes "solve" ∷ []) (Solve 200000)
@@ -131,10 +132,20 @@ pub record AreSpelled : Type 0 where
       → Spells (codes "init" ∷ (codes "--db=" ++ db) ∷ (codes "--people=" ++ people) ∷ []) (Init db people)
   pub serve : (db text : Text) (port : ℕ) → IsNumberWithin 1 65535 text port
       → Spells (codes "serve" ∷ (codes "--db=" ++ db) ∷ (codes "--port=" ++ text) ∷ []) (Serve db port 1000000)
+  pub connections : (db text count : Text) (port connections : ℕ)
+      → IsNumberWithin 1 65535 text port → IsNumberWithin 1 1000000 count connections
+      → Spells
+      (codes "serve" ∷ (codes "--db=" ++ db) ∷ (codes "--port=" ++ text) ∷ (codes "--connections=" ++ count) ∷ [])
+      (Serve db port connections)
   pub replay : (path : Text) → Spells (codes "replay" ∷ (codes "--people=" ++ path) ∷ []) (Replay path)
   pub apart : Spells (codes "replay" ∷ codes "--people" ∷ codes "people.csv" ∷ []) (Replay (codes "people.csv"))
   pub table : (db round : Text)
       → Spells (codes "table" ∷ (codes "--db=" ++ db) ∷ (codes "--round=" ++ round) ∷ []) (Table db round)
   pub help : Spells (codes "--help" ∷ []) (Help pages.Hall)
+  pub judge_help : Spells (codes "judge" ∷ codes "--help" ∷ []) (Help pages.Judge)
+  pub solve_help : Spells (codes "solve" ∷ codes "--help" ∷ []) (Help pages.Solve)
+  pub init_help : Spells (codes "init" ∷ codes "--help" ∷ []) (Help pages.Init)
   pub serve_help : Spells (codes "serve" ∷ codes "--help" ∷ []) (Help pages.Serve)
+  pub replay_help : Spells (codes "replay" ∷ codes "--help" ∷ []) (Help pages.Replay)
+  pub table_help : Spells (codes "table" ∷ codes "--help" ∷ []) (Help pages.Table)
   pub version : Spells (codes "--version" ∷ []) Version

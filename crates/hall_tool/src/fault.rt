@@ -1,6 +1,8 @@
 //! Why a command gave up.
 use hall_http::DeviceFault;
+use hall_sql::OpenFault;
 use std::alloc::{AllocError, AllocFailed};
+use std::io;
 
 /// Why a command gave up. It then ends with status 3.
 #[derive(Clone, Copy, Debug, PartialEq, Eq)]
@@ -11,6 +13,21 @@ pub enum ToolFault {
     Device,
     /// The store refused.
     Store,
+}
+
+/// Why a command over a hall gave up. It then ends with status 3.
+#[derive(Drop)]
+pub enum CommandFault {
+    /// A fault of what the command does.
+    Tool(ToolFault),
+    /// The entry list can't be read.
+    List(io::Error),
+    /// The database can't be had.
+    Database(OpenFault),
+    /// The port can't be listened on.
+    Port,
+    /// No more connections come in.
+    Client,
 }
 
 impl From<AllocError> for ToolFault {

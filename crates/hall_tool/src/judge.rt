@@ -1,7 +1,8 @@
 //! The command `judge`.
-ghost use Rattle.std.specs.Prelude.{◌≡◌, ◌⊎◌, ℕ, List, IfOk, IfSome, IsErrOf, string_bytes};
+ghost use Rattle.std.specs.Prelude.{◌≡◌, ◌⊎◌, ℕ, List, IfOk, IsErrOf, string_bytes};
 ghost use Rattle.std.specs.Io.KnownBytes.{Appends};
 ghost use Rattle.hall_grid.specs.Device.{HasFailed};
+ghost use Rattle.hall_tool.specs.Input.{IsInput};
 ghost use Rattle.hall_tool.specs.JudgeText.{JudgeText, AnswersTexts, IsVerdictLine};
 ghost use Rattle.hall_http.specs.Device.{WritesPart};
 
@@ -53,13 +54,15 @@ pub fn judge_run<R: Read, W: Write>(
     reader: &mut Counted<R>,
     writer: &mut Counted<W>,
 ) -> Result<u8, ToolFault>
-    ensures line { IfOk result (λ status. IfSome (R.remaining reader.old.device) (λ input. (line : List ℕ)
-        × JudgeText input line status × Appends (W.contents writer.old.device) (W.contents writer.new.device) line)) }
+    ensures line { IfOk result (λ status. (input : List ℕ) × (line : List ℕ)
+        × IsInput (R.remaining reader.old.device) input × JudgeText input line status
+        × Appends (W.contents writer.old.device) (W.contents writer.new.device) line) }
     ensures device { IsErrOf result ToolFault.Device
         → HasFailed reader.old.failures reader.new.failures ⊎ HasFailed writer.old.failures writer.new.failures }
     // At a device's fault a first part of the line was written, perhaps none of it.
-    ensures part { IsErrOf result ToolFault.Device → (writer.new ≡ writer.old) ⊎ IfSome (R.remaining reader.old.device)
-        (λ input. (line : List ℕ) × (status : ℕ) × JudgeText input line status
+    ensures part { IsErrOf result ToolFault.Device → (writer.new ≡ writer.old)
+        ⊎ ((input : List ℕ) × (line : List ℕ) × (status : ℕ)
+        × IsInput (R.remaining reader.old.device) input × JudgeText input line status
         × WritesPart (W.contents writer.old.device) (W.contents writer.new.device) line) }
     // A refusal for memory leaves the writer as it was.
     ensures memory { IsErrOf result ToolFault.Memory → writer.new ≡ writer.old }

@@ -1,0 +1,37 @@
+-- What is done with a hall, over stores with some content, readers and writers: where it leads, and how it ends.
+use Rattle.std.specs.Prelude.{◌≡◌, ℕ, List, Option, Result, Ok, Err}
+use Rattle.hall_grid.specs.Device.{Tally}
+use Rattle.hall_store.specs.Store.{Content}
+use Rattle.hall_tool.specs.InitText.{IsInitRun}
+use Rattle.hall_tool.specs.ReplayRun.{IsReplayRun}
+use Rattle.hall_tool.specs.TableText.{IsTableRun}
+use Rattle.hall_tool.specs.declared.fault.CommandFault.{CommandFault}
+use Rattle.hall_tool.specs.declared.fault.CommandFault.TheVariants.{Tool}
+use Rattle.hall_tool.specs.declared.fault.ToolFault.{ToolFault}
+
+-- a fault of what is done is a fault of the command
+abbrev pub command_end : Result ℕ ToolFault → Result ℕ CommandFault
+command_end (Ok status) = Ok status
+command_end (Err fault) = Err (Tool fault)
+
+-- the people of the list are imported, and the reader isn't asked
+abbrev pub DoesInit : {S R W : Type 0} → (S → Content) → (W → Option (List ℕ)) → List ℕ → S → S → Tally R → Tally R
+    → Tally W → Tally W → Result ℕ CommandFault → Type 0
+DoesInit content contents list old new reader read writer written result =
+    (ended : Result ℕ ToolFault) × IsInitRun contents list (content old) (content new) writer written ended
+    × (result ≡ command_end ended) × (read ≡ reader)
+
+-- the table of the round is written, and the reader isn't asked
+abbrev pub DoesTable : {S R W : Type 0} → (S → Content) → (W → Option (List ℕ)) → List ℕ → S → S → Tally R → Tally R
+    → Tally W → Tally W → Result ℕ CommandFault → Type 0
+DoesTable content contents round old new reader read writer written result =
+    (ended : Result ℕ ToolFault) × IsTableRun contents round (content old) (content new) writer written ended
+    × (result ≡ command_end ended) × (read ≡ reader)
+
+-- the people of the list are imported, and the records of the reader are answered
+abbrev pub DoesReplay : {S R W : Type 0} → (S → Content) → (R → Option (List ℕ)) → (W → Option (List ℕ)) → List ℕ
+    → S → S → Tally R → Tally R → Tally W → Tally W → Result ℕ CommandFault → Type 0
+DoesReplay content remaining contents list old new reader read writer written result =
+    (ended : Result ℕ ToolFault)
+    × IsReplayRun content remaining contents list old new reader read writer written ended
+    × (result ≡ command_end ended)

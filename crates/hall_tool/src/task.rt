@@ -1,0 +1,114 @@
+//! What a command does with a hall, whichever store keeps it.
+ghost use Rattle.std.specs.Prelude.{◌≡◌};
+ghost use Rattle.hall_tool.specs.Tasks.{command_end};
+
+use crate::fault::{CommandFault, ToolFault};
+use crate::init::init_run;
+use crate::replay::replay_run;
+use crate::table::table_run;
+use hall_desk::Desk;
+use hall_grid::Counted;
+use hall_store::Store;
+use std::alloc::Global;
+use std::io::{Read, Write};
+
+/// What is done with a hall.
+pub trait Task {
+    ghost use Rattle.std.specs.Prelude.{List, ℕ, Option, Result};
+    ghost use Rattle.hall_grid.specs.Device.{Tally};
+    ghost use Rattle.hall_store.specs.Store.{Content};
+    ghost use Rattle.hall_desk.specs.Desk.{kept_by};
+    ghost use Rattle.hall_tool.specs.declared.fault.CommandFault.{CommandFault};
+
+    /// Over stores with this content, and readers and writers that hold this, it leads from one store, reader and writer
+    /// to another, and ends so.
+    ghost does: { (S R W : Type 0) → (S → Content) → (R → Option (List ℕ)) → (W → Option (List ℕ)) → Self → S → S
+        → Tally R → Tally R → Tally W → Tally W → Result ℕ CommandFault → Type 0 };
+
+    /// Does it with the hall that the desk keeps, and gives the exit status.
+    fn run<S: Store, R: Read, W: Write>(
+        &self,
+        alloc: Global,
+        desk: &mut Desk<S>,
+        reader: &mut Counted<R>,
+        writer: &mut Counted<W>,
+    ) -> Result<u8, CommandFault>
+        ensures { does S R W S.content R.remaining W.contents self.now (kept_by desk.old) (kept_by desk.new)
+            reader.old reader.new writer.old writer.new result };
+}
+
+/// How a command ends where what it does ended so.
+pub fn command_end(ended: Result<u8, ToolFault>) -> Result<u8, CommandFault>
+    ensures { result ≡ command_end ended }
+{
+    match ended {
+        Ok(status) => Ok(status),
+        Err(fault) => Err(CommandFault::Tool(fault)),
+    }
+}
+
+/// Imports the people of an entry list.
+#[derive(Clone, Copy)]
+pub struct Init<'a> {
+    pub list: &'a [u8],
+}
+
+impl Task for Init<'_> {
+    ghost use Rattle.hall_tool.specs.Tasks.{DoesInit};
+
+    ghost does = { λ S R W content remaining contents task. DoesInit content contents task.list.now };
+
+    fn run<S: Store, R: Read, W: Write>(
+        &self,
+        alloc: Global,
+        desk: &mut Desk<S>,
+        _reader: &mut Counted<R>,
+        writer: &mut Counted<W>,
+    ) -> Result<u8, CommandFault> {
+        command_end(init_run(alloc, desk, self.list, writer))
+    }
+}
+
+/// Writes the table of the round of this name.
+#[derive(Clone, Copy)]
+pub struct Table<'a> {
+    pub round: &'a [u8],
+}
+
+impl Task for Table<'_> {
+    ghost use Rattle.hall_tool.specs.Tasks.{DoesTable};
+
+    ghost does = { λ S R W content remaining contents task. DoesTable content contents task.round.now };
+
+    fn run<S: Store, R: Read, W: Write>(
+        &self,
+        alloc: Global,
+        desk: &mut Desk<S>,
+        _reader: &mut Counted<R>,
+        writer: &mut Counted<W>,
+    ) -> Result<u8, CommandFault> {
+        command_end(table_run(alloc, desk, self.round, writer))
+    }
+}
+
+/// Answers the records of the input, once the people of an entry list are imported.
+#[derive(Clone, Copy)]
+pub struct Replay<'a> {
+    pub list: &'a [u8],
+}
+
+impl Task for Replay<'_> {
+    ghost use Rattle.hall_tool.specs.Tasks.{DoesReplay};
+
+    ghost does = { λ S R W content remaining contents task. DoesReplay content remaining contents task.list.now };
+
+    fn run<S: Store, R: Read, W: Write>(
+        &self,
+        alloc: Global,
+        desk: &mut Desk<S>,
+        reader: &mut Counted<R>,
+        writer: &mut Counted<W>,
+    ) -> Result<u8, CommandFault> {
+        command_end(replay_run(alloc, desk, self.list, reader, writer))
+    }
+}
