@@ -1,5 +1,5 @@
 -- What a plan promises, and what a step over a store leaves.
-use Rattle.std.specs.Prelude.{◌≡◌, ◌≤◌, ◌⊎◌, ℕ, List, Option, Some, None, true, false, ◌≢◌, Result, Ok, Err, IfErr, Contains, All}
+use Rattle.std.specs.Prelude.{◌≡◌, ◌≤◌, ◌⊎◌, ℕ, List, [], ◌∷◌, Option, Some, None, true, false, ◌≢◌, Result, Ok, Err, IfErr, Contains, All}
 use Rattle.hall_store.specs.declared.change.Change.TheVariants as change
 use Rattle.hall_store.specs.declared.change.Change.TheVariants.{Nothing}
 use Rattle.std.specs.FinMap.{get}
@@ -127,6 +127,14 @@ AreNobodys requests = All (λ asked. IsNobodys asked.1) requests
 -- the reply is another one than Unavailable
 abbrev pub IsAvailable : Reply → Type 0
 IsAvailable given = given ≢ reply.Unavailable
+
+-- each request has a reply, which is another one than Unavailable where the request is nobody's
+abbrev pub NobodysAreAnswered : List (ℕ × Request) → List Reply → Type 0
+NobodysAreAnswered [] [] = Unit {0}
+NobodysAreAnswered (asked ∷ rest) (given ∷ replies) =
+    (IsNobodys asked.1 → IsAvailable given) × NobodysAreAnswered rest replies
+NobodysAreAnswered [] (given ∷ replies) = ⊥
+NobodysAreAnswered (asked ∷ rest) [] = ⊥
 
 -- there is a plan; it answers, and changes nothing
 abbrev pub IsQuietPlan : {E : Type 0} → Result Plan E → Type 0
