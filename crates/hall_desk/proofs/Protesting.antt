@@ -35,5 +35,5 @@ protested world facts asked person t plan caller fresh place told there replied 
       allowed = (person, caller, (replied, ap (λ (change : Change). changed change world) changes));
       can = subst (λ (change : Change). CanMake change world) (sym changes) given;
       quiet = λ nothing. absurd nothing;
-      searched = λ k at budget found certifies sets. absurd (cc);
+      searched = tt;
     }

@@ -28,5 +28,5 @@ ruled world facts asked t plan there told replied changes =
       allowed = (row, kept, replied, ap (λ (change : Change). changed change world) changes ∙ ap (with_ruling world (ruled_key asked) asked.ruling) kept);
       can = subst (λ (change : Change). CanMake change world) (sym changes) (row, kept);
       quiet = λ nothing. absurd nothing;
-      searched = λ k at budget found certifies sets. absurd (cc);
+      searched = tt;
     }

@@ -1,11 +1,11 @@
 -- Runs over a store, one step more.
-use Rattle.std.proofs.Common.{◌≡◌, inl, inr, ℕ, zero, suc, ◌≤◌, length, take, arith, All, List, [], ◌∷◌, ◌++◌, refl, ◌∙◌, subst}
+use Rattle.std.proofs.Common.{◌≡◌, inl, inr, ℕ, zero, suc, ◌≤◌, length, take, arith, List, [], ◌∷◌, ◌++◌, refl, ◌∙◌, subst}
 use Rattle.hall_policy.specs.World.{World}
 use Rattle.hall_policy.specs.declared.request.Request.{Request}
 use Rattle.hall_store.specs.Store.{Content}
 use Rattle.hall_desk.specs.Step.{Step}
 use Rattle.hall_desk.specs.Run.{Run}
-use Rattle.hall_desk.specs.Plans.{Steps, Runs}
+use Rattle.hall_desk.specs.Plans.{Steps, Runs, IsNobodys, IsAvailable, NobodysAreAnswered}
 use Rattle.hall_desk.specs.declared.reply.Reply.{Reply}
 
 -- a run and one step more
@@ -32,7 +32,10 @@ take_all [] (suc n) h = refl
 take_all (x ∷ xs) zero h = absurd (omega arith)
 take_all (x ∷ xs) (suc n) h = let rest = take_all xs n (omega arith) in λ i. x ∷ rest i
 
--- what holds of one element holds of each of the list of it
-pub all_one : {X : Type 0} (P : X → Type 0) (x : X) → P x → All P (x ∷ [])
-all_one P x h zero d within = h
-all_one P x h (suc k) d within = absurd (omega arith)
+-- replies to requests, and one more
+pub nobodys_more : (requests : List (ℕ × Request)) (replies : List Reply) (asked : ℕ × Request) (given : Reply) →
+    NobodysAreAnswered requests replies → (IsNobodys asked.1 → IsAvailable given) → NobodysAreAnswered (requests ++ asked ∷ []) (replies ++ given ∷ [])
+nobodys_more [] [] asked given before here = (here, tt)
+nobodys_more [] (r ∷ replies) asked given before here = absurd before
+nobodys_more (q ∷ requests) [] asked given before here = absurd before
+nobodys_more (q ∷ requests) (r ∷ replies) asked given before here = (before.0, nobodys_more requests replies asked given before.1 here)

@@ -39,7 +39,7 @@ import_plan world facts t people plan told clear is = record {
   allowed = (is.counted, ap (λ (c : Change). changed c world) is.change);
   can = (seed_plan world people plan (λ found. false≢true (sym clear ∙ told.1.1.0.1 found)) is).can;
   quiet = λ nothing. absurd nothing;
-  searched = λ k at budget found certifies sets. absurd (cc);
+  searched = tt;
 }
 
 -- a store that has made a plan's change served before it, and so it did where a plan without one was asked of it

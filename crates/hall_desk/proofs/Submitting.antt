@@ -74,5 +74,5 @@ module _ (world : World) (facts : Facts) (handed : Handed) (person : Person) (n 
           );
           can = subst (λ (change : Change). CanMake change world) (sym changes) given;
           quiet = λ nothing. absurd nothing;
-          searched = λ k at budget found certifies sets. absurd (cc);
+          searched = tt;
         }

@@ -17,7 +17,7 @@ use Rattle.hall_store.proofs.Knowing.{carried, kept_then}
 use Rattle.hall_desk.specs.Found.{IsCaller}
 use Rattle.hall_desk.specs.Totals.{IsTableOf}
 use Rattle.hall_desk.specs.Step.{Allowed}
-use Rattle.hall_desk.specs.Plans.{IsPlanFor}
+use Rattle.hall_desk.specs.Plans.{IsPlanFor, HasSearched}
 use Rattle.hall_desk.specs.declared.planned.Plan.{Plan}
 use Rattle.hall_desk.specs.declared.reply.Reply.TheVariants as reply
 use Rattle.hall_desk.proofs.Planning.{planned}
@@ -42,7 +42,7 @@ module _ (old mid : Content) (facts : Facts) (t : ℕ) (request : Request) (id :
       (read h).0,
       subst (λ (p : Plan). IsPlanFor mid.world t request p) (sym made)
           (planned facts mid.world t request (Deny rule) (reply.Denied rule) Nothing None (caller_there h)
-          (subst (λ (d : Decision). IsDecided mid.world facts request.action t d) denied (decided mid.world (found h))) state.GaveUp (refl, refl) tt (λ _. refl) (λ k at budget found certifies sets. absurd (cc))),
+          (subst (λ (d : Decision). IsDecided mid.world facts request.action t d) denied (decided mid.world (found h))) state.GaveUp (refl, refl) tt (λ _. refl) (λ allowed. absurd (cc))),
     )
 
     -- a table that is answered
@@ -63,5 +63,5 @@ module _ (old mid : Content) (facts : Facts) (t : ℕ) (request : Request) (id :
               state.GaveUp
               (subst (λ (a : Action). Allowed new.world facts.caller a t state.GaveUp (reply.Table text) new.world) (sym is)
               ((row, table.0, text, at, table.1, table.2, refl), refl))
-              tt (λ _. refl) (λ k at budget found certifies sets. absurd (cc))),
+              tt (λ _. refl) (λ allowed. subst (λ (a : Action). HasSearched new.world a (record { reply = reply.Table text; change = Nothing; visits = None })) (sym is) tt)),
         )

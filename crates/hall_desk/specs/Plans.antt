@@ -1,5 +1,5 @@
 -- What a plan promises, and what a step over a store leaves.
-use Rattle.std.specs.Prelude.{◌≡◌, ◌≤◌, ◌⊎◌, ℕ, List, Option, Some, None, false, ◌≢◌, Result, Ok, Err, IfErr, Contains, All}
+use Rattle.std.specs.Prelude.{◌≡◌, ◌≤◌, ◌⊎◌, ℕ, List, [], ◌∷◌, Option, Some, None, true, false, ◌≢◌, Result, Ok, Err, IfErr, Contains, All}
 use Rattle.hall_store.specs.declared.change.Change.TheVariants as change
 use Rattle.hall_store.specs.declared.change.Change.TheVariants.{Nothing}
 use Rattle.std.specs.FinMap.{get}
@@ -11,7 +11,6 @@ use Rattle.hall_policy.specs.declared.record.PuzzleRow.{PuzzleRow}
 use Rattle.hall_policy.specs.declared.record.RoundRow.{RoundRow}
 use Rattle.hall_policy.specs.declared.record.PuzzleKey.{PuzzleKey}
 use Rattle.hall_policy.specs.declared.record.PuzzleState.{PuzzleState}
-use Rattle.hall_policy.specs.declared.record.PuzzleState.TheVariants as state
 use Rattle.hall_solve.specs.Searched.{visits_made}
 use Rattle.hall_solve.specs.declared.searched.Visits.{Visits}
 use Rattle.hall_policy.specs.declared.request.Action.{Action}
@@ -28,6 +27,7 @@ use Rattle.hall_desk.specs.Judged.{IsVerdictOn}
 use Rattle.hall_grid.specs.Board.{Board}
 use Rattle.hall_desk.specs.Shown.{state_name}
 use Rattle.hall_desk.specs.declared.reply.StateName.{StateName}
+use Rattle.hall_desk.specs.declared.reply.StateName.TheVariants as name
 use Rattle.hall_policy.specs.declared.request.Request.{Request}
 use Rattle.hall_policy.specs.declared.rule.Decision.TheVariants.{Allow}
 use Rattle.hall_store.specs.Change.{changed, CanMake}
@@ -55,18 +55,18 @@ HasNothingToWrite world (Certify key budget) =
     (row : PuzzleRow) × (get world.puzzles key ≡ Some row) × (is_open row.state ≡ false)
 HasNothingToWrite world _ = ⊥
 
--- at most the budget's visits were made, and all of them where the search gave up
-pub record HasSpent (budget : ℕ) (found : PuzzleState) (visits : Visits) : Type 0 where
+-- at most the budget's visits were made, and all of them where it is told that the search gave up
+pub record HasSpent (budget : ℕ) (told : Reply) (visits : Visits) : Type 0 where
   pub within : visits_made visits ≤ budget
-  pub whole : found ≡ state.GaveUp → visits_made visits ≡ budget
+  pub whole : told ≡ reply.Certified name.GaveUp → visits_made visits ≡ budget
 
--- where the action is a Certify whose plan sets a state, the search was made: within the budget, and with all its
--- visits where it gave up
-abbrev pub HasSearched : Action → Plan → Type 0
-HasSearched action plan =
-    (key at : PuzzleKey) (budget : ℕ) (found : PuzzleState) → action ≡ Certify key budget →
-    plan.change ≡ change.SetState at found →
-    (visits : Visits) × (plan.visits ≡ Some visits) × HasSpent budget found visits
+-- where the action certifies a puzzle of which no search came to an end yet, a search was made for the plan: within the
+-- budget, and with all its visits where it gave up
+abbrev pub HasSearched : World → Action → Plan → Type 0
+HasSearched world (Certify key budget) plan =
+    (row : PuzzleRow) → get world.puzzles key ≡ Some row → is_open row.state ≡ true →
+    (visits : Visits) × (plan.visits ≡ Some visits) × HasSpent budget plan.reply visits
+HasSearched world _ plan = Unit {0}
 
 -- the plan's reply and change are those of the request as it is decided, for what the search would find, and the
 -- change may be made
@@ -77,7 +77,7 @@ pub record IsPlanFor (world : World) (t : ℕ) (request : Request) (plan : Plan)
   pub can : CanMake (planned_change plan) world
   -- a denial, a repetition and an action that has nothing to write change nothing
   pub quiet : (answered.1.0 ≢ Allow) ⊎ HasNothingToWrite world request.action → planned_change plan ≡ Nothing
-  pub searched : HasSearched request.action plan
+  pub searched : answered.1.0 ≡ Allow → HasSearched world request.action plan
 
 -- the plan's reply and change are those of the allowed action, whatever the search would find, and the change may be
 -- made; an action that has nothing to write changes nothing
@@ -85,7 +85,7 @@ pub record IsAllowedPlan (world : World) (caller : Option Person) (action : Acti
   pub allowed : (found : PuzzleState) → Allowed world caller action t found plan.reply (changed plan.change world)
   pub can : CanMake plan.change world
   pub quiet : HasNothingToWrite world action → plan.change ≡ Nothing
-  pub searched : HasSearched action plan
+  pub searched : HasSearched world action plan
 
 -- the plan is that of the allowed action in each world that the facts are true of
 abbrev pub IsPlanOf : Facts → Action → Plan → Type 0
@@ -99,7 +99,7 @@ pub record IsMadePlan (world : World) (caller : Option Person) (action : Action)
   pub allowed : Allowed world caller action t found plan.reply (changed plan.change world)
   pub can : CanMake plan.change world
   pub quiet : HasNothingToWrite world action → plan.change ≡ Nothing
-  pub searched : HasSearched action plan
+  pub searched : HasSearched world action plan
 
 -- the plan is that of the allowed action, with what its search found, in each world that the facts are true of
 abbrev pub IsSearchPlanOf : Facts → Action → Plan → Type 0
@@ -127,6 +127,14 @@ AreNobodys requests = All (λ asked. IsNobodys asked.1) requests
 -- the reply is another one than Unavailable
 abbrev pub IsAvailable : Reply → Type 0
 IsAvailable given = given ≢ reply.Unavailable
+
+-- each request has a reply, which is another one than Unavailable where the request is nobody's
+abbrev pub NobodysAreAnswered : List (ℕ × Request) → List Reply → Type 0
+NobodysAreAnswered [] [] = Unit {0}
+NobodysAreAnswered (asked ∷ rest) (given ∷ replies) =
+    (IsNobodys asked.1 → IsAvailable given) × NobodysAreAnswered rest replies
+NobodysAreAnswered [] (given ∷ replies) = ⊥
+NobodysAreAnswered (asked ∷ rest) [] = ⊥
 
 -- there is a plan; it answers, and changes nothing
 abbrev pub IsQuietPlan : {E : Type 0} → Result Plan E → Type 0

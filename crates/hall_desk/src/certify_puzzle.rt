@@ -132,7 +132,7 @@ struct FoundState {
 /// What the search of the puzzle finds in at most `budget` visits.
 fn find_state(alloc: Global, puzzle: &Puzzle, budget: u64) -> Result<FoundState, AllocError>
     ensures state { IfOk result (λ found. IsFound puzzle.now budget found.state) }
-    ensures spent { IfOk result (λ found. HasSpent budget found.state found.visits) }
+    ensures spent { IfOk result (λ found. HasSpent budget (Reply.Certified (state_name found.state)) found.visits) }
 {
     let Searched { outcome, visits } = certify(alloc, puzzle, budget)?;
     match outcome {

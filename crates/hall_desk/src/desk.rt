@@ -1,5 +1,5 @@
 //! The desk: requests, answered over the world of a store.
-ghost use Rattle.std.specs.Prelude.{◌≡◌, IfOk, IsOk, OnErr, All, ◌⊎◌};
+ghost use Rattle.std.specs.Prelude.{◌≡◌, ◌⊎◌, IfOk, IsOk, OnErr};
 ghost use Rattle.hall_store.specs.Store.{Kept, Leads, Made, Asks, Fails};
 ghost use Rattle.hall_store.specs.Change.{changed, CanMake};
 ghost use Rattle.hall_store.specs.declared.change.Change.{Change};
@@ -8,7 +8,7 @@ ghost use Rattle.hall_desk.specs.Sane.{Sane};
 ghost use Rattle.hall_desk.specs.Promises.{HasUniqueSolutions, RightAnswersAreSolutions};
 ghost use Rattle.hall_desk.specs.Plan.{planned_reply, planned_change};
 ghost use Rattle.hall_desk.specs.Plans.{Planned, Steps, Seeds, Runs, FailsIn, IsNobodys, AreNobodys, IsAvailable};
-ghost use Rattle.hall_desk.specs.Plans.{IsQuietPlan, IsSeedReply};
+ghost use Rattle.hall_desk.specs.Plans.{IsQuietPlan, IsSeedReply, NobodysAreAnswered};
 
 use crate::plan::make_plan;
 use crate::planned::Plan;
@@ -117,7 +117,7 @@ impl<S: Store> Desk<S> {
         ensures leads { Leads (S.content (kept_by self.old)) (S.content (kept_by self.new)) }
         ensures runs { IfOk result (λ replies. (S.content (kept_by self.new)).honest →
             Runs (S.content (kept_by self.old)) requests.now replies.items (S.content (kept_by self.new))) }
-        ensures answered { IfOk result (λ replies. AreNobodys requests.now → All IsAvailable replies.items) }
+        ensures answered { IfOk result (λ replies. NobodysAreAnswered requests.now replies.items) }
         ensures untouched { AreNobodys requests.now → kept_by self.new ≡ kept_by self.old }
         ensures sane { SaneThen Sane (S.content (kept_by self.old)) (S.content (kept_by self.new)) }
         ensures unique { SaneThen HasUniqueSolutions (S.content (kept_by self.old)) (S.content (kept_by self.new)) }

@@ -1,12 +1,11 @@
 //! Plans made and committed, one request after another.
-ghost use Rattle.std.specs.Prelude.{◌≡◌, ◌+◌, ◌≤◌, ◌<◌, ◌++◌, ◌∷◌, [], IfOk, IsOk, OnErr, All, vec_len, vec_capacity};
-ghost use Rattle.std.specs.Prelude.{◌⊎◌};
+ghost use Rattle.std.specs.Prelude.{◌≡◌, ◌⊎◌, ◌+◌, ◌≤◌, ◌<◌, ◌++◌, ◌∷◌, [], IfOk, IsOk, OnErr, vec_len, vec_capacity};
 ghost use Rattle.hall_store.specs.Store.{Leads, Made, Asks, Fails};
 ghost use Rattle.hall_store.specs.Change.{CanMake};
 ghost use Rattle.hall_store.specs.declared.change.Change.{Change};
 ghost use Rattle.hall_desk.specs.Desk.{SaneThen};
 ghost use Rattle.hall_desk.specs.Sane.{Sane};
-ghost use Rattle.hall_desk.specs.Plans.{Steps, Runs, IsNobodys, AreNobodys, IsAvailable};
+ghost use Rattle.hall_desk.specs.Plans.{Steps, Runs, IsNobodys, AreNobodys, IsAvailable, NobodysAreAnswered};
 
 use crate::plan::make_plan;
 use crate::planned::Plan;
@@ -95,7 +94,7 @@ pub(crate) fn run<S: Store>(
     ensures runs { IfOk result (λ replies. (S.content store.new).honest →
         Runs (S.content store.old) requests.now replies.items (S.content store.new)) }
     ensures sane { SaneThen Sane (S.content store.old) (S.content store.new) }
-    ensures answered { IfOk result (λ replies. AreNobodys requests.now → All IsAvailable replies.items) }
+    ensures answered { IfOk result (λ replies. NobodysAreAnswered requests.now replies.items) }
     ensures untouched { AreNobodys requests.now → store.new ≡ store.old }
     ensures refused { OnErr result (store.new ≡ store.old) }
 {

@@ -17,5 +17,5 @@ returns-in-Some-clause-told g c =
       (λ h s. s),
       (λ h s. subst (λ (plan : Plan). IsPlanFor world c.args.turn.now.t request plan) (sym c.of.ensures)
           (planned facts world c.args.turn.now.t request (Deny c.in-Some.rule) (reply.Denied c.in-Some.rule) change.Nothing None (c.requires h s)
-          (c.in-Some.ensures.some world (caller_told facts world request.action)) state.GaveUp (refl, refl) tt (λ _. refl) (λ k at budget found certifies sets. absurd (cc)))),
+          (c.in-Some.ensures.some world (caller_told facts world request.action)) state.GaveUp (refl, refl) tt (λ _. refl) (λ allowed. absurd (cc)))),
     )

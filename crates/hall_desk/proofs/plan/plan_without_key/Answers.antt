@@ -25,7 +25,7 @@ returns-in-Some-clause-planned g c =
             found = c.requires.caller ∙ sym (ap (caller_of world) c.requires.key);
             there = subst (λ (who : Option Person). IsThere world who) (sym c.requires.caller) tt;
           })
-          (c.in-Some.ensures.some world (caller_told facts world request.action)) state.GaveUp (refl, refl) tt (λ _. refl) (λ k at budget found certifies sets. absurd (cc)))),
+          (c.in-Some.ensures.some world (caller_told facts world request.action)) state.GaveUp (refl, refl) tt (λ _. refl) (λ allowed. absurd (cc)))),
     )
 
 pub unreachable-requires : goal.unreachable-requires

@@ -1,11 +1,10 @@
-use Rattle.std.proofs.Common.{◌≡◌, ◌+◌, ◌++◌, ◌∷◌, [], ℕ, List, All, take, refl, sym, ◌∙◌, subst, arith}
+use Rattle.std.proofs.Common.{◌≡◌, ◌+◌, ◌++◌, ◌∷◌, [], ℕ, List, take, refl, sym, ◌∙◌, subst, arith}
 use Rattle.std.proofs.lemmas.List.{take_more}
-use Rattle.std.proofs.lemmas.List.Elements.{All-nil, All-append}
 use Rattle.hall_policy.specs.declared.request.Request.{Request}
 use Rattle.hall_desk.specs.Run.{Run}
-use Rattle.hall_desk.specs.Plans.{Runs, IsNobodys, AreNobodys, IsAvailable}
+use Rattle.hall_desk.specs.Plans.{Runs, IsNobodys, AreNobodys, NobodysAreAnswered}
 use Rattle.hall_desk.specs.declared.reply.Reply.{Reply}
-use Rattle.hall_desk.proofs.Runs.{runs_more, take_all, all_one}
+use Rattle.hall_desk.proofs.Runs.{runs_more, take_all, nobodys_more}
 use Rattle.hall_store.proofs.Knowing.{leads_same, leads_then}
 use Rattle.hall_desk.proofs.step.run.Goals as goal
 
@@ -18,7 +17,7 @@ loop-asked-init g c =
       room = made.capacity;
       leads = leads_same (g.S.Store.content c.args.store.now);
       runs = λ h. (world, subst (λ (replies : List Reply). Run world [] replies world) (sym made.items) refl, λ s. refl);
-      answered = λ nobodys. subst (λ (replies : List Reply). All IsAvailable replies) (sym made.items) (All-nil IsAvailable);
+      answered = subst (λ (replies : List Reply). NobodysAreAnswered [] replies) (sym made.items) tt;
       untouched = λ nobodys. refl;
       sane = λ h s world_sane. world_sane;
     }
@@ -46,10 +45,10 @@ loop-asked-preserved g c =
           (subst (λ (replies : List Reply). Runs first (take index requests ++ asked ∷ []) replies new) (sym kept.items)
           (runs_more first before new (take index requests) c.loop-asked.replies.items asked c.step-reply.result
           (step.leads.serves h) (old.runs (step.leads.honest h)) (step.steps h)));
-      answered = λ nobodys.
-          subst (λ (replies : List Reply). All IsAvailable replies) (sym kept.items)
-          (All-append IsAvailable c.loop-asked.replies.items (c.step-reply.result ∷ []) (old.answered nobodys)
-          (all_one IsAvailable c.step-reply.result (step.answered (here nobodys))));
+      answered =
+          subst (λ (list : List (ℕ × Request)). NobodysAreAnswered list c.keep.new.replies.items) (sym more)
+          (subst (λ (replies : List Reply). NobodysAreAnswered (take index requests ++ asked ∷ []) replies) (sym kept.items)
+          (nobodys_more (take index requests) c.loop-asked.replies.items asked c.step-reply.result old.answered step.answered));
       untouched = λ nobodys. step.untouched (here nobodys) ∙ old.untouched nobodys;
       sane = λ h s world_sane. step.sane h s (old.sane (step.leads.honest h) (step.leads.serves h s) world_sane);
     }
@@ -58,3 +57,8 @@ pub returns-clause-runs : goal.returns-clause-runs
 returns-clause-runs g c =
     let whole : take c.loop-asked.asked-index c.args.requests.now ≡ c.args.requests.now = take_all c.args.requests.now c.loop-asked.asked-index c.loop-asked-test.false in
     λ h. subst (λ (list : List (ℕ × Request)). Runs (g.S.Store.content c.args.store.now) list c.loop-asked.replies.items (g.S.Store.content c.loop-asked.store)) whole (c.loop-asked.invariant.runs h)
+
+pub returns-clause-answered : goal.returns-clause-answered
+returns-clause-answered g c =
+    let whole : take c.loop-asked.asked-index c.args.requests.now ≡ c.args.requests.now = take_all c.args.requests.now c.loop-asked.asked-index c.loop-asked-test.false in
+    subst (λ (list : List (ℕ × Request)). NobodysAreAnswered list c.loop-asked.replies.items) whole c.loop-asked.invariant.answered

@@ -1,8 +1,8 @@
-use Rattle.std.proofs.Common.{◌≡◌, ◌≤◌, All, length, take, vec_len, vec_capacity}
+use Rattle.std.proofs.Common.{◌≡◌, ◌≤◌, length, take, vec_len, vec_capacity}
 use Rattle.hall_store.specs.Store.{Leads}
 use Rattle.hall_desk.specs.Desk.{SaneThen}
 use Rattle.hall_desk.specs.Sane.{Sane}
-use Rattle.hall_desk.specs.Plans.{Runs, AreNobodys, IsAvailable}
+use Rattle.hall_desk.specs.Plans.{Runs, AreNobodys, NobodysAreAnswered}
 use Rattle.hall_desk.proofs.step.run.Given as goal
 
 -- there is room for all replies, those so far are a run over the requests so far, and the world is sane where it was
@@ -15,7 +15,7 @@ invariant-loop-asked g l =
       room : length l.requests ≤ vec_capacity l.replies;
       leads : Leads old new;
       runs : new.honest → Runs old (take l.asked-index l.requests) l.replies.items new;
-      answered : AreNobodys l.requests → All IsAvailable l.replies.items;
+      answered : NobodysAreAnswered (take l.asked-index l.requests) l.replies.items;
       untouched : AreNobodys l.requests → l.store ≡ l.fn.store;
       sane : SaneThen Sane old new;
     }

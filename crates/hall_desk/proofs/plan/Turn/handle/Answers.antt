@@ -32,5 +32,5 @@ returns-in-Allow-clause-told g c =
     (λ h0 s0. subst (λ (decision : Decision). IsDecided mid.world facts request.action c.args.self.now.t decision) c.in-Allow.is (decided.told.1 h0 s0)) h s)
     made.found (subst (λ (a : Action). Allowed new.world facts.caller a c.args.self.now.t made.found plan.reply (changed plan.change new.world)) (sym c.requires.same) made.allowed) made.can
     (λ why. elim why [ inl denied ↦ absurd (denied refl) | inr nothing ↦ made.quiet (subst (λ (a : Action). HasNothingToWrite new.world a) c.requires.same nothing) ])
-    (subst (λ (a : Action). HasSearched a plan) (sym c.requires.same) made.searched))
+    (λ allowed. subst (λ (a : Action). HasSearched new.world a plan) (sym c.requires.same) made.searched))
     c.plan.ensures.told
