@@ -8,7 +8,7 @@ use Rattle.std.proofs.KnownBytes.{Appends-nil, Appends-trans, Consumes-nil, Cons
 use Rattle.std.specs.Io.KnownBytes.{Appends, Consumes}
 use Rattle.hall_grid.specs.Device.{HasFailed, MadeCalls, Rises}
 use Rattle.hall_http.specs.Head.{IsRequest, IsWhole, IsUnfinished, NeverHas}
-use Rattle.hall_http.specs.Reading.{Reading, IsLast, at_first, after_read, after_answer}
+use Rattle.hall_http.specs.Reading.{at_first, after_read, after_answer}
 use Rattle.hall_http.proofs.Readings.{one_call_more}
 use Rattle.httparse.specs.Grammar.{RequestHead}
 use Rattle.hall_http.specs.Device.{WritesPart}

@@ -1,5 +1,5 @@
 -- What a further read, and a further answer, make of a stream's reading.
-use Rattle.std.proofs.Common.{◌≡◌, sym, ap, subst, arith, ℕ, ◌+◌, ◌-◌, ◌^◌, ◌<◌, ◌≤◌, inl, inr, List, ◌++◌, refl, ◌∙◌}
+use Rattle.std.proofs.Common.{arith, ℕ, ◌+◌, inl, inr}
 use Rattle.hall_grid.specs.Device.{MadeCalls, Rises}
 
 -- a further call is counted

@@ -13,8 +13,8 @@ use Rattle.hall_store.proofs.Knowing.{leads_same, leads_then}
 use Rattle.hall_http.specs.declared.fault.ReplayFault.{ReplayFault}
 use Rattle.hall_http.specs.declared.fault.ReplayFault.TheVariants as fault
 use Rattle.hall_http.specs.Device.{WritesPart}
-use Rattle.hall_http.specs.Reading.{Reading, IsLast, at_first, after_read, after_answer}
-use Rattle.hall_http.specs.Records.{Record, IsRecord, record_bytes, header_of, HasNoRecord, NeverHasRecord, IsCut}
+use Rattle.hall_http.specs.Reading.{at_first, after_read, after_answer}
+use Rattle.hall_http.specs.Records.{Record, IsRecord, record_bytes, header_of, NeverHasRecord, IsCut}
 use Rattle.hall_http.specs.Records.{IsUnfinishedRecord}
 use Rattle.hall_http.specs.Records.{bytes_between}
 use Rattle.hall_http.specs.Answered.{Answers, AnswersOver}
@@ -250,9 +250,10 @@ module _ (stream after wrote written : Option (List ℕ)) (old new : Content) (i
           ends then (reads + 1) later (Ok u) none (one_read later rise) (omega arith) (kept.replied, sym same ∙ empty, over, refl)
       at_end (Err e) now rf rg (same, none, over, steady) (is, some) =
           rw is
-          (ends then (reads + 1) later (Err fault.Record) none (one_read later rise) (omega arith)
-          (kept.replied,
-          inl (not_nil inbox (subst (λ s. 0 < length s) same some), inl (unfinished.0, over, refl))))
+          (ends then (reads + 1) later (Err fault.Record) none (one_read later rise) (omega arith) (
+            kept.replied,
+            inl (not_nil inbox (subst (λ s. 0 < length s) same some), inl (unfinished.0, over, refl)),
+          ))
 
 -- nothing was read for want of memory
 pub unbegun : {U : Type 0} (stream wrote : Option (List ℕ)) (store : Content) (read_failed write_failed : Type 0)

@@ -1,5 +1,5 @@
 -- A replay: records of a stream, answered one after another as the requests of a connection are.
-use Rattle.std.specs.Prelude.{◌≡◌, ◌≢◌, ◌≤◌, ◌+◌, ◌⊎◌, ℕ, List, [], ◌∷◌, ◌++◌, length, map, flat_map, All, Option, Some}
+use Rattle.std.specs.Prelude.{◌≡◌, ◌≢◌, ◌≤◌, ◌+◌, ◌⊎◌, ℕ, List, [], ◌++◌, length, map, flat_map, All, Option, Some}
 use Rattle.std.specs.Prelude.{Result, Ok, Err}
 use Rattle.std.specs.Io.KnownBytes.{Appends, Consumes, IsAtEnd}
 use Rattle.hall_grid.specs.Device.{MadeCalls}
@@ -51,8 +51,8 @@ StopsAtLast wrote written xs unread pieces =
     × Appends wrote between (replies_to before) × WritesPart between written last.reply
 
 -- How the replay ended: what was written, and why it ended. `pieces` of its `reads` gave bytes. Well: a read told the
--- end of the input, and nothing is left. `Record`: what is left is no record, or a thousand million reads gave bytes and
--- what is left is unfinished. `Device`: a read or a write failed. `Memory`: before the first read.
+-- end of the input, and nothing is left. `Record`: what is left is no record, or a thousand million reads gave bytes
+-- and what is left is unfinished. `Device`: a read or a write failed. `Memory`: before the first read.
 abbrev pub Ended : {U : Type 0} → Result U ReplayFault → Option (List ℕ) → Option (List ℕ) → Option (List ℕ)
     → List AnsweredRecord → List ℕ → ℕ → ℕ → Type 0 → Type 0 → Type 0
 Ended (Ok done) after wrote written xs unread pieces reads read_failed write_failed =

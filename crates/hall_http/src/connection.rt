@@ -114,14 +114,8 @@ fn serve_requests<H: Handler, R: Read, W: Write, C: Clock>(
     while requests < REQUEST_LIMIT {
         match cut_from(inbox.unread(), least) {
             Cut::Whole(size) => {
-                let turn = exchange(
-                    alloc,
-                    routes,
-                    &inbox.unread()[..size],
-                    handler,
-                    writer,
-                    clock,
-                );
+                let request = &inbox.unread()[..size];
+                let turn = exchange(alloc, routes, request, handler, writer, clock);
                 inbox.pass(size);
                 requests += 1;
                 least = 0;

@@ -343,6 +343,7 @@ fn a_connection_ends_after_a_hundred_thousand_reads(rt: HostRuntime) {
     let mut clock = clock(&[1]);
     let ended = served(&rt, &mut reader, &mut writer, &mut clock);
     assert!(rt; ended == ServeEnd::Limit && clock.asked == 12);
+    assert!(rt; reader.calls() == 100_000);
     assert!(rt; reader.into_inner().asked == 100_000);
     assert!(rt; writer.into_inner().len() == NO_ROUTE.len().wrapping_mul(12));
 }

@@ -136,16 +136,17 @@ impl Write for Faulty {
 }
 
 #[test]
-fn counts_failures(rt: HostRuntime) {
+fn counts_calls_and_failures(rt: HostRuntime) {
     let mut reader = Counted::new(Faulty { left: 1 });
     let mut byte = [b'.'];
     let is_read = matches!(reader.read(&mut byte), Ok(1));
     assert!(rt; is_read && byte[0] == b'x' && reader.failures() == 0);
     let is_refused = reader.read(&mut byte).is_err();
-    assert!(rt; is_refused && reader.failures() == 1);
+    assert!(rt; is_refused && reader.failures() == 1 && reader.calls() == 2);
     let mut writer = Counted::new(Faulty { left: 1 });
     let is_taken = matches!(writer.write(b"ab"), Ok(1)) && writer.flush().is_ok();
     assert!(rt; is_taken && writer.failures() == 0);
     let is_full = matches!(writer.write(b"b"), Ok(0));
-    assert!(rt; is_full && writer.failures() == 1 && writer.into_inner().left == 0);
+    assert!(rt; is_full && writer.failures() == 1 && writer.calls() == 2);
+    assert!(rt; writer.into_inner().left == 0);
 }

@@ -31,8 +31,7 @@ returns-then-bytes-head c =
     let of : IsRequestOf c.args.bytes.now c.parse_request.new.headers c.in-Ok-Complete.head = rw (c.in-Ok-Complete.is, c.in-Ok-Complete.field-0-is) at c.parse_request.ensures.complete in
     let (h, found) = of in
     let size : body_size (length (print_request h)) (headers_of h) ≡ Some c.in-Some.room = sym (size_at _ _ _ h found) ∙ sym c.body_room.ensures ∙ c.in-Some.is in
-    let short : length (drop c.in-Ok-Complete.head.len c.args.bytes.now) < c.in-Some.room = simp length-drop c.if-bytes-head.true in
-    (
+    let short : length (drop c.in-Ok-Complete.head.len c.args.bytes.now) < c.in-Some.room = simp length-drop c.if-bytes-head.true in (
       lacks_body c.args.bytes.now h _ c.in-Some.room found.reads size short,
       rw found.len (lacks_body_below c.args.bytes.now h _ c.in-Some.room found.reads size),
     )
