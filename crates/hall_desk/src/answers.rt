@@ -68,14 +68,15 @@ impl<'a> Handler for Listing<'a> {
 fn sees_all(person: &Person, round: &Round, t: Moment) -> bool
     ensures { result ≡ sees_all person.now round.now t }
 {
-    person.roles.director || (person.roles.referee && round.end() <= t.get())
+    let roles = person.roles.get();
+    roles.director || (roles.referee && round.end() <= t.get())
 }
 
 /// Whether the person sees verdicts.
 fn shows_verdict(person: &Person, round: &Round, t: Moment) -> bool
     ensures { result ≡ shows_verdict person.now round.now t }
 {
-    !is_sealed(round.mode) || round.end() <= t.get() || person.roles.director
+    !is_sealed(round.mode) || round.end() <= t.get() || person.roles.get().director
 }
 
 /// Whether verdicts wait for the end.

@@ -20,7 +20,7 @@ pub(crate) fn find_author<S: Store>(
         (λ world found. IsTrue found ↔ HasAuthor world name.now) }
 {
     match store.person(alloc, name)? {
-        Some(person) => Ok(person.roles.author),
+        Some(person) => Ok(person.roles.get().author),
         None => Ok(false),
     }
 }

@@ -105,7 +105,8 @@ fn conflicts<S: Store>(alloc: Global, store: &mut S, person: &Person) -> Result<
     if has_key_of_another(alloc, store, person)? {
         return Ok(true);
     }
-    Ok(person.roles.director && person.roles.entrant)
+    let roles = person.roles.get();
+    Ok(roles.director && roles.entrant)
 }
 
 /// Whether the name is known, with another key or other roles.
@@ -126,7 +127,7 @@ fn is_changed<S: Store>(alloc: Global, store: &mut S, person: &Person) -> Result
 fn differs(known: &Person, person: &Person) -> bool
     ensures { IsTrue result ↔ ((known.now.key ≢ person.now.key) ⊎ (known.now.roles ≢ person.now.roles)) }
 {
-    !known.key.is_same(&person.key) || known.roles != person.roles
+    !known.key.is_same(&person.key) || known.roles.get() != person.roles.get()
 }
 
 /// Whether somebody of another name has the key.

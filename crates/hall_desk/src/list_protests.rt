@@ -69,7 +69,8 @@ fn find_protests<S: Store>(
     ensures served { Served (S.content store.new) result
         (λ world rows. rows.items ≡ filter (sees_protest person.now round.now) (values world.protests)) }
 {
-    if person.roles.director || person.roles.referee {
+    let roles = person.roles.get();
+    if roles.director || roles.referee {
         store.protests_in(alloc, round)
     } else {
         store.protests_of(alloc, &person.name, round)

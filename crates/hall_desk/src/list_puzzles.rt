@@ -67,7 +67,7 @@ fn find_puzzles<S: Store>(
     ensures served { Served (S.content store.new) result
         (λ world rows. rows.items ≡ filter (sees_puzzle person.now) (values world.puzzles)) }
 {
-    if person.roles.director {
+    if person.roles.get().director {
         store.all_puzzles(alloc)
     } else {
         store.puzzles_of(alloc, &person.name)

@@ -74,7 +74,7 @@ fn show_rounds(
 fn sees_round(person: &Person, round: &Round) -> bool
     ensures { result ≡ sees_round person.now round.now }
 {
-    person.roles.director || round.released
+    person.roles.get().director || round.released
 }
 
 /// A round as it is listed.

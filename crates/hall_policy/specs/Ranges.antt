@@ -3,6 +3,7 @@ use Rattle.std.specs.Prelude.{◌≡◌, ◌≢◌, ◌<◌, ◌≤◌, ◌^◌,
 use Rattle.std.specs.FinMap.{get}
 use Rattle.hall_grid.specs.Board.{IsBoard}
 use Rattle.hall_policy.specs.Text.{IsOfKind, is_word_byte, is_key_byte, is_printable}
+use Rattle.hall_policy.specs.HasRole.{HasRole}
 use Rattle.hall_policy.specs.Lists.{ArePeople, AreEntries}
 use Rattle.hall_policy.specs.World.{World, IsRoundAt}
 use Rattle.hall_policy.specs.declared.record.Person.{Person}
@@ -73,10 +74,11 @@ abbrev pub IsRuling : Ruling → Type 0
 IsRuling (Upheld points) = (negsuc 999 ≤ℤ points) × (points ≤ℤ pos 1000)
 IsRuling Rejected = Unit {0}
 
--- a person; any roles, or none
+-- a person, who has a role
 pub record IsPerson (person : Person) : Type 0 where
   pub name : IsName person.name
   pub key : IsKey person.key
+  pub roles : HasRole person.roles
 
 -- where a puzzle is kept
 pub record IsPuzzleKey (key : PuzzleKey) : Type 0 where

@@ -22,7 +22,7 @@ fn is_director(facts: &Facts) -> bool
     ensures { result ≡ is_director facts.now.caller }
 {
     match &facts.caller {
-        Some(person) => person.roles.director,
+        Some(person) => person.roles.get().director,
         None => false,
     }
 }
@@ -31,7 +31,7 @@ fn lacks_role(facts: &Facts, action: &Action) -> bool
     ensures { IsTrue result ↔ LacksRole facts.now.caller action.now }
 {
     match &facts.caller {
-        Some(person) => !may(person.roles, action),
+        Some(person) => !may(person.roles.get(), action),
         None => false,
     }
 }
@@ -41,7 +41,9 @@ fn names_other_author(facts: &Facts, action: &Action) -> bool
     ensures own { result ≡ false → NamesOwnPuzzle facts.now action.now }
 {
     match (&facts.caller, puzzle_named(action)) {
-        (Some(person), Some(key)) => !person.roles.director && !key.author.is_same(&person.name),
+        (Some(person), Some(key)) => {
+            !person.roles.get().director && !key.author.is_same(&person.name)
+        }
         _ => false,
     }
 }
@@ -162,7 +164,7 @@ fn is_own_puzzle(facts: &Facts, action: &Action) -> bool
     ensures others { result ≡ false → RoundIsByOthers facts.now }
 {
     match &facts.caller {
-        Some(person) => person.roles.entrant && lists_author_of(facts, &person.name),
+        Some(person) => person.roles.get().entrant && lists_author_of(facts, &person.name),
         None => false,
     }
 }

@@ -9,6 +9,7 @@ mod number;
 mod ranges;
 mod record;
 mod request;
+mod roles;
 mod rule;
 mod sink;
 mod text;
@@ -25,6 +26,7 @@ pub use record::{
     PuzzleRow, PuzzleState, Roles, Round, RoundRow, Ruling, ruling_points,
 };
 pub use request::{Action, Request, Sheet};
+pub use roles::SomeRoles;
 pub use rule::{Decision, Rule};
 pub use sink::{AnswerSink, ProtestSink, SinkFault};
 pub use text::{

@@ -20,6 +20,7 @@ impl Person {
     {
         let _name = self.name.as_str();
         let _key = self.key.as_str();
+        let _roles = self.roles.get();
     }
 }
 

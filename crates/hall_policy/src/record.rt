@@ -7,11 +7,12 @@ use crate::number::{
     AnswerNumber, Bonus, Minutes, Moment, Penalty, Points, ProtestMinutes, PuzzleNumber,
     RulingPoints,
 };
+use crate::roles::SomeRoles;
 use crate::text::{AnswerText, Key, Label, Name, ProtestText, RoundId, Title, Token};
 use hall_grid::{Broken, Puzzle};
 use std::alloc::AllocError;
 
-/// What a person may be.
+/// What a person may be, all or none of it.
 #[derive(Clone, Copy, Debug, PartialEq, Eq)]
 pub struct Roles {
     pub director: bool,
@@ -26,7 +27,7 @@ pub struct Person {
     pub name: Name,
     /// The secret by which requests of the person are known.
     pub key: Key,
-    pub roles: Roles,
+    pub roles: SomeRoles,
 }
 
 /// Where a puzzle is kept.

@@ -86,17 +86,18 @@ sum_by_number f count (row ∷ rows) fits =
     let parts = sum_plus (sum_at f (row ∷ rows)) (λ k. cond (row.key.number == k) (f row) 0) (sum_at f rows) ks (λ k. sum_by-cons (λ r. cond (r.key.number == k) (f r) 0) row rows) in
     omega (arith, here, rest, parts, sum_by-cons f row rows)
 
+-- at a place of the list any default reads the same
+pub same_default : (xs : List AnswerRow) (k : ℕ) (a b : AnswerRow) → k < length xs → get_or xs k a ≡ get_or xs k b
+same_default [] k a b within = absurd (omega arith)
+same_default (x ∷ xs) zero a b within = refl
+same_default (x ∷ xs) (suc k) a b within = same_default xs k a b (omega arith)
+
 -- where one row alone gives something, all together give that
 pub sum_alone : (f : AnswerRow → ℕ) (rows : List AnswerRow) (i : ℕ) (d : AnswerRow) → i < length rows → ((j : ℕ) → j < length rows → j ≢ i → f (get_or rows j d) ≡ 0) → sum_by f rows ≡ f (get_or rows i d)
 sum_alone f [] i d within others = absurd (omega arith)
 sum_alone f (row ∷ rows) zero d within others =
     let rest = sum_zeros f rows (λ k e in_rest. subst (λ r. f r ≡ 0) (same_default rows k d e in_rest) (others (suc k) (omega arith) (λ same. cc))) in
     omega (arith, rest, sum_by-cons f row rows)
-  where
-    same_default : (xs : List AnswerRow) (k : ℕ) (a b : AnswerRow) → k < length xs → get_or xs k a ≡ get_or xs k b
-    same_default [] k a b within = absurd (omega arith)
-    same_default (x ∷ xs) zero a b within = refl
-    same_default (x ∷ xs) (suc k) a b within = same_default xs k a b (omega arith)
 sum_alone f (row ∷ rows) (suc i) d within others =
     let here : f row ≡ 0 = others 0 (omega arith) (λ same. cc) in
     let rest = sum_alone f rows i d (omega arith) (λ j in_rest apart. others (suc j) (omega arith) (λ same. apart (omega arith))) in

@@ -10,4 +10,5 @@ pub mod Ranks
 pub mod Once
 pub mod Counting
 pub mod RightTotals
+pub mod OneTotal
 mod Worked

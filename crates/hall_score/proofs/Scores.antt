@@ -1,5 +1,5 @@
 -- What one more answer changes in what answers give.
-use Rattle.std.proofs.Common.{arith, ◌≡◌, ◌≤◌, ◌<◌, ◌+◌, ◌==◌, ◌&&◌, ◌||◌, ℕ, zero, suc, Bool, true, false, List, [], ◌∷◌, ◌++◌, length, max, All, refl, subst, get_or, ◌∙◌, Some, None, is_some, slice_get}
+use Rattle.std.proofs.Common.{arith, ◌≡◌, ◌≤◌, ◌<◌, ◌+◌, ◌==◌, ◌&&◌, ◌||◌, ℕ, zero, suc, Bool, true, false, List, [], ◌∷◌, ◌++◌, length, max, All, refl, ap, subst, get_or, ◌∙◌, Some, None, is_some, slice_get}
 use Rattle.std.specs.List.{range_with_len}
 use Rattle.std.proofs.lemmas.List.Elements.{All-head, All-tail}
 use Rattle.std.proofs.lemmas.Option.{slice_get_within}
@@ -79,11 +79,14 @@ entry_within entries (suc k) e = elim (slice_get entries k) as (λ o. slice_get 
 ] refl e
 
 -- and each number of the round has an entry
+pub entry_of : (entries : List Entry) (k : ℕ) → 1 ≤ k → k ≤ length entries → (entry : Entry) × (entry_at entries k ≡ Some entry)
+entry_of entries zero least most = absurd (omega arith)
+entry_of [] (suc k) least most = absurd (omega arith)
+entry_of (entry ∷ entries) (suc zero) least most = (entry, refl)
+entry_of (entry ∷ entries) (suc (suc k)) least most = entry_of entries (suc k) (omega arith) (omega arith)
+
 pub has_entry : (entries : List Entry) (k : ℕ) → 1 ≤ k → k ≤ length entries → is_some (entry_at entries k) ≡ true
-has_entry entries zero least most = absurd (omega arith)
-has_entry [] (suc k) least most = absurd (omega arith)
-has_entry (entry ∷ entries) (suc zero) least most = refl
-has_entry (entry ∷ entries) (suc (suc k)) least most = has_entry entries (suc k) (omega arith) (omega arith)
+has_entry entries k least most = ap is_some (entry_of entries k least most).1
 
 -- where none of the rows scores, all that they give is the last one's
 pub only_last : (round : RoundRow) (rows : List AnswerRow) (row : AnswerRow) (c : Score) → All (λ before. does_score round (rows ++ row ∷ []) before ≡ false) rows → does_score round (rows ++ row ∷ []) row ≡ true → c.points ≡ points_for round (rows ++ row ∷ []) row → c.solved ≡ 1 → c.last ≡ row.moment → IsScoreOf round (rows ++ row ∷ []) c

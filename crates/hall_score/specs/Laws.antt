@@ -116,6 +116,12 @@ TotalsAreRight =
     (round : RoundRow) (answers : List AnswerRow) (protests : List ProtestRow) →
     0 < length round.puzzles → AreNumbered answers → IsTotal round answers protests (total_of round answers protests)
 
+-- where no two answers to one puzzle have one n, the rules give no second total
+abbrev pub TotalsAreOne : Type 0
+TotalsAreOne =
+    (round : RoundRow) (answers : List AnswerRow) (protests : List ProtestRow) (one other : ℤ) → AreNumbered answers →
+    IsTotal round answers protests one → IsTotal round answers protests other → one ≡ other
+
 -- the same rows in another order have the same total
 abbrev pub TotalsKeepNoOrder : Type 0
 TotalsKeepNoOrder =

@@ -82,8 +82,8 @@ abbrev pub bonus_of : RoundRow → List AnswerRow → ℤ
 bonus_of round rows =
     if are_all_solved round rows then pos round.round.bonus *ℤ minutes_left round (last_moment round rows) else pos 0
 
--- what an entrant's answers of the round give, the bonus included; where no two answers to one puzzle have one n, at most
--- one of them counts, so that the sum over the answers is one over the puzzles
+-- what an entrant's answers of the round give, the bonus included; where no two answers to one puzzle have one n, at
+-- most one of them counts, so that the sum over the answers is one over the puzzles
 abbrev pub answer_points : RoundRow → List AnswerRow → ℤ
 answer_points round answers = pos (sum_by (points_for round answers) answers) +ℤ bonus_of round answers
 

@@ -1,6 +1,7 @@
 //! One person's line of an entry list.
-ghost use Rattle.std.specs.Prelude.{◌≡◌};
+ghost use Rattle.std.specs.Prelude.{◌≡◌, IfSome};
 ghost use Rattle.csv.specs.Records.{fields_of};
+ghost use Rattle.hall_policy.specs.HasRole.{HasRole};
 ghost use Rattle.hall_policy.specs.Reading.{or_fault};
 ghost use Rattle.hall_sheet.specs.Given.{Gives};
 ghost use Rattle.hall_sheet.specs.declared.fault.Refusal.TheVariants.{Syntax};
@@ -10,7 +11,7 @@ ghost use Rattle.hall_sheet.specs.Entry.{line_seen, with_role};
 use crate::fault::{Field, Refusal, SheetFault};
 use crate::words::checked;
 use csv::StringRecord;
-use hall_policy::{Person, Roles};
+use hall_policy::{Person, Roles, SomeRoles};
 use std::alloc::Global;
 
 /// The fields of a line of an entry list.
@@ -62,7 +63,7 @@ impl Line<'_> {
         self.check_filled()?;
         let name = checked(alloc, self.name, Refusal::Range(Field::Name))?;
         let key = checked(alloc, self.key, Refusal::Range(Field::Key))?;
-        match read_roles(self.roles) {
+        match read_some_roles(self.roles) {
             Some(roles) => Ok(Person { name, key, roles }),
             None => Err(SheetFault::Refused(Refusal::Range(Field::Roles))),
         }
@@ -78,7 +79,8 @@ const NO_ROLES: Roles = Roles {
 
 /// The roles with the one that the word names, where it names one that isn't there yet.
 fn with_role(roles: Roles, word: &str) -> Option<Roles>
-    ensures { result ≡ with_role roles word.now }
+    ensures value { result ≡ with_role roles word.now }
+    ensures some { IfSome result (λ roles. HasRole roles) }
 {
     if word == "director" && !roles.director {
         Some(Roles {
@@ -107,7 +109,8 @@ fn with_role(roles: Roles, word: &str) -> Option<Roles>
 
 /// The roles that words joined by `+` name, where each word names one and none stands twice.
 fn read_roles(text: &str) -> Option<Roles>
-    ensures { result ≡ roles_in text.now }
+    ensures value { result ≡ roles_in text.now }
+    ensures some { IfSome result (λ roles. HasRole roles) }
 {
     let mut roles = NO_ROLES;
     let mut rest = text;
@@ -116,4 +119,11 @@ fn read_roles(text: &str) -> Option<Roles>
         rest = more;
     }
     with_role(roles, rest)
+}
+
+/// The same roles, of which a word names one at least.
+fn read_some_roles(text: &str) -> Option<SomeRoles>
+    ensures { result ≡ roles_in text.now }
+{
+    SomeRoles::new(read_roles(text)?)
 }

@@ -19,6 +19,7 @@ use Rattle.sqlite.specs.State.{State, Executes}
 use Rattle.sqlite.proofs.Callers.{runs_as}
 use Rattle.hall_policy.specs.Text.{text_cmp, is_word_byte, is_key_byte}
 use Rattle.hall_policy.specs.World.{puzzle_cmp, answer_cmp, protest_cmp}
+use Rattle.hall_policy.specs.HasRole.{HasRole}
 use Rattle.hall_policy.specs.Ranges.{IsPerson}
 use Rattle.hall_policy.specs.declared.record.Person.{Person}
 use Rattle.hall_policy.specs.declared.record.Roles.{Roles}
@@ -40,33 +41,33 @@ abbrev made : Bool → Bool → Bool → Bool → Roles
 made director author referee entrant = record { director = director; author = author; referee = referee; entrant = entrant }
 
 -- roles are read from their sum
-roles_read : (roles : Roles) → roles_in (Int (pos (roles_code roles))) ≡ Some roles
-roles_read roles = of roles.director roles.author roles.referee roles.entrant
+roles_read : (roles : Roles) → HasRole roles → roles_in (Int (pos (roles_code roles))) ≡ Some roles
+roles_read roles some = of roles.director roles.author roles.referee roles.entrant some
   where
-    of : (director author referee entrant : Bool) → roles_in (Int (pos (roles_code (made director author referee entrant)))) ≡ Some (made director author referee entrant)
-    of false false false false = refl
-    of false false false true = refl
-    of false false true false = refl
-    of false false true true = refl
-    of false true false false = refl
-    of false true false true = refl
-    of false true true false = refl
-    of false true true true = refl
-    of true false false false = refl
-    of true false false true = refl
-    of true false true false = refl
-    of true false true true = refl
-    of true true false false = refl
-    of true true false true = refl
-    of true true true false = refl
-    of true true true true = refl
+    of : (director author referee entrant : Bool) → HasRole (made director author referee entrant) → roles_in (Int (pos (roles_code (made director author referee entrant)))) ≡ Some (made director author referee entrant)
+    of false false false false none = absurd (cc)
+    of false false false true some = refl
+    of false false true false some = refl
+    of false false true true some = refl
+    of false true false false some = refl
+    of false true false true some = refl
+    of false true true false some = refl
+    of false true true true some = refl
+    of true false false false some = refl
+    of true false false true some = refl
+    of true false true false some = refl
+    of true false true true some = refl
+    of true true false false some = refl
+    of true true false true some = refl
+    of true true true false some = refl
+    of true true true true some = refl
 
 -- the columns are read as the person, whatever the rowid is
 person_reads : (person : Person) → IsPerson person → (id : Value) → person_of (id ∷ person_params person) ≡ Some person
 person_reads person is id = rw (
   kind_holds 1 24 is_word_byte person.name is.name,
   kind_holds 8 64 is_key_byte person.key is.key,
-  roles_read person.roles,
+  roles_read person.roles is.roles,
 )
 
 abbrev people_there : Table

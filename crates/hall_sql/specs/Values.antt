@@ -75,10 +75,10 @@ roles_of sum = record {
   entrant = sum / 8 % 2 == 1;
 }
 
--- the roles
+-- the roles, of which there is one at least
 abbrev pub roles_in : Value → Option Roles
 roles_in value = do
-  sum ← within 0 15 value
+  sum ← within 1 15 value
   Some (roles_of sum)
 
 -- the puzzle that a text spells, where it spells one and so has no fault

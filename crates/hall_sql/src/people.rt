@@ -12,7 +12,7 @@ ghost use Rattle.hall_sql.specs.Inside.{Carries, Did, Changes, Tells, AddsPerson
 
 use crate::calls::{ask, ask_in, fault_of, run_in};
 use crate::record::{at_most_one, read_all};
-use hall_policy::{Key, Name, People, Person, Roles};
+use hall_policy::{Key, Name, People, Person, SomeRoles};
 use hall_store::StoreFault;
 use sqlite::{Alter, Connection, Transaction, params};
 use std::alloc::Global;
@@ -69,9 +69,10 @@ fn person_in<S: Alter>(
 }
 
 /// The sum of the roles.
-fn roles_code(roles: &Roles) -> u32
-    ensures { result ≡ roles_code roles.now }
+fn roles_code(roles: SomeRoles) -> u32
+    ensures { result ≡ roles_code roles }
 {
+    let roles = roles.get();
     u32::from(roles.director)
         + 2 * u32::from(roles.author)
         + 4 * u32::from(roles.referee)
@@ -94,7 +95,7 @@ fn add_person<S: Alter>(tx: &mut Transaction<'_, S>, person: &Person) -> Result<
         params![
             person.name.as_str(),
             person.key.as_str(),
-            roles_code(&person.roles)
+            roles_code(person.roles)
         ],
     )?;
     Ok(())

@@ -13,8 +13,8 @@ use crate::calls::fault_of;
 use hall_grid::{Broken, Puzzle, TextFault, parse_puzzle};
 use hall_policy::{
     AnswerKey, AnswerRow, AnswerText, Checked, Entry, Mode, Person, PlaceKey, ProtestKey,
-    ProtestRow, PuzzleKey, PuzzleRow, PuzzleState, Roles, Round, Ruling, RulingPoints, TextKind,
-    Within,
+    ProtestRow, PuzzleKey, PuzzleRow, PuzzleState, Roles, Round, Ruling, RulingPoints, SomeRoles,
+    TextKind, Within,
 };
 use hall_store::StoreFault;
 use sqlite::Row;
@@ -55,16 +55,17 @@ fn number_at<const LEAST: u64, const MOST: u64>(
 }
 
 /// The roles whose sum stands in a column.
-fn roles_at(row: &Row, at: usize) -> Result<Roles, StoreFault>
+fn roles_at(row: &Row, at: usize) -> Result<SomeRoles, StoreFault>
     ensures { IfOk result (λ roles. roles_in (column row.now at) ≡ Some roles) }
 {
-    let sum = number_at::<0, 15>(row, at)?.get();
-    Ok(Roles {
+    let sum = number_at::<1, 15>(row, at)?.get();
+    let roles = Roles {
         director: sum % 2 == 1,
         author: sum / 2 % 2 == 1,
         referee: sum / 4 % 2 == 1,
         entrant: sum / 8 % 2 == 1,
-    })
+    };
+    SomeRoles::new(roles).ok_or(StoreFault::Failed)
 }
 
 /// The puzzle that a text spells.

@@ -52,7 +52,7 @@ fn push_person(text: &mut String, found: &Option<Person>) -> Result<(), AllocErr
         Some(person) => {
             push_word(text, person.name.as_str())?;
             push_word(text, person.key.as_str())?;
-            push_roles(text, person.roles)
+            push_roles(text, person.roles.get())
         }
         None => push_word(text, "nobody"),
     }

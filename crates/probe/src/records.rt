@@ -3,7 +3,7 @@ use crate::words::{Fault, checked, within};
 use hall_grid::{Broken, Rule, parse_puzzle};
 use hall_policy::{
     AnswerKey, AnswerRow, Entries, Entry, Mode, Person, ProtestKey, ProtestRow, PuzzleKey,
-    PuzzleRow, PuzzleState, Roles, Round, RoundRow, Ruling, RulingPoints,
+    PuzzleRow, PuzzleState, Roles, Round, RoundRow, Ruling, RulingPoints, SomeRoles,
 };
 use std::alloc::Global;
 
@@ -14,7 +14,7 @@ pub(crate) fn person(alloc: Global, name: &str, key: &str, roles: Roles) -> Resu
     Ok(Person {
         name: checked(alloc, name)?,
         key: checked(alloc, key)?,
-        roles,
+        roles: SomeRoles::new(roles).ok_or(Fault::Row)?,
     })
 }
 

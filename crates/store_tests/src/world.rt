@@ -40,10 +40,10 @@ fn add_person(rt: &impl Abort, words: &mut String, person: &Person) {
     add_line(rt, words, "person");
     add(rt, words, person.name.as_str());
     add(rt, words, person.key.as_str());
-    add_flag(rt, words, "director", person.roles.director);
-    add_flag(rt, words, "author", person.roles.author);
-    add_flag(rt, words, "referee", person.roles.referee);
-    add_flag(rt, words, "entrant", person.roles.entrant);
+    add_flag(rt, words, "director", person.roles.get().director);
+    add_flag(rt, words, "author", person.roles.get().author);
+    add_flag(rt, words, "referee", person.roles.get().referee);
+    add_flag(rt, words, "entrant", person.roles.get().entrant);
 }
 
 fn add_people<S: Store>(rt: &(impl AllocGlobal + Abort), words: &mut String, store: &mut S) {
