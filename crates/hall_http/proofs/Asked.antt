@@ -17,7 +17,8 @@ use Rattle.hall_http.specs.Routes.{route_in}
 use Rattle.hall_http.specs.Request.{puzzle_fault, PutOf, PutFrom, ActionOf, asked_by, RoutedOf, AskedOf, RequestOf}
 use Rattle.hall_http.proofs.Once.{one_request}
 
-put_once : (key : PuzzleKey) (text : List ℕ) (a b : Result Action FormFault) → PutOf key text a → PutOf key text b → a ≡ b
+put_once : (key : PuzzleKey) (text : List ℕ) (a b : Result Action FormFault) → PutOf key text a → PutOf key text b
+    → a ≡ b
 put_once key text (Ok a) (Ok b) (x, s, e) (y, t, f) =
     ap (λ z. Ok z) (e ∙ ap (λ board. action.PutPuzzle key board) (one_puzzle text x y s t) ∙ sym f)
 put_once key text (Ok a) (Err b) (x, s, e) (first, told, f, is, g) = absurd (no_text_fault text x first s f)

@@ -1,5 +1,6 @@
 //! Laws of the definitions, each the contract of a function that does nothing.
-ghost use Rattle.hall_http.specs.Laws.{AreOneRequest, BeginsWithOneRequest, AskForOneThing, AreOneListOfRequests, AreOneListOfRecords};
+ghost use Rattle.hall_http.specs.Laws.{AreOneRequest, BeginsWithOneRequest, AskForOneThing};
+ghost use Rattle.hall_http.specs.Laws.{AreOneListOfRequests, AreOneListOfRecords};
 
 /// Bytes are one request, a stream is one list of requests and an input one list of records, and no two.
 pub fn law_requests()

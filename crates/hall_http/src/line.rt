@@ -30,8 +30,9 @@ pub trait Line {
 
 /// Serves one connection over the two ends of a line, and hangs up.
 ///
-/// A line that can't be set up isn't served (`Device`). At the end the writing side is shut, and what is still unread is
-/// read off for a while: a line that is closed with unread bytes may be reset, and the client would lose its last reply.
+/// A line that can't be set up isn't served (`Device`). At the end the writing side is shut, and what is still unread
+/// is read off for a while: a line that is closed with unread bytes may be reset, and the client would lose its last
+/// reply.
 pub fn serve_line<S: Store, L: Line, R: Read, W: Write, C: Clock>(
     alloc: Global,
     desk: &mut Desk<S>,

@@ -2,7 +2,7 @@
 use crate::devices::{endless_reader, failing_reader, failing_writer};
 use crate::opening::opening_desk;
 use hall_grid::Counted;
-use hall_http::{Clock, ReplayFault, ServeEnd, replay, serve};
+use hall_http::{Clock, Line, ReplayFault, ServeEnd, replay, serve, serve_line};
 use hall_policy::Moment;
 use std::alloc::AllocGlobal;
 use std::io;
@@ -383,6 +383,40 @@ fn a_connection_ends_at_a_device_fault(rt: HostRuntime) {
         assert!(rt; ended == ServeEnd::Device);
         assert!(rt; writer.into_inner().asked == fails_at + 1);
     }
+}
+
+/// A line that is always ready.
+struct Ready;
+
+impl Line for Ready {
+    ghost refuses = { λ _. ⊥ };
+
+    fn set_up(&self) -> io::Result<()> {
+        Ok(())
+    }
+
+    fn end_writing(&self) {}
+}
+
+/// Serves one connection of a line over the opening world.
+fn served_line<R: Read, W: Write>(
+    rt: &(impl AllocGlobal + Abort),
+    reader: &mut Counted<R>,
+    writer: &mut Counted<W>,
+) -> ServeEnd {
+    let mut desk = opening_desk(rt);
+    let mut clock = clock(&[1]);
+    serve_line(rt.alloc(), &mut desk, &Ready, reader, writer, &mut clock).expect(rt, "serve")
+}
+
+#[test]
+fn a_line_is_served_and_what_is_left_is_read_off(rt: HostRuntime) {
+    let sent = joined(&rt, &[REQUEST, CLOSING, REQUEST]);
+    let mut reader = Counted::new(sent.as_slice());
+    let mut writer = Counted::new(Vec::new(rt.alloc()));
+    let ended = served_line(&rt, &mut reader, &mut writer);
+    assert!(rt; ended == ServeEnd::Closed && reader.into_inner().is_empty());
+    assert!(rt; writer.into_inner() == joined(&rt, &[NO_ROUTE, NO_ROUTE]));
 }
 
 #[test]
