@@ -1,13 +1,14 @@
 -- A list that adds nobody leaves the world.
-use Rattle.std.proofs.Common.{◌≡◌, ◌<◌, ℕ, List, ◌++◌, length, ap, inl, inr, arith}
+use Rattle.std.proofs.Common.{◌≡◌, ◌<◌, ℕ, List, ◌++◌, length, ap, subst, inl, inr, arith}
 use Rattle.std.specs.Prelude.{◌≢◌, OnErr, Result, Ok, Err}
 use Rattle.std.proofs.lemmas.List.{length-append}
 use Rattle.hall_policy.specs.declared.record.Person.{Person}
 use Rattle.hall_store.specs.Store.{Content, Kept, Leads, Over}
+use Rattle.hall_store.proofs.Knowing.{leads_kept}
 use Rattle.hall_desk.specs.Step.{Seed}
 use Rattle.hall_desk.specs.declared.reply.Reply.{Reply}
 use Rattle.hall_desk.specs.declared.reply.Reply.TheVariants as reply
-use Rattle.hall_tool.specs.SeedText.{AddsNobody, IsSeeded, seeded_line}
+use Rattle.hall_tool.specs.SeedText.{AddsNobody, IsAnswered, IsSeeded, IsToldBy, seeded_line}
 use Rattle.hall_tool.specs.declared.seed.Seeded.{Seeded}
 use Rattle.hall_tool.specs.declared.seed.Seeded.TheVariants.{Refused, Denied, Added}
 
@@ -19,6 +20,13 @@ adds_nobody (Denied rule) front rest e some = tt
 adds_nobody (Added count) front rest e some =
     let none : 0 ≡ length (front ++ rest) = ap length e in
     absurd (omega (arith, none, length-append front rest))
+
+-- what the desk answered came of the list
+pub seeded_is : (list : List ℕ) (old new : Content) (given : Reply) (seeded : Seeded) → IsToldBy given seeded → IsAnswered list old new given
+    → IsSeeded list old new seeded
+seeded_is list old new given (Refused refusal) is answered = absurd is
+seeded_is list old new given (Denied rule) is answered = subst (IsAnswered list old new) is answered
+seeded_is list old new given (Added count) is answered = subst (IsAnswered list old new) is answered
 
 left_by : (old new : Content) (people : List Person) (given : Reply) → ((n : ℕ) → given ≢ reply.Imported n)
     → Over (λ before after. Seed before people given after) old new → new.serves → new.world ≡ old.world
@@ -34,10 +42,6 @@ on_err (Err e) claim holds = holds
 pub nobody_keeps : (list : List ℕ) (old new : Content) (seeded : Seeded) → Leads old new → IsSeeded list old new seeded
     → AddsNobody seeded → Kept old new
 nobody_keeps list old new (Refused refusal) leads is nobody = is.1
-nobody_keeps list old new (Denied rule) leads is nobody = record {
-  honest = leads.honest;
-  serves = leads.serves;
-  world = λ honest serves. left_by old new is.0 (reply.Denied rule) (λ n e. cc)
-      (is.2 honest (leads.serves honest serves)) serves;
-}
+nobody_keeps list old new (Denied rule) leads is nobody =
+    leads_kept old new leads (λ honest serves. left_by old new is.0 (reply.Denied rule) (λ n e. cc) (is.2 honest) serves)
 nobody_keeps list old new (Added count) leads is nobody = absurd nobody

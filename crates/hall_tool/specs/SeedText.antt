@@ -22,6 +22,12 @@ IsSeeded list old new (Refused refusal) = (people_in list ≡ Err refusal) × Ke
 IsSeeded list old new (Denied rule) = IsAnswered list old new (reply.Denied rule)
 IsSeeded list old new (Added count) = IsAnswered list old new (reply.Imported count)
 
+-- so the desk answered a list that came to this
+abbrev pub IsToldBy : Reply → Seeded → Type 0
+IsToldBy given (Refused refusal) = ⊥
+IsToldBy given (Denied rule) = given ≡ reply.Denied rule
+IsToldBy given (Added count) = given ≡ reply.Imported count
+
 -- the list was refused or denied
 abbrev pub AddsNobody : Seeded → Type 0
 AddsNobody (Refused refusal) = ⊤

@@ -90,8 +90,8 @@ pub fn init_run<S: Store, W: Write>(
     // Another fault leaves the world and the writer.
     ensures memory { IsErrOf result ToolFault.Memory → Kept (S.content (kept_by desk.old)) (S.content (kept_by desk.new))
         × (writer.new ≡ writer.old) }
-    ensures store { IsErrOf result ToolFault.Store → Kept (S.content (kept_by desk.old)) (S.content (kept_by desk.new))
-        × (writer.new ≡ writer.old) }
+    ensures store { IsErrOf result ToolFault.Store → S.can_fail × Kept (S.content (kept_by desk.old))
+        (S.content (kept_by desk.new)) × (writer.new ≡ writer.old) }
 {
     // The line's memory is taken first, so that a want of it leaves the world.
     let line = String::with_capacity(alloc, ROOM)?;

@@ -5,10 +5,11 @@ ghost use Rattle.hall_grid.specs.Device.{HasFailed};
 ghost use Rattle.hall_store.specs.Store.{Kept, Leads};
 ghost use Rattle.hall_desk.specs.Desk.{kept_by, SaneThen};
 ghost use Rattle.hall_desk.specs.Sane.{Sane};
+ghost use Rattle.hall_desk.specs.Plans.{IsSeedReply};
 ghost use Rattle.hall_http.specs.Device.{WritesPart};
 ghost use Rattle.hall_sheet.specs.People.{people_in};
 ghost use Rattle.hall_sheet.specs.declared.fault.Refusal.{Refusal};
-ghost use Rattle.hall_tool.specs.SeedText.{SeedText, IsSeeded, AddsNobody, seeded_line, seeded_status};
+ghost use Rattle.hall_tool.specs.SeedText.{SeedText, IsSeeded, IsToldBy, AddsNobody, seeded_line, seeded_status};
 
 use crate::ending::Ending;
 use crate::fault::ToolFault;
@@ -16,7 +17,7 @@ use hall_desk::{Desk, Reply};
 use hall_grid::Counted;
 use hall_http::write_all;
 use hall_sheet::{Refusal, SheetFault, read_people};
-use hall_store::Store;
+use hall_store::{Store, StoreFault};
 use std::alloc::{AllocError, Global};
 use std::io::Write;
 
@@ -29,6 +30,28 @@ pub(crate) enum Seeded {
     Denied(u8),
     /// So many of its people were added.
     Added(u64),
+}
+
+/// What came of a list that the desk answered so.
+fn seeded_of(reply: &Reply) -> Seeded
+    requires { IsSeedReply reply.now }
+    ensures { IsToldBy reply.now result }
+{
+    match reply {
+        Reply::Imported(added) => Seeded::Added(*added),
+        Reply::Denied(rule) => Seeded::Denied(*rule),
+        _ => unreachable!(),
+    }
+}
+
+/// The same of a reply that is let go.
+fn seeded_by(reply: Reply) -> Seeded
+    requires { IsSeedReply reply }
+    ensures { IsToldBy reply result }
+{
+    let seeded = seeded_of(&reply);
+    drop(reply);
+    seeded
 }
 
 /// Imports the people of the list before any request.
@@ -44,12 +67,13 @@ pub(crate) fn seed_desk<S: Store>(
     ensures refused { (refusal : Refusal) → people_in list.now ≡ Err refusal → desk.new ≡ desk.old }
     ensures kept { OnErr result (Kept (S.content (kept_by desk.old)) (S.content (kept_by desk.new))) }
     ensures cause { IfErr result (λ e. (e ≡ ToolFault.Memory) ⊎ (e ≡ ToolFault.Store)) }
+    ensures fault { IsErrOf result ToolFault.Store → S.can_fail }
 {
     match read_people(alloc, list) {
-        Ok(people) => match desk.seed(alloc, &people) {
-            Reply::Imported(added) => Ok(Seeded::Added(added)),
-            Reply::Denied(rule) => Ok(Seeded::Denied(rule)),
-            _ => Err(ToolFault::Store),
+        Ok(people) => match desk.try_seed(alloc, &people) {
+            Ok(reply) => Ok(seeded_by(reply)),
+            Err(StoreFault::Memory) => Err(ToolFault::Memory),
+            Err(StoreFault::Failed) => Err(ToolFault::Store),
         },
         Err(SheetFault::Refused(refusal)) => Ok(Seeded::Refused(refusal)),
         Err(SheetFault::Memory) => Err(ToolFault::Memory),
@@ -98,7 +122,7 @@ pub fn seed_run<S: Store, W: Write>(
         × WritesPart (W.contents writer.old.device) (W.contents writer.new.device) line }
     // Another fault leaves the writer as it was.
     ensures memory { IsErrOf result ToolFault.Memory → writer.new ≡ writer.old }
-    ensures store { IsErrOf result ToolFault.Store → writer.new ≡ writer.old }
+    ensures store { IsErrOf result ToolFault.Store → S.can_fail × (writer.new ≡ writer.old) }
 {
     let seeded = seed_desk(alloc, desk, list)?;
     let ending = seeded_ending(alloc, seeded)?;
