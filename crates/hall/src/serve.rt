@@ -50,12 +50,7 @@ fn listen(rt: &HostRuntime, port: u64) -> io::Result<TcpListener> {
     TcpListener::bind(rt, address.as_str())
 }
 
-fn serve_client<S: Store>(
-    rt: &HostRuntime,
-    alloc: Global,
-    desk: &mut Desk<S>,
-    stream: &TcpStream,
-) {
+fn serve_client<S: Store>(rt: &HostRuntime, alloc: Global, desk: &mut Desk<S>, stream: &TcpStream) {
     let mut clock = SystemClock::new(rt);
     let _ended = serve_socket(alloc, desk, stream, &mut clock);
 }

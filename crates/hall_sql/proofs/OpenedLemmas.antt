@@ -46,12 +46,11 @@ starts image old new file adopted clean =
     let has = file.found was in
     let stands : StandsFor old.committed.trees (world_of new.now.trees) =
     subst (λ (d : Database). StandsFor d.trees (world_of new.now.trees)) is.0.clean
-    (stood old new (is.1 is.0.is_open).0 (adopted.stood clean)) in
-    (
+    (stood old new (is.1 is.0.is_open).0 (adopted.stood clean)) in (
       adopted.serves clean,
       record {
         holds = λ db held. subst (λ (d : Trees). StandsFor d (world_of new.now.trees))
-        (∥∥₁_elim held (Trees-set _ _) (has.holds db)) stands;
+            (∥∥₁_elim held (Trees-set _ _) (has.holds db)) stands;
         reads = (old.committed.trees, has.reads, stands);
         nothing = from_nothing image old.committed.trees (world_of new.now.trees) has.reads stands;
       },

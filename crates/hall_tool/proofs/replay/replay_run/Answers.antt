@@ -16,17 +16,17 @@ returns-in-Ok-eq0-clause-run g c =
       c.seed_run.new.writer,
       c.replay.result,
       subst (λ (ended : Result ℕ ToolFault). IsSeedRun g.W.Write.contents c.args.list.now
-      (g.S.Store.content (kept_by c.args.desk.now)) (g.S.Store.content (kept_by c.seed_run.new.desk))
-      c.args.writer.now c.seed_run.new.writer ended) zero
-      (record {
-        leads = seeded.leads;
-        line = seeded.line;
-        kept = seeded.kept;
-        device = seeded.device;
-        part = seeded.part;
-        memory = seeded.memory;
-        store = seeded.store;
-      }),
+          (g.S.Store.content (kept_by c.args.desk.now)) (g.S.Store.content (kept_by c.seed_run.new.desk))
+          c.args.writer.now c.seed_run.new.writer ended) zero
+          (record {
+            leads = seeded.leads;
+            line = seeded.line;
+            kept = seeded.kept;
+            device = seeded.device;
+            part = seeded.part;
+            memory = seeded.memory;
+            store = seeded.store;
+          }),
       c.replay.ensures.replayed,
       c.replay_end.ensures,
     )
