@@ -1,7 +1,7 @@
 //! The hall's world in SQL tables, and a cache before it.
 #![tactic(auto)]
 
-mod adopt;
+mod adoption;
 mod answers;
 mod cache;
 mod cached_store;
@@ -19,5 +19,6 @@ mod schema;
 mod sql_store;
 mod tables;
 
+pub use adoption::adopt;
 pub use cached_store::CachedStore;
 pub use sql_store::SqlStore;
