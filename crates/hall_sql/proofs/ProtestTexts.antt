@@ -15,7 +15,7 @@ use Rattle.sqlite.specs.Tree.{Trees}
 use Rattle.sqlite.specs.Command.TheVariants.{Select, Insert, Update}
 use Rattle.sqlite.proofs.Callers.{IsPlain, command_of}
 use Rattle.hall_sql.specs.Tables.{hall_schema, protests_table}
-use Rattle.hall_sql.specs.Statements.{plain_query, protest_text, protests_of_text, protests_in_text, open_protests_text}
+use Rattle.hall_sql.specs.Statements.{plain_query, protest_text, protests_of_text, protests_in_text}
 use Rattle.hall_sql.specs.Statements.{add_protest_text, rule_protest_text}
 use Rattle.hall_sql.proofs.UpdateLemmas.{update}
 use Rattle.hall_sql.proofs.PeopleTexts.{equals, rising}
@@ -53,16 +53,6 @@ pub protests_in_is : (command_of (understood hall_schema protests_in_text)
     × (reads_listing hall_schema protests_in_text ≡ false) × IsPlain (understood hall_schema protests_in_text)
 unfolding understood everything
 protests_in_is = (refl, refl, (refl, refl))
-
--- round = ?1 AND ruling = 0
-abbrev pub open_terms : List Term
-open_terms = equals 2 0 ∷ op2 (Compare Eq Binary) (col 1 6) (lit (Int (pos 0))) ∷ []
-
-pub open_protests_is : (command_of (understood hall_schema open_protests_text)
-    ≡ Select (record { lets = []; body = plain_query 12 open_terms protest_columns [] }) protest_names)
-    × (reads_listing hall_schema open_protests_text ≡ false) × IsPlain (understood hall_schema open_protests_text)
-unfolding understood everything
-open_protests_is = (refl, refl, (refl, refl))
 
 -- the rowid that is chosen, and each parameter
 abbrev pub added_terms : List Term

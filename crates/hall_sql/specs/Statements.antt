@@ -114,12 +114,6 @@ protests_in_text =
     codes "SELECT entrant, round, token, number, body, ruling, points FROM protests "
     ++ codes "WHERE round = ?1 ORDER BY entrant, round, token"
 
--- the open protests of the round
-abbrev pub open_protests_text : List ℕ
-open_protests_text =
-    codes "SELECT entrant, round, token, number, body, ruling, points FROM protests "
-    ++ codes "WHERE round = ?1 AND ruling = 0"
-
 -- one more protest
 abbrev pub add_protest_text : List ℕ
 add_protest_text =

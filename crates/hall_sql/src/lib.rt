@@ -1,7 +1,7 @@
 //! The hall's world in SQL tables, and a cache before it.
 #![tactic(auto)]
 
-mod adopt;
+mod adoption;
 mod answers;
 mod cache;
 mod cached_store;
@@ -21,6 +21,7 @@ mod sql_store;
 mod system_files;
 mod tables;
 
+pub use adoption::adopt;
 pub use cached_store::CachedStore;
 pub use open::{OpenFault, PathFiles, law_opened, open_at, open_in_memory, open_there};
 pub use sql_store::SqlStore;

@@ -1,5 +1,5 @@
 //! The table of protests.
-ghost use Rattle.std.specs.Prelude.{◌≡◌, ◌↔◌, IsTrue, Ok, IfOk, IfSome, OnErr};
+ghost use Rattle.std.specs.Prelude.{◌≡◌, ◌↔◌, IsTrue, Ok, IfOk, IfSome, OnErr, None, Contains};
 ghost use Rattle.std.specs.FinMap.{get};
 ghost use Rattle.sqlite.specs.Held.{state};
 ghost use Rattle.sqlite.specs.State.{HasCleanDisk, Executes};
@@ -7,6 +7,7 @@ ghost use Rattle.hall_policy.specs.Ranges.{IsProtestRow, IsRuling};
 ghost use Rattle.hall_policy.specs.Rules.{protests_made};
 ghost use Rattle.hall_policy.specs.World.{ruling_points};
 ghost use Rattle.hall_store.specs.Store.{Served, IsProtestOpen, Asks, protests_of, protests_in};
+ghost use Rattle.hall_policy.specs.declared.record.ProtestRow.{ProtestRow};
 ghost use Rattle.hall_store.specs.Change.{CanAddProtest};
 ghost use Rattle.hall_store.specs.declared.change.Change.TheVariants.{AddProtest, RuleProtest};
 ghost use Rattle.hall_sql.specs.Statements.{add_protest_text, rule_protest_text};
@@ -100,11 +101,19 @@ pub(crate) fn protests_in<S: Alter>(
     read_all(alloc, &rows)
 }
 
-const OPEN_PROTESTS: &str =
-    "SELECT entrant, round, token, number, body, ruling, points FROM protests \
-    WHERE round = ?1 AND ruling = 0";
+/// Whether one of the protests is open.
+fn is_any_open(rows: &[ProtestRow]) -> bool
+    ensures { IsTrue result ↔ ((row : ProtestRow) × Contains rows.now row × (row.ruling ≡ None)) }
+{
+    for row in rows {
+        if row.ruling.is_none() {
+            return true;
+        }
+    }
+    false
+}
 
-/// Whether a protest of the round is open.
+/// Whether a protest of the round is open. All of them are read, so that one that is no record isn't taken for ruled.
 pub(crate) fn has_open_protest<S: Alter>(
     conn: &mut Connection<S>,
     alloc: Global,
@@ -115,9 +124,8 @@ pub(crate) fn has_open_protest<S: Alter>(
     ensures served { Served (content_of (state S.Store conn.new)) result
         (λ world found. IsTrue found ↔ IsProtestOpen world round.now) }
 {
-    let _schema = conn.schema();
-    let rows = ask(conn, OPEN_PROTESTS, params![round.as_str()])?;
-    Ok(!read_all::<ProtestRow>(alloc, &rows)?.is_empty())
+    let rows = protests_in(conn, alloc, round)?;
+    Ok(is_any_open(&rows))
 }
 
 /// The code of a ruling; 0 while the protest is open.

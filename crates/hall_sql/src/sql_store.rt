@@ -3,7 +3,7 @@ ghost use Rattle.std.specs.Prelude.{◌≡◌, IfOk};
 ghost use Rattle.sqlite.specs.Held.{state};
 ghost use Rattle.hall_sql.specs.Standing.{HasAdopted};
 
-use crate::adopt::adopt;
+use crate::adoption::adopt;
 use crate::answers::{
     add_answer, answer, answers_given, answers_in, answers_of, has_answered, is_number_taken,
 };
@@ -45,7 +45,8 @@ impl<S: Alter> Model for SqlStore<S> {
 }
 
 impl<S: Alter + Drop> SqlStore<S> {
-    /// Takes over a connection with the hall's tables, or with none, where it makes them.
+    /// Takes over a connection with the hall's tables, or with none, where it makes them. Refused, it lets go of the
+    /// connection as `adopt` leaves it.
     pub fn over(mut conn: Connection<S>) -> Result<SqlStore<S>, StoreFault>
         ensures { IfOk result (λ store. HasAdopted (state S.Store conn) (state S.Store store)) }
     {

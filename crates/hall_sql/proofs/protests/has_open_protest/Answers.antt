@@ -1,21 +1,12 @@
-use Rattle.std.proofs.Common.{rules, ◌≡◌, ◌==◌, ◌↔◌, IsTrue, not, length}
+use Rattle.std.proofs.Common.{◌≡◌, ◌↔◌, List, IsTrue, None, Contains, subst}
 use Rattle.sqlite.specs.Held.{state}
-use Rattle.hall_store.specs.Store.{IsProtestOpen}
-use Rattle.hall_sql.proofs.ProtestTexts.{open_protests_is}
+use Rattle.hall_policy.specs.declared.record.ProtestRow.{ProtestRow}
 use Rattle.hall_sql.proofs.ProtestOpen.{open_told}
-use Rattle.hall_sql.proofs.StoreLemmas.{told_so}
 use Rattle.hall_sql.proofs.protests.has_open_protest.Goals as goal
 
-pub ask-requires-clause-plain : goal.ask-requires-clause-plain
-ask-requires-clause-plain g c = open_protests_is.2
-
 pub returns-clause-served : goal.returns-clause-served
-returns-clause-served g c =
-    let none : c.is_empty.result ≡ (length c.in_ok-read_all.field-0.items == 0) = search rules in
-    told_so (state g.S.Store c.args.conn.now) (state g.S.Store c.ask.new.conn)
-    (λ world. IsTrue (not c.is_empty.result) ↔ IsProtestOpen world c.args.round.now) c.requires.hall c.ask.ensures.rested
-    c.in_ok-rows.ensures.serves
-    (λ clean opened has keyed. open_told _ (state g.S.Store c.ask.new.conn) has keyed.1.1.1.1.1.0
-    (c.schema-schema.ensures.live opened).0 c.in_ok-rows.rows.items c.in_ok-read_all.field-0.items
-    (rw c.deref.ensures.value at c.in_ok-read_all.ensures) c.args.round.now c.is_empty.result none
-    (rw (c.params-to_sql.ensures, c.as_str.ensures.text) at (c.in_ok-rows.ensures.shown clean)))
+returns-clause-served g c = λ clean.
+    let read = c.in_ok-rows.ensures.served clean in
+    let told = subst (λ (rows : List ProtestRow). IsTrue c.is_any_open.result ↔ ((row : ProtestRow) × Contains rows row × (row.ruling ≡ None)))
+    c.deref.ensures.value c.is_any_open.ensures in
+    (read.0, open_told (state g.S.Store c.protests_in.new.conn).now.trees c.args.round.now c.is_any_open.result c.in_ok-rows.rows.items read.1 told)

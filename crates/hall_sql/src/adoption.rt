@@ -20,8 +20,8 @@ fn has_nothing(schema: &Schema) -> bool
 }
 
 /// Makes the hall's tables where there is none, and takes them over where they stand. Any other database is refused,
-/// and so is an open transaction.
-pub(crate) fn adopt<S: Alter>(conn: &mut Connection<S>) -> Result<(), StoreFault>
+/// and so is an open transaction; a refused connection has the tables that it had.
+pub fn adopt<S: Alter>(conn: &mut Connection<S>) -> Result<(), StoreFault>
     ensures { Adopts (state S.Store conn.old) (state S.Store conn.new) result }
 {
     if !conn.is_autocommit() {
