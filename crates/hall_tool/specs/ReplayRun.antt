@@ -42,5 +42,5 @@ IsReplayRun {S} {R} {W} content remaining contents list old new reader read writ
     × IsSeedRun contents list (content old) (content seeded) writer told (Ok 0)
     × IsReplayed (remaining reader.device) (remaining read.device) (contents told.device) (contents written.device)
     (content seeded) (content new) (HasFailed reader.failures read.failures) (HasFailed told.failures written.failures)
-    end
+    reader.calls read.calls end
     × (result ≡ replay_end end))
