@@ -1,13 +1,13 @@
 //! Connections, served on a port of this machine.
 use hall_desk::Desk;
 use hall_grid::Counted;
-use hall_http::{SystemClock, serve_socket};
+use hall_http::{ServeAllEnd, SystemClock, serve_all};
 use hall_store::Store;
 use hall_tool::{CommandFault, Task};
 use std::alloc::Global;
 use std::io;
-use std::io::{ErrorKind, Read, Write};
-use std::net::{TcpListener, TcpStream};
+use std::io::{Read, Write};
+use std::net::TcpListener;
 
 /// Serves so many connections on the port, one after another, however each ends.
 #[derive(Clone, Copy)]
@@ -18,9 +18,12 @@ pub(crate) struct Serve<'r> {
 }
 
 impl Task for Serve<'_> {
-    ghost use Rattle.std.specs.Prelude.{⊤};
+    ghost use Rattle.hall_desk.specs.Desk.{SaneThen};
+    ghost use Rattle.hall_desk.specs.Sane.{Sane};
 
-    ghost does = { λ S R W content remaining contents task old new reader read writer written result. ⊤ };
+    // A sane world stays sane. What a socket was sent and sends isn't known.
+    ghost does = { λ S R W content remaining contents task old new reader read writer written result.
+        SaneThen Sane (content old) (content new) };
 
     fn run<S: Store, R: Read, W: Write>(
         &self,
@@ -29,18 +32,14 @@ impl Task for Serve<'_> {
         _reader: &mut Counted<R>,
         _writer: &mut Counted<W>,
     ) -> Result<u8, CommandFault> {
-        let Ok(listener) = listen(self.rt, self.port) else {
+        let Ok(mut listener) = listen(self.rt, self.port) else {
             return Err(CommandFault::Port);
         };
-        for _ in 0..self.connections {
-            match listener.accept() {
-                Ok((stream, _)) => serve_client(self.rt, alloc, desk, &stream),
-                // The client went away before it was served.
-                Err(error) if error.kind() == ErrorKind::ConnectionAborted => {}
-                Err(_) => return Err(CommandFault::Client),
-            }
+        let mut clock = SystemClock::new(self.rt);
+        match serve_all(alloc, desk, &mut listener, &mut clock, self.connections) {
+            ServeAllEnd::Served => Ok(0),
+            ServeAllEnd::Refused => Err(CommandFault::Client),
         }
-        Ok(0)
     }
 }
 
@@ -48,9 +47,4 @@ impl Task for Serve<'_> {
 fn listen(rt: &HostRuntime, port: u64) -> io::Result<TcpListener> {
     let address = format!(in rt.alloc(); "127.0.0.1:{port}")?;
     TcpListener::bind(rt, address.as_str())
-}
-
-fn serve_client<S: Store>(rt: &HostRuntime, alloc: Global, desk: &mut Desk<S>, stream: &TcpStream) {
-    let mut clock = SystemClock::new(rt);
-    let _ended = serve_socket(alloc, desk, stream, &mut clock);
 }

@@ -3,6 +3,7 @@ use Rattle.std.proofs.Common.{◌≡◌, ◌+◌, ◌≤◌, sym, subst, arith, 
 use Rattle.std.specs.Prelude.{Result}
 use Rattle.std.specs.declared.alloc.AllocError.{AllocError}
 use Rattle.hall_store.specs.Store.{Content, Leads}
+use Rattle.hall_store.proofs.Knowing.{leads_same}
 use Rattle.hall_desk.specs.Sane.{Sane}
 use Rattle.hall_desk.specs.Desk.{SaneThen}
 use Rattle.hall_http.specs.Line.{Ends}
@@ -11,9 +12,6 @@ use Rattle.hall_http.specs.declared.connection.ServeEnd.{ServeEnd}
 use Rattle.hall_http.specs.declared.listener.Accepted.{Accepted}
 use Rattle.hall_http.specs.declared.listener.Accepted.TheVariants.{Client, Gone}
 use Rattle.hall_http.proofs.Lines.{line_run, line_sane}
-
-leads_same : (a : Content) → Leads a a
-leads_same a = record { honest = λ k. k; serves = λ k s. s }
 
 module _ {L X H C : Type 0} (accepts : L → Accepted X → L → Type 0) (refuses : X → Type 0)
     (goes : X → Ends → Ends → X → Type 0) (content : H → Content) (now_gives : C → Option ℕ → C → Type 0) where

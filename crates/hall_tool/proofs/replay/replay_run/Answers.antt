@@ -25,7 +25,7 @@ returns-in-Ok-eq0-clause-run g c =
             device = seeded.device;
             part = seeded.part;
             memory = seeded.memory;
-            store = seeded.store;
+            store = λ failed. (seeded.store failed).1;
           }),
       c.replay.ensures.replayed,
       c.replay_end.ensures,
