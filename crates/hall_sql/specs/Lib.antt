@@ -12,3 +12,4 @@ pub mod Scan
 pub mod Made
 pub mod Feed
 pub mod Cache
+pub mod Whole
