@@ -11,7 +11,8 @@ ghost use Rattle.sqlite.specs.State.{HasCleanDisk, Executes};
 ghost use Rattle.hall_sql.specs.Columns.{answer_params};
 ghost use Rattle.hall_sql.specs.Standing.{IsHall, Rested, Wrote, content_of, Lasts};
 ghost use Rattle.sqlite.specs.declared.types.Value.TheVariants.{Text, Int};
-ghost use Rattle.hall_sql.specs.Statements.{add_answer_text, answer_text, answers_given_text, answers_in_text, answers_of_text, number_taken_text};
+ghost use Rattle.hall_sql.specs.Statements.{add_answer_text, answer_text, answers_given_text};
+ghost use Rattle.hall_sql.specs.Statements.{answers_in_text, answers_of_text, number_taken_text};
 ghost use Rattle.hall_sql.specs.Rows.{answer_in};
 ghost use Rattle.hall_sql.specs.Whole.{AreRecords};
 
@@ -118,7 +119,8 @@ pub(crate) fn answers_given<S: Alter>(
     ensures served { Served (content_of (state S.Store conn.new)) result
         (λ world count. count ≡ answers_given world entrant.now round.now number) }
     ensures whole { HasCleanDisk (state S.Store conn.new) → IfOk result (λ _.
-        AreRecords answer_in answers_given_text (Text entrant.now ∷ Text round.now ∷ Int (pos number) ∷ []) (state S.Store conn.old)
+        AreRecords answer_in answers_given_text
+        (Text entrant.now ∷ Text round.now ∷ Int (pos number) ∷ []) (state S.Store conn.old)
         (state S.Store conn.new)) }
 {
     let _schema = conn.schema();

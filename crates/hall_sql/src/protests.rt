@@ -13,7 +13,8 @@ ghost use Rattle.hall_store.specs.declared.change.Change.TheVariants.{AddProtest
 ghost use Rattle.hall_sql.specs.Columns.{protest_params, ruling_code, ruling_params, IsAlone};
 ghost use Rattle.hall_sql.specs.Standing.{IsHall, Rested, Wrote, content_of, Lasts};
 ghost use Rattle.sqlite.specs.declared.types.Value.TheVariants.{Text};
-ghost use Rattle.hall_sql.specs.Statements.{add_protest_text, rule_protest_text, protest_text, protests_in_text, protests_of_text};
+ghost use Rattle.hall_sql.specs.Statements.{add_protest_text, rule_protest_text};
+ghost use Rattle.hall_sql.specs.Statements.{protest_text, protests_in_text, protests_of_text};
 ghost use Rattle.hall_sql.specs.Rows.{protest_in};
 ghost use Rattle.hall_sql.specs.Whole.{AreRecords};
 
@@ -40,7 +41,8 @@ pub(crate) fn protest<S: Alter>(
     ensures alone { HasCleanDisk (state S.Store conn.new) → IfOk result
         (λ found. IfSome found (IsAlone key.now (state S.Store conn.new))) }
     ensures whole { HasCleanDisk (state S.Store conn.new) → IfOk result (λ _.
-        AreRecords protest_in protest_text (Text key.now.entrant ∷ Text key.now.round ∷ Text key.now.token ∷ []) (state S.Store conn.old)
+        AreRecords protest_in protest_text
+        (Text key.now.entrant ∷ Text key.now.round ∷ Text key.now.token ∷ []) (state S.Store conn.old)
         (state S.Store conn.new)) }
 {
     let rows = ask(
