@@ -1,11 +1,13 @@
 -- From what a statement leaves to what the trait of stores says.
-use Rattle.std.proofs.Common.{◌≡◌, IsTrue, Result, Ok, Err, IfOk, sym, subst, ◌∙◌, arith}
+use Rattle.std.proofs.Common.{◌≡◌, ℕ, List, map, Option, Some, IsTrue, Result, Ok, Err, IfOk, sym, subst, ◌∙◌, arith}
 use Rattle.sqlite.specs.Effect.{Database}
-use Rattle.sqlite.specs.State.{State, HasCleanDisk}
+use Rattle.sqlite.specs.Order.{Row}
+use Rattle.sqlite.specs.State.{State, HasCleanDisk, Shown}
 use Rattle.hall_policy.specs.World.{World}
 use Rattle.hall_store.specs.Store.{Served}
 use Rattle.hall_sql.specs.Tables.{hall_schema}
 use Rattle.hall_sql.specs.Rows.{world_of}
+use Rattle.hall_sql.specs.Whole.{AreRecords}
 use Rattle.hall_sql.specs.Standing.{AreAllKeyed, IsHall, Rested, content_of}
 use Rattle.hall_sql.proofs.LastLemmas.{last_then}
 
@@ -46,3 +48,14 @@ rests_on old mid new first second =
       };
       same = λ clean opens. second.same clean opens ∙ first.same (before clean) (second.follows.opened clean opens);
     }
+
+-- what holds of any answer holds of this one
+pub always : {R E : Type 0} (result : Result R E) (P : Type 0) → P → IfOk result (λ _. P)
+always (Ok x) P holds = holds
+always (Err e) P holds = tt
+
+-- the rows that were read are all that a query answered
+pub read_whole : {X : Type 0} (read : Row → Option X) (sql : List ℕ) (params : Row) (old new : State) (rows : List Row) (records : List X)
+    → map read rows ≡ map Some records → Shown sql params old new rows → AreRecords read sql params old new
+read_whole read sql params old new rows records reads shown =
+    record { rows = rows; records = records; reads = reads; shown = shown }

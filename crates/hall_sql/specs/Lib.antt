@@ -13,3 +13,4 @@ pub mod Made
 pub mod Feed
 pub mod Cache
 pub mod Opened
+pub mod Whole

@@ -1,5 +1,5 @@
 //! The table of answers.
-ghost use Rattle.std.specs.Prelude.{◌≡◌, ◌↔◌, IsTrue, Ok, IfOk, OnErr};
+ghost use Rattle.std.specs.Prelude.{◌≡◌, ◌↔◌, IsTrue, Ok, IfOk, OnErr, [], ◌∷◌, pos};
 ghost use Rattle.std.specs.FinMap.{get};
 ghost use Rattle.sqlite.specs.Held.{state};
 ghost use Rattle.hall_store.specs.Store.{Served, IsListing, is_of, is_in, IsNumberTaken, HasSubmitted, Asks};
@@ -8,9 +8,13 @@ ghost use Rattle.hall_store.specs.Change.{CanAddAnswer};
 ghost use Rattle.hall_store.specs.declared.change.Change.TheVariants.{AddAnswer};
 ghost use Rattle.hall_policy.specs.Ranges.{IsAnswerRow};
 ghost use Rattle.sqlite.specs.State.{HasCleanDisk, Executes};
-ghost use Rattle.hall_sql.specs.Statements.{add_answer_text};
 ghost use Rattle.hall_sql.specs.Columns.{answer_params};
 ghost use Rattle.hall_sql.specs.Standing.{IsHall, Rested, Wrote, content_of, Lasts};
+ghost use Rattle.sqlite.specs.declared.types.Value.TheVariants.{Text, Int};
+ghost use Rattle.hall_sql.specs.Statements.{add_answer_text, answer_text, answers_given_text};
+ghost use Rattle.hall_sql.specs.Statements.{answers_in_text, answers_of_text, number_taken_text};
+ghost use Rattle.hall_sql.specs.Rows.{answer_in};
+ghost use Rattle.hall_sql.specs.Whole.{AreRecords};
 
 use crate::calls::{ask, run};
 use crate::record::{at_most_one, read_all};
@@ -33,6 +37,10 @@ pub(crate) fn answer<S: Alter>(
     ensures rested { Rested (state S.Store conn.old) (state S.Store conn.new) }
     ensures served { Served (content_of (state S.Store conn.new)) result
         (λ world found. found ≡ get world.answers key.now) }
+    ensures whole { HasCleanDisk (state S.Store conn.new) → IfOk result (λ _.
+        AreRecords answer_in answer_text
+        (Text key.now.entrant ∷ Text key.now.round ∷ Int (pos key.now.number) ∷ Text key.now.token ∷ [])
+        (state S.Store conn.old) (state S.Store conn.new)) }
 {
     let rows = ask(
         conn,
@@ -62,6 +70,9 @@ pub(crate) fn answers_of<S: Alter>(
     ensures rested { Rested (state S.Store conn.old) (state S.Store conn.new) }
     ensures served { Served (content_of (state S.Store conn.new)) result
         (λ world rows. IsListing world (is_of entrant.now round.now) rows.items) }
+    ensures whole { HasCleanDisk (state S.Store conn.new) → IfOk result (λ _.
+        AreRecords answer_in answers_of_text (Text entrant.now ∷ Text round.now ∷ []) (state S.Store conn.old)
+        (state S.Store conn.new)) }
 {
     let _schema = conn.schema();
     let rows = ask(conn, ANSWERS_OF, params![entrant.as_str(), round.as_str()])?;
@@ -82,6 +93,9 @@ pub(crate) fn answers_in<S: Alter>(
     ensures rested { Rested (state S.Store conn.old) (state S.Store conn.new) }
     ensures served { Served (content_of (state S.Store conn.new)) result
         (λ world rows. IsListing world (is_in round.now) rows.items) }
+    ensures whole { HasCleanDisk (state S.Store conn.new) → IfOk result (λ _.
+        AreRecords answer_in answers_in_text (Text round.now ∷ []) (state S.Store conn.old)
+        (state S.Store conn.new)) }
 {
     let _schema = conn.schema();
     let rows = ask(conn, ANSWERS_IN, params![round.as_str()])?;
@@ -104,6 +118,10 @@ pub(crate) fn answers_given<S: Alter>(
     ensures rested { Rested (state S.Store conn.old) (state S.Store conn.new) }
     ensures served { Served (content_of (state S.Store conn.new)) result
         (λ world count. count ≡ answers_given world entrant.now round.now number) }
+    ensures whole { HasCleanDisk (state S.Store conn.new) → IfOk result (λ _.
+        AreRecords answer_in answers_given_text
+        (Text entrant.now ∷ Text round.now ∷ Int (pos number) ∷ []) (state S.Store conn.old)
+        (state S.Store conn.new)) }
 {
     let _schema = conn.schema();
     let rows = ask(
@@ -131,6 +149,9 @@ pub(crate) fn is_number_taken<S: Alter>(
     ensures rested { Rested (state S.Store conn.old) (state S.Store conn.new) }
     ensures served { Served (content_of (state S.Store conn.new)) result
         (λ world taken. IsTrue taken ↔ IsNumberTaken world entrant.now round.now number n) }
+    ensures whole { HasCleanDisk (state S.Store conn.new) → IfOk result (λ _.
+        AreRecords answer_in number_taken_text (Text entrant.now ∷ Text round.now ∷ Int (pos number) ∷ Int (pos n) ∷ [])
+        (state S.Store conn.old) (state S.Store conn.new)) }
 {
     let _schema = conn.schema();
     let rows = ask(
@@ -157,6 +178,9 @@ pub(crate) fn has_answered<S: Alter>(
     ensures rested { Rested (state S.Store conn.old) (state S.Store conn.new) }
     ensures served { Served (content_of (state S.Store conn.new)) result
         (λ world found. IsTrue found ↔ HasSubmitted world entrant.now round.now) }
+    ensures whole { HasCleanDisk (state S.Store conn.new) → IfOk result (λ _.
+        AreRecords answer_in answers_of_text (Text entrant.now ∷ Text round.now ∷ []) (state S.Store conn.old)
+        (state S.Store conn.new)) }
 {
     Ok(!answers_of(conn, alloc, entrant, round)?.is_empty())
 }

@@ -9,6 +9,10 @@ ghost use Rattle.hall_store.specs.declared.change.Change.TheVariants.{Import};
 ghost use Rattle.hall_sql.specs.Columns.{roles_code};
 ghost use Rattle.hall_sql.specs.Standing.{IsHall, Rested, Wrote, content_of};
 ghost use Rattle.hall_sql.specs.Inside.{Carries, Did, Changes, Tells, AddsPerson};
+ghost use Rattle.sqlite.specs.declared.types.Value.TheVariants.{Text};
+ghost use Rattle.hall_sql.specs.Statements.{person_by_key_text, person_text};
+ghost use Rattle.hall_sql.specs.Rows.{person_in};
+ghost use Rattle.hall_sql.specs.Whole.{AreRecords};
 
 use crate::calls::{ask, ask_in, fault_of, run_in};
 use crate::record::{at_most_one, read_all};
@@ -29,6 +33,9 @@ pub(crate) fn person<S: Alter>(
     ensures rested { Rested (state S.Store conn.old) (state S.Store conn.new) }
     ensures served { Served (content_of (state S.Store conn.new)) result
         (λ world found. found ≡ get world.people name.now) }
+    ensures whole { HasCleanDisk (state S.Store conn.new) → IfOk result (λ _.
+        AreRecords person_in person_text (Text name.now ∷ []) (state S.Store conn.old)
+        (state S.Store conn.new)) }
 {
     let rows = ask(conn, PERSON, params![name.as_str()])?;
     at_most_one(read_all(alloc, &rows)?)
@@ -46,6 +53,9 @@ pub(crate) fn person_by_key<S: Alter>(
     ensures rested { Rested (state S.Store conn.old) (state S.Store conn.new) }
     ensures served { Served (content_of (state S.Store conn.new)) result
         (λ world found. IsKeyHolder world key.now found) }
+    ensures whole { HasCleanDisk (state S.Store conn.new) → IfOk result (λ _.
+        AreRecords person_in person_by_key_text (Text key.now ∷ []) (state S.Store conn.old)
+        (state S.Store conn.new)) }
 {
     let _schema = conn.schema();
     let rows = ask(conn, PERSON_BY_KEY, params![key.as_str()])?;

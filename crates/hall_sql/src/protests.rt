@@ -1,5 +1,5 @@
 //! The table of protests.
-ghost use Rattle.std.specs.Prelude.{◌≡◌, ◌↔◌, IsTrue, Ok, IfOk, IfSome, OnErr, None, Contains};
+ghost use Rattle.std.specs.Prelude.{◌≡◌, ◌↔◌, IsTrue, Ok, IfOk, IfSome, OnErr, None, Contains, [], ◌∷◌};
 ghost use Rattle.std.specs.FinMap.{get};
 ghost use Rattle.sqlite.specs.Held.{state};
 ghost use Rattle.sqlite.specs.State.{HasCleanDisk, Executes};
@@ -10,9 +10,13 @@ ghost use Rattle.hall_store.specs.Store.{Served, IsProtestOpen, Asks, protests_o
 ghost use Rattle.hall_policy.specs.declared.record.ProtestRow.{ProtestRow};
 ghost use Rattle.hall_store.specs.Change.{CanAddProtest};
 ghost use Rattle.hall_store.specs.declared.change.Change.TheVariants.{AddProtest, RuleProtest};
-ghost use Rattle.hall_sql.specs.Statements.{add_protest_text, rule_protest_text};
 ghost use Rattle.hall_sql.specs.Columns.{protest_params, ruling_code, ruling_params, IsAlone};
 ghost use Rattle.hall_sql.specs.Standing.{IsHall, Rested, Wrote, content_of, Lasts};
+ghost use Rattle.sqlite.specs.declared.types.Value.TheVariants.{Text};
+ghost use Rattle.hall_sql.specs.Statements.{add_protest_text, rule_protest_text};
+ghost use Rattle.hall_sql.specs.Statements.{protest_text, protests_in_text, protests_of_text};
+ghost use Rattle.hall_sql.specs.Rows.{protest_in};
+ghost use Rattle.hall_sql.specs.Whole.{AreRecords};
 
 use crate::calls::{ask, run};
 use crate::record::{at_most_one, read_all};
@@ -36,6 +40,10 @@ pub(crate) fn protest<S: Alter>(
         (λ world found. found ≡ get world.protests key.now) }
     ensures alone { HasCleanDisk (state S.Store conn.new) → IfOk result
         (λ found. IfSome found (IsAlone key.now (state S.Store conn.new))) }
+    ensures whole { HasCleanDisk (state S.Store conn.new) → IfOk result (λ _.
+        AreRecords protest_in protest_text
+        (Text key.now.entrant ∷ Text key.now.round ∷ Text key.now.token ∷ []) (state S.Store conn.old)
+        (state S.Store conn.new)) }
 {
     let rows = ask(
         conn,
@@ -60,6 +68,9 @@ pub(crate) fn protests_of<S: Alter>(
     ensures rested { Rested (state S.Store conn.old) (state S.Store conn.new) }
     ensures served { Served (content_of (state S.Store conn.new)) result
         (λ world rows. rows.items ≡ protests_of world entrant.now round.now) }
+    ensures whole { HasCleanDisk (state S.Store conn.new) → IfOk result (λ _.
+        AreRecords protest_in protests_of_text (Text entrant.now ∷ Text round.now ∷ []) (state S.Store conn.old)
+        (state S.Store conn.new)) }
 {
     let _schema = conn.schema();
     let rows = ask(conn, PROTESTS_OF, params![entrant.as_str(), round.as_str()])?;
@@ -77,6 +88,9 @@ pub(crate) fn protests_made<S: Alter>(
     ensures rested { Rested (state S.Store conn.old) (state S.Store conn.new) }
     ensures served { Served (content_of (state S.Store conn.new)) result
         (λ world count. count ≡ protests_made world entrant.now round.now) }
+    ensures whole { HasCleanDisk (state S.Store conn.new) → IfOk result (λ _.
+        AreRecords protest_in protests_of_text (Text entrant.now ∷ Text round.now ∷ []) (state S.Store conn.old)
+        (state S.Store conn.new)) }
 {
     Ok(protests_of(conn, alloc, entrant, round)?.len() as u64)
 }
@@ -95,6 +109,9 @@ pub(crate) fn protests_in<S: Alter>(
     ensures rested { Rested (state S.Store conn.old) (state S.Store conn.new) }
     ensures served { Served (content_of (state S.Store conn.new)) result
         (λ world rows. rows.items ≡ protests_in world round.now) }
+    ensures whole { HasCleanDisk (state S.Store conn.new) → IfOk result (λ _.
+        AreRecords protest_in protests_in_text (Text round.now ∷ []) (state S.Store conn.old)
+        (state S.Store conn.new)) }
 {
     let _schema = conn.schema();
     let rows = ask(conn, PROTESTS_IN, params![round.as_str()])?;
@@ -123,6 +140,9 @@ pub(crate) fn has_open_protest<S: Alter>(
     ensures rested { Rested (state S.Store conn.old) (state S.Store conn.new) }
     ensures served { Served (content_of (state S.Store conn.new)) result
         (λ world found. IsTrue found ↔ IsProtestOpen world round.now) }
+    ensures whole { HasCleanDisk (state S.Store conn.new) → IfOk result (λ _.
+        AreRecords protest_in protests_in_text (Text round.now ∷ []) (state S.Store conn.old)
+        (state S.Store conn.new)) }
 {
     let rows = protests_in(conn, alloc, round)?;
     Ok(is_any_open(&rows))

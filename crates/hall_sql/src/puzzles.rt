@@ -1,5 +1,5 @@
 //! The table of puzzles.
-ghost use Rattle.std.specs.Prelude.{◌≡◌, IsTrue, Ok, IfOk, OnErr};
+ghost use Rattle.std.specs.Prelude.{◌≡◌, IsTrue, Ok, IfOk, OnErr, [], ◌∷◌};
 ghost use Rattle.std.specs.FinMap.{get, values};
 ghost use Rattle.sqlite.specs.Held.{state};
 ghost use Rattle.hall_store.specs.Store.{Served, puzzles_of};
@@ -10,6 +10,10 @@ ghost use Rattle.hall_policy.specs.Ranges.{IsPuzzleKey, IsState};
 ghost use Rattle.hall_store.specs.declared.change.Change.TheVariants.{PutPuzzle, SetState};
 ghost use Rattle.hall_sql.specs.Columns.{puzzle_params, HasSoMany, state_code, solution_of};
 ghost use Rattle.hall_sql.specs.Standing.{IsHall, Rested, Wrote, content_of, Lasts};
+ghost use Rattle.sqlite.specs.declared.types.Value.TheVariants.{Text};
+ghost use Rattle.hall_sql.specs.Statements.{all_puzzles_text, puzzle_text, puzzles_of_text};
+ghost use Rattle.hall_sql.specs.Rows.{puzzle_row_in};
+ghost use Rattle.hall_sql.specs.Whole.{AreRecords};
 
 use crate::calls::{ask, run};
 use crate::record::{at_most_one, read_all};
@@ -32,6 +36,9 @@ pub(crate) fn puzzle<S: Alter>(
     ensures rested { Rested (state S.Store conn.old) (state S.Store conn.new) }
     ensures served { Served (content_of (state S.Store conn.new)) result
         (λ world found. found ≡ get world.puzzles key.now) }
+    ensures whole { HasCleanDisk (state S.Store conn.new) → IfOk result (λ _.
+        AreRecords puzzle_row_in puzzle_text (Text key.now.author ∷ Text key.now.label ∷ []) (state S.Store conn.old)
+        (state S.Store conn.new)) }
 {
     let rows = ask(
         conn,
@@ -53,6 +60,9 @@ pub(crate) fn all_puzzles<S: Alter>(
     ensures rested { Rested (state S.Store conn.old) (state S.Store conn.new) }
     ensures served { Served (content_of (state S.Store conn.new)) result
         (λ world rows. rows.items ≡ values world.puzzles) }
+    ensures whole { HasCleanDisk (state S.Store conn.new) → IfOk result (λ _.
+        AreRecords puzzle_row_in all_puzzles_text [] (state S.Store conn.old)
+        (state S.Store conn.new)) }
 {
     let _schema = conn.schema();
     let rows = ask(conn, ALL_PUZZLES, &[])?;
@@ -73,6 +83,9 @@ pub(crate) fn puzzles_of<S: Alter>(
     ensures rested { Rested (state S.Store conn.old) (state S.Store conn.new) }
     ensures served { Served (content_of (state S.Store conn.new)) result
         (λ world rows. rows.items ≡ puzzles_of world author.now) }
+    ensures whole { HasCleanDisk (state S.Store conn.new) → IfOk result (λ _.
+        AreRecords puzzle_row_in puzzles_of_text (Text author.now ∷ []) (state S.Store conn.old)
+        (state S.Store conn.new)) }
 {
     let _schema = conn.schema();
     let rows = ask(conn, PUZZLES_OF, params![author.as_str()])?;
@@ -89,6 +102,9 @@ pub(crate) fn puzzles_put<S: Alter>(
     ensures rested { Rested (state S.Store conn.old) (state S.Store conn.new) }
     ensures served { Served (content_of (state S.Store conn.new)) result
         (λ world count. count ≡ puzzles_put world author.now) }
+    ensures whole { HasCleanDisk (state S.Store conn.new) → IfOk result (λ _.
+        AreRecords puzzle_row_in puzzles_of_text (Text author.now ∷ []) (state S.Store conn.old)
+        (state S.Store conn.new)) }
 {
     Ok(puzzles_of(conn, alloc, author)?.len() as u64)
 }

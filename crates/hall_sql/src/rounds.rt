@@ -1,13 +1,17 @@
 //! The table of rounds.
 ghost use Rattle.std.specs.Prelude.{◌≡◌, ◌++◌, ◌∷◌, [], ℕ, List, length, map, suc, IfOk, IfSome, OnOk};
 ghost use Rattle.std.specs.FinMap.{get, values};
-ghost use Rattle.sqlite.specs.Held.{state};
+ghost use Rattle.sqlite.specs.Held.{Held, state};
 ghost use Rattle.sqlite.specs.State.{HasCleanDisk};
 ghost use Rattle.hall_policy.specs.World.{World};
 ghost use Rattle.hall_store.specs.Store.{Served, AreUsing, IsRoundKept};
 ghost use Rattle.hall_sql.specs.Places.{has_puzzle, is_in_round, ArePlaces, AreListed, AreNumbered};
 ghost use Rattle.hall_sql.specs.RoundColumns.{IsHead};
 ghost use Rattle.hall_sql.specs.Standing.{IsHall, Rested, content_of};
+ghost use Rattle.sqlite.specs.declared.types.Value.TheVariants.{Text};
+ghost use Rattle.hall_sql.specs.Statements.{all_rounds_text, head_text, places_of_text, places_with_text};
+ghost use Rattle.hall_sql.specs.Rows.{place_in, round_in};
+ghost use Rattle.hall_sql.specs.Whole.{AreRecords};
 
 use crate::calls::ask;
 use crate::record::{Place, at_most_one, read_all};
@@ -29,6 +33,9 @@ pub(crate) fn rounds<S: Alter>(
     ensures rested { Rested (state S.Store conn.old) (state S.Store conn.new) }
     ensures served { Served (content_of (state S.Store conn.new)) result
         (λ world rounds. rounds.items ≡ values world.rounds) }
+    ensures whole { HasCleanDisk (state S.Store conn.new) → IfOk result (λ _.
+        AreRecords round_in all_rounds_text [] (state S.Store conn.old)
+        (state S.Store conn.new)) }
 {
     let _schema = conn.schema();
     let rows = ask(conn, ROUNDS, &[])?;
@@ -48,6 +55,9 @@ fn places_with<S: Alter>(
     ensures rested { Rested (state S.Store conn.old) (state S.Store conn.new) }
     ensures served { Served (content_of (state S.Store conn.new)) result
         (λ world places. ArePlaces world (has_puzzle key.now) places.items) }
+    ensures whole { HasCleanDisk (state S.Store conn.new) → IfOk result (λ _.
+        AreRecords place_in places_with_text (Text key.now.author ∷ Text key.now.label ∷ []) (state S.Store conn.old)
+        (state S.Store conn.new)) }
 {
     let _schema = conn.schema();
     let rows = ask(
@@ -81,6 +91,9 @@ pub(crate) fn rounds_using<S: Alter>(
     ensures rested { Rested (state S.Store conn.old) (state S.Store conn.new) }
     ensures served { Served (content_of (state S.Store conn.new)) result
         (λ world ids. AreUsing world key.now ids.items) }
+    ensures whole { HasCleanDisk (state S.Store conn.new) → IfOk result (λ _.
+        AreRecords place_in places_with_text (Text key.now.author ∷ Text key.now.label ∷ []) (state S.Store conn.old)
+        (state S.Store conn.new)) }
 {
     let places = places_with(conn, alloc, key)?;
     rounds_of(alloc, places)
@@ -102,6 +115,9 @@ pub(crate) fn head<S: Alter>(
         (λ world found. found ≡ get world.rounds id.now) }
     ensures alone { HasCleanDisk (state S.Store conn.new) → IfOk result
         (λ found. IfSome found (IsHead id.now (state S.Store conn.new))) }
+    ensures whole { HasCleanDisk (state S.Store conn.new) → IfOk result (λ _.
+        AreRecords round_in head_text (Text id.now ∷ []) (state S.Store conn.old)
+        (state S.Store conn.new)) }
 {
     let rows = ask(conn, HEAD, params![id.as_str()])?;
     at_most_one(read_all(alloc, &rows)?)
@@ -120,6 +136,9 @@ fn places_of<S: Alter>(
     ensures rested { Rested (state S.Store conn.old) (state S.Store conn.new) }
     ensures served { Served (content_of (state S.Store conn.new)) result
         (λ world places. AreListed world id.now places.items) }
+    ensures whole { HasCleanDisk (state S.Store conn.new) → IfOk result (λ _.
+        AreRecords place_in places_of_text (Text id.now ∷ []) (state S.Store conn.old)
+        (state S.Store conn.new)) }
 {
     let _schema = conn.schema();
     let rows = ask(conn, PLACES_OF, params![id.as_str()])?;
@@ -182,6 +201,9 @@ pub(crate) fn round<S: Alter>(
     ensures rested { Rested (state S.Store conn.old) (state S.Store conn.new) }
     ensures served { Served (content_of (state S.Store conn.new)) result
         (λ world found. IsRoundKept world id.now found) }
+    ensures whole { HasCleanDisk (state S.Store conn.new) → IfOk result (λ _. (mid : Held S)
+        × AreRecords round_in head_text (Text id.now ∷ []) (state S.Store conn.old) (state S.Store mid)
+        × AreRecords place_in places_of_text (Text id.now ∷ []) (state S.Store mid) (state S.Store conn.new)) }
 {
     let head = head(conn, alloc, id)?;
     let places = places_of(conn, alloc, id)?;

@@ -56,18 +56,50 @@ impl<S: Alter + Drop> SqlStore<S> {
 }
 
 impl<S: Alter + Drop> Store for SqlStore<S> {
-    ghost use Rattle.sqlite.specs.Held.{state};
+    ghost use Rattle.std.specs.Prelude.{◌≡◌, ◌↔◌, IsTrue, IfOk, [], ◌∷◌, pos};
+    ghost use Rattle.std.specs.FinMap.{get, values};
+    ghost use Rattle.sqlite.specs.declared.types.Value.TheVariants.{Text, Int};
+    ghost use Rattle.sqlite.specs.Held.{Held, state};
+    ghost use Rattle.sqlite.specs.State.{HasCleanDisk};
+    ghost use Rattle.hall_policy.specs.Rules.{answers_given, protests_made, puzzles_put};
+    ghost use Rattle.hall_store.specs.Caller.{IsKeyHolder};
+    ghost use Rattle.hall_store.specs.Store.{Kept, Served, Fails, puzzles_of, IsRoundKept, AreUsing, IsNumberTaken};
+    ghost use Rattle.hall_store.specs.Store.{IsListing, is_of, is_in};
+    ghost use Rattle.hall_store.specs.Store.{HasSubmitted, IsProtestOpen, protests_of, protests_in};
+    ghost use Rattle.hall_sql.specs.Rows.{person_in, puzzle_row_in, round_in, place_in, answer_in, protest_in};
+    ghost use Rattle.hall_sql.specs.Statements.{person_text, person_by_key_text, puzzle_text, all_puzzles_text};
+    ghost use Rattle.hall_sql.specs.Statements.{puzzles_of_text, head_text, all_rounds_text, places_of_text};
+    ghost use Rattle.hall_sql.specs.Statements.{places_with_text, answer_text, answers_given_text, number_taken_text};
+    ghost use Rattle.hall_sql.specs.Statements.{answers_of_text, answers_in_text, protest_text, protests_of_text};
+    ghost use Rattle.hall_sql.specs.Statements.{protests_in_text};
+    ghost use Rattle.hall_sql.specs.Whole.{AreRecords};
     ghost use Rattle.hall_sql.specs.Standing.{content_of};
 
     ghost content = { λ s. content_of (state S.Store s) };
 
     ghost can_fail = { Unit {0} };
 
-    fn person_by_key(&mut self, alloc: Global, key: &Key) -> Result<Option<Person>, StoreFault> {
+    fn person_by_key(&mut self, alloc: Global, key: &Key) -> Result<Option<Person>, StoreFault>
+        ensures kept { Kept (content_of (state S.Store self.old)) (content_of (state S.Store self.new)) }
+        ensures served { Served (content_of (state S.Store self.new)) result
+            (λ world found. IsKeyHolder world key.now found) }
+        ensures fault { Fails (Unit {0}) result }
+        ensures whole { HasCleanDisk (state S.Store self.new) → IfOk result (λ _.
+            AreRecords person_in person_by_key_text (Text key.now ∷ []) (state S.Store self.old)
+            (state S.Store self.new)) }
+    {
         person_by_key(&mut self.conn, alloc, key)
     }
 
-    fn person(&mut self, alloc: Global, name: &Name) -> Result<Option<Person>, StoreFault> {
+    fn person(&mut self, alloc: Global, name: &Name) -> Result<Option<Person>, StoreFault>
+        ensures kept { Kept (content_of (state S.Store self.old)) (content_of (state S.Store self.new)) }
+        ensures served { Served (content_of (state S.Store self.new)) result
+            (λ world found. found ≡ get world.people name.now) }
+        ensures fault { Fails (Unit {0}) result }
+        ensures whole { HasCleanDisk (state S.Store self.new) → IfOk result (λ _.
+            AreRecords person_in person_text (Text name.now ∷ []) (state S.Store self.old)
+            (state S.Store self.new)) }
+    {
         person(&mut self.conn, alloc, name)
     }
 
@@ -75,19 +107,52 @@ impl<S: Alter + Drop> Store for SqlStore<S> {
         import(&mut self.conn, alloc, people)
     }
 
-    fn puzzle(&mut self, alloc: Global, key: &PuzzleKey) -> Result<Option<PuzzleRow>, StoreFault> {
+    fn puzzle(&mut self, alloc: Global, key: &PuzzleKey) -> Result<Option<PuzzleRow>, StoreFault>
+        ensures kept { Kept (content_of (state S.Store self.old)) (content_of (state S.Store self.new)) }
+        ensures served { Served (content_of (state S.Store self.new)) result
+            (λ world found. found ≡ get world.puzzles key.now) }
+        ensures fault { Fails (Unit {0}) result }
+        ensures whole { HasCleanDisk (state S.Store self.new) → IfOk result (λ _.
+            AreRecords puzzle_row_in puzzle_text
+            (Text key.now.author ∷ Text key.now.label ∷ []) (state S.Store self.old)
+            (state S.Store self.new)) }
+    {
         puzzle(&mut self.conn, alloc, key)
     }
 
-    fn puzzles_of(&mut self, alloc: Global, author: &Name) -> Result<Vec<PuzzleRow>, StoreFault> {
+    fn puzzles_of(&mut self, alloc: Global, author: &Name) -> Result<Vec<PuzzleRow>, StoreFault>
+        ensures kept { Kept (content_of (state S.Store self.old)) (content_of (state S.Store self.new)) }
+        ensures served { Served (content_of (state S.Store self.new)) result
+            (λ world rows. rows.items ≡ puzzles_of world author.now) }
+        ensures fault { Fails (Unit {0}) result }
+        ensures whole { HasCleanDisk (state S.Store self.new) → IfOk result (λ _.
+            AreRecords puzzle_row_in puzzles_of_text (Text author.now ∷ []) (state S.Store self.old)
+            (state S.Store self.new)) }
+    {
         puzzles_of(&mut self.conn, alloc, author)
     }
 
-    fn all_puzzles(&mut self, alloc: Global) -> Result<Vec<PuzzleRow>, StoreFault> {
+    fn all_puzzles(&mut self, alloc: Global) -> Result<Vec<PuzzleRow>, StoreFault>
+        ensures kept { Kept (content_of (state S.Store self.old)) (content_of (state S.Store self.new)) }
+        ensures served { Served (content_of (state S.Store self.new)) result
+            (λ world rows. rows.items ≡ values world.puzzles) }
+        ensures fault { Fails (Unit {0}) result }
+        ensures whole { HasCleanDisk (state S.Store self.new) → IfOk result (λ _.
+            AreRecords puzzle_row_in all_puzzles_text [] (state S.Store self.old)
+            (state S.Store self.new)) }
+    {
         all_puzzles(&mut self.conn, alloc)
     }
 
-    fn puzzles_put(&mut self, alloc: Global, author: &Name) -> Result<u64, StoreFault> {
+    fn puzzles_put(&mut self, alloc: Global, author: &Name) -> Result<u64, StoreFault>
+        ensures kept { Kept (content_of (state S.Store self.old)) (content_of (state S.Store self.new)) }
+        ensures served { Served (content_of (state S.Store self.new)) result
+            (λ world count. count ≡ puzzles_put world author.now) }
+        ensures fault { Fails (Unit {0}) result }
+        ensures whole { HasCleanDisk (state S.Store self.new) → IfOk result (λ _.
+            AreRecords puzzle_row_in puzzles_of_text (Text author.now ∷ []) (state S.Store self.old)
+            (state S.Store self.new)) }
+    {
         puzzles_put(&mut self.conn, alloc, author)
     }
 
@@ -104,11 +169,27 @@ impl<S: Alter + Drop> Store for SqlStore<S> {
         set_state(&mut self.conn, alloc, key, state)
     }
 
-    fn round(&mut self, alloc: Global, id: &RoundId) -> Result<Option<RoundRow>, StoreFault> {
+    fn round(&mut self, alloc: Global, id: &RoundId) -> Result<Option<RoundRow>, StoreFault>
+        ensures kept { Kept (content_of (state S.Store self.old)) (content_of (state S.Store self.new)) }
+        ensures served { Served (content_of (state S.Store self.new)) result
+            (λ world found. IsRoundKept world id.now found) }
+        ensures fault { Fails (Unit {0}) result }
+        ensures whole { HasCleanDisk (state S.Store self.new) → IfOk result (λ _. (mid : Held S)
+            × AreRecords round_in head_text (Text id.now ∷ []) (state S.Store self.old) (state S.Store mid)
+            × AreRecords place_in places_of_text (Text id.now ∷ []) (state S.Store mid) (state S.Store self.new)) }
+    {
         round(&mut self.conn, alloc, id)
     }
 
-    fn rounds(&mut self, alloc: Global) -> Result<Vec<Round>, StoreFault> {
+    fn rounds(&mut self, alloc: Global) -> Result<Vec<Round>, StoreFault>
+        ensures kept { Kept (content_of (state S.Store self.old)) (content_of (state S.Store self.new)) }
+        ensures served { Served (content_of (state S.Store self.new)) result
+            (λ world rounds. rounds.items ≡ values world.rounds) }
+        ensures fault { Fails (Unit {0}) result }
+        ensures whole { HasCleanDisk (state S.Store self.new) → IfOk result (λ _.
+            AreRecords round_in all_rounds_text [] (state S.Store self.old)
+            (state S.Store self.new)) }
+    {
         rounds(&mut self.conn, alloc)
     }
 
@@ -125,11 +206,29 @@ impl<S: Alter + Drop> Store for SqlStore<S> {
         set_round_flag(&mut self.conn, alloc, id, flag)
     }
 
-    fn rounds_using(&mut self, alloc: Global, key: &PuzzleKey) -> Result<Vec<RoundId>, StoreFault> {
+    fn rounds_using(&mut self, alloc: Global, key: &PuzzleKey) -> Result<Vec<RoundId>, StoreFault>
+        ensures kept { Kept (content_of (state S.Store self.old)) (content_of (state S.Store self.new)) }
+        ensures served { Served (content_of (state S.Store self.new)) result
+            (λ world ids. AreUsing world key.now ids.items) }
+        ensures fault { Fails (Unit {0}) result }
+        ensures whole { HasCleanDisk (state S.Store self.new) → IfOk result (λ _.
+            AreRecords place_in places_with_text
+            (Text key.now.author ∷ Text key.now.label ∷ []) (state S.Store self.old)
+            (state S.Store self.new)) }
+    {
         rounds_using(&mut self.conn, alloc, key)
     }
 
-    fn answer(&mut self, alloc: Global, key: &AnswerKey) -> Result<Option<AnswerRow>, StoreFault> {
+    fn answer(&mut self, alloc: Global, key: &AnswerKey) -> Result<Option<AnswerRow>, StoreFault>
+        ensures kept { Kept (content_of (state S.Store self.old)) (content_of (state S.Store self.new)) }
+        ensures served { Served (content_of (state S.Store self.new)) result
+            (λ world found. found ≡ get world.answers key.now) }
+        ensures fault { Fails (Unit {0}) result }
+        ensures whole { HasCleanDisk (state S.Store self.new) → IfOk result (λ _.
+            AreRecords answer_in answer_text
+            (Text key.now.entrant ∷ Text key.now.round ∷ Int (pos key.now.number) ∷ Text key.now.token ∷ [])
+            (state S.Store self.old) (state S.Store self.new)) }
+    {
         answer(&mut self.conn, alloc, key)
     }
 
@@ -139,7 +238,16 @@ impl<S: Alter + Drop> Store for SqlStore<S> {
         entrant: &Name,
         round: &RoundId,
         number: PuzzleNumber,
-    ) -> Result<u64, StoreFault> {
+    ) -> Result<u64, StoreFault>
+        ensures kept { Kept (content_of (state S.Store self.old)) (content_of (state S.Store self.new)) }
+        ensures served { Served (content_of (state S.Store self.new)) result
+            (λ world count. count ≡ answers_given world entrant.now round.now number) }
+        ensures fault { Fails (Unit {0}) result }
+        ensures whole { HasCleanDisk (state S.Store self.new) → IfOk result (λ _.
+            AreRecords answer_in answers_given_text
+            (Text entrant.now ∷ Text round.now ∷ Int (pos number) ∷ []) (state S.Store self.old)
+            (state S.Store self.new)) }
+    {
         answers_given(&mut self.conn, alloc, entrant, round, number)
     }
 
@@ -150,7 +258,16 @@ impl<S: Alter + Drop> Store for SqlStore<S> {
         round: &RoundId,
         number: PuzzleNumber,
         n: AnswerNumber,
-    ) -> Result<bool, StoreFault> {
+    ) -> Result<bool, StoreFault>
+        ensures kept { Kept (content_of (state S.Store self.old)) (content_of (state S.Store self.new)) }
+        ensures served { Served (content_of (state S.Store self.new)) result
+            (λ world taken. IsTrue taken ↔ IsNumberTaken world entrant.now round.now number n) }
+        ensures fault { Fails (Unit {0}) result }
+        ensures whole { HasCleanDisk (state S.Store self.new) → IfOk result (λ _.
+            AreRecords answer_in number_taken_text
+            (Text entrant.now ∷ Text round.now ∷ Int (pos number) ∷ Int (pos n) ∷ [])
+            (state S.Store self.old) (state S.Store self.new)) }
+    {
         is_number_taken(&mut self.conn, alloc, entrant, round, number, n)
     }
 
@@ -159,11 +276,27 @@ impl<S: Alter + Drop> Store for SqlStore<S> {
         alloc: Global,
         entrant: &Name,
         round: &RoundId,
-    ) -> Result<Vec<AnswerRow>, StoreFault> {
+    ) -> Result<Vec<AnswerRow>, StoreFault>
+        ensures kept { Kept (content_of (state S.Store self.old)) (content_of (state S.Store self.new)) }
+        ensures served { Served (content_of (state S.Store self.new)) result
+            (λ world rows. IsListing world (is_of entrant.now round.now) rows.items) }
+        ensures fault { Fails (Unit {0}) result }
+        ensures whole { HasCleanDisk (state S.Store self.new) → IfOk result (λ _.
+            AreRecords answer_in answers_of_text (Text entrant.now ∷ Text round.now ∷ []) (state S.Store self.old)
+            (state S.Store self.new)) }
+    {
         answers_of(&mut self.conn, alloc, entrant, round)
     }
 
-    fn answers_in(&mut self, alloc: Global, round: &RoundId) -> Result<Vec<AnswerRow>, StoreFault> {
+    fn answers_in(&mut self, alloc: Global, round: &RoundId) -> Result<Vec<AnswerRow>, StoreFault>
+        ensures kept { Kept (content_of (state S.Store self.old)) (content_of (state S.Store self.new)) }
+        ensures served { Served (content_of (state S.Store self.new)) result
+            (λ world rows. IsListing world (is_in round.now) rows.items) }
+        ensures fault { Fails (Unit {0}) result }
+        ensures whole { HasCleanDisk (state S.Store self.new) → IfOk result (λ _.
+            AreRecords answer_in answers_in_text (Text round.now ∷ []) (state S.Store self.old)
+            (state S.Store self.new)) }
+    {
         answers_in(&mut self.conn, alloc, round)
     }
 
@@ -185,15 +318,28 @@ impl<S: Alter + Drop> Store for SqlStore<S> {
         alloc: Global,
         entrant: &Name,
         round: &RoundId,
-    ) -> Result<bool, StoreFault> {
+    ) -> Result<bool, StoreFault>
+        ensures kept { Kept (content_of (state S.Store self.old)) (content_of (state S.Store self.new)) }
+        ensures served { Served (content_of (state S.Store self.new)) result
+            (λ world found. IsTrue found ↔ HasSubmitted world entrant.now round.now) }
+        ensures fault { Fails (Unit {0}) result }
+        ensures whole { HasCleanDisk (state S.Store self.new) → IfOk result (λ _.
+            AreRecords answer_in answers_of_text (Text entrant.now ∷ Text round.now ∷ []) (state S.Store self.old)
+            (state S.Store self.new)) }
+    {
         has_answered(&mut self.conn, alloc, entrant, round)
     }
 
-    fn protest(
-        &mut self,
-        alloc: Global,
-        key: &ProtestKey,
-    ) -> Result<Option<ProtestRow>, StoreFault> {
+    fn protest(&mut self, alloc: Global, key: &ProtestKey) -> Result<Option<ProtestRow>, StoreFault>
+        ensures kept { Kept (content_of (state S.Store self.old)) (content_of (state S.Store self.new)) }
+        ensures served { Served (content_of (state S.Store self.new)) result
+            (λ world found. found ≡ get world.protests key.now) }
+        ensures fault { Fails (Unit {0}) result }
+        ensures whole { HasCleanDisk (state S.Store self.new) → IfOk result (λ _.
+            AreRecords protest_in protest_text
+            (Text key.now.entrant ∷ Text key.now.round ∷ Text key.now.token ∷ []) (state S.Store self.old)
+            (state S.Store self.new)) }
+    {
         protest(&mut self.conn, alloc, key)
     }
 
@@ -202,11 +348,27 @@ impl<S: Alter + Drop> Store for SqlStore<S> {
         alloc: Global,
         entrant: &Name,
         round: &RoundId,
-    ) -> Result<u64, StoreFault> {
+    ) -> Result<u64, StoreFault>
+        ensures kept { Kept (content_of (state S.Store self.old)) (content_of (state S.Store self.new)) }
+        ensures served { Served (content_of (state S.Store self.new)) result
+            (λ world count. count ≡ protests_made world entrant.now round.now) }
+        ensures fault { Fails (Unit {0}) result }
+        ensures whole { HasCleanDisk (state S.Store self.new) → IfOk result (λ _.
+            AreRecords protest_in protests_of_text (Text entrant.now ∷ Text round.now ∷ []) (state S.Store self.old)
+            (state S.Store self.new)) }
+    {
         protests_made(&mut self.conn, alloc, entrant, round)
     }
 
-    fn has_open_protest(&mut self, alloc: Global, round: &RoundId) -> Result<bool, StoreFault> {
+    fn has_open_protest(&mut self, alloc: Global, round: &RoundId) -> Result<bool, StoreFault>
+        ensures kept { Kept (content_of (state S.Store self.old)) (content_of (state S.Store self.new)) }
+        ensures served { Served (content_of (state S.Store self.new)) result
+            (λ world found. IsTrue found ↔ IsProtestOpen world round.now) }
+        ensures fault { Fails (Unit {0}) result }
+        ensures whole { HasCleanDisk (state S.Store self.new) → IfOk result (λ _.
+            AreRecords protest_in protests_in_text (Text round.now ∷ []) (state S.Store self.old)
+            (state S.Store self.new)) }
+    {
         has_open_protest(&mut self.conn, alloc, round)
     }
 
@@ -215,15 +377,27 @@ impl<S: Alter + Drop> Store for SqlStore<S> {
         alloc: Global,
         entrant: &Name,
         round: &RoundId,
-    ) -> Result<Vec<ProtestRow>, StoreFault> {
+    ) -> Result<Vec<ProtestRow>, StoreFault>
+        ensures kept { Kept (content_of (state S.Store self.old)) (content_of (state S.Store self.new)) }
+        ensures served { Served (content_of (state S.Store self.new)) result
+            (λ world rows. rows.items ≡ protests_of world entrant.now round.now) }
+        ensures fault { Fails (Unit {0}) result }
+        ensures whole { HasCleanDisk (state S.Store self.new) → IfOk result (λ _.
+            AreRecords protest_in protests_of_text (Text entrant.now ∷ Text round.now ∷ []) (state S.Store self.old)
+            (state S.Store self.new)) }
+    {
         protests_of(&mut self.conn, alloc, entrant, round)
     }
 
-    fn protests_in(
-        &mut self,
-        alloc: Global,
-        round: &RoundId,
-    ) -> Result<Vec<ProtestRow>, StoreFault> {
+    fn protests_in(&mut self, alloc: Global, round: &RoundId) -> Result<Vec<ProtestRow>, StoreFault>
+        ensures kept { Kept (content_of (state S.Store self.old)) (content_of (state S.Store self.new)) }
+        ensures served { Served (content_of (state S.Store self.new)) result
+            (λ world rows. rows.items ≡ protests_in world round.now) }
+        ensures fault { Fails (Unit {0}) result }
+        ensures whole { HasCleanDisk (state S.Store self.new) → IfOk result (λ _.
+            AreRecords protest_in protests_in_text (Text round.now ∷ []) (state S.Store self.old)
+            (state S.Store self.new)) }
+    {
         protests_in(&mut self.conn, alloc, round)
     }
 

@@ -1,8 +1,11 @@
-use Rattle.std.proofs.Common.{◌∙◌}
+use Rattle.hall_sql.specs.Statements.{person_text}
+use Rattle.hall_sql.specs.Rows.{person_in}
+use Rattle.sqlite.specs.declared.types.Value.TheVariants.{Text}
+use Rattle.std.proofs.Common.{◌∙◌, [], ◌∷◌}
 use Rattle.sqlite.specs.Held.{state}
 use Rattle.hall_sql.proofs.PeopleTexts.{person_is}
 use Rattle.hall_sql.proofs.PeopleLemmas.{person_found}
-use Rattle.hall_sql.proofs.StoreLemmas.{told}
+use Rattle.hall_sql.proofs.StoreLemmas.{told, read_whole, always}
 use Rattle.hall_sql.proofs.people.person.Goals as goal
 
 pub ask-requires-clause-plain : goal.ask-requires-clause-plain
@@ -14,3 +17,8 @@ returns-clause-served g c =
     c.in_ok-rows.ensures.serves c.at_most_one.ensures
     (λ o h clean opened has keyed. h.1 ∙ person_found c.args.name.now _ (state g.S.Store c.ask.new.conn) c.in_ok-rows.rows.items c.in_ok-read_all.field-0.items has
     (rw (c.params-to_sql.ensures, c.as_str.ensures.text) at (c.in_ok-rows.ensures.shown clean)) (rw c.deref.ensures.value at c.in_ok-read_all.ensures) h.0)
+
+pub returns-clause-whole : goal.returns-clause-whole
+returns-clause-whole g c clean =
+    always c.at_most_one.result _ (read_whole person_in person_text (Text c.args.name.now ∷ []) (state g.S.Store c.args.conn.now) (state g.S.Store c.ask.new.conn) c.in_ok-rows.rows.items c.in_ok-read_all.field-0.items
+    (rw c.deref.ensures.value at c.in_ok-read_all.ensures) (rw (c.params-to_sql.ensures, c.as_str.ensures.text) at (c.in_ok-rows.ensures.shown clean)))

@@ -1,4 +1,7 @@
-use Rattle.std.proofs.Common.{arith, ◌≡◌, ◌∙◌, sym, ap, subst, filter, IfSome}
+use Rattle.hall_sql.specs.Statements.{protest_text}
+use Rattle.hall_sql.specs.Rows.{protest_in}
+use Rattle.sqlite.specs.declared.types.Value.TheVariants.{Text}
+use Rattle.std.proofs.Common.{arith, ◌≡◌, ◌∙◌, sym, ap, subst, filter, IfSome, [], ◌∷◌}
 use Rattle.std.proofs.lemmas.Option.{IfSome_then}
 use Rattle.std.proofs.lemmas.Result.{IfOk-weaker}
 use Rattle.sqlite.specs.Effect.{Database}
@@ -8,7 +11,7 @@ use Rattle.hall_sql.specs.Columns.{is_protest_under, IsAlone}
 use Rattle.hall_sql.specs.Tables.{hall_schema}
 use Rattle.hall_sql.proofs.ProtestTexts.{protest_is}
 use Rattle.hall_sql.proofs.ProtestLemmas.{protest_found, protest_alone}
-use Rattle.hall_sql.proofs.StoreLemmas.{told}
+use Rattle.hall_sql.proofs.StoreLemmas.{told, read_whole, always}
 use Rattle.hall_sql.proofs.protests.protest.Goals as goal
 
 pub ask-requires-clause-plain : goal.ask-requires-clause-plain
@@ -37,3 +40,8 @@ returns-clause-alone g c clean =
       found = ap (λ (d : Database). filter (is_protest_under c.args.key.now) (d.trees 12)) (rested.same clean opens) ∙ it.found;
       reads = it.reads;
     })) c.at_most_one.ensures
+
+pub returns-clause-whole : goal.returns-clause-whole
+returns-clause-whole g c clean =
+    always c.at_most_one.result _ (read_whole protest_in protest_text (Text c.args.key.now.entrant ∷ Text c.args.key.now.round ∷ Text c.args.key.now.token ∷ []) (state g.S.Store c.args.conn.now) (state g.S.Store c.ask.new.conn) c.in_ok-rows.rows.items c.in_ok-read_all.field-0.items
+    (rw c.deref.ensures.value at c.in_ok-read_all.ensures) (rw (c.params-to_sql.ensures, c.params-to_sql-2.ensures, c.params-to_sql-3.ensures, c.as_str.ensures.text, c.as_str-2.ensures.text, c.as_str-3.ensures.text) at (c.in_ok-rows.ensures.shown clean)))

@@ -1,7 +1,11 @@
+use Rattle.std.proofs.Common.{[]}
+use Rattle.hall_sql.specs.Statements.{all_puzzles_text}
+use Rattle.hall_sql.specs.Rows.{puzzle_row_in}
+use Rattle.std.proofs.lemmas.Result.{IfOk-weaker}
 use Rattle.sqlite.specs.Held.{state}
 use Rattle.hall_sql.proofs.PuzzleTexts.{all_puzzles_is}
 use Rattle.hall_sql.proofs.PuzzleListings.{all_puzzles_listed}
-use Rattle.hall_sql.proofs.StoreLemmas.{told}
+use Rattle.hall_sql.proofs.StoreLemmas.{told, read_whole}
 use Rattle.hall_sql.proofs.puzzles.all_puzzles.Goals as goal
 
 pub ask-requires-clause-plain : goal.ask-requires-clause-plain
@@ -14,3 +18,8 @@ returns-clause-served g c =
     (λ out h clean opened has keyed. all_puzzles_listed _ (state g.S.Store c.ask.new.conn) has keyed.1.0 (c.schema-schema.ensures.live opened).0
     c.in_ok-rows.rows.items out.items (rw c.deref.ensures.value at h)
     (c.in_ok-rows.ensures.shown clean))
+
+pub returns-clause-whole : goal.returns-clause-whole
+returns-clause-whole g c clean =
+    IfOk-weaker c.read_all.result _ _ (λ out h. read_whole puzzle_row_in all_puzzles_text [] (state g.S.Store c.args.conn.now) (state g.S.Store c.ask.new.conn) c.in_ok-rows.rows.items out.items
+    (rw c.deref.ensures.value at h) (c.in_ok-rows.ensures.shown clean)) c.read_all.ensures

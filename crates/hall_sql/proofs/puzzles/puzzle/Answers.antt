@@ -1,8 +1,11 @@
-use Rattle.std.proofs.Common.{◌∙◌}
+use Rattle.hall_sql.specs.Statements.{puzzle_text}
+use Rattle.hall_sql.specs.Rows.{puzzle_row_in}
+use Rattle.sqlite.specs.declared.types.Value.TheVariants.{Text}
+use Rattle.std.proofs.Common.{◌∙◌, [], ◌∷◌}
 use Rattle.sqlite.specs.Held.{state}
 use Rattle.hall_sql.proofs.PuzzleTexts.{puzzle_is}
 use Rattle.hall_sql.proofs.PuzzleLemmas.{puzzle_found}
-use Rattle.hall_sql.proofs.StoreLemmas.{told}
+use Rattle.hall_sql.proofs.StoreLemmas.{told, read_whole, always}
 use Rattle.hall_sql.proofs.puzzles.puzzle.Goals as goal
 
 pub ask-requires-clause-plain : goal.ask-requires-clause-plain
@@ -14,3 +17,8 @@ returns-clause-served g c =
     c.in_ok-rows.ensures.serves c.at_most_one.ensures
     (λ o h clean opened has keyed. h.1 ∙ puzzle_found c.args.key.now _ (state g.S.Store c.ask.new.conn) c.in_ok-rows.rows.items c.in_ok-read_all.field-0.items has
     (rw (c.params-to_sql.ensures, c.params-to_sql-2.ensures, c.as_str.ensures.text, c.as_str-2.ensures.text) at (c.in_ok-rows.ensures.shown clean)) (rw c.deref.ensures.value at c.in_ok-read_all.ensures) h.0)
+
+pub returns-clause-whole : goal.returns-clause-whole
+returns-clause-whole g c clean =
+    always c.at_most_one.result _ (read_whole puzzle_row_in puzzle_text (Text c.args.key.now.author ∷ Text c.args.key.now.label ∷ []) (state g.S.Store c.args.conn.now) (state g.S.Store c.ask.new.conn) c.in_ok-rows.rows.items c.in_ok-read_all.field-0.items
+    (rw c.deref.ensures.value at c.in_ok-read_all.ensures) (rw (c.params-to_sql.ensures, c.params-to_sql-2.ensures, c.as_str.ensures.text, c.as_str-2.ensures.text) at (c.in_ok-rows.ensures.shown clean)))

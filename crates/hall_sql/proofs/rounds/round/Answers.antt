@@ -4,7 +4,7 @@ use Rattle.sqlite.specs.Effect.{Database}
 use Rattle.sqlite.specs.Held.{state}
 use Rattle.sqlite.specs.State.{HasCleanDisk}
 use Rattle.hall_sql.specs.Rows.{world_of}
-use Rattle.hall_sql.proofs.StoreLemmas.{served_so}
+use Rattle.hall_sql.proofs.StoreLemmas.{always, served_so}
 use Rattle.hall_sql.proofs.rounds.round.Goals as goal
 
 pub returns-clause-served : goal.returns-clause-served
@@ -18,3 +18,8 @@ returns-clause-served g c =
     let was : HasCleanDisk mid = omega (arith, rested.follows.lasts.clean, clean) in
     let head = (c.in_ok-head.ensures.served was).1 ∙ ap (λ (d : Database). get (world_of d.trees).rounds c.args.id.now) (sym (rested.same clean places.0)) in
     c.row_of.ensures (world_of new.now.trees) c.args.id.now head places.1.whole)
+
+pub returns-clause-whole : goal.returns-clause-whole
+returns-clause-whole g c clean =
+    let was : HasCleanDisk (state g.S.Store c.head.new.conn) = omega (arith, c.places_of.ensures.rested.follows.lasts.clean, clean) in
+    always c.row_of.result _ (c.head.new.conn, c.in_ok-head.ensures.whole was, c.in_ok-places.ensures.whole clean)
