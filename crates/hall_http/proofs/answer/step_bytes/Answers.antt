@@ -1,5 +1,9 @@
-use Rattle.std.proofs.Common.{refl, subst}
+use Rattle.std.proofs.Common.{◌≡◌, ◌⊎◌, ◌∙◌, inl, inr, refl, subst}
+use Rattle.std.specs.Prelude.{Result, Ok, Err, OnErr}
 use Rattle.std.specs.String.{string_bytes}
+use Rattle.hall_store.specs.Store.{Content, Made}
+use Rattle.hall_store.specs.declared.change.Change.{Change}
+use Rattle.hall_store.specs.declared.change.Change.TheVariants.{Nothing}
 use Rattle.hall_store.specs.declared.fault.StoreFault.{StoreFault}
 use Rattle.hall_desk.specs.Desk.{kept_by}
 use Rattle.hall_desk.specs.Plan.{planned_reply, planned_change}
@@ -34,3 +38,23 @@ returns-clause-leads g c =
     let old = g.S.Store.content (kept_by c.args.desk.now) in
     let mid = g.S.Store.content (kept_by c.plan.new.self) in
     leads_then old mid (g.S.Store.content (kept_by c.commit.new.self)) (kept_leads old mid c.in_ok-plan.ensures.kept) c.in_ok-_reply.ensures.leads
+
+on_err : {T E P : Type 0} (r : Result T E) → P → OnErr r P
+on_err (Ok x) holds = tt
+on_err (Err e) holds = holds
+
+-- a change that was refused left the world
+refused : (R E : Type 0) (change : Change) (old new : Content) (fault : E) → (change ≡ Nothing → ⊥)
+    → (change ≡ Nothing) ⊎ Made {R = R} change old new (Err fault) → new.honest → new.serves → new.world ≡ old.world
+refused R E change old new fault never (inl none) = absurd (never none)
+refused R E change old new fault never (inr made) = made
+
+pub returns-in_err-_reply-clause-err : goal.returns-in_err-_reply-clause-err
+returns-in_err-_reply-clause-err g c =
+    let mid = g.S.Store.content (kept_by c.plan.new.self) in
+    let new = g.S.Store.content (kept_by c.commit.new.self) in
+    let kept = c.in_ok-plan.ensures.kept in
+    let made = c.in_err-_reply.ensures in
+    on_err c.from_residual-in_err-_reply.result (λ h s.
+    refused Reply StoreFault (planned_change c.in_ok-plan.plan) mid new c.in_err-_reply.field-0.0 (λ none. let ok = (made.nothing none).0 in cc)
+    made.made h s ∙ kept.world (made.leads.honest h) (made.leads.serves h s))
