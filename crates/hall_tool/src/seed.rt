@@ -122,7 +122,8 @@ pub fn seed_run<S: Store, W: Write>(
         × WritesPart (W.contents writer.old.device) (W.contents writer.new.device) line }
     // Another fault leaves the writer as it was.
     ensures memory { IsErrOf result ToolFault.Memory → writer.new ≡ writer.old }
-    ensures store { IsErrOf result ToolFault.Store → S.can_fail × (writer.new ≡ writer.old) }
+    ensures store { IsErrOf result ToolFault.Store → writer.new ≡ writer.old }
+    ensures cause { IsErrOf result ToolFault.Store → S.can_fail }
 {
     let seeded = seed_desk(alloc, desk, list)?;
     let ending = seeded_ending(alloc, seeded)?;

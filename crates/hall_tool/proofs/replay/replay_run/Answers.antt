@@ -1,4 +1,5 @@
-use Rattle.std.proofs.Common.{◌≡◌, ℕ, inr, subst}
+use Rattle.std.proofs.Common.{◌≡◌, ◌≢◌, ℕ, arith, inl, inr, refl, subst}
+use Rattle.std.proofs.lemmas.Grind.{common_steps}
 use Rattle.std.specs.Prelude.{Result, Ok}
 use Rattle.hall_desk.specs.Desk.{kept_by}
 use Rattle.hall_desk.specs.Sane.{Sane}
@@ -25,7 +26,7 @@ returns-in-Ok-eq0-clause-run g c =
             device = seeded.device;
             part = seeded.part;
             memory = seeded.memory;
-            store = λ failed. (seeded.store failed).1;
+            store = seeded.store;
           }),
       c.replay.ensures.replayed,
       c.replay_end.ensures,
@@ -36,3 +37,21 @@ returns-in-Ok-eq0-clause-sane g c =
     then_sane Sane (g.S.Store.content (kept_by c.args.desk.now)) (g.S.Store.content (kept_by c.seed_run.new.desk))
     (g.S.Store.content (kept_by c.replay.new.desk)) c.replay.ensures.replayed.leads c.seed_run.ensures.sane
     c.replay.ensures.sane
+
+pub returns-in_default-2-clause-run : goal.returns-in_default-2-clause-run
+returns-in_default-2-clause-run g c =
+    let seeded = c.seed_run.ensures in
+    let other : c.seed_run.result ≢ Ok 0 = grind (arith, common_steps) in
+    inl (
+      record {
+        leads = seeded.leads;
+        line = seeded.line;
+        kept = seeded.kept;
+        device = seeded.device;
+        part = seeded.part;
+        memory = seeded.memory;
+        store = seeded.store;
+      },
+      other,
+      refl,
+    )
