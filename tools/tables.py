@@ -128,6 +128,10 @@ class Program:
         ran = subprocess.run([self.path, *words], cwd=self.room, input=given, capture_output=True, timeout=120)
         return ran.stdout, ran.returncode, ran.stderr
 
+    def told(self, people, records):
+        """The replies of one replay."""
+        return replies(self.ran(["replay", "--people", people], b"".join(records))[0])
+
     def replayed(self, people, asked):
         """Asks one replay all of (row, record, reply)."""
         output, status, _ = self.ran(["replay", "--people", people], b"".join(record for _, record, _ in asked))
@@ -268,7 +272,44 @@ def ask_requests(table, program):
         program.replayed(PEOPLE, [of_request(row) for row in table.before + some])
 
 
-KINDS = dict.fromkeys(["lines", "words", "replays"], ask_commands) | {"lists": ask_lists, "sheets": ask_sheets, "requests": ask_requests}
+def told_to(key, asked, told):
+    """The replies to the requests under the key."""
+    return [reply for (row, _, _), reply in zip(asked, told, strict=True) if row.cells[1] == key]
+
+
+def exchanged(row, name, first, second):
+    """The request with each of the two answers for the other, where it hands one in to the round."""
+    texts = {f'{{"answer":"{a}"}}'.encode(): f'{{"answer":"{b}"}}'.encode() for a, b in [(first, second), (second, first)]}
+    changed = Row(row.place, list(row.cells))
+    if row.cells[2].startswith(f"PUT /rounds/{name}/answers/".encode()):
+        changed.cells[3] = texts.get(row.cells[3], row.cells[3])
+    return changed
+
+
+def ask_secrecy(table, program):
+    """Rows of requests, asked as those, and then once more without what must not be learnt; a reply that tells it goes to the last row.
+    `@hides KEY OTHER`: the replies to KEY are the same bytes without OTHER's requests. `@exchanges ROUND A B`: those to each caller are the same bytes
+    but for the texts where the answers A and B are exchanged in the round; `@tells_apart ROUND A B`: they are not."""
+    rows = table.before + table.rows
+    ask_requests(table, program)
+    asked = [of_request(row) for row in rows]
+    told = program.told(PEOPLE, [record for _, record, _ in asked])
+    for key, other in (rest.encode().split() for rest in table.ordered("hides")):
+        kept = [one for one in asked if one[0].cells[1] != other]
+        table.rows[-1].check(told_to(key, kept, program.told(PEOPLE, [record for _, record, _ in kept])), told_to(key, asked, told))
+    for word in ["exchanges", "tells_apart"]:
+        for rest in table.ordered(word):
+            name, first, second = rest.split()
+            changed = [of_request(exchanged(row, name, first, second)) for row in rows]
+            others = program.told(PEOPLE, [record for _, record, _ in changed])
+            for key in sorted({row.cells[1] for row in table.rows}):
+                one, other = [told_to(key, asked, some) for some in (told, others)]
+                table.rows[-1].check(one != other, True)
+                without = [[reply.replace(first.encode(), b"").replace(second.encode(), b"") for reply in some] for some in (one, other)]
+                table.rows[-1].check(without[0] == without[1], word == "exchanges")
+
+
+KINDS = dict.fromkeys(["lines", "words", "replays"], ask_commands) | {"lists": ask_lists, "sheets": ask_sheets, "requests": ask_requests, "secrecy": ask_secrecy}
 
 
 def ask(path, program):

@@ -1,0 +1,206 @@
+#!/usr/bin/env python3
+"""Asks the built program for random lists of requests, each a second time with what an entrant must not learn taken out or changed: the requests of other
+entrants, which of two texts is the answer in a sealed round, the puzzles of rounds that haven't started. The entrant's replies must be the same bytes.
+
+    python3 tools/secrecy.py [--program PATH] [--lists 30] [--seed 1]
+
+Prints a line for each list that went wrong, and last how many replies were compared; exits with 1 where one differed.
+"""
+import argparse
+import json
+import os
+import random
+import subprocess
+import sys
+from pathlib import Path
+
+ROOT = Path(os.path.realpath(__file__)).parent.parent
+sys.path[:0] = [str(ROOT / "bench"), str(ROOT / "examples")]
+from setting import SHEET, compact  # noqa: E402
+from wire import record, replies, request  # noqa: E402
+
+START = 1777712400
+MINUTE = 60
+# Name, key and roles; the last two come by a request of the list.
+PEOPLE = [
+    ("dora", "dora-key", "director"), ("rex", "rex-key-1", "referee"), ("ada", "ada-key-1", "author+entrant"), ("bob", "bob-key-1", "author"),
+    ("eve", "eve-key-1", "entrant"), ("fay", "fay-key-1", "entrant"), ("gil", "gil-key-1", "entrant"),
+]
+LATER = [("hal", "hal-key-1", "entrant"), ("kim", "kim-key-1", "referee+entrant")]
+KEYS = [key for _, key, _ in PEOPLE + LATER]
+ALONE = [key for _, key, roles in PEOPLE + LATER if roles == "entrant"]
+# Puzzles with one solution, and answers to them, the first of which is right.
+BOARDS = [
+    ("sudoku/4/4/123434122143432g", ["1234341221434321", "1234341221434312", "1234341221434", "hello"]),
+    ("nurikabe/2/2/1i", [".###", ".##.", "####", "#"]),
+    ("sudoku/4/4/12343412214343g1", ["1234341221434321", "1234341221434312", "4321", ""]),
+    ("nurikabe/1/2/1j", [".#", "#.", "..", "##"]),
+]
+LABELS = ["p1", "p2", "p3", "p4"]
+# Id, title, minutes from the first start, minutes, mode, and the place of its puzzle among the boards. r4 starts last.
+ROUNDS = [("r1", 0, 60, "instant", 0), ("r2", 30, 60, "sealed", 1), ("r3", 90, 30, "sealed", 2), ("r4", 600, 30, "instant", 3)]
+TOKENS = ["t1", "t2", "t3"]
+BEFORE = START - 1000
+
+
+def people_csv(people):
+    return "".join(f"{line}\n" for line in ["name,key,roles", *(",".join(person) for person in people)])
+
+
+def sheet(minutes, mode, label, title="Morning"):
+    hours, rest = divmod(9 * 60 + minutes, 60)
+    fields = {"title": title, "start": f"2026-05-02T{hours:02}:{rest:02}:00Z", "mode": mode, "penalty": 5, "bonus": 2}
+    return SHEET.format(**fields, author="bob", label=label, points=40)
+
+
+def put(label, text):
+    return BEFORE, "bob-key-1", "PUT", f"/puzzles/bob/{label}", compact({"text": text})
+
+
+def certify(label):
+    return BEFORE, "bob-key-1", "POST", f"/puzzles/bob/{label}/certificate", compact({"budget": 1000})
+
+
+def opening(boards):
+    """The puzzles, put and certified, and the rounds, released."""
+    asked = []
+    for label, (text, _) in zip(LABELS, boards, strict=True):
+        asked += [put(label, text), certify(label)]
+    for name, start, minutes, mode, place in ROUNDS:
+        text = sheet(start, mode, LABELS[place]).replace("\nminutes = 60", f"\nminutes = {minutes}")
+        asked.append((BEFORE, "dora-key", "PUT", f"/rounds/{name}", text))
+        asked.append((BEFORE, "dora-key", "POST", f"/rounds/{name}/release", ""))
+    return asked
+
+
+class Maker:
+    """Random requests: of each caller, about rounds that are there and others, at moments round their starts and ends."""
+
+    def __init__(self, seed, latest=None):
+        self.random, self.latest = random.Random(seed), latest
+
+    def moment(self):
+        at = START + MINUTE * self.random.choice([0, 30, 60, 90, 120, 150]) + self.random.choice([-1, 0, 1, 600])
+        return min(at, self.latest) if self.latest is not None else at
+
+    def request(self, publishes):
+        pick = self.random.choice
+        name, _, _, _, place = pick(ROUNDS)
+        key, token, text = pick(KEYS), pick(TOKENS), pick(BOARDS[place][1])
+        submit = ("PUT", f"/rounds/{name}/answers/{pick('1112')}/{token}", compact({"answer": text}))
+        protest = ("PUT", f"/rounds/{name}/protests/{token}", compact({"number": 1, "text": pick(["No.", "Unclear."])}))
+        ruling = ("PUT", f"/rounds/{name}/rulings/{pick(['eve', 'fay', 'gil', 'hal'])}/{token}", compact({"points": pick([0, 3]), "upheld": True}))
+        puzzle = ("PUT", f"/puzzles/{pick(['bob', 'ada'])}/{pick(LABELS + ['x1'])}", compact({"text": pick(BOARDS)[0]}))
+        certify = ("POST", f"/puzzles/bob/{pick(LABELS)}/certificate", compact({"budget": pick([1, 1000])}))
+        draft = ("PUT", f"/rounds/{pick(['r2', 'r8', 'r9'])}", sheet(120, "instant", pick(LABELS + ["x1"])))
+        reads = [("GET", path, "") for path in ["/rounds", "/puzzles", f"/puzzles/bob/{pick(LABELS)}", f"/rounds/{name}", f"/rounds/{name}/table"]]
+        lists = [("GET", f"/rounds/{name}/{what}", "") for what in ["answers", "protests", "solutions"]]
+        people = ("POST", "/people", people_csv(LATER))
+        others = [ruling, puzzle, certify, draft, people, ("POST", f"/rounds/{pick(['r2', 'r8', 'r9'])}/release", "")]
+        if publishes:
+            others.append(("POST", f"/rounds/{pick(['r1', 'r3'])}/publish", ""))
+        kind = pick([[submit], [submit], [protest], reads, lists, lists, others])
+        return self.moment(), key, *pick(kind)
+
+    def requests(self, count, publishes=False):
+        return [self.request(publishes) for _ in range(count)]
+
+
+class Program:
+    def __init__(self, path):
+        self.path = path
+
+    def told(self, key, asked):
+        """The replies to the requests under the key."""
+        given = "".join(record(moment, request(*rest)) for moment, *rest in asked).encode()
+        with open("/dev/shm/hall-secrecy.csv" if os.path.isdir("/dev/shm") else "/tmp/hall-secrecy.csv", "w", encoding="ascii") as file:
+            file.write(people_csv(PEOPLE))
+        ran = subprocess.run([self.path, "replay", "--people", file.name], input=given, capture_output=True, timeout=120, check=True)
+        whole = replies(ran.stdout)
+        assert len(whole) == len(asked), "a reply to each request"
+        return [reply for (_, other, *_), reply in zip(asked, whole, strict=True) if other == key]
+
+
+def without_others(key, asked):
+    """The list without the requests of others who are entrants alone."""
+    return [one for one in asked if one[1] == key or one[1] not in ALONE]
+
+
+def exchanged(name, first, second, asked):
+    """The list in which each of the two texts stands for the other in the round."""
+    texts = {compact({"answer": first}): compact({"answer": second}), compact({"answer": second}): compact({"answer": first})}
+    return [(*one[:4], texts.get(one[4], one[4])) if one[3].startswith(f"/rounds/{name}/answers/") else one for one in asked]
+
+
+def blank(reply):
+    """The reply without the texts of a listing of answers."""
+    head, body = reply.split(b"\r\n\r\n", 1)
+    if not body.startswith(b'{"answers":'):
+        return reply
+    lines = [line | {"answer": ""} for line in json.loads(body)["answers"]]
+    return head.split(b"\r\n")[0] + compact(lines).encode()
+
+
+class Compared:
+    """How many replies were compared, how many of them tell more than a denial, and how many lists went wrong."""
+
+    def __init__(self):
+        self.replies = self.telling = self.wrong = 0
+
+    def check(self, what, one, other):
+        self.replies += len(one)
+        self.telling += sum(reply.startswith(b"HTTP/1.1 200") for reply in one)
+        if one != other:
+            self.wrong += 1
+            place = next((n for n, pair in enumerate(zip(one, other)) if pair[0] != pair[1]), min(len(one), len(other)))
+            print(f"FAILED {what}: reply {place} of {len(one)} and {len(other)}: {one[place:place + 1]} and {other[place:place + 1]}")
+
+
+def hides_others(program, seed, compared):
+    key = random.Random(seed).choice(ALONE)
+    asked = opening(BOARDS) + Maker(f"others {seed}").requests(150)
+    compared.check(f"others, seed {seed}", program.told(key, asked), program.told(key, without_others(key, asked)))
+
+
+def hides_verdicts(program, seed, compared):
+    chosen = random.Random(seed)
+    name, start, minutes, _, place = ROUNDS[chosen.choice([1, 2])]
+    first, second = chosen.sample(BOARDS[place][1], 2)
+    asked = opening(BOARDS) + Maker(f"sealed {seed}", START + MINUTE * (start + minutes) - 1).requests(150, publishes=True)
+    for key in ALONE:
+        one, other = [[blank(reply) for reply in program.told(key, some)] for some in (asked, exchanged(name, first, second, asked))]
+        compared.check(f"sealed, seed {seed}, {key}", one, other)
+
+
+def hides_puzzles(program, seed, compared):
+    """The boards of r3 and r4 are others, and one of no round has another state; the requests are an entrant's before r3 and r4 start."""
+    chosen = random.Random(seed)
+    key = chosen.choice(ALONE)
+    changed = BOARDS[:2] + chosen.sample(BOARDS, 2)
+    start = START + MINUTE * ROUNDS[2][1]
+    later = [(min(one[0], start - 1), key, *one[2:]) for one in Maker(f"start {seed}", start - 1).requests(150)]
+    first, second = opening(BOARDS) + [put("x1", BOARDS[0][0])], opening(changed) + [put("x1", BOARDS[1][0]), certify("x1")]
+    one, other = [program.told(key, before + later) for before in (first, second)]
+    compared.check(f"before the start, seed {seed}", one, other)
+
+
+def main():
+    parser = argparse.ArgumentParser()
+    parser.add_argument("--program")
+    parser.add_argument("--lists", type=int, default=30)
+    parser.add_argument("--seed", type=int, default=1)
+    args = parser.parse_args()
+    if not args.program:
+        subprocess.run([ROOT / "hall", "--version"], stdout=subprocess.DEVNULL, check=True)
+    program, failed = Program(os.path.abspath(args.program or ROOT / "crates/hall/out/hall")), 0
+    for what, hides in [("other entrants", hides_others), ("verdicts of a sealed round", hides_verdicts), ("puzzles before the start", hides_puzzles)]:
+        compared = Compared()
+        for seed in range(args.seed, args.seed + args.lists):
+            hides(program, seed, compared)
+        print(f"secrecy of {what}: {compared.replies} replies compared, {compared.telling} of them no denial, {compared.wrong} lists not alike")
+        failed += compared.wrong or compared.telling == 0
+    sys.exit(1 if failed else 0)
+
+
+if __name__ == "__main__":
+    main()
