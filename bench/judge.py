@@ -42,7 +42,7 @@ def slither(cols, rows):
 
 def sudoku(side):
     """An empty board, filled by shifted rows."""
-    signs = "123456789abcdefg"
+    signs = "123456789abcdefghijklmnop"
     rows = [signs[i % side: side] + signs[: i % side] for i in range(side)]
     return "sudoku/%d/%d/%s\n%s\n" % (side, side, runs(side * side), "".join(rows))
 
@@ -62,7 +62,7 @@ def main():
     kinds = [
         ("nurikabe", [(50 * r, nurikabe(50, r)) for r in (1, 2, 5, 10, 20)]),
         ("slither", [(50 * r, slither(50, r)) for r in (1, 2, 5, 10, 20)]),
-        ("sudoku", [(s * s, sudoku(s)) for s in (4, 6, 9, 16)]),
+        ("sudoku", [(s * s, sudoku(s)) for s in (4, 6, 9, 16, 25)]),
     ]
     for kind, boards in kinds:
         first = None

@@ -114,7 +114,8 @@ few_side : (n : ℕ) → IsSudokuSide n → (1 ≤ n) × (n ≤ 50)
 few_side n (inl side) = (omega arith, omega arith)
 few_side n (inr (inl side)) = (omega arith, omega arith)
 few_side n (inr (inr (inl side))) = (omega arith, omega arith)
-few_side n (inr (inr (inr side))) = (omega arith, omega arith)
+few_side n (inr (inr (inr (inl side)))) = (omega arith, omega arith)
+few_side n (inr (inr (inr (inr side)))) = (omega arith, omega arith)
 
 sides_in : (size : Size) → IsSize size → HasSmallSides size
 sides_in size h =

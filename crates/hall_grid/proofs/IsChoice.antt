@@ -141,7 +141,8 @@ number_below : (kind : Kind) (size : Size) (n : ℕ)
 number_below Sudoku size n h (_, inl side) r = omega arith
 number_below Sudoku size n h (_, inr (inl side)) r = omega arith
 number_below Sudoku size n h (_, inr (inr (inl side))) r = omega arith
-number_below Sudoku size n h (_, inr (inr (inr side))) r = omega arith
+number_below Sudoku size n h (_, inr (inr (inr (inl side)))) r = omega arith
+number_below Sudoku size n h (_, inr (inr (inr (inr side)))) r = omega arith
 number_below Slither size n h fits r = absurd h
 number_below Nurikabe size n h fits r = omega arith
 

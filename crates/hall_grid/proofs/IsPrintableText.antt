@@ -147,7 +147,8 @@ few_cells : (kind : Kind) (size : Size) → HasSize kind size → cells size ≤
 few_cells Sudoku size (e, inl side) = square size 4 (sym e ∙ side) side (omega arith)
 few_cells Sudoku size (e, inr (inl side)) = square size 6 (sym e ∙ side) side (omega arith)
 few_cells Sudoku size (e, inr (inr (inl side))) = square size 9 (sym e ∙ side) side (omega arith)
-few_cells Sudoku size (e, inr (inr (inr side))) = square size 16 (sym e ∙ side) side (omega arith)
+few_cells Sudoku size (e, inr (inr (inr (inl side)))) = square size 16 (sym e ∙ side) side (omega arith)
+few_cells Sudoku size (e, inr (inr (inr (inr side)))) = square size 25 (sym e ∙ side) side (omega arith)
 few_cells Slither size h = h.few_cells
 few_cells Nurikabe size h = h.few_cells
 

@@ -238,8 +238,9 @@ limit_decided : (kind : Kind) (size : Size) → Decided (HasSize kind size)
 limit_decided Sudoku size =
     let c = size.cols in
     both (size.cols ≡ size.rows) (IsSudokuSide size.cols) (cases_eq size.cols size.rows)
-    (either (c ≡ 4) ((c ≡ 6) ⊎ ((c ≡ 9) ⊎ (c ≡ 16))) (cases_eq c 4)
-    (either (c ≡ 6) ((c ≡ 9) ⊎ (c ≡ 16)) (cases_eq c 6) (either (c ≡ 9) (c ≡ 16) (cases_eq c 9) (cases_eq c 16))))
+    (either (c ≡ 4) ((c ≡ 6) ⊎ ((c ≡ 9) ⊎ ((c ≡ 16) ⊎ (c ≡ 25)))) (cases_eq c 4)
+    (either (c ≡ 6) ((c ≡ 9) ⊎ ((c ≡ 16) ⊎ (c ≡ 25))) (cases_eq c 6)
+    (either (c ≡ 9) ((c ≡ 16) ⊎ (c ≡ 25)) (cases_eq c 9) (either (c ≡ 16) (c ≡ 25) (cases_eq c 16) (cases_eq c 25)))))
 limit_decided Slither size = size_decided size
 limit_decided Nurikabe size = size_decided size
 

@@ -100,7 +100,7 @@ fn has_size(kind: Kind, size: Size) -> bool
     ensures { IsTrue result ↔ HasSize kind size }
 {
     match kind {
-        Kind::Sudoku => size.cols == size.rows && matches!(size.cols, 4 | 6 | 9 | 16),
+        Kind::Sudoku => size.cols == size.rows && matches!(size.cols, 4 | 6 | 9 | 16 | 25),
         _ => {
             size.cols >= 1
                 && size.cols <= MOST_SIDE

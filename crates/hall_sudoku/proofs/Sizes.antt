@@ -11,8 +11,8 @@ use Rattle.hall_grid.specs.Sudoku.{box, box_cols, box_rows}
 pub record IsSquare (size : Size) : Type 0 where
   pub square : size.rows ≡ size.cols
   pub some : 0 < size.cols
-  pub few : size.cols ≤ 16
-  pub room : cells size ≤ 256
+  pub few : size.cols ≤ 25
+  pub room : cells size ≤ 625
   pub some_cols : 0 < box_cols size
   pub some_rows : 0 < box_rows size
   pub boxed : box_rows size * box_cols size ≡ size.cols
@@ -25,7 +25,10 @@ square_of size h =
         | inl e ↦ record { square = sym h.0; some = omega arith; few = omega arith; room = (rw (sym h.0, e) (omega arith)); some_cols = rw e (omega arith); some_rows = rw e (omega arith); boxed = rw e refl }
         | inr m ↦ elim m [
           | inl e ↦ record { square = sym h.0; some = omega arith; few = omega arith; room = (rw (sym h.0, e) (omega arith)); some_cols = rw e (omega arith); some_rows = rw e (omega arith); boxed = rw e refl }
-          | inr e ↦ record { square = sym h.0; some = omega arith; few = omega arith; room = (rw (sym h.0, e) (omega arith)); some_cols = rw e (omega arith); some_rows = rw e (omega arith); boxed = rw e refl }
+          | inr o ↦ elim o [
+            | inl e ↦ record { square = sym h.0; some = omega arith; few = omega arith; room = (rw (sym h.0, e) (omega arith)); some_cols = rw e (omega arith); some_rows = rw e (omega arith); boxed = rw e refl }
+            | inr e ↦ record { square = sym h.0; some = omega arith; few = omega arith; room = (rw (sym h.0, e) (omega arith)); some_cols = rw e (omega arith); some_rows = rw e (omega arith); boxed = rw e refl }
+          ]
         ]
       ]
     ]

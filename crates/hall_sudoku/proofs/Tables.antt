@@ -1,9 +1,10 @@
 -- Tables of sets, filled cell by cell.
-use Rattle.std.proofs.Common.{◌≡◌, ◌≢◌, ◌⊎◌, ◌↔◌, ℕ, ◌+◌, ◌<◌, ◌≤◌, List, Option, Some, None, Bool, true, false, not, length, get_or, set, refl, sym, ◌∙◌, ap, subst, inl, inr, arith}
+use Rattle.std.proofs.Common.{◌≡◌, ◌≢◌, ◌⊎◌, ◌↔◌, ℕ, ◌+◌, ◌<◌, ◌≤◌, List, Option, Some, None, Bool, true, false, not, length, get_or, set, replicate, refl, sym, ◌∙◌, ap, subst, inl, inr, arith}
 use Rattle.std.specs.Prelude.{is_some, IfNone}
 use Rattle.std.specs.Int.{bit_at}
-use Rattle.std.proofs.lemmas.Bool.{cases_eq}
-use Rattle.std.proofs.lemmas.List.{get_or-set_same, get_or-set_other, get_or_default}
+use Rattle.std.proofs.lemmas.Bool.{cases_eq, cases_lt}
+use Rattle.std.proofs.lemmas.List.{get_or-set_same, get_or-set_other, get_or_default, get_or-replicate, get_or_past, length-replicate}
+use Rattle.hall_sudoku.proofs.Bits.{zero_has}
 use Rattle.hall_grid.specs.declared.board.Size.{Size}
 use Rattle.hall_grid.specs.Board.{cells}
 use Rattle.hall_solve.specs.Question.{IsOpen}
@@ -339,3 +340,11 @@ at_more P n y candidates below small here c lt =
 abbrev pub IsBest : List (Option ℕ) → ℕ → Option ℕ → Type 0
 IsBest p n None = (k : ℕ) → k < n → get_or p k None ≢ None
 IsBest p n (Some i) = IsOpen p i
+
+-- where each of a table's sets has nothing, none of them has a value
+pub none_in : (n x : ℕ) → ((v : ℕ) → Has x v → ⊥) → (at v : ℕ) → Has (get_or (replicate n x) at 0) v → ⊥
+none_in n x none at v h =
+    elim (cases_lt at n) [
+      | inl lt ↦ none v (subst (λ y. Has y v) (get_or-replicate n at x 0 lt) h)
+      | inr ge ↦ zero_has v (subst (λ y. Has y v) (get_or_past (replicate n x) at 0 (omega (arith, length-replicate n x, ge))) h)
+    ]

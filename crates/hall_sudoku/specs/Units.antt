@@ -4,6 +4,8 @@ use Rattle.hall_grid.specs.declared.board.Size.{Size}
 use Rattle.hall_grid.specs.Board.{cells}
 use Rattle.hall_grid.specs.Sudoku.{RepeatsInRow, RepeatsInColumn, RepeatsInBox}
 use Rattle.hall_solve.specs.Question.{Question}
+use Rattle.hall_sudoku.specs.declared.units.Room.{Room}
+use Rattle.hall_sudoku.specs.declared.units.Room.TheVariants.{Nine, Sixteen, Most}
 
 -- no unit holds a value twice
 pub record RepeatsNothing (size : Size) (f : List ℕ) : Type 0 where
@@ -19,3 +21,9 @@ units_question size = record { cells = cells size; values = size.cols; right = R
 pub record IsDivision (size : Size) (unit : ℕ → ℕ) (units : List ℕ) : Type 0 where
   pub exact : length units ≡ cells size
   pub units_are : (cell : ℕ) → cell < cells size → slice_index units cell ≡ unit cell
+
+-- how many cells there is room for
+abbrev pub room_of : Room → ℕ
+room_of Nine = 81
+room_of Sixteen = 256
+room_of Most = 625

@@ -6,7 +6,7 @@ ghost use Rattle.hall_sudoku.specs.Units.{units_question};
 ghost use Rattle.hall_sudoku.specs.Settled.{Clashes, HaveNoClash};
 ghost use Rattle.hall_sudoku.specs.Candidates.{AreTaken, AreAllTaken, IsLeft, AreCandidates, AreFilled};
 
-use crate::units::{MOST_CELLS, MOST_UNITS, Units};
+use crate::units::{MOST_UNITS, Units};
 use crate::values::Values;
 use hall_solve::Partial;
 
@@ -62,8 +62,13 @@ fn left_at(units: &Units, taken: &Taken, partial: &Partial, cell: usize) -> Valu
 }
 
 /// The values that each cell may still have, `None` where there is no solution.
-pub(crate) fn candidates(units: &Units, partial: &Partial) -> Option<[Values; MOST_CELLS]>
-    requires { IsPartial (units_question units.now) partial.now.places }
+pub(crate) fn candidates<const CELLS: usize>(
+    units: &Units,
+    partial: &Partial,
+) -> Option<[Values; CELLS]>
+    requires fits { cells units.now ≤ CELLS }
+    requires few { CELLS ≤ 625 }
+    requires partial { IsPartial (units_question units.now) partial.now.places }
     ensures room { IfSome result (λ c. cells units.now ≤ length c) }
     ensures some { IfSome result (AreCandidates units.now partial.now.places) }
     ensures filled { IfSome result (AreFilled units.now) }
@@ -75,7 +80,7 @@ pub(crate) fn candidates(units: &Units, partial: &Partial) -> Option<[Values; MO
         columns: taken_in(units.columns(), partial)?,
         boxes: taken_in(units.boxes(), partial)?,
     };
-    let mut candidates = [Values::none(); MOST_CELLS];
+    let mut candidates = [Values::none(); CELLS];
     for cell in 0..partial.len() {
         let left = left_at(units, &taken, partial, cell);
         if left.is_empty() {

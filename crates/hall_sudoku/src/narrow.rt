@@ -40,7 +40,13 @@ fn all_filled(units: &Units, partial: &Partial, candidates: &[Values]) -> bool
 }
 
 /// Takes out what boxes and lines say of each other.
-fn take_out_by_parts(units: &Units, partial: &Partial, candidates: &mut [Values])
+fn take_out_by_parts<const CELLS: usize>(
+    units: &Units,
+    partial: &Partial,
+    candidates: &mut [Values],
+)
+    requires fits { cells units.now ≤ CELLS }
+    requires few { CELLS ≤ 625 }
     requires room { cells units.now ≤ length candidates.old }
     requires partial { IsPartial (units_question units.now) partial.now.places }
     requires candidates { AreCandidates units.now partial.now.places candidates.old }
@@ -55,7 +61,7 @@ fn take_out_by_parts(units: &Units, partial: &Partial, candidates: &mut [Values]
     take_out(
         units,
         partial,
-        &boxes_of_rows.elsewhere(candidates),
+        &boxes_of_rows.elsewhere::<CELLS>(candidates),
         candidates,
     );
     let boxes_of_columns = Parts {
@@ -66,7 +72,7 @@ fn take_out_by_parts(units: &Units, partial: &Partial, candidates: &mut [Values]
     take_out(
         units,
         partial,
-        &boxes_of_columns.elsewhere(candidates),
+        &boxes_of_columns.elsewhere::<CELLS>(candidates),
         candidates,
     );
     let rows_of_boxes = Parts {
@@ -77,7 +83,7 @@ fn take_out_by_parts(units: &Units, partial: &Partial, candidates: &mut [Values]
     take_out(
         units,
         partial,
-        &rows_of_boxes.elsewhere(candidates),
+        &rows_of_boxes.elsewhere::<CELLS>(candidates),
         candidates,
     );
     let columns_of_boxes = Parts {
@@ -88,13 +94,19 @@ fn take_out_by_parts(units: &Units, partial: &Partial, candidates: &mut [Values]
     take_out(
         units,
         partial,
-        &columns_of_boxes.elsewhere(candidates),
+        &columns_of_boxes.elsewhere::<CELLS>(candidates),
         candidates,
     );
 }
 
 /// Takes values out; tells whether each cell has a candidate left.
-pub(crate) fn narrow(units: &Units, partial: &Partial, candidates: &mut [Values]) -> bool
+pub(crate) fn narrow<const CELLS: usize>(
+    units: &Units,
+    partial: &Partial,
+    candidates: &mut [Values],
+) -> bool
+    requires fits { cells units.now ≤ CELLS }
+    requires few { CELLS ≤ 625 }
     requires room { cells units.now ≤ length candidates.old }
     requires partial { IsPartial (units_question units.now) partial.now.places }
     requires candidates { AreCandidates units.now partial.now.places candidates.old }
@@ -102,6 +114,6 @@ pub(crate) fn narrow(units: &Units, partial: &Partial, candidates: &mut [Values]
     ensures filled { IsTrue result → AreFilled units.now candidates.new }
     ensures dead { result ≡ false → IsHopeless (units_question units.now) partial.now.places }
 {
-    take_out_by_parts(units, partial, candidates);
+    take_out_by_parts::<CELLS>(units, partial, candidates);
     all_filled(units, partial, candidates)
 }

@@ -5,7 +5,7 @@ ghost use Rattle.hall_grid.specs.Board.{cells};
 ghost use Rattle.hall_sudoku.specs.Parts.{part_of, AreGathered, AreConfined, AreElsewhere};
 
 use crate::singles::seen_and_shared;
-use crate::units::{MOST_CELLS, Units};
+use crate::units::Units;
 use crate::values::Values;
 
 /// Units of two sorts: those of the second divide those of the first into parts.
@@ -37,13 +37,15 @@ impl Parts<'_> {
     }
 
     /// For each part the values that one of its cells may have.
-    fn gathered(&self, candidates: &[Values]) -> [Values; MOST_CELLS]
+    fn gathered<const CELLS: usize>(&self, candidates: &[Values]) -> [Values; CELLS]
         requires room { cells self.now.units.now ≤ length candidates.now }
-        ensures size { length result ≡ MOST_CELLS }
+        requires fits { cells self.now.units.now ≤ CELLS }
+        requires few { CELLS ≤ 625 }
+        ensures size { length result ≡ CELLS }
         ensures gathered { AreGathered self.now.units.now (slice_index self.now.first.now)
             (slice_index self.now.second.now) (cells self.now.units.now) candidates.now result }
     {
-        let mut parts = [Values::none(); MOST_CELLS];
+        let mut parts = [Values::none(); CELLS];
         for cell in 0..self.units.cells() {
             let part = self.of(cell);
             parts[part] = parts[part].or(candidates[cell]);
@@ -52,15 +54,17 @@ impl Parts<'_> {
     }
 
     /// For each part the values that its unit of the first sort may have there alone.
-    fn confined(&self, candidates: &[Values]) -> [Values; MOST_CELLS]
+    fn confined<const CELLS: usize>(&self, candidates: &[Values]) -> [Values; CELLS]
         requires room { cells self.now.units.now ≤ length candidates.now }
-        ensures size { length result ≡ MOST_CELLS }
+        requires fits { cells self.now.units.now ≤ CELLS }
+        requires few { CELLS ≤ 625 }
+        ensures size { length result ≡ CELLS }
         ensures confined { AreConfined self.now.units.now (slice_index self.now.first.now)
             (slice_index self.now.second.now) candidates.now result }
     {
-        let parts = self.gathered(candidates);
+        let parts = self.gathered::<CELLS>(candidates);
         let (_, shared) = seen_and_shared(self.units.rows(), &parts);
-        let mut confined = [Values::none(); MOST_CELLS];
+        let mut confined = [Values::none(); CELLS];
         for part in 0..self.units.cells() {
             confined[part] = parts[part].without(shared[self.units.row(part)]);
         }
@@ -68,15 +72,17 @@ impl Parts<'_> {
     }
 
     /// For each cell the values that another unit of the first sort must have in the cell's unit of the second.
-    pub(crate) fn elsewhere(&self, candidates: &[Values]) -> [Values; MOST_CELLS]
+    pub(crate) fn elsewhere<const CELLS: usize>(&self, candidates: &[Values]) -> [Values; CELLS]
         requires room { cells self.now.units.now ≤ length candidates.now }
-        ensures size { length result ≡ MOST_CELLS }
+        requires fits { cells self.now.units.now ≤ CELLS }
+        requires few { CELLS ≤ 625 }
+        ensures size { length result ≡ CELLS }
         ensures elsewhere { AreElsewhere self.now.units.now (slice_index self.now.first.now)
             (slice_index self.now.second.now) candidates.now result }
     {
-        let confined = self.confined(candidates);
+        let confined = self.confined::<CELLS>(candidates);
         let (claimed, _) = seen_and_shared(self.units.columns(), &confined);
-        let mut out = [Values::none(); MOST_CELLS];
+        let mut out = [Values::none(); CELLS];
         for cell in 0..self.units.cells() {
             let other = usize::from(self.second[cell]);
             out[cell] = claimed[other].without(confined[self.of(cell)]);

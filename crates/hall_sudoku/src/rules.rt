@@ -1,12 +1,14 @@
 //! The rules of a Sudoku puzzle, as a search asks them.
-ghost use Rattle.std.specs.Prelude.{◌≡◌, IfOk};
+ghost use Rattle.std.specs.Prelude.{◌≡◌, ◌≤◌, IfOk, IfSome, IfNone};
+ghost use Rattle.hall_grid.specs.Board.{cells};
+ghost use Rattle.hall_sudoku.specs.Units.{units_question};
 ghost use Rattle.hall_grid.specs.Answer.{IsFilling};
-ghost use Rattle.hall_solve.specs.Question.{IsPartial};
+ghost use Rattle.hall_solve.specs.Question.{IsPartial, IsOpen, IsWhole};
 
 use crate::candidates::{candidates, fewest};
 use crate::judge::broken;
 use crate::narrow::narrow;
-use crate::units::Units;
+use crate::units::{Room, Units};
 use hall_grid::{Clue, Filling, Kind, Puzzle};
 use hall_solve::{Partial, Rules, Step, settle};
 use std::alloc::{AllocError, Global};
@@ -91,12 +93,27 @@ impl<'a> Rules for SudokuRules<'a> {
     }
 
     fn branch_place(&self, partial: &Partial) -> Option<usize> {
-        match candidates(&self.units, partial) {
-            Some(mut candidates) => {
-                let _ = narrow(&self.units, partial, &mut candidates);
-                fewest(&self.units, &candidates, partial)
-            }
-            None => partial.first_unset(),
+        match self.units.room() {
+            Room::Nine => place_in::<81>(&self.units, partial),
+            Room::Sixteen => place_in::<256>(&self.units, partial),
+            Room::Most => place_in::<625>(&self.units, partial),
         }
+    }
+}
+
+/// The place to try values at, on a board of at most so many cells.
+fn place_in<const CELLS: usize>(units: &Units, partial: &Partial) -> Option<usize>
+    requires fits { cells units.now ≤ CELLS }
+    requires few { CELLS ≤ 625 }
+    requires partial { IsPartial (units_question units.now) partial.now.places }
+    ensures unset { IfSome result (IsOpen partial.now.places) }
+    ensures whole { IfNone result (IsWhole partial.now.places) }
+{
+    match candidates::<CELLS>(units, partial) {
+        Some(mut candidates) => {
+            let _ = narrow::<CELLS>(units, partial, &mut candidates);
+            fewest(units, &candidates, partial)
+        }
+        None => partial.first_unset(),
     }
 }

@@ -12,7 +12,7 @@ ghost use Rattle.hall_sudoku.specs.Candidates.{IsSole, HasNoSole, HaveNoSole};
 
 use crate::candidates::candidates;
 use crate::narrow::narrow;
-use crate::units::{MOST_UNITS, Units};
+use crate::units::{MOST_UNITS, Room, Units};
 use crate::values::Values;
 use hall_solve::{Deduce, Partial, Pass};
 use std::alloc::{AllocError, Global};
@@ -166,23 +166,39 @@ fn soles(units: &Units, candidates: &[Values], partial: &mut Partial) -> Pass
     }
 }
 
+/// A pass over a board of at most so many cells.
+fn pass_in<const CELLS: usize>(units: &Units, partial: &mut Partial) -> Pass
+    requires fits { cells units.now ≤ CELLS }
+    requires few { CELLS ≤ 625 }
+    requires partial { IsPartial (units_question units.now) partial.old.places }
+    ensures deduced { IsDeduced (units_question units.now) partial.old.places partial.new.places result }
+    ensures grows { Grows partial.old partial.new }
+    ensures settled { result ≡ Pass.Settled → IsSettled units.now partial.new.places }
+{
+    let Some(mut candidates) = candidates::<CELLS>(units, partial) else {
+        return Pass::Dead;
+    };
+    match soles(units, &candidates, partial) {
+        Pass::Settled => {}
+        pass => return pass,
+    }
+    if narrow::<CELLS>(units, partial, &mut candidates) {
+        soles(units, &candidates, partial)
+    } else {
+        Pass::Dead
+    }
+}
+
 impl Deduce for Units {
     ghost question = { units_question };
 
     ghost settled = { IsSettled };
 
     fn pass(&self, _alloc: Global, partial: &mut Partial) -> Result<Pass, AllocError> {
-        let Some(mut candidates) = candidates(self, partial) else {
-            return Ok(Pass::Dead);
-        };
-        match soles(self, &candidates, partial) {
-            Pass::Settled => {}
-            pass => return Ok(pass),
-        }
-        if narrow(self, partial, &mut candidates) {
-            Ok(soles(self, &candidates, partial))
-        } else {
-            Ok(Pass::Dead)
-        }
+        Ok(match self.room() {
+            Room::Nine => pass_in::<81>(self, partial),
+            Room::Sixteen => pass_in::<256>(self, partial),
+            Room::Most => pass_in::<625>(self, partial),
+        })
     }
 }

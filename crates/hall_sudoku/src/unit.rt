@@ -21,6 +21,7 @@ fn box_width(size: Size) -> usize
     match size.cols {
         4 => 2,
         16 => 4,
+        25 => 5,
         _ => 3,
     }
 }
@@ -32,6 +33,7 @@ fn box_height(size: Size) -> usize
     match size.cols {
         4 | 6 => 2,
         16 => 4,
+        25 => 5,
         _ => 3,
     }
 }

@@ -3,7 +3,7 @@ ghost use Rattle.std.specs.Prelude.{◌≡◌, ◌<◌, ◌≤◌, ℕ, IfOk, le
 ghost use Rattle.hall_grid.specs.Board.{cells, row, col, HasSize};
 ghost use Rattle.hall_grid.specs.Sudoku.{box};
 ghost use Rattle.hall_sudoku.specs.Unit.{unit_of};
-ghost use Rattle.hall_sudoku.specs.Units.{IsDivision};
+ghost use Rattle.hall_sudoku.specs.Units.{IsDivision, room_of};
 
 use crate::unit::{Unit, unit_of};
 use hall_grid::{Kind, Size};
@@ -11,10 +11,18 @@ use std::alloc::{AllocError, Global};
 use std::marker::Model;
 
 /// The largest side of a board, and so its most units of one sort.
-pub(crate) const MOST_UNITS: usize = 16;
+pub(crate) const MOST_UNITS: usize = 25;
 
-/// How many cells the largest board has.
-pub(crate) const MOST_CELLS: usize = 256;
+/// How many cells a board may have, for which a visit makes room.
+#[derive(Clone, Copy)]
+pub(crate) enum Room {
+    /// At most 81.
+    Nine,
+    /// At most 256.
+    Sixteen,
+    /// At most 625, which are those of the largest board.
+    Most,
+}
 
 /// The row, the column and the box of each cell of a board.
 #[derive(Drop)]
@@ -70,6 +78,18 @@ impl Units {
         ensures sudoku { HasSize Kind.Sudoku self.now }
     {
         self.rows.len()
+    }
+
+    /// For how many cells a visit makes room.
+    pub(crate) fn room(&self) -> Room
+        ensures room { cells self.now ≤ room_of result }
+        ensures sudoku { HasSize Kind.Sudoku self.now }
+    {
+        match self.size.cols {
+            25 => Room::Most,
+            16 => Room::Sixteen,
+            _ => Room::Nine,
+        }
     }
 
     /// The row of each cell.

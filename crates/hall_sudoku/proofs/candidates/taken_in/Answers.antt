@@ -1,8 +1,16 @@
 use Rattle.std.proofs.Common.{◌<◌, ℕ, length, get_or, refl, sym, ◌∙◌, inl, inr, arith}
 use Rattle.std.proofs.lemmas.List.{length-set}
-use Rattle.hall_sudoku.proofs.Tables.{read_has, none_from, taken_skip, taken_more, takes_skip, takes_more, apart_skip, apart_more, taken_both}
+use Rattle.hall_sudoku.proofs.Tables.{read_has, none_in, none_from, taken_skip, taken_more, takes_skip, takes_more, apart_skip, apart_more, taken_both}
 use Rattle.hall_sudoku.proofs.candidates.taken_in.Goals as goal
 use Rattle.hall_sudoku.proofs.candidates.taken_in.Goals.{in-Some+else-contains, in_default}
+
+pub loop-cell-init : goal.loop-cell-init
+loop-cell-init c = record {
+  size = refl;
+  below = λ at v h. absurd (none_in 25 c.none-taken.result c.none-taken.ensures at v h);
+  takes = λ cell v lt. absurd (omega (arith, lt));
+  apart = λ h lt. omega (arith, lt);
+}
 
 pub returns-then-contains-clause-none : goal.returns-then-contains-clause-none
 returns-then-contains-clause-none c =

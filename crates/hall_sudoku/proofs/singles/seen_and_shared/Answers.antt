@@ -1,7 +1,15 @@
-use Rattle.std.proofs.Common.{ℕ, ◌<◌, length, get_or, ◌∙◌, arith}
+use Rattle.std.proofs.Common.{ℕ, ◌<◌, length, get_or, ◌∙◌, refl, arith}
 use Rattle.std.proofs.lemmas.List.{length-set}
-use Rattle.hall_sudoku.proofs.Tables.{or_read, and_read, or_and_read, seen_more, shared_more}
+use Rattle.hall_sudoku.proofs.Tables.{none_in, or_read, and_read, or_and_read, seen_more, shared_more}
 use Rattle.hall_sudoku.proofs.singles.seen_and_shared.Goals as goal
+
+pub loop-cell-init : goal.loop-cell-init
+loop-cell-init c = record {
+  seen_size = refl;
+  shared_size = refl;
+  are_seen = record { all = λ a v lt h. absurd (omega (arith, lt)); alone = λ at v h. absurd (none_in 25 c.none-seen.result c.none-seen.ensures at v h) };
+  are_shared = record { all = λ a b v ab lt. absurd (omega (arith, lt)); alone = λ at v h. absurd (none_in 25 c.none-shared.result c.none-shared.ensures at v h) };
+}
 
 pub loop-cell-preserved : goal.loop-cell-preserved
 loop-cell-preserved c =

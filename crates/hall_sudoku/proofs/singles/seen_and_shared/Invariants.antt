@@ -4,8 +4,8 @@ use Rattle.hall_sudoku.proofs.singles.seen_and_shared.Given as goal
 
 abbrev pub invariant-loop-cell : goal.invariant-loop-cell
 invariant-loop-cell l = record {
-  seen_size : length l.seen ≡ 16;
-  shared_size : length l.shared ≡ 16;
+  seen_size : length l.seen ≡ 25;
+  shared_size : length l.shared ≡ 25;
   are_seen : AreSeen (λ c. get_or l.units c 0) l.cell l.candidates l.seen;
   are_shared : AreShared (λ c. get_or l.units c 0) l.cell l.candidates l.shared;
 }

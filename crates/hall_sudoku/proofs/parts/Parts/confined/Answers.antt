@@ -8,7 +8,7 @@ use Rattle.hall_sudoku.proofs.Confined.{confined_from, without_both}
 use Rattle.hall_sudoku.proofs.parts.Parts.confined.Goals as goal
 
 pub returns-clause-confined : goal.returns-clause-confined
-returns-clause-confined c =
+returns-clause-confined g c =
     let parts = c.args.self.now in
     confined_from parts.units.now (λ k. get_or parts.first.now k 0) (λ k. get_or parts.second.now k 0) c.args.candidates.now (square_of parts.units.now c.rows.ensures.sudoku)
     (λ k lt. parts.first_small k (omega (arith, parts.first_size))) (λ k lt. parts.second_small k (omega (arith, parts.second_size)))
@@ -16,16 +16,15 @@ returns-clause-confined c =
     (λ k lt. c.loop-part.invariant.alone k (omega (arith, c.loop-part-test.false, c.cells-part-end.ensures.cells)))
 
 pub loop-part-preserved : goal.loop-part-preserved
-loop-part-preserved c =
+loop-part-preserved g c =
     let size = c.args.self.now.units.now in
     let part = c.loop-part.part in
     let parts = c.gathered-parts.result in
     let shared = c.seen_and_shared-shared.result.1 in
-    let square = square_of size c.rows.ensures.sudoku in
     let inside : part < cells size = omega (arith, c.loop-part-test.true, c.cells-part-end.ensures.cells) in
-    let small : part < length c.loop-part.confined = omega (arith, inside, c.loop-part.invariant.size, square.room) in
+    let small : part < length c.loop-part.confined = omega (arith, inside, c.loop-part.invariant.size, c.requires.fits) in
     let read = without_both parts shared part c.row.result c.index-parts-part.result c.index-shared-row.result c.without.result
-    (omega (arith, inside, c.gathered-parts.ensures.size, square.room))
+    (omega (arith, inside, c.gathered-parts.ensures.size, c.requires.fits))
     (omega (arith, c.seen_and_shared-shared.ensures.shared_size, c.row.ensures.small))
     c.without.ensures in
     record {

@@ -9,7 +9,7 @@ use Rattle.hall_sudoku.proofs.Confined.{elsewhere_from, without_both}
 use Rattle.hall_sudoku.proofs.parts.Parts.elsewhere.Goals as goal
 
 pub loop-cell-preserved : goal.loop-cell-preserved
-loop-cell-preserved c =
+loop-cell-preserved g c =
     let parts = c.args.self.now in
     let size = parts.units.now in
     let cell = c.loop-cell.cell in
@@ -17,13 +17,13 @@ loop-cell-preserved c =
     let second : ℕ → ℕ = λ k. get_or parts.second.now k 0 in
     let square = square_of size c.columns.ensures.sudoku in
     let inside : cell < cells size = omega (arith, c.loop-cell-test.true, c.cells-cell-end.ensures.cells) in
-    let small : cell < length c.loop-cell.out = omega (arith, inside, c.loop-cell.invariant.size, square.room) in
+    let small : cell < length c.loop-cell.out = omega (arith, inside, c.loop-cell.invariant.size, c.requires.fits) in
     let claimed = c.seen_and_shared-claimed.result.0 in
     let confined = c.confined-confined.result in
     let other_is : c.from-other.result ≡ second cell = c.from-other.ensures in
     let read = without_both claimed confined c.from-other.result c.of.result c.index-claimed-other.result c.index-confined-of.result c.without.result
     (omega (arith, c.seen_and_shared-claimed.ensures.seen_size, other_is, parts.second_small cell (omega (arith, inside, parts.second_size)), square.few))
-    (omega (arith, c.confined-confined.ensures.size, c.of.ensures.board, square.room))
+    (omega (arith, c.confined-confined.ensures.size, c.of.ensures.board, c.requires.fits))
     c.without.ensures in
     record {
       size = length-set _ _ _ ∙ c.loop-cell.invariant.size;

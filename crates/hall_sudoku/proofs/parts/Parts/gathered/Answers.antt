@@ -3,13 +3,12 @@ use Rattle.std.proofs.lemmas.List.{length-set}
 use Rattle.hall_grid.specs.Board.{cells}
 use Rattle.hall_sudoku.specs.Values.{Has}
 use Rattle.hall_sudoku.specs.Parts.{AreGathered, part_of}
-use Rattle.hall_sudoku.proofs.Sizes.{square_of}
 use Rattle.hall_sudoku.proofs.Tables.{or_read}
 use Rattle.hall_sudoku.proofs.Confined.{gathered_more}
 use Rattle.hall_sudoku.proofs.parts.Parts.gathered.Goals as goal
 
 pub loop-cell-preserved : goal.loop-cell-preserved
-loop-cell-preserved c =
+loop-cell-preserved g c =
     let self = c.args.self.now in
     let size = self.units.now in
     let first : ℕ → ℕ = λ k. get_or self.first.now k 0 in
@@ -18,10 +17,9 @@ loop-cell-preserved c =
     let parts = c.loop-cell.parts in
     let cell = c.loop-cell.cell in
     let part = c.of-part.result in
-    let square = square_of size c.cells-cell-end.ensures.sudoku in
     let inside : cell < cells size = omega (arith, c.loop-cell-test.true, c.cells-cell-end.ensures.cells) in
-    let within : cell < length candidates = omega (arith, inside, c.requires) in
-    let small : part < length parts = omega (arith, c.of-part.ensures.board, c.loop-cell.invariant.size, square.room) in
+    let within : cell < length candidates = omega (arith, inside, c.requires.room) in
+    let small : part < length parts = omega (arith, c.of-part.ensures.board, c.loop-cell.invariant.size, c.requires.fits) in
     let at : part ≡ part_of size first second cell = c.of-part.ensures.part in
     let made = or_read parts candidates part cell c.index-parts-part.result c.index-candidates-cell.result c.or.result small within c.index-candidates-cell.is c.or.ensures in
     record {
