@@ -1,5 +1,5 @@
 -- What decides a request of a caller who holds the role entrant alone.
-use Rattle.std.proofs.Common.{◌≡◌, ◌<◌, ◌&&◌, ◌||◌, inl, inr, ℕ, Bool, true, false, not, List, Option, Some, None, Contains, arith, lit<, refl, sym, ap, ◌∙◌, subst}
+use Rattle.std.proofs.Common.{◌≡◌, ◌<◌, ◌≤◌, ◌&&◌, ◌||◌, inl, inr, ℕ, Bool, true, false, not, List, Option, Some, None, Contains, arith, lit<, refl, sym, ap, ◌∙◌, subst}
 use Rattle.std.specs.Option.{option_map}
 use Rattle.std.specs.FinMap.{FinMap}
 use Rattle.std.proofs.lemmas.Bool.{cases_order, false≢true}
@@ -64,6 +64,20 @@ no_role world person a t (Deny k) lacks asked (r, own, forbids, none) = elim (ca
 ]
 no_role world person a t Repeat lacks asked (r, repeated, none) = absurd ((none rule.NoRole (repeats_late r world (Some person) a repeated)).0 (asked, (person, refl, lacks)))
 no_role world person a t Allow lacks asked none = absurd ((none rule.NoRole (lit< tt)).0 (asked, (person, refl, lacks)))
+
+at_least_one : (r : Rule) → 1 ≤ number_of r
+at_least_one rule.UnknownKey = omega arith
+at_least_one _ = omega arith
+
+-- a key that is nobody's is denied by the rule on keys
+pub no_key : (world : World) (a : Action) (t : ℕ) (d : Decision) → Contains (rules_asked a) rule.UnknownKey → First world None a t d → d ≡ Deny 1
+no_key world a t (Deny k) asked (r, own, forbids, none) = elim (cases_order k 1) [
+  | inl same ↦ ap Deny same
+  | inr (inl lt) ↦ absurd (let positive = at_least_one r in omega (arith, own, positive, lt))
+  | inr (inr gt) ↦ absurd ((none rule.UnknownKey gt).0 (asked, refl))
+]
+no_key world a t Repeat asked (r, repeated, none) = absurd ((none rule.UnknownKey (let late = repeats_late r world None a repeated in omega (arith, late))).0 (asked, refl))
+no_key world a t Allow asked none = absurd ((none rule.UnknownKey (lit< tt)).0 (asked, refl))
 
 -- every action that such a caller may not take asks for the role
 pub asks_for_role : (name key : List ℕ) (a : Action) → may (lone name key).roles a ≡ false → Contains (rules_asked a) rule.NoRole
