@@ -1,6 +1,5 @@
 -- A request has one answer in a sane world.
-use Rattle.std.proofs.Common.{◌≡◌, ◌⊎◌, ◌&&◌, ◌||◌, inl, inr, ℕ, Bool, true, false, List, [], ◌∷◌, map, Option, Some, refl, sym, ap, ◌∙◌, subst}
-use Rattle.std.specs.List.{AllByRecursion}
+use Rattle.std.proofs.Common.{◌≡◌, ◌⊎◌, ◌&&◌, ◌||◌, inl, inr, ℕ, Bool, true, false, List, map, Option, Some, refl, sym, ap, ◌∙◌, subst}
 use Rattle.std.specs.FinMap.{get, insert}
 use Rattle.std.proofs.lemmas.Bool.{false≢true}
 use Rattle.hall_grid.specs.Board.{Board}
@@ -9,8 +8,6 @@ use Rattle.hall_grid.proofs.HasOneCanonicalText.{one_canonical_text}
 use Rattle.hall_policy.specs.World.{World, IsRoundAt, protest_of, same_text}
 use Rattle.hall_policy.specs.Ranges.{IsWorld, IsAction}
 use Rattle.hall_policy.specs.Rules.{TheCaller}
-use Rattle.hall_policy.specs.Actions.{rules_asked}
-use Rattle.hall_policy.specs.declared.rule.Rule.{Rule}
 use Rattle.hall_policy.specs.declared.rule.Decision.{Decision}
 use Rattle.hall_policy.specs.declared.rule.Decision.TheVariants.{Allow, Repeat, Deny}
 use Rattle.hall_policy.specs.declared.record.Person.{Person}
@@ -39,8 +36,8 @@ use Rattle.hall_desk.specs.declared.reply.Reply.{Reply}
 use Rattle.hall_desk.specs.declared.reply.Reply.TheVariants as reply
 use Rattle.hall_desk.specs.declared.reply.AnswerLine.{AnswerLine}
 use Rattle.hall_desk.specs.declared.reply.ShownRound.{ShownRound}
-use Rattle.hall_desk.proofs.Answering.{text_decides}
-use Rattle.hall_desk.proofs.Deciding.{SaysSame, decided_alike}
+use Rattle.hall_policy.proofs.Texts.{text_decides}
+use Rattle.hall_policy.proofs.Deciding.{decisions_agree}
 use Rattle.hall_desk.proofs.VerdictOnce.{one_verdict_on}
 use Rattle.hall_desk.proofs.Shows.{one_row, one_round_row, same_shown, same_solutions}
 use Rattle.hall_desk.proofs.Listings.{same_listing}
@@ -208,10 +205,6 @@ module _ (world : World) (typed : IsWorld world) where
   one_decided caller a t Repeat found again given other new next is same p q = (one_first_reply caller a given other p.0 q.0, p.1 ∙ sym q.1)
   one_decided caller a t Allow found again given other new next is same p q = one_allowed caller a t found again given other new next is same p q
 
-  all_alike : (caller : Option Person) (a : Action) (t : ℕ) (rs : List Rule) → AllByRecursion (λ r. SaysSame r world world caller a a t) rs
-  all_alike caller a t [] = tt
-  all_alike caller a t (r ∷ rs) = (record { forbids = ((λ h. h), (λ h. h)); repeats = ((λ h. h), (λ h. h)) }, all_alike caller a t rs)
-
   -- a moment and a request have one answer, where a search would find the same
   one_answer : (t : ℕ) (request : Request) (found again : PuzzleState) (given other : Reply) (new next : World) → IsAction request.action →
       ((key : PuzzleKey) (budget : ℕ) → request.action ≡ action.Certify key budget → found ≡ again) →
@@ -220,7 +213,7 @@ module _ (world : World) (typed : IsWorld world) where
   one_answer t request found again given other new next is same (d, first, p) (e, second, q) =
       let caller : Option Person = caller_of world request.key in
       let a : Action = request.action in
-      let one : d ≡ e = decided_alike world world caller a a t refl (all_alike caller a t (rules_asked a)) d e first second in
+      let one : d ≡ e = decisions_agree world caller a t d e first second in
       one_decided caller a t e found again given other new next is same (subst (λ (x : Decision). Decided x world caller a t found given new) one p) q
 
 pub answers_agree : AnswersAgree

@@ -27,7 +27,7 @@ use Rattle.hall_desk.specs.Found.{IsReleasedRound}
 use Rattle.hall_desk.specs.Step.{Allowed, draft_of}
 use Rattle.hall_desk.specs.Sane.{Sane, RefersToRows, MayTakePart}
 use Rattle.hall_desk.specs.declared.reply.Reply.{Reply}
-use Rattle.hall_desk.proofs.Answering.{text_decides}
+use Rattle.hall_policy.proofs.Texts.{text_decides}
 
 -- an entry of the list is in the ranges of its type
 entry_in_range : (entries : List Entry) (entry : Entry) → All IsEntry entries → Contains entries entry → IsEntry entry

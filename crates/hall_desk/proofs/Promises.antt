@@ -17,9 +17,9 @@ use Rattle.hall_policy.specs.declared.record.PuzzleRow.{PuzzleRow}
 use Rattle.hall_policy.specs.declared.record.PuzzleState.{PuzzleState}
 use Rattle.hall_policy.specs.declared.record.PuzzleState.TheVariants as state
 use Rattle.hall_desk.specs.Sane.{Sane, IsTrueState}
-use Rattle.hall_desk.specs.Judged.{is_solution, IsVerdictOn, NamesNoRule}
+use Rattle.hall_desk.specs.Judged.{is_solution, NamesNoRule}
 use Rattle.hall_desk.specs.Promises.{HasUniqueSolutions, RightAnswersAreSolutions, VerdictsAreJudged}
-use Rattle.hall_desk.proofs.Answering.{text_decides}
+use Rattle.hall_policy.proofs.Texts.{text_decides}
 
 -- the first and the rest of one list
 same_first : (x y : ℕ) (xs ys : List ℕ) → ◌≡◌ {A = List ℕ} (x ∷ xs) (y ∷ ys) → x ≡ y

@@ -24,7 +24,7 @@ use Rattle.hall_desk.specs.Found.{IsReleasedRound}
 use Rattle.hall_desk.specs.Step.{Allowed, open_protest}
 use Rattle.hall_desk.specs.Sane.{Sane, RefersToRows, HasPlace, MayTakePart}
 use Rattle.hall_desk.specs.declared.reply.Reply.{Reply}
-use Rattle.hall_desk.proofs.Answering.{text_decides}
+use Rattle.hall_policy.proofs.Texts.{text_decides}
 use Rattle.hall_desk.proofs.Releases.{released_found, takes_part}
 
 -- whether the protest is one of the entrant in the round

@@ -16,7 +16,8 @@ use Rattle.hall_store.specs.Store.{AreUsing}
 use Rattle.hall_desk.specs.Found.{IsReleasedRound, HasFault, HasFaultyEntry}
 use Rattle.hall_desk.specs.Sane.{MayTakePart}
 use Rattle.hall_desk.specs.declared.entry_fault.EntryFault.{EntryFault}
-use Rattle.hall_desk.proofs.Answering.{text_decides, Contains-filter, filter-Contains}
+use Rattle.hall_policy.proofs.Texts.{text_decides}
+use Rattle.hall_desk.proofs.Answering.{Contains-filter, filter-Contains}
 
 and_false : (b : Bool) → (b && false) ≡ false
 and_false true = refl

@@ -39,7 +39,8 @@ use Rattle.hall_desk.specs.declared.reply.Reply.{Reply}
 use Rattle.hall_store.proofs.Changes.{with_people-known}
 use Rattle.hall_store.proofs.Inserts.{keys_apart, others_stay, inserted_there}
 use Rattle.hall_store.proofs.Tests.{not_true}
-use Rattle.hall_desk.proofs.Answering.{text_decides, find-value}
+use Rattle.hall_policy.proofs.Texts.{text_decides}
+use Rattle.hall_desk.proofs.Answering.{find-value}
 use Rattle.hall_desk.proofs.DraftSane.{puts_no_released, relisted_other}
 use Rattle.hall_desk.proofs.Tokens.{token_decides}
 use Rattle.hall_desk.proofs.ProtestTokens.{token_decides as protest_token_decides}

@@ -13,7 +13,7 @@ use Rattle.hall_policy.specs.declared.record.AnswerKey.{AnswerKey}
 use Rattle.hall_policy.specs.declared.record.AnswerRow.{AnswerRow}
 use Rattle.hall_policy.proofs.Maps.{count_by-insert_new, count_by-insert_alike}
 use Rattle.hall_policy.proofs.Orders.{puzzle_total, same_puzzle_keys, answer_total, same_answer_keys}
-use Rattle.hall_desk.proofs.Answering.{text_decides}
+use Rattle.hall_policy.proofs.Texts.{text_decides}
 use Rattle.hall_store.proofs.Inserts.{found_after, others_stay, still_there}
 use Rattle.std.specs.Cmp.{unsigned_Decides}
 use Rattle.hall_desk.specs.Found.{IsReleasedRound}

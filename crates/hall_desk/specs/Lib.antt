@@ -15,3 +15,8 @@ pub mod Plan
 pub mod Handler
 pub mod Plans
 pub mod Agreement
+pub mod Without
+pub mod Exchanged
+pub mod Secrecy
+pub mod AnsweredRun
+pub mod Alike

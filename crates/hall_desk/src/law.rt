@@ -7,6 +7,10 @@ ghost use Rattle.hall_desk.specs.Promises.{ProtestTokensActOnce, RulingsActOnce}
 ghost use Rattle.hall_desk.specs.Promises.{SaneTokensActOnce, SaneProtestTokensActOnce};
 ghost use Rattle.hall_desk.specs.ProtestPromises.{AcceptedProtestsStay, ProtestRetriesAreAnswered};
 ghost use Rattle.hall_desk.specs.ProtestPromises.{RulingsStay, RulingRetriesAreAnswered};
+ghost use Rattle.hall_desk.specs.Secrecy.{OthersHidden, LivesHideOthers, BeforeStart};
+ghost use Rattle.hall_desk.specs.Secrecy.{SealedVerdicts, SealedRuns, LivesHideAnswers};
+ghost use Rattle.hall_desk.specs.AnsweredRun.{OthersHiddenInAnswers, SealedAnswers, RunsAreAnswered};
+ghost use Rattle.hall_desk.specs.AnsweredRun.{CertifiedWithoutOthers, CertifiedExchanged};
 
 /// A sane world has one answer to a request.
 pub fn law_steps_agree()
@@ -52,4 +56,42 @@ pub fn law_accepted_protests()
 pub fn law_rulings()
     ensures stay { RulingsStay }
     ensures answered { RulingRetriesAreAnswered }
+{}
+
+/// Of what others do who are entrants alone, an entrant alone learns nothing: where nobody publishes, the replies to
+/// that entrant in a run are those in a run without the others' requests.
+///
+/// In neither run a reply is 503. A 503 says nothing of the hall's content, only that memory was wanting or a device
+/// failed; but its request counts as not made, so a run with one is the run of another list. And each request to certify
+/// that stands in both lists is answered alike in both, since the request doesn't fix which of its true answers a search
+/// within a budget gives.
+///
+/// `answered` says the same of lists that have with each request what its search finds, in place of the second premise,
+/// `searches` that there the second premise holds, and `runs` that these lists are the runs without 503.
+pub fn law_others()
+    ensures others { OthersHidden }
+    ensures lives { LivesHideOthers }
+    ensures answered { OthersHiddenInAnswers }
+    ensures searches { CertifiedWithoutOthers }
+    ensures runs { RunsAreAnswered }
+{}
+
+/// Of a puzzle that stands in no released round that has started, an entrant alone learns nothing, neither its text nor
+/// its solution nor its state: with another puzzle in its place the reply to each request is the same, where it isn't
+/// 503, which tells of want of memory or a failed device alone.
+pub fn law_before_start()
+    ensures { BeforeStart }
+{}
+
+/// Until a sealed round's end, an entrant alone learns no verdict: with other verdicts kept, the reply to each request is
+/// the same, where it isn't 503; and where two texts are exchanged in all answers to the round, the replies in a run stay
+/// the same but for the texts of the answers that are listed.
+///
+/// The premises on two runs are those of `law_others`, and so are `answered` and `searches`.
+pub fn law_sealed()
+    ensures verdicts { SealedVerdicts }
+    ensures runs { SealedRuns }
+    ensures lives { LivesHideAnswers }
+    ensures answered { SealedAnswers }
+    ensures searches { CertifiedExchanged }
 {}

@@ -34,8 +34,8 @@ mod verdict;
 
 pub use desk::Desk;
 pub use law::{
-    law_accepted_answers, law_accepted_protests, law_records, law_rulings, law_sanity,
-    law_steps_agree, law_tokens,
+    law_accepted_answers, law_accepted_protests, law_before_start, law_others, law_records,
+    law_rulings, law_sanity, law_sealed, law_steps_agree, law_tokens,
 };
 pub use planned::Plan;
 pub use reply::{

@@ -7,3 +7,8 @@ pub mod First
 pub mod Lists
 pub mod Orders
 pub mod Maps
+pub mod Texts
+pub mod Deciding
+pub mod Viewed
+pub mod DecidingAlike
+pub mod LoneDecisions

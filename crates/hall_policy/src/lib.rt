@@ -4,6 +4,7 @@
 mod asked;
 mod decision;
 mod facts;
+mod law;
 mod list;
 mod number;
 mod ranges;
@@ -16,6 +17,7 @@ mod text;
 
 pub use decision::{decide, decide_up_to};
 pub use facts::Facts;
+pub use law::law_decisions;
 pub use list::{Entries, People, is_new};
 pub use number::{
     AnswerNumber, Bonus, Budget, Minutes, Moment, Penalty, Points, ProtestMinutes, PuzzleNumber,

@@ -1,9 +1,10 @@
-use Rattle.std.proofs.Common.{◌≡◌, ◌≢◌, List, ℕ, Option, Some, IfSome, true, false, not, sym, ap, ◌∙◌, subst}
+use Rattle.std.proofs.Common.{◌≡◌, Option, Some, IfSome, true, false, not, sym, ap, ◌∙◌, subst}
 use Rattle.std.specs.FinMap.{get, values}
 use Rattle.hall_policy.specs.World.{same_text}
 use Rattle.hall_policy.specs.declared.record.Person.{Person}
 use Rattle.hall_store.proofs.Tests.{not_true}
-use Rattle.hall_desk.proofs.Answering.{find-Contains, text_decides}
+use Rattle.hall_desk.proofs.Answering.{find-Contains}
+use Rattle.hall_policy.proofs.Texts.{text_decides}
 use Rattle.hall_desk.proofs.import_people.has_key_of_another.Goals as goal
 
 pub returns-in-Some-clause-served : goal.returns-in-Some-clause-served

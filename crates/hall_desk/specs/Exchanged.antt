@@ -1,0 +1,42 @@
+-- A list of requests in which two answers to a sealed round are exchanged.
+use Rattle.std.specs.Prelude.{◌≡◌, ◌<◌, ℕ, List, [], Some, None, map, All, IsTrue, if◌then◌else◌}
+use Rattle.std.specs.FinMap.{get}
+use Rattle.hall_policy.specs.World.{World, end_of, same_text}
+use Rattle.hall_policy.specs.OwnAlike.{exchanged}
+use Rattle.hall_policy.specs.declared.record.AnswerKey.{AnswerKey}
+use Rattle.hall_policy.specs.declared.record.Round.{Round}
+use Rattle.hall_policy.specs.declared.request.Request.{Request}
+use Rattle.hall_desk.specs.Shown.{is_sealed}
+use Rattle.hall_desk.specs.declared.reply.AnswerLine.{AnswerLine}
+use Rattle.hall_desk.specs.declared.reply.Reply.{Reply}
+use Rattle.hall_desk.specs.declared.reply.Reply.TheVariants as reply
+
+-- in the round r the text a stands for b, and b for a
+abbrev pub swapped : List ℕ → List ℕ → List ℕ → List ℕ → List ℕ → List ℕ
+swapped r a b round text =
+    if same_text round r then (if same_text text a then b else (if same_text text b then a else text)) else text
+
+-- the request with the text of its answer, where it hands one in, read by `ex`
+abbrev pub exchanged_request : (List ℕ → List ℕ → List ℕ) → Request → Request
+exchanged_request ex request = record { key = request.key; action = exchanged ex request.action }
+
+-- the list in which a stands for b and b for a, wherever one of them is the answer that is handed in to the round r
+abbrev pub exchanged_list : List ℕ → List ℕ → List ℕ → List (ℕ × Request) → List (ℕ × Request)
+exchanged_list r a b list = map (λ asked. (asked.0, exchanged_request (swapped r a b) asked.1)) list
+
+-- the line without its text
+abbrev pub blank_line : AnswerLine → AnswerLine
+blank_line line = record line { answer = [] }
+
+-- the reply without the texts of a listing of answers
+abbrev pub blank : Reply → Reply
+blank (reply.AnswerList lines) = reply.AnswerList (map blank_line lines)
+blank given = given
+
+-- the round is sealed and released, it has no answer, and isn't over at any moment of the list
+pub record IsSealedRound (world : World) (r : List ℕ) (round : Round) (list : List (ℕ × Request)) : Type 0 where
+  pub kept : get world.rounds r ≡ Some round
+  pub released : IsTrue round.released
+  pub sealed : IsTrue (is_sealed round.mode)
+  pub none : (key : AnswerKey) → key.round ≡ r → get world.answers key ≡ None
+  pub before : All (λ asked. asked.0 < end_of round) list
