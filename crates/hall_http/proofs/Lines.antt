@@ -1,5 +1,5 @@
 -- What a connection over a line leaves.
-use Rattle.std.proofs.Common.{◌≡◌, subst, sym, ℕ, inl, inr, List, Option}
+use Rattle.std.proofs.Common.{◌≡◌, ◌∙◌, ap, ℕ, inl, inr, List, Option}
 use Rattle.std.specs.Prelude.{Result, Ok, Err, IfOk, OnErr}
 use Rattle.hall_grid.specs.Device.{HasFailed, Tally}
 use Rattle.hall_store.specs.Store.{Content, Leads}
@@ -28,33 +28,39 @@ module _ {L R W H C E : Type 0} (hands_out : L → R → W → L → Type 0) (re
   line_sane (Ok e) (inr alone) = rw alone.store (λ k s sane. sane)
   line_sane (Err e) left = rw left.store (λ k s sane. sane)
 
-  -- what was served over the two ends that were handed out, counted from their first state, and then hung up
-  module _ (ready : L) (reader : R) (writer : W) (read : Tally R) (write : Tally W) (reader_left : Tally R)
-      (writer_left : Tally W) where
-    pub line_served : (r : Result ServeEnd E) → hands_out l reader writer ready
-        → read.device ≡ reader → read.calls ≡ 0 → read.failures ≡ 0 → write.device ≡ writer → write.failures ≡ 0
-        → IfOk r (IsServed now_gives (remaining read.device) (remaining reader_left.device) (contents write.device)
-        (contents writer_left.device) (content h) (content i) c d (HasFailed read.failures reader_left.failures)
-        (HasFailed write.failures writer_left.failures) read.calls reader_left.calls)
-        → OnErr r (i ≡ h) → OnErr r (d ≡ c) → OnErr r (writer_left ≡ write)
-        → hears ready writer_left.device m → Line r
-    line_served (Ok e) set_up reads unasked unread writes unwritten served store clock left hung_up =
-        inl (record {
-          ready = ready;
-          reader = reader;
-          writer = writer;
-          reader_left = reader_left;
-          writer_left = writer_left;
-          set_up = set_up;
-          served = rw (reads, unasked, unread, writes, unwritten) at served;
-          hung_up = hung_up;
-        })
-    line_served (Err e) set_up reads unasked unread writes unwritten served store clock left hung_up = record {
-      ready = ready;
-      reader = reader;
-      writer = writer;
-      set_up = set_up;
-      hung_up = rw (left, writes) at hung_up;
-      store = store;
-      clock = clock;
-    }
+-- what was served over the two ends that were handed out, counted from their first state, and then hung up
+module _ {L R W K H C E : Type 0} (hands_out : L → R → W → L → Type 0) (refuses : L → L → Type 0)
+    (hears : L → W → L → Type 0) (remaining : R → Option (List ℕ)) (contents : W → Option (List ℕ))
+    (content : H → Content) (now_gives : C → Option ℕ → C → Type 0) (kept : K → H)
+    (l ready m : L) (desk later : K) (c d : C) (reader : R) (writer told : W)
+    (read reader_left : Tally R) (write writer_left : Tally W) where
+  pub line_served : (r : Result ServeEnd E) → hands_out l reader writer ready
+      → read.device ≡ reader → read.calls ≡ 0 → read.failures ≡ 0 → write.device ≡ writer → write.failures ≡ 0
+      → IfOk r (IsServed now_gives (remaining read.device) (remaining reader_left.device) (contents write.device)
+      (contents writer_left.device) (content (kept desk)) (content (kept later)) c d
+      (HasFailed read.failures reader_left.failures) (HasFailed write.failures writer_left.failures)
+      read.calls reader_left.calls)
+      → OnErr r (later ≡ desk) → OnErr r (d ≡ c) → OnErr r (writer_left ≡ write)
+      → told ≡ writer_left.device → hears ready told m
+      → IsLineServed hands_out refuses hears remaining contents content now_gives l (kept desk) c m (kept later) d r
+  line_served (Ok e) set_up reads unasked unread writes unwritten served same stood left last hung_up =
+      inl (record {
+        ready = ready;
+        reader = reader;
+        writer = writer;
+        reader_left = reader_left;
+        writer_left = writer_left;
+        set_up = set_up;
+        served = rw (reads, unasked, unread, writes, unwritten) at served;
+        hung_up = rw last at hung_up;
+      })
+  line_served (Err e) set_up reads unasked unread writes unwritten served same stood left last hung_up =
+      let first : told ≡ writer = last ∙ ap (λ (t : Tally W). t.device) left ∙ writes in record {
+        ready = ready;
+        reader = reader;
+        writer = writer;
+        set_up = set_up;
+        hung_up = rw first at hung_up;
+        store = ap kept same;
+        clock = stood;
+      }

@@ -1,6 +1,6 @@
 //! Connections over sockets.
 use crate::opening::opening_desk;
-use hall_http::{Clock, ServeEnd, SystemClock, serve_line};
+use hall_http::{Clock, Host, ServeEnd, SystemClock, SystemHost, serve_line};
 use std::io;
 use std::io::Write;
 use std::net::{TcpListener, TcpStream};
@@ -31,4 +31,14 @@ fn the_systems_clock_tells_seconds_of_this_century(rt: HostRuntime) {
         return;
     };
     assert!(rt; now.get() > 1_700_000_000);
+}
+
+#[test]
+fn the_systems_host_listens_for_this_machine_alone(rt: HostRuntime) -> Result<(), Fail> {
+    let host = SystemHost::new(&rt);
+    let listener = host.listen(0)?;
+    assert!(rt; listener.local_addr()?.ip().is_loopback());
+    assert!(rt; host.listen(65_536).is_err());
+    assert!(rt; host.clock().now().is_some());
+    Ok(())
 }
