@@ -3,6 +3,12 @@ use Rattle.hall_desk.proofs.Promises.{unique_solutions, right_answers}
 use Rattle.hall_http.proofs.Lines.{line_served}
 use Rattle.hall_http.proofs.line.serve_line.Goals as goal
 
+pub returns-in_default-clause-unique : goal.returns-in_default-clause-unique
+returns-in_default-clause-unique g c = λ h s sane. unique_solutions (g.S.Store.content (kept_by c.args.desk.now)).world sane
+
+pub returns-in_default-clause-right : goal.returns-in_default-clause-right
+returns-in_default-clause-right g c = λ h s sane. right_answers (g.S.Store.content (kept_by c.args.desk.now)).world sane
+
 pub returns-clause-line : goal.returns-clause-line
 returns-clause-line g c =
     line_served g.L.Line.hands_out g.L.Line.refuses g.L.Line.hears g.L.Reader.Read.remaining g.L.Writer.Write.contents
