@@ -1,5 +1,5 @@
 -- What connections leave, one after another.
-use Rattle.std.proofs.Common.{◌≡◌, ◌+◌, ◌≤◌, sym, subst, arith, add-one, ℕ, zero, suc, inl, inr, List, Option}
+use Rattle.std.proofs.Common.{◌≡◌, ◌+◌, ◌≤◌, subst, arith, add-one, ℕ, zero, suc, inl, inr, List, Option}
 use Rattle.std.specs.Prelude.{Result}
 use Rattle.std.specs.declared.alloc.AllocError.{AllocError}
 use Rattle.hall_store.specs.Store.{Content, Leads}

@@ -1,5 +1,5 @@
 -- A session over a store is a run of the hall over its requests.
-use Rattle.std.proofs.Common.{◌≡◌, ◌∙◌, sym, subst, refl, arith, ℕ, inl, inr, List, [], ◌∷◌, ◌++◌, Option, Some, None, All}
+use Rattle.std.proofs.Common.{◌≡◌, ◌∙◌, sym, subst, refl, ℕ, inl, inr, List, [], ◌∷◌, ◌++◌, Option, Some, None, All}
 use Rattle.std.proofs.lemmas.List.Elements.{All-nil, All-cons}
 use Rattle.hall_policy.specs.World.{World}
 use Rattle.hall_store.specs.Store.{Content, Leads, Over}

@@ -396,7 +396,7 @@ fn a_line_is_hung_up_and_what_still_comes_is_read_off(rt: HostRuntime) {
     let ended = serve_line(rt.alloc(), &mut desk, &mut line, &mut clock(&[1])).expect(&rt, "serve");
     assert!(rt; ended == ServeEnd::Closed);
     assert!(rt; seen.reads_before_end.get() == CLOSING.len());
-    assert!(rt; seen.reads.get() == CLOSING.len() + 64);
+    assert!(rt; seen.reads.get() == CLOSING.len().wrapping_add(64));
     drop(line);
     assert!(rt; seen.into_written().as_slice() == NO_ROUTE);
 }
