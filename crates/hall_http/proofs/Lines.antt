@@ -1,96 +1,66 @@
 -- What a connection over a line leaves.
-use Rattle.std.proofs.Common.{◌≡◌, ap, subst, refl, ℕ, inl, inr, List, Option, None}
+use Rattle.std.proofs.Common.{◌≡◌, ◌∙◌, ap, ℕ, inl, inr, List, Option}
 use Rattle.std.specs.Prelude.{Result, Ok, Err, IfOk, OnErr}
-use Rattle.std.proofs.KnownBytes.{Consumes-trans}
-use Rattle.std.specs.Io.KnownBytes.{Consumes}
 use Rattle.hall_grid.specs.Device.{HasFailed, Tally}
-use Rattle.hall_store.specs.Store.{Content}
+use Rattle.hall_store.specs.Store.{Content, Leads}
+use Rattle.hall_store.proofs.Knowing.{leads_same}
 use Rattle.hall_desk.specs.Sane.{Sane}
 use Rattle.hall_desk.specs.Desk.{SaneThen}
 use Rattle.hall_http.specs.Served.{IsServed}
-use Rattle.hall_http.specs.Socket.{IsRunThrough}
-use Rattle.hall_http.specs.Line.{Ends, ends_of, untold, TakesOff, IsLineServed}
+use Rattle.hall_http.specs.Line.{IsLineServed}
 use Rattle.hall_http.specs.declared.connection.ServeEnd.{ServeEnd}
-use Rattle.hall_http.proofs.Runs.{idle, runs_sane}
+use Rattle.hall_http.proofs.Runs.{runs_sane}
 
-pub takes_more : (stream after then : Option (List ℕ)) (piece : List ℕ) → TakesOff stream after
-    → Consumes after then piece → TakesOff stream then
-takes_more stream after then piece (rest, took) more = (_, Consumes-trans stream after then rest piece took more)
+module _ {L R W H C E : Type 0} (hands_out : L → R → W → L → Type 0) (refuses : L → L → Type 0)
+    (hears : L → W → L → Type 0) (remaining : R → Option (List ℕ)) (contents : W → Option (List ℕ))
+    (content : H → Content) (now_gives : C → Option ℕ → C → Type 0) (l : L) (h : H) (c : C) (m : L) (i : H) (d : C) where
+  abbrev Line : Result ServeEnd E → Type 0
+  Line r = IsLineServed hands_out refuses hears remaining contents content now_gives l h c m i d r
 
-served_run : {C : Type 0} (now_gives : C → Option ℕ → C → Type 0) (stream after wrote written : Option (List ℕ))
-    (old new : Content) (clock later : C) (read_failed write_failed : Type 0) (asked asks : ℕ) (end : ServeEnd)
-    → IsServed now_gives stream after wrote written old new clock later read_failed write_failed asked asks end
-    → IsRunThrough now_gives old new clock later
-served_run now_gives stream after wrote written old new clock later read_failed write_failed asked asks end served = record {
-  exchanges = served.exchanges;
-  whole = served.whole;
-  moments = served.moments;
-  few = served.few;
-  leads = served.leads;
-  run = served.run;
-}
+  pub line_leads : (r : Result ServeEnd E) → Line r → Leads (content h) (content i)
+  line_leads (Ok e) (inl through) = through.served.leads
+  line_leads (Ok e) (inr alone) = rw alone.store (leads_same (content h))
+  line_leads (Err e) left = rw left.store (leads_same (content h))
 
-module _ {H C E : Type 0} (refuses : Type 0) (content : H → Content) (now_gives : C → Option ℕ → C → Type 0)
-    (before after : Ends) (h : H) (c : C) (i : H) (d : C) where
-  -- however it ended, a run of the hall
-  pub line_run : (r : Result ServeEnd E) → IsLineServed refuses content now_gives before after h c i d r
-      → IsRunThrough now_gives (content h) (content i) c d
-  line_run (Ok e) (inl through) = served_run now_gives _ _ _ _ (content h) (content i) c d _ _ _ _ e through.served
-  line_run (Ok e) (inr alone) = rw (alone.desk, alone.clock) (idle now_gives (content h) c)
-  line_run (Err e) (hung, same, stood) = rw (same, stood) (idle now_gives (content h) c)
+  pub line_sane : (r : Result ServeEnd E) → Line r → SaneThen Sane (content h) (content i)
+  line_sane (Ok e) (inl through) =
+      runs_sane (content h) through.served.exchanges (content i) through.served.run
+  line_sane (Ok e) (inr alone) = rw alone.store (λ k s sane. sane)
+  line_sane (Err e) left = rw left.store (λ k s sane. sane)
 
-  pub line_sane : (r : Result ServeEnd E) → IsLineServed refuses content now_gives before after h c i d r
-      → SaneThen Sane (content h) (content i)
-  line_sane r served =
-      let through = line_run r served in runs_sane (content h) through.exchanges (content i) through.run
-
-  -- refused for memory, it left the desk as it was
-  pub line_desk : (r : Result ServeEnd E) → IsLineServed refuses content now_gives before after h c i d r
-      → OnErr r (i ≡ h)
-  line_desk (Ok e) served = tt
-  line_desk (Err e) (hung, same, stood) = same
-
--- what was served over a reader and a writer, and then hung up
-module _ {H C R W E : Type 0} (refuses : Type 0) (content : H → Content) (now_gives : C → Option ℕ → C → Type 0)
-    (remaining : R → Option (List ℕ)) (contents : W → Option (List ℕ)) (reader then after : Tally R)
-    (writer written : Tally W) (h : H) (c : C) (i : H) (d : C) where
-  pub line_served : (r : Result ServeEnd E)
-      → IfOk r (IsServed now_gives (remaining reader.device) (remaining then.device) (contents writer.device)
-      (contents written.device) (content h) (content i) c d (HasFailed reader.failures then.failures)
-      (HasFailed writer.failures written.failures) reader.calls then.calls)
-      → OnErr r (i ≡ h) → OnErr r (d ≡ c) → OnErr r (then ≡ reader) → OnErr r (written ≡ writer)
-      → TakesOff (remaining then.device) (remaining after.device)
-      → IsLineServed refuses content now_gives (ends_of remaining contents reader writer)
-      (ends_of remaining contents after written) h c i d r
-  line_served (Ok e) served same stood unread unwritten off =
+-- what was served over the two ends that were handed out, counted from their first state, and then hung up
+module _ {L R W K H C E : Type 0} (hands_out : L → R → W → L → Type 0) (refuses : L → L → Type 0)
+    (hears : L → W → L → Type 0) (remaining : R → Option (List ℕ)) (contents : W → Option (List ℕ))
+    (content : H → Content) (now_gives : C → Option ℕ → C → Type 0) (kept : K → H)
+    (l ready m : L) (desk later : K) (c d : C) (reader : R) (writer told : W)
+    (read reader_left : Tally R) (write writer_left : Tally W) where
+  pub line_served : (r : Result ServeEnd E) → hands_out l reader writer ready
+      → read.device ≡ reader → read.calls ≡ 0 → read.failures ≡ 0 → write.device ≡ writer → write.failures ≡ 0
+      → IfOk r (IsServed now_gives (remaining read.device) (remaining reader_left.device) (contents write.device)
+      (contents writer_left.device) (content (kept desk)) (content (kept later)) c d
+      (HasFailed read.failures reader_left.failures) (HasFailed write.failures writer_left.failures)
+      read.calls reader_left.calls)
+      → OnErr r (later ≡ desk) → OnErr r (d ≡ c) → OnErr r (writer_left ≡ write)
+      → told ≡ writer_left.device → hears ready told m
+      → IsLineServed hands_out refuses hears remaining contents content now_gives l (kept desk) c m (kept later) d r
+  line_served (Ok e) set_up reads unasked unread writes unwritten served same stood left last hung_up =
       inl (record {
-        left = ends_of remaining contents then written;
-        served = served;
-        hung_up = record { coming = off; written = refl; failed_writes = refl };
+        ready = ready;
+        reader = reader;
+        writer = writer;
+        reader_left = reader_left;
+        writer_left = writer_left;
+        set_up = set_up;
+        served = rw (reads, unasked, unread, writes, unwritten) at served;
+        hung_up = rw last at hung_up;
       })
-  line_served (Err e) served same stood unread unwritten off = (
-    record {
-      coming = subst (λ (t : Tally R). TakesOff (remaining t.device) (remaining after.device)) unread off;
-      written = ap (λ (t : Tally W). contents t.device) unwritten;
-      failed_writes = ap (λ (t : Tally W). t.failures) unwritten;
-    },
-    same,
-    stood,
-  )
-
--- a line that tells no bytes, and whose reads and writes haven't failed before
-pub untold_line : {H C E : Type 0} (refuses : Type 0) (content : H → Content) (now_gives : C → Option ℕ → C → Type 0)
-    (asked reads writes : ℕ) (after : Ends) (h : H) (c : C) (i : H) (d : C) (r : Result ServeEnd E)
-    → asked ≡ 0 → reads ≡ 0 → writes ≡ 0
-    → IsLineServed refuses content now_gives
-    (record { coming = None; written = None; reads = asked; failed_reads = reads; failed_writes = writes }) after
-    h c i d r
-    → IsLineServed refuses content now_gives untold after h c i d r
-untold_line refuses content now_gives asked reads writes after h c i d r unasked unread unwritten served =
-    subst (λ (n : ℕ). IsLineServed refuses content now_gives
-    (record { coming = None; written = None; reads = 0; failed_reads = 0; failed_writes = n }) after h c i d r) unwritten
-    (subst (λ (n : ℕ). IsLineServed refuses content now_gives
-    (record { coming = None; written = None; reads = 0; failed_reads = n; failed_writes = writes }) after h c i d r) unread
-    (subst (λ (n : ℕ). IsLineServed refuses content now_gives
-    (record { coming = None; written = None; reads = n; failed_reads = reads; failed_writes = writes }) after h c i d r)
-    unasked served))
+  line_served (Err e) set_up reads unasked unread writes unwritten served same stood left last hung_up =
+      let first : told ≡ writer = last ∙ ap (λ (t : Tally W). t.device) left ∙ writes in record {
+        ready = ready;
+        reader = reader;
+        writer = writer;
+        set_up = set_up;
+        hung_up = rw first at hung_up;
+        store = ap kept same;
+        clock = stood;
+      }

@@ -1,5 +1,5 @@
 -- A session over a store is a run of the hall over its requests.
-use Rattle.std.proofs.Common.{◌≡◌, ◌∙◌, sym, subst, refl, arith, ℕ, inl, inr, List, [], ◌∷◌, ◌++◌, Option, Some, None, All}
+use Rattle.std.proofs.Common.{◌≡◌, ◌∙◌, sym, subst, refl, ℕ, inl, inr, List, [], ◌∷◌, ◌++◌, Option, Some, None, All}
 use Rattle.std.proofs.lemmas.List.Elements.{All-nil, All-cons}
 use Rattle.hall_policy.specs.World.{World}
 use Rattle.hall_store.specs.Store.{Content, Leads, Over}
@@ -11,7 +11,6 @@ use Rattle.hall_desk.proofs.StepsSane.{run_sane}
 use Rattle.hall_http.specs.Head.{IsWhole}
 use Rattle.hall_http.specs.Connection.{Exchange, Session}
 use Rattle.hall_http.specs.Served.{IsHandled, IsServed}
-use Rattle.hall_http.specs.Socket.{IsRunThrough}
 use Rattle.hall_http.specs.declared.connection.ServeEnd.{ServeEnd}
 use Rattle.hall_http.specs.Serving.{AnswersAt, IsAnswered, AreMoments, IsNotMade, IsRunOver, RunsOver}
 
@@ -162,15 +161,3 @@ module _ {H C : Type 0} (content : H → Content) (now_gives : C → Option ℕ 
   handled_sane e handled =
       runs_sane (content h) handled.exchanges (content i)
       (session_runs content now_gives h c handled.exchanges i d handled.session)
-
--- nobody was served
-pub idle : {C : Type 0} (now_gives : C → Option ℕ → C → Type 0) (store : Content) (clock : C)
-    → IsRunThrough now_gives store store clock clock
-idle now_gives store clock = record {
-  exchanges = [];
-  whole = All-nil (λ x. IsWhole x.request);
-  moments = refl;
-  few = omega arith;
-  leads = leads_same store;
-  run = λ k. onward_runs store [] store (store.world, refl, λ s. refl);
-}

@@ -1,4 +1,4 @@
--- What bytes are as requests and as records, they are in one way.
+-- What bytes are as requests and as records, they are in at most one way.
 use Rattle.std.specs.Prelude.{◌≡◌, ℕ, List, ◌++◌, flat_map, All, Result}
 use Rattle.httparse.specs.Grammar.{RequestHead}
 use Rattle.hall_policy.specs.declared.request.Request.{Request}
@@ -7,19 +7,19 @@ use Rattle.hall_http.specs.Head.{IsRequest, IsWhole, HasNone}
 use Rattle.hall_http.specs.Request.{RequestOf}
 use Rattle.hall_http.specs.Records.{Record, Records, HasNoRecord}
 
--- bytes are one request, and no two
+-- bytes are at most one request
 abbrev pub AreOneRequest : Type 0
 AreOneRequest =
     (bytes : List ℕ) (head other : RequestHead) (body more : List ℕ)
     → IsRequest bytes head body → IsRequest bytes other more → (head ≡ other) × (body ≡ more)
 
--- a stream begins with one whole request, and no two
+-- a stream begins with at most one whole request
 abbrev pub BeginsWithOneRequest : Type 0
 BeginsWithOneRequest =
     (first other rest left : List ℕ)
     → IsWhole first → IsWhole other → first ++ rest ≡ other ++ left → (first ≡ other) × (rest ≡ left)
 
--- bytes ask for one thing, or have one first fault of their form
+-- bytes ask for at most one thing, or have at most one first fault of their form
 abbrev pub AskForOneThing : Type 0
 AskForOneThing =
     (bytes : List ℕ) (outcome other : Result Request FormFault)
@@ -31,13 +31,13 @@ pub record Requests (stream : List ℕ) (requests : List (List ℕ)) (rest : Lis
   pub each : All IsWhole requests
   pub ended : HasNone rest
 
--- a stream is one list of requests, and no two
+-- a stream is at most one list of requests
 abbrev pub AreOneListOfRequests : Type 0
 AreOneListOfRequests =
     (stream : List ℕ) (requests others : List (List ℕ)) (rest left : List ℕ)
     → Requests stream requests rest → Requests stream others left → (requests ≡ others) × (rest ≡ left)
 
--- an input is one list of records, and no two
+-- an input is at most one list of records
 abbrev pub AreOneListOfRecords : Type 0
 AreOneListOfRecords =
     (stream : List ℕ) (records others : List Record) (rest left : List ℕ)

@@ -15,7 +15,6 @@ pub mod Replay
 pub mod Inbox
 pub mod Connection
 pub mod Serving
-pub mod Socket
 pub mod Served
 pub mod Line
 pub mod Listener

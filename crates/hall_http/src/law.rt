@@ -2,7 +2,8 @@
 ghost use Rattle.hall_http.specs.Laws.{AreOneRequest, BeginsWithOneRequest, AskForOneThing};
 ghost use Rattle.hall_http.specs.Laws.{AreOneListOfRequests, AreOneListOfRecords};
 
-/// Bytes are one request, a stream is one list of requests and an input one list of records, and no two.
+/// Bytes are at most one request and ask for at most one thing. A stream begins with at most one whole request and is at
+/// most one list of requests; an input is at most one list of records.
 pub fn law_requests()
     ensures one_request { AreOneRequest }
     ensures one_first { BeginsWithOneRequest }

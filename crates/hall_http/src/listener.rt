@@ -3,53 +3,35 @@ ghost use Rattle.hall_desk.specs.Desk.{kept_by, SaneThen};
 ghost use Rattle.hall_desk.specs.Sane.{Sane};
 ghost use Rattle.hall_desk.specs.Promises.{HasUniqueSolutions, RightAnswersAreSolutions};
 ghost use Rattle.hall_http.specs.declared.listener.Accepted.{Accepted};
-ghost use Rattle.hall_http.specs.Line.{Ends};
-ghost use Rattle.hall_http.specs.Listener.{IsClientServed, AreServed};
+ghost use Rattle.hall_http.specs.Listener.{AreServed};
 
-use crate::connection::{Clock, ServeEnd};
-use crate::socket::serve_socket;
+use crate::connection::Clock;
+use crate::line::{Line, serve_line};
 use hall_desk::Desk;
 use hall_store::Store;
-use std::alloc::{AllocError, Global};
+use std::alloc::Global;
 use std::io::ErrorKind;
 use std::net::{TcpListener, TcpStream};
 
-/// A client that was let in.
-pub trait Client: Drop {
-    ghost refuses: { Self → Type 0 };
-
-    ghost goes: { Self → Ends → Ends → Self → Type 0 };
-
-    /// Serves the client's connection, and hangs up.
-    fn serve<S: Store, C: Clock>(
-        &mut self,
-        alloc: Global,
-        desk: &mut Desk<S>,
-        clock: &mut C,
-    ) -> Result<ServeEnd, AllocError>
-        ensures { IsClientServed refuses goes (λ desk. S.content (kept_by desk)) C.now_gives
-            self.old desk.old clock.old self.new desk.new clock.new result };
-}
-
-/// What comes of waiting for the next client.
+/// What comes of waiting for the next line.
 #[derive(Drop)]
 pub enum Accepted<X> {
     /// It is let in.
-    Client(X),
+    Line(X),
     /// It went away before it was let in.
     Gone,
     /// No more can come in.
     Refused,
 }
 
-/// What lets clients in, one after another.
+/// What lets lines in, one after another.
 pub trait Listener {
-    type Client: Client;
+    type Line: Line + Drop;
 
-    ghost accepts: { Self → Accepted Self.Client → Self → Type 0 };
+    ghost accepts: { Self → Accepted Self.Line → Self → Type 0 };
 
-    /// Waits for the next client.
-    fn accept(&mut self) -> Accepted<Self::Client>
+    /// Waits for the next line.
+    fn accept(&mut self) -> Accepted<Self::Line>
         ensures { accepts self.old result self.new };
 }
 
@@ -70,17 +52,17 @@ pub fn serve_all<S: Store, L: Listener, C: Clock>(
     clock: &mut C,
     connections: u64,
 ) -> ServeAllEnd
-    ensures served { AreServed L.accepts L.Client.refuses L.Client.goes
-        (λ desk. S.content (kept_by desk)) C.now_gives
-        connections listener.old desk.old clock.old listener.new desk.new clock.new result }
+    ensures served { AreServed L.accepts L.Line.hands_out L.Line.refuses L.Line.hears L.Line.Reader.remaining
+        L.Line.Writer.contents S.content C.now_gives connections listener.old (kept_by desk.old) clock.old
+        listener.new (kept_by desk.new) clock.new result }
     ensures sane { SaneThen Sane (S.content (kept_by desk.old)) (S.content (kept_by desk.new)) }
     ensures unique { SaneThen HasUniqueSolutions (S.content (kept_by desk.old)) (S.content (kept_by desk.new)) }
     ensures right { SaneThen RightAnswersAreSolutions (S.content (kept_by desk.old)) (S.content (kept_by desk.new)) }
 {
     for _turn in 0..connections {
         match listener.accept() {
-            Accepted::Client(mut client) => {
-                let _ended = client.serve(alloc, desk, clock);
+            Accepted::Line(mut line) => {
+                let _ended = serve_line(alloc, desk, &mut line, clock);
             }
             Accepted::Gone => {}
             Accepted::Refused => return ServeAllEnd::Refused,
@@ -89,29 +71,14 @@ pub fn serve_all<S: Store, L: Listener, C: Clock>(
     ServeAllEnd::Served
 }
 
-impl Client for TcpStream {
-    ghost refuses = { λ _. Unit {0} };
-
-    ghost goes = { λ _ _ _ _. Unit {0} };
-
-    fn serve<S: Store, C: Clock>(
-        &mut self,
-        alloc: Global,
-        desk: &mut Desk<S>,
-        clock: &mut C,
-    ) -> Result<ServeEnd, AllocError> {
-        serve_socket(alloc, desk, self, clock)
-    }
-}
-
 impl Listener for TcpListener {
-    type Client = TcpStream;
+    type Line = TcpStream;
 
     ghost accepts = { λ _ _ _. Unit {0} };
 
     fn accept(&mut self) -> Accepted<TcpStream> {
         match TcpListener::accept(self) {
-            Ok((stream, _)) => Accepted::Client(stream),
+            Ok((stream, _)) => Accepted::Line(stream),
             Err(error) if error.kind() == ErrorKind::ConnectionAborted => Accepted::Gone,
             Err(_) => Accepted::Refused,
         }

@@ -1,8 +1,11 @@
 //! Bytes to bytes: replays, and connections.
 use crate::devices::{endless_reader, failing_reader, failing_writer};
+use crate::lines::{Listed, Seen, endless};
 use crate::opening::opening_desk;
 use hall_grid::Counted;
-use hall_http::{Clock, Line, ReplayFault, ServeEnd, replay, serve, serve_line};
+use hall_http::{
+    Accepted, Clock, ReplayFault, ServeAllEnd, ServeEnd, replay, serve, serve_all, serve_line,
+};
 use hall_policy::Moment;
 use std::alloc::AllocGlobal;
 use std::io;
@@ -385,38 +388,66 @@ fn a_connection_ends_at_a_device_fault(rt: HostRuntime) {
     }
 }
 
-/// A line that is always ready.
-struct Ready;
-
-impl Line for Ready {
-    ghost refuses = { λ _. ⊥ };
-
-    fn set_up(&self) -> io::Result<()> {
-        Ok(())
-    }
-
-    fn end_writing(&self) {}
+#[test]
+fn a_line_is_hung_up_and_what_still_comes_is_read_off(rt: HostRuntime) {
+    let seen = Seen::new(rt.alloc());
+    let mut line = endless(rt.alloc(), Some(CLOSING), &seen);
+    let mut desk = opening_desk(&rt);
+    let ended = serve_line(rt.alloc(), &mut desk, &mut line, &mut clock(&[1])).expect(&rt, "serve");
+    assert!(rt; ended == ServeEnd::Closed);
+    assert!(rt; seen.reads_before_end.get() == CLOSING.len());
+    assert!(rt; seen.reads.get() == CLOSING.len().wrapping_add(64));
+    drop(line);
+    assert!(rt; seen.into_written().as_slice() == NO_ROUTE);
 }
 
-/// Serves one connection of a line over the opening world.
-fn served_line<R: Read, W: Write>(
-    rt: &(impl AllocGlobal + Abort),
-    reader: &mut Counted<R>,
-    writer: &mut Counted<W>,
-) -> ServeEnd {
-    let mut desk = opening_desk(rt);
-    let mut clock = clock(&[1]);
-    serve_line(rt.alloc(), &mut desk, &Ready, reader, writer, &mut clock).expect(rt, "serve")
+/// How many connections may come, what was written on their lines, and whether that was all that could come in.
+const ALL_SERVED: [(u64, &[&[u8]], bool); 4] = [
+    (1, &[NO_ROUTE], false),
+    (3, &[NO_ROUTE], false),
+    (4, &[NO_ROUTE, NOT_WHOLE], false),
+    (5, &[NO_ROUTE, NOT_WHOLE], true),
+];
+
+/// The last one comes first: a client that is served, one that goes away, a line that can't be set up, and another
+/// client.
+fn listed<'a>(rt: &(impl AllocGlobal + Abort), seen: &'a Seen) -> Listed<'a> {
+    let mut coming = Vec::new(rt.alloc());
+    for next in [
+        Accepted::Line(endless(rt.alloc(), Some(b"\0"), seen)),
+        Accepted::Line(endless(rt.alloc(), None, seen)),
+        Accepted::Gone,
+        Accepted::Line(endless(rt.alloc(), Some(CLOSING), seen)),
+    ] {
+        coming.push(next).expect(rt, "memory");
+    }
+    Listed { coming }
 }
 
 #[test]
-fn a_line_is_served_and_what_is_left_is_read_off(rt: HostRuntime) {
-    let sent = joined(&rt, &[REQUEST, CLOSING, REQUEST]);
-    let mut reader = Counted::new(sent.as_slice());
-    let mut writer = Counted::new(Vec::new(rt.alloc()));
-    let ended = served_line(&rt, &mut reader, &mut writer);
-    assert!(rt; ended == ServeEnd::Closed && reader.into_inner().is_empty());
-    assert!(rt; writer.into_inner() == joined(&rt, &[NO_ROUTE, NO_ROUTE]));
+fn each_line_that_is_let_in_is_served(rt: HostRuntime) {
+    for (connections, replies, all) in &ALL_SERVED {
+        let seen = Seen::new(rt.alloc());
+        let mut listener = listed(&rt, &seen);
+        let mut desk = opening_desk(&rt);
+        let ended = serve_all(
+            rt.alloc(),
+            &mut desk,
+            &mut listener,
+            &mut clock(&[1]),
+            *connections,
+        );
+        assert!(rt;
+            matches!(ended, ServeAllEnd::Refused) == *all,
+            "{connections} connections"
+        );
+        drop(listener);
+        let written = seen.into_written();
+        assert!(rt;
+            written == joined(&rt, replies),
+            "{connections} connections"
+        );
+    }
 }
 
 #[test]

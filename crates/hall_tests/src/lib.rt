@@ -12,6 +12,8 @@ mod http;
 #[cfg(test)]
 mod limited;
 #[cfg(test)]
+mod lines;
+#[cfg(test)]
 mod opening;
 #[cfg(test)]
 mod socket;

@@ -1,6 +1,6 @@
 //! Connections over sockets.
 use crate::opening::opening_desk;
-use hall_http::{Clock, ServeEnd, SystemClock, serve_socket};
+use hall_http::{Clock, Host, ServeEnd, SystemClock, SystemHost, serve_line};
 use std::io;
 use std::io::Write;
 use std::net::{TcpListener, TcpStream};
@@ -12,10 +12,10 @@ fn the_last_reply_reaches_a_client_that_sends_more(rt: HostRuntime) -> Result<()
     let mut client = TcpStream::connect(&rt, listener.local_addr()?)?;
     client.write_all(b"GET /nothing HTTP/1.1\r\n\r\nno request\r\n\r\n")?;
     client.write_all(&[b'x'; 60_000])?;
-    let (stream, _) = listener.accept()?;
+    let (mut stream, _) = listener.accept()?;
     let mut desk = opening_desk(&rt);
     let mut clock = SystemClock::new(&rt);
-    let ended = serve_socket(rt.alloc(), &mut desk, &stream, &mut clock)?;
+    let ended = serve_line(rt.alloc(), &mut desk, &mut stream, &mut clock)?;
     assert!(rt; ended == ServeEnd::BadHead);
     drop(stream);
     let text = io::read_to_string(rt.alloc(), client)?;
@@ -31,4 +31,14 @@ fn the_systems_clock_tells_seconds_of_this_century(rt: HostRuntime) {
         return;
     };
     assert!(rt; now.get() > 1_700_000_000);
+}
+
+#[test]
+fn the_systems_host_listens_for_this_machine_alone(rt: HostRuntime) -> Result<(), Fail> {
+    let host = SystemHost::new(&rt);
+    let listener = host.listen(0)?;
+    assert!(rt; listener.local_addr()?.ip().is_loopback());
+    assert!(rt; host.listen(65_536).is_err());
+    assert!(rt; host.clock().now().is_some());
+    Ok(())
 }

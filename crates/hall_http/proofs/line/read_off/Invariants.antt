@@ -1,5 +1,5 @@
-use Rattle.hall_http.specs.Line.{TakesOff}
+use Rattle.std.proofs.Common.{◌≤◌, ◌+◌}
 use Rattle.hall_http.proofs.line.read_off.Given as goal
 
 abbrev pub invariant-loop-read : goal.invariant-loop-read
-invariant-loop-read g l = TakesOff (g.R.Read.remaining l.fn.reader.device) (g.R.Read.remaining l.reader.device)
+invariant-loop-read g l = l.reader.calls ≤ l.fn.reader.calls + l._read

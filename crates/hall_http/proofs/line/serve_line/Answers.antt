@@ -3,16 +3,19 @@ use Rattle.hall_desk.proofs.Promises.{unique_solutions, right_answers}
 use Rattle.hall_http.proofs.Lines.{line_served}
 use Rattle.hall_http.proofs.line.serve_line.Goals as goal
 
-pub returns-then-refused-clause-unique : goal.returns-then-refused-clause-unique
-returns-then-refused-clause-unique g c = λ h s sane. unique_solutions (g.S.Store.content (kept_by c.args.desk.now)).world sane
+pub returns-in_default-clause-unique : goal.returns-in_default-clause-unique
+returns-in_default-clause-unique g c = λ h s sane. unique_solutions (g.S.Store.content (kept_by c.args.desk.now)).world sane
 
-pub returns-then-refused-clause-right : goal.returns-then-refused-clause-right
-returns-then-refused-clause-right g c = λ h s sane. right_answers (g.S.Store.content (kept_by c.args.desk.now)).world sane
+pub returns-in_default-clause-right : goal.returns-in_default-clause-right
+returns-in_default-clause-right g c = λ h s sane. right_answers (g.S.Store.content (kept_by c.args.desk.now)).world sane
 
 pub returns-clause-line : goal.returns-clause-line
 returns-clause-line g c =
-    line_served (g.L.Line.refuses c.args.line.now) (λ desk. g.S.Store.content (kept_by desk)) g.C.Clock.now_gives
-    g.R.Read.remaining g.W.Write.contents c.args.reader.now c.serve-ended.new.reader c.read_off.new.reader
-    c.args.writer.now c.serve-ended.new.writer c.args.desk.now c.args.clock.now c.serve-ended.new.desk
-    c.serve-ended.new.clock c.serve-ended.result c.serve-ended.ensures.served c.serve-ended.ensures.desk
-    c.serve-ended.ensures.clock c.serve-ended.ensures.reader c.serve-ended.ensures.writer c.read_off.ensures
+    line_served g.L.Line.hands_out g.L.Line.refuses g.L.Line.hears g.L.Reader.Read.remaining g.L.Writer.Write.contents
+    g.S.Store.content g.C.Clock.now_gives kept_by c.args.line.now c.set_up.new.self c.end_writing.new.self
+    c.args.desk.now c.serve-ended.new.desk c.args.clock.now c.serve-ended.new.clock c.in-Ok.reader c.in-Ok.writer
+    c.into_inner.result c.new-reader.result c.serve-ended.new.reader c.new-writer.result c.serve-ended.new.writer
+    c.serve-ended.result c.in-Ok.ensures.handed c.new-reader.ensures.device c.new-reader.ensures.unasked
+    c.new-reader.ensures.none c.new-writer.ensures.device c.new-writer.ensures.none c.serve-ended.ensures.served
+    c.serve-ended.ensures.desk c.serve-ended.ensures.clock c.serve-ended.ensures.writer c.into_inner.ensures
+    c.end_writing.ensures

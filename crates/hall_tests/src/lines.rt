@@ -1,0 +1,112 @@
+//! Lines whose clients never stop sending, and what lets such lines in.
+use crate::devices::{Circling, endless_reader};
+use hall_http::{Accepted, Line, Listener};
+use std::alloc::Global;
+use std::cell::{Cell, RefCell};
+use std::io;
+use std::io::{ErrorKind, Read};
+
+/// What the lines of one test saw.
+pub(crate) struct Seen {
+    /// How many reads were made.
+    pub(crate) reads: Cell<usize>,
+    /// How many of them before the last line was told that no more is written.
+    pub(crate) reads_before_end: Cell<usize>,
+    /// What was written on the lines that were told so, one line after another.
+    written: RefCell<Vec<u8>>,
+}
+
+impl Seen {
+    pub(crate) fn new(alloc: Global) -> Seen {
+        Seen {
+            reads: Cell::new(0),
+            reads_before_end: Cell::new(0),
+            written: RefCell::new(Vec::new(alloc)),
+        }
+    }
+
+    pub(crate) fn into_written(self) -> Vec<u8> {
+        let Seen {
+            reads: _,
+            reads_before_end: _,
+            written,
+        } = self;
+        written.into_inner()
+    }
+}
+
+/// Gives a client's bytes one at a time, and counts the reads.
+#[derive(Drop)]
+pub(crate) struct Watched<'a> {
+    client: Circling<'a>,
+    seen: &'a Seen,
+}
+
+impl Read for Watched<'_> {
+    fn read(&mut self, buf: &mut [u8]) -> io::Result<usize> {
+        self.seen.reads.set(self.seen.reads.get().saturating_add(1));
+        self.client.read(buf)
+    }
+}
+
+/// The line to a client that sends these bytes over and over; or one that can't be set up.
+#[derive(Drop)]
+pub(crate) struct Endless<'a> {
+    alloc: Global,
+    sent: Option<&'a [u8]>,
+    seen: &'a Seen,
+}
+
+pub(crate) fn endless<'a>(alloc: Global, sent: Option<&'a [u8]>, seen: &'a Seen) -> Endless<'a> {
+    Endless { alloc, sent, seen }
+}
+
+impl<'a> Line for Endless<'a> {
+    type Reader = Watched<'a>;
+
+    type Writer = Vec<u8>;
+
+    ghost hands_out = { λ _ _ _ _. Unit {0} };
+
+    ghost refuses = { λ _ _. Unit {0} };
+
+    ghost hears = { λ _ _ _. Unit {0} };
+
+    fn set_up(&mut self) -> io::Result<(Watched<'a>, Vec<u8>)> {
+        let Some(sent) = self.sent else {
+            return Err(io::Error::from(ErrorKind::Other));
+        };
+        let client = endless_reader(sent).into_inner();
+        let reader = Watched {
+            client,
+            seen: self.seen,
+        };
+        Ok((reader, Vec::new(self.alloc)))
+    }
+
+    fn end_writing(&mut self, writer: Vec<u8>) {
+        self.seen.reads_before_end.set(self.seen.reads.get());
+        if let Ok(mut written) = self.seen.written.try_borrow_mut() {
+            let _ = written.extend_from_slice(writer.as_slice());
+        }
+    }
+}
+
+/// Lets in what its list says, from the last to the first, and then no more.
+#[derive(Drop)]
+pub(crate) struct Listed<'a> {
+    pub(crate) coming: Vec<Accepted<Endless<'a>>>,
+}
+
+impl<'a> Listener for Listed<'a> {
+    type Line = Endless<'a>;
+
+    ghost accepts = { λ _ _ _. Unit {0} };
+
+    fn accept(&mut self) -> Accepted<Endless<'a>> {
+        match self.coming.pop() {
+            Some(next) => next,
+            None => Accepted::Refused,
+        }
+    }
+}
