@@ -36,8 +36,8 @@ module _ {L R W K H C E : Type 0} (hands_out : L → R → W → L → Type 0) (
     (read reader_left : Tally R) (write writer_left : Tally W) where
   pub line_served : (r : Result ServeEnd E) → hands_out l reader writer ready
       → read.device ≡ reader → read.calls ≡ 0 → read.failures ≡ 0 → write.device ≡ writer → write.failures ≡ 0
-      → IfOk r (IsServed now_gives (remaining read.device) (remaining reader_left.device) (contents write.device)
-      (contents writer_left.device) (content (kept desk)) (content (kept later)) c d
+      → IfOk r (IsServed content now_gives (remaining read.device) (remaining reader_left.device) (contents write.device)
+      (contents writer_left.device) (kept desk) c (kept later) d
       (HasFailed read.failures reader_left.failures) (HasFailed write.failures writer_left.failures)
       read.calls reader_left.calls)
       → OnErr r (later ≡ desk) → OnErr r (d ≡ c) → OnErr r (writer_left ≡ write)

@@ -1,5 +1,5 @@
 -- A session over a store is a run of the hall over its requests.
-use Rattle.std.proofs.Common.{◌≡◌, ◌∙◌, sym, subst, refl, ℕ, inl, inr, List, [], ◌∷◌, ◌++◌, Option, Some, None, All}
+use Rattle.std.proofs.Common.{◌≡◌, ◌∙◌, ap, sym, subst, refl, ℕ, inl, inr, List, [], ◌∷◌, ◌++◌, Option, Some, None, All}
 use Rattle.std.proofs.lemmas.List.Elements.{All-nil, All-cons}
 use Rattle.hall_policy.specs.World.{World}
 use Rattle.hall_store.specs.Store.{Content, Leads, Over}
@@ -12,7 +12,7 @@ use Rattle.hall_http.specs.Head.{IsWhole}
 use Rattle.hall_http.specs.Connection.{Exchange, Session}
 use Rattle.hall_http.specs.Served.{IsHandled, IsServed}
 use Rattle.hall_http.specs.declared.connection.ServeEnd.{ServeEnd}
-use Rattle.hall_http.specs.Serving.{AnswersAt, IsAnswered, AreMoments, IsNotMade, IsRunOver, RunsOver}
+use Rattle.hall_http.specs.Serving.{AnswersAt, IsAnswered, AreAnswered, AreMoments, IsNotMade, IsRunOver, RunsOver}
 
 -- the exchanges, one after another, over worlds
 abbrev pub Answering : World → List Exchange → World → Type 0
@@ -131,19 +131,29 @@ runs_sane old xs new run h s sane =
     let over = run h in
     subst Sane (sym (over.2 s)) (run_sane old.world over.1.requests over.1.replies over.0 over.1.timed over.1.run sane)
 
-module _ {H C : Type 0} (content : H → Content) (now_gives : C → Option ℕ → C → Type 0)
-    (stream after wrote written : Option (List ℕ)) (h : H) (c : C) (i : H) (d : C) (read_failed write_failed : Type 0)
-    (asked asks : ℕ) where
-  pub handled_served : (e : ServeEnd)
-      → IsHandled (answers content now_gives) now_gives stream after wrote written h c i d read_failed write_failed asked asks e
-      → IsServed now_gives stream after wrote written (content h) (content i) c d read_failed write_failed asked asks e
-  handled_served e handled = record {
+-- what was answered over desks was answered over what they keep
+module _ {D H C : Type 0} (kept : D → H) (content : H → Content) (now_gives : C → Option ℕ → C → Type 0) where
+  session_kept : (h : D) (c : C) (xs : List Exchange) (i : D) (d : C)
+      → AreAnswered (λ h. content (kept h)) now_gives h c xs i d
+      → AreAnswered content now_gives (kept h) c xs (kept i) d
+  session_kept h c [] i d (same, ends) = (ap kept same, ends)
+  session_kept h c (x ∷ xs) i d (m, n, first, rest) = (kept m, n, first, session_kept m n xs i d rest)
+
+module _ {D H C : Type 0} (kept : D → H) (content : H → Content) (now_gives : C → Option ℕ → C → Type 0)
+    (stream after wrote written : Option (List ℕ)) (h : D) (c : C) (i : D) (d : C) (read_failed write_failed : Type 0)
+    (asked asks : ℕ) (e : ServeEnd) where
+  pub handled_served :
+      IsHandled (answers (λ h. content (kept h)) now_gives) now_gives stream after wrote written h c i d read_failed
+      write_failed asked asks e
+      → IsServed content now_gives stream after wrote written (kept h) c (kept i) d read_failed write_failed asked asks e
+  handled_served handled = let over : D → Content = λ h. content (kept h) in record {
     exchanges = handled.exchanges;
     unread = handled.unread;
-    whole = session_whole content now_gives h c handled.exchanges i d handled.session;
-    moments = session_moments content now_gives h c handled.exchanges i d handled.session;
-    leads = session_leads content now_gives h c handled.exchanges i d handled.session;
-    run = session_runs content now_gives h c handled.exchanges i d handled.session;
+    answered = session_kept kept content now_gives h c handled.exchanges i d handled.session;
+    whole = session_whole over now_gives h c handled.exchanges i d handled.session;
+    moments = session_moments over now_gives h c handled.exchanges i d handled.session;
+    leads = session_leads over now_gives h c handled.exchanges i d handled.session;
+    run = session_runs over now_gives h c handled.exchanges i d handled.session;
     pieces = handled.pieces;
     reads = handled.reads;
     few = handled.few;
@@ -155,6 +165,9 @@ module _ {H C : Type 0} (content : H → Content) (now_gives : C → Option ℕ 
     ended = handled.ended;
   }
 
+module _ {H C : Type 0} (content : H → Content) (now_gives : C → Option ℕ → C → Type 0)
+    (stream after wrote written : Option (List ℕ)) (h : H) (c : C) (i : H) (d : C) (read_failed write_failed : Type 0)
+    (asked asks : ℕ) where
   pub handled_sane : (e : ServeEnd)
       → IsHandled (answers content now_gives) now_gives stream after wrote written h c i d read_failed write_failed asked asks e
       → SaneThen Sane (content h) (content i)

@@ -26,8 +26,8 @@ module _ {L R W H C : Type 0} (hands_out : L → R → W → L → Type 0) (refu
     pub reader_left : Tally R
     pub writer_left : Tally W
     pub set_up : hands_out l reader writer ready
-    pub served : IsServed now_gives (remaining reader) (remaining reader_left.device) (contents writer)
-        (contents writer_left.device) (content h) (content i) c d (HasFailed 0 reader_left.failures)
+    pub served : IsServed content now_gives (remaining reader) (remaining reader_left.device) (contents writer)
+        (contents writer_left.device) h c i d (HasFailed 0 reader_left.failures)
         (HasFailed 0 writer_left.failures) 0 reader_left.calls end
     pub hung_up : hears ready writer_left.device m
 

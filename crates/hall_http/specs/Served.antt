@@ -8,7 +8,7 @@ use Rattle.hall_http.specs.Head.{IsWhole, IsUnfinished, NeverHas}
 use Rattle.hall_http.specs.Reading.{Reading, IsLast}
 use Rattle.hall_http.specs.Device.{WritesPart}
 use Rattle.hall_http.specs.Connection.{Exchange, Session, requests_of, replies_of, AreOpen, IsClosing}
-use Rattle.hall_http.specs.Serving.{AreMoments, RunsOver}
+use Rattle.hall_http.specs.Serving.{AreMoments, AreAnswered, RunsOver}
 use Rattle.hall_http.specs.Reply.{wire_bytes, fault_status, fault_data}
 use Rattle.hall_http.specs.declared.form.FormFault.TheVariants as fault
 use Rattle.hall_http.specs.declared.status.MediaType.TheVariants as media
@@ -101,20 +101,21 @@ pub record IsHandled {H C : Type 0} (answers : H → Option ℕ → List ℕ →
   pub bounded : length unread ≤ 81920
   pub ended : Ended end after wrote written exchanges unread pieces reads read_failed write_failed
 
--- the stream was read, in at most 100,000 reads, as at most 1,000 requests and then this rest, the requests were
--- answered over a store at the clock's moments, each before a further read, by the replies of a run of the hall, and
--- the connection ended so
-pub record IsServed {C : Type 0} (now_gives : C → Option ℕ → C → Type 0)
-    (stream after wrote written : Option (List ℕ)) (old new : Content) (clock later : C)
+-- The stream was read, in at most 100,000 reads, as at most 1,000 requests and then this rest, the requests were
+-- answered over a store at the clock's moments, each before a further read and over the store that the one before it
+-- left, by the replies of a run of the hall, and the connection ended so.
+pub record IsServed {H C : Type 0} (content : H → Content) (now_gives : C → Option ℕ → C → Type 0)
+    (stream after wrote written : Option (List ℕ)) (old : H) (clock : C) (new : H) (later : C)
     (read_failed write_failed : Type 0) (asked asks : ℕ) (end : ServeEnd) : Type 0 where
   pub exchanges : List Exchange
   pub unread : List ℕ
   pub pieces : ℕ
   pub reads : ℕ
+  pub answered : AreAnswered content now_gives old clock exchanges new later
   pub whole : All (λ x. IsWhole x.request) exchanges
   pub moments : AreMoments now_gives clock exchanges later
-  pub leads : Leads old new
-  pub run : new.honest → RunsOver old exchanges new
+  pub leads : Leads (content old) (content new)
+  pub run : (content new).honest → RunsOver (content old) exchanges (content new)
   pub few : length exchanges ≤ 1000
   pub seldom : reads ≤ 100000
   pub made : MadeCalls reads asked asks

@@ -9,7 +9,7 @@ use Rattle.hall_desk.specs.declared.reply.Reply.TheVariants.{Unavailable as NotS
 use Rattle.hall_http.specs.Request.{RequestOf}
 use Rattle.hall_http.specs.Reply.{BytesOf}
 use Rattle.hall_http.specs.Answered.{Answers, IsRefused}
-use Rattle.hall_http.specs.Connection.{Exchange}
+use Rattle.hall_http.specs.Connection.{Exchange, Session}
 
 -- the request is answered at the moment; where the clock told none, by 503, and the world stays
 abbrev pub AnswersAt : World → Option ℕ → List ℕ → List ℕ → World → Type 0
@@ -20,6 +20,13 @@ AnswersAt world None request reply after = BytesOf NotServed reply × (after ≡
 pub record IsAnswered (old : Content) (moment : Option ℕ) (request reply : List ℕ) (new : Content) : Type 0 where
   pub leads : Leads old new
   pub answers : new.honest → Over (λ before after. AnswersAt before moment request reply after) old new
+
+-- the requests are answered over a store at the moments that a clock gives, one after another, each over the store that
+-- the one before it left: where a fault has shut it, by 503, or by what no store decides
+abbrev pub AreAnswered : {H C : Type 0} → (H → Content) → (C → Option ℕ → C → Type 0) → H → C → List Exchange → H → C
+    → Type 0
+AreAnswered content now_gives =
+    Session (λ old moment request reply new. IsAnswered (content old) moment request reply (content new)) now_gives
 
 -- the clock was asked once for each request, in their order
 abbrev pub AreMoments : {C : Type 0} → (C → Option ℕ → C → Type 0) → C → List Exchange → C → Type 0

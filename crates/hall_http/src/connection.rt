@@ -77,10 +77,10 @@ pub fn serve<S: Store, R: Read, W: Write, C: Clock>(
     ensures clock { OnErr result (clock.new ≡ clock.old) }
     ensures reader { OnErr result (reader.new ≡ reader.old) }
     ensures writer { OnErr result (writer.new ≡ writer.old) }
-    ensures served { IfOk result (IsServed C.now_gives
+    ensures served { IfOk result (IsServed S.content C.now_gives
         (R.remaining reader.old.device) (R.remaining reader.new.device)
         (W.contents writer.old.device) (W.contents writer.new.device)
-        (S.content (kept_by desk.old)) (S.content (kept_by desk.new)) clock.old clock.new
+        (kept_by desk.old) clock.old (kept_by desk.new) clock.new
         (HasFailed reader.old.failures reader.new.failures) (HasFailed writer.old.failures writer.new.failures)
         reader.old.calls reader.new.calls) }
     ensures sane { SaneThen Sane (S.content (kept_by desk.old)) (S.content (kept_by desk.new)) }

@@ -11,7 +11,7 @@ returns-in_err-routes-clause-right g c = λ h s sane. right_answers (g.S.Store.c
 
 pub returns-clause-served : goal.returns-clause-served
 returns-clause-served g c =
-    handled_served (λ desk. g.S.Store.content (kept_by desk)) g.C.Clock.now_gives _ _ _ _ _ _ _ _ _ _ _ _ c.serve_requests.result
+    handled_served kept_by g.S.Store.content g.C.Clock.now_gives _ _ _ _ _ _ _ _ _ _ _ _ c.serve_requests.result
     c.serve_requests.ensures
 
 pub returns-clause-sane : goal.returns-clause-sane
