@@ -45,13 +45,24 @@ bare_hall held it = subst (λ s. IsBare s held) it.lacks it.bare
 
 -- what changes nothing is refused
 pub declined_itself : (s : State) → HasDeclined s s
-declined_itself s = record { follows = record { lasts = last_none s; opened = λ clean opens. opens }; same = λ clean opens. refl }
+declined_itself s = record {
+  follows = record { lasts = last_none s; opened = λ clean opens. opens };
+  mode = λ clean. refl;
+  marks = λ clean inside. refl;
+  same = λ clean opens. (refl, refl);
+}
+
+-- no transaction was open
+none_open : (s : State) → s.in_transaction ≡ false → IsTrue s.in_transaction → ⊥
+none_open s alone inside = let no : false ≡ true = sym alone ∙ inside in cc
 
 -- what rests is refused
-pub rests_declined : (old new : State) → (IsTrue old.is_open → old.now ≡ old.committed) → Lasts old new → (HasCleanDisk new → Rests old new)
-    → HasDeclined old new
-rests_declined old new settled lasts rests = record {
+pub rests_declined : (old new : State) → old.in_transaction ≡ false → (IsTrue old.is_open → old.now ≡ old.committed) → Lasts old new
+    → (HasCleanDisk new → Rests old new) → HasDeclined old new
+rests_declined old new alone settled lasts rests = record {
   follows = record { lasts = lasts; opened = λ clean opens. was (rests clean) opens };
+  mode = λ clean. mode (rests clean);
+  marks = λ clean inside. absurd (none_open old alone inside);
   same = λ clean opens. same (rests clean) opens;
 }
   where
@@ -59,9 +70,13 @@ rests_declined old new settled lasts rests = record {
     was (inl left) opens = left.0.was_open
     was (inr back) opens = back.was_open opens
 
-    same : Rests old new → IsTrue new.is_open → new.now ≡ old.now
-    same (inl left) opens = left.0.now_is
-    same (inr back) opens = (back.undone opens).0 ∙ sym (settled (back.was_open opens))
+    mode : Rests old new → new.in_transaction ≡ old.in_transaction
+    mode (inl left) = left.0.mode
+    mode (inr back) = back.autocommit ∙ sym alone
+
+    same : Rests old new → IsTrue new.is_open → (new.now ≡ old.now) × (new.committed ≡ old.committed)
+    same (inl left) opens = (left.0.now_is, left.0.committed_is)
+    same (inr back) opens = ((back.undone opens).0 ∙ sym (settled (back.was_open opens)), (back.undone opens).1)
 
 -- the hall's tables stood
 pub scanned_adopted : (old new : State) → old.in_transaction ≡ false → (IsTrue old.is_open → old.now ≡ old.committed) → old.now.schema ≡ hall_schema
@@ -86,22 +101,28 @@ module _ {S : Type 0} (g : Ghosts S) (held : Held S) (settled : IsTrue (state g 
   base = state g (record held { in_transaction = true })
 
   -- rolled back, the tables are as they were
-  pub rolled_declined : (mid end : State) → Carries base mid → Lasts mid end → (HasCleanDisk end → IsRolledBack mid end) → HasDeclined (state g held) end
-  rolled_declined mid end carries lasts rolled =
+  pub rolled_declined : held.in_transaction ≡ false → (mid end : State) → Carries base mid → Lasts mid end
+      → (HasCleanDisk end → IsRolledBack mid end) → HasDeclined (state g held) end
+  rolled_declined alone mid end carries lasts rolled =
       let now : HasCleanDisk end → HasCleanDisk mid = λ (clean : HasCleanDisk end). let was : HasCleanDisk mid = omega (arith, lasts.clean, clean) in was in
       let keeps = λ (clean : HasCleanDisk end). carries.kept (now clean) refl in
       let opens_mid = λ (clean : HasCleanDisk end) (opens : IsTrue end.is_open). (rolled clean).was_open opens in
       let opens_old = λ (clean : HasCleanDisk end) (opens : IsTrue end.is_open). (keeps clean).was_open (opens_mid clean opens) in
       record {
         follows = record { lasts = last_then (state g held) mid end (last_begun g held mid carries.lasts) lasts; opened = opens_old };
-        same = λ clean opens. ((rolled clean).undone opens).0 ∙ (keeps clean).committed (opens_mid clean opens) ∙ sym (settled (opens_old clean opens));
+        mode = λ clean. (rolled clean).autocommit ∙ sym alone;
+        marks = λ clean inside. absurd (none_open (state g held) alone inside);
+        same = λ clean opens.
+            let committed = (keeps clean).committed (opens_mid clean opens) in
+            (((rolled clean).undone opens).0 ∙ committed ∙ sym (settled (opens_old clean opens)), ((rolled clean).undone opens).1 ∙ committed);
       }
 
   -- so they are where the commit was refused
-  pub refused_declined : (error : Error) (mid end : State) → Carries base mid → (HasCleanDisk mid → IsTrue base.in_transaction → HasGrown all_tables [] base mid)
+  pub refused_declined : held.in_transaction ≡ false → (error : Error) (mid end : State) → Carries base mid
+      → (HasCleanDisk mid → IsTrue base.in_transaction → HasGrown all_tables [] base mid)
       → Lasts mid end → (HasCleanDisk end → FailsToCommit mid end error) → HasDeclined (state g held) end
-  refused_declined error mid end carries grown lasts fails =
-      rolled_declined mid end carries lasts (λ clean.
+  refused_declined alone error mid end carries grown lasts fails =
+      rolled_declined alone mid end carries lasts (λ clean.
       let was : HasCleanDisk mid = omega (arith, lasts.clean, clean) in
       commit_refused mid end error (grown was refl).mode (fails clean))
 

@@ -1,5 +1,5 @@
 -- What a sink has taken of the rows that a query gives.
-use Rattle.std.proofs.Common.{◌≡◌, ◌⊎◌, inl, inr, ℕ, List, [], ◌∷◌, ◌++◌, map, flat_map, false, Option, Some, None, Result, Ok, Err, IsTrue, option_to_list, refl, sym, ap, subst, ◌∙◌, arith}
+use Rattle.std.proofs.Common.{◌≡◌, ◌⊎◌, inl, inr, ℕ, List, [], ◌∷◌, ◌++◌, map, flat_map, false, Option, Some, None, Result, Ok, Err, IfOk, IsTrue, option_to_list, refl, sym, ap, subst, ◌∙◌, arith}
 use Rattle.std.proofs.lemmas.Grind.{flat_map-append}
 use Rattle.std.specs.Result.{IsErrAnd}
 use Rattle.sqlite_trees.specs.declared.store.Store.{Ghosts}
@@ -12,9 +12,10 @@ use Rattle.sqlite.specs.Tree.{Trees}
 use Rattle.sqlite.specs.Program.{overlay}
 use Rattle.sqlite.specs.Held.{Held, state}
 use Rattle.sqlite.specs.Given.{HasBegun, Advances}
-use Rattle.sqlite.specs.Listing.{understood, reads_listing}
+use Rattle.sqlite.specs.Clock.{timed}
+use Rattle.sqlite.specs.Listing.{understood, reads_listing, IsSourceOf}
 use Rattle.sqlite.specs.Command.TheVariants.{Select}
-use Rattle.sqlite.specs.State.{State, HasCleanDisk, IsUnchanged}
+use Rattle.sqlite.specs.State.{State, HasCleanDisk, IsUnchanged, Shown, ShowsRows}
 use Rattle.sqlite.proofs.Callers.{IsPlain, command_of, begins_as, given_begin, begun_plain, unchanged_then}
 use Rattle.hall_policy.specs.World.{World}
 use Rattle.hall_policy.specs.Sink.{HasTaken}
@@ -24,6 +25,7 @@ use Rattle.hall_sql.specs.Rows.{world_of}
 use Rattle.hall_sql.specs.Statements.{plain_query}
 use Rattle.hall_sql.specs.Standing.{AreAllKeyed, IsHall, Rests, Rested, IsSelection, content_of}
 use Rattle.hall_sql.specs.Feed.{HasRead, AreAll, AreFirst, FedRows}
+use Rattle.hall_sql.specs.Whole.{AreRecords}
 use Rattle.hall_sql.proofs.CallLemmas.{answers_selection, shown_was_open}
 use Rattle.hall_sql.proofs.ContentLemmas.{all_read}
 use Rattle.hall_sql.proofs.Selections.{selected}
@@ -39,6 +41,25 @@ rests_then a b c p (inr q) = inr (record {
   unmarked = q.unmarked;
   counts = record { changes = q.counts.changes ∙ p.1.changes; last_rowid = q.counts.last_rowid ∙ p.1.last_rowid };
 })
+
+-- what a query answers of a connection that was left, it answers of it as it was
+shown_since : (sql : List ℕ) (params : Row) (first old new : State) (rows : List Row) → IsPlain (understood first.now.schema sql)
+    → IsUnchanged first old → Shown sql params old new rows → Shown sql params first new rows
+unfolding Shown
+shown_since sql params first old new rows plain same h =
+    let is : understood first.now.schema sql ≡ Ok h.0 = ap (λ (d : Database). understood d.schema sql) (sym same.0.now_is) ∙ h.1.is in
+    let none = (subst IsPlain is plain).0 in
+    let full = timed params h.0.formats h.1.now in
+    let it = subst (ShowsRows old new sql h.0 full rows) none h.2 in (
+      h.0,
+      record { is = is; whole = h.1.whole; given = h.1.given; now = h.1.now },
+      subst (ShowsRows first new sql h.0 full rows) (sym none) (
+        it.0,
+        subst (λ (d : Database). IsSourceOf (reads_listing d.schema sql) d it.0) same.0.now_is it.1,
+        it.2,
+        unchanged_then first old new same it.3,
+      ),
+    )
 
 begun_open : {S : Type 0} (g : Ghosts S) (sql : List ℕ) (params : Row) (old new : Held S) → HasBegun g sql params old new
     → IsTrue (state g old).is_open
@@ -78,16 +99,17 @@ module _ {S X : Type 0} (g : Ghosts S) (read : Row → Option X) (sql : List ℕ
     }
 
     -- there is no row more
-    pub read_all : Advances g old new None → AreAll g read sql params first taken
-    read_all advances = record {
-      served = so.same.0.was_open;
-      rows = so.rows;
-      reads = so.reads;
-      from = old;
-      to = new;
-      same = so.same.0.now_is;
-      shown = advances sql params so.rows so.given;
-    }
+    pub read_all : IsPlain (understood hall_schema sql) → IsHall first → HasCleanDisk first → Advances g old new None
+        → AreAll read sql params first (state g new) taken
+    read_all plain hall clean advances =
+        let has = (hall.settled clean so.same.0.was_open).1 in
+        record {
+          served = so.same.0.was_open;
+          rows = so.rows;
+          reads = so.reads;
+          shown = shown_since sql params first (state g old) (state g new) so.rows
+              (subst (λ s. IsPlain (understood s sql)) (sym has) plain) so.same (advances sql params so.rows so.given);
+        }
 
     -- what was read so far begins the answer
     pub read_first : AreFirst g read sql params first taken
@@ -123,15 +145,11 @@ module _ {S X : Type 0} (g : Ghosts S) (read : Row → Option X) (sql : List ℕ
   module _ (AreRows : World → List X → Type 0) (s : State) (has : s.now.schema ≡ hall_schema)
       (keyed : AreAllKeyed s.now.trees) (sound : IsDatabase s.now)
       (lists : Lists read tree terms project order params s.now AreRows) (taken : List X) where
-    all_listed : AreAll g read sql params s taken → AreRows (world_of s.now.trees) taken
-    all_listed all =
-        let at = state g all.from in
-        let trees = ap (λ (d : Database). d.trees tree) all.same in
-        let sel = answers_selection sql params at (state g all.to) tree terms project order names is unlisted plain
-        (apart at.now.trees) (ap (λ (d : Database). d.schema) all.same ∙ has) all.rows all.shown in
-        subst (AreRows (world_of s.now.trees)) (all_read read all.rows taken all.reads)
-        (lists has keyed sound all.rows
-        (subst (λ t. IsSelection (plain_query tree terms project order) t params all.rows) trees sel))
+    all_listed : (new : State) → AreAll read sql params s new taken → AreRows (world_of s.now.trees) taken
+    all_listed new all =
+        let sel = answers_selection sql params s new tree terms project order names is unlisted plain
+        (apart s.now.trees) has all.rows all.shown in
+        subst (AreRows (world_of s.now.trees)) (all_read read all.rows taken all.reads) (lists has keyed sound all.rows sel)
 
     first_listed : AreFirst g read sql params s taken → (left : List X) × AreRows (world_of s.now.trees) (taken ++ left)
     first_listed first =
@@ -159,7 +177,7 @@ module _ {S X : Type 0} (g : Ghosts S) (read : Row → Option X) (sql : List ℕ
       let was : HasCleanDisk old = omega (arith, rested.follows.lasts.clean, clean) in
       let it = fed.2 clean in
       let opened = it.1.served in
-      let all = all_listed AreRows old (hall.settled was opened).1 (hall.keyed was opened) (sound opened) lists fed.0 it.1 in
+      let all = all_listed AreRows old (hall.settled was opened).1 (hall.keyed was opened) (sound opened) lists fed.0 new it.1 in
       (it.0, (fed.0, all, fed.1))
   fed_rows {K} {E} Takes AreRows old new before after (Err fault) hall rested sound lists fed = (fed.0, fed.1, go fed.2)
     where
@@ -179,3 +197,12 @@ pub fed_first : {S K X E : Type 0} (g : Ghosts S) (read : Row → Option X) (Tak
     → FedRows g read Takes sql params old new before result after
 fed_first g read Takes sql params old new before after (Ok done) P is taken took part = absurd is
 fed_first g read Takes sql params old new before after (Err fault) P is taken took part = (taken, took, inr part)
+
+-- where a sink was given all, each row of the query is a record
+pub fed_whole : {S K X E : Type 0} (g : Ghosts S) (read : Row → Option X) (Takes : K → X → K → Type 0) (sql : List ℕ) (params : Row)
+    (old new : State) (before after : K) (result : Result (Unit {0}) E) → HasCleanDisk new
+    → FedRows g read Takes sql params old new before result after → IfOk result (λ _. AreRecords read sql params old new)
+fed_whole g read Takes sql params old new before after (Ok done) clean fed =
+    let all = (fed.2 clean).1 in
+    record { rows = all.rows; records = fed.0; reads = all.reads; shown = all.shown }
+fed_whole g read Takes sql params old new before after (Err fault) clean fed = tt

@@ -2,7 +2,6 @@
 use Rattle.std.proofs.Common.{◌≡◌, inl, inr, List, [], ◌∷◌, length, sym, ap, subst, refl, ◌∙◌, arith}
 use Rattle.std.proofs.Math.Logic.{∥∥₁_elim}
 use Rattle.std.specs.List.{AllZip}
-use Rattle.std.specs.Prelude.{IfOk, Result, Ok, Err}
 use Rattle.sqlite_trees.specs.declared.memory.MemStore.{MemStore}
 use Rattle.sqlite_trees.specs.Props.{Trees-set}
 use Rattle.sqlite_trees.specs.View.{doubt}
@@ -11,7 +10,7 @@ use Rattle.sqlite.specs.Files.{AreFoundIn}
 use Rattle.sqlite.specs.Held.{Held, state}
 use Rattle.sqlite.specs.Recovery.{Image}
 use Rattle.sqlite.specs.Schema.{Schema}
-use Rattle.sqlite.specs.State.{State, HasCleanDisk, Opens, IsLive}
+use Rattle.sqlite.specs.State.{State, HasCleanDisk}
 use Rattle.sqlite.specs.Steps.{IsEmpty, over_memory}
 use Rattle.sqlite.specs.Tree.{Trees}
 use Rattle.sqlite_catalog.specs.Listing.{IsSound}
@@ -20,7 +19,7 @@ use Rattle.hall_store.specs.Maps.{empty_world}
 use Rattle.hall_sql.specs.Tables.{no_schema, hall_schema}
 use Rattle.hall_sql.specs.Rows.{world_of}
 use Rattle.hall_sql.specs.Standing.{StoodOrEmpty, HasAdopted, content_of}
-use Rattle.hall_sql.specs.Opened.{StandsFor, HoldsWorld, FindsWorld, IsFound, Starts, MemoryServes, OneWorldIsFound}
+use Rattle.hall_sql.specs.Opened.{StandsFor, IsFound, Starts, MemoryServes, OneWorldIsFound}
 
 -- the database of a connection that was taken over
 stood : (old new : State) → IsSound old.now.schema old.now.trees → StoodOrEmpty old new
@@ -88,10 +87,7 @@ from_empty old new none (inl same) = absurd (hall_is_some (sym none ∙ same.0))
 from_empty old new none (inr empty) = empty.1
 
 -- over memory the disk is clean
-pub empty_in_memory : {E : Type 0} (conn : Held MemStore) → IsEmpty (state over_memory conn)
-    → (result : Result (Held MemStore) E)
-    → IfOk result (λ store. HasAdopted (state over_memory conn) (state over_memory store))
-    → IfOk result (λ store. (content_of (state over_memory store)).world ≡ empty_world)
-empty_in_memory conn empty (Ok store) adopted =
+pub empty_in_memory : (conn store : Held MemStore) → IsEmpty (state over_memory conn)
+    → HasAdopted (state over_memory conn) (state over_memory store) → (content_of (state over_memory store)).world ≡ empty_world
+empty_in_memory conn store empty adopted =
     from_empty (state over_memory conn) (state over_memory store) empty.2 (adopted.stood (memory_serves store).0)
-empty_in_memory conn empty (Err fault) adopted = tt

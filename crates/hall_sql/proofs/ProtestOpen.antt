@@ -1,42 +1,20 @@
 -- How many protests an entrant made, and whether one of a round is open.
-use Rattle.std.proofs.Common.{◌≡◌, ◌==◌, ◌↔◌, ◌&&◌, ℕ, ℤ, pos, negsuc, List, [], ◌∷◌, length, map, Bool, true, false, cond, not, IsTrue, Option, Some, None, is_none, Contains, refl, sym, subst, ap, ap₂, ◌∙◌, arith}
+use Rattle.std.proofs.Common.{◌≡◌, ◌↔◌, ◌&&◌, ℕ, List, length, Bool, true, IsTrue, Option, Some, None, is_none, Contains, refl, sym, subst, ap, ◌∙◌}
 use Rattle.std.proofs.lemmas.List.Sums.{length-filter}
-use Rattle.std.specs.List.{list_all}
 use Rattle.std.specs.FinMap.{values}
-use Rattle.std.specs.Ordering.{int_eq}
-use Rattle.sqlite.specs.declared.types.Value.{Value}
-use Rattle.sqlite.specs.declared.types.Value.TheVariants.{Null, Int, Real, Text, Blob}
-use Rattle.sqlite.specs.Effect.{IsDatabase}
-use Rattle.sqlite.specs.Order.{Row}
-use Rattle.sqlite.specs.State.{State, Shown}
-use Rattle.sqlite.specs.Term.{holds}
 use Rattle.sqlite.specs.Tree.{Trees}
-use Rattle.sqlite_sql.specs.declared.ops.BinaryOp.TheVariants.{Compare}
-use Rattle.sqlite_sql.specs.declared.ops.CompareOp.TheVariants.{Eq}
-use Rattle.sqlite.specs.Collation.TheVariants.{Binary}
-use Rattle.sqlite_sql.specs.Ops.{binary, is_true}
 use Rattle.sqlite_trees.proofs.ListLemmas.{filter_same, all_of}
-use Rattle.sqlite_value.specs.Order.{column}
 use Rattle.hall_policy.specs.Rules.{protests_made}
 use Rattle.hall_policy.specs.World.{World, same_text}
 use Rattle.hall_policy.specs.declared.record.ProtestKey.{ProtestKey}
 use Rattle.hall_policy.specs.declared.record.ProtestRow.{ProtestRow}
 use Rattle.hall_policy.specs.declared.record.Ruling.{Ruling}
-use Rattle.hall_policy.specs.declared.record.Ruling.TheVariants.{Upheld, Rejected}
-use Rattle.hall_grid.specs.FormReading.{◌>>=◌}
-use Rattle.std.proofs.lemmas.Bool.Decides.{nat_tests}
 use Rattle.hall_policy.proofs.Maps.{value_of_get}
 use Rattle.hall_policy.proofs.Orders.{protest_total, same_protest_keys}
 use Rattle.hall_store.proofs.Tests.{Contains-filter, filter-Contains, text_decides, and_first, and_second, and_both, and_turned}
 use Rattle.hall_store.specs.Store.{IsProtestOpen, protests_of, protests_in, is_protest_of, is_protest_in}
-use Rattle.hall_sql.specs.Tables.{hall_schema}
-use Rattle.hall_sql.specs.Values.{ruling_in, ruling_of, upheld, ruling_points_of}
-use Rattle.hall_sql.specs.Rows.{protest_in, protest_of, world_of}
-use Rattle.hall_sql.specs.Standing.{AreKeyed}
+use Rattle.hall_sql.specs.Rows.{protest_of, world_of}
 use Rattle.hall_sql.proofs.AmongLemmas.{kept_value}
-use Rattle.hall_sql.proofs.ColumnLemmas.{and_true, column_same, column_counts}
-use Rattle.hall_sql.proofs.ListedLemmas.{records_asked}
-use Rattle.hall_sql.proofs.ProtestLemmas.{has_columns, whole}
 use Rattle.hall_sql.proofs.UniqueLemmas.{kept_keyed}
 
 -- the entrant's protests in the round are as many as the rules count

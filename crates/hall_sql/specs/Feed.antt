@@ -34,16 +34,13 @@ Taking {S} {K} {X} g read Takes sql params first held before after =
     (taken : List X) × HasTaken Takes before taken after
     × (HasCleanDisk (state g held) → HasRead g read sql params first held taken)
 
--- the query's answer over the tables of this state, in a store that serves, reads as these records
-pub record AreAll {S X : Type 0} (g : Ghosts S) (read : Row → Option X) (sql : List ℕ) (params : Row) (old : State)
-    (taken : List X) : Type 0 where
+-- the query's answer over the tables as they were, in a store that served, reads as these records
+pub record AreAll {X : Type 0} (read : Row → Option X) (sql : List ℕ) (params : Row) (old new : State) (taken : List X)
+    : Type 0 where
   pub served : IsTrue old.is_open
   pub rows : List Row
   pub reads : map read rows ≡ map Some taken
-  pub from : Held S
-  pub to : Held S
-  pub same : (state g from).now ≡ old.now
-  pub shown : Shown sql params (state g from) (state g to) rows
+  pub shown : Shown sql params old new rows
 
 -- the first rows of it do
 pub record AreFirst {S X : Type 0} (g : Ghosts S) (read : Row → Option X) (sql : List ℕ) (params : Row) (old : State)
@@ -60,7 +57,7 @@ abbrev pub FedRows : {S K X E : Type 0} → Ghosts S → (Row → Option X) → 
     State → State → K → Result (Unit {0}) E → K → Type 0
 FedRows {S} {K} {X} g read Takes sql params old new before (Ok done) after =
     (taken : List X) × HasTaken Takes before taken after
-    × (HasCleanDisk new → IsTrue new.is_open × AreAll g read sql params old taken)
+    × (HasCleanDisk new → IsTrue new.is_open × AreAll read sql params old new taken)
 FedRows {S} {K} {X} g read Takes sql params old new before (Err fault) after =
     (taken : List X) × HasTaken Takes before taken after
     × ((taken ≡ []) ⊎ (HasCleanDisk new → AreFirst g read sql params old taken))

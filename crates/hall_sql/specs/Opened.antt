@@ -1,6 +1,7 @@
 -- The world that the files at a path held.
 use Rattle.std.specs.Prelude.{◌≡◌, ◌⊎◌, ℕ, Bool, true, false, List, []}
 use Rattle.sqlite_trees.specs.declared.memory.MemStore.{MemStore}
+use Rattle.sqlite_trees.specs.declared.store.Store.{Ghosts}
 use Rattle.sqlite.specs.Recovery.{Image}
 use Rattle.sqlite.specs.Tree.{Trees}
 use Rattle.sqlite.specs.Files.{HoldsDatabase, AreFoundIn}
@@ -15,7 +16,7 @@ use Rattle.hall_store.specs.Store.{Content}
 use Rattle.hall_store.specs.Maps.{empty_world}
 use Rattle.hall_sql.specs.Tables.{no_schema, hall_schema}
 use Rattle.hall_sql.specs.Rows.{world_of}
-use Rattle.hall_sql.specs.Standing.{content_of}
+use Rattle.hall_sql.specs.Standing.{HasDeclined, content_of}
 use Rattle.hall_sql.specs.declared.open.OpenFault.{OpenFault}
 use Rattle.hall_sql.specs.declared.open.OpenFault.TheVariants.{Missing, Unopened, Refused}
 
@@ -53,12 +54,22 @@ Starts image content = content.honest → content.serves × FindsWorld image con
 abbrev pub OpensAt : {F S : Type 0} → (F → List ℕ → Held S → F → Type 0) → F → List ℕ → F → Type 0
 OpensAt {F} {S} opens old path new = (was : Held S) × opens old path was new
 
+-- asked for the database at the path alone, the files handed one out, which was refused, and took it back as it was left
+pub record IsHandedBack {F S : Type 0} (g : Ghosts S) (opens : F → List ℕ → Held S → F → Type 0)
+    (closes : F → Held S → F → Type 0) (old : F) (path : List ℕ) (new : F) : Type 0 where
+  pub was : Held S
+  pub left : Held S
+  pub between : F
+  pub opened : opens old path was between
+  pub declined : HasDeclined (state g was) (state g left)
+  pub closed : closes between left new
+
 -- asked for the database at the path alone, the files refused by the error, or handed out one that was refused
-abbrev pub IsCauseAt : {F S : Type 0} → (F → List ℕ → Error → F → Type 0) → (F → List ℕ → Held S → F → Type 0)
-    → F → List ℕ → F → OpenFault → Type 0
-IsCauseAt refuses opens old path new Missing = ⊥
-IsCauseAt refuses opens old path new (Unopened error) = refuses old path error new
-IsCauseAt refuses opens old path new (Refused fault) = OpensAt opens old path new
+abbrev pub IsCauseAt : {F S : Type 0} → Ghosts S → (F → List ℕ → Error → F → Type 0)
+    → (F → List ℕ → Held S → F → Type 0) → (F → Held S → F → Type 0) → F → List ℕ → F → OpenFault → Type 0
+IsCauseAt g refuses opens closes old path new Missing = ⊥
+IsCauseAt g refuses opens closes old path new (Unopened error) = refuses old path error new
+IsCauseAt g refuses opens closes old path new (Refused fault) = IsHandedBack g opens closes old path new
 
 -- the files told that there is a file at the path, and then handed out the database
 abbrev pub OpensThere : {F S : Type 0} → (F → List ℕ → Bool → F → Type 0) → (F → List ℕ → Held S → F → Type 0)
@@ -67,11 +78,12 @@ OpensThere {F} tells opens old path new = (there : F) × tells old path false th
 
 -- the files told that there is no file at the path, and were asked nothing more; or that there is one, and the cause is
 -- that of its database
-abbrev pub IsCauseThere : {F S : Type 0} → (F → List ℕ → Bool → F → Type 0) → (F → List ℕ → Error → F → Type 0)
-    → (F → List ℕ → Held S → F → Type 0) → F → List ℕ → F → OpenFault → Type 0
-IsCauseThere tells refuses opens old path new Missing = tells old path true new
-IsCauseThere {F} tells refuses opens old path new cause =
-    (there : F) × tells old path false there × IsCauseAt refuses opens there path new cause
+abbrev pub IsCauseThere : {F S : Type 0} → Ghosts S → (F → List ℕ → Bool → F → Type 0)
+    → (F → List ℕ → Error → F → Type 0) → (F → List ℕ → Held S → F → Type 0) → (F → Held S → F → Type 0)
+    → F → List ℕ → F → OpenFault → Type 0
+IsCauseThere g tells refuses opens closes old path new Missing = tells old path true new
+IsCauseThere {F} g tells refuses opens closes old path new cause =
+    (there : F) × tells old path false there × IsCauseAt g refuses opens closes there path new cause
 
 -- ---- what the definitions give
 

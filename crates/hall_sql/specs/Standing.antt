@@ -131,10 +131,13 @@ pub record HasAdopted (old new : State) : Type 0 where
   pub serves : HasCleanDisk new → IsTrue new.is_open
   pub stood : HasCleanDisk new → StoodOrEmpty old new
 
--- a connection was refused, and its tables are as they were, while the store serves
+-- A connection was refused. Whether a transaction is open is as it was, and so are the savepoints of an open one; while
+-- the store serves, so are the tables and what is committed of them.
 pub record HasDeclined (old new : State) : Type 0 where
   pub follows : Follows old new
-  pub same : HasCleanDisk new → IsTrue new.is_open → new.now ≡ old.now
+  pub mode : HasCleanDisk new → new.in_transaction ≡ old.in_transaction
+  pub marks : HasCleanDisk new → IsTrue old.in_transaction → new.marks ≡ old.marks
+  pub same : HasCleanDisk new → IsTrue new.is_open → (new.now ≡ old.now) × (new.committed ≡ old.committed)
 
 abbrev pub Adopts : {R E : Type 0} → State → State → Result R E → Type 0
 Adopts old new (Ok done) = HasAdopted old new

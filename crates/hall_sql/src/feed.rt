@@ -1,5 +1,6 @@
 //! The rows of a round, given to a sink one at a time.
-ghost use Rattle.std.specs.Prelude.{◌≡◌, IfOk, OnOk, OnErr};
+ghost use Rattle.std.specs.Prelude.{◌≡◌, IfOk, OnOk, OnErr, [], ◌∷◌};
+ghost use Rattle.sqlite.specs.declared.types.Value.TheVariants.{Text};
 ghost use Rattle.sqlite.specs.Values.{bound};
 ghost use Rattle.sqlite.specs.Held.{state};
 ghost use Rattle.sqlite.specs.Given.{IsPlain};
@@ -9,6 +10,9 @@ ghost use Rattle.hall_store.specs.Store.{Fed, IsListing, is_in, protests_in};
 ghost use Rattle.hall_sql.specs.Tables.{hall_schema};
 ghost use Rattle.hall_sql.specs.Standing.{IsHall, Rests, Rested, content_of, Lasts};
 ghost use Rattle.hall_sql.specs.Feed.{Steps, FedRows};
+ghost use Rattle.hall_sql.specs.Rows.{answer_in, protest_in};
+ghost use Rattle.hall_sql.specs.Statements.{answers_in_text, protests_in_text};
+ghost use Rattle.hall_sql.specs.Whole.{AreRecords};
 
 use crate::answers::ANSWERS_IN;
 use crate::calls::fault_of;
@@ -109,6 +113,8 @@ pub(crate) fn feed_answers<S: Alter, K: AnswerSink>(
     ensures rested { Rested (state S.Store conn.old) (state S.Store conn.new) }
     ensures fed { Fed K.takes (λ world rows. IsListing world (is_in round.now) rows)
         (content_of (state S.Store conn.old)) (content_of (state S.Store conn.new)) sink.old result sink.new }
+    ensures whole { HasCleanDisk (state S.Store conn.new) → IfOk result (λ _.
+        AreRecords answer_in answers_in_text (Text round.now ∷ []) (state S.Store conn.old) (state S.Store conn.new)) }
 {
     let _schema = conn.schema();
     feed::<S, K, AnswerRow>(conn, alloc, ANSWERS_IN, params![round.as_str()], sink)
@@ -125,6 +131,8 @@ pub(crate) fn feed_protests<S: Alter, K: ProtestSink>(
     ensures rested { Rested (state S.Store conn.old) (state S.Store conn.new) }
     ensures fed { Fed K.takes (λ world rows. rows ≡ protests_in world round.now)
         (content_of (state S.Store conn.old)) (content_of (state S.Store conn.new)) sink.old result sink.new }
+    ensures whole { HasCleanDisk (state S.Store conn.new) → IfOk result (λ _.
+        AreRecords protest_in protests_in_text (Text round.now ∷ []) (state S.Store conn.old) (state S.Store conn.new)) }
 {
     let _schema = conn.schema();
     feed::<S, K, ProtestRow>(conn, alloc, PROTESTS_IN, params![round.as_str()], sink)

@@ -24,5 +24,5 @@ mod tables;
 pub use adoption::adopt;
 pub use cached_store::CachedStore;
 pub use open::{OpenFault, PathFiles, law_opened, open_at, open_in_memory, open_there};
-pub use sql_store::SqlStore;
+pub use sql_store::{Declined, SqlStore};
 pub use system_files::SystemFiles;

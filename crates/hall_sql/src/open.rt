@@ -6,7 +6,7 @@ ghost use Rattle.hall_store.specs.Maps.{empty_world};
 ghost use Rattle.hall_sql.specs.Standing.{content_of};
 ghost use Rattle.hall_sql.specs.Opened.{IsCauseAt, IsCauseThere, MemoryServes, OneWorldIsFound, OpensAt, OpensThere, Starts};
 
-use crate::sql_store::SqlStore;
+use crate::sql_store::{Declined, SqlStore};
 use hall_store::StoreFault;
 use sqlite::{Alter, Connection, Error, MemStore};
 use std::alloc::Global;
@@ -27,7 +27,7 @@ pub enum OpenFault {
 ///
 /// What is asked of them may change them, so that a contract tells what was asked, and in which order.
 pub trait PathFiles<S: Alter> {
-    ghost use Rattle.std.specs.Prelude.{◌≡◌, List, ℕ, Bool, IfOk, IfErr, OnErr};
+    ghost use Rattle.std.specs.Prelude.{◌≡◌, List, ℕ, Bool, IfOk, IfErr, IfSome, None, OnErr};
     ghost use Rattle.sqlite.specs.Recovery.{Image};
     ghost use Rattle.sqlite.specs.Held.{Held, state};
     ghost use Rattle.sqlite.specs.declared.error.Error.{Error};
@@ -51,6 +51,9 @@ pub trait PathFiles<S: Alter> {
     /// Asked for the database at the path, they refuse by this error.
     ghost refuses: { Self → List ℕ → Error → Self → Type 0 };
 
+    /// Given this database back, they let go of it.
+    ghost closes: { Self → Held S → Self → Type 0 };
+
     /// Whether there is no file at the path.
     fn is_missing(&mut self, path: &str) -> bool
         ensures { tells self.old path.now result self.new };
@@ -65,6 +68,11 @@ pub trait PathFiles<S: Alter> {
         ensures opened { IfOk result (λ conn. opens self.old path.now conn self.new) }
         ensures found { IfOk result (λ conn. IsFound (image_at path.now) (state S.Store conn)) }
         ensures refused { IfErr result (λ error. refuses self.old path.now error self.new) };
+
+    /// Takes a database back, as it was left, and leaves nothing in its place.
+    fn close(&mut self, left: &mut Option<Connection<S>>)
+        ensures closed { IfSome left.old (λ conn. closes self.old conn self.new) }
+        ensures taken { left.new ≡ None };
 }
 
 /// The hall's tables in the files at the path, made there where there is none.
@@ -74,7 +82,7 @@ pub fn open_at<S: Alter + Drop, F: PathFiles<S>>(
 ) -> Result<SqlStore<S>, OpenFault>
     ensures opened { OnOk result (OpensAt F.opens files.old path.now files.new) }
     ensures starts { IfOk result (λ store. Starts (F.image_at path.now) (content_of (state S.Store store))) }
-    ensures cause { IfErr result (IsCauseAt F.refuses F.opens files.old path.now files.new) }
+    ensures cause { IfErr result (IsCauseAt S.Store F.refuses F.opens F.closes files.old path.now files.new) }
 {
     let conn = match files.open(path) {
         Ok(conn) => conn,
@@ -82,7 +90,10 @@ pub fn open_at<S: Alter + Drop, F: PathFiles<S>>(
     };
     match SqlStore::over(conn) {
         Ok(store) => Ok(store),
-        Err(fault) => Err(OpenFault::Refused(fault)),
+        Err(Declined { conn, fault }) => {
+            files.close(&mut Some(conn));
+            Err(OpenFault::Refused(fault))
+        }
     }
 }
 
@@ -93,7 +104,8 @@ pub fn open_there<S: Alter + Drop, F: PathFiles<S>>(
 ) -> Result<SqlStore<S>, OpenFault>
     ensures opened { OnOk result (OpensThere F.tells F.opens files.old path.now files.new) }
     ensures starts { IfOk result (λ store. Starts (F.image_at path.now) (content_of (state S.Store store))) }
-    ensures cause { IfErr result (IsCauseThere F.tells F.refuses F.opens files.old path.now files.new) }
+    ensures cause { IfErr result
+        (IsCauseThere S.Store F.tells F.refuses F.opens F.closes files.old path.now files.new) }
 {
     if files.is_missing(path) {
         return Err(OpenFault::Missing);
@@ -106,7 +118,13 @@ pub fn open_in_memory(alloc: Global) -> Result<SqlStore<MemStore>, StoreFault>
     ensures { IfOk result (λ store. (content_of (state over_memory store)).world ≡ empty_world) }
 {
     let conn = Connection::open_in_memory(alloc)?;
-    SqlStore::over(conn)
+    match SqlStore::over(conn) {
+        Ok(store) => Ok(store),
+        Err(Declined { conn, fault }) => {
+            drop(conn);
+            Err(fault)
+        }
+    }
 }
 
 /// Files that hold a world are found to hold no other; and over memory, a store is honest and serves.

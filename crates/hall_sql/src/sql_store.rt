@@ -1,7 +1,7 @@
 //! The store over SQL tables.
-ghost use Rattle.std.specs.Prelude.{◌≡◌, IfOk};
+ghost use Rattle.std.specs.Prelude.{◌≡◌, IfOk, IfErr};
 ghost use Rattle.sqlite.specs.Held.{state};
-ghost use Rattle.hall_sql.specs.Standing.{HasAdopted};
+ghost use Rattle.hall_sql.specs.Standing.{HasAdopted, HasDeclined};
 
 use crate::adoption::adopt;
 use crate::answers::{
@@ -31,6 +31,13 @@ pub struct SqlStore<S: Alter> {
     conn: Connection<S>,
 }
 
+/// A connection that no store takes over, and why.
+#[derive(Drop)]
+pub struct Declined<S: Alter> {
+    pub conn: Connection<S>,
+    pub fault: StoreFault,
+}
+
 impl<S: Alter> Model for SqlStore<S> {
     ghost use Rattle.sqlite.specs.Held.{Held, held_code, state};
     ghost use Rattle.hall_sql.specs.Standing.{IsHall};
@@ -45,18 +52,21 @@ impl<S: Alter> Model for SqlStore<S> {
 }
 
 impl<S: Alter + Drop> SqlStore<S> {
-    /// Takes over a connection with the hall's tables, or with none, where it makes them. Refused, it lets go of the
-    /// connection as `adopt` leaves it.
-    pub fn over(mut conn: Connection<S>) -> Result<SqlStore<S>, StoreFault>
-        ensures { IfOk result (λ store. HasAdopted (state S.Store conn) (state S.Store store)) }
+    /// Takes over a connection with the hall's tables, or with none, where it makes them. Refused, it hands the
+    /// connection back as it was.
+    pub fn over(mut conn: Connection<S>) -> Result<SqlStore<S>, Declined<S>>
+        ensures adopted { IfOk result (λ store. HasAdopted (state S.Store conn) (state S.Store store)) }
+        ensures declined { IfErr result (λ declined. HasDeclined (state S.Store conn) (state S.Store declined.conn)) }
     {
-        adopt(&mut conn)?;
-        Ok(SqlStore { conn })
+        match adopt(&mut conn) {
+            Ok(()) => Ok(SqlStore { conn }),
+            Err(fault) => Err(Declined { conn, fault }),
+        }
     }
 }
 
 impl<S: Alter + Drop> Store for SqlStore<S> {
-    ghost use Rattle.std.specs.Prelude.{◌≡◌, ◌↔◌, IsTrue, IfOk, [], ◌∷◌, pos};
+    ghost use Rattle.std.specs.Prelude.{◌≡◌, ◌↔◌, ◌⊎◌, IsTrue, IfOk, IfErr, [], ◌∷◌, pos};
     ghost use Rattle.std.specs.FinMap.{get, values};
     ghost use Rattle.sqlite.specs.declared.types.Value.TheVariants.{Text, Int};
     ghost use Rattle.sqlite.specs.Held.{Held, state};
@@ -66,6 +76,8 @@ impl<S: Alter + Drop> Store for SqlStore<S> {
     ghost use Rattle.hall_store.specs.Store.{Kept, Served, Fails, puzzles_of, IsRoundKept, AreUsing, IsNumberTaken};
     ghost use Rattle.hall_store.specs.Store.{IsListing, is_of, is_in};
     ghost use Rattle.hall_store.specs.Store.{HasSubmitted, IsProtestOpen, protests_of, protests_in};
+    ghost use Rattle.hall_store.specs.Store.{Fed, IsRefusedNext};
+    ghost use Rattle.hall_store.specs.declared.fault.StoreFault.TheVariants.{Failed};
     ghost use Rattle.hall_sql.specs.Rows.{person_in, puzzle_row_in, round_in, place_in, answer_in, protest_in};
     ghost use Rattle.hall_sql.specs.Statements.{person_text, person_by_key_text, puzzle_text, all_puzzles_text};
     ghost use Rattle.hall_sql.specs.Statements.{puzzles_of_text, head_text, all_rounds_text, places_of_text};
@@ -309,7 +321,17 @@ impl<S: Alter + Drop> Store for SqlStore<S> {
         alloc: Global,
         round: &RoundId,
         sink: &mut K,
-    ) -> Result<(), StoreFault> {
+    ) -> Result<(), StoreFault>
+        ensures kept { Kept (content_of (state S.Store self.old)) (content_of (state S.Store self.new)) }
+        ensures fed { Fed K.takes (λ world rows. IsListing world (is_in round.now) rows)
+            (content_of (state S.Store self.old)) (content_of (state S.Store self.new)) sink.old result sink.new }
+        ensures fault { IfErr result (λ fault. fault ≡ Failed → Unit {0} ⊎ IsRefusedNext K.takes K.refuses
+            (λ world rows. IsListing world (is_in round.now) rows) (content_of (state S.Store self.old))
+            (content_of (state S.Store self.new)) sink.old sink.new) }
+        ensures whole { HasCleanDisk (state S.Store self.new) → IfOk result (λ _.
+            AreRecords answer_in answers_in_text (Text round.now ∷ []) (state S.Store self.old)
+            (state S.Store self.new)) }
+    {
         feed_answers(&mut self.conn, alloc, round, sink)
     }
 
@@ -419,7 +441,17 @@ impl<S: Alter + Drop> Store for SqlStore<S> {
         alloc: Global,
         round: &RoundId,
         sink: &mut K,
-    ) -> Result<(), StoreFault> {
+    ) -> Result<(), StoreFault>
+        ensures kept { Kept (content_of (state S.Store self.old)) (content_of (state S.Store self.new)) }
+        ensures fed { Fed K.takes (λ world rows. rows ≡ protests_in world round.now)
+            (content_of (state S.Store self.old)) (content_of (state S.Store self.new)) sink.old result sink.new }
+        ensures fault { IfErr result (λ fault. fault ≡ Failed → Unit {0} ⊎ IsRefusedNext K.takes K.refuses
+            (λ world rows. rows ≡ protests_in world round.now) (content_of (state S.Store self.old))
+            (content_of (state S.Store self.new)) sink.old sink.new) }
+        ensures whole { HasCleanDisk (state S.Store self.new) → IfOk result (λ _.
+            AreRecords protest_in protests_in_text (Text round.now ∷ []) (state S.Store self.old)
+            (state S.Store self.new)) }
+    {
         feed_protests(&mut self.conn, alloc, round, sink)
     }
 }

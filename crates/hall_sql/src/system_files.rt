@@ -24,7 +24,7 @@ impl<'r, B: Start> SystemFiles<'r, B> {
 }
 
 impl<B: Start> PathFiles<FileStore<FileFrom<B>>> for SystemFiles<'_, B> {
-    ghost use Rattle.std.specs.Prelude.{⊤, IsTrue};
+    ghost use Rattle.std.specs.Prelude.{◌≡◌, ⊤, IsTrue};
     ghost use Rattle.sqlite.specs.WalFiles.{image_at};
     ghost use Rattle.sqlite.specs.Opening.{is_open_error};
 
@@ -39,6 +39,8 @@ impl<B: Start> PathFiles<FileStore<FileFrom<B>>> for SystemFiles<'_, B> {
     ghost opens = { λ old path conn new. ⊤ };
 
     ghost refuses = { λ old path error new. IsTrue (is_open_error error) };
+
+    ghost closes = { λ old conn new. ⊤ };
 
     fn is_missing(&mut self, path: &str) -> bool {
         matches!(fs::open(self.rt, path), Err(error) if error.kind() == ErrorKind::NotFound)
@@ -56,5 +58,9 @@ impl<B: Start> PathFiles<FileStore<FileFrom<B>>> for SystemFiles<'_, B> {
             Ok(conn) => Ok(conn),
             Err((error, _left)) => Err(error),
         }
+    }
+
+    fn close(&mut self, left: &mut Option<Connection<FileStore<FileFrom<B>>>>) {
+        *left = None;
     }
 }

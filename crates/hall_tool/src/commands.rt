@@ -86,7 +86,7 @@ pub fn task_at<S: Alter + Drop, F: PathFiles<S>, K: Task, R: Read, W: Write>(
         × K.does (Held S) R W (λ s. content_of (state S.Store s)) R.remaining W.contents task.now first
         (kept_by ended.desk) reader.old reader.new writer.old writer.new ended.status) }
     ensures stopped { IfErr result (λ fault.
-        StopsAt ⊥ (IsCauseThere F.tells F.refuses F.opens files.old db.now files.new) ⊥ fault
+        StopsAt ⊥ (IsCauseThere S.Store F.tells F.refuses F.opens F.closes files.old db.now files.new) ⊥ fault
         × (reader.new ≡ reader.old) × (writer.new ≡ writer.old)) }
 {
     match open_there(files, db) {
@@ -113,7 +113,7 @@ pub fn init_at<S: Alter + Drop, F: PathFiles<S>, R: Read, W: Write>(
     ensures stopped { IfErr result (λ fault.
         StopsAt (F.withholds files.old people.now files.new)
         (λ cause. (list : List ℕ) × (listed : F) × F.gives files.old people.now list listed
-        × IsCauseAt F.refuses F.opens listed db.now files.new cause) ⊥ fault
+        × IsCauseAt S.Store F.refuses F.opens F.closes listed db.now files.new cause) ⊥ fault
         × (reader.new ≡ reader.old) × (writer.new ≡ writer.old)) }
 {
     let list = match files.read(people) {

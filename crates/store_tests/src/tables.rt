@@ -1,5 +1,5 @@
 //! The tables of the hall, and rows of them.
-use hall_sql::SqlStore;
+use hall_sql::{Declined, SqlStore};
 use hall_store::{Store, StoreFault};
 use sqlite::{Alter, Connection, MemStore};
 use std::alloc::AllocGlobal;
@@ -89,5 +89,11 @@ pub(crate) fn ask_over<S: Alter + Drop, A: Ask>(
 
 /// A store over the connection.
 pub(crate) fn over(conn: Connection<MemStore>) -> Result<SqlStore<MemStore>, StoreFault> {
-    SqlStore::over(conn)
+    match SqlStore::over(conn) {
+        Ok(store) => Ok(store),
+        Err(Declined { conn, fault }) => {
+            drop(conn);
+            Err(fault)
+        }
+    }
 }

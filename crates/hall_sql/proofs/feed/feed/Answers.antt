@@ -3,7 +3,7 @@ use Rattle.sqlite.specs.Values.{bound}
 use Rattle.sqlite.specs.Held.{state}
 use Rattle.sqlite.specs.State.{HasCleanDisk}
 use Rattle.hall_policy.specs.Sink.{HasTaken}
-use Rattle.hall_sql.specs.Feed.{Steps}
+use Rattle.hall_sql.specs.Feed.{Steps, AreAll}
 use Rattle.hall_sql.proofs.LastLemmas.{survived, last_then}
 use Rattle.hall_sql.proofs.CallLemmas.{rested, query_refused}
 use Rattle.hall_sql.proofs.FeedLemmas.{taken_more, read_none, read_more, read_all, read_first, fed_first}
@@ -68,10 +68,13 @@ returns-then-not-branch-clause-fed g c =
       λ clean.
           let late : HasCleanDisk (state g.S.Store after) = subst (λ h. HasCleanDisk (state g.S.Store h)) same clean in
           let mid : HasCleanDisk (state g.S.Store before) = omega (arith, c.step.ensures.lasts.clean, late) in
+          let old = state g.S.Store c.args.conn.now in
+          let was : HasCleanDisk old = omega (arith, c.feed.invariant.1.clean, mid) in
           let last = stepped.1 late in (
             subst (λ h. IsTrue (state g.S.Store h).is_open) (sym same) last.0.0.is_open,
-            read_all g.S.Store g.T.Record.read c.args.sql.now (bound c.args.params.now) (state g.S.Store c.args.conn.now) before after so.0
-                (so.2 mid) last.1,
+            subst (λ h. AreAll g.T.Record.read c.args.sql.now (bound c.args.params.now) old (state g.S.Store h) so.0) (sym same)
+                (read_all g.S.Store g.T.Record.read c.args.sql.now (bound c.args.params.now) old before after so.0
+                (so.2 mid) c.requires.plain c.requires.hall was last.1),
           ),
     )
 

@@ -6,7 +6,7 @@ use Rattle.hall_sql.specs.Rows.{answer_in}
 use Rattle.hall_sql.specs.Statements.{answers_in_text}
 use Rattle.hall_sql.proofs.AnswerTexts.{listing_order, answer_columns, answers_in_is}
 use Rattle.hall_sql.proofs.PeopleTexts.{equals}
-use Rattle.hall_sql.proofs.FeedLemmas.{fed_rows}
+use Rattle.hall_sql.proofs.FeedLemmas.{fed_rows, fed_whole}
 use Rattle.hall_sql.proofs.FeedListings.{answers_in_selected}
 use Rattle.hall_sql.proofs.feed.feed_answers.Goals as goal
 
@@ -21,4 +21,10 @@ returns-clause-fed g c =
     answers_in_is.0 answers_in_is.1 answers_in_is.2 (λ db. refl) g.K.AnswerSink.takes (λ world rows. IsListing world (is_in c.args.round.now) rows)
     old (state g.S.Store c.feed.new.conn) c.args.sink.now c.feed.new.sink c.feed.result c.requires.hall c.feed.ensures.rested
     (λ opened. (c.schema-schema.ensures.live opened).0) (answers_in_selected old c.args.round.now)
+    (rw (c.params-to_sql.ensures, c.as_str.ensures.text) at c.feed.ensures.fed)
+
+pub returns-clause-whole : goal.returns-clause-whole
+returns-clause-whole g c clean =
+    fed_whole g.S.Store answer_in g.K.AnswerSink.takes answers_in_text (Text c.args.round.now ∷ []) (state g.S.Store c.args.conn.now)
+    (state g.S.Store c.feed.new.conn) c.args.sink.now c.feed.new.sink c.feed.result clean
     (rw (c.params-to_sql.ensures, c.as_str.ensures.text) at c.feed.ensures.fed)

@@ -6,7 +6,7 @@ use Rattle.hall_sql.specs.Rows.{protest_in}
 use Rattle.hall_sql.specs.Statements.{protests_in_text}
 use Rattle.hall_sql.proofs.ProtestTexts.{key_order, protest_columns, protests_in_is}
 use Rattle.hall_sql.proofs.PeopleTexts.{equals}
-use Rattle.hall_sql.proofs.FeedLemmas.{fed_rows}
+use Rattle.hall_sql.proofs.FeedLemmas.{fed_rows, fed_whole}
 use Rattle.hall_sql.proofs.FeedListings.{protests_in_selected}
 use Rattle.hall_sql.proofs.feed.feed_protests.Goals as goal
 
@@ -21,4 +21,10 @@ returns-clause-fed g c =
     protests_in_is.0 protests_in_is.1 protests_in_is.2 (λ db. refl) g.K.ProtestSink.takes (λ world rows. rows ≡ protests_in world c.args.round.now)
     old (state g.S.Store c.feed.new.conn) c.args.sink.now c.feed.new.sink c.feed.result c.requires.hall c.feed.ensures.rested
     (λ opened. (c.schema-schema.ensures.live opened).0) (protests_in_selected old c.args.round.now)
+    (rw (c.params-to_sql.ensures, c.as_str.ensures.text) at c.feed.ensures.fed)
+
+pub returns-clause-whole : goal.returns-clause-whole
+returns-clause-whole g c clean =
+    fed_whole g.S.Store protest_in g.K.ProtestSink.takes protests_in_text (Text c.args.round.now ∷ []) (state g.S.Store c.args.conn.now)
+    (state g.S.Store c.feed.new.conn) c.args.sink.now c.feed.new.sink c.feed.result clean
     (rw (c.params-to_sql.ensures, c.as_str.ensures.text) at c.feed.ensures.fed)
