@@ -21,3 +21,4 @@ pub mod Line
 pub mod Listener
 pub mod Sending
 pub mod Laws
+pub mod Told
