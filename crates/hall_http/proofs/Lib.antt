@@ -19,3 +19,4 @@ pub mod Lines
 pub mod Once
 pub mod Asked
 pub mod Listening
+pub mod Told

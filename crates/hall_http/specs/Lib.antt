@@ -20,3 +20,4 @@ pub mod Line
 pub mod Listener
 pub mod Sending
 pub mod Laws
+pub mod Told

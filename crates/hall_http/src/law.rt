@@ -1,6 +1,7 @@
 //! Laws of the definitions, each the contract of a function that does nothing.
 ghost use Rattle.hall_http.specs.Laws.{AreOneRequest, BeginsWithOneRequest, AskForOneThing};
 ghost use Rattle.hall_http.specs.Laws.{AreOneListOfRequests, AreOneListOfRecords};
+ghost use Rattle.hall_http.specs.Told.{HasOneSpelling, BytesHideOthers, BytesHideAnswers};
 
 /// Bytes are at most one request and ask for at most one thing. A stream begins with at most one whole request and is at
 /// most one list of requests; an input is at most one list of records.
@@ -10,4 +11,14 @@ pub fn law_requests()
     ensures one_asked { AskForOneThing }
     ensures one_list { AreOneListOfRequests }
     ensures one_record_list { AreOneListOfRecords }
+{}
+
+/// Equal replies have equal bytes. So the bytes of the replies to an entrant alone are the same where the requests of
+/// others who are entrants alone don't come, if nobody publishes; and until a sealed round's end they are those of
+/// replies that are the same but for the texts of answers, where two answers to the round are exchanged. In neither run a
+/// reply is 503, and each request to certify that comes in both is answered alike.
+pub fn law_bytes()
+    ensures spelling { HasOneSpelling }
+    ensures others { BytesHideOthers }
+    ensures answers { BytesHideAnswers }
 {}

@@ -33,7 +33,7 @@ pub use device::write_all;
 pub use fault::{DeviceFault, ReplayFault};
 pub use head::{Cut, cut_request};
 pub use host::{Host, SystemHost};
-pub use law::law_requests;
+pub use law::{law_bytes, law_requests};
 pub use line::{Line, serve_line};
 pub use listener::{Accepted, Listener, ServeAllEnd, serve_all};
 pub use routes::Routes;

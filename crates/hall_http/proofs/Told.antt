@@ -1,0 +1,208 @@
+-- What the bytes of replies tell to one key.
+use Rattle.std.proofs.Common.{◌≡◌, ◌≢◌, inl, inr, if◌then◌else◌, ℕ, Bool, true, false, cond, not, List, [], ◌∷◌, Some, Ok, Err, map, refl, sym, ap, ◌∙◌, subst}
+use Rattle.std.specs.Prelude.{All}
+use Rattle.std.proofs.lemmas.List.Elements.{All-head, All-tail, All-nil, All-cons}
+use Rattle.hall_policy.specs.World.{World}
+use Rattle.hall_policy.specs.declared.record.Person.{Person}
+use Rattle.hall_policy.specs.declared.request.Request.{Request}
+use Rattle.hall_desk.specs.Run.{Run}
+use Rattle.hall_desk.specs.Without.{PublishesNothing, without, replies_where, has_key, certifies, Serve}
+use Rattle.hall_desk.specs.Exchanged.{swapped, exchanged_request, exchanged_list, blank}
+use Rattle.hall_desk.specs.declared.reply.Reply.{Reply}
+use Rattle.hall_desk.specs.declared.reply.Reply.TheVariants as reply
+use Rattle.hall_desk.proofs.OthersRun.{others_hidden_in_runs}
+use Rattle.hall_desk.proofs.SealedRun.{sealed_runs}
+use Rattle.hall_http.specs.declared.form.FormFault.{FormFault}
+use Rattle.hall_http.specs.Request.{RequestOf}
+use Rattle.hall_http.specs.Reply.{BytesOf}
+use Rattle.hall_http.specs.Connection.{Exchange}
+use Rattle.hall_http.specs.Serving.{IsNotMade, IsMade, AreMade}
+use Rattle.hall_http.specs.Told.{HasOneSpelling, AsksFor, AreTold, AllServed, ComesAgain, is_others, AreWithout, AsksNoPublication, BytesHideOthers, ComesExchanged, AreExchanged, AreBytes, BytesHideAnswers}
+use Rattle.hall_http.proofs.Asked.{one_asked}
+
+one_text : (given : Reply) (x y : List ℕ) → BytesOf given x → BytesOf given y → x ≡ y
+one_text (reply.Table text) x y p q = p ∙ sym q
+one_text _ x y p q = p ∙ sym q
+
+pub one_spelling : HasOneSpelling
+one_spelling a b x y same p q = one_text b x y (subst (λ (given : Reply). BytesOf given x) same p) q
+
+-- ---- which request the bytes are
+same_request : (x : Exchange) (a b : Request) → RequestOf x.request (Ok a) → RequestOf x.request (Ok b) → a ≡ b
+same_request x a b p q = let both : Ok a ≡ Ok b = one_asked x.request (Ok a) (Ok b) p q in cc
+
+no_request : (x : Exchange) (found : FormFault) (a : Request) → RequestOf x.request (Err found) → RequestOf x.request (Ok a) → ⊥
+no_request x found a p q = let none : Err found ≡ Ok a = one_asked x.request (Err found) (Ok a) p q in absurd (cc)
+
+-- bytes that aren't made into a request, and are served, are none
+not_made_asks : (x : Exchange) → IsNotMade x → ¬ (BytesOf reply.Unavailable x.reply) → (test : Request → Bool) → AsksFor test x → ⊥
+not_made_asks x (inl (moment, at, refused)) serves test (request, reads, passes) = no_request x refused.found request refused.reads reads
+not_made_asks x (inr lacking) serves test asks = serves lacking
+
+-- bytes that are a request ask for it
+made_passes : (x : Exchange) (q : ℕ × Request) (given : Reply) → IsMade x q given → (test : Request → Bool) → AsksFor test x → test q.1 ≡ true
+made_passes x q given made test (request, reads, passes) = ap test (same_request x q.1 request made.reads reads) ∙ passes
+
+made_fails : (x : Exchange) (q : ℕ × Request) (given : Reply) → IsMade x q given → (test : Request → Bool) → ¬ (AsksFor test x) → test q.1 ≡ false
+made_fails x q given made test fails = elim (test q.1) as (λ b. test q.1 ≡ b → b ≡ false) [
+  | true ↦ λ passes. absurd (fails (q.1, made.reads, passes))
+  | false ↦ λ h. refl
+] refl
+
+served_first : (x : Exchange) (xs : List Exchange) → AllServed (x ∷ xs) → ¬ (BytesOf reply.Unavailable x.reply)
+served_first x xs served = All-head (λ y. ¬ (BytesOf reply.Unavailable y.reply)) x xs served
+
+served_later : (x : Exchange) (xs : List Exchange) → AllServed (x ∷ xs) → AllServed xs
+served_later x xs served = All-tail (λ y. ¬ (BytesOf reply.Unavailable y.reply)) x xs served
+
+-- ---- the replies to some of the requests, as bytes
+same_bytes : (replies : List Reply) (texts others : List (List ℕ)) → AreBytes replies texts → AreBytes replies others → texts ≡ others
+same_bytes [] texts others p q = p ∙ sym q
+same_bytes (given ∷ replies) texts others (text, rest, is, written, more) (word, tail, also, writes, further) =
+    let first : text ≡ word = one_text given text word written writes in
+    let later : rest ≡ tail = same_bytes replies rest tail more further in
+    is ∙ (λ i. first i ∷ later i) ∙ sym also
+
+told_bytes : (test : Request → Bool) (xs : List Exchange) (requests : List (ℕ × Request)) (replies : List Reply) (texts : List (List ℕ)) → AllServed xs → AreMade xs requests replies → AreTold test xs texts →
+    AreBytes (replies_where (λ asked. test asked.1) requests replies) texts
+told_bytes test [] requests replies texts served made told =
+    subst (λ (rs : List (ℕ × Request)). AreBytes (replies_where (λ asked. test asked.1) rs replies) texts) (sym made.0) told
+told_bytes test (x ∷ xs) requests replies texts served (inl (missed, made)) (inl (asks, more, texts_are, told)) =
+    absurd (not_made_asks x missed (served_first x xs served) test asks)
+told_bytes test (x ∷ xs) requests replies texts served (inl (missed, made)) (inr (fails, told)) =
+    told_bytes test xs requests replies texts (served_later x xs served) made told
+told_bytes test (x ∷ xs) requests replies texts served (inr (q, given, later, rest, are, come, is, made)) (inl (asks, more, texts_are, told)) =
+    let passes : test q.1 ≡ true = made_passes x q given is test asks in
+    let tail : AreBytes (replies_where (λ asked. test asked.1) later rest) more = told_bytes test xs later rest more (served_later x xs served) made told in
+    let ours : List Reply = replies_where (λ asked. test asked.1) later rest in
+    let here : AreBytes (if test q.1 then given ∷ ours else ours) texts =
+    subst (λ b. AreBytes (if b then given ∷ ours else ours) texts) (sym passes) (x.reply, more, texts_are, is.written, tail) in
+    subst (λ (rs : List (ℕ × Request)). AreBytes (replies_where (λ asked. test asked.1) rs replies) texts) (sym are)
+    (subst (λ (gs : List Reply). AreBytes (replies_where (λ asked. test asked.1) (q ∷ later) gs) texts) (sym come) here)
+told_bytes test (x ∷ xs) requests replies texts served (inr (q, given, later, rest, are, come, is, made)) (inr (fails, told)) =
+    let skips : test q.1 ≡ false = made_fails x q given is test fails in
+    let tail : AreBytes (replies_where (λ asked. test asked.1) later rest) texts = told_bytes test xs later rest texts (served_later x xs served) made told in
+    let ours : List Reply = replies_where (λ asked. test asked.1) later rest in
+    let here : AreBytes (if test q.1 then given ∷ ours else ours) texts = subst (λ b. AreBytes (if b then given ∷ ours else ours) texts) (sym skips) tail in
+    subst (λ (rs : List (ℕ × Request)). AreBytes (replies_where (λ asked. test asked.1) rs replies) texts) (sym are)
+    (subst (λ (gs : List Reply). AreBytes (replies_where (λ asked. test asked.1) (q ∷ later) gs) texts) (sym come) here)
+
+-- ---- the requests that are made
+-- served bytes have replies that serve
+served_replies : (xs : List Exchange) (requests : List (ℕ × Request)) (replies : List Reply) → AllServed xs → AreMade xs requests replies → Serve replies
+served_replies [] requests replies served made = subst Serve (sym made.1) (All-nil (λ given. given ≢ reply.Unavailable))
+served_replies (x ∷ xs) requests replies served (inl (missed, made)) = served_replies xs requests replies (served_later x xs served) made
+served_replies (x ∷ xs) requests replies served (inr (q, given, later, rest, are, come, is, made)) =
+    subst Serve (sym come) (All-cons (λ g. g ≢ reply.Unavailable) given rest
+    (λ lacks. served_first x xs served (subst (λ (g : Reply). BytesOf g x.reply) lacks is.written))
+    (served_replies xs later rest (served_later x xs served) made))
+
+publish_nothing : (xs : List Exchange) (requests : List (ℕ × Request)) (replies : List Reply) → All AsksNoPublication xs → AreMade xs requests replies → All PublishesNothing requests
+publish_nothing [] requests replies plain made = subst (λ (rs : List (ℕ × Request)). All PublishesNothing rs) (sym made.0) (All-nil PublishesNothing)
+publish_nothing (x ∷ xs) requests replies plain (inl (missed, made)) = publish_nothing xs requests replies (All-tail AsksNoPublication x xs plain) made
+publish_nothing (x ∷ xs) requests replies plain (inr (q, given, later, rest, are, come, is, made)) =
+    subst (λ (rs : List (ℕ × Request)). All PublishesNothing rs) (sym are)
+    (All-cons PublishesNothing q later (λ round. All-head AsksNoPublication x xs plain q.1 round is.reads) (publish_nothing xs later rest (All-tail AsksNoPublication x xs plain) made))
+
+-- what comes again is the same request, or is none
+module _ (last : World) (e : Person) where
+  abbrev others : ℕ × Request → Bool
+  others asked = is_others last e asked.1
+
+  abbrev Left : List Exchange → Type 0
+  Left xs = (ys : List Exchange) (requests again : List (ℕ × Request)) (replies also : List Reply) → AllServed xs → AllServed ys → AreMade xs requests replies → AreMade ys again also →
+      AreWithout last e xs ys → again ≡ without last e requests
+
+  comes_on : (x : Exchange) (xs : List Exchange) → Left xs → (y : Exchange) (zs : List Exchange) (requests again : List (ℕ × Request)) (replies also : List Reply) → AllServed (x ∷ xs) → AllServed (y ∷ zs) →
+      AreMade (x ∷ xs) requests replies → AreMade (y ∷ zs) again also → ¬ (AsksFor (is_others last e) x) → ComesAgain x y → AreWithout last e xs zs → again ≡ without last e requests
+  comes_on x xs claim y zs requests again replies also served kept (inl (missed, made)) (inl (lost, remade)) fails same left =
+      claim zs requests again replies also (served_later x xs served) (served_later y zs kept) made remade left
+  comes_on x xs claim y zs requests again replies also served kept (inl (missed, made)) (inr (p, answered, further, tail, are_too, come_too, is_too, remade)) fails same left =
+      absurd (not_made_asks x missed (served_first x xs served) (λ request. true) (p.1, subst (λ (bytes : List ℕ). RequestOf bytes (Ok p.1)) same.0 is_too.reads, refl))
+  comes_on x xs claim y zs requests again replies also served kept (inr (q, given, later, rest, are, come, is, made)) (inl (lost, remade)) fails same left =
+      absurd (not_made_asks y lost (served_first y zs kept) (λ request. true) (q.1, subst (λ (bytes : List ℕ). RequestOf bytes (Ok q.1)) (sym same.0) is.reads, refl))
+  comes_on x xs claim y zs requests again replies also served kept (inr (q, given, later, rest, are, come, is, made)) (inr (p, answered, further, tail, are_too, come_too, is_too, remade)) fails same left =
+      let stay : others q ≡ false = made_fails x q given is (is_others last e) fails in
+      let request : p.1 ≡ q.1 = same_request x p.1 q.1 (subst (λ (bytes : List ℕ). RequestOf bytes (Ok p.1)) same.0 is_too.reads) is.reads in
+      let moments : Some p.0 ≡ Some q.0 = sym is_too.moment ∙ same.1 ∙ is.moment in
+      let moment : p.0 ≡ q.0 = cc in
+      let one : p ≡ q = λ i. (moment i, request i) in
+      let left_later : further ≡ without last e later = claim zs later further rest tail (served_later x xs served) (served_later y zs kept) made remade left in
+      are_too ∙ (λ i. one i ∷ left_later i) ∙ sym (ap (λ b. cond (not b) (q ∷ without last e later) (without last e later)) stay) ∙ ap (without last e) (sym are)
+
+  left_requests : (xs : List Exchange) → Left xs
+  left_requests [] ys requests again replies also served kept made remade none =
+      let both = subst (λ (zs : List Exchange). AreMade zs again also) none remade in
+      both.0 ∙ ap (without last e) (sym made.0)
+  left_requests (x ∷ xs) ys requests again replies also served kept (inl (missed, made)) remade (inl (asks, left)) =
+      absurd (not_made_asks x missed (served_first x xs served) (is_others last e) asks)
+  left_requests (x ∷ xs) ys requests again replies also served kept (inr (q, given, later, rest, are, come, is, made)) remade (inl (asks, left)) =
+      let passes : others q ≡ true = made_passes x q given is (is_others last e) asks in
+      let tail : again ≡ without last e later = left_requests xs ys later again rest also (served_later x xs served) kept made remade left in
+      tail ∙ sym (ap (λ b. cond (not b) (q ∷ without last e later) (without last e later)) passes) ∙ ap (without last e) (sym are)
+  left_requests (x ∷ xs) ys requests again replies also served kept made remade (inr (fails, y, zs, come_again, same, left)) =
+      comes_on x xs (left_requests xs) y zs requests again replies also served (subst AllServed come_again kept) made
+      (subst (λ (ws : List Exchange). AreMade ws again also) come_again remade) fails same left
+
+-- the law
+pub bytes_hide_others : BytesHideOthers
+bytes_hide_others world last end e xs ys texts others whole left sane plain there alone without_them served kept same told told_too =
+    let requests : left.requests ≡ without last e whole.requests = left_requests last e xs ys whole.requests left.requests whole.replies left.replies served kept whole.made left.made without_them in
+    let key : ℕ × Request → Bool = λ asked. has_key e.key asked.1.key in
+    let replies : replies_where key whole.requests whole.replies ≡ replies_where key left.requests left.replies =
+    others_hidden_in_runs world sane last end e whole.requests whole.replies left.replies whole.timed (publish_nothing xs whole.requests whole.replies plain whole.made) there alone whole.run
+    (subst (λ (rs : List (ℕ × Request)). Run world rs left.replies end) requests left.run)
+    (served_replies xs whole.requests whole.replies served whole.made) (served_replies ys left.requests left.replies kept left.made)
+    (same ∙ ap (λ (rs : List (ℕ × Request)). replies_where certifies rs left.replies) requests)
+    ∙ ap (λ (rs : List (ℕ × Request)). replies_where key rs left.replies) (sym requests) in
+    same_bytes (replies_where key left.requests left.replies) texts others
+    (subst (λ (gs : List Reply). AreBytes gs texts) replies (told_bytes (λ request. has_key e.key request.key) xs whole.requests whole.replies texts served whole.made told))
+    (told_bytes (λ request. has_key e.key request.key) ys left.requests left.replies others kept left.made told_too)
+
+-- ---- two answers exchanged
+-- what comes exchanged is the exchanged request, or is none
+module _ (r a b : List ℕ) where
+  abbrev Turned : List Exchange → Type 0
+  Turned xs = (ys : List Exchange) (requests again : List (ℕ × Request)) (replies also : List Reply) → AllServed xs → AllServed ys → AreMade xs requests replies → AreMade ys again also →
+      AreExchanged r a b xs ys → again ≡ exchanged_list r a b requests
+
+  turns_on : (x : Exchange) (xs : List Exchange) → Turned xs → (y : Exchange) (zs : List Exchange) (requests again : List (ℕ × Request)) (replies also : List Reply) → AllServed (x ∷ xs) → AllServed (y ∷ zs) →
+      AreMade (x ∷ xs) requests replies → AreMade (y ∷ zs) again also → ComesExchanged r a b x y → AreExchanged r a b xs zs → again ≡ exchanged_list r a b requests
+  turns_on x xs claim y zs requests again replies also served kept (inl (missed, made)) (inl (lost, remade)) turn turned =
+      claim zs requests again replies also (served_later x xs served) (served_later y zs kept) made remade turned
+  turns_on x xs claim y zs requests again replies also served kept (inl (missed, made)) (inr (p, answered, further, tail, are_too, come_too, is_too, remade)) turn turned =
+      absurd (not_made_asks x missed (served_first x xs served) (λ other. true) (turn.back p.1 is_too.reads))
+  turns_on x xs claim y zs requests again replies also served kept (inr (q, given, later, rest, are, come, is, made)) (inl (lost, remade)) turn turned =
+      absurd (not_made_asks y lost (served_first y zs kept) (λ other. true) (exchanged_request (swapped r a b) q.1, turn.turned q.1 is.reads, refl))
+  turns_on x xs claim y zs requests again replies also served kept (inr (q, given, later, rest, are, come, is, made)) (inr (p, answered, further, tail, are_too, come_too, is_too, remade)) turn turned =
+      let request : p.1 ≡ exchanged_request (swapped r a b) q.1 = same_request y p.1 (exchanged_request (swapped r a b) q.1) is_too.reads (turn.turned q.1 is.reads) in
+      let moments : Some p.0 ≡ Some q.0 = sym is_too.moment ∙ turn.moment ∙ is.moment in
+      let moment : p.0 ≡ q.0 = cc in
+      let left_later : further ≡ exchanged_list r a b later = claim zs later further rest tail (served_later x xs served) (served_later y zs kept) made remade turned in
+      are_too ∙ (λ i. (moment i, request i) ∷ left_later i) ∙ ap (exchanged_list r a b) (sym are)
+
+  turned_requests : (xs : List Exchange) → Turned xs
+  turned_requests [] ys requests again replies also served kept made remade none =
+      let both = subst (λ (zs : List Exchange). AreMade zs again also) none remade in
+      both.0 ∙ ap (exchanged_list r a b) (sym made.0)
+  turned_requests (x ∷ xs) ys requests again replies also served kept made remade (y, zs, come_again, turn, turned) =
+      turns_on x xs (turned_requests xs) y zs requests again replies also served (subst AllServed come_again kept) made
+      (subst (λ (ws : List Exchange). AreMade ws again also) come_again remade) turn turned
+
+-- the law
+pub bytes_hide_answers : BytesHideAnswers
+bytes_hide_answers world last end r a b round e xs ys texts others whole turned sane sealed is_a is_b there alone exchange served kept same told told_too =
+    let requests : turned.requests ≡ exchanged_list r a b whole.requests = turned_requests r a b xs ys whole.requests turned.requests whole.replies turned.replies served kept whole.made turned.made exchange in
+    let key : ℕ × Request → Bool = λ asked. has_key e.key asked.1.key in
+    record {
+      replies = replies_where key whole.requests whole.replies;
+      answers = replies_where key turned.requests turned.replies;
+      first = told_bytes (λ request. has_key e.key request.key) xs whole.requests whole.replies texts served whole.made told;
+      second = told_bytes (λ request. has_key e.key request.key) ys turned.requests turned.replies others kept turned.made told_too;
+      same =
+          sealed_runs world sane last end r a b round e whole.requests whole.replies turned.replies whole.timed sealed is_a is_b there alone whole.run
+          (subst (λ (rs : List (ℕ × Request)). Run world rs turned.replies end) requests turned.run)
+          (served_replies xs whole.requests whole.replies served whole.made) (served_replies ys turned.requests turned.replies kept turned.made)
+          (same ∙ ap (λ (rs : List (ℕ × Request)). replies_where certifies rs turned.replies) requests)
+          ∙ ap (λ (rs : List (ℕ × Request)). map blank (replies_where key rs turned.replies)) (sym requests);
+    }

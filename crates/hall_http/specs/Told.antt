@@ -1,0 +1,119 @@
+-- What the bytes of replies tell of replies, and to one key.
+use Rattle.std.specs.Prelude.{◌≡◌, ◌≢◌, ◌&&◌, ◌⊎◌, ℕ, Bool, true, List, [], ◌∷◌, Some, All, Ok, IsTrue, map}
+use Rattle.std.specs.FinMap.{get}
+use Rattle.hall_policy.specs.World.{World}
+use Rattle.hall_policy.specs.OwnAlike.{is_entrant_alone}
+use Rattle.hall_policy.specs.Ranges.{IsAnswer}
+use Rattle.hall_policy.specs.declared.record.Person.{Person}
+use Rattle.hall_policy.specs.declared.record.Round.{Round}
+use Rattle.hall_policy.specs.declared.request.Action.TheVariants.{Publish}
+use Rattle.hall_policy.specs.declared.request.Request.{Request}
+use Rattle.hall_store.specs.Caller.{caller_of}
+use Rattle.hall_desk.specs.Sane.{Sane}
+use Rattle.hall_desk.specs.Without.{is_other_person, stays, certifies, replies_where, has_key}
+use Rattle.hall_desk.specs.Exchanged.{swapped, exchanged_request, blank, IsSealedRound}
+use Rattle.hall_desk.specs.declared.reply.Reply.{Reply}
+use Rattle.hall_desk.specs.declared.reply.Reply.TheVariants.{Unavailable as NotServed}
+use Rattle.hall_http.specs.Request.{RequestOf}
+use Rattle.hall_http.specs.Reply.{BytesOf}
+use Rattle.hall_http.specs.Connection.{Exchange}
+use Rattle.hall_http.specs.Serving.{IsRunOver}
+
+-- equal replies have equal bytes
+abbrev pub HasOneSpelling : Type 0
+HasOneSpelling = (a b : Reply) (x y : List ℕ) → a ≡ b → BytesOf a x → BytesOf b y → x ≡ y
+
+-- the bytes ask for a request that passes the test
+abbrev pub AsksFor : (Request → Bool) → Exchange → Type 0
+AsksFor test x = (request : Request) × RequestOf x.request (Ok request) × (test request ≡ true)
+
+-- the texts are the bytes of the replies to the requests that pass the test, in their order
+abbrev pub AreTold : (Request → Bool) → List Exchange → List (List ℕ) → Type 0
+AreTold test [] texts = texts ≡ []
+AreTold test (x ∷ xs) texts =
+    (AsksFor test x × (rest : List (List ℕ)) × (texts ≡ x.reply ∷ rest) × AreTold test xs rest)
+    ⊎ (¬ (AsksFor test x) × AreTold test xs texts)
+
+-- no reply is 503
+abbrev pub AllServed : List Exchange → Type 0
+AllServed xs = All (λ x. ¬ (BytesOf NotServed x.reply)) xs
+
+-- the same bytes come at the same moment
+abbrev pub ComesAgain : Exchange → Exchange → Type 0
+ComesAgain x y = (y.request ≡ x.request) × (y.moment ≡ x.moment)
+
+-- whether the request's key belongs, in the world at the list's end, to another person than e who holds the role entrant
+-- alone
+abbrev pub is_others : World → Person → Request → Bool
+is_others last e request = is_other_person e (caller_of last request.key)
+
+-- of the first list all but the requests of others come again, in their order
+abbrev pub AreWithout : World → Person → List Exchange → List Exchange → Type 0
+AreWithout last e [] ys = ys ≡ []
+AreWithout last e (x ∷ xs) ys =
+    (AsksFor (is_others last e) x × AreWithout last e xs ys)
+    ⊎ (¬ (AsksFor (is_others last e) x)
+    × (y : Exchange) × (rest : List Exchange) × (ys ≡ y ∷ rest) × ComesAgain x y × AreWithout last e xs rest)
+
+-- the bytes don't ask to publish
+abbrev pub AsksNoPublication : Exchange → Type 0
+AsksNoPublication x =
+    (request : Request) (round : List ℕ) → RequestOf x.request (Ok request) → request.action ≢ Publish round
+
+-- the replies' bytes tell e nothing of others who hold the role entrant alone: two runs of the hall from a sane world,
+-- one over bytes that ask to publish nothing, and one over those without the others' requests, write the same bytes to
+-- the requests with e's key; where no reply is 503, and each request to certify that comes in both runs is answered
+-- alike
+abbrev pub BytesHideOthers : Type 0
+BytesHideOthers =
+    (world last end : World) (e : Person) (xs ys : List Exchange) (texts others : List (List ℕ)) →
+    (whole : IsRunOver world xs last) (left : IsRunOver world ys end) →
+    Sane world → All AsksNoPublication xs → get last.people e.name ≡ Some e → IsTrue (is_entrant_alone e) →
+    AreWithout last e xs ys → AllServed xs → AllServed ys →
+    replies_where (λ asked. stays last e asked && certifies asked) whole.requests whole.replies
+    ≡ replies_where certifies left.requests left.replies →
+    AreTold (λ request. has_key e.key request.key) xs texts →
+    AreTold (λ request. has_key e.key request.key) ys others → texts ≡ others
+
+-- where the first bytes ask for a request, the others ask at the same moment for it with the text of its answer read by
+-- the exchange; where the first ask for none, so do the others
+pub record ComesExchanged (r a b : List ℕ) (x y : Exchange) : Type 0 where
+  pub moment : y.moment ≡ x.moment
+  pub turned : (request : Request) → RequestOf x.request (Ok request) →
+      RequestOf y.request (Ok (exchanged_request (swapped r a b) request))
+  pub back : (request : Request) → RequestOf y.request (Ok request) → AsksFor (λ other. true) x
+
+-- each of the first list comes exchanged in the second, in their order
+abbrev pub AreExchanged : List ℕ → List ℕ → List ℕ → List Exchange → List Exchange → Type 0
+AreExchanged r a b [] ys = ys ≡ []
+AreExchanged r a b (x ∷ xs) ys =
+    (y : Exchange) × (rest : List Exchange) × (ys ≡ y ∷ rest) × ComesExchanged r a b x y × AreExchanged r a b xs rest
+
+-- the texts are the bytes of these replies
+abbrev pub AreBytes : List Reply → List (List ℕ) → Type 0
+AreBytes [] texts = texts ≡ []
+AreBytes (given ∷ replies) texts =
+    (text : List ℕ) × (rest : List (List ℕ)) × (texts ≡ text ∷ rest) × BytesOf given text × AreBytes replies rest
+
+-- the texts are the bytes of replies that are the same but for the texts of the answers listed
+pub record AreBytesButTexts (texts others : List (List ℕ)) : Type 0 where
+  pub replies : List Reply
+  pub answers : List Reply
+  pub first : AreBytes replies texts
+  pub second : AreBytes answers others
+  pub same : map blank replies ≡ map blank answers
+
+-- until a sealed round's end, the replies' bytes don't tell e which of two texts is the answer: two runs of the hall from
+-- a sane world, over bytes and over those in which two answers to the round are exchanged, write to the requests with
+-- e's key the bytes of replies that are the same but for the texts of the answers listed; where no reply is 503, and
+-- each request to certify is answered alike
+abbrev pub BytesHideAnswers : Type 0
+BytesHideAnswers =
+    (world last end : World) (r a b : List ℕ) (round : Round) (e : Person) (xs ys : List Exchange)
+    (texts others : List (List ℕ)) → (whole : IsRunOver world xs last) (turned : IsRunOver world ys end) →
+    Sane world → IsSealedRound world r round whole.requests → IsAnswer a → IsAnswer b →
+    get last.people e.name ≡ Some e → IsTrue (is_entrant_alone e) →
+    AreExchanged r a b xs ys → AllServed xs → AllServed ys →
+    replies_where certifies whole.requests whole.replies ≡ replies_where certifies turned.requests turned.replies →
+    AreTold (λ request. has_key e.key request.key) xs texts →
+    AreTold (λ request. has_key e.key request.key) ys others → AreBytesButTexts texts others
