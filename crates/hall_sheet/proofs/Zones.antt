@@ -1,6 +1,6 @@
 -- The offsets of the definition are those that the calendar's crate finds.
 use Rattle.std.proofs.Common.{◌≡◌, ◌∙◌, sym, ap, refl, arith, ℕ, ◌*◌, Bool, true, false, not, ◌&&◌, inl, inr}
-use Rattle.std.proofs.Common.{ℤ, pos, negsuc, ◌+ℤ◌, ◌-ℤ◌, ◌*ℤ◌, List, Option, Some, None, Result, Ok, Err}
+use Rattle.std.proofs.Common.{ℤ, pos, negsuc, ◌+ℤ◌, ◌-ℤ◌, ◌*ℤ◌, List, Option, Some, None, Result, Err}
 use Rattle.std.specs.Prelude.{if◌then◌else◌, int_lt, int_div, unsigned_abs, option_map, ◌<◌, ◌+◌}
 use Rattle.std.proofs.lemmas.Bool.{cases_lt, le-leb, lt-leb}
 use Rattle.std.proofs.lemmas.Int.{ints, quot-rem, rem_below}
@@ -29,7 +29,7 @@ use Rattle.hall_sheet.specs.declared.fault.Refusal.TheVariants as refusal
 use Rattle.hall_sheet.specs.declared.fault.SheetFault.{SheetFault}
 use Rattle.hall_sheet.specs.Given.{Gives}
 use Rattle.hall_sheet.specs.Table.{in_range}
-use Rattle.hall_sheet.specs.Civil.{seconds_to, moment_at, civil_seen}
+use Rattle.hall_sheet.specs.Civil.{seconds_to, civil_seen}
 use Rattle.hall_sheet.specs.Zone.{comes_at, offset_by, offset_with, offset_of, shown, moment_in}
 
 some_same : {A : Type 0} {x y : A} → Some x ≡ Some y → x ≡ y

@@ -1,4 +1,4 @@
-use Rattle.std.proofs.Common.{◌∙◌, sym, ap, rules, pos, option_map}
+use Rattle.std.proofs.Common.{◌∙◌, ap, rules, pos, option_map}
 use Rattle.std.proofs.lemmas.Int.{to_z-of_z}
 use mir.Syntax.{w8, w16}
 use mir.Val.{SFits}
