@@ -297,6 +297,7 @@ sheet_fault_data (refusal.Missing f) = field_data (name_of f) (codes "F2")
 sheet_fault_data (refusal.Range f) = field_data (name_of f) (codes "F3")
 sheet_fault_data refusal.Repeated = form_data (codes "F4")
 sheet_fault_data refusal.Start = form_data (codes "F5")
+sheet_fault_data refusal.Zone = field_data (codes "zone") (codes "F8")
 
 -- the body of the reply to bytes that are no request
 abbrev pub fault_data : FormFault → Data

@@ -405,6 +405,7 @@ fn sheet_fault_body(alloc: Global, refusal: Refusal) -> Result<Value, AllocError
         Refusal::Range(field) => field_body(alloc, field.name(), "F3"),
         Refusal::Repeated => form_body(alloc, "F4"),
         Refusal::Start => form_body(alloc, "F5"),
+        Refusal::Zone => field_body(alloc, "zone", "F8"),
     }
 }
 

@@ -1,28 +1,19 @@
 -- The dates of the definition are those that the calendar's crate makes.
 use Rattle.std.proofs.Common.{◌≡◌, ◌∙◌, sym, refl, arith, ℕ, ◌&&◌, Bool, true, false, Some, None}
-use Rattle.std.proofs.Common.{Result, Ok, Err, ℤ, pos}
-use Rattle.std.specs.Prelude.{nat_le, ◌↔◌, IsOk, IfOk}
-use Rattle.std.specs.Result.{OkIff, result_ok, is_ok}
+use Rattle.std.proofs.Common.{Result, Ok, Err, ℤ, pos, option_map}
+use Rattle.std.specs.Prelude.{nat_le, ◌↔◌, IsOk, IfOk, IfSome}
+use Rattle.std.specs.Result.{OkIff, result_ok}
 use Rattle.std.proofs.lemmas.Bool.{and_from, and_parts, leb-true, le-leb, false_from_ne_true, false≢true}
 use Rattle.std.proofs.lemmas.Int.{ints}
+use Rattle.jiff_core.specs.declared.civil.date.Date.{Date}
 use Rattle.jiff_core.specs.Calendar.{days_from_civil, days_in_month, IsDate}
+use Rattle.jiff_core.specs.Date.{epoch_day, IsYmd}
 use Rattle.hall_sheet.specs.Start.{day_in}
 
 -- the number that a narrower type was given
 pub converted : {E : Type 0} (P : Type 0) (r : Result ℤ E) (z v : ℤ) → OkIff r P z → Some v ≡ result_ok r → v ≡ z
 converted P (Ok x) z v h e = let same : v ≡ x = cc in same ∙ h.1
 converted P (Err x) z v h e = cc
-
--- what was made has what was promised
-pub made : {X E : Type 0} (P : X → Type 0) (r : Result X E) (x : X) → IfOk r P → Some x ≡ result_ok r → P x
-made P (Ok y) x h e = let same : y ≡ x = cc in rw same at h
-made P (Err y) x h e = cc
-
-pub was_made : {X E : Type 0} (P : Type 0) (r : Result X E) → (IsOk r ↔ P) → true ≡ is_ok r → P
-was_made P r iff good = iff.0 (sym good)
-
-pub not_made : {X E : Type 0} (P : Type 0) (r : Result X E) → (IsOk r ↔ P) → false ≡ is_ok r → P → ⊥
-not_made P r iff bad p = false≢true (bad ∙ iff.1 p)
 
 abbrev in_year : ℕ → Bool
 in_year year = nat_le year 9999
@@ -73,3 +64,15 @@ day_missing year month day other =
     let fails : test year month day ≡ false =
     false_from_ne_true (test year month day) (λ e. other (passed year month day e)) in
     rw fails refl
+
+-- the date that the calendar's crate makes, if it makes one
+pub date_is : {E : Type 0} (year month day : ℕ) (r : Result Date E) → (IsOk r ↔ IsDate (pos year) (pos month) (pos day))
+    → IfOk r (IsYmd (pos year) (pos month) (pos day)) → option_map epoch_day (result_ok r) ≡ day_in year month day
+date_is year month day (Ok d) iff made =
+    sym (day_exists year month day d.year d.month d.day (iff.0 refl) made.0 made.1 made.2)
+date_is year month day (Err e) iff made = sym (day_missing year month day (λ is. false≢true (iff.1 is)))
+
+pub year_is : {E : Type 0} (year month day : ℕ) (r : Result Date E) → IfOk r (IsYmd (pos year) (pos month) (pos day))
+    → IfSome (result_ok r) (λ d. d.year ≡ pos year)
+year_is year month day (Ok d) made = made.0
+year_is year month day (Err e) made = tt

@@ -9,6 +9,7 @@ pub mod Fields
 pub mod Digits
 pub mod Dates
 pub mod Moments
+pub mod Zones
 pub mod Documents
 pub mod Entries
 pub mod Listing

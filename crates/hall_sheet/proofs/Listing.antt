@@ -6,7 +6,8 @@ use Rattle.hall_policy.specs.Reading.{or_fault}
 use Rattle.hall_sheet.specs.declared.fault.Field.TheVariants as field
 use Rattle.hall_sheet.specs.declared.fault.Refusal.{Refusal}
 use Rattle.hall_sheet.specs.Table.{has_only, tables_at, tables_in}
-use Rattle.hall_sheet.specs.Sheet.{sheet_fields, entry_fields, are_listed}
+use Rattle.hall_sheet.specs.Version.{version_or_first, sheet_fields}
+use Rattle.hall_sheet.specs.Sheet.{entry_fields, are_listed}
 
 was_given : {X : Type 0} (r : Refusal) (o : Option X) (x : X) → or_fault r o ≡ Ok x → o ≡ Some x
 was_given r None x e = cc
@@ -19,7 +20,7 @@ all_seen seen test (x ∷ xs) = ap (λ b. test (seen x) && b) (all_seen seen tes
 
 -- the tables of `puzzle` were looked through
 pub listed_by : {X : Type 0} (seen : X → Members) (ms : Members) (tables : List X) (b : Bool)
-    → has_only sheet_fields ms ≡ true → tables_in field.Puzzle ms ≡ Ok (map seen tables)
+    → has_only (sheet_fields (version_or_first ms)) ms ≡ true → tables_in field.Puzzle ms ≡ Ok (map seen tables)
     → b ≡ list_all (λ t. has_only entry_fields (seen t)) tables → b ≡ are_listed ms
 listed_by seen ms tables b top found all =
     rw (top, was_given _ (tables_at field.Puzzle ms) (map seen tables) found)

@@ -4,5 +4,8 @@ pub mod Entry
 pub mod List
 pub mod Fault
 pub mod Table
+pub mod Civil
 pub mod Start
+pub mod Zone
+pub mod Version
 pub mod Sheet

@@ -15,14 +15,12 @@ use Rattle.hall_sheet.specs.declared.fault.Field.{Field}
 use Rattle.hall_sheet.specs.declared.fault.Field.TheVariants as field
 use Rattle.hall_sheet.specs.declared.fault.Refusal.{Refusal}
 use Rattle.hall_sheet.specs.declared.fault.Refusal.TheVariants as refusal
+use Rattle.hall_sheet.specs.declared.version.Version.{Version}
+use Rattle.hall_sheet.specs.declared.version.Version.TheVariants.{First, Second}
 use Rattle.hall_sheet.specs.Table.{has_only, text_at, text_in, number_in, tables_at, tables_in}
-use Rattle.hall_sheet.specs.Start.{start_in}
-
--- the fields of a sheet
-abbrev pub sheet_fields : List Field
-sheet_fields =
-    field.Version ∷ field.Title ∷ field.Start ∷ field.Minutes ∷ field.ProtestMinutes ∷ field.Mode ∷ field.Penalty
-    ∷ field.Bonus ∷ field.Puzzle ∷ []
+use Rattle.hall_sheet.specs.Version.{version_in, version_or_first, sheet_fields}
+use Rattle.hall_sheet.specs.Start.{civil_in, start_in}
+use Rattle.hall_sheet.specs.Zone.{moment_in}
 
 -- the fields of a table of `puzzle`
 abbrev pub entry_fields : List Field
@@ -32,14 +30,24 @@ entry_fields = field.Author ∷ field.Label ∷ field.Points ∷ []
 abbrev pub document_in : List ℕ → Result Members Refusal
 document_in bytes = unless refusal.Syntax (is_utf8 bytes) >>= (λ _. or_fault refusal.Syntax (parse_document bytes))
 
--- every key is listed, at the top and in the tables of `puzzle`, where that is an array of tables
+-- every key is listed, at the top by the version, and in the tables of `puzzle`, where that is an array of tables
 abbrev pub are_listed : Members → Bool
 are_listed ms =
-    has_only sheet_fields ms && list_all (has_only entry_fields) (unwrap_or (tables_at field.Puzzle ms) [])
+    has_only (sheet_fields (version_or_first ms)) ms
+    && list_all (has_only entry_fields) (unwrap_or (tables_at field.Puzzle ms) [])
+
+-- the moment at which the clocks of the sheet's zone show its start
+abbrev pub zoned_start_in : Members → Result ℕ Refusal
+zoned_start_in ms = do
+  start ← text_at field.Start ms
+  civil ← or_fault refusal.Start (civil_in start)
+  zone ← text_in field.Zone 1 64 is_printable ms
+  moment_in zone civil
 
 -- the moment at which the round starts
-abbrev pub starts_in : Members → Result ℕ Refusal
-starts_in ms = text_at field.Start ms >>= start_in
+abbrev pub starts_in : Version → Members → Result ℕ Refusal
+starts_in First ms = text_at field.Start ms >>= start_in
+starts_in Second ms = zoned_start_in ms
 
 -- the mode of this name
 abbrev pub mode_of : List ℕ → Result Mode Refusal
@@ -83,9 +91,9 @@ list_in ms = do
 -- the sheet, field by field
 unfoldable pub fields_in : Members → Result Sheet Refusal
 fields_in ms = do
-  _ ← number_in field.Version 1 1 ms
+  version ← version_in ms
   title ← text_in field.Title 1 60 is_printable ms
-  start ← starts_in ms
+  start ← starts_in version ms
   minutes ← number_in field.Minutes 1 1440 ms
   protest_minutes ← number_in field.ProtestMinutes 0 10080 ms
   mode ← mode_in ms

@@ -1,5 +1,5 @@
 -- The moment that the text of a start names: a civil time and how far east of UTC its clock stands.
-use Rattle.std.specs.Prelude.{ℕ, ◌+◌, ◌*◌, ◌==◌, nat_le, ℤ, pos, neg_ℤ, ◌+ℤ◌, ◌-ℤ◌, ◌*ℤ◌, Bool, ◌&&◌}
+use Rattle.std.specs.Prelude.{ℕ, ◌+◌, ◌*◌, ◌==◌, nat_le, ℤ, pos, neg_ℤ, Bool, ◌&&◌}
 use Rattle.std.specs.Prelude.{if◌then◌else◌, List, length, take, drop, slice_range, codes, Option, Some, None}
 use Rattle.std.specs.Prelude.{option_map, Result}
 use Rattle.std.specs.List.{list_all, zip}
@@ -8,10 +8,9 @@ use Rattle.std.specs.Str.{bytes_eq}
 use Rattle.std.specs.Str.Parse.{digits_value}
 use Rattle.jiff_core.specs.Calendar.{days_from_civil, days_in_month}
 use Rattle.hall_policy.specs.Reading.{◌>>=◌, or_fault}
-use Rattle.hall_sheet.specs.declared.fault.Field.TheVariants as field
 use Rattle.hall_sheet.specs.declared.fault.Refusal.{Refusal}
 use Rattle.hall_sheet.specs.declared.fault.Refusal.TheVariants as refusal
-use Rattle.hall_sheet.specs.Table.{in_range}
+use Rattle.hall_sheet.specs.Civil.{Civil, moment_at}
 
 -- a byte at a mark of a form: the mark 0 stands for any digit, another mark for itself
 abbrev pub fits_mark : ℕ → ℕ → Bool
@@ -38,17 +37,17 @@ clock_in hours minutes seconds =
     if nat_le hours 23 && nat_le minutes 59 && nat_le seconds 59
     then Some (3600 * hours + 60 * minutes + seconds) else None
 
--- two values, where there are both
-abbrev pub both : {A B : Type 0} → Option A → Option B → Option (A × B)
-both (Some x) (Some y) = Some (x, y)
-both (Some x) None = None
-both None _ = None
+-- the civil time of a year, a day and a second of the day, where there are both
+abbrev pub civil_of : ℕ → Option ℤ → Option ℕ → Option Civil
+civil_of year (Some day) (Some clock) = Some (record { year = pos year; day = day; clock = clock })
+civil_of year (Some day) None = None
+civil_of year None _ = None
 
--- the day number and the second of the day of a civil time, where the text is one that exists
-abbrev pub civil_in : List ℕ → Option (ℤ × ℕ)
+-- the civil time, where the text is one that exists
+abbrev pub civil_in : List ℕ → Option Civil
 civil_in text =
     if has_form (codes "0000-00-00T00:00:00") text
-    then both (day_in (number_at text 0 4) (number_at text 5 7) (number_at text 8 10))
+    then civil_of (number_at text 0 4) (day_in (number_at text 0 4) (number_at text 5 7) (number_at text 8 10))
     (clock_in (number_at text 11 13) (number_at text 14 16) (number_at text 17 19))
     else None
 
@@ -64,9 +63,9 @@ offset_in text =
     else if has_form (codes "-00:00") text then option_map (λ n. neg_ℤ (pos n)) (distance_in text)
     else None
 
--- the moment, 0 to 4,102,444,800: the seconds from the beginning of 1970 to the civil time, less the offset
+-- the moment at which a clock of that offset shows the civil time
 abbrev pub start_in : List ℕ → Result ℕ Refusal
 start_in text = do
   civil ← or_fault refusal.Start (civil_in (take 19 text))
   offset ← or_fault refusal.Start (offset_in (drop 19 text))
-  in_range field.Start 0 4102444800 (civil.0 *ℤ pos 86400 +ℤ pos civil.1 -ℤ offset)
+  moment_at civil offset

@@ -16,6 +16,7 @@ pub enum Field {
     Version,
     Title,
     Start,
+    Zone,
     Minutes,
     ProtestMinutes,
     Mode,
@@ -40,6 +41,7 @@ impl Field {
             Field::Version => "version",
             Field::Title => "title",
             Field::Start => "start",
+            Field::Zone => "zone",
             Field::Minutes => "minutes",
             Field::ProtestMinutes => "protest_minutes",
             Field::Mode => "mode",
@@ -64,11 +66,13 @@ pub enum Refusal {
     Range(Field),
     /// A name or key twice in a list, or a puzzle twice in a sheet: F4.
     Repeated,
-    /// The start is a text, but no moment's: F5.
+    /// The start is a text, but not of the form that the version wants: F5.
     Start,
+    /// The zone is a text, but no zone's: F8.
+    Zone,
 }
 
-/// The code `F1` to `F5`, and after a space the field where the refusal has one.
+/// The code `F1` to `F5` or `F8`, and after a space the field where the refusal has one.
 impl fmt::Display for Refusal {
     ghost use Rattle.std.specs.Prelude.{Some};
     ghost use Rattle.hall_sheet.specs.Fault.{refusal_text};
@@ -82,6 +86,7 @@ impl fmt::Display for Refusal {
             Refusal::Range(field) => write!(f, "F3 {}", field.name()),
             Refusal::Repeated => write!(f, "F4"),
             Refusal::Start => write!(f, "F5"),
+            Refusal::Zone => write!(f, "F8 zone"),
         }
     }
 }

@@ -7,7 +7,9 @@ mod list;
 mod sheet;
 mod start;
 mod table;
+mod version;
 mod words;
+mod zone;
 
 pub use fault::{Field, Refusal, SheetFault};
 pub use list::read_people;

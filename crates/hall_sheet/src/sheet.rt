@@ -3,29 +3,19 @@ ghost use Rattle.std.specs.Prelude.{◌≡◌, [], map, IfOk};
 ghost use Rattle.std.specs.List.{list_any};
 ghost use Rattle.toml.specs.View.{table_view};
 ghost use Rattle.hall_sheet.specs.Given.{Gives};
-ghost use Rattle.hall_sheet.specs.Sheet.{document_in, are_listed, starts_in, mode_in, entry_in, is_repeated};
-ghost use Rattle.hall_sheet.specs.Sheet.{entries_in, list_in, fields_in, sheet_in};
+ghost use Rattle.hall_sheet.specs.Sheet.{document_in, are_listed, zoned_start_in, starts_in, mode_in, entry_in};
+ghost use Rattle.hall_sheet.specs.Sheet.{is_repeated, entries_in, list_in, fields_in, sheet_in};
 
 use crate::fault::{Field, Refusal, SheetFault};
-use crate::start::read_moment;
+use crate::start::{read_civil, read_moment};
 use crate::table::{has_only, push, read_number, read_tables, read_text, text_at};
-use hall_policy::{Entries, Entry, Mode, Moment, PuzzleKey, Sheet, Within};
+use crate::version::{Version, read_version, version_or_first};
+use crate::zone::{ZoneText, moment_in};
+use hall_policy::{Checked, Entries, Entry, Mode, Moment, PuzzleKey, Sheet};
 use std::alloc::{AllocError, Global};
 use toml::Table;
 
 const SYNTAX: SheetFault = SheetFault::Refused(Refusal::Syntax);
-
-const SHEET_FIELDS: [Field; 9] = [
-    Field::Version,
-    Field::Title,
-    Field::Start,
-    Field::Minutes,
-    Field::ProtestMinutes,
-    Field::Mode,
-    Field::Penalty,
-    Field::Bonus,
-    Field::Puzzle,
-];
 
 const ENTRY_FIELDS: [Field; 3] = [Field::Author, Field::Label, Field::Points];
 
@@ -46,11 +36,11 @@ fn read_document(alloc: Global, bytes: &[u8]) -> Result<Table, SheetFault>
     }
 }
 
-/// Whether every key is listed, at the top and in the tables of `puzzle`.
+/// Whether every key is listed, at the top by the version, and in the tables of `puzzle`.
 fn are_listed(alloc: Global, document: &Table) -> Result<bool, AllocError>
     ensures { IfOk result (λ listed. listed ≡ are_listed (table_view document.now)) }
 {
-    if !has_only(document, &SHEET_FIELDS) {
+    if !version_or_first(document)?.has_keys(document) {
         return Ok(false);
     }
     match read_tables(alloc, document, Field::Puzzle) {
@@ -60,11 +50,23 @@ fn are_listed(alloc: Global, document: &Table) -> Result<bool, AllocError>
     }
 }
 
-/// The moment at which the round starts.
-fn read_start(table: &Table) -> Result<Moment, SheetFault>
-    ensures { Gives (λ n. n) result (starts_in (table_view table.now)) }
+/// The moment at which the clocks of the sheet's zone show its start.
+fn read_zoned_start(alloc: Global, table: &Table) -> Result<Moment, SheetFault>
+    ensures { Gives (λ n. n) result (zoned_start_in (table_view table.now)) }
 {
-    read_moment(text_at(table, Field::Start)?.as_bytes())
+    let civil = read_civil(text_at(table, Field::Start)?.as_bytes())?;
+    let zone: Checked<ZoneText> = read_text(alloc, table, Field::Zone)?;
+    moment_in(zone.as_str(), civil)
+}
+
+/// The moment at which the round starts.
+fn read_start(alloc: Global, table: &Table, version: Version) -> Result<Moment, SheetFault>
+    ensures { Gives (λ n. n) result (starts_in version (table_view table.now)) }
+{
+    match version {
+        Version::First => read_moment(text_at(table, Field::Start)?.as_bytes()),
+        Version::Second => read_zoned_start(alloc, table),
+    }
 }
 
 /// How answers count.
@@ -139,10 +141,10 @@ fn read_list(alloc: Global, document: &Table) -> Result<Entries, SheetFault>
 fn read_fields(alloc: Global, document: &Table) -> Result<Sheet, SheetFault>
     ensures { Gives (λ s. s) result (fields_in (table_view document.now)) }
 {
-    let _version: Within<1, 1> = read_number(document, Field::Version)?;
+    let version = read_version(document)?;
     Ok(Sheet {
         title: read_text(alloc, document, Field::Title)?,
-        start: read_start(document)?,
+        start: read_start(alloc, document, version)?,
         minutes: read_number(document, Field::Minutes)?,
         protest_minutes: read_number(document, Field::ProtestMinutes)?,
         mode: read_mode(document)?,

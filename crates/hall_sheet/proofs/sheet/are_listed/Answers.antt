@@ -13,4 +13,4 @@ returns-in-Ok c =
     c.all.ensures.ran (YieldsList-from_slice c.in-Ok.tables.items (c.iter.ensures.rest ∙ c.deref.ensures.value))
     (λ x b q k. search (rules, tests)) in
     listed_by (λ t. table_view t.now) (table_view c.args.document.now) c.in-Ok.tables.items c.all.result
-    (sym c.has_only.ensures ∙ c.if-not-has_only.false) c.in-Ok.ensures all
+    (rw c.in_ok-version_or_first.ensures at (sym c.has_keys.ensures ∙ c.if-not-has_keys.false)) c.in-Ok.ensures all
