@@ -1,4 +1,4 @@
--- The moment at which the clocks of a zone show a civil time. What a zone's text says is what the calendar's crate reads of it.
+-- The moment at which the clocks of a zone show a civil time. What the zone's text says, the calendar's crate reads.
 use Rattle.std.specs.Prelude.{ℕ, ◌*◌, ℤ, pos, ◌+ℤ◌, ◌-ℤ◌, ◌*ℤ◌, int_lt, not, ◌&&◌, if◌then◌else◌}
 use Rattle.std.specs.Prelude.{List, Option, Some, None, Result}
 use Rattle.jiff_core.specs.Timestamp.{nanos_of_seconds}
@@ -50,8 +50,8 @@ offset_with std (Some d) year at = offset_by std d.seconds (comes_at year d.star
 abbrev pub shown : Civil → ℤ
 shown civil = civil.day *ℤ nanos_per_day +ℤ pos (civil.clock * 1_000_000_000)
 
--- how many seconds east of UTC the zone's clocks stand when they show the civil time: where they never do, as before the
--- change, and where they do so twice, as at the first time
+-- how many seconds east of UTC the zone's clocks stand when they show the civil time: where they never do, as before
+-- the change, and where they do so twice, as at the first time
 abbrev pub offset_of : TzText → Civil → ℤ
 offset_of zone civil = offset_with zone.std_seconds zone.dst civil.year (shown civil)
 
