@@ -1,5 +1,16 @@
--- Where a command over files stops before it does anything.
+-- The commands over files: what was done with a hall, or where a command stopped before it did anything.
+use Rattle.std.specs.Prelude.{◌≡◌, ◌⊎◌, ℕ, List, Option, Result, Ok, Err}
+use Rattle.sqlite_trees.specs.declared.memory.MemStore.{MemStore}
+use Rattle.sqlite.specs.Held.{Held, state}
+use Rattle.sqlite.specs.Recovery.{Image}
+use Rattle.sqlite.specs.Steps.{over_memory}
+use Rattle.hall_grid.specs.Device.{Tally}
+use Rattle.hall_store.specs.Store.{Content}
+use Rattle.hall_store.specs.Maps.{empty_world}
+use Rattle.hall_sql.specs.Opened.{Starts}
+use Rattle.hall_sql.specs.Standing.{content_of}
 use Rattle.hall_sql.specs.declared.open.OpenFault.{OpenFault}
+use Rattle.hall_tool.specs.Tasks.{DoesInit, DoesReplay}
 use Rattle.hall_tool.specs.declared.fault.CommandFault.{CommandFault}
 use Rattle.hall_tool.specs.declared.fault.CommandFault.TheVariants as stop
 use Rattle.hall_tool.specs.declared.fault.ToolFault.{ToolFault}
@@ -11,3 +22,49 @@ StopsAt Withheld Refused Wants (stop.List error) = Withheld
 StopsAt Withheld Refused Wants (stop.Database cause) = Refused cause
 StopsAt Withheld Refused Wants (stop.Tool Memory) = Wants
 StopsAt Withheld Refused Wants other = ⊥
+
+-- the command stopped so, and the reader and the writer are as they were
+abbrev pub IsStopped : {R W : Type 0} → Type 0 → (OpenFault → Type 0) → Type 0 → Tally R → Tally R → Tally W → Tally W
+    → Result ℕ CommandFault → Type 0
+IsStopped Withheld Refused Wants reader read writer written (Ok status) = ⊥
+IsStopped Withheld Refused Wants reader read writer written (Err fault) =
+    StopsAt Withheld Refused Wants fault × (read ≡ reader) × (written ≡ writer)
+
+-- The files handed out the database at the path, and this was done from the world that they held to the one that was left;
+-- or they refused it, and nothing was done.
+abbrev pub IsTaskAt : {F S R W : Type 0} → (List ℕ → Image) → (F → List ℕ → F → Type 0)
+    → (F → List ℕ → F → OpenFault → Type 0) → (Held S → Content)
+    → (Held S → Held S → Tally R → Tally R → Tally W → Tally W → Result ℕ CommandFault → Type 0) → List ℕ → F → F
+    → Tally R → Tally R → Tally W → Tally W → Result ℕ CommandFault → Type 0
+IsTaskAt {F} {S} image_at opened refused content does db old new reader read writer written result =
+    ((first last : Held S) × opened old db new × Starts (image_at db) (content first)
+    × does first last reader read writer written result)
+    ⊎ IsStopped ⊥ (refused old db new) ⊥ reader read writer written result
+
+-- The files gave the list and handed out the database at the path, and the people of the list were imported into the
+-- world that they held; or they withheld or refused one of the two, and nothing was done.
+abbrev pub IsInitAt : {F S R W : Type 0} → (List ℕ → Image) → (F → List ℕ → List ℕ → F → Type 0)
+    → (F → List ℕ → F → Type 0) → (F → List ℕ → F → Type 0) → (F → List ℕ → F → OpenFault → Type 0)
+    → (Held S → Content) → (W → Option (List ℕ)) → List ℕ → List ℕ → F → F
+    → Tally R → Tally R → Tally W → Tally W → Result ℕ CommandFault → Type 0
+IsInitAt {F} {S} image_at gives withholds opened refused content contents db people old new
+    reader read writer written result =
+    ((list : List ℕ) × (listed : F) × (first last : Held S)
+    × gives old people list listed × opened listed db new × Starts (image_at db) (content first)
+    × DoesInit content contents list first last reader read writer written result)
+    ⊎ IsStopped (withholds old people new)
+    (λ cause. (list : List ℕ) × (listed : F) × gives old people list listed × refused listed db new cause) ⊥
+    reader read writer written result
+
+-- The files gave the list, and the records of the reader were answered over a hall in memory that was empty before the
+-- list; or they withheld it, or memory was wanting, and nothing was done.
+abbrev pub IsReplayInMemory : {F R W : Type 0} → (F → List ℕ → List ℕ → F → Type 0) → (F → List ℕ → F → Type 0)
+    → (R → Option (List ℕ)) → (W → Option (List ℕ)) → List ℕ → F → F
+    → Tally R → Tally R → Tally W → Tally W → Result ℕ CommandFault → Type 0
+IsReplayInMemory gives withholds remaining contents people old new reader read writer written result =
+    ((list : List ℕ) × (first last : Held MemStore)
+    × gives old people list new × ((content_of (state over_memory first)).world ≡ empty_world)
+    × DoesReplay (λ s. content_of (state over_memory s)) remaining contents list first last
+    reader read writer written result)
+    ⊎ IsStopped (withholds old people new) (λ cause. ⊥) ((list : List ℕ) × gives old people list new)
+    reader read writer written result

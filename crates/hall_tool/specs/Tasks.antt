@@ -1,12 +1,14 @@
 -- What is done with a hall, over stores with some content, readers and writers: where it leads, and how it ends.
-use Rattle.std.specs.Prelude.{◌≡◌, ℕ, List, Option, Result, Ok, Err}
+use Rattle.std.specs.Prelude.{◌≡◌, ◌⊎◌, ℕ, List, Option, Result, Ok, Err}
 use Rattle.hall_grid.specs.Device.{Tally}
 use Rattle.hall_store.specs.Store.{Content}
+use Rattle.hall_http.specs.declared.listener.ServeAllEnd.{ServeAllEnd}
+use Rattle.hall_http.specs.declared.listener.ServeAllEnd.TheVariants as end
 use Rattle.hall_tool.specs.InitText.{IsInitRun}
 use Rattle.hall_tool.specs.ReplayRun.{IsReplayRun}
 use Rattle.hall_tool.specs.TableText.{IsTableRun}
 use Rattle.hall_tool.specs.declared.fault.CommandFault.{CommandFault}
-use Rattle.hall_tool.specs.declared.fault.CommandFault.TheVariants.{Tool}
+use Rattle.hall_tool.specs.declared.fault.CommandFault.TheVariants.{Client, Port, Tool}
 use Rattle.hall_tool.specs.declared.fault.ToolFault.{ToolFault}
 
 -- a fault of what is done is a fault of the command
@@ -35,3 +37,20 @@ DoesReplay content remaining contents list old new reader read writer written re
     (ended : Result ℕ ToolFault)
     × IsReplayRun content remaining contents list old new reader read writer written ended
     × (result ≡ command_end ended)
+
+-- 0 after the last connection; a fault where no more could come in
+abbrev pub serve_end : ServeAllEnd → Result ℕ CommandFault
+serve_end end.Served = Ok 0
+serve_end end.Refused = Err Client
+
+-- The host listened on the port and showed a clock, and so many connections were served over the store, one after
+-- another; or it refused the port, and the store is as it was. Neither the reader nor the writer is asked.
+abbrev pub DoesServe : {N L C S R W : Type 0} → (N → ℕ → L → Type 0) → (N → ℕ → Type 0) → (N → C → Type 0)
+    → (ℕ → L → S → C → L → S → C → ServeAllEnd → Type 0) → N → ℕ → ℕ → S → S → Tally R → Tally R → Tally W → Tally W
+    → Result ℕ CommandFault → Type 0
+DoesServe {N} {L} {C} listens refuses shows served host port connections old new reader read writer written result =
+    (((listener left : L) × (clock later : C) × (end : ServeAllEnd)
+    × listens host port listener × shows host clock × served connections listener old clock left new later end
+    × (result ≡ serve_end end))
+    ⊎ (refuses host port × (new ≡ old) × (result ≡ Err Port)))
+    × (read ≡ reader) × (written ≡ writer)

@@ -1,15 +1,9 @@
 //! The commands over files: the entry list is asked for first, then the database, and the first that can't be had ends
 //! the command.
-ghost use Rattle.std.specs.Prelude.{◌≡◌, ℕ, List, IfOk, IfErr, MatchResult};
-ghost use Rattle.sqlite_trees.specs.declared.memory.MemStore.{MemStore};
 ghost use Rattle.sqlite.specs.Held.{Held, state};
-ghost use Rattle.sqlite.specs.Steps.{over_memory};
-ghost use Rattle.hall_store.specs.Maps.{empty_world};
-ghost use Rattle.hall_desk.specs.Desk.{kept_by};
-ghost use Rattle.hall_sql.specs.Opened.{IsCauseAt, IsCauseThere, OpensAt, OpensThere, Starts};
+ghost use Rattle.hall_sql.specs.Opened.{IsCauseAt, IsCauseThere, OpensAt, OpensThere};
 ghost use Rattle.hall_sql.specs.Standing.{content_of};
-ghost use Rattle.hall_tool.specs.Commands.{StopsAt};
-ghost use Rattle.hall_tool.specs.Tasks.{DoesInit, DoesReplay};
+ghost use Rattle.hall_tool.specs.Commands.{IsInitAt, IsReplayInMemory, IsTaskAt};
 
 use crate::fault::{CommandFault, ToolFault};
 use crate::task::{Init, Replay, Task};
@@ -21,26 +15,6 @@ use sqlite::{Alter, MemStore};
 use std::alloc::Global;
 use std::io::{Read, Write};
 
-/// What a command left of a hall, and how it ended.
-#[derive(Drop)]
-pub struct Ended<S: Store> {
-    pub desk: Desk<S>,
-    pub status: Result<u8, CommandFault>,
-}
-
-/// How a command ended, and lets go what it left.
-pub fn closed<S: Store>(ended: Result<Ended<S>, CommandFault>) -> Result<u8, CommandFault>
-    ensures { MatchResult ended (λ left. result ≡ left.status) (λ fault. result ≡ Err fault) }
-{
-    match ended {
-        Ok(Ended { desk, status }) => {
-            drop(desk);
-            status
-        }
-        Err(fault) => Err(fault),
-    }
-}
-
 /// Does the task with the hall that the store keeps, behind a cache.
 fn task_over<T: Store, K: Task, R: Read, W: Write>(
     alloc: Global,
@@ -48,13 +22,12 @@ fn task_over<T: Store, K: Task, R: Read, W: Write>(
     task: &K,
     reader: &mut Counted<R>,
     writer: &mut Counted<W>,
-) -> Ended<CachedStore<T>>
-    ensures { K.does T R W T.content R.remaining W.contents task.now store (kept_by result.desk)
-        reader.old reader.new writer.old writer.new result.status }
+) -> Result<u8, CommandFault>
+    ensures { (last : T) × K.does T R W T.content R.remaining W.contents task.now store last
+        reader.old reader.new writer.old writer.new result }
 {
     let mut desk = Desk::new(CachedStore::new(alloc, store));
-    let status = task.run(alloc, &mut desk, reader, writer);
-    Ended { desk, status }
+    task.run(alloc, &mut desk, reader, writer)
 }
 
 /// Does the task with the hall in the tables.
@@ -64,9 +37,9 @@ fn task_in<S: Alter + Drop, K: Task, R: Read, W: Write>(
     task: &K,
     reader: &mut Counted<R>,
     writer: &mut Counted<W>,
-) -> Ended<CachedStore<SqlStore<S>>>
-    ensures { K.does (Held S) R W (λ s. content_of (state S.Store s)) R.remaining W.contents task.now store
-        (kept_by result.desk) reader.old reader.new writer.old writer.new result.status }
+) -> Result<u8, CommandFault>
+    ensures { (last : Held S) × K.does (Held S) R W (λ s. content_of (state S.Store s)) R.remaining W.contents task.now
+        store last reader.old reader.new writer.old writer.new result }
 {
     task_over(alloc, store, task, reader, writer)
 }
@@ -79,18 +52,14 @@ pub fn task_at<S: Alter + Drop, F: PathFiles<S>, K: Task, R: Read, W: Write>(
     task: &K,
     reader: &mut Counted<R>,
     writer: &mut Counted<W>,
-) -> Result<Ended<CachedStore<SqlStore<S>>>, CommandFault>
-    ensures ran { IfOk result (λ ended. (first : Held S)
-        × OpensThere F.tells F.opens files.old db.now files.new
-        × Starts (F.image_at db.now) (content_of (state S.Store first))
-        × K.does (Held S) R W (λ s. content_of (state S.Store s)) R.remaining W.contents task.now first
-        (kept_by ended.desk) reader.old reader.new writer.old writer.new ended.status) }
-    ensures stopped { IfErr result (λ fault.
-        StopsAt ⊥ (IsCauseThere S.Store F.tells F.refuses F.opens F.closes files.old db.now files.new) ⊥ fault
-        × (reader.new ≡ reader.old) × (writer.new ≡ writer.old)) }
+) -> Result<u8, CommandFault>
+    ensures { IsTaskAt F.image_at (OpensThere F.tells F.opens) (IsCauseThere S.Store F.tells F.refuses F.opens F.closes)
+        (λ s. content_of (state S.Store s))
+        (K.does (Held S) R W (λ s. content_of (state S.Store s)) R.remaining W.contents task.now)
+        db.now files.old files.new reader.old reader.new writer.old writer.new result }
 {
     match open_there(files, db) {
-        Ok(store) => Ok(task_in(alloc, store, task, reader, writer)),
+        Ok(store) => task_in(alloc, store, task, reader, writer),
         Err(cause) => Err(CommandFault::Database(cause)),
     }
 }
@@ -104,17 +73,9 @@ pub fn init_at<S: Alter + Drop, F: PathFiles<S>, R: Read, W: Write>(
     people: &str,
     reader: &mut Counted<R>,
     writer: &mut Counted<W>,
-) -> Result<Ended<CachedStore<SqlStore<S>>>, CommandFault>
-    ensures ran { IfOk result (λ ended. (list : List ℕ) × (listed : F) × (first : Held S)
-        × F.gives files.old people.now list listed × OpensAt F.opens listed db.now files.new
-        × Starts (F.image_at db.now) (content_of (state S.Store first))
-        × DoesInit (λ s. content_of (state S.Store s)) W.contents list first
-        (kept_by ended.desk) reader.old reader.new writer.old writer.new ended.status) }
-    ensures stopped { IfErr result (λ fault.
-        StopsAt (F.withholds files.old people.now files.new)
-        (λ cause. (list : List ℕ) × (listed : F) × F.gives files.old people.now list listed
-        × IsCauseAt S.Store F.refuses F.opens F.closes listed db.now files.new cause) ⊥ fault
-        × (reader.new ≡ reader.old) × (writer.new ≡ writer.old)) }
+) -> Result<u8, CommandFault>
+    ensures { IsInitAt F.image_at F.gives F.withholds (OpensAt F.opens) (IsCauseAt S.Store F.refuses F.opens F.closes)
+        (λ s. content_of (state S.Store s)) W.contents db.now people.now files.old files.new reader.old reader.new writer.old writer.new result }
 {
     let list = match files.read(people) {
         Ok(list) => list,
@@ -124,7 +85,7 @@ pub fn init_at<S: Alter + Drop, F: PathFiles<S>, R: Read, W: Write>(
         list: list.as_slice(),
     };
     match open_at(files, db) {
-        Ok(store) => Ok(task_in(alloc, store, &task, reader, writer)),
+        Ok(store) => task_in(alloc, store, &task, reader, writer),
         Err(cause) => Err(CommandFault::Database(cause)),
     }
 }
@@ -137,16 +98,9 @@ pub fn replay_in_memory<S: Alter, F: PathFiles<S>, R: Read, W: Write>(
     people: &str,
     reader: &mut Counted<R>,
     writer: &mut Counted<W>,
-) -> Result<Ended<CachedStore<SqlStore<MemStore>>>, CommandFault>
-    ensures ran { IfOk result (λ ended. (list : List ℕ) × (first : Held MemStore)
-        × F.gives files.old people.now list files.new
-        × ((content_of (state over_memory first)).world ≡ empty_world)
-        × DoesReplay (λ s. content_of (state over_memory s)) R.remaining W.contents list first
-        (kept_by ended.desk) reader.old reader.new writer.old writer.new ended.status) }
-    ensures stopped { IfErr result (λ fault.
-        StopsAt (F.withholds files.old people.now files.new) (λ cause. ⊥)
-        ((list : List ℕ) × F.gives files.old people.now list files.new) fault
-        × (reader.new ≡ reader.old) × (writer.new ≡ writer.old)) }
+) -> Result<u8, CommandFault>
+    ensures { IsReplayInMemory F.gives F.withholds R.remaining W.contents
+        people.now files.old files.new reader.old reader.new writer.old writer.new result }
 {
     let list = match files.read(people) {
         Ok(list) => list,
@@ -156,7 +110,7 @@ pub fn replay_in_memory<S: Alter, F: PathFiles<S>, R: Read, W: Write>(
         list: list.as_slice(),
     };
     match open_in_memory(alloc) {
-        Ok(store) => Ok(task_in(alloc, store, &task, reader, writer)),
+        Ok(store) => task_in(alloc, store, &task, reader, writer),
         Err(_) => Err(CommandFault::Tool(ToolFault::Memory)),
     }
 }

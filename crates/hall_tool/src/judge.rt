@@ -1,10 +1,6 @@
 //! The command `judge`.
-ghost use Rattle.std.specs.Prelude.{◌≡◌, ◌⊎◌, ℕ, List, IfOk, IsErrOf, string_bytes};
-ghost use Rattle.std.specs.Io.KnownBytes.{Appends};
-ghost use Rattle.hall_grid.specs.Device.{HasFailed};
-ghost use Rattle.hall_tool.specs.Input.{IsInput};
-ghost use Rattle.hall_tool.specs.JudgeText.{JudgeText, AnswersTexts, IsVerdictLine};
-ghost use Rattle.hall_http.specs.Device.{WritesPart};
+ghost use Rattle.std.specs.Prelude.{IfOk, string_bytes};
+ghost use Rattle.hall_tool.specs.JudgeText.{JudgeText, AnswersTexts, IsJudgeRun, IsVerdictLine};
 
 use crate::device::read_input;
 use crate::ending::{Ending, refused, refused_input};
@@ -54,19 +50,7 @@ pub fn judge_run<R: Read, W: Write>(
     reader: &mut Counted<R>,
     writer: &mut Counted<W>,
 ) -> Result<u8, ToolFault>
-    ensures line { IfOk result (λ status. (input : List ℕ) × (line : List ℕ)
-        × IsInput (R.remaining reader.old.device) input × JudgeText input line status
-        × Appends (W.contents writer.old.device) (W.contents writer.new.device) line) }
-    ensures device { IsErrOf result ToolFault.Device
-        → HasFailed reader.old.failures reader.new.failures ⊎ HasFailed writer.old.failures writer.new.failures }
-    // At a device's fault a first part of the line was written, perhaps none of it.
-    ensures part { IsErrOf result ToolFault.Device → (writer.new ≡ writer.old)
-        ⊎ ((input : List ℕ) × (line : List ℕ) × (status : ℕ)
-        × IsInput (R.remaining reader.old.device) input × JudgeText input line status
-        × WritesPart (W.contents writer.old.device) (W.contents writer.new.device) line) }
-    // A refusal for memory leaves the writer as it was.
-    ensures memory { IsErrOf result ToolFault.Memory → writer.new ≡ writer.old }
-    ensures no_store { IsErrOf result ToolFault.Store → ⊥ }
+    ensures { IsJudgeRun R.remaining W.contents reader.old reader.new writer.old writer.new result }
 {
     let input = read_input(alloc, reader, LIMIT + 1)?;
     let ending = answer_input(alloc, &input)?;

@@ -1,8 +1,5 @@
 //! The pages of help, and the version.
-ghost use Rattle.std.specs.Prelude.{◌≡◌, IfOk, IfErr, IsErrOf, string_bytes};
-ghost use Rattle.std.specs.Io.KnownBytes.{Appends};
-ghost use Rattle.hall_grid.specs.Device.{HasFailed};
-ghost use Rattle.hall_http.specs.Device.{WritesPart};
+ghost use Rattle.hall_tool.specs.Shown.{IsShown};
 
 use crate::fault::ToolFault;
 use hall_grid::Counted;
@@ -10,12 +7,8 @@ use hall_http::write_all;
 use std::io::Write;
 
 /// Writes the text. The result is the exit status, 0.
-pub fn show_run<W: Write>(text: &String, writer: &mut Counted<W>) -> Result<u8, ToolFault>
-    ensures text { IfOk result (λ status. (status ≡ 0)
-        × Appends (W.contents writer.old.device) (W.contents writer.new.device) (string_bytes text.now)) }
-    ensures cause { IfErr result (λ fault. (fault ≡ ToolFault.Device)
-        × HasFailed writer.old.failures writer.new.failures
-        × WritesPart (W.contents writer.old.device) (W.contents writer.new.device) (string_bytes text.now)) }
+pub fn show_run<W: Write>(text: &str, writer: &mut Counted<W>) -> Result<u8, ToolFault>
+    ensures { IsShown W.contents text.now writer.old writer.new result }
 {
     match write_all(writer, text.as_bytes()) {
         Ok(()) => Ok(0),

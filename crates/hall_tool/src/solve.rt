@@ -1,11 +1,7 @@
 //! The command `solve`.
-ghost use Rattle.std.specs.Prelude.{◌≡◌, ◌⊎◌, ℕ, List, IfOk, IsErrOf, string_bytes};
-ghost use Rattle.std.specs.Io.KnownBytes.{Appends};
-ghost use Rattle.hall_grid.specs.Device.{HasFailed};
-ghost use Rattle.hall_tool.specs.Input.{IsInput};
-ghost use Rattle.hall_tool.specs.SolveText.{SolveText, IsSolved, IsOutcomeLine};
+ghost use Rattle.std.specs.Prelude.{◌≡◌, ◌⊎◌, IfOk, string_bytes};
 ghost use Rattle.hall_tool.specs.JudgeText.{IsRefused};
-ghost use Rattle.hall_http.specs.Device.{WritesPart};
+ghost use Rattle.hall_tool.specs.SolveText.{IsOutcomeLine, IsSolved, IsSolveRun, SolveText};
 
 use crate::device::read_input;
 use crate::ending::{Ending, refused, refused_input};
@@ -72,19 +68,7 @@ pub fn solve_run<R: Read, W: Write>(
     writer: &mut Counted<W>,
     budget: u64,
 ) -> Result<u8, ToolFault>
-    ensures line { IfOk result (λ status. (input : List ℕ) × (line : List ℕ)
-        × IsInput (R.remaining reader.old.device) input × SolveText input budget line status
-        × Appends (W.contents writer.old.device) (W.contents writer.new.device) line) }
-    ensures device { IsErrOf result ToolFault.Device
-        → HasFailed reader.old.failures reader.new.failures ⊎ HasFailed writer.old.failures writer.new.failures }
-    // A refusal for memory leaves the writer as it was.
-    ensures memory { IsErrOf result ToolFault.Memory → writer.new ≡ writer.old }
-    // A device's fault leaves a first part of a line that may be written.
-    ensures part { IsErrOf result ToolFault.Device → (writer.new ≡ writer.old)
-        ⊎ ((input : List ℕ) × (line : List ℕ) × (status : ℕ)
-        × IsInput (R.remaining reader.old.device) input × SolveText input budget line status
-        × WritesPart (W.contents writer.old.device) (W.contents writer.new.device) line) }
-    ensures no_store { IsErrOf result ToolFault.Store → ⊥ }
+    ensures { IsSolveRun budget R.remaining W.contents reader.old reader.new writer.old writer.new result }
 {
     let input = read_input(alloc, reader, LIMIT + 1)?;
     let ending = answer_input(alloc, &input, budget)?;

@@ -1,6 +1,6 @@
 //! What a command does with a hall, whichever store keeps it.
 ghost use Rattle.std.specs.Prelude.{◌≡◌};
-ghost use Rattle.hall_tool.specs.Tasks.{command_end};
+ghost use Rattle.hall_tool.specs.Tasks.{command_end, serve_end};
 
 use crate::fault::{CommandFault, ToolFault};
 use crate::init::init_run;
@@ -8,6 +8,7 @@ use crate::replay::replay_run;
 use crate::table::table_run;
 use hall_desk::Desk;
 use hall_grid::Counted;
+use hall_http::{Host, ServeAllEnd, serve_all};
 use hall_store::Store;
 use std::alloc::Global;
 use std::io::{Read, Write};
@@ -44,6 +45,16 @@ pub fn command_end(ended: Result<u8, ToolFault>) -> Result<u8, CommandFault>
     match ended {
         Ok(status) => Ok(status),
         Err(fault) => Err(CommandFault::Tool(fault)),
+    }
+}
+
+/// How serving ends where the connections ended so.
+fn serve_end(end: ServeAllEnd) -> Result<u8, CommandFault>
+    ensures { result ≡ serve_end end }
+{
+    match end {
+        ServeAllEnd::Served => Ok(0),
+        ServeAllEnd::Refused => Err(CommandFault::Client),
     }
 }
 
@@ -110,5 +121,37 @@ impl Task for Replay<'_> {
         writer: &mut Counted<W>,
     ) -> Result<u8, CommandFault> {
         command_end(replay_run(alloc, desk, self.list, reader, writer))
+    }
+}
+
+/// Serves so many connections on the host's port, one after another, however each ends.
+#[derive(Clone, Copy)]
+pub struct Serve<'h, H: Host> {
+    pub host: &'h H,
+    pub port: u64,
+    pub connections: u64,
+}
+
+impl<H: Host> Task for Serve<'_, H> {
+    ghost use Rattle.hall_http.specs.Listener.{AreServed};
+    ghost use Rattle.hall_tool.specs.Tasks.{DoesServe};
+
+    ghost does = { λ S R W content remaining contents task. DoesServe H.listens H.refuses H.shows
+        (AreServed H.Listener.accepts H.Listener.Line.hands_out H.Listener.Line.refuses H.Listener.Line.hears
+        H.Listener.Line.Reader.remaining H.Listener.Line.Writer.contents content H.Clock.now_gives)
+        task.host.now task.port task.connections };
+
+    fn run<S: Store, R: Read, W: Write>(
+        &self,
+        alloc: Global,
+        desk: &mut Desk<S>,
+        _reader: &mut Counted<R>,
+        _writer: &mut Counted<W>,
+    ) -> Result<u8, CommandFault> {
+        let Ok(mut listener) = self.host.listen(self.port) else {
+            return Err(CommandFault::Port);
+        };
+        let mut clock = self.host.clock();
+        serve_end(serve_all(alloc, desk, &mut listener, &mut clock, self.connections))
     }
 }

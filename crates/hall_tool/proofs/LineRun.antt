@@ -1,0 +1,61 @@
+-- How a command that writes one line of its input ends.
+use Rattle.std.proofs.Common.{◌≡◌, ◌⊎◌, ℕ, List, Option, inl, inr}
+use Rattle.std.specs.Prelude.{Result, Ok, Err, IsErrOf}
+use Rattle.std.specs.Io.KnownBytes.{Appends}
+use Rattle.hall_grid.specs.Device.{HasFailed, Tally}
+use Rattle.hall_http.specs.Device.{WritesPart}
+use Rattle.hall_tool.specs.Input.{IsInput}
+use Rattle.hall_tool.specs.LineRun.{IsLineRun}
+use Rattle.hall_tool.specs.declared.fault.ToolFault.{ToolFault}
+use Rattle.hall_tool.specs.declared.fault.ToolFault.TheVariants as tool
+
+module _ {R W : Type 0} (Writes : List ℕ → List ℕ → ℕ → Type 0) (remaining : R → Option (List ℕ))
+    (contents : W → Option (List ℕ)) (reader read : Tally R) (writer written : Tally W) where
+  abbrev Ran : Result ℕ ToolFault → Type 0
+  Ran result = IsLineRun Writes remaining contents reader read writer written result
+
+  -- a line was written
+  pub told_run : (status : ℕ) → ((input : List ℕ) × (line : List ℕ) × IsInput (remaining reader.device) input
+      × Writes input line status × Appends (contents writer.device) (contents written.device) line) → Ran (Ok status)
+  told_run status told = record {
+    line = told;
+    device = λ is. absurd cc;
+    part = λ is. absurd cc;
+    memory = λ is. absurd cc;
+    no_store = λ is. absurd cc;
+  }
+
+  -- the reader failed, or memory was wanting for what it gave
+  pub unread_run : (fault : ToolFault) → (fault ≡ tool.Memory) ⊎ (fault ≡ tool.Device)
+      → (IsErrOf {T = ℕ} (Err fault) tool.Device → HasFailed reader.failures read.failures) → written ≡ writer
+      → Ran (Err fault)
+  unread_run fault cause failed same = record {
+    line = tt;
+    device = λ is. inl (failed is);
+    part = λ is. inl same;
+    memory = λ is. same;
+    no_store = λ is. elim cause [ inl e ↦ absurd cc | inr e ↦ absurd cc ];
+  }
+
+  -- memory was wanting for the line
+  pub wanting_run : written ≡ writer → Ran (Err tool.Memory)
+  wanting_run same = record {
+    line = tt;
+    device = λ is. absurd cc;
+    part = λ is. absurd cc;
+    memory = λ is. same;
+    no_store = λ is. absurd cc;
+  }
+
+  -- the writer failed, and a first part of the line was written
+  pub broken_run : HasFailed writer.failures written.failures
+      → ((input : List ℕ) × (line : List ℕ) × (status : ℕ) × IsInput (remaining reader.device) input
+      × Writes input line status × WritesPart (contents writer.device) (contents written.device) line)
+      → Ran (Err tool.Device)
+  broken_run failed told = record {
+    line = tt;
+    device = λ is. inr failed;
+    part = λ is. inr told;
+    memory = λ is. absurd cc;
+    no_store = λ is. absurd cc;
+  }

@@ -1,0 +1,55 @@
+-- What each command does with files, a host, an input and an output, and how it ends.
+use Rattle.std.specs.Prelude.{◌≡◌, ℕ, List, Option, Result}
+use Rattle.sqlite.specs.Held.{Held}
+use Rattle.sqlite.specs.Recovery.{Image}
+use Rattle.hall_grid.specs.Device.{Tally}
+use Rattle.hall_store.specs.Store.{Content}
+use Rattle.hall_sql.specs.declared.open.OpenFault.{OpenFault}
+use Rattle.hall_tool.specs.Commands.{IsInitAt, IsReplayInMemory, IsTaskAt}
+use Rattle.hall_tool.specs.JudgeText.{IsJudgeRun}
+use Rattle.hall_tool.specs.Shown.{IsShowRun}
+use Rattle.hall_tool.specs.SolveText.{IsSolveRun}
+use Rattle.hall_tool.specs.Tasks.{DoesTable, command_end}
+use Rattle.hall_tool.specs.declared.fault.CommandFault.{CommandFault}
+use Rattle.hall_tool.specs.declared.fault.ToolFault.{ToolFault}
+use Rattle.hall_tool.specs.declared.words.Command.{Command}
+use Rattle.hall_tool.specs.declared.words.Command.TheVariants.{Judge, Solve, Init, Serve, Replay, Table}
+use Rattle.hall_tool.specs.declared.words.Command.TheVariants.{Help, Version}
+
+-- what was done ended so, and with it the command
+abbrev pub EndsAs : (Result ℕ ToolFault → Type 0) → Result ℕ CommandFault → Type 0
+EndsAs Done result = (ended : Result ℕ ToolFault) × Done ended × (result ≡ command_end ended)
+
+-- The command was run, over files that give lists and hand out databases so, made or there, stores with this content,
+-- what it is to serve so many connections on a host's port, a reader and a writer. One that asks for no file leaves the
+-- files as they were.
+abbrev pub IsCommandRun : {F N S R W : Type 0} → (List ℕ → Image) → (F → List ℕ → List ℕ → F → Type 0)
+    → (F → List ℕ → F → Type 0) → (F → List ℕ → F → Type 0) → (F → List ℕ → F → OpenFault → Type 0)
+    → (F → List ℕ → F → Type 0) → (F → List ℕ → F → OpenFault → Type 0) → (Held S → Content)
+    → (N → ℕ → ℕ → Held S → Held S → Tally R → Tally R → Tally W → Tally W → Result ℕ CommandFault → Type 0)
+    → (R → Option (List ℕ)) → (W → Option (List ℕ)) → Command → N → F → F → Tally R → Tally R → Tally W → Tally W
+    → Result ℕ CommandFault → Type 0
+IsCommandRun image_at gives withholds opened refused found missed content serves remaining contents
+    Judge host old new reader read writer written result =
+    EndsAs (IsJudgeRun remaining contents reader read writer written) result × (new ≡ old)
+IsCommandRun image_at gives withholds opened refused found missed content serves remaining contents
+    (Solve budget) host old new reader read writer written result =
+    EndsAs (IsSolveRun budget remaining contents reader read writer written) result × (new ≡ old)
+IsCommandRun image_at gives withholds opened refused found missed content serves remaining contents
+    (Init db people) host old new reader read writer written result =
+    IsInitAt image_at gives withholds opened refused content contents db people old new reader read writer written result
+IsCommandRun image_at gives withholds opened refused found missed content serves remaining contents
+    (Serve db port connections) host old new reader read writer written result =
+    IsTaskAt image_at found missed content (serves host port connections) db old new reader read writer written result
+IsCommandRun image_at gives withholds opened refused found missed content serves remaining contents
+    (Replay people) host old new reader read writer written result =
+    IsReplayInMemory gives withholds remaining contents people old new reader read writer written result
+IsCommandRun image_at gives withholds opened refused found missed content serves remaining contents
+    (Table db round) host old new reader read writer written result =
+    IsTaskAt image_at found missed content (DoesTable content contents round) db old new reader read writer written result
+IsCommandRun image_at gives withholds opened refused found missed content serves remaining contents
+    (Help page) host old new reader read writer written result =
+    EndsAs (IsShowRun contents writer written) result × (new ≡ old) × (read ≡ reader)
+IsCommandRun image_at gives withholds opened refused found missed content serves remaining contents
+    Version host old new reader read writer written result =
+    EndsAs (IsShowRun contents writer written) result × (new ≡ old) × (read ≡ reader)
