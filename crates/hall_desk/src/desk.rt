@@ -33,6 +33,13 @@ impl<S: Store> Desk<S> {
         Desk { store }
     }
 
+    /// The store that it keeps.
+    pub fn into_store(self) -> S
+        ensures { result ≡ kept_by self }
+    {
+        self.store
+    }
+
     /// What the request will be answered, and what it will change. Reads only, and for a request without a key, other
     /// than for a table, not even that. It fails only where a call of the store did, or where the world isn't sane.
     pub fn plan(&mut self, alloc: Global, t: Moment, request: &Request) -> Result<Plan, StoreFault>

@@ -42,6 +42,13 @@ impl<S: Store> CachedStore<S> {
             cache: Cache::new(alloc),
         }
     }
+
+    /// The store, without the cache.
+    pub fn into_store(self) -> S
+        ensures { result ≡ self }
+    {
+        self.store
+    }
 }
 
 impl<S: Store> Store for CachedStore<S> {

@@ -63,6 +63,13 @@ impl<S: Alter + Drop> SqlStore<S> {
             Err(fault) => Err(Declined { conn, fault }),
         }
     }
+
+    /// The connection, as the last call left it.
+    pub fn into_connection(self) -> Connection<S>
+        ensures { result ≡ self }
+    {
+        self.conn
+    }
 }
 
 impl<S: Alter + Drop> Store for SqlStore<S> {

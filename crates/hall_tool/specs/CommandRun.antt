@@ -25,31 +25,32 @@ EndsAs Done result = (ended : Result ℕ ToolFault) × Done ended × (result ≡
 -- files as they were.
 abbrev pub IsCommandRun : {F N S R W : Type 0} → (List ℕ → Image) → (F → List ℕ → List ℕ → F → Type 0)
     → (F → List ℕ → F → Type 0) → (F → List ℕ → F → Type 0) → (F → List ℕ → F → OpenFault → Type 0)
-    → (F → List ℕ → F → Type 0) → (F → List ℕ → F → OpenFault → Type 0) → (Held S → Content)
+    → (F → List ℕ → F → Type 0) → (F → List ℕ → F → OpenFault → Type 0) → (F → Held S → F → Type 0)
+    → (Held S → Content)
     → (N → ℕ → ℕ → Held S → Held S → Tally R → Tally R → Tally W → Tally W → Result ℕ CommandFault → Type 0)
     → (R → Option (List ℕ)) → (W → Option (List ℕ)) → Command → N → F → F → Tally R → Tally R → Tally W → Tally W
     → Result ℕ CommandFault → Type 0
-IsCommandRun image_at gives withholds opened refused found missed content serves remaining contents
+IsCommandRun image_at gives withholds opened refused found missed closes content serves remaining contents
     Judge host old new reader read writer written result =
     EndsAs (IsJudgeRun remaining contents reader read writer written) result × (new ≡ old)
-IsCommandRun image_at gives withholds opened refused found missed content serves remaining contents
+IsCommandRun image_at gives withholds opened refused found missed closes content serves remaining contents
     (Solve budget) host old new reader read writer written result =
     EndsAs (IsSolveRun budget remaining contents reader read writer written) result × (new ≡ old)
-IsCommandRun image_at gives withholds opened refused found missed content serves remaining contents
+IsCommandRun image_at gives withholds opened refused found missed closes content serves remaining contents
     (Init db people) host old new reader read writer written result =
-    IsInitAt image_at gives withholds opened refused content contents db people old new reader read writer written result
-IsCommandRun image_at gives withholds opened refused found missed content serves remaining contents
+    IsInitAt image_at gives withholds opened refused closes content contents db people old new reader read writer written result
+IsCommandRun image_at gives withholds opened refused found missed closes content serves remaining contents
     (Serve db port connections) host old new reader read writer written result =
-    IsTaskAt image_at found missed content (serves host port connections) db old new reader read writer written result
-IsCommandRun image_at gives withholds opened refused found missed content serves remaining contents
+    IsTaskAt image_at found missed closes content (serves host port connections) db old new reader read writer written result
+IsCommandRun image_at gives withholds opened refused found missed closes content serves remaining contents
     (Replay people) host old new reader read writer written result =
     IsReplayInMemory gives withholds remaining contents people old new reader read writer written result
-IsCommandRun image_at gives withholds opened refused found missed content serves remaining contents
+IsCommandRun image_at gives withholds opened refused found missed closes content serves remaining contents
     (Table db round) host old new reader read writer written result =
-    IsTaskAt image_at found missed content (DoesTable content contents round) db old new reader read writer written result
-IsCommandRun image_at gives withholds opened refused found missed content serves remaining contents
+    IsTaskAt image_at found missed closes content (DoesTable content contents round) db old new reader read writer written result
+IsCommandRun image_at gives withholds opened refused found missed closes content serves remaining contents
     (Help page) host old new reader read writer written result =
     EndsAs (IsShowRun contents writer written) result × (new ≡ old) × (read ≡ reader)
-IsCommandRun image_at gives withholds opened refused found missed content serves remaining contents
+IsCommandRun image_at gives withholds opened refused found missed closes content serves remaining contents
     Version host old new reader read writer written result =
     EndsAs (IsShowRun contents writer written) result × (new ≡ old) × (read ≡ reader)

@@ -30,27 +30,28 @@ IsStopped Withheld Refused Wants reader read writer written (Ok status) = ⊥
 IsStopped Withheld Refused Wants reader read writer written (Err fault) =
     StopsAt Withheld Refused Wants fault × (read ≡ reader) × (written ≡ writer)
 
--- The files handed out the database at the path, and this was done from the world that they held to the one that was left;
--- or they refused it, and nothing was done.
+-- The files handed out the database at the path, this was done from the world that they held to the one in the database
+-- that they were given back; or they refused it, and nothing was done.
 abbrev pub IsTaskAt : {F S R W : Type 0} → (List ℕ → Image) → (F → List ℕ → F → Type 0)
-    → (F → List ℕ → F → OpenFault → Type 0) → (Held S → Content)
+    → (F → List ℕ → F → OpenFault → Type 0) → (F → Held S → F → Type 0) → (Held S → Content)
     → (Held S → Held S → Tally R → Tally R → Tally W → Tally W → Result ℕ CommandFault → Type 0) → List ℕ → F → F
     → Tally R → Tally R → Tally W → Tally W → Result ℕ CommandFault → Type 0
-IsTaskAt {F} {S} image_at opened refused content does db old new reader read writer written result =
-    ((first last : Held S) × opened old db new × Starts (image_at db) (content first)
-    × does first last reader read writer written result)
+IsTaskAt {F} {S} image_at opened refused closes content does db old new reader read writer written result =
+    ((first last : Held S) × (between : F) × opened old db between × closes between last new
+    × Starts (image_at db) (content first) × does first last reader read writer written result)
     ⊎ IsStopped ⊥ (refused old db new) ⊥ reader read writer written result
 
--- The files gave the list and handed out the database at the path, and the people of the list were imported into the
--- world that they held; or they withheld or refused one of the two, and nothing was done.
+-- The files gave the list and handed out the database at the path, the people of the list were imported into the world
+-- that they held, and they were given the database back; or they withheld or refused one of the two, and nothing was done.
 abbrev pub IsInitAt : {F S R W : Type 0} → (List ℕ → Image) → (F → List ℕ → List ℕ → F → Type 0)
     → (F → List ℕ → F → Type 0) → (F → List ℕ → F → Type 0) → (F → List ℕ → F → OpenFault → Type 0)
-    → (Held S → Content) → (W → Option (List ℕ)) → List ℕ → List ℕ → F → F
+    → (F → Held S → F → Type 0) → (Held S → Content) → (W → Option (List ℕ)) → List ℕ → List ℕ → F → F
     → Tally R → Tally R → Tally W → Tally W → Result ℕ CommandFault → Type 0
-IsInitAt {F} {S} image_at gives withholds opened refused content contents db people old new
+IsInitAt {F} {S} image_at gives withholds opened refused closes content contents db people old new
     reader read writer written result =
-    ((list : List ℕ) × (listed : F) × (first last : Held S)
-    × gives old people list listed × opened listed db new × Starts (image_at db) (content first)
+    ((list : List ℕ) × (listed between : F) × (first last : Held S)
+    × gives old people list listed × opened listed db between × closes between last new
+    × Starts (image_at db) (content first)
     × DoesInit content contents list first last reader read writer written result)
     ⊎ IsStopped (withholds old people new)
     (λ cause. (list : List ℕ) × (listed : F) × gives old people list listed × refused listed db new cause) ⊥

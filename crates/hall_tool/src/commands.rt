@@ -15,33 +15,38 @@ use sqlite::{Alter, MemStore};
 use std::alloc::Global;
 use std::io::{Read, Write};
 
-/// Does the task with the hall that the store keeps, behind a cache.
+/// Does the task with the hall that the store keeps, behind a cache, and gives the store back.
 fn task_over<T: Store, K: Task, R: Read, W: Write>(
     alloc: Global,
     store: T,
     task: &K,
     reader: &mut Counted<R>,
     writer: &mut Counted<W>,
-) -> Result<u8, CommandFault>
-    ensures { (last : T) × K.does T R W T.content R.remaining W.contents task.now store last
-        reader.old reader.new writer.old writer.new result }
+) -> (T, Result<u8, CommandFault>)
+    ensures { K.does T R W T.content R.remaining W.contents task.now store result.0
+        reader.old reader.new writer.old writer.new result.1 }
 {
     let mut desk = Desk::new(CachedStore::new(alloc, store));
-    task.run(alloc, &mut desk, reader, writer)
+    let ended = task.run(alloc, &mut desk, reader, writer);
+    (desk.into_store().into_store(), ended)
 }
 
-/// Does the task with the hall in the tables.
-fn task_in<S: Alter + Drop, K: Task, R: Read, W: Write>(
+/// Does the task with the hall in the tables, and gives the files their database back.
+fn task_in<S: Alter + Drop, F: PathFiles<S>, K: Task, R: Read, W: Write>(
     alloc: Global,
+    files: &mut F,
     store: SqlStore<S>,
     task: &K,
     reader: &mut Counted<R>,
     writer: &mut Counted<W>,
 ) -> Result<u8, CommandFault>
-    ensures { (last : Held S) × K.does (Held S) R W (λ s. content_of (state S.Store s)) R.remaining W.contents task.now
+    ensures { (last : Held S) × F.closes files.old last files.new
+        × K.does (Held S) R W (λ s. content_of (state S.Store s)) R.remaining W.contents task.now
         store last reader.old reader.new writer.old writer.new result }
 {
-    task_over(alloc, store, task, reader, writer)
+    let (left, ended) = task_over(alloc, store, task, reader, writer);
+    files.close(&mut Some(left.into_connection()));
+    ended
 }
 
 /// Does the task with the hall in the database file at the path, which is there.
@@ -54,12 +59,12 @@ pub fn task_at<S: Alter + Drop, F: PathFiles<S>, K: Task, R: Read, W: Write>(
     writer: &mut Counted<W>,
 ) -> Result<u8, CommandFault>
     ensures { IsTaskAt F.image_at (OpensThere F.tells F.opens) (IsCauseThere S.Store F.tells F.refuses F.opens F.closes)
-        (λ s. content_of (state S.Store s))
+        F.closes (λ s. content_of (state S.Store s))
         (K.does (Held S) R W (λ s. content_of (state S.Store s)) R.remaining W.contents task.now)
         db.now files.old files.new reader.old reader.new writer.old writer.new result }
 {
     match open_there(files, db) {
-        Ok(store) => task_in(alloc, store, task, reader, writer),
+        Ok(store) => task_in(alloc, files, store, task, reader, writer),
         Err(cause) => Err(CommandFault::Database(cause)),
     }
 }
@@ -75,7 +80,7 @@ pub fn init_at<S: Alter + Drop, F: PathFiles<S>, R: Read, W: Write>(
     writer: &mut Counted<W>,
 ) -> Result<u8, CommandFault>
     ensures { IsInitAt F.image_at F.gives F.withholds (OpensAt F.opens) (IsCauseAt S.Store F.refuses F.opens F.closes)
-        (λ s. content_of (state S.Store s)) W.contents db.now people.now files.old files.new
+        F.closes (λ s. content_of (state S.Store s)) W.contents db.now people.now files.old files.new
         reader.old reader.new writer.old writer.new result }
 {
     let list = match files.read(people) {
@@ -86,7 +91,7 @@ pub fn init_at<S: Alter + Drop, F: PathFiles<S>, R: Read, W: Write>(
         list: list.as_slice(),
     };
     match open_at(files, db) {
-        Ok(store) => task_in(alloc, store, &task, reader, writer),
+        Ok(store) => task_in(alloc, files, store, &task, reader, writer),
         Err(cause) => Err(CommandFault::Database(cause)),
     }
 }
@@ -111,7 +116,11 @@ pub fn replay_in_memory<S: Alter, F: PathFiles<S>, R: Read, W: Write>(
         list: list.as_slice(),
     };
     match open_in_memory(alloc) {
-        Ok(store) => task_in(alloc, store, &task, reader, writer),
+        Ok(store) => {
+            let (left, ended) = task_over(alloc, store, &task, reader, writer);
+            drop(left);
+            ended
+        }
         Err(_) => Err(CommandFault::Tool(ToolFault::Memory)),
     }
 }

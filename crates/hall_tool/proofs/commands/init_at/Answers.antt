@@ -6,10 +6,12 @@ returns-in-Ok-open_at g c = let done = rw c.as_slice.ensures.value at c.task_in.
     inl (
       c.in-Ok.list.items,
       c.read.new.self,
+      c.open_at.new.files,
       c.in-Ok-open_at.store,
       done.0,
       c.in-Ok.ensures.given,
       c.in-Ok-open_at.ensures.opened,
+      done.1.0,
       c.in-Ok-open_at.ensures.starts,
-      done.1,
+      done.1.1,
     )

@@ -5,7 +5,9 @@ pub returns-in-Ok : goal.returns-in-Ok
 returns-in-Ok g c = inl (
   c.in-Ok.store,
   c.task_in.ensures.0,
+  c.open_there.new.files,
   c.in-Ok.ensures.opened,
+  c.task_in.ensures.1.0,
   c.in-Ok.ensures.starts,
-  c.task_in.ensures.1,
+  c.task_in.ensures.1.1,
 )
