@@ -11,7 +11,7 @@ returns-in-Ok-open_at g c = let done = rw c.as_slice.ensures.value at c.task_in.
       done.0,
       c.in-Ok.ensures.given,
       c.in-Ok-open_at.ensures.opened,
-      done.1.0,
+      done.1,
       c.in-Ok-open_at.ensures.starts,
-      done.1.1,
+      done.2,
     )

@@ -7,7 +7,7 @@ returns-in-Ok g c = inl (
   c.task_in.ensures.0,
   c.open_there.new.files,
   c.in-Ok.ensures.opened,
-  c.task_in.ensures.1.0,
+  c.task_in.ensures.1,
   c.in-Ok.ensures.starts,
-  c.task_in.ensures.1.1,
+  c.task_in.ensures.2,
 )
