@@ -1,6 +1,6 @@
 //! Bytes to bytes: replays, and connections.
 use crate::devices::{endless_reader, failing_reader, failing_writer};
-use crate::lines::{Listed, Seen, endless};
+use crate::lines::{Listed, Seen, endless_line};
 use crate::opening::opening_desk;
 use hall_grid::Counted;
 use hall_http::{
@@ -391,7 +391,7 @@ fn a_connection_ends_at_a_device_fault(rt: HostRuntime) {
 #[test]
 fn a_line_is_hung_up_and_what_still_comes_is_read_off(rt: HostRuntime) {
     let seen = Seen::new(rt.alloc());
-    let mut line = endless(rt.alloc(), Some(CLOSING), &seen);
+    let mut line = endless_line(rt.alloc(), Some(CLOSING), &seen);
     let mut desk = opening_desk(&rt);
     let ended = serve_line(rt.alloc(), &mut desk, &mut line, &mut clock(&[1])).expect(&rt, "serve");
     assert!(rt; ended == ServeEnd::Closed);
@@ -414,10 +414,10 @@ const ALL_SERVED: [(u64, &[&[u8]], bool); 4] = [
 fn listed<'a>(rt: &(impl AllocGlobal + Abort), seen: &'a Seen) -> Listed<'a> {
     let mut coming = Vec::new(rt.alloc());
     for next in [
-        Accepted::Line(endless(rt.alloc(), Some(b"\0"), seen)),
-        Accepted::Line(endless(rt.alloc(), None, seen)),
+        Accepted::Line(endless_line(rt.alloc(), Some(b"\0"), seen)),
+        Accepted::Line(endless_line(rt.alloc(), None, seen)),
         Accepted::Gone,
-        Accepted::Line(endless(rt.alloc(), Some(CLOSING), seen)),
+        Accepted::Line(endless_line(rt.alloc(), Some(CLOSING), seen)),
     ] {
         coming.push(next).expect(rt, "memory");
     }
