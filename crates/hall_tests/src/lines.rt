@@ -57,7 +57,11 @@ pub(crate) struct Endless<'a> {
     seen: &'a Seen,
 }
 
-pub(crate) fn endless<'a>(alloc: Global, sent: Option<&'a [u8]>, seen: &'a Seen) -> Endless<'a> {
+pub(crate) fn endless_line<'a>(
+    alloc: Global,
+    sent: Option<&'a [u8]>,
+    seen: &'a Seen,
+) -> Endless<'a> {
     Endless { alloc, sent, seen }
 }
 
