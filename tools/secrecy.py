@@ -1,5 +1,5 @@
 #!/usr/bin/env python3
-"""Asks the built program for random lists of requests, each a second time with what an entrant must not learn taken out or changed: the requests of other
+"""Asks the built program random lists of requests, each a second time with what an entrant must not learn taken out or changed: the requests of other
 entrants, which of two texts is the answer in a sealed round, the puzzles of rounds that haven't started. The entrant's replies must be the same bytes.
 
     python3 tools/secrecy.py [--program PATH] [--lists 30] [--seed 1]
@@ -12,6 +12,7 @@ import os
 import random
 import subprocess
 import sys
+import tempfile
 from pathlib import Path
 
 ROOT = Path(os.path.realpath(__file__)).parent.parent
@@ -37,7 +38,7 @@ BOARDS = [
     ("nurikabe/1/2/1j", [".#", "#.", "..", "##"]),
 ]
 LABELS = ["p1", "p2", "p3", "p4"]
-# Id, title, minutes from the first start, minutes, mode, and the place of its puzzle among the boards. r4 starts last.
+# Id, minutes from the first start, minutes, mode, and the place of its puzzle among the boards. r4 starts last.
 ROUNDS = [("r1", 0, 60, "instant", 0), ("r2", 30, 60, "sealed", 1), ("r3", 90, 30, "sealed", 2), ("r4", 600, 30, "instant", 3)]
 TOKENS = ["t1", "t2", "t3"]
 BEFORE = START - 1000
@@ -107,15 +108,16 @@ class Maker:
 
 
 class Program:
-    def __init__(self, path):
-        self.path = path
+    """The program, and an entry list in a folder."""
+
+    def __init__(self, path, room):
+        self.path, self.people = path, Path(room) / "people.csv"
+        self.people.write_text(people_csv(PEOPLE), encoding="ascii")
 
     def told(self, key, asked):
         """The replies to the requests under the key."""
         given = "".join(record(moment, request(*rest)) for moment, *rest in asked).encode()
-        with open("/dev/shm/hall-secrecy.csv" if os.path.isdir("/dev/shm") else "/tmp/hall-secrecy.csv", "w", encoding="ascii") as file:
-            file.write(people_csv(PEOPLE))
-        ran = subprocess.run([self.path, "replay", "--people", file.name], input=given, capture_output=True, timeout=120, check=True)
+        ran = subprocess.run([self.path, "replay", "--people", self.people], input=given, capture_output=True, timeout=120, check=True)
         whole = replies(ran.stdout)
         assert len(whole) == len(asked), "a reply to each request"
         return [reply for (_, other, *_), reply in zip(asked, whole, strict=True) if other == key]
@@ -165,7 +167,7 @@ def hides_others(program, seed, compared):
 def hides_verdicts(program, seed, compared):
     chosen = random.Random(seed)
     name, start, minutes, _, place = ROUNDS[chosen.choice([1, 2])]
-    first, second = chosen.sample(BOARDS[place][1], 2)
+    first, second = BOARDS[place][1][0], chosen.choice(BOARDS[place][1][1:])
     asked = opening(BOARDS) + Maker(f"sealed {seed}", START + MINUTE * (start + minutes) - 1).requests(150, publishes=True)
     for key in ALONE:
         one, other = [[blank(reply) for reply in program.told(key, some)] for some in (asked, exchanged(name, first, second, asked))]
@@ -192,14 +194,20 @@ def main():
     args = parser.parse_args()
     if not args.program:
         subprocess.run([ROOT / "hall", "--version"], stdout=subprocess.DEVNULL, check=True)
-    program, failed = Program(os.path.abspath(args.program or ROOT / "crates/hall/out/hall")), 0
+    with tempfile.TemporaryDirectory(prefix="hall-secrecy-") as room:
+        sys.exit(1 if asked_all(Program(os.path.abspath(args.program or ROOT / "crates/hall/out/hall"), room), args) else 0)
+
+
+def asked_all(program, args):
+    """How many lists went wrong, or checks compared nothing but denials."""
+    failed = 0
     for what, hides in [("other entrants", hides_others), ("verdicts of a sealed round", hides_verdicts), ("puzzles before the start", hides_puzzles)]:
         compared = Compared()
         for seed in range(args.seed, args.seed + args.lists):
             hides(program, seed, compared)
         print(f"secrecy of {what}: {compared.replies} replies compared, {compared.telling} of them no denial, {compared.wrong} lists not alike")
         failed += compared.wrong or compared.telling == 0
-    sys.exit(1 if failed else 0)
+    return failed
 
 
 if __name__ == "__main__":

@@ -61,8 +61,8 @@ pub fn law_rulings()
 /// Of what others do who are entrants alone, an entrant alone learns nothing: where nobody publishes, the replies to
 /// that entrant in a run are those in a run without the others' requests.
 ///
-/// In neither run a reply is 503. A 503 says nothing of the hall's content, only that memory was wanting or a device
-/// failed; but its request counts as not made, so a run with one is the run of another list. And each request to certify
+/// In neither run a reply is 503: its request counts as not made, so a run with one is the run of another list. Of when
+/// a 503 comes, nothing is said. And each request to certify
 /// that stands in both lists is answered alike in both, since the request doesn't fix which of its true answers a search
 /// within a budget gives.
 ///
@@ -78,7 +78,7 @@ pub fn law_others()
 
 /// Of a puzzle that stands in no released round that has started, an entrant alone learns nothing, neither its text nor
 /// its solution nor its state: with another puzzle in its place the reply to each request is the same, where it isn't
-/// 503, which tells of want of memory or a failed device alone.
+/// 503.
 pub fn law_before_start()
     ensures { BeforeStart }
 {}
