@@ -23,8 +23,8 @@ MEMORY_OF_ONE = 3 << 30
 EVERY = 15
 # More processors than this hardly shorten the proof of one crate.
 MOST_OF_ONE = 4
-# How far those that others wait less for stand back.
-STANDS_BACK = 10
+# How far a crate stands back behind each that is being proved and has more behind it.
+STANDS_BACK = 3
 
 
 def tell(text):
@@ -45,8 +45,8 @@ def counted(name):
 
 
 class Build:
-    """The crates that the program stands on, each proved once those below it are built. The one with most work behind it has all processors, and the
-    others take what it leaves.
+    """The crates that the program stands on, each proved once those below it are built. Each may use all processors, and those with less work
+    behind them stand back a little.
 
     `rt lib` holds the locks of all crates below its own, so that two of them wait for each other: this holds the locks of all crates, and calls what `rt lib` calls."""
 
@@ -87,11 +87,10 @@ class Build:
         ready = [it for it in self.crates if it not in self.built and it not in self.running and self.built.issuperset(it.below())]
         ready.sort(key=self.behind, reverse=True)
         for crate in ready[: self.most - len(self.running)]:
-            is_first = all(self.behind(crate) > self.behind(it) for it in self.running)
-            jobs = min(MOST_OF_ONE, self.most if is_first else max(1, self.most // 2))
+            before = sum(self.behind(it) > self.behind(crate) for it in self.running)
             self.running.add(crate)
             self.begun[crate] = time.time()
-            threading.Thread(target=self.prove, args=(crate, jobs, 0 if is_first else STANDS_BACK)).start()
+            threading.Thread(target=self.prove, args=(crate, min(MOST_OF_ONE, self.most), before * STANDS_BACK)).start()
 
     def libraries(self):
         """Whether all libraries were built."""

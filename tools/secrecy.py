@@ -1,6 +1,7 @@
 #!/usr/bin/env python3
 """Asks the built program random lists of requests, each a second time with what an entrant must not learn taken out or changed: the requests of other
-entrants, which of two texts is the answer in a sealed round, the puzzles of rounds that haven't started. The entrant's replies must be the same bytes.
+entrants, which of two texts is the answer in a sealed round, the puzzles of rounds that haven't started. The entrant's replies must be the same bytes,
+with the two texts exchanged too where answers to the round are listed.
 
     python3 tools/secrecy.py [--program PATH] [--lists 30] [--seed 1]
 
@@ -10,6 +11,7 @@ import argparse
 import json
 import os
 import random
+import re
 import subprocess
 import sys
 import tempfile
@@ -42,6 +44,8 @@ LABELS = ["p1", "p2", "p3", "p4"]
 ROUNDS = [("r1", 0, 60, "instant", 0), ("r2", 30, 60, "sealed", 1), ("r3", 90, 30, "sealed", 2), ("r4", 600, 30, "instant", 3)]
 TOKENS = ["t1", "t2", "t3"]
 BEFORE = START - 1000
+# One list in so many has a crowd of answers.
+CROWDED = 5
 
 
 def people_csv(people):
@@ -56,6 +60,10 @@ def sheet(minutes, mode, label, title="Morning"):
 
 def put(label, text):
     return BEFORE, "bob-key-1", "PUT", f"/puzzles/bob/{label}", compact({"text": text})
+
+
+def answer_of(text):
+    return compact({"answer": text})
 
 
 def certify(label):
@@ -74,6 +82,14 @@ def opening(boards):
     return asked
 
 
+def crowd(key, seed):
+    """Answers of the others who are entrants alone, together more than one entrant may give to a puzzle of a round, and then one under the key."""
+    name, start, _, _, place = random.Random(f"crowd {seed}").choice(ROUNDS)
+    answers = [(other, f"c{n}") for n in range(20) for other in ALONE if other != key] + [(key, "last")]
+    submits = [(START + MINUTE * start, caller, "PUT", f"/rounds/{name}/answers/1/{token}", answer_of(BOARDS[place][1][0])) for caller, token in answers]
+    return [(BEFORE, "dora-key", "POST", "/people", people_csv(LATER)), *submits]
+
+
 class Maker:
     """Random requests: of each caller, about rounds that are there and others, at moments round their starts and ends."""
 
@@ -88,7 +104,7 @@ class Maker:
         pick = self.random.choice
         name, _, _, _, place = pick(ROUNDS)
         key, token, text = pick(KEYS), pick(TOKENS), pick(BOARDS[place][1])
-        submit = ("PUT", f"/rounds/{name}/answers/{pick('1112')}/{token}", compact({"answer": text}))
+        submit = ("PUT", f"/rounds/{name}/answers/{pick('1112')}/{token}", answer_of(text))
         protest = ("PUT", f"/rounds/{name}/protests/{token}", compact({"number": 1, "text": pick(["No.", "Unclear."])}))
         ruling = ("PUT", f"/rounds/{name}/rulings/{pick(['eve', 'fay', 'gil', 'hal'])}/{token}", compact({"points": pick([0, 3]), "upheld": True}))
         puzzle = ("PUT", f"/puzzles/{pick(['bob', 'ada'])}/{pick(LABELS + ['x1'])}", compact({"text": pick(BOARDS)[0]}))
@@ -115,12 +131,12 @@ class Program:
         self.people.write_text(people_csv(PEOPLE), encoding="ascii")
 
     def told(self, key, asked):
-        """The replies to the requests under the key."""
+        """The replies to the requests under the key, each after the path that was asked."""
         given = "".join(record(moment, request(*rest)) for moment, *rest in asked).encode()
         ran = subprocess.run([self.path, "replay", "--people", self.people], input=given, capture_output=True, timeout=120, check=True)
         whole = replies(ran.stdout)
         assert len(whole) == len(asked), "a reply to each request"
-        return [reply for (_, other, *_), reply in zip(asked, whole, strict=True) if other == key]
+        return [(path, reply) for (_, other, _, path, _), reply in zip(asked, whole, strict=True) if other == key]
 
 
 def without_others(key, asked):
@@ -128,19 +144,20 @@ def without_others(key, asked):
     return [one for one in asked if one[1] == key or one[1] not in ALONE]
 
 
-def exchanged(name, first, second, asked):
+def exchanged(name, texts, asked):
     """The list in which each of the two texts stands for the other in the round."""
-    texts = {compact({"answer": first}): compact({"answer": second}), compact({"answer": second}): compact({"answer": first})}
-    return [(*one[:4], texts.get(one[4], one[4])) if one[3].startswith(f"/rounds/{name}/answers/") else one for one in asked]
+    bodies = {answer_of(one): answer_of(other) for one, other in texts.items()}
+    return [(*one[:4], bodies.get(one[4], one[4])) if one[3].startswith(f"/rounds/{name}/answers/") else one for one in asked]
 
 
-def blank(reply):
-    """The reply without the texts of a listing of answers."""
+def exchanged_reply(name, texts, path, reply):
+    """The reply, with each of the two texts for the other where it lists answers to the round."""
     head, body = reply.split(b"\r\n\r\n", 1)
-    if not body.startswith(b'{"answers":'):
+    if path != f"/rounds/{name}/answers" or not body.startswith(b'{"answers":'):
         return reply
-    lines = [line | {"answer": ""} for line in json.loads(body)["answers"]]
-    return head.split(b"\r\n")[0] + compact(lines).encode()
+    lines = [line | {"answer": texts.get(line["answer"], line["answer"])} for line in json.loads(body)["answers"]]
+    body = compact({"answers": lines}).encode()
+    return re.sub(rb"Content-Length: \d+", b"Content-Length: %d" % len(body), head) + b"\r\n\r\n" + body
 
 
 class Compared:
@@ -149,9 +166,13 @@ class Compared:
     def __init__(self):
         self.replies = self.telling = self.wrong = 0
 
-    def check(self, what, one, other):
+    def check(self, what, lists, one, other):
+        """The two lists differ, and the replies don't."""
         self.replies += len(one)
-        self.telling += sum(reply.startswith(b"HTTP/1.1 200") for reply in one)
+        self.telling += sum(reply.startswith(b"HTTP/1.1 200") for _, reply in one)
+        if lists[0] == lists[1]:
+            self.wrong += 1
+            print(f"FAILED {what}: the second list is the first")
         if one != other:
             self.wrong += 1
             place = next((n for n, pair in enumerate(zip(one, other)) if pair[0] != pair[1]), min(len(one), len(other)))
@@ -160,18 +181,21 @@ class Compared:
 
 def hides_others(program, seed, compared):
     key = random.Random(seed).choice(ALONE)
-    asked = opening(BOARDS) + Maker(f"others {seed}").requests(150)
-    compared.check(f"others, seed {seed}", program.told(key, asked), program.told(key, without_others(key, asked)))
+    asked = opening(BOARDS) + (crowd(key, seed) if seed % CROWDED == 0 else []) + Maker(f"others {seed}").requests(150)
+    lists = [asked, without_others(key, asked)]
+    compared.check(f"others, seed {seed}", lists, *[program.told(key, some) for some in lists])
 
 
 def hides_verdicts(program, seed, compared):
     chosen = random.Random(seed)
     name, start, minutes, _, place = ROUNDS[chosen.choice([1, 2])]
     first, second = BOARDS[place][1][0], chosen.choice(BOARDS[place][1][1:])
+    texts = {first: second, second: first}
     asked = opening(BOARDS) + Maker(f"sealed {seed}", START + MINUTE * (start + minutes) - 1).requests(150, publishes=True)
+    lists = [asked, exchanged(name, texts, asked)]
     for key in ALONE:
-        one, other = [[blank(reply) for reply in program.told(key, some)] for some in (asked, exchanged(name, first, second, asked))]
-        compared.check(f"sealed, seed {seed}, {key}", one, other)
+        one, other = [program.told(key, some) for some in lists]
+        compared.check(f"sealed, seed {seed}, {key}", lists, [(path, exchanged_reply(name, texts, path, reply)) for path, reply in one], other)
 
 
 def hides_puzzles(program, seed, compared):
@@ -182,8 +206,8 @@ def hides_puzzles(program, seed, compared):
     start = START + MINUTE * ROUNDS[2][1]
     later = [(min(one[0], start - 1), key, *one[2:]) for one in Maker(f"start {seed}", start - 1).requests(150)]
     first, second = opening(BOARDS) + [put("x1", BOARDS[0][0])], opening(changed) + [put("x1", BOARDS[1][0]), certify("x1")]
-    one, other = [program.told(key, before + later) for before in (first, second)]
-    compared.check(f"before the start, seed {seed}", one, other)
+    lists = [before + later for before in (first, second)]
+    compared.check(f"before the start, seed {seed}", lists, *[program.told(key, some) for some in lists])
 
 
 def main():

@@ -296,6 +296,7 @@ def ask_secrecy(table, program):
     told = program.told(PEOPLE, [record for _, record, _ in asked])
     for key, other in (rest.encode().split() for rest in table.ordered("hides")):
         kept = [one for one in asked if one[0].cells[1] != other]
+        table.rows[-1].check(len(kept) < len(asked), True)
         table.rows[-1].check(told_to(key, kept, program.told(PEOPLE, [record for _, record, _ in kept])), told_to(key, asked, told))
     for word in ["exchanges", "tells_apart"]:
         for rest in table.ordered(word):

@@ -4,7 +4,8 @@
     python3 bench/real/make.py NAME [SEED]
 
 A random solution is made first; then clues are taken away one after another, in random order, while a SAT solver
-(Debian's `picosat`) finds no second solution. Our own solver is not asked. What comes is kept, hard or easy.
+(Debian's `picosat`) finds no second solution. Our own solver is not asked. What comes is kept, hard or easy. A large
+Nurikabe keeps its numbers; where it has a second solution, its numbers and islands are mended until it has none.
 """
 import os
 import random
@@ -12,7 +13,7 @@ import sys
 
 HERE = os.path.dirname(os.path.abspath(__file__))
 sys.path.insert(0, os.path.dirname(HERE))
-from real.nurikabe import Nurikabe, random_board
+from real.nurikabe import LARGE, LargeNurikabe, Nurikabe, random_board
 from real.sat import Solver, search
 from real.slither import Slither
 from real.sudoku import Sudoku
@@ -21,6 +22,7 @@ from real.sudoku import Sudoku
 SETS = {
     "sudoku9": ("sudoku", (9, 9), 40, 0),
     "sudoku16": ("sudoku", (16, 16), 20, 0),
+    "sudoku25": ("sudoku", (25, 25), 19, 0.48),
     "slither15": ("slither", (15, 15), 12, 0.4),
     "slither20": ("slither", (20, 20), 12, 0.4),
     "slither25": ("slither", (25, 25), 12, 0.4),
@@ -29,16 +31,26 @@ SETS = {
     "nurikabe10": ("nurikabe", (10, 10), 20, 0),
     "nurikabe15": ("nurikabe", (15, 15), 12, 0),
     "nurikabe20": ("nurikabe", (20, 20), 12, 0),
+    "nurikabe31": ("nurikabe", (31, 31), 20, 1),
+    "nurikabe50": ("nurikabe", (50, 20), 20, 1),
 }
 LARGEST_ISLAND = 12
 MOVES = 40
 # hundredths of the walls that are tried to be taken away again: the more, the larger the islands
 WALLS_TAKEN = (0, 10, 20, 30)
+# the same for large boards, and how often their numbers and islands are mended before they are left
+WALLS_TAKEN_LARGE = (0, 5, 10)
+MENDINGS = 40
 
 
 def begin(name, size, rng):
     """A kind, its clauses, a random solution and its clues."""
     solver = Solver(rng.randrange(1 << 30))
+    if name == "nurikabe" and size[0] * size[1] > LARGE:
+        solution, clues = mended_board(size, rng)
+        kind = LargeNurikabe(*size, clues)
+        kind.encode(solver)
+        return kind, solver, solution, list(clues)
     if name == "nurikabe":
         solution, clues = random_board(*size, LARGEST_ISLAND, rng.choice(WALLS_TAKEN), rng)
         move_numbers(size, solution, clues, rng)
@@ -71,6 +83,23 @@ def move_numbers(size, solution, clues, rng):
         island = next(g for g in kind.groups([c for c, on in enumerate(solution) if not on]) if cell in g)
         root = next(c for c in island if clues[c] is not None)
         clues[root], clues[cell] = None, clues[root]
+
+
+def mended_board(size, rng):
+    """A random solution and its numbers, changed where there are other solutions, as long as there are, and for a while at most."""
+    solution, clues = random_board(*size, LARGEST_ISLAND, rng.choice(WALLS_TAKEN_LARGE), rng)
+    moved = set()
+    for _ in range(MENDINGS):
+        kind = LargeNurikabe(*size, clues)
+        solver = Solver()
+        kind.encode(solver)
+        others = list(kind.differing(solver, solution))
+        solver.close()
+        if not others:
+            break
+        for second in others:
+            kind.mend(solution, second, LARGEST_ISLAND, moved, rng)
+    return solution, clues
 
 
 def assumed(kind, solver, clues):

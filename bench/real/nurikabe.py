@@ -1,8 +1,11 @@
 """Nurikabe: a wall or white for each cell. A number's island is known by the number's cell."""
-from make_nurikabe import grow, islands, merge, neighbours
+from make_nurikabe import grow, islands, makes_pool, merge, neighbours
+from real.sat import search
 from real.text import number, runs
 
 UNKNOWN = "?"
+# boards of more cells than these are told to the solver in fewer clauses
+LARGE = 400
 
 
 class Nurikabe:
@@ -17,7 +20,7 @@ class Nurikabe:
 
     def encode(self, solver):
         self.wall = [solver.variable() for _ in range(self.cells)]
-        self.of = [[solver.variable() for _ in range(self.cells)] for _ in self.roots]
+        self.of = [{cell: solver.variable() for cell in range(self.cells)} for _ in self.roots]
         bits = [[solver.variable() for _ in range(len(self.roots).bit_length())] for _ in range(self.cells)]
         for island, of in enumerate(self.of):
             solver.add([of[self.roots[island]]])
@@ -58,7 +61,7 @@ class Nurikabe:
         return it
 
     def solution_in(self, truth):
-        self.found = [[truth[x] for x in of] for of in self.of]
+        self.found = [{cell: truth[it] for cell, it in of.items()} for of in self.of]
         return [int(truth[x]) for x in self.wall]
 
     def groups(self, cells):
@@ -85,10 +88,10 @@ class Nurikabe:
             solver.add([-self.wall[group[0]], -self.wall[other]] + [self.wall[c] for c in self.rim(group)])
             found = True
         for group in self.groups([c for c in range(self.cells) if not solution[c]]):
-            island = next(k for k, of in enumerate(self.found) if of[group[0]])
+            island = next(k for k, of in enumerate(self.found) if of.get(group[0]))
             if self.roots[island] not in group:
                 of = self.of[island]
-                solver.add([-of[group[0]]] + [of[c] for c in self.rim(group)])
+                solver.add([-of[group[0]]] + [of[c] for c in self.rim(group) if c in of])
                 found = True
         return found
 
@@ -109,6 +112,114 @@ class Nurikabe:
         return "".join("#" if on else "." for on in solution)
 
 
+class LargeNurikabe(Nurikabe):
+    """The same in fewer clauses, where each number is known: an island has variables only where its number comes."""
+
+    def encode(self, solver):
+        self.wall = [solver.variable() for _ in range(self.cells)]
+        self.of = [self.reach(solver, root) for root in self.roots]
+        holders = [[] for _ in range(self.cells)]
+        for island, of in enumerate(self.of):
+            for cell in of:
+                holders[cell].append(island)
+        for island, of in enumerate(self.of):
+            solver.add([of[self.roots[island]]])
+            for cell, it in of.items():
+                solver.add([-it, -self.wall[cell]])
+                for other in holders[cell]:
+                    if other < island:
+                        solver.add([-it, -self.of[other][cell]])
+                for other in self.near[cell]:
+                    solver.add([-it, self.wall[other]] + ([of[other]] if other in of else []))
+            self.has_size(solver, list(of.values()), self.clues[self.roots[island]])
+        for cell in range(self.cells):
+            solver.add([self.wall[cell]] + [self.of[island][cell] for island in holders[cell]])
+            if cell % self.cols + 1 < self.cols and cell + self.cols < self.cells:
+                solver.add([-self.wall[x] for x in (cell, cell + 1, cell + self.cols, cell + self.cols + 1)])
+
+    def reach(self, solver, root):
+        """A variable for each cell that the number at the root comes to."""
+        row, col = divmod(root, self.cols)
+        away = lambda cell: abs(cell // self.cols - row) + abs(cell % self.cols - col)
+        return {cell: solver.variable() for cell in range(self.cells) if away(cell) < self.clues[root]}
+
+    def has_size(self, solver, within, size):
+        least = solver.counts(within, size)
+        solver.add([least[size - 1]])
+        if len(least) > size:
+            solver.add([-least[size]])
+
+    def literals(self, solver, place, clue):
+        return []
+
+    def prefer(self, solver, solution):
+        """Has the solver try the solution's values first, so that another one that it finds is near."""
+        for cell, on in enumerate(solution):
+            solver.prefer(self.wall[cell], on)
+        for island in self.groups([c for c, on in enumerate(solution) if not on]):
+            root = next(c for c in island if self.clues[c] is not None)
+            for cell, it in self.of[self.roots.index(root)].items():
+                solver.prefer(it, cell in island)
+
+    def differing(self, solver, solution):
+        """Other solutions, each apart from those before it: where one differs, the next doesn't."""
+        self.prefer(solver, solution)
+        self.block(solver, solution)
+        while True:
+            second = search(self, solver, [])
+            if second is None:
+                return
+            yield second
+            for cell, on in enumerate(solution):
+                if second[cell] != on:
+                    solver.add([self.wall[cell] if on else -self.wall[cell]])
+
+    def island_at(self, solution, cell):
+        return next(group for group in self.groups([c for c, on in enumerate(solution) if not on]) if cell in group)
+
+    def move(self, solution, cell):
+        """Moves the island's number to the cell."""
+        root = next(c for c in self.island_at(solution, cell) if self.clues[c] is not None)
+        self.clues[root], self.clues[cell] = None, self.clues[root]
+
+    def widen(self, solution, cell, most):
+        """Makes the cell white, where that leaves a solution; tells whether it does."""
+        solution[cell] = 0
+        island = self.island_at(solution, cell)
+        roots = [c for c in island if self.clues[c] is not None]
+        walls = list(self.groups([c for c, on in enumerate(solution) if on]))
+        if len(island) > most or len(roots) != 1 or len(walls) != 1:
+            solution[cell] = 1
+            return False
+        self.clues[roots[0]] = len(island)
+        return True
+
+    def narrow(self, solution, cell):
+        """Makes the cell wall, where that leaves a solution; tells whether it does."""
+        island = self.island_at(solution, cell)
+        rest = [c for c in island if c != cell]
+        beside = any(solution[c] for c in self.near[cell])
+        if self.clues[cell] is not None or len(list(self.groups(rest))) != 1 or not beside:
+            return False
+        if makes_pool([bool(on) for on in solution], cell, self.cols, self.rows):
+            return False
+        solution[cell] = 1
+        self.clues[next(c for c in rest if self.clues[c] is not None)] = len(rest)
+        return True
+
+    def mend(self, solution, second, most, moved, rng):
+        """Moves a number to a cell that is wall in the second solution, once a cell, or else takes one of its cells over."""
+        lost = [c for c, on in enumerate(solution) if second[c] and not on]
+        for cell in rng.sample(lost, len(lost)):
+            if self.clues[cell] is None and cell not in moved and not solution[cell]:
+                moved.add(cell)
+                return self.move(solution, cell)
+        ways = [c for c, on in enumerate(solution) if second[c] != on]
+        for cell in rng.sample(ways, len(ways)):
+            if self.widen(solution, cell, most) if solution[cell] else self.narrow(solution, cell):
+                return None
+
+
 def random_board(cols, rows, most, share, rng):
     """Walls that are a solution of the clues, which stand at random in their islands."""
     wall = grow(cols, rows, rng)
@@ -117,3 +228,8 @@ def random_board(cols, rows, most, share, rng):
     for island in islands(wall, cols, rows):
         clues[rng.choice(island)] = len(island)
     return [int(x) for x in wall], clues
+
+
+def puzzle_of(cols, rows, clues):
+    """The puzzle of these clues, in fewer clauses where it is large."""
+    return (LargeNurikabe if cols * rows > LARGE else Nurikabe)(cols, rows, clues)

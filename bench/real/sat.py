@@ -7,8 +7,19 @@ try:
 except OSError:
     raise SystemExit("no PicoSAT: apt-get install picosat")
 LIBRARY.picosat_init.restype = ctypes.c_void_p
+LIBRARY.picosat_set_default_phase_lit.argtypes = [ctypes.c_void_p, ctypes.c_int, ctypes.c_int]
 SATISFIABLE = 10
 RANDOM_PHASE = 3
+
+
+class Truth:
+    """The truth of each variable, by its number, in the solution found last."""
+
+    def __init__(self, handle):
+        self.handle = handle
+
+    def __getitem__(self, variable):
+        return LIBRARY.picosat_deref(self.handle, variable) > 0
 
 
 class Solver:
@@ -29,6 +40,10 @@ class Solver:
         self.top += 1
         return self.top
 
+    def prefer(self, variable, value):
+        """Has the solver try this value of the variable first."""
+        LIBRARY.picosat_set_default_phase_lit(self.handle, variable, 1 if value else -1)
+
     def add(self, literals):
         began = time.perf_counter()
         for literal in literals:
@@ -45,7 +60,7 @@ class Solver:
         self.solving += time.perf_counter() - began
         if found != SATISFIABLE:
             return None
-        return [None] + [LIBRARY.picosat_deref(self.handle, v) > 0 for v in range(1, self.top + 1)]
+        return Truth(self.handle)
 
     def exactly_one(self, variables, unless=()):
         self.add([*unless, *variables])

@@ -33,7 +33,8 @@ use Rattle.hall_desk.specs.Totals.{answers_by, protests_by, AreTotals}
 use Rattle.hall_desk.specs.Shown.{is_sealed, told_verdict, shows_verdict, sees_answer, answer_line, sees_protest, protest_line, sees_round, round_line, ShowsRound, AreSolutions}
 use Rattle.hall_desk.specs.Step.{Allowed, FirstReply, Decided}
 use Rattle.hall_policy.specs.OwnAlike.{is_entrant_alone, seen, as_is, exchanged, OwnAlike}
-use Rattle.hall_desk.specs.Alike.{LooksAlike, exchanged_line, exchanged_reply}
+use Rattle.hall_desk.specs.Alike.{LooksAlike}
+use Rattle.hall_desk.specs.Exchanged.{exchanged_line, exchanged_reply}
 use Rattle.hall_desk.specs.declared.reply.AnswerLine.{AnswerLine}
 use Rattle.hall_desk.specs.declared.reply.Reply.{Reply}
 use Rattle.hall_desk.specs.declared.reply.Reply.TheVariants as reply

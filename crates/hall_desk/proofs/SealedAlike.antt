@@ -22,14 +22,12 @@ use Rattle.hall_desk.specs.Sane.{Sane}
 use Rattle.hall_desk.specs.Shown.{is_sealed}
 use Rattle.hall_desk.specs.Step.{Asked, IsAnswered, Decided}
 use Rattle.hall_policy.specs.OwnAlike.{is_entrant_alone, seen, as_is, exchanged}
-use Rattle.hall_desk.specs.Alike.{LooksAlike, AlikeFor, exchanged_line, exchanged_reply}
+use Rattle.hall_desk.specs.Alike.{LooksAlike, AlikeFor}
 use Rattle.hall_desk.specs.AnsweredRun.{AnsweredRun, timed, exchanged_asked, SealedAnswers}
 use Rattle.hall_desk.specs.Run.{IsTimed}
 use Rattle.hall_desk.specs.Without.{has_key, replies_to}
-use Rattle.hall_desk.specs.Exchanged.{swapped, blank_line, blank}
-use Rattle.hall_desk.specs.declared.reply.AnswerLine.{AnswerLine}
+use Rattle.hall_desk.specs.Exchanged.{swapped, exchanged_reply, exchanged_replies}
 use Rattle.hall_desk.specs.declared.reply.Reply.{Reply}
-use Rattle.hall_desk.specs.declared.reply.Reply.TheVariants as reply
 use Rattle.hall_policy.proofs.Texts.{text_decides}
 use Rattle.hall_desk.specs.Records.{Remains}
 use Rattle.hall_desk.proofs.StepsSane.{step_sane, run_sane}
@@ -87,19 +85,6 @@ swapped_is_answer r a b is also id x h = elim (same_text id r) as (λ t. IsAnswe
     | false ↦ elim (same_text x b) as (λ t. IsAnswer (if t then a else x)) [ true ↦ is | false ↦ h ]
   ]
 ]
-
--- ---- replies without texts
-blank_lines : (f : List ℕ → List ℕ) (lines : List AnswerLine) → map blank_line (map (exchanged_line f) lines) ≡ map blank_line lines
-blank_lines f [] = refl
-blank_lines f (line ∷ lines) = ap (λ ls. blank_line line ∷ ls) (blank_lines f lines)
-
-blank_listing : (ex : List ℕ → List ℕ → List ℕ) (id : List ℕ) (given : Reply) → blank (exchanged_reply ex (action.Answers id) given) ≡ blank given
-blank_listing ex id (reply.AnswerList lines) = ap reply.AnswerList (blank_lines (ex id) lines)
-blank_listing ex id _ = refl
-
-blank_exchanged : (ex : List ℕ → List ℕ → List ℕ) (a : Action) (given : Reply) → blank (exchanged_reply ex a given) ≡ blank given
-blank_exchanged ex (action.Answers id) given = blank_listing ex id given
-blank_exchanged ex _ given = refl
 
 typed_exchanged : (ex : List ℕ → List ℕ → List ℕ) → ((id x : List ℕ) → IsAnswer x → IsAnswer (ex id x)) → (a : Action) → IsAction a → IsAction (exchanged ex a)
 typed_exchanged ex keeps (action.Submit id number token answer) h = (h.0, h.1, h.2, keeps id answer h.3)
@@ -230,18 +215,18 @@ module _ (last : World) (e : Person) (settled : IsWorld last) (there : get last.
   abbrev Claim : List Asked → Type 0
   Claim list = (world other end : World) (replies others : List Reply) → Sane world → Sane other → Alike world other → get world.rounds r ≡ Some round → HasNone world → HasNone other →
       All IsTimed (map timed list) → All (λ asked. asked.0 < end_of round) (map timed list) → AnsweredRun world list replies last → AnsweredRun other (exchange list) others end →
-      map blank (replies_to e.key (map timed list) replies) ≡ map blank (replies_to e.key (map timed (exchange list)) others)
+      replies_to e.key (map timed (exchange list)) others ≡ replies_to e.key (map timed list) (exchanged_replies r a b (map timed list) replies)
 
   one_more : (q : Asked) (later : List Asked) (world other end : World) (given answered : Reply) (replies others : List Reply) → Claim later → Sane world → Sane other → Alike world other → get world.rounds r ≡ Some round → HasNone world → HasNone other →
       All IsTimed (map timed (q ∷ later)) → All (λ asked. asked.0 < end_of round) (map timed (q ∷ later)) → AnsweredRun world (q ∷ later) (given ∷ replies) last → AnsweredRun other (exchange (q ∷ later)) (answered ∷ others) end →
-      map blank (replies_to e.key (map timed (q ∷ later)) (given ∷ replies)) ≡ map blank (replies_to e.key (map timed (exchange (q ∷ later))) (answered ∷ others))
+      replies_to e.key (map timed (exchange (q ∷ later))) (answered ∷ others) ≡ replies_to e.key (map timed (q ∷ later)) (exchanged_replies r a b (map timed (q ∷ later)) (given ∷ replies))
   one_more q later world other end given answered replies others claim sane too alike kept none also typed before run swaps =
       let next : World = run.0 in
       let after : World = swaps.0 in
-      let ours : List Reply = replies_to e.key (map timed later) replies in
+      let ours : List Reply = replies_to e.key (map timed later) (exchanged_replies r a b (map timed later) replies) in
       let theirs : List Reply = replies_to e.key (map timed (exchange later)) others in
       let remains : Remains world last = run_remains world (map timed (q ∷ later)) (given ∷ replies) last (run_of world last (q ∷ later) (given ∷ replies) run) in
-      let tail : map blank ours ≡ map blank theirs =
+      let tail : theirs ≡ ours =
       claim next after end replies others
       (still_sane q later world other given replies sane too alike kept none also typed before run)
       (sane_with q later world other given replies sane too alike kept none also typed before run answered after swaps.1)
@@ -251,14 +236,13 @@ module _ (last : World) (e : Person) (settled : IsWorld last) (there : get last.
       (none_with q later world other given replies sane too alike kept none also typed before run answered after swaps.1)
       (All-tail IsTimed (timed q) (map timed later) typed) (All-tail (λ asked. asked.0 < end_of round) (timed q) (map timed later) before) run.2 swaps.2 in
       elim (has_key e.key q.request.key) as (λ t. has_key e.key q.request.key ≡ t →
-      map blank (if t then given ∷ ours else ours) ≡ map blank (if t then answered ∷ theirs else theirs)) [
+      (if t then answered ∷ theirs else theirs) ≡ (if t then exchanged_reply ex q.request.action given ∷ ours else ours)) [
         | true ↦ λ own.
             let told : answered ≡ exchanged_reply ex q.request.action given =
             exchanged_answers ex (in_round r) (swapped_apart r a b) (swapped_plain r a b) world other alike.people alike.rounds alike.places sane.typed too.typed e alone q (exchanged_asked ex q) refl refl refl
             (looks_alike world other sane.typed too.typed alike kept none also q.moment (early q later world other given replies sane too alike kept none also typed before run))
             (e_calls last e settled there alone world remains q.request.key (asks_as e.key q.request.key own)) given answered next after run.1 swaps.1 in
-            let same : blank given ≡ blank answered = sym (ap blank told ∙ blank_exchanged ex q.request.action given) in
-            ap (λ (g : Reply). g ∷ map blank ours) same ∙ ap (λ (gs : List Reply). blank answered ∷ gs) tail
+            λ i. told i ∷ tail i
         | false ↦ λ not_own. tail
       ] refl
 

@@ -16,7 +16,7 @@ use Rattle.hall_desk.specs.Sane.{Sane}
 use Rattle.hall_desk.specs.Shown.{is_sealed}
 use Rattle.hall_desk.specs.Step.{Asked}
 use Rattle.hall_desk.specs.Without.{replies_where, replies_to, is_certify, certifies, Serve}
-use Rattle.hall_desk.specs.Exchanged.{swapped, exchanged_list, blank, IsSealedRound}
+use Rattle.hall_desk.specs.Exchanged.{swapped, exchanged_list, exchanged_replies, IsSealedRound}
 use Rattle.hall_desk.specs.AnsweredRun.{AnsweredRun, timed, exchanged_asked}
 use Rattle.hall_desk.specs.Secrecy.{HidesAnswers, SealedRuns, LivesHideAnswers}
 use Rattle.hall_desk.specs.declared.reply.Reply.{Reply}
@@ -91,7 +91,7 @@ hides_answers world sane last end r a b round e list replies others typed h is_a
     let Law : List (ℕ × Request) → Type 0 = λ requests.
     All IsTimed requests → IsSealedRound world r round requests → Run world requests replies last → Run world (exchanged_list r a b requests) others end →
     replies_where certifies requests replies ≡ replies_where certifies (exchanged_list r a b requests) others →
-    map blank (replies_to e.key requests replies) ≡ map blank (replies_to e.key (exchanged_list r a b requests) others) in
+    replies_to e.key (exchanged_list r a b requests) others ≡ replies_to e.key requests (exchanged_replies r a b requests replies) in
     let of_answered : Law (map timed asked) = λ is_typed is whole less alike.
     let settled : Sane last = run_sane world (map timed asked) replies last is_typed whole sane in
     let turn : map timed (map (exchanged_asked (swapped r a b)) asked) ≡ exchanged_list r a b (map timed asked) = turned_timed r a b asked in
@@ -100,8 +100,8 @@ hides_answers world sane last end r a b round e list replies others typed h is_a
     (alike_at_first r a b world sane.typed is.none) is.kept (λ published. is.none) (λ published. is.none) is_typed is.before found.2
     (subst (λ (rs : List (ℕ × Request)). Run world rs others end) (sym turn) less) serve_too
     (alike ∙ ap (λ (rs : List (ℕ × Request)). replies_where certifies rs others) (sym turn)) in
-    sealed_answers world last end r a b round e asked replies others sane is_typed is is_a is_b there alone found.2 answers
-    ∙ ap (λ (rs : List (ℕ × Request)). map blank (replies_to e.key rs others)) turn in
+    ap (λ (rs : List (ℕ × Request)). replies_to e.key rs others) (sym turn)
+    ∙ sealed_answers world last end r a b round e asked replies others sane is_typed is is_a is_b there alone found.2 answers in
     subst Law found.1 of_answered typed h run swaps same
 
 -- the law

@@ -1,5 +1,5 @@
 -- One step in two worlds that differ in puzzles before their start, or in hidden verdicts.
-use Rattle.std.proofs.Common.{◌≡◌, ◌≢◌, ◌&&◌, inl, inr, if◌then◌else◌, ℕ, Bool, true, false, not, nat_lt, List, Option, Some, None, refl, sym, ap, ◌∙◌, subst}
+use Rattle.std.proofs.Common.{◌≡◌, ◌≢◌, ◌&&◌, inl, inr, if◌then◌else◌, ℕ, Bool, true, false, not, nat_lt, List, [], Option, Some, None, refl, sym, ap, ◌∙◌, subst}
 use Rattle.std.specs.Option.{option_map}
 use Rattle.std.specs.FinMap.{FinMap, get}
 use Rattle.std.proofs.lemmas.Bool.{false≢true}
@@ -19,13 +19,14 @@ use Rattle.hall_store.specs.Caller.{with_key, caller_of}
 use Rattle.hall_desk.specs.Shown.{is_sealed}
 use Rattle.hall_desk.specs.Step.{Asked, IsAnswered, Step, Decided}
 use Rattle.hall_policy.specs.OwnAlike.{is_entrant_alone, seen, as_is, exchanged}
-use Rattle.hall_desk.specs.Alike.{LooksAlike, exchanged_reply}
-use Rattle.hall_desk.specs.Secrecy.{BeforeStart, hides_round, hides, SealedVerdicts}
+use Rattle.hall_desk.specs.Alike.{LooksAlike}
+use Rattle.hall_desk.specs.Exchanged.{exchanged_reply}
+use Rattle.hall_desk.specs.Secrecy.{IsEntrantOrStranger, BeforeStart, hides_round, hides, SealedVerdicts}
 use Rattle.hall_desk.specs.declared.reply.Reply.{Reply}
 use Rattle.hall_desk.specs.declared.reply.Reply.TheVariants as reply
 use Rattle.hall_policy.proofs.Texts.{and_first, and_second}
 use Rattle.hall_desk.proofs.RepliesAlike.{IsAtMost, either_answers, reply_stands}
-use Rattle.hall_policy.proofs.LoneDecisions.{as_it_stands}
+use Rattle.hall_policy.proofs.LoneDecisions.{lone, as_it_stands}
 
 -- the same key has the same holder, where people are the same
 pub same_callers : (world other : World) → world.people ≡ other.people → (key : Option (List ℕ)) → caller_of world key ≡ caller_of other key
@@ -68,12 +69,18 @@ pub served : (world new : World) (t : ℕ) (request : Request) (given : Reply) �
 served world new t request given (inl h) not_refused = absurd (not_refused h.0)
 served world new t request given (inr h) not_refused = h
 
+-- a person who holds the role entrant alone, and as whom the caller is answered
+entrant_for : (caller : Option Person) → IsEntrantOrStranger caller → (e : Person) × (is_entrant_alone e ≡ true) × IsAtMost caller e
+entrant_for None stranger = (lone [] [], refl, inr refl)
+entrant_for (Some e) alone = (e, alone, inl refl)
+
 -- ---- before the start
 pub before_start : BeforeStart
-before_start world other new changed t request e given answered typed retyped differ is alone step also serves serves_too =
+before_start world other new changed t request given answered typed retyped differ caller step also serves serves_too =
+    let who = entrant_for (caller_of world request.key) caller in
     let first = served world new t request given step serves in
     let second = served other changed t request answered also serves_too in
-    plain_answers (λ id. false) world other differ.people differ.rounds differ.places typed retyped e alone
+    plain_answers (λ id. false) world other differ.people differ.rounds differ.places typed retyped who.0 who.1
     (record { moment = t; request = request; found = first.0 }) (record { moment = t; request = request; found = second.0 }) refl refl
     (record {
       own = record {
@@ -84,7 +91,7 @@ before_start world other new changed t request e given answered typed retyped di
       answers = λ id round kept published key own. ap (λ (m : FinMap answer_cmp AnswerRow). get m key) differ.answers;
       protests = λ id round kept published key own. ap (λ (m : FinMap protest_cmp ProtestRow). get m key) differ.protests;
       puzzles = differ.started;
-    }) (inl is) given answered new changed first.1 second.1
+    }) who.2 given answered new changed first.1 second.1
 
 -- ---- hidden verdicts
 -- a row whose round hides nothing shows whole
@@ -109,11 +116,12 @@ published_shows false c true h = refl
 published_shows a c false h = absurd (false≢true h)
 
 pub sealed_verdicts : SealedVerdicts
-sealed_verdicts world other new changed t request e given answered typed retyped differ is alone step also serves serves_too =
+sealed_verdicts world other new changed t request given answered typed retyped differ caller step also serves serves_too =
+    let who = entrant_for (caller_of world request.key) caller in
     let first = served world new t request given step serves in
     let second = served other changed t request answered also serves_too in
     let hidden : List ℕ → Bool = hides world t in
-    plain_answers hidden world other differ.people differ.rounds differ.places typed retyped e alone
+    plain_answers hidden world other differ.people differ.rounds differ.places typed retyped who.0 who.1
     (record { moment = t; request = request; found = first.0 }) (record { moment = t; request = request; found = second.0 }) refl refl
     (record {
       own = record {
@@ -131,4 +139,4 @@ sealed_verdicts world other new changed t request e given answered typed retyped
           (differ.answers key);
       protests = λ id round kept published key own. ap (λ (m : FinMap protest_cmp ProtestRow). get m key) differ.protests;
       puzzles = λ key started. ap (λ m. get m key) differ.puzzles;
-    }) (inl is) given answered new changed first.1 second.1
+    }) who.2 given answered new changed first.1 second.1

@@ -28,7 +28,8 @@ use Rattle.hall_score.specs.Tally.{AreTotalsOf, IsTallyOf, TakesAnswer, RefusesA
 use Rattle.hall_score.specs.Tally as tally
 use Rattle.hall_score.specs.declared.tally.Tally.{Tally}
 use Rattle.hall_store.specs.Store.{Content, Kept, IsListing, IsRefusedNext, listing_cmp, is_in, is_of, is_protest_in, protests_in}
-use Rattle.hall_store.proofs.Tests.{filter-Contains, Contains-filter, text_decides, and_first, and_second, and_both, and_turned}
+use Rattle.hall_store.proofs.Tests.{filter-Contains, Contains-filter, and_both, and_turned}
+use Rattle.hall_policy.proofs.Texts.{text_decides, and_first, and_second}
 use Rattle.hall_store.specs.declared.fault.StoreFault.{StoreFault}
 use Rattle.hall_store.specs.declared.fault.StoreFault.TheVariants.{Failed}
 use Rattle.std.specs.Result.{IsErrAnd}

@@ -1,5 +1,5 @@
 -- What two worlds show alike.
-use Rattle.std.specs.Prelude.{◌≡◌, ◌<◌, ℕ, Bool, List, Some, IsTrue, map}
+use Rattle.std.specs.Prelude.{◌≡◌, ◌<◌, ℕ, Bool, List, Some, IsTrue}
 use Rattle.std.specs.Option.{option_map}
 use Rattle.std.specs.FinMap.{get}
 use Rattle.hall_policy.specs.World.{World, end_of}
@@ -9,13 +9,8 @@ use Rattle.hall_policy.specs.declared.record.PuzzleKey.{PuzzleKey}
 use Rattle.hall_policy.specs.declared.record.Round.{Round}
 use Rattle.hall_policy.specs.declared.record.AnswerKey.{AnswerKey}
 use Rattle.hall_policy.specs.declared.record.ProtestKey.{ProtestKey}
-use Rattle.hall_policy.specs.declared.request.Action.{Action}
-use Rattle.hall_policy.specs.declared.request.Action.TheVariants.{Answers}
 use Rattle.hall_desk.specs.Shown.{is_sealed}
 use Rattle.hall_desk.specs.Secrecy.{HasStarted}
-use Rattle.hall_desk.specs.declared.reply.AnswerLine.{AnswerLine}
-use Rattle.hall_desk.specs.declared.reply.Reply.{Reply}
-use Rattle.hall_desk.specs.declared.reply.Reply.TheVariants as reply
 
 -- two worlds look alike to the person at the moment, where rounds and their lists are the same: the own rows show
 -- alike; a round that hides verdicts is sealed and isn't over; the rows of a published round are the same, and so is
@@ -30,15 +25,6 @@ pub record LooksAlike (ex : List ℕ → List ℕ → List ℕ) (hidden : List �
   pub protests : (id : List ℕ) (round : Round) → get world.rounds id ≡ Some round → IsTrue round.published →
       (key : ProtestKey) → key.round ≡ id → get world.protests key ≡ get other.protests key
   pub puzzles : (key : PuzzleKey) → HasStarted world t key → get world.puzzles key ≡ get other.puzzles key
-
--- a line of a listing in the exchanged list
-abbrev pub exchanged_line : (List ℕ → List ℕ) → AnswerLine → AnswerLine
-exchanged_line ex line = record line { answer = ex line.answer }
-
--- the reply in the exchanged list: the texts of a listing of answers are exchanged
-abbrev pub exchanged_reply : (List ℕ → List ℕ → List ℕ) → Action → Reply → Reply
-exchanged_reply ex (Answers round) (reply.AnswerList lines) = reply.AnswerList (map (exchanged_line (ex round)) lines)
-exchanged_reply ex _ given = given
 
 -- the worlds are the same but for answers and protests: those of kept names in kept rounds show alike
 pub record AlikeFor (ex : List ℕ → List ℕ → List ℕ) (hidden : List ℕ → Bool) (Kept : List ℕ → List ℕ → Type 0)

@@ -16,7 +16,7 @@ use Rattle.hall_desk.specs.Sane.{Sane}
 use Rattle.hall_desk.specs.Step.{is_open, Asked, IsAnswered}
 use Rattle.hall_desk.specs.Run.{IsTimed, Run}
 use Rattle.hall_desk.specs.Without.{PublishesNothing, stays, replies_where, replies_to, certifies, Serve}
-use Rattle.hall_desk.specs.Exchanged.{swapped, exchanged_request, blank, IsSealedRound}
+use Rattle.hall_desk.specs.Exchanged.{swapped, exchanged_request, exchanged_replies, IsSealedRound}
 use Rattle.hall_desk.specs.declared.reply.Reply.{Reply}
 
 -- each request is answered as it is decided, with what its search finds, and none is Unavailable
@@ -77,8 +77,8 @@ CertifiedWithoutOthers =
 abbrev pub exchanged_asked : (List ℕ → List ℕ → List ℕ) → Asked → Asked
 exchanged_asked ex asked = record asked { request = exchanged_request ex asked.request }
 
--- until a sealed round's end, which of two texts is the answer is hidden: the replies to e are the same, but for the
--- texts of the answers listed, where each search finds the same in both lists
+-- until a sealed round's end, which of two texts is the answer is hidden: the replies to e are those to the list, with
+-- the two texts exchanged where answers to the round are listed, where each search finds the same in both lists
 abbrev pub SealedAnswers : Type 0
 SealedAnswers =
     (world last end : World) (r a b : List ℕ) (round : Round) (e : Person) (list : List Asked)
@@ -87,7 +87,8 @@ SealedAnswers =
     IsAnswer a → IsAnswer b → get last.people e.name ≡ Some e → IsTrue (is_entrant_alone e) →
     let turned : List Asked = map (exchanged_asked (swapped r a b)) list in
     AnsweredRun world list replies last → AnsweredRun world turned others end →
-    map blank (replies_to e.key (map timed list) replies) ≡ map blank (replies_to e.key (map timed turned) others)
+    replies_to e.key (map timed turned) others
+    ≡ replies_to e.key (map timed list) (exchanged_replies r a b (map timed list) replies)
 
 -- and each request to certify is answered alike then
 abbrev pub CertifiedExchanged : Type 0

@@ -1,10 +1,12 @@
--- A list of requests in which two answers to a sealed round are exchanged.
-use Rattle.std.specs.Prelude.{◌≡◌, ◌<◌, ℕ, List, [], Some, None, map, All, IsTrue, if◌then◌else◌}
+-- A list of requests in which two answers to a sealed round are exchanged, and its replies.
+use Rattle.std.specs.Prelude.{◌≡◌, ◌<◌, ℕ, List, [], ◌∷◌, Some, None, map, All, IsTrue, if◌then◌else◌}
 use Rattle.std.specs.FinMap.{get}
 use Rattle.hall_policy.specs.World.{World, end_of, same_text}
 use Rattle.hall_policy.specs.OwnAlike.{exchanged}
 use Rattle.hall_policy.specs.declared.record.AnswerKey.{AnswerKey}
 use Rattle.hall_policy.specs.declared.record.Round.{Round}
+use Rattle.hall_policy.specs.declared.request.Action.{Action}
+use Rattle.hall_policy.specs.declared.request.Action.TheVariants.{Answers}
 use Rattle.hall_policy.specs.declared.request.Request.{Request}
 use Rattle.hall_desk.specs.Shown.{is_sealed}
 use Rattle.hall_desk.specs.declared.reply.AnswerLine.{AnswerLine}
@@ -24,14 +26,21 @@ exchanged_request ex request = record { key = request.key; action = exchanged ex
 abbrev pub exchanged_list : List ℕ → List ℕ → List ℕ → List (ℕ × Request) → List (ℕ × Request)
 exchanged_list r a b list = map (λ asked. (asked.0, exchanged_request (swapped r a b) asked.1)) list
 
--- the line without its text
-abbrev pub blank_line : AnswerLine → AnswerLine
-blank_line line = record line { answer = [] }
+-- a line of a listing with its text read by `ex`
+abbrev pub exchanged_line : (List ℕ → List ℕ) → AnswerLine → AnswerLine
+exchanged_line ex line = record line { answer = ex line.answer }
 
--- the reply without the texts of a listing of answers
-abbrev pub blank : Reply → Reply
-blank (reply.AnswerList lines) = reply.AnswerList (map blank_line lines)
-blank given = given
+-- the reply, with the texts read by `ex` where it lists the answers to a round
+abbrev pub exchanged_reply : (List ℕ → List ℕ → List ℕ) → Action → Reply → Reply
+exchanged_reply ex (Answers round) (reply.AnswerList lines) = reply.AnswerList (map (exchanged_line (ex round)) lines)
+exchanged_reply ex _ given = given
+
+-- the replies to the list, where a stands for b and b for a wherever one of them is listed as an answer to the round r
+abbrev pub exchanged_replies : List ℕ → List ℕ → List ℕ → List (ℕ × Request) → List Reply → List Reply
+exchanged_replies r a b [] replies = []
+exchanged_replies r a b (asked ∷ rest) [] = []
+exchanged_replies r a b (asked ∷ rest) (given ∷ replies) =
+    exchanged_reply (swapped r a b) asked.1.action given ∷ exchanged_replies r a b rest replies
 
 -- the round is sealed and released, it has no answer, and isn't over at any moment of the list
 pub record IsSealedRound (world : World) (r : List ℕ) (round : Round) (list : List (ℕ × Request)) : Type 0 where

@@ -1,10 +1,9 @@
 -- What is found for a request, and of which worlds it is true.
-use Rattle.std.specs.Prelude.{◌≡◌, ◌≢◌, ◌↔◌, ℕ, Bool, List, Option, Some, None, IsTrue, IfSome}
+use Rattle.std.specs.Prelude.{◌≡◌, ◌≢◌, ℕ, List, Option, Some, IsTrue, IfSome}
 use Rattle.std.specs.FinMap.{get}
 use Rattle.hall_policy.specs.World.{World}
-use Rattle.hall_policy.specs.Rules.{answers_given, puzzles_put, Lists, StandsReleased, IsCertified}
+use Rattle.hall_policy.specs.Rules.{Lists, StandsReleased, IsCertified}
 use Rattle.hall_policy.specs.declared.record.Person.{Person}
-use Rattle.hall_policy.specs.declared.record.PuzzleKey.{PuzzleKey}
 use Rattle.hall_policy.specs.declared.record.Entry.{Entry}
 use Rattle.hall_policy.specs.declared.record.Round.{Round}
 use Rattle.hall_desk.specs.declared.entry_fault.EntryFault.{EntryFault}

@@ -1,5 +1,5 @@
 -- What an entrant can't learn: what others do, puzzles before a round's start, verdicts in a sealed round.
-use Rattle.std.specs.Prelude.{◌≡◌, ◌≢◌, ◌≤◌, ◌&&◌, not, ℕ, Bool, false, List, All, Option, Some, None, IsTrue, map, nat_lt}
+use Rattle.std.specs.Prelude.{◌≡◌, ◌≢◌, ◌≤◌, ◌&&◌, not, ℕ, Bool, false, List, All, Option, Some, None, IsTrue, nat_lt}
 use Rattle.std.specs.Option.{option_map}
 use Rattle.std.specs.FinMap.{get}
 use Rattle.hall_policy.specs.World.{World, end_of}
@@ -21,7 +21,7 @@ use Rattle.hall_desk.specs.Step.{Step}
 use Rattle.hall_desk.specs.Run.{IsTimed, Run}
 use Rattle.hall_desk.specs.History.{Event, History, IsTyped}
 use Rattle.hall_desk.specs.Without.{PublishesNothing, stays, without, replies_where, replies_to, certifies, Serve}
-use Rattle.hall_desk.specs.Exchanged.{exchanged_list, blank, IsSealedRound}
+use Rattle.hall_desk.specs.Exchanged.{exchanged_list, exchanged_replies, IsSealedRound}
 use Rattle.hall_desk.specs.declared.reply.Reply.{Reply}
 use Rattle.hall_desk.specs.declared.reply.Reply.TheVariants as reply
 
@@ -76,13 +76,18 @@ pub record DifferInPuzzles (world other : World) (t : ℕ) : Type 0 where
   pub puzzles : (key : PuzzleKey) → IsSamePuzzle (get world.puzzles key) (get other.puzzles key)
   pub started : (key : PuzzleKey) → HasStarted world t key → get world.puzzles key ≡ get other.puzzles key
 
--- what two worlds, sane or not, answer to a request of a person who holds the role entrant alone is the same where they
--- differ only in puzzles that no started round has, and none of the two is Unavailable
+-- the caller holds the role entrant alone, or is a stranger: the request has no key, or one that nobody holds
+abbrev pub IsEntrantOrStranger : Option Person → Type 0
+IsEntrantOrStranger None = Unit {0}
+IsEntrantOrStranger (Some person) = IsTrue (is_entrant_alone person)
+
+-- what two worlds, sane or not, answer to a request of a person who holds the role entrant alone, or of a stranger, is
+-- the same where they differ only in puzzles that no started round has, and none of the two is Unavailable
 abbrev pub BeforeStart : Type 0
 BeforeStart =
-    (world other new changed : World) (t : ℕ) (request : Request) (e : Person) (given answered : Reply) →
+    (world other new changed : World) (t : ℕ) (request : Request) (given answered : Reply) →
     IsWorld world → IsWorld other → DifferInPuzzles world other t →
-    caller_of world request.key ≡ Some e → IsTrue (is_entrant_alone e) →
+    IsEntrantOrStranger (caller_of world request.key) →
     Step world t request given new → Step other t request answered changed →
     given ≢ reply.Unavailable → answered ≢ reply.Unavailable → given ≡ answered
 
@@ -107,22 +112,22 @@ pub record DifferInVerdicts (world other : World) (t : ℕ) : Type 0 where
   pub answers : (key : AnswerKey) → option_map (seen as_is (hides world t)) (get world.answers key)
       ≡ option_map (seen as_is (hides world t)) (get other.answers key)
 
--- what two worlds, sane or not, answer to a request of a person who holds the role entrant alone is the same where they
--- differ only in verdicts that are hidden, and none of the two is Unavailable
+-- what two worlds, sane or not, answer to a request of a person who holds the role entrant alone, or of a stranger, is
+-- the same where they differ only in verdicts that are hidden, and none of the two is Unavailable
 abbrev pub SealedVerdicts : Type 0
 SealedVerdicts =
-    (world other new changed : World) (t : ℕ) (request : Request) (e : Person) (given answered : Reply) →
+    (world other new changed : World) (t : ℕ) (request : Request) (given answered : Reply) →
     IsWorld world → IsWorld other → DifferInVerdicts world other t →
-    caller_of world request.key ≡ Some e → IsTrue (is_entrant_alone e) →
+    IsEntrantOrStranger (caller_of world request.key) →
     Step world t request given new → Step other t request answered changed →
     given ≢ reply.Unavailable → answered ≢ reply.Unavailable → given ≡ answered
 
 -- from the world, until a sealed round's end, which of two texts is the answer is hidden: for a sealed round r that is
 -- released and has no answer, a list of requests whose moments all lie before r's end, two texts a and b that may be
 -- answers, and a person e of the world at the list's end who holds the role entrant alone, the replies to e in a run of
--- the list are those in a run of the list in which a and b are exchanged, but for the texts of the answers listed. The
--- two premises on the runs: no reply is Unavailable, and each request to certify is answered alike in both, so their
--- searches find the same
+-- the list in which a and b are exchanged are exactly those in a run of the list, with a and b exchanged where answers
+-- to r are listed. The two premises on the runs: no reply is Unavailable, and each request to certify is answered alike
+-- in both, so their searches find the same
 abbrev pub HidesAnswers : World → Type 0
 HidesAnswers world =
     (last end : World) (r a b : List ℕ) (round : Round) (e : Person) (list : List (ℕ × Request))
@@ -132,7 +137,7 @@ HidesAnswers world =
     let turned : List (ℕ × Request) = exchanged_list r a b list in
     Run world list replies last → Run world turned others end → Serve replies → Serve others →
     replies_where certifies list replies ≡ replies_where certifies turned others →
-    map blank (replies_to e.key list replies) ≡ map blank (replies_to e.key turned others)
+    replies_to e.key turned others ≡ replies_to e.key list (exchanged_replies r a b list replies)
 
 -- so it is from each sane world
 abbrev pub SealedRuns : Type 0

@@ -41,7 +41,8 @@ impl<S: Store> Desk<S> {
     }
 
     /// What the request will be answered, and what it will change. Reads only, and for a request without a key, other
-    /// than for a table, not even that. It fails only where a call of the store did, or where the world isn't sane.
+    /// than for a table, not even that. Want of memory apart, it fails only over a store that can, or where the world
+    /// isn't sane.
     pub fn plan(&mut self, alloc: Global, t: Moment, request: &Request) -> Result<Plan, StoreFault>
         ensures kept { Kept (S.content (kept_by self.old)) (S.content (kept_by self.new)) }
         ensures untouched { IsNobodys request.now → kept_by self.new ≡ kept_by self.old }
@@ -57,8 +58,8 @@ impl<S: Store> Desk<S> {
         make_plan(alloc, &mut self.store, t, request)
     }
 
-    /// Makes the plan's change, and answers its reply. Refused, it has consumed the plan and left the world; a plan
-    /// without a change is never refused.
+    /// Makes the plan's change, and answers its reply. Refused, it has consumed the plan and, while the store serves,
+    /// left the world; a plan without a change is never refused.
     pub fn commit(&mut self, alloc: Global, plan: Plan) -> Result<Reply, StoreFault>
         requires { Asks (S.content (kept_by self.old)) (CanMake (planned_change plan)) }
         ensures leads { Leads (S.content (kept_by self.old)) (S.content (kept_by self.new)) }
@@ -88,7 +89,8 @@ impl<S: Store> Desk<S> {
     }
 
     /// Imports the people before any request: the rule on lists alone is asked. It answers `Reply::Imported`, or
-    /// `Reply::Denied` by that rule. Refused, it has left the world; it fails only where a call of the store did.
+    /// `Reply::Denied` by that rule. Refused, it has left the world while the store serves; want of memory apart, it fails
+    /// only over a store that can.
     pub fn try_seed(&mut self, alloc: Global, people: &People) -> Result<Reply, StoreFault>
         ensures leads { Leads (S.content (kept_by self.old)) (S.content (kept_by self.new)) }
         ensures seeds { IfOk result (λ reply. (S.content (kept_by self.new)).honest →

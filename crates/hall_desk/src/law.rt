@@ -12,7 +12,7 @@ ghost use Rattle.hall_desk.specs.Secrecy.{SealedVerdicts, SealedRuns, LivesHideA
 ghost use Rattle.hall_desk.specs.AnsweredRun.{OthersHiddenInAnswers, SealedAnswers, RunsAreAnswered};
 ghost use Rattle.hall_desk.specs.AnsweredRun.{CertifiedWithoutOthers, CertifiedExchanged};
 
-/// A sane world has one answer to a request.
+/// A sane world has one answer to a request, with what a search finds.
 pub fn law_steps_agree()
     ensures answers { AnswersAgree }
     ensures steps { StepsAgree }
@@ -23,7 +23,8 @@ pub fn law_sanity()
     ensures { SanityKeepsPromises }
 {}
 
-/// Whatever happens in a hall's life, its records stay; each run of requests is such a life.
+/// Whatever happens in a hall's life, its people, answers, protests, rulings and released rounds stay; each run of
+/// requests is such a life.
 pub fn law_records()
     ensures stay { RecordsStay }
     ensures runs { RunsAreHistories }
@@ -58,8 +59,8 @@ pub fn law_rulings()
     ensures answered { RulingRetriesAreAnswered }
 {}
 
-/// Of what others do who are entrants alone, an entrant alone learns nothing: where nobody publishes, the replies to
-/// that entrant in a run are those in a run without the others' requests.
+/// Of what others do who are entrants alone, an entrant alone learns nothing: where nobody asks to publish, the replies
+/// to that entrant in a run are those in a run without the others' requests.
 ///
 /// In neither run a reply is 503: its request counts as not made, so a run with one is the run of another list. Of when
 /// a 503 comes, nothing is said. And each request to certify
@@ -76,16 +77,17 @@ pub fn law_others()
     ensures runs { RunsAreAnswered }
 {}
 
-/// Of a puzzle that stands in no released round that has started, an entrant alone learns nothing, neither its text nor
-/// its solution nor its state: with another puzzle in its place the reply to each request is the same, where it isn't
-/// 503.
+/// Of a puzzle that stands in no released round that has started, an entrant alone learns nothing, neither its text
+/// nor its solution nor its state, and neither does a stranger, who has no key or one that nobody holds: with another
+/// puzzle in its place the reply to each request is the same, where it isn't 503.
 pub fn law_before_start()
     ensures { BeforeStart }
 {}
 
-/// Until a sealed round's end, an entrant alone learns no verdict: with other verdicts kept, the reply to each request is
-/// the same, where it isn't 503; and where two texts are exchanged in all answers to the round, the replies in a run stay
-/// the same but for the texts of the answers that are listed.
+/// Until a sealed round's end, an entrant alone learns no verdict, and neither does a stranger: with other verdicts
+/// kept, the reply to each request is the same, where it isn't 503. And where two texts are exchanged in all answers to
+/// the round, the replies to an entrant alone in a run stay the very same, but that the two are exchanged too where
+/// answers to the round are listed.
 ///
 /// The premises on two runs are those of `law_others`, and so are `answered` and `searches`.
 pub fn law_sealed()

@@ -12,7 +12,7 @@ use hall_sudoku::SudokuRules;
 use std::alloc::{AllocError, Global};
 
 /// What the search of the puzzle finds in at most `budget` visits: no solution, one and no other, two different ones,
-/// or that it gave up. It tells the visits that it made: where it gave up, the whole budget.
+/// or that it gave up; and the visits that a search within the budget made: where it gave up, the whole budget.
 pub fn certify(alloc: Global, puzzle: &Puzzle, budget: u64) -> Result<Searched, AllocError>
     ensures outcome { IfOk result (λ searched. OutcomeOfPuzzle puzzle.now budget searched.outcome) }
     ensures spent { IfOk result (λ searched. IsSpent budget searched.outcome (visits_made searched.visits)) }

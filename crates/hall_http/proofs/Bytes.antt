@@ -1,13 +1,8 @@
 -- Bytes that were written so far.
-use Rattle.std.proofs.Common.{◌≡◌, ℕ, ◌-◌, ◌^◌, ◌++◌, List, [], ◌∷◌, length, take, drop, Option, Some, None, refl}
-use Rattle.std.proofs.Common.{sym, ap, ◌∙◌, subst, inl, inr, arith}
+use Rattle.std.proofs.Common.{◌≡◌, ℕ, ◌++◌, List, [], ◌∷◌, length, take, drop, Option, Some, None, refl}
+use Rattle.std.proofs.Common.{sym, ap, ◌∙◌, subst, arith}
 use Rattle.std.proofs.lemmas.List.{append_assoc, append-nil, take-append-drop}
-use Rattle.std.proofs.lemmas.Bool.{cases_lt}
 use Rattle.std.specs.Io.KnownBytes.{Appends}
-use Rattle.hall_grid.specs.Device.{HasFailed, Rises}
-
-pub has_failed : (old new : ℕ) → Rises old new → HasFailed old new
-has_failed old new r = elim (cases_lt old (2 ^ 64 - 1)) [ inl h ↦ inl (omega arith) | inr h ↦ inr h ]
 
 -- a front of the bytes was written, and the rest is left
 pub record HasWritten (old new : Option (List ℕ)) (bytes rest : List ℕ) : Type 0 where

@@ -6,12 +6,12 @@ use Rattle.std.proofs.lemmas.List.Concat.{flat_map-append}
 use Rattle.std.proofs.lemmas.List.Elements.{All-nil, All-push}
 use Rattle.std.proofs.KnownBytes.{Appends-nil, Appends-trans, Consumes-nil, Consumes-trans}
 use Rattle.std.specs.Io.KnownBytes.{Appends, Consumes}
-use Rattle.hall_grid.specs.Device.{HasFailed, MadeCalls, Rises}
+use Rattle.hall_grid.specs.Device.{MadeCalls, Rises}
 use Rattle.hall_http.specs.Head.{IsRequest, IsWhole, IsUnfinished, NeverHas}
 use Rattle.hall_http.specs.Reading.{at_first, after_read, after_answer}
 use Rattle.hall_http.proofs.Readings.{one_call_more}
 use Rattle.httparse.specs.Grammar.{RequestHead}
-use Rattle.hall_http.specs.Device.{WritesPart}
+use Rattle.hall_http.specs.Device.{WritesPart, NoneFailed, WriteFailed}
 use Rattle.hall_http.specs.Inbox.{ReadsMore}
 use Rattle.hall_http.specs.Connection.{Exchange, Exchanged, Session, requests_of, replies_of, AreOpen, IsOpen, IsClosing, closes}
 use Rattle.hall_http.specs.Served.{IsHandled, Ended, IsNoRequest, MayGoOn, HaveRead, IsLastRequest, refusal}
@@ -152,10 +152,11 @@ module _ {H C : Type 0} (answers : H → Option ℕ → List ℕ → List ℕ �
         bounded = shorter size;
       }
 
-      module _ (read_failed write_failed : Type 0) (room : requests < 1000) (seldom : reads ≤ 100000)
+      module _ (failed fails broke breaks : ℕ) (room : requests < 1000) (seldom : reads ≤ 100000)
           (then : Option (List ℕ)) where
-        ends_after : (e : ServeEnd) → Ended e after wrote then all (drop size inbox) reads reads read_failed write_failed
-            → IsHandled answers now_gives stream after wrote then h c i d read_failed write_failed asked asks e
+        ends_after : (e : ServeEnd)
+            → Ended e after wrote then all (drop size inbox) reads reads failed fails broke breaks
+            → IsHandled answers now_gives stream after wrote then h c i d failed fails broke breaks asked asks e
         ends_after e ended = record {
           exchanges = all;
           unread = drop size inbox;
@@ -171,24 +172,24 @@ module _ {H C : Type 0} (answers : H → Option ℕ → List ℕ → List ℕ �
           ended = ended;
         }
 
-        pub closes_last : IsClosing x.request → Appends written then x.reply
-            → IsHandled answers now_gives stream after wrote then h c i d read_failed write_failed asked asks end.Closed
-        closes_last shut sent =
-            ends_after end.Closed (replied_all then sent, inr ((kept.done, x, is_last, kept.opened, shut), refl))
+        pub closes_last : IsClosing x.request → Appends written then x.reply → NoneFailed failed fails broke breaks
+            → IsHandled answers now_gives stream after wrote then h c i d failed fails broke breaks asked asks end.Closed
+        closes_last shut sent steady =
+            ends_after end.Closed (replied_all then sent, steady, inr ((kept.done, x, is_last, kept.opened, shut), refl))
 
         -- the reply couldn't be written whole
-        pub unsent : WritesPart written then x.reply → write_failed
-            → IsHandled answers now_gives stream after wrote then h c i d read_failed write_failed asked asks end.Device
+        pub unsent : WritesPart written then x.reply → WriteFailed failed fails broke breaks
+            → IsHandled answers now_gives stream after wrote then h c i d failed fails broke breaks asked asks end.Device
         unsent part rose =
             ends_after end.Device
             (inr (inl ((kept.done, x, written, is_last, kept.opened, kept.replied, part), rose, refl)))
 
     -- no further request is answered
-    module _ (read_failed write_failed : Type 0) (most : requests ≤ 1000) where
+    module _ (failed fails broke breaks : ℕ) (most : requests ≤ 1000) where
       ends : (then last : Option (List ℕ)) (total later : ℕ) (e : ServeEnd) → Consumes after then []
           → MadeCalls total asked later → total ≤ 100000
-          → Ended e then wrote last kept.done inbox reads total read_failed write_failed
-          → IsHandled answers now_gives stream then wrote last h c m n read_failed write_failed asked later e
+          → Ended e then wrote last kept.done inbox reads total failed fails broke breaks
+          → IsHandled answers now_gives stream then wrote last h c m n failed fails broke breaks asked later e
       ends then last total later e none made seldom ended = record {
         exchanges = kept.done;
         unread = inbox;
@@ -207,15 +208,15 @@ module _ {H C : Type 0} (answers : H → Option ℕ → List ℕ → List ℕ �
 
       -- without a further read
       stops : (last : Option (List ℕ)) (e : ServeEnd) → reads ≤ 100000
-          → Ended e after wrote last kept.done inbox reads reads read_failed write_failed
-          → IsHandled answers now_gives stream after wrote last h c m n read_failed write_failed asked asks e
+          → Ended e after wrote last kept.done inbox reads reads failed fails broke breaks
+          → IsHandled answers now_gives stream after wrote last h c m n failed fails broke breaks asked asks e
       stops last e seldom ended = ends after last reads asks e (Consumes-nil after) kept.made seldom ended
 
-      pub full : 1000 ≤ requests → reads ≤ 100000
-          → IsHandled answers now_gives stream after wrote written h c m n read_failed write_failed asked asks end.Limit
-      full least seldom =
+      pub full : 1000 ≤ requests → reads ≤ 100000 → NoneFailed failed fails broke breaks
+          → IsHandled answers now_gives stream after wrote written h c m n failed fails broke breaks asked asks end.Limit
+      full least seldom steady =
           stops written end.Limit seldom
-          (kept.replied, kept.opened, refl, inl (omega (arith, kept.count), answered kept.latest))
+          (kept.replied, steady, kept.opened, refl, inl (omega (arith, kept.count), answered kept.latest))
         where
           answered : (requests < 1000)
               ⊎ ((before : List Exchange) × (last : Exchange) × IsLastRequest before last kept.done reads inbox)
@@ -228,31 +229,31 @@ module _ {H C : Type 0} (answers : H → Option ℕ → List ℕ → List ℕ �
         goes_on : MayGoOn kept.done
         goes_on = (kept.opened, omega (arith, kept.count))
 
-        pub read_out : IsUnfinished inbox → reads ≡ 100000
-            → IsHandled answers now_gives stream after wrote written h c m n read_failed write_failed asked asks
+        pub read_out : IsUnfinished inbox → reads ≡ 100000 → NoneFailed failed fails broke breaks
+            → IsHandled answers now_gives stream after wrote written h c m n failed fails broke breaks asked asks
             end.Limit
-        read_out unfinished all =
-            stops written end.Limit (omega arith) (kept.replied, kept.opened, refl, inr (goes_on.1, all, unfinished))
+        read_out unfinished all steady =
+            stops written end.Limit (omega arith) (kept.replied, steady, kept.opened, refl, inr (goes_on.1, all, unfinished))
 
         -- the bytes that are left are refused
-        refuses : (then last : Option (List ℕ)) (total later failed fails : ℕ) (e : ServeEnd) → Consumes after then []
+        refuses : (then last : Option (List ℕ)) (total later : ℕ) (e : ServeEnd) → Consumes after then []
             → MadeCalls total asked later → total ≤ 100000 → IsNoRequest then inbox reads total
-            → Refuses e written last failed fails → (HasFailed failed fails → write_failed)
-            → IsHandled answers now_gives stream then wrote last h c m n read_failed write_failed asked later e
-        refuses then last total later failed fails end.BadHead taken made seldom none sent told =
+            → fails ≡ failed → Refuses e written last broke breaks
+            → IsHandled answers now_gives stream then wrote last h c m n failed fails broke breaks asked later e
+        refuses then last total later end.BadHead taken made seldom none steady (sent, same) =
             ends then last total later end.BadHead taken made seldom
-            (Appends-trans wrote written last (replies_of kept.done) refusal kept.replied sent, goes_on, none)
-        refuses then last total later failed fails end.Device taken made seldom none (part, rose) told =
+            (Appends-trans wrote written last (replies_of kept.done) refusal kept.replied sent, (steady, same), goes_on, none)
+        refuses then last total later end.Device taken made seldom none steady (part, rose) =
             ends then last total later end.Device taken made seldom
-            (inr (inr ((written, goes_on, kept.replied, part), none, told rose)))
-        refuses then last total later failed fails end.Closed taken made seldom none sent told = absurd sent
-        refuses then last total later failed fails end.Limit taken made seldom none sent told = absurd sent
+            (inr (inr ((written, goes_on, kept.replied, part), (steady, rose), none)))
+        refuses then last total later end.Closed taken made seldom none steady sent = absurd sent
+        refuses then last total later end.Limit taken made seldom none steady sent = absurd sent
 
-        pub never_request : reads ≤ 100000 → (last : Option (List ℕ)) (failed fails : ℕ) (e : ServeEnd) → NeverHas inbox
-            → Refuses e written last failed fails → (HasFailed failed fails → write_failed)
-            → IsHandled answers now_gives stream after wrote last h c m n read_failed write_failed asked asks e
-        never_request seldom last failed fails e never sent told =
-            refuses after last reads asks failed fails e (Consumes-nil after) kept.made seldom (inr (never, refl)) sent told
+        pub never_request : reads ≤ 100000 → (last : Option (List ℕ)) (e : ServeEnd) → NeverHas inbox
+            → fails ≡ failed → Refuses e written last broke breaks
+            → IsHandled answers now_gives stream after wrote last h c m n failed fails broke breaks asked asks e
+        never_request seldom last e never steady sent =
+            refuses after last reads asks e (Consumes-nil after) kept.made seldom (inr (never, refl)) steady sent
 
         -- after one read more
         module _ (unfinished : IsUnfinished inbox) (seldom : reads < 100000) (then : Option (List ℕ)) (now : List ℕ)
@@ -261,25 +262,23 @@ module _ {H C : Type 0} (answers : H → Option ℕ → List ℕ → List ℕ �
           one_read = one_call_more reads asked asks later kept.made rise
 
           -- it was refused
-          pub unread_device : (failed fails : ℕ) (e : ReadFault) → ReadsMore after then inbox now failed fails (Err e)
-              → (HasFailed failed fails → read_failed)
-              → IsHandled answers now_gives stream then wrote written h c m n read_failed write_failed asked later
+          pub unread_device : (e : ReadFault) → ReadsMore after then inbox now failed fails (Err e) → breaks ≡ broke
+              → IsHandled answers now_gives stream then wrote written h c m n failed fails broke breaks asked later
               end.Device
-          unread_device failed fails fault.Device (same, taken, rose) told =
+          unread_device fault.Device (same, taken, rose) whole =
               ends then written (reads + 1) later end.Device taken one_read (omega arith)
-              (inl (kept.replied, goes_on, unfinished, told rose, refl))
-          unread_device failed fails fault.Memory (many, piece, more, steady) told =
+              (inl (kept.replied, (rose, whole), goes_on, unfinished, refl))
+          unread_device fault.Memory (many, piece, more, steady) whole =
               absurd (omega (arith, unfinished.short))
 
           -- the input is at its end
-          pub at_end : (last : Option (List ℕ)) (rf rg failed fails : ℕ) (e : ServeEnd)
-              → ReadsMore after then inbox now rf rg (Ok false) → EndsInput now e written last failed fails
-              → (HasFailed failed fails → write_failed)
-              → IsHandled answers now_gives stream then wrote last h c m n read_failed write_failed asked later e
-          at_end last rf rg failed fails e (same, taken, over, steady) (inl (empty, closed, unsaid)) told =
+          pub at_end : (last : Option (List ℕ)) (e : ServeEnd) → ReadsMore after then inbox now failed fails (Ok false)
+              → EndsInput now e written last broke breaks
+              → IsHandled answers now_gives stream then wrote last h c m n failed fails broke breaks asked later e
+          at_end last e (same, taken, over, steady) (inl (empty, closed, unsaid, whole)) =
               rw (closed, unsaid)
               (ends then written (reads + 1) later end.Closed taken one_read (omega arith)
-              (kept.replied, inl (goes_on, sym same ∙ empty, over, refl)))
-          at_end last rf rg failed fails e (same, taken, over, steady) (inr (some, sent)) told =
-              refuses then last (reads + 1) later failed fails e taken one_read (omega arith)
-              (inl (not_nil inbox (subst (λ s. 0 < length s) same some), unfinished, over, refl)) sent told
+              (kept.replied, (steady, whole), inl (goes_on, sym same ∙ empty, over, refl)))
+          at_end last e (same, taken, over, steady) (inr (some, sent)) =
+              refuses then last (reads + 1) later e taken one_read (omega arith)
+              (inl (not_nil inbox (subst (λ s. 0 < length s) same some), unfinished, over, refl)) steady sent

@@ -124,7 +124,7 @@ lacks_body bytes h after n reads size few =
 pub lacks_head : (bytes : List ℕ) → HasNoRequest bytes → MayBecomeRequest bytes → length bytes < 8192
     → IsUnfinished bytes
 lacks_head bytes none may few =
-    record { none = none_in bytes none; short = omega arith; possible = inr (few, may) }
+    record { none = none_in bytes none; short = omega arith; possible = inr (few, none, may) }
 
 -- it stays so until all its bytes are there
 pub lacks_body_below : (bytes : List ℕ) (h : RequestHead) (after : List ℕ) (n : ℕ) → ReadsRequest bytes h after

@@ -2,6 +2,7 @@
 use Rattle.std.proofs.Common.{◌≡◌, ◌+◌, ◌≤◌, subst, arith, add-one, ℕ, zero, suc, inl, inr, List, Option}
 use Rattle.std.specs.Prelude.{Result}
 use Rattle.std.specs.declared.alloc.AllocError.{AllocError}
+use Rattle.hall_grid.specs.Device.{Tally}
 use Rattle.hall_store.specs.Store.{Content, Leads}
 use Rattle.hall_store.proofs.Knowing.{leads_same}
 use Rattle.hall_desk.specs.Sane.{Sane}
@@ -13,23 +14,25 @@ use Rattle.hall_http.specs.declared.listener.Accepted.{Accepted}
 use Rattle.hall_http.specs.declared.listener.Accepted.TheVariants as accepted
 use Rattle.hall_http.proofs.Lines.{line_leads, line_sane}
 
-module _ {A L R W H C : Type 0} (accepts : A → Accepted L → A → Type 0) (hands_out : L → R → W → L → Type 0)
-    (refuses : L → L → Type 0) (hears : L → W → L → Type 0) (remaining : R → Option (List ℕ))
-    (contents : W → Option (List ℕ)) (content : H → Content) (now_gives : C → Option ℕ → C → Type 0) where
+module _ {A L R W H C : Type 0} (accepts : A → Accepted L → A → Type 0) (lets_go : A → L → A → Type 0)
+    (hands_out : L → R → W → L → Type 0) (refuses : L → L → Type 0) (hears : L → Tally R → Tally W → L → Type 0)
+    (remaining : R → Option (List ℕ)) (contents : W → Option (List ℕ)) (content : H → Content)
+    (now_gives : C → Option ℕ → C → Type 0) where
   abbrev Turn : A → H → C → A → H → C → Type 0
-  Turn a h c b i d = IsTurn accepts hands_out refuses hears remaining contents content now_gives a h c b i d
+  Turn a h c b i d = IsTurn accepts lets_go hands_out refuses hears remaining contents content now_gives a h c b i d
 
   abbrev Turns : ℕ → A → H → C → A → H → C → Type 0
-  Turns n a h c b i d = AreTurns accepts hands_out refuses hears remaining contents content now_gives n a h c b i d
+  Turns n a h c b i d =
+      AreTurns accepts lets_go hands_out refuses hears remaining contents content now_gives n a h c b i d
 
   turn_leads : (a : A) (h : H) (c : C) (b : A) (i : H) (d : C) → Turn a h c b i d → Leads (content h) (content i)
-  turn_leads a h c b i d (inl (line, left, r, came, served)) =
+  turn_leads a h c b i d (inl (held, line, left, r, came, served, gone)) =
       line_leads hands_out refuses hears remaining contents content now_gives line h c left i d r served
   turn_leads a h c b i d (inr (gone, same, stood)) = rw same (leads_same (content h))
 
   turn_sane : (a : A) (h : H) (c : C) (b : A) (i : H) (d : C) → Turn a h c b i d
       → SaneThen Sane (content h) (content i)
-  turn_sane a h c b i d (inl (line, left, r, came, served)) =
+  turn_sane a h c b i d (inl (held, line, left, r, came, served, gone)) =
       line_sane hands_out refuses hears remaining contents content now_gives line h c left i d r served
   turn_sane a h c b i d (inr (gone, same, stood)) = rw same (λ k s sane. sane)
 
@@ -47,18 +50,18 @@ module _ {A L R W H C : Type 0} (accepts : A → Accepted L → A → Type 0) (h
     turns_more : (b : A) (i : H) (d : C) → Turn between kept then b i d → Turns (n + 1) a h c b i d
     turns_more b i d turn = rw add-one (between, kept, then, before, turn)
 
-    -- one more line was served
-    pub served_turn : (b : A) (line left : L) (i j : H) (d e : C) (r : Result ServeEnd AllocError)
-        → accepts between (accepted.Line line) b
+    -- one more line was served, and let go
+    pub served_turn : (held b x : A) (line left : L) (i j : H) (d e : C) (r : Result ServeEnd AllocError)
+        → accepts between (accepted.Line line) held
         → IsLineServed hands_out refuses hears remaining contents content now_gives line kept then left i d r
-        → j ≡ i → e ≡ d → Turns (n + 1) a h c b j e
-    served_turn b line left i j d e r came served store clock =
-        rw (store, clock) (turns_more b i d (inl (line, left, r, came, served)))
+        → lets_go held left b → x ≡ b → j ≡ i → e ≡ d → Turns (n + 1) a h c x j e
+    served_turn held b x line left i j d e r came served gone listener store clock =
+        rw (listener, store, clock) (turns_more b i d (inl (held, line, left, r, came, served, gone)))
 
     -- or went away
-    pub gone_turn : (b : A) (i : H) (d : C) → accepts between accepted.Gone b → i ≡ kept → d ≡ then
-        → Turns (n + 1) a h c b i d
-    gone_turn b i d gone store clock = turns_more b i d (inr (gone, store, clock))
+    pub gone_turn : (b x : A) (i : H) (d : C) → accepts between accepted.Gone b → x ≡ b → i ≡ kept → d ≡ then
+        → Turns (n + 1) a h c x i d
+    gone_turn b x i d gone listener store clock = rw listener (turns_more b i d (inr (gone, store, clock)))
 
     pub all_turns : (most : ℕ) → n ≤ most → most ≤ n → Turns most a h c between kept then
     all_turns most within full =

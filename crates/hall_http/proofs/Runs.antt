@@ -140,12 +140,12 @@ module _ {D H C : Type 0} (kept : D → H) (content : H → Content) (now_gives 
   session_kept h c (x ∷ xs) i d (m, n, first, rest) = (kept m, n, first, session_kept m n xs i d rest)
 
 module _ {D H C : Type 0} (kept : D → H) (content : H → Content) (now_gives : C → Option ℕ → C → Type 0)
-    (stream after wrote written : Option (List ℕ)) (h : D) (c : C) (i : D) (d : C) (read_failed write_failed : Type 0)
-    (asked asks : ℕ) (e : ServeEnd) where
+    (stream after wrote written : Option (List ℕ)) (h : D) (c : C) (i : D) (d : C) (failed fails broke breaks asked asks : ℕ)
+    (e : ServeEnd) where
   pub handled_served :
-      IsHandled (answers (λ h. content (kept h)) now_gives) now_gives stream after wrote written h c i d read_failed
-      write_failed asked asks e
-      → IsServed content now_gives stream after wrote written (kept h) c (kept i) d read_failed write_failed asked asks e
+      IsHandled (answers (λ h. content (kept h)) now_gives) now_gives stream after wrote written h c i d failed
+      fails broke breaks asked asks e
+      → IsServed content now_gives stream after wrote written (kept h) c (kept i) d failed fails broke breaks asked asks e
   handled_served handled = let over : D → Content = λ h. content (kept h) in record {
     exchanges = handled.exchanges;
     unread = handled.unread;
@@ -166,10 +166,10 @@ module _ {D H C : Type 0} (kept : D → H) (content : H → Content) (now_gives 
   }
 
 module _ {H C : Type 0} (content : H → Content) (now_gives : C → Option ℕ → C → Type 0)
-    (stream after wrote written : Option (List ℕ)) (h : H) (c : C) (i : H) (d : C) (read_failed write_failed : Type 0)
-    (asked asks : ℕ) where
+    (stream after wrote written : Option (List ℕ)) (h : H) (c : C) (i : H) (d : C) (failed fails broke breaks asked asks : ℕ)
+    where
   pub handled_sane : (e : ServeEnd)
-      → IsHandled (answers content now_gives) now_gives stream after wrote written h c i d read_failed write_failed asked asks e
+      → IsHandled (answers content now_gives) now_gives stream after wrote written h c i d failed fails broke breaks asked asks e
       → SaneThen Sane (content h) (content i)
   handled_sane e handled =
       runs_sane (content h) handled.exchanges (content i)

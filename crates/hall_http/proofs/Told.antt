@@ -1,13 +1,13 @@
 -- What the bytes of replies tell to one key.
-use Rattle.std.proofs.Common.{◌≡◌, ◌≢◌, inl, inr, if◌then◌else◌, ℕ, Bool, true, false, cond, not, List, [], ◌∷◌, Some, Ok, Err, map, refl, sym, ap, ◌∙◌, subst}
+use Rattle.std.proofs.Common.{◌≡◌, ◌≢◌, inl, inr, if◌then◌else◌, ℕ, Bool, true, false, cond, not, List, [], ◌∷◌, Some, Ok, Err, refl, sym, ap, ◌∙◌, subst}
 use Rattle.std.specs.Prelude.{All}
 use Rattle.std.proofs.lemmas.List.Elements.{All-head, All-tail, All-nil, All-cons}
 use Rattle.hall_policy.specs.World.{World}
 use Rattle.hall_policy.specs.declared.record.Person.{Person}
 use Rattle.hall_policy.specs.declared.request.Request.{Request}
 use Rattle.hall_desk.specs.Run.{Run}
-use Rattle.hall_desk.specs.Without.{PublishesNothing, without, replies_where, has_key, certifies, Serve}
-use Rattle.hall_desk.specs.Exchanged.{swapped, exchanged_request, exchanged_list, blank}
+use Rattle.hall_desk.specs.Without.{PublishesNothing, without, replies_where, replies_to, has_key, certifies, Serve}
+use Rattle.hall_desk.specs.Exchanged.{swapped, exchanged_request, exchanged_list, exchanged_replies}
 use Rattle.hall_desk.specs.declared.reply.Reply.{Reply}
 use Rattle.hall_desk.specs.declared.reply.Reply.TheVariants as reply
 use Rattle.hall_desk.proofs.OthersRun.{others_hidden_in_runs}
@@ -193,16 +193,14 @@ module _ (r a b : List ℕ) where
 pub bytes_hide_answers : BytesHideAnswers
 bytes_hide_answers world last end r a b round e xs ys texts others whole turned sane sealed is_a is_b there alone exchange served kept same told told_too =
     let requests : turned.requests ≡ exchanged_list r a b whole.requests = turned_requests r a b xs ys whole.requests turned.requests whole.replies turned.replies served kept whole.made turned.made exchange in
-    let key : ℕ × Request → Bool = λ asked. has_key e.key asked.1.key in
+    let replies : replies_to e.key turned.requests turned.replies ≡ replies_to e.key whole.requests (exchanged_replies r a b whole.requests whole.replies) =
+    ap (λ (rs : List (ℕ × Request)). replies_to e.key rs turned.replies) requests
+    ∙ sealed_runs world sane last end r a b round e whole.requests whole.replies turned.replies whole.timed sealed is_a is_b there alone whole.run
+    (subst (λ (rs : List (ℕ × Request)). Run world rs turned.replies end) requests turned.run)
+    (served_replies xs whole.requests whole.replies served whole.made) (served_replies ys turned.requests turned.replies kept turned.made)
+    (same ∙ ap (λ (rs : List (ℕ × Request)). replies_where certifies rs turned.replies) requests) in
     record {
-      replies = replies_where key whole.requests whole.replies;
-      answers = replies_where key turned.requests turned.replies;
       first = told_bytes (λ request. has_key e.key request.key) xs whole.requests whole.replies texts served whole.made told;
-      second = told_bytes (λ request. has_key e.key request.key) ys turned.requests turned.replies others kept turned.made told_too;
-      same =
-          sealed_runs world sane last end r a b round e whole.requests whole.replies turned.replies whole.timed sealed is_a is_b there alone whole.run
-          (subst (λ (rs : List (ℕ × Request)). Run world rs turned.replies end) requests turned.run)
-          (served_replies xs whole.requests whole.replies served whole.made) (served_replies ys turned.requests turned.replies kept turned.made)
-          (same ∙ ap (λ (rs : List (ℕ × Request)). replies_where certifies rs turned.replies) requests)
-          ∙ ap (λ (rs : List (ℕ × Request)). map blank (replies_where key rs turned.replies)) (sym requests);
+      second = subst (λ (gs : List Reply). AreBytes gs others) replies
+          (told_bytes (λ request. has_key e.key request.key) ys turned.requests turned.replies others kept turned.made told_too);
     }

@@ -12,7 +12,7 @@ use Rattle.hall_store.specs.Store.{Content, Leads}
 use Rattle.hall_store.proofs.Knowing.{leads_same, leads_then}
 use Rattle.hall_http.specs.declared.fault.ReplayFault.{ReplayFault}
 use Rattle.hall_http.specs.declared.fault.ReplayFault.TheVariants as fault
-use Rattle.hall_http.specs.Device.{WritesPart}
+use Rattle.hall_http.specs.Device.{WritesPart, NoneFailed, ReadFailed, WriteFailed}
 use Rattle.hall_http.specs.Reading.{at_first, after_read, after_answer}
 use Rattle.hall_http.specs.Records.{Record, IsRecord, record_bytes, header_of, NeverHasRecord, IsCut}
 use Rattle.hall_http.specs.Records.{IsUnfinishedRecord}
@@ -169,10 +169,10 @@ module _ (stream after wrote written : Option (List ℕ)) (old new : Content) (i
     }
 
     -- the text couldn't be written whole
-    pub unsent : {U : Type 0} (then : Option (List ℕ)) (read_failed write_failed : Type 0) → reads ≤ 1000000000
-        → WritesPart written then text → write_failed
-        → IsReplayed {U = U} stream after wrote then old next read_failed write_failed asked asks (Err fault.Device)
-    unsent then read_failed write_failed seldom part rose = record {
+    pub unsent : {U : Type 0} (then : Option (List ℕ)) (failed fails broke breaks : ℕ) → reads ≤ 1000000000
+        → WritesPart written then text → WriteFailed failed fails broke breaks
+        → IsReplayed {U = U} stream after wrote then old next failed fails broke breaks asked asks (Err fault.Device)
+    unsent then failed fails broke breaks seldom part rose = record {
       answered = all;
       unread = drop end inbox;
       pieces = reads;
@@ -195,12 +195,12 @@ module _ (stream after wrote written : Option (List ℕ)) (old new : Content) (i
   one_read : (later : ℕ) → Rises asks later → MadeCalls (reads + 1) asked later
   one_read later rise = one_call_more reads asked asks later kept.made rise
 
-  module _ {U : Type 0} (read_failed write_failed : Type 0) where
+  module _ {U : Type 0} (failed fails broke breaks : ℕ) where
     -- how it ends with no further record answered
     ends : (then : Option (List ℕ)) (total later : ℕ) (end : Result U ReplayFault) → Consumes after then []
         → MadeCalls total asked later → total ≤ 1000000000
-        → Ended end then wrote written kept.done inbox reads total read_failed write_failed
-        → IsReplayed {U = U} stream then wrote written old new read_failed write_failed asked later end
+        → Ended end then wrote written kept.done inbox reads total failed fails broke breaks
+        → IsReplayed {U = U} stream then wrote written old new failed fails broke breaks asked later end
     ends then total later end none made seldom ended = record {
       answered = kept.done;
       unread = inbox;
@@ -218,48 +218,49 @@ module _ (stream after wrote written : Option (List ℕ)) (old new : Content) (i
       ended = ended;
     }
 
-    pub too_many : IsUnfinishedRecord inbox → reads ≡ 1000000000
-        → IsReplayed {U = U} stream after wrote written old new read_failed write_failed asked asks (Err fault.Record)
-    too_many unfinished many =
+    pub too_many : IsUnfinishedRecord inbox → reads ≡ 1000000000 → NoneFailed failed fails broke breaks
+        → IsReplayed {U = U} stream after wrote written old new failed fails broke breaks asked asks (Err fault.Record)
+    too_many unfinished many steady =
         ends after reads asks (Err fault.Record) (Consumes-nil after) kept.made (omega arith)
-        (kept.replied, inr (unfinished, many, refl))
+        (kept.replied, steady, inr (unfinished, many, refl))
 
     -- no record begins so
-    pub never_record : reads ≤ 1000000000 → NeverHasRecord inbox
-        → IsReplayed {U = U} stream after wrote written old new read_failed write_failed asked asks (Err fault.Record)
-    never_record seldom never =
+    pub never_record : reads ≤ 1000000000 → NeverHasRecord inbox → NoneFailed failed fails broke breaks
+        → IsReplayed {U = U} stream after wrote written old new failed fails broke breaks asked asks (Err fault.Record)
+    never_record seldom never steady =
         ends after reads asks (Err fault.Record) (Consumes-nil after) kept.made seldom
-        (kept.replied, inl ((λ e. never_nil (subst NeverHasRecord e never)), inr (never, refl)))
+        (kept.replied, steady, inl ((λ e. never_nil (subst NeverHasRecord e never)), inr (never, refl)))
 
     -- after one read more
     module _ (unfinished : IsUnfinishedRecord inbox) (seldom : reads < 1000000000) (then : Option (List ℕ)) (later : ℕ)
         (rise : Rises asks later) where
       -- it was refused
-      pub unread_device : Consumes after then [] → read_failed
-          → IsReplayed {U = U} stream then wrote written old new read_failed write_failed asked later (Err fault.Device)
+      pub unread_device : Consumes after then [] → ReadFailed failed fails broke breaks
+          → IsReplayed {U = U} stream then wrote written old new failed fails broke breaks asked later (Err fault.Device)
       unread_device none rose =
           ends then (reads + 1) later (Err fault.Device) none (one_read later rise) (omega arith)
-          (inl (kept.replied, unfinished, rose, refl))
+          (inl (kept.replied, rose, unfinished, refl))
 
       -- the input is at its end
-      pub at_end : (result : Result U ReplayFault) (now : List ℕ) (rf rg : ℕ)
-          → ReadsMore after then inbox now rf rg (Ok false)
+      pub at_end : (result : Result U ReplayFault) (now : List ℕ)
+          → ReadsMore after then inbox now failed fails (Ok false) → breaks ≡ broke
           → MatchResult result (λ _. now ≡ []) (λ e. (e ≡ fault.Record) × (0 < length now))
-          → IsReplayed {U = U} stream then wrote written old new read_failed write_failed asked later result
-      at_end (Ok u) now rf rg (same, none, over, steady) empty =
-          ends then (reads + 1) later (Ok u) none (one_read later rise) (omega arith) (kept.replied, sym same ∙ empty, over, refl)
-      at_end (Err e) now rf rg (same, none, over, steady) (is, some) =
+          → IsReplayed {U = U} stream then wrote written old new failed fails broke breaks asked later result
+      at_end (Ok u) now (same, none, over, steady) whole empty =
+          ends then (reads + 1) later (Ok u) none (one_read later rise) (omega arith)
+          (kept.replied, (steady, whole), sym same ∙ empty, over, refl)
+      at_end (Err e) now (same, none, over, steady) whole (is, some) =
           rw is
           (ends then (reads + 1) later (Err fault.Record) none (one_read later rise) (omega arith) (
             kept.replied,
+            (steady, whole),
             inl (not_nil inbox (subst (λ s. 0 < length s) same some), inl (unfinished.0, over, refl)),
           ))
 
 -- nothing was read for want of memory
-pub unbegun : {U : Type 0} (stream wrote : Option (List ℕ)) (store : Content) (read_failed write_failed : Type 0)
-    (asked : ℕ) → IsReplayed {U = U} stream stream wrote wrote store store read_failed write_failed asked asked
-    (Err fault.Memory)
-unbegun stream wrote store read_failed write_failed asked = record {
+pub unbegun : {U : Type 0} (stream wrote : Option (List ℕ)) (store : Content) (failed broke asked : ℕ)
+    → IsReplayed {U = U} stream stream wrote wrote store store failed failed broke broke asked asked (Err fault.Memory)
+unbegun stream wrote store failed broke asked = record {
   answered = [];
   unread = [];
   pieces = 0;
@@ -272,5 +273,5 @@ unbegun stream wrote store read_failed write_failed asked = record {
   reading = at_first;
   consumed = Consumes-nil stream;
   bounded = omega arith;
-  ended = (Appends-nil wrote, refl, refl, refl);
+  ended = (Appends-nil wrote, (refl, refl), refl, refl, refl);
 }

@@ -6,7 +6,7 @@ use Rattle.std.specs.List.{list_all}
 use Rattle.std.specs.Char.{is_ascii_digit}
 use Rattle.std.specs.Str.{str_eq_ignore_ascii_case}
 use Rattle.std.specs.Str.Parse.{digits_value}
-use Rattle.httparse.specs.Grammar.{RequestHead, print_request, ReadsRequest, MayBecomeRequest}
+use Rattle.httparse.specs.Grammar.{RequestHead, print_request, ReadsRequest, HasNoRequest, MayBecomeRequest}
 use Rattle.httparse.specs.Spans.{name_and_value}
 use Rattle.hall_http.specs.declared.head.Found.{Found}
 use Rattle.hall_http.specs.declared.head.Found.TheVariants as found
@@ -91,11 +91,12 @@ abbrev pub MayBecomeWhole : List ℕ → Type 0
 MayBecomeWhole bytes = (more : List ℕ) × IsWhole (bytes ++ more)
 
 -- No front of the bytes is a whole request, and they are fewer than the longest one has: they lack a part of a body
--- alone; or some bytes can follow that make them a head of the grammar, or its target is still being read.
+-- alone; or they have no head of the grammar yet, and some bytes can follow that give them one, or its target is still
+-- being read.
 pub record IsUnfinished (bytes : List ℕ) : Type 0 where
   pub none : HasNone bytes
   pub short : length bytes < head_limit + body_limit
-  pub possible : MayBecomeWhole bytes ⊎ ((length bytes < head_limit) × MayBecomeRequest bytes)
+  pub possible : MayBecomeWhole bytes ⊎ ((length bytes < head_limit) × HasNoRequest bytes × MayBecomeRequest bytes)
 
 -- the value that the first of these headers has
 abbrev pub first_value : List Header → Option (List ℕ)

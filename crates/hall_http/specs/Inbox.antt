@@ -1,7 +1,7 @@
 -- What one read of a stream adds to the bytes that wait.
 use Rattle.std.specs.Prelude.{◌≡◌, ◌<◌, ◌≤◌, ◌++◌, ℕ, List, [], length, Option, Result, Ok, Err, Bool, true, false}
 use Rattle.std.specs.Io.KnownBytes.{Consumes, IsAtEnd}
-use Rattle.hall_grid.specs.Device.{HasFailed}
+use Rattle.hall_grid.specs.Device.{Rises}
 use Rattle.hall_http.specs.declared.inbox.ReadFault.{ReadFault}
 use Rattle.hall_http.specs.declared.inbox.ReadFault.TheVariants as fault
 
@@ -15,6 +15,6 @@ ReadsMore stream after old new failed fails (Ok true) =
 ReadsMore stream after old new failed fails (Ok false) =
     (new ≡ old) × Consumes stream after [] × IsAtEnd after × (fails ≡ failed)
 ReadsMore stream after old new failed fails (Err fault.Device) =
-    (new ≡ old) × Consumes stream after [] × HasFailed failed fails
+    (new ≡ old) × Consumes stream after [] × Rises failed fails
 ReadsMore stream after old new failed fails (Err fault.Memory) =
     (77824 < length old) × (piece : List ℕ) × Consumes stream after piece × (fails ≡ failed)

@@ -1,6 +1,7 @@
 -- Connections served one after another.
 use Rattle.std.specs.Prelude.{◌≡◌, ◌<◌, ◌⊎◌, ℕ, zero, suc, List, Option, Result}
 use Rattle.std.specs.declared.alloc.AllocError.{AllocError}
+use Rattle.hall_grid.specs.Device.{Tally}
 use Rattle.hall_store.specs.Store.{Content}
 use Rattle.hall_http.specs.Line.{IsLineServed}
 use Rattle.hall_http.specs.declared.connection.ServeEnd.{ServeEnd}
@@ -9,14 +10,17 @@ use Rattle.hall_http.specs.declared.listener.Accepted.TheVariants as accepted
 use Rattle.hall_http.specs.declared.listener.ServeAllEnd.{ServeAllEnd}
 use Rattle.hall_http.specs.declared.listener.ServeAllEnd.TheVariants as end
 
-module _ {A L R W H C : Type 0} (accepts : A → Accepted L → A → Type 0) (hands_out : L → R → W → L → Type 0)
-    (refuses : L → L → Type 0) (hears : L → W → L → Type 0) (remaining : R → Option (List ℕ))
-    (contents : W → Option (List ℕ)) (content : H → Content) (now_gives : C → Option ℕ → C → Type 0) where
-  -- the next line was let in and its connection served, whatever its end, or it went away before
+module _ {A L R W H C : Type 0} (accepts : A → Accepted L → A → Type 0) (lets_go : A → L → A → Type 0)
+    (hands_out : L → R → W → L → Type 0) (refuses : L → L → Type 0) (hears : L → Tally R → Tally W → L → Type 0)
+    (remaining : R → Option (List ℕ)) (contents : W → Option (List ℕ)) (content : H → Content)
+    (now_gives : C → Option ℕ → C → Type 0) where
+  -- the next line was let in, its connection served, whatever its end, and the line let go, before the next one is let
+  -- in; or it went away before
   abbrev pub IsTurn : A → H → C → A → H → C → Type 0
   IsTurn a h c b i d =
-      ((line left : L) × (result : Result ServeEnd AllocError) × accepts a (accepted.Line line) b
-      × IsLineServed hands_out refuses hears remaining contents content now_gives line h c left i d result)
+      ((held : A) × (line left : L) × (result : Result ServeEnd AllocError) × accepts a (accepted.Line line) held
+      × IsLineServed hands_out refuses hears remaining contents content now_gives line h c left i d result
+      × lets_go held left b)
       ⊎ (accepts a accepted.Gone b × (i ≡ h) × (d ≡ c))
 
   -- so many lines came, one after another

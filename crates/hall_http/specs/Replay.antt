@@ -6,7 +6,7 @@ use Rattle.hall_grid.specs.Device.{MadeCalls}
 use Rattle.hall_store.specs.Store.{Content, Leads}
 use Rattle.hall_http.specs.declared.fault.ReplayFault.{ReplayFault}
 use Rattle.hall_http.specs.declared.fault.ReplayFault.TheVariants as fault
-use Rattle.hall_http.specs.Device.{WritesPart}
+use Rattle.hall_http.specs.Device.{WritesPart, NoneFailed, ReadFailed, WriteFailed}
 use Rattle.hall_http.specs.Connection.{Exchange}
 use Rattle.hall_http.specs.Serving.{RunsOver}
 use Rattle.hall_http.specs.Reading.{Reading, IsLast}
@@ -52,25 +52,28 @@ StopsAtLast wrote written xs unread pieces =
 
 -- How the replay ended: what was written, and why it ended. `pieces` of its `reads` gave bytes. Well: a read told the
 -- end of the input, and nothing is left. `Record`: what is left is no record, or a thousand million reads gave bytes
--- and what is left is unfinished. `Device`: a read or a write failed. `Memory`: before the first read.
+-- and what is left is unfinished. `Device`: a read or a write failed, once. `Memory`: before the first read. No other call
+-- failed: it ended at the first that did.
 abbrev pub Ended : {U : Type 0} → Result U ReplayFault → Option (List ℕ) → Option (List ℕ) → Option (List ℕ)
-    → List AnsweredRecord → List ℕ → ℕ → ℕ → Type 0 → Type 0 → Type 0
-Ended (Ok done) after wrote written xs unread pieces reads read_failed write_failed =
-    Appends wrote written (replies_to xs) × (unread ≡ []) × IsAtEnd after × (reads ≡ pieces + 1)
-Ended (Err fault.Record) after wrote written xs unread pieces reads read_failed write_failed =
-    Appends wrote written (replies_to xs)
+    → List AnsweredRecord → List ℕ → ℕ → ℕ → ℕ → ℕ → ℕ → ℕ → Type 0
+Ended (Ok done) after wrote written xs unread pieces reads failed fails broke breaks =
+    Appends wrote written (replies_to xs) × NoneFailed failed fails broke breaks × (unread ≡ []) × IsAtEnd after
+    × (reads ≡ pieces + 1)
+Ended (Err fault.Record) after wrote written xs unread pieces reads failed fails broke breaks =
+    Appends wrote written (replies_to xs) × NoneFailed failed fails broke breaks
     × (LacksRecord after unread pieces reads
     ⊎ (IsUnfinishedRecord unread × (reads ≡ 1000000000) × (reads ≡ pieces)))
-Ended (Err fault.Device) after wrote written xs unread pieces reads read_failed write_failed =
-    (Appends wrote written (replies_to xs) × IsUnfinishedRecord unread × read_failed × (reads ≡ pieces + 1))
-    ⊎ (StopsAtLast wrote written xs unread pieces × write_failed × (reads ≡ pieces))
-Ended (Err fault.Memory) after wrote written xs unread pieces reads read_failed write_failed =
-    Appends wrote written [] × (xs ≡ []) × (unread ≡ []) × (reads ≡ 0)
+Ended (Err fault.Device) after wrote written xs unread pieces reads failed fails broke breaks =
+    (Appends wrote written (replies_to xs) × ReadFailed failed fails broke breaks × IsUnfinishedRecord unread
+    × (reads ≡ pieces + 1))
+    ⊎ (StopsAtLast wrote written xs unread pieces × WriteFailed failed fails broke breaks × (reads ≡ pieces))
+Ended (Err fault.Memory) after wrote written xs unread pieces reads failed fails broke breaks =
+    Appends wrote written [] × NoneFailed failed fails broke breaks × (xs ≡ []) × (unread ≡ []) × (reads ≡ 0)
 
 -- the stream was read, in at most a thousand million reads, as these records and then this rest, the records were
 -- answered, each before a further read, by the replies of a run of the hall, and the replay ended so
 pub record IsReplayed {U : Type 0} (stream after wrote written : Option (List ℕ)) (old new : Content)
-    (read_failed write_failed : Type 0) (asked asks : ℕ) (end : Result U ReplayFault) : Type 0 where
+    (failed fails broke breaks asked asks : ℕ) (end : Result U ReplayFault) : Type 0 where
   pub answered : List AnsweredRecord
   pub unread : List ℕ
   pub pieces : ℕ
@@ -83,4 +86,4 @@ pub record IsReplayed {U : Type 0} (stream after wrote written : Option (List �
   pub reading : HaveReadRecords answered pieces unread
   pub consumed : Consumes stream after (records_of answered ++ unread)
   pub bounded : length unread ≤ 81920
-  pub ended : Ended end after wrote written answered unread pieces reads read_failed write_failed
+  pub ended : Ended end after wrote written answered unread pieces reads failed fails broke breaks

@@ -6,7 +6,7 @@ use Rattle.hall_grid.specs.Device.{MadeCalls}
 use Rattle.hall_store.specs.Store.{Content, Leads}
 use Rattle.hall_http.specs.Head.{IsWhole, IsUnfinished, NeverHas}
 use Rattle.hall_http.specs.Reading.{Reading, IsLast}
-use Rattle.hall_http.specs.Device.{WritesPart}
+use Rattle.hall_http.specs.Device.{WritesPart, NoneFailed, ReadFailed, WriteFailed}
 use Rattle.hall_http.specs.Connection.{Exchange, Session, requests_of, replies_of, AreOpen, IsClosing}
 use Rattle.hall_http.specs.Serving.{AreMoments, AreAnswered, RunsOver}
 use Rattle.hall_http.specs.Reply.{wire_bytes, fault_status, fault_data}
@@ -66,28 +66,30 @@ BreaksRefusal wrote written xs =
 -- How the connection ended: what was written, and why it ended. `pieces` of its `reads` gave bytes. `Closed`: a read
 -- told the end of the input and nothing is left, or the last request closes. `BadHead`: what is left is no request.
 -- `Limit`: 1,000 requests were answered and nothing was read after; or 100,000 reads gave bytes, and what is left is
--- unfinished. `Device`: a read or a write failed.
+-- unfinished. `Device`: a read or a write failed, once. No other call failed: it ended at the first that did.
 abbrev pub Ended : ServeEnd → Option (List ℕ) → Option (List ℕ) → Option (List ℕ) → List Exchange → List ℕ → ℕ → ℕ
-    → Type 0 → Type 0 → Type 0
-Ended end.Closed after wrote written xs unread pieces reads read_failed write_failed =
-    Appends wrote written (replies_of xs)
+    → ℕ → ℕ → ℕ → ℕ → Type 0
+Ended end.Closed after wrote written xs unread pieces reads failed fails broke breaks =
+    Appends wrote written (replies_of xs) × NoneFailed failed fails broke breaks
     × ((MayGoOn xs × (unread ≡ []) × IsAtEnd after × (reads ≡ pieces + 1))
     ⊎ (ClosesLast xs unread pieces × (reads ≡ pieces)))
-Ended end.BadHead after wrote written xs unread pieces reads read_failed write_failed =
-    Appends wrote written (replies_of xs ++ refusal) × MayGoOn xs × IsNoRequest after unread pieces reads
-Ended end.Limit after wrote written xs unread pieces reads read_failed write_failed =
-    Appends wrote written (replies_of xs) × AreOpen xs × (reads ≡ pieces)
+Ended end.BadHead after wrote written xs unread pieces reads failed fails broke breaks =
+    Appends wrote written (replies_of xs ++ refusal) × NoneFailed failed fails broke breaks × MayGoOn xs
+    × IsNoRequest after unread pieces reads
+Ended end.Limit after wrote written xs unread pieces reads failed fails broke breaks =
+    Appends wrote written (replies_of xs) × NoneFailed failed fails broke breaks × AreOpen xs × (reads ≡ pieces)
     × (HasAnsweredAll xs unread pieces ⊎ ((length xs < 1000) × (reads ≡ 100000) × IsUnfinished unread))
-Ended end.Device after wrote written xs unread pieces reads read_failed write_failed =
-    (Appends wrote written (replies_of xs) × MayGoOn xs × IsUnfinished unread × read_failed × (reads ≡ pieces + 1))
-    ⊎ (BreaksLast wrote written xs unread pieces × write_failed × (reads ≡ pieces))
-    ⊎ (BreaksRefusal wrote written xs × IsNoRequest after unread pieces reads × write_failed)
+Ended end.Device after wrote written xs unread pieces reads failed fails broke breaks =
+    (Appends wrote written (replies_of xs) × ReadFailed failed fails broke breaks × MayGoOn xs × IsUnfinished unread
+    × (reads ≡ pieces + 1))
+    ⊎ (BreaksLast wrote written xs unread pieces × WriteFailed failed fails broke breaks × (reads ≡ pieces))
+    ⊎ (BreaksRefusal wrote written xs × WriteFailed failed fails broke breaks × IsNoRequest after unread pieces reads)
 
 -- the stream was read, in at most 100,000 reads, as at most 1,000 requests and then this rest, a handler answered the
 -- requests, each before a further read, and the connection ended so
 pub record IsHandled {H C : Type 0} (answers : H → Option ℕ → List ℕ → List ℕ → H → Type 0)
     (now_gives : C → Option ℕ → C → Type 0) (stream after wrote written : Option (List ℕ))
-    (h : H) (c : C) (i : H) (d : C) (read_failed write_failed : Type 0) (asked asks : ℕ) (end : ServeEnd) : Type 0 where
+    (h : H) (c : C) (i : H) (d : C) (failed fails broke breaks asked asks : ℕ) (end : ServeEnd) : Type 0 where
   pub exchanges : List Exchange
   pub unread : List ℕ
   pub pieces : ℕ
@@ -99,14 +101,14 @@ pub record IsHandled {H C : Type 0} (answers : H → Option ℕ → List ℕ →
   pub reading : HaveRead exchanges pieces unread
   pub consumed : Consumes stream after (requests_of exchanges ++ unread)
   pub bounded : length unread ≤ 81920
-  pub ended : Ended end after wrote written exchanges unread pieces reads read_failed write_failed
+  pub ended : Ended end after wrote written exchanges unread pieces reads failed fails broke breaks
 
 -- The stream was read, in at most 100,000 reads, as at most 1,000 requests and then this rest, the requests were
 -- answered over a store at the clock's moments, each before a further read and over the store that the one before it
 -- left, by the replies of a run of the hall, and the connection ended so.
 pub record IsServed {H C : Type 0} (content : H → Content) (now_gives : C → Option ℕ → C → Type 0)
     (stream after wrote written : Option (List ℕ)) (old : H) (clock : C) (new : H) (later : C)
-    (read_failed write_failed : Type 0) (asked asks : ℕ) (end : ServeEnd) : Type 0 where
+    (failed fails broke breaks asked asks : ℕ) (end : ServeEnd) : Type 0 where
   pub exchanges : List Exchange
   pub unread : List ℕ
   pub pieces : ℕ
@@ -122,4 +124,4 @@ pub record IsServed {H C : Type 0} (content : H → Content) (now_gives : C → 
   pub reading : HaveRead exchanges pieces unread
   pub consumed : Consumes stream after (requests_of exchanges ++ unread)
   pub bounded : length unread ≤ 81920
-  pub ended : Ended end after wrote written exchanges unread pieces reads read_failed write_failed
+  pub ended : Ended end after wrote written exchanges unread pieces reads failed fails broke breaks

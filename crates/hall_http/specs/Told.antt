@@ -1,5 +1,5 @@
 -- What the bytes of replies tell of replies, and to one key.
-use Rattle.std.specs.Prelude.{◌≡◌, ◌≢◌, ◌&&◌, ◌⊎◌, ℕ, Bool, true, List, [], ◌∷◌, Some, All, Ok, IsTrue, map}
+use Rattle.std.specs.Prelude.{◌≡◌, ◌≢◌, ◌&&◌, ◌⊎◌, ℕ, Bool, true, List, [], ◌∷◌, Some, All, Ok, IsTrue}
 use Rattle.std.specs.FinMap.{get}
 use Rattle.hall_policy.specs.World.{World}
 use Rattle.hall_policy.specs.OwnAlike.{is_entrant_alone}
@@ -10,8 +10,8 @@ use Rattle.hall_policy.specs.declared.request.Action.TheVariants.{Publish}
 use Rattle.hall_policy.specs.declared.request.Request.{Request}
 use Rattle.hall_store.specs.Caller.{caller_of}
 use Rattle.hall_desk.specs.Sane.{Sane}
-use Rattle.hall_desk.specs.Without.{is_other_person, stays, certifies, replies_where, has_key}
-use Rattle.hall_desk.specs.Exchanged.{swapped, exchanged_request, blank, IsSealedRound}
+use Rattle.hall_desk.specs.Without.{is_other_person, stays, certifies, replies_where, replies_to, has_key}
+use Rattle.hall_desk.specs.Exchanged.{swapped, exchanged_request, exchanged_replies, IsSealedRound}
 use Rattle.hall_desk.specs.declared.reply.Reply.{Reply}
 use Rattle.hall_desk.specs.declared.reply.Reply.TheVariants.{Unavailable as NotServed}
 use Rattle.hall_http.specs.Request.{RequestOf}
@@ -95,18 +95,17 @@ AreBytes [] texts = texts ≡ []
 AreBytes (given ∷ replies) texts =
     (text : List ℕ) × (rest : List (List ℕ)) × (texts ≡ text ∷ rest) × BytesOf given text × AreBytes replies rest
 
--- the texts are the bytes of replies that are the same but for the texts of the answers listed
-pub record AreBytesButTexts (texts others : List (List ℕ)) : Type 0 where
-  pub replies : List Reply
-  pub answers : List Reply
-  pub first : AreBytes replies texts
-  pub second : AreBytes answers others
-  pub same : map blank replies ≡ map blank answers
+-- the first texts are the bytes of the replies to the requests with the key, and the others those of the same replies
+-- in which a stands for b and b for a wherever one of them is listed as an answer to the round r
+pub record AreBytesExchanged (r a b key : List ℕ) (requests : List (ℕ × Request)) (replies : List Reply)
+    (texts others : List (List ℕ)) : Type 0 where
+  pub first : AreBytes (replies_to key requests replies) texts
+  pub second : AreBytes (replies_to key requests (exchanged_replies r a b requests replies)) others
 
--- until a sealed round's end, the replies' bytes don't tell e which of two texts is the answer: two runs of the hall from
--- a sane world, over bytes and over those in which two answers to the round are exchanged, write to the requests with
--- e's key the bytes of replies that are the same but for the texts of the answers listed; where no reply is 503, and
--- each request to certify is answered alike
+-- until a sealed round's end, the replies' bytes don't tell e which of two texts is the answer: two runs of the hall
+-- from a sane world, over bytes and over those in which two answers to the round are exchanged, write to the requests
+-- with e's key the bytes of the same replies, with the two texts exchanged where answers to the round are listed; where
+-- no reply is 503, and each request to certify is answered alike
 abbrev pub BytesHideAnswers : Type 0
 BytesHideAnswers =
     (world last end : World) (r a b : List ℕ) (round : Round) (e : Person) (xs ys : List Exchange)
@@ -116,4 +115,5 @@ BytesHideAnswers =
     AreExchanged r a b xs ys → AllServed xs → AllServed ys →
     replies_where certifies whole.requests whole.replies ≡ replies_where certifies turned.requests turned.replies →
     AreTold (λ request. has_key e.key request.key) xs texts →
-    AreTold (λ request. has_key e.key request.key) ys others → AreBytesButTexts texts others
+    AreTold (λ request. has_key e.key request.key) ys others →
+    AreBytesExchanged r a b e.key whole.requests whole.replies texts others

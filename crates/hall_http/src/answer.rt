@@ -39,7 +39,8 @@ impl Answer {
 
 /// Answers the bytes of one request at the moment, and makes its change.
 ///
-/// The reply is there before the change: where either is refused, nothing is changed, and the answer is 503. Bytes that
+/// The reply is there before the change: where either is refused, nothing is changed while the store serves, and the
+/// answer is 503. Bytes that
 /// aren't one whole request are answered by the first fault of their form; no rule is asked, and the desk stays as it
 /// was. A sane world stays sane.
 pub fn answer_bytes<S: Store>(

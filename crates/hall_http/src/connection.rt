@@ -1,6 +1,5 @@
 //! One connection: requests are read, answered and their replies written, one after another.
 ghost use Rattle.std.specs.Prelude.{◌≡◌, [], ℕ, Option, IfOk, OnErr};
-ghost use Rattle.hall_grid.specs.Device.{HasFailed};
 ghost use Rattle.hall_desk.specs.Desk.{kept_by, SaneThen};
 ghost use Rattle.hall_desk.specs.Sane.{Sane};
 ghost use Rattle.hall_desk.specs.Promises.{HasUniqueSolutions, RightAnswersAreSolutions};
@@ -46,11 +45,11 @@ pub trait Clock {
 pub enum ServeEnd {
     /// At the end of the input, or after a request that closes it.
     Closed,
-    /// After a thousand requests, or a hundred thousand reads that gave bytes.
+    /// After a thousand requests, or a hundred thousand reads.
     Limit,
     /// At bytes that are no request.
     BadHead,
-    /// At a read or a write that failed.
+    /// At the one read or write that failed.
     Device,
 }
 
@@ -66,6 +65,7 @@ pub(crate) enum Turn {
 ///
 /// Refused for memory, it has read nothing. A request is answered before anything more is read, and its reply written
 /// once its change is made. Bytes that are no request are answered by the fault of their form, and end the connection.
+/// The first read or write that fails ends it too, and none is tried again.
 pub fn serve<S: Store, R: Read, W: Write, C: Clock>(
     alloc: Global,
     desk: &mut Desk<S>,
@@ -81,7 +81,7 @@ pub fn serve<S: Store, R: Read, W: Write, C: Clock>(
         (R.remaining reader.old.device) (R.remaining reader.new.device)
         (W.contents writer.old.device) (W.contents writer.new.device)
         (kept_by desk.old) clock.old (kept_by desk.new) clock.new
-        (HasFailed reader.old.failures reader.new.failures) (HasFailed writer.old.failures writer.new.failures)
+        reader.old.failures reader.new.failures writer.old.failures writer.new.failures
         reader.old.calls reader.new.calls) }
     ensures sane { SaneThen Sane (S.content (kept_by desk.old)) (S.content (kept_by desk.new)) }
     ensures unique { SaneThen HasUniqueSolutions (S.content (kept_by desk.old)) (S.content (kept_by desk.new)) }
@@ -105,7 +105,7 @@ fn serve_requests<H: Handler, R: Read, W: Write, C: Clock>(
     ensures { IsHandled H.answers C.now_gives
         (R.remaining reader.old.device) (R.remaining reader.new.device)
         (W.contents writer.old.device) (W.contents writer.new.device) handler.old clock.old handler.new clock.new
-        (HasFailed reader.old.failures reader.new.failures) (HasFailed writer.old.failures writer.new.failures)
+        reader.old.failures reader.new.failures writer.old.failures writer.new.failures
         reader.old.calls reader.new.calls result }
 {
     let mut requests = 0;

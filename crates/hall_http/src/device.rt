@@ -1,18 +1,18 @@
 //! Whole output.
 ghost use Rattle.std.specs.Prelude.{◌≡◌, OnOk, OnErr};
 ghost use Rattle.std.specs.Io.KnownBytes.{Appends};
-ghost use Rattle.hall_grid.specs.Device.{HasFailed};
+ghost use Rattle.hall_grid.specs.Device.{Rises};
 ghost use Rattle.hall_http.specs.Device.{WritesPart};
 
 use crate::fault::DeviceFault;
 use hall_grid::Counted;
 use std::io::Write;
 
-/// Writes all the bytes. Where that fails, a first part of them was written.
+/// Writes all the bytes. At the first write that fails it ends, and a first part of them was written.
 pub fn write_all<W: Write>(writer: &mut Counted<W>, bytes: &[u8]) -> Result<(), DeviceFault>
     ensures written { OnOk result (Appends (W.contents writer.old.device) (W.contents writer.new.device) bytes.now) }
     ensures same { OnOk result (writer.new.failures ≡ writer.old.failures) }
-    ensures device { OnErr result (HasFailed writer.old.failures writer.new.failures) }
+    ensures device { OnErr result (Rises writer.old.failures writer.new.failures) }
     ensures part { OnErr result (WritesPart (W.contents writer.old.device) (W.contents writer.new.device) bytes.now) }
 {
     let mut rest = bytes;

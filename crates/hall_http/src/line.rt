@@ -18,17 +18,19 @@ const LAST_READS: usize = 64;
 
 /// The line to one client.
 pub trait Line {
+    ghost use Rattle.hall_grid.specs.Device.{Tally};
+
     type Reader: Read + Drop;
 
     type Writer: Write + Drop;
 
     // Each is told of the line before and after: set up, it handed out these two ends; it refused to be set up; it was
-    // told that this writer writes no more.
+    // told that nothing more is written, once these two had been called so often.
     ghost hands_out: { Self → Self.Reader → Self.Writer → Self → Type 0 };
 
     ghost refuses: { Self → Self → Type 0 };
 
-    ghost hears: { Self → Self.Writer → Self → Type 0 };
+    ghost hears: { Self → Tally Self.Reader → Tally Self.Writer → Self → Type 0 };
 
     /// Has each reply sent at once and no read or write wait for ever, and hands out what the client sends and what it
     /// is sent. A line that can't be told so refuses.
@@ -37,8 +39,8 @@ pub trait Line {
         ensures refused { OnErr result (refuses self.old self.new) };
 
     /// Tells the client that no more is written, and has no read wait long from now on.
-    fn end_writing(&mut self, writer: Self::Writer)
-        ensures { hears self.old writer self.new };
+    fn end_writing(&mut self, reader: &Counted<Self::Reader>, writer: Counted<Self::Writer>)
+        ensures { hears self.old reader.now writer self.new };
 }
 
 /// Serves one connection over a line, and hangs up.
@@ -64,7 +66,7 @@ pub fn serve_line<S: Store, L: Line, C: Clock>(
     let mut reader = Counted::new(reader);
     let mut writer = Counted::new(writer);
     let ended = serve(alloc, desk, &mut reader, &mut writer, clock);
-    line.end_writing(writer.into_inner());
+    line.end_writing(&reader, writer);
     read_off(&mut reader);
     ended
 }

@@ -30,9 +30,15 @@ pub trait Listener {
 
     ghost accepts: { Self → Accepted Self.Line → Self → Type 0 };
 
+    ghost lets_go: { Self → Self.Line → Self → Type 0 };
+
     /// Waits for the next line.
     fn accept(&mut self) -> Accepted<Self::Line>
         ensures { accepts self.old result self.new };
+
+    /// Takes back a line that it let in, as it was left, and lets it go.
+    fn let_go(&mut self, line: Self::Line)
+        ensures { lets_go self.old line self.new };
 }
 
 /// How serving one connection after another ended.
@@ -44,7 +50,7 @@ pub enum ServeAllEnd {
     Refused,
 }
 
-/// Serves so many connections, one after another, however each ends.
+/// Serves so many connections, one after another, however each ends: the next line is let in once the last is let go.
 pub fn serve_all<S: Store, L: Listener, C: Clock>(
     alloc: Global,
     desk: &mut Desk<S>,
@@ -52,9 +58,9 @@ pub fn serve_all<S: Store, L: Listener, C: Clock>(
     clock: &mut C,
     connections: u64,
 ) -> ServeAllEnd
-    ensures served { AreServed L.accepts L.Line.hands_out L.Line.refuses L.Line.hears L.Line.Reader.remaining
-        L.Line.Writer.contents S.content C.now_gives connections listener.old (kept_by desk.old) clock.old
-        listener.new (kept_by desk.new) clock.new result }
+    ensures served { AreServed L.accepts L.lets_go L.Line.hands_out L.Line.refuses L.Line.hears
+        L.Line.Reader.remaining L.Line.Writer.contents S.content C.now_gives connections listener.old
+        (kept_by desk.old) clock.old listener.new (kept_by desk.new) clock.new result }
     ensures sane { SaneThen Sane (S.content (kept_by desk.old)) (S.content (kept_by desk.new)) }
     ensures unique { SaneThen HasUniqueSolutions (S.content (kept_by desk.old)) (S.content (kept_by desk.new)) }
     ensures right { SaneThen RightAnswersAreSolutions (S.content (kept_by desk.old)) (S.content (kept_by desk.new)) }
@@ -63,6 +69,7 @@ pub fn serve_all<S: Store, L: Listener, C: Clock>(
         match listener.accept() {
             Accepted::Line(mut line) => {
                 let _ended = serve_line(alloc, desk, &mut line, clock);
+                listener.let_go(line);
             }
             Accepted::Gone => {}
             Accepted::Refused => return ServeAllEnd::Refused,
@@ -76,11 +83,17 @@ impl Listener for TcpListener {
 
     ghost accepts = { λ _ _ _. Unit {0} };
 
+    ghost lets_go = { λ _ _ _. Unit {0} };
+
     fn accept(&mut self) -> Accepted<TcpStream> {
         match TcpListener::accept(self) {
             Ok((stream, _)) => Accepted::Line(stream),
             Err(error) if error.kind() == ErrorKind::ConnectionAborted => Accepted::Gone,
             Err(_) => Accepted::Refused,
         }
+    }
+
+    fn let_go(&mut self, line: TcpStream) {
+        drop(line);
     }
 }

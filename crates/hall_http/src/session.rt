@@ -1,7 +1,7 @@
 //! A replay: the records of an input, answered one after another.
 ghost use Rattle.std.specs.Prelude.{◌≡◌, ◌<◌, [], IfOk, OnOk, OnErr, MatchResult, length};
 ghost use Rattle.std.specs.Io.KnownBytes.{Appends};
-ghost use Rattle.hall_grid.specs.Device.{HasFailed};
+ghost use Rattle.hall_grid.specs.Device.{Rises};
 ghost use Rattle.hall_desk.specs.Desk.{kept_by, SaneThen};
 ghost use Rattle.hall_desk.specs.Sane.{Sane};
 ghost use Rattle.hall_desk.specs.Promises.{HasUniqueSolutions, RightAnswersAreSolutions};
@@ -31,7 +31,7 @@ pub(crate) fn send<W: Write>(writer: &mut Counted<W>, answer: Answer) -> Result<
     ensures same { OnOk result (writer.new.failures ≡ writer.old.failures) }
     ensures part { OnErr result
         (WritesPart (W.contents writer.old.device) (W.contents writer.new.device) (answer_text answer)) }
-    ensures device { OnErr result (HasFailed writer.old.failures writer.new.failures) }
+    ensures device { OnErr result (Rises writer.old.failures writer.new.failures) }
 {
     write_all(writer, answer.as_bytes())
 }
@@ -47,9 +47,9 @@ pub(crate) fn routes_and_inbox(alloc: Global) -> Result<(Routes, Inbox), AllocEr
 
 /// Answers the records of the input, and writes the replies.
 ///
-/// Ends well where the input held whole records and no more. Refused for memory, it has read nothing. A device's fault
-/// leaves the records handled made, the last one's reply perhaps unsent; any other fault comes after the replies of the
-/// records before. A sane world stays sane.
+/// Ends well where the input held whole records and no more. Refused for memory, it has read nothing. It ends at the
+/// first read or write that fails: the records handled are made, the last one's reply perhaps unsent. Any other fault
+/// comes after the replies of the records before. A sane world stays sane.
 pub fn replay<R: Read, W: Write, S: Store>(
     alloc: Global,
     desk: &mut Desk<S>,
@@ -59,7 +59,7 @@ pub fn replay<R: Read, W: Write, S: Store>(
     ensures replayed { IsReplayed (R.remaining reader.old.device) (R.remaining reader.new.device)
         (W.contents writer.old.device) (W.contents writer.new.device)
         (S.content (kept_by desk.old)) (S.content (kept_by desk.new))
-        (HasFailed reader.old.failures reader.new.failures) (HasFailed writer.old.failures writer.new.failures)
+        reader.old.failures reader.new.failures writer.old.failures writer.new.failures
         reader.old.calls reader.new.calls result }
     ensures sane { SaneThen Sane (S.content (kept_by desk.old)) (S.content (kept_by desk.new)) }
     ensures unique { SaneThen HasUniqueSolutions (S.content (kept_by desk.old)) (S.content (kept_by desk.new)) }
@@ -82,7 +82,7 @@ fn answer_records<R: Read, W: Write, S: Store>(
     ensures { IsReplayed (R.remaining reader.old.device) (R.remaining reader.new.device)
         (W.contents writer.old.device) (W.contents writer.new.device)
         (S.content (kept_by desk.old)) (S.content (kept_by desk.new))
-        (HasFailed reader.old.failures reader.new.failures) (HasFailed writer.old.failures writer.new.failures)
+        reader.old.failures reader.new.failures writer.old.failures writer.new.failures
         reader.old.calls reader.new.calls result }
 {
     let mut reads = 0;

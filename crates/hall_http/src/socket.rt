@@ -1,5 +1,6 @@
 //! A socket as a line.
 use crate::line::Line;
+use hall_grid::Counted;
 use std::io;
 use std::net::{Shutdown, TcpStream};
 use std::time::Duration;
@@ -20,7 +21,7 @@ impl Line for TcpStream {
 
     ghost refuses = { λ _ _. Unit {0} };
 
-    ghost hears = { λ _ _ _. Unit {0} };
+    ghost hears = { λ _ _ _ _. Unit {0} };
 
     fn set_up(&mut self) -> io::Result<(TcpStream, TcpStream)> {
         let patience = Some(Duration::from_secs(PATIENCE));
@@ -30,8 +31,10 @@ impl Line for TcpStream {
         Ok((self.try_clone()?, self.try_clone()?))
     }
 
-    fn end_writing(&mut self, writer: TcpStream) {
-        let _shut = writer.shutdown(Shutdown::Write);
+    fn end_writing(&mut self, _reader: &Counted<TcpStream>, writer: Counted<TcpStream>)
+        ensures { Unit {0} }
+    {
+        let _shut = writer.into_inner().shutdown(Shutdown::Write);
         let _patient = self.set_read_timeout(Some(Duration::from_secs(LAST_PATIENCE)));
     }
 }

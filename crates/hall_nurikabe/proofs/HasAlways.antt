@@ -52,7 +52,7 @@ module _ (board : Board) (kind : board.kind ≡ Nurikabe) (p : List (Option ℕ)
 
   -- the white cells of one group
   module _ (labels : List (Option ℕ)) (a : AreComponents (cells board.size) (Touch board.size) (IsSetTo p 0) labels) where
-    island : (f : List ℕ) → Solves (question_of Nurikabe board) p f → (c d label : ℕ) → IsLabelled labels c label → IsLabelled labels d label → InIsland board.size f c d
+    pub island : (f : List ℕ) → Solves (question_of Nurikabe board) p f → (c d label : ℕ) → IsLabelled labels c label → IsLabelled labels d label → InIsland board.size f c d
     island f s c d label h k =
         white_walk f s c d (walk_from_label (cells board.size) (Touch board.size) (IsSetTo p 0) labels a (Touch-turn board.size) c d label h k)
 

@@ -11,7 +11,9 @@ pub mod AreForced
 pub mod AreRegions
 pub mod HasAlways
 pub mod Raises
+pub mod AreSources
 pub mod AreStepsLeft
+pub mod Trials
 pub mod MustGrow
 pub mod KnowsExits
 pub mod NeedsMore

@@ -1,14 +1,10 @@
 -- What is left in cells, as it is raised.
-use Rattle.std.proofs.Common.{◌≡◌, ℕ, ◌+◌, ◌<◌, ◌≤◌, ◌++◌, List, [], ◌∷◌, Some, length, get_or, set, refl, sym, ◌∙◌, subst, inl, inr, arith}
-use Rattle.std.specs.Prelude.{slice_get}
+use Rattle.std.proofs.Common.{◌≡◌, ℕ, ◌+◌, ◌<◌, ◌≤◌, List, length, get_or, set, refl, sym, ◌∙◌, subst, inl, inr, arith}
 use Rattle.std.proofs.lemmas.Bool.{cases_eq}
-use Rattle.std.proofs.lemmas.Option.{slice_get_within}
-use Rattle.std.proofs.lemmas.List.{get_or-set_same, get_or-set_other, get_or_push, get_or_append_left, length-set, length_push}
+use Rattle.std.proofs.lemmas.List.{get_or-set_same, get_or-set_other, length-set}
 use Rattle.hall_grid.specs.declared.board.Size.{Size}
-use Rattle.hall_grid.specs.declared.board.Clue.{Clue}
-use Rattle.hall_grid.specs.declared.board.Clue.TheVariants.{Unknown, Number}
-use Rattle.hall_grid.specs.Board.{Board, cells, Touch}
-use Rattle.hall_nurikabe.specs.Steps.{CoversNumbers, FallsByOne, Raises}
+use Rattle.hall_grid.specs.Board.{Touch}
+use Rattle.hall_nurikabe.specs.Steps.{FallsByOne, Raises}
 
 pub Raises-none : (reach : ℕ) (left : List ℕ) → Raises reach left left
 Raises-none reach left = record { exact = refl; only = λ c. inl refl }
@@ -51,57 +47,10 @@ unchanged reach old new c r more = elim (r.only c) [ inl same ↦ same | inr k �
 
 pub FallsByOne-raised : (size : Size) (IsMember : ℕ → Type 0) (reach : ℕ) (old new : List ℕ) → FallsByOne size IsMember old (reach + 1) → Raises reach old new
     → ((a b : ℕ) → Touch size a b → IsMember b → get_or new a 0 ≡ reach + 1 → reach ≤ get_or new b 0) → FallsByOne size IsMember new reach
-FallsByOne-raised size IsMember reach old new falls r done a b t ma mb more =
+FallsByOne-raised size IsMember reach old new falls r done a b t mb more =
     let same = unchanged reach old new a r more in
     let up = rises reach old new b r in
     elim (cases_eq (get_or new a 0) (reach + 1)) [
       | inl e ↦ (let k = done a b t mb e in omega arith)
-      | inr ne ↦ (let k = falls a b t ma mb (omega arith) in omega arith)
+      | inr ne ↦ (let k = falls a b t mb (omega arith) in omega arith)
     ]
-
-pub CoversNumbers-raised : (board : Board) (reach : ℕ) (old new : List ℕ) → CoversNumbers board old → Raises reach old new → CoversNumbers board new
-CoversNumbers-raised board reach old new c r = record {
-  exact = r.exact ∙ c.exact;
-  known = λ cell n h. let k = c.known cell n h in let up = rises reach old new cell r in omega arith;
-  unknown = λ cell h. let k = c.unknown cell h in let up = rises reach old new cell r in omega arith;
-}
-
--- the cells below an end have at least their numbers
-pub record CoversBelow (board : Board) (end : ℕ) (left : List ℕ) : Type 0 where
-  pub exact : length left ≡ end
-  pub known : (cell n : ℕ) → cell < end → slice_get board.clues cell ≡ Some (Number n) → n ≤ get_or left cell 0
-  pub unknown : (cell : ℕ) → cell < end → slice_get board.clues cell ≡ Some Unknown → cells board.size ≤ get_or left cell 0
-
-pub CoversBelow-none : (board : Board) → CoversBelow board 0 []
-CoversBelow-none board = record { exact = refl; known = λ cell n low h. absurd (omega arith); unknown = λ cell low h. absurd (omega arith) }
-
-pub CoversBelow-push : (board : Board) (end : ℕ) (left : List ℕ) (clue : Clue) (v : ℕ) → slice_get board.clues end ≡ Some clue
-    → ((n : ℕ) → clue ≡ Number n → v ≡ n) → (clue ≡ Unknown → v ≡ cells board.size) → CoversBelow board end left → CoversBelow board (end + 1) (left ++ v ∷ [])
-CoversBelow-push board end left clue v at known unknown c =
-    let exact = c.exact in
-    let last : get_or (left ++ v ∷ []) end 0 ≡ v = get_or_push left v 0 end c.exact in
-    record {
-      exact = (let e = length_push left v in omega arith);
-      known = λ cell n low h. elim (cases_eq cell end) [
-        | inl e ↦
-            let here : slice_get board.clues end ≡ Some (Number n) = subst (λ x. slice_get board.clues x ≡ Some (Number n)) e h in
-            let same : clue ≡ Number n = cc in
-            subst (λ x. n ≤ get_or (left ++ v ∷ []) x 0) (sym e) (let k = known n same in omega arith)
-        | inr ne ↦ (let k = c.known cell n (omega arith) h in let before = get_or_append_left left (v ∷ []) 0 cell (omega arith) in omega arith)
-      ];
-      unknown = λ cell low h. elim (cases_eq cell end) [
-        | inl e ↦
-            let here : slice_get board.clues end ≡ Some Unknown = subst (λ x. slice_get board.clues x ≡ Some Unknown) e h in
-            let same : clue ≡ Unknown = cc in
-            subst (λ x. cells board.size ≤ get_or (left ++ v ∷ []) x 0) (sym e) (let k = unknown same in omega arith)
-        | inr ne ↦ (let k = c.unknown cell (omega arith) h in let before = get_or_append_left left (v ∷ []) 0 cell (omega arith) in omega arith)
-      ];
-    }
-
-pub CoversNumbers-from_below : (board : Board) (end : ℕ) (left : List ℕ) → end ≡ cells board.size → length board.clues ≡ cells board.size → CoversBelow board end left
-    → CoversNumbers board left
-CoversNumbers-from_below board end left e whole c = record {
-  exact = c.exact ∙ e;
-  known = λ cell n h. c.known cell n (let low = slice_get_within board.clues cell _ h in omega arith) h;
-  unknown = λ cell h. c.unknown cell (let low = slice_get_within board.clues cell _ h in omega arith) h;
-}

@@ -143,6 +143,8 @@ fn force_groups(
         return Ok(true);
     }
     force_walls_beside(position, labels, sizes, &owners, forced);
+    let left = steps_left(alloc, position, labels, sizes, &owners)?;
+    wall_far_cells(position, labels, sizes, &owners, &left, forced);
     let exits = exits_of(alloc, position, labels)?;
     let growing = growing_groups(alloc, position.puzzle, labels, sizes, &owners)?;
     Ok(force_exits(position, labels, &exits, WHITE, &growing, forced))
@@ -181,15 +183,24 @@ fn look_at_reaches(
     ensures forced { OnOk result (AreForced position.now.puzzle.now position.now.partial.now.places forced.new) }
 {
     let open = places_open_to(alloc, position.partial, WALL)?;
-    let left = steps_left(alloc, position.puzzle, &open)?;
-    wall_far_cells(position, &left, forced);
     let reaches = Regions::new(alloc, position.puzzle.size(), &open)?;
     Ok(fill_reaches(position, &reaches.labels, &reaches.sizes, forced))
 }
 
 /// Forces walls where no number comes.
-fn wall_far_cells(position: &Position, left: &[usize], forced: &mut [Option<u8>])
-    requires left { AreStepsLeft position.now.puzzle.now (IsOpenTo position.now.partial.now.places 1) left.now }
+fn wall_far_cells(
+    position: &Position,
+    labels: &[Option<usize>],
+    sizes: &[usize],
+    owners: &[Option<usize>],
+    left: &[usize],
+    forced: &mut [Option<u8>],
+)
+    requires groups { AreRegions position.now.puzzle.now.size (IsSetTo position.now.partial.now.places 0)
+        labels.now sizes.now }
+    requires owners { AreOwners position.now.puzzle.now labels.now owners.now }
+    requires left { AreStepsLeft position.now.puzzle.now position.now.partial.now.places
+        labels.now sizes.now owners.now left.now }
     requires forced { AreForced position.now.puzzle.now position.now.partial.now.places forced.old }
     ensures { AreForced position.now.puzzle.now position.now.partial.now.places forced.new }
 {

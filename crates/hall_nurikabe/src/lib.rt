@@ -14,6 +14,7 @@ mod position;
 mod region;
 mod rules;
 mod steps;
+mod trial;
 
 pub use givens::start;
 pub use judge::broken;

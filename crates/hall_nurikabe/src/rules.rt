@@ -2,12 +2,15 @@
 ghost use Rattle.std.specs.Prelude.{◌≡◌, IfOk};
 
 use crate::branch::next_cell;
-use crate::deduce::Deductions;
 use crate::judge::broken;
+use crate::trial::DeductionsAndTrials;
 use hall_grid::{Filling, Kind, Puzzle};
 use hall_solve::{Partial, Rules, Step, settle};
 use std::alloc::{AllocError, Global};
 use std::marker::Model;
+
+/// Up to how many visits a search makes no trials.
+const PLAIN_VISITS: u64 = 50;
 
 /// The rules of one puzzle, the cell to try next, and counts of what a search asked.
 #[derive(Drop)]
@@ -76,8 +79,9 @@ impl<'a> Rules for NurikabeRules<'a> {
 
     fn propagate(&mut self, alloc: Global, partial: &mut Partial) -> Result<Step, AllocError> {
         self.visits += 1;
-        let deductions = Deductions {
+        let deductions = DeductionsAndTrials {
             puzzle: self.puzzle,
+            tries: self.visits > PLAIN_VISITS,
         };
         match settle(alloc, &deductions, partial)? {
             Step::Dead => Ok(Step::Dead),

@@ -1,33 +1,87 @@
-//! How far numbers reach over cells without wall.
-ghost use Rattle.std.specs.Prelude.{◌≡◌, ℕ, ◌+◌, ◌<◌, ◌≤◌, IfOk, length, slice_index};
+//! How far numbers reach over cells without wall, beyond their groups.
+ghost use Rattle.std.specs.Prelude.{◌≡◌, ℕ, ◌+◌, ◌<◌, ◌≤◌, IfOk, MatchOption, length, slice_index};
 ghost use Rattle.hall_grid.specs.Board.{cells, IsSize, Touch};
 ghost use Rattle.hall_grid.specs.Reached.{IsMarked};
-ghost use Rattle.hall_nurikabe.specs.Steps.{CoversNumbers, FallsByOne, AreStepsLeft, Raises};
+ghost use Rattle.hall_nurikabe.specs.Counts.{AreCells};
+ghost use Rattle.hall_nurikabe.specs.Forced.{AreOwners, IsOpenTo};
+ghost use Rattle.hall_nurikabe.specs.Steps.{AreSources, AreStepsLeft, FallsByOne, IsClaimed, IsMost, IsSource, Raises};
 
+use crate::island::is_number;
+use crate::judge::WALL;
+use crate::position::Position;
 use hall_grid::{Clue, Puzzle, Size, neighbours};
 use std::alloc::{AllocError, Global};
 
-/// How many cells an island of the clue may have: its number, all cells where that is unknown, none without one.
-fn most_cells(puzzle: &Puzzle, clue: Clue) -> usize
-    ensures known { (n : ℕ) → clue ≡ Clue.Number n → result ≡ n }
-    ensures unknown { clue ≡ Clue.Unknown → result ≡ cells puzzle.now.size }
+/// How many cells the island of a cell's number may have: all cells where the number is unknown, none without one.
+fn most_cells(puzzle: &Puzzle, cell: usize) -> usize
+    requires { cell < cells puzzle.now.size }
+    ensures { (n : ℕ) → IsMost puzzle.now cell n → n ≤ result }
 {
-    match clue {
+    match puzzle.clue(cell) {
         Clue::Number(n) => usize::from(n),
         Clue::Unknown => puzzle.cells(),
         Clue::Blank => 0,
     }
 }
 
-/// For each cell its number, for a number of unknown size the count of all cells, and 0 where there is none.
-fn numbers(alloc: Global, puzzle: &Puzzle) -> Result<Vec<usize>, AllocError>
-    ensures { IfOk result (λ left. CoversNumbers puzzle.now left.items) }
+/// How many cells a group with a number may still get, where the cell stands beside one.
+fn room_beside(
+    puzzle: &Puzzle,
+    labels: &[Option<usize>],
+    sizes: &[usize],
+    owners: &[Option<usize>],
+    cell: usize,
+) -> Option<usize>
+    requires cell { cell < cells puzzle.now.size }
+    requires exact { length labels.now ≡ cells puzzle.now.size }
+    requires labels { AreCells labels.now }
+    requires sizes { length sizes.now ≡ cells puzzle.now.size }
+    requires owners { AreOwners puzzle.now labels.now owners.now }
+    ensures { (left : ℕ) → result ≡ Some left → IsClaimed puzzle.now labels.now sizes.now owners.now cell left }
 {
-    let mut left = Vec::new(alloc);
-    for cell in 0..puzzle.cells() {
-        left.push(most_cells(puzzle, puzzle.clue(cell)))?;
+    for place in neighbours(puzzle.size(), cell) {
+        if let Some(other) = place {
+            if let Some(label) = labels[other] {
+                if let Some(owner) = owners[label] {
+                    return Some(most_cells(puzzle, owner).saturating_sub(sizes[label]));
+                }
+            }
+        }
     }
-    Ok(left)
+    None
+}
+
+/// What a number has left in the cell, in its group or beside it: all its cells in the group, and beside it what the
+/// group may still get. None where a number may come from further away.
+fn source(
+    position: &Position,
+    labels: &[Option<usize>],
+    sizes: &[usize],
+    owners: &[Option<usize>],
+    cell: usize,
+) -> Option<usize>
+    requires cell { cell < cells position.now.puzzle.now.size }
+    requires exact { length labels.now ≡ cells position.now.puzzle.now.size }
+    requires labels { AreCells labels.now }
+    requires sizes { length sizes.now ≡ cells position.now.puzzle.now.size }
+    requires owners { AreOwners position.now.puzzle.now labels.now owners.now }
+    ensures { IsOpenTo position.now.partial.now.places 1 cell → MatchOption result
+        (IsSource position.now.puzzle.now labels.now sizes.now owners.now (Unit {0}) cell 0)
+        (λ left. IsSource position.now.puzzle.now labels.now sizes.now owners.now ⊥ cell left) }
+{
+    if position.partial.get(cell) == Some(WALL) {
+        return Some(0);
+    }
+    if is_number(position.puzzle.clue(cell)) {
+        return Some(most_cells(position.puzzle, cell));
+    }
+    match labels[cell] {
+        None => room_beside(position.puzzle, labels, sizes, owners, cell),
+        Some(label) => {
+            let owner = owners[label]?;
+            Some(most_cells(position.puzzle, owner))
+        }
+    }
 }
 
 /// Raises the marked cells beside the cell to this much, where they have less.
@@ -90,22 +144,68 @@ fn greatest_within(values: &[usize], bound: usize) -> usize
     most
 }
 
-/// What numbers have left in the marked cells that they reach by sides over marked cells.
+/// What numbers have left where they begin, and which cells they may come to from further away.
+#[derive(Drop)]
+struct Sources {
+    left: Vec<usize>,
+    free: Vec<bool>,
+}
+
+/// The sources of all cells.
+fn find_sources(
+    alloc: Global,
+    position: &Position,
+    labels: &[Option<usize>],
+    sizes: &[usize],
+    owners: &[Option<usize>],
+) -> Result<Sources, AllocError>
+    requires exact { length labels.now ≡ cells position.now.puzzle.now.size }
+    requires labels { AreCells labels.now }
+    requires sizes { length sizes.now ≡ cells position.now.puzzle.now.size }
+    requires owners { AreOwners position.now.puzzle.now labels.now owners.now }
+    ensures exact { IfOk result (λ s. length s.free.items ≡ cells position.now.puzzle.now.size) }
+    ensures sources { IfOk result (λ s. AreSources position.now.puzzle.now position.now.partial.now.places
+        labels.now sizes.now owners.now (IsMarked s.free.items) s.left.items) }
+{
+    let mut left = Vec::new(alloc);
+    let mut free = Vec::new(alloc);
+    for cell in 0..position.puzzle.cells() {
+        match source(position, labels, sizes, owners, cell) {
+            None => {
+                left.push(0)?;
+                free.push(true)?;
+            }
+            Some(much) => {
+                left.push(much)?;
+                free.push(false)?;
+            }
+        }
+    }
+    Ok(Sources { left, free })
+}
+
+/// What numbers have left in the cells that they reach by sides, beyond their groups, over cells that are no wall and
+/// stand beside no group with a number.
 ///
 /// It is one less with each step, and 0 where none comes.
 pub(crate) fn steps_left(
     alloc: Global,
-    puzzle: &Puzzle,
-    marks: &[bool],
+    position: &Position,
+    labels: &[Option<usize>],
+    sizes: &[usize],
+    owners: &[Option<usize>],
 ) -> Result<Vec<usize>, AllocError>
-    requires size { IsSize puzzle.now.size }
-    requires marks { length marks.now ≡ cells puzzle.now.size }
-    ensures { IfOk result (λ left. AreStepsLeft puzzle.now (IsMarked marks.now) left.items) }
+    requires exact { length labels.now ≡ cells position.now.puzzle.now.size }
+    requires labels { AreCells labels.now }
+    requires sizes { length sizes.now ≡ cells position.now.puzzle.now.size }
+    requires owners { AreOwners position.now.puzzle.now labels.now owners.now }
+    ensures { IfOk result (λ left. AreStepsLeft position.now.puzzle.now position.now.partial.now.places
+        labels.now sizes.now owners.now left.items) }
 {
-    let mut left = numbers(alloc, puzzle)?;
+    let Sources { mut left, free } = find_sources(alloc, position, labels, sizes, owners)?;
     let mut reach = greatest(&left);
     while reach > 0 {
-        raise_next(puzzle.size(), marks, &mut left, reach - 1);
+        raise_next(position.puzzle.size(), &free, &mut left, reach - 1);
         reach = greatest_within(&left, reach - 1);
     }
     Ok(left)

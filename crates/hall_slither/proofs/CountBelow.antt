@@ -128,3 +128,27 @@ count_below-two p (suc n) x y lx ly ne e f =
         | inr not_y ↦ let rest = count_below-two p n x y (omega arith) (omega arith) ne e f in omega arith
       ]
     ]
+
+pub count_below-three : (p : ℕ → Bool) (n x y z : ℕ) → x < n → y < n → z < n → (x ≡ y → ⊥) → (x ≡ z → ⊥) → (y ≡ z → ⊥) → p x ≡ true → p y ≡ true → p z ≡ true
+    → 3 ≤ count_below p n
+count_below-three p zero x y z lx ly lz xy xz yz e f g = absurd (omega arith)
+count_below-three p (suc n) x y z lx ly lz xy xz yz e f g =
+    elim (cases_eq x n) [
+      | inl is ↦
+          let here = worth-one (p n) (subst (λ k. p k ≡ true) is e) in
+          let rest = count_below-two p n y z (omega arith) (omega arith) yz f g in
+          omega arith
+      | inr not_x ↦ elim (cases_eq y n) [
+        | inl is ↦
+            let here = worth-one (p n) (subst (λ k. p k ≡ true) is f) in
+            let rest = count_below-two p n x z (omega arith) (omega arith) xz e g in
+            omega arith
+        | inr not_y ↦ elim (cases_eq z n) [
+          | inl is ↦
+              let here = worth-one (p n) (subst (λ k. p k ≡ true) is g) in
+              let rest = count_below-two p n x y (omega arith) (omega arith) xy e f in
+              omega arith
+          | inr not_z ↦ let rest = count_below-three p n x y z (omega arith) (omega arith) (omega arith) xy xz yz e f g in omega arith
+        ]
+      ]
+    ]

@@ -283,7 +283,7 @@ module _ (layout : Layout) (is : IsLayout layout) (p : List (Option ℕ)) (f : L
     unfolding with_side
     meets_numbers = same_lines_meet layout.board f with_side is.kind is.board sol.right.0 line_with sub_with
 
-not_one : (n : ℕ) → n < 2 → (n ≡ 1 → ⊥) → n ≡ 0
+pub not_one : (n : ℕ) → n < 2 → (n ≡ 1 → ⊥) → n ≡ 0
 not_one n small ne = elim (cases_eq n 1) [ inl e ↦ absurd (ne e) | inr h ↦ omega arith ]
 
 module _ (layout : Layout) (is : IsLayout layout) (p : List (Option ℕ)) where

@@ -14,4 +14,5 @@ pub mod Turned
 pub mod Crossing
 pub mod AreColoured
 pub mod IsFollowed
+pub mod IsTrack
 pub mod Trials

@@ -16,6 +16,8 @@ pub(crate) struct LooseEnds {
     other: Vec<usize>,
     /// What was there before the lines that may go again.
     before: Vec<(usize, usize)>,
+    /// Whether the lines that were joined last closed a loop.
+    pub(crate) closed: bool,
 }
 
 impl LooseEnds {
@@ -26,6 +28,7 @@ impl LooseEnds {
         Ok(LooseEnds {
             other: vec![in alloc; 0; dot_count(size)]?,
             before: Vec::with_capacity(alloc, 2 * size.all_sides())?,
+            closed: false,
         })
     }
 
@@ -84,5 +87,42 @@ impl LooseEnds {
                 self.other[dot] = end;
             }
         }
+    }
+
+    /// How many ends changed by the lines that may go again; none where they closed a loop.
+    pub(crate) fn changes(&self) -> usize {
+        if self.closed { 0 } else { self.before.len() }
+    }
+
+    /// Whether the dot is an end of a chain, and the other end of that one's other end.
+    fn is_loose(&self, dot: usize) -> bool {
+        if dot >= self.other.len() {
+            return false;
+        }
+        let end = self.other[dot];
+        end != dot && end < self.other.len() && self.other[end] == dot
+    }
+
+    /// Both ends of the chain whose lesser end changed in this place, as long as they are.
+    pub(crate) fn changed_pair(&self, place: usize) -> Option<(usize, usize)> {
+        if place >= self.before.len() {
+            return None;
+        }
+        let (dot, _) = self.before[place];
+        if !self.is_loose(dot) || dot >= self.other.len() {
+            return None;
+        }
+        let end = self.other[dot];
+        if dot < end { Some((dot, end)) } else { None }
+    }
+
+    /// An end of another chain than that with these ends.
+    pub(crate) fn loose_besides(&self, first: usize, second: usize) -> Option<usize> {
+        for dot in 0..self.other.len() {
+            if dot != first && dot != second && self.is_loose(dot) {
+                return Some(dot);
+            }
+        }
+        None
     }
 }

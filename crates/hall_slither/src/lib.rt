@@ -6,6 +6,7 @@ mod close;
 mod colour;
 mod count;
 mod dot;
+mod early;
 mod ends;
 mod follow;
 mod judge;

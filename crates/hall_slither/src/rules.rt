@@ -10,7 +10,7 @@ ghost use Rattle.hall_slither.specs.Count.{AreSilent};
 use crate::close::close_chains;
 use crate::follow::{follow_all, learn_all};
 use crate::judge::broken;
-use crate::scratch::{Scratch, best_open};
+use crate::scratch::{Scratch, best_open, note_failure};
 use crate::trial::try_waiting;
 use hall_grid::{Filling, Kind, Puzzle};
 use hall_solve::{Partial, Pass, Rules, Step};
@@ -71,6 +71,7 @@ fn settle_sides(
     ensures grows { Grows partial.old partial.new }
 {
     scratch.queue.start_over(puzzle.size(), partial, all);
+    let chosen = partial.trail().last().copied();
     'settling: loop {
         let mark = partial.mark();
         match pass(alloc, puzzle, partial, scratch)? {
@@ -78,7 +79,10 @@ fn settle_sides(
             Pass::Advanced => scratch
                 .queue
                 .put_beside_all(puzzle.size(), partial.since(mark)),
-            Pass::Dead => return Ok(Step::Dead),
+            Pass::Dead => {
+                note_failure(&mut scratch.failures, chosen);
+                return Ok(Step::Dead);
+            }
         }
     }
 }
@@ -165,7 +169,7 @@ impl<'a> Rules for SlitherRules<'a> {
 
     fn branch_place(&self, partial: &Partial) -> Option<usize> {
         match &self.scratch {
-            Some(scratch) => best_open(&scratch.scores, partial),
+            Some(scratch) => best_open(scratch, partial),
             None => partial.first_unset(),
         }
     }

@@ -20,6 +20,10 @@ pub(crate) struct Trial {
     pub(crate) colours: Colours,
     /// The loose ends of the chains of lines.
     pub(crate) ends: LooseEnds,
+    /// The sides that were passed on the way along a chain.
+    pub(crate) passed: Vec<usize>,
+    /// The sides that would close a loop too early.
+    pub(crate) early: Vec<Setting>,
 }
 
 /// What a search works in.
@@ -40,6 +44,8 @@ pub(crate) struct Scratch {
     pub(crate) queue: Queue,
     /// How much followed from the values of each side when it was last tried.
     pub(crate) scores: Vec<usize>,
+    /// How often a value that the search chose for each side was found to fail.
+    pub(crate) failures: Vec<usize>,
 }
 
 impl Scratch {
@@ -54,6 +60,8 @@ impl Scratch {
                 stack: Vec::new(alloc),
                 colours: Colours::new(alloc),
                 ends: LooseEnds::new(alloc, size)?,
+                passed: Vec::new(alloc),
+                early: Vec::new(alloc),
             },
             with_line: Vec::new(alloc),
             without: Vec::new(alloc),
@@ -61,12 +69,31 @@ impl Scratch {
             known: Vec::new(alloc),
             queue: Queue::new(alloc, sides)?,
             scores: vec![in alloc; 0; sides]?,
+            failures: vec![in alloc; 0; sides]?,
         })
     }
 }
 
-/// The open side with the greatest score.
-pub(crate) fn best_open(scores: &[usize], partial: &Partial) -> Option<usize>
+/// Notes that a value of the side failed, where there is one.
+pub(crate) fn note_failure(failures: &mut [usize], side: Option<usize>) {
+    if let Some(side) = side {
+        if side < failures.len() {
+            failures[side] = failures[side].saturating_add(1);
+        }
+    }
+}
+
+/// How much a side is worth to branch at: its score, times one more than its failures.
+fn worth(scores: &[usize], failures: &[usize], side: usize) -> usize {
+    if side < scores.len() && side < failures.len() {
+        scores[side].saturating_mul(failures[side].saturating_add(1))
+    } else {
+        0
+    }
+}
+
+/// The open side that is worth most.
+pub(crate) fn best_open(scratch: &Scratch, partial: &Partial) -> Option<usize>
     ensures unset { IfSome result (IsOpen partial.now.places) }
     ensures whole { IfNone result (IsWhole partial.now.places) }
 {
@@ -74,10 +101,10 @@ pub(crate) fn best_open(scores: &[usize], partial: &Partial) -> Option<usize>
     let mut greatest = 0;
     for side in 0..partial.len() {
         if partial.get(side).is_none() {
-            let score = if side < scores.len() { scores[side] } else { 0 };
-            if best.is_none() || score > greatest {
+            let worth = worth(&scratch.scores, &scratch.failures, side);
+            if best.is_none() || worth > greatest {
                 best = Some(side);
-                greatest = score;
+                greatest = worth;
             }
         }
     }

@@ -12,6 +12,7 @@ ghost use Rattle.hall_slither.specs.Trial.{IsHeld, AreKnown, AreIn, IsStep, IsTr
 use crate::close::close_chains;
 use crate::colour::Colours;
 use crate::count::Centre;
+use crate::early::find_early;
 use crate::ends::LooseEnds;
 use crate::follow::{follow_stack, set_and_learn, set_side};
 use crate::scratch::{Scratch, Trial};
@@ -20,8 +21,8 @@ use hall_grid::{Kind, Puzzle};
 use hall_solve::{Mark, Partial, Pass, Step};
 use std::alloc::{AllocError, Global};
 
-/// Whether a loop was closed by the lines since the mark.
-fn closes_loop(puzzle: &Puzzle, partial: &Partial, mark: Mark, ends: &mut LooseEnds) -> bool
+/// Joins the lines since the mark, and notes whether they closed a loop.
+fn join_since(puzzle: &Puzzle, partial: &Partial, mark: Mark, ends: &mut LooseEnds)
     requires kind { puzzle.now.kind ≡ Kind.Slither }
     requires exact { length partial.now.places ≡ all_sides puzzle.now.size }
     requires mark { mark ≤ length partial.now.trail }
@@ -35,7 +36,7 @@ fn closes_loop(puzzle: &Puzzle, partial: &Partial, mark: Mark, ends: &mut LooseE
             }
         }
     }
-    closed
+    ends.closed = closed;
 }
 
 /// What a pass says of a trial.
@@ -64,6 +65,7 @@ fn follow_side(
     ensures step { IfOk result (IsStep (question_of Kind.Slither puzzle.now)
         (slice_set partial.old.places setting.side (Some setting.value)) partial.new.places) }
     ensures grows { Grows partial.old partial.new }
+    ensures coloured { AreColoured puzzle.now partial.new.places colours.new }
 {
     stack.clear();
     match set_and_learn(puzzle, partial, colours, stack, setting)? {
@@ -75,43 +77,95 @@ fn follow_side(
     }
 }
 
-/// What follows from the chains where a loop was closed since the mark.
+/// Clears the sides that would close a loop too early with the lines since the mark, and sets what follows from that.
+fn clear_found(
+    puzzle: &Puzzle,
+    partial: &mut Partial,
+    trial: &mut Trial,
+    mark: Mark,
+) -> Result<Pass, AllocError>
+    requires kind { puzzle.now.kind ≡ Kind.Slither }
+    requires partial { IsPartial (question_of Kind.Slither puzzle.now) partial.old.places }
+    requires coloured { AreColoured puzzle.now partial.old.places trial.old.colours }
+    requires mark { mark ≤ length partial.old.trail }
+    ensures followed { IsFollowed puzzle.now partial.old partial.new trial.new.colours result }
+{
+    let Trial {
+        stack,
+        colours,
+        ends,
+        passed,
+        early,
+    } = trial;
+    join_since(puzzle, partial, mark, ends);
+    let found = find_early(puzzle, partial, ends, passed, early);
+    ends.undo();
+    found?;
+    set_and_follow(puzzle, partial, colours, stack, early)
+}
+
+/// The same, until there is no such side.
+fn clear_early(
+    puzzle: &Puzzle,
+    partial: &mut Partial,
+    trial: &mut Trial,
+    mark: Mark,
+) -> Result<Pass, AllocError>
+    requires kind { puzzle.now.kind ≡ Kind.Slither }
+    requires partial { IsPartial (question_of Kind.Slither puzzle.now) partial.old.places }
+    requires coloured { AreColoured puzzle.now partial.old.places trial.old.colours }
+    requires mark { mark ≤ length partial.old.trail }
+    ensures followed { IsFollowed puzzle.now partial.old partial.new trial.new.colours result }
+{
+    let mut pass = Pass::Settled;
+    for _ in 0..u64::MAX {
+        match clear_found(puzzle, partial, trial, mark)? {
+            Pass::Settled => return Ok(pass),
+            Pass::Advanced => pass = Pass::Advanced,
+            Pass::Dead => return Ok(Pass::Dead),
+        }
+    }
+    Ok(pass)
+}
+
+/// What follows from loops that the lines since the mark would close, or have closed.
 fn follow_loop(
     alloc: Global,
     puzzle: &Puzzle,
     partial: &mut Partial,
+    trial: &mut Trial,
     mark: Mark,
-    ends: &mut LooseEnds,
 ) -> Result<Step, AllocError>
     requires kind { puzzle.now.kind ≡ Kind.Slither }
     requires partial { IsPartial (question_of Kind.Slither puzzle.now) partial.old.places }
+    requires coloured { AreColoured puzzle.now partial.old.places trial.old.colours }
     requires mark { mark ≤ length partial.old.trail }
     ensures step { IfOk result
         (IsStep (question_of Kind.Slither puzzle.now) partial.old.places partial.new.places) }
     ensures grows { Grows partial.old partial.new }
 {
-    let closed = closes_loop(puzzle, partial, mark, ends);
-    ends.undo();
-    if !closed {
+    match clear_early(puzzle, partial, trial, mark)? {
+        Pass::Settled | Pass::Advanced => {}
+        Pass::Dead => return Ok(Step::Dead),
+    }
+    if !trial.ends.closed {
         return Ok(Step::Live);
     }
     let pass = close_chains(alloc, puzzle, partial)?;
     Ok(step_after(pass))
 }
 
-/// Sets an open side and what follows from it, also from a loop that is closed.
+/// Sets an open side and what follows from it, also from loops.
 fn follow_value(
     alloc: Global,
     puzzle: &Puzzle,
     partial: &mut Partial,
-    colours: &mut Colours,
-    stack: &mut Vec<Centre>,
-    ends: &mut LooseEnds,
+    trial: &mut Trial,
     setting: Setting,
 ) -> Result<Step, AllocError>
     requires kind { puzzle.now.kind ≡ Kind.Slither }
     requires partial { IsPartial (question_of Kind.Slither puzzle.now) partial.old.places }
-    requires coloured { AreColoured puzzle.now partial.old.places colours.old }
+    requires coloured { AreColoured puzzle.now partial.old.places trial.old.colours }
     requires side { IsOpen partial.old.places setting.side }
     requires value { setting.value < 2 }
     ensures step { IfOk result (IsStep (question_of Kind.Slither puzzle.now)
@@ -119,9 +173,15 @@ fn follow_value(
     ensures grows { Grows partial.old partial.new }
 {
     let mark = partial.mark();
-    match follow_side(puzzle, partial, colours, stack, setting)? {
+    match follow_side(
+        puzzle,
+        partial,
+        &mut trial.colours,
+        &mut trial.stack,
+        setting,
+    )? {
         Step::Dead => Ok(Step::Dead),
-        Step::Live => follow_loop(alloc, puzzle, partial, mark, ends),
+        Step::Live => follow_loop(alloc, puzzle, partial, trial, mark),
     }
 }
 
@@ -162,12 +222,7 @@ fn try_value(
 {
     trial.colours.copy_from(colours_so_far)?;
     let mark = partial.mark();
-    let Trial {
-        stack,
-        colours,
-        ends,
-    } = trial;
-    let step = follow_value(alloc, puzzle, partial, colours, stack, ends, setting);
+    let step = follow_value(alloc, puzzle, partial, trial, setting);
     let copied = copy_since(partial, mark, settings);
     partial.undo_to(mark);
     copied?;
@@ -344,7 +399,7 @@ fn try_side(
     } = scratch;
     let pass = set_and_follow(puzzle, partial, colours, &mut trial.stack, known)?;
     queue.put_beside_all(puzzle.size(), partial.since(mark));
-    closes_loop(puzzle, partial, mark, &mut trial.ends);
+    join_since(puzzle, partial, mark, &mut trial.ends);
     trial.ends.keep();
     Ok(pass)
 }

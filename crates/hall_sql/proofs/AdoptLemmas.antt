@@ -11,16 +11,17 @@ use Rattle.sqlite.specs.Steps.{FailsToCommit}
 use Rattle.hall_store.specs.Maps.{empty_world}
 use Rattle.hall_sql.specs.Tables.{no_schema, hall_schema}
 use Rattle.hall_sql.specs.Rows.{world_of}
-use Rattle.hall_sql.specs.Standing.{Lasts, AreKeyed, AreAllKeyed, Rests, HasAdopted, HasDeclined}
+use Rattle.hall_sql.specs.Standing.{Lasts, AreKeyed, AreAllKeyed, Rests, IsBare, HasAdopted, HasDeclined}
 use Rattle.hall_sql.specs.Inside.{Carries}
-use Rattle.hall_sql.specs.Made.{all_tables, IsBare, Awaits, HasGrown}
+use Rattle.hall_sql.specs.Made.{all_tables, Awaits, HasGrown}
 use Rattle.hall_sql.specs.Scan.{AreScanned}
 use Rattle.hall_sql.proofs.LastLemmas.{last_none, last_then, last_begun}
 use Rattle.hall_sql.proofs.TransactionLemmas.{commit_refused}
 
 -- tables with no rows hold nobody and nothing
-bare_world : (trees : Trees) → AllByRecursion (λ table. trees table.tree ≡ []) hall_schema.tables → world_of trees ≡ empty_world
-bare_world trees all = rw (all.0, all.1.0, all.1.1.0, all.1.1.1.0, all.1.1.1.1.0, all.1.1.1.1.1.0)
+pub bare_world : (held : Database) → IsBare hall_schema held → world_of held.trees ≡ empty_world
+bare_world held bare =
+    let all = bare.empty in rw (all.0, all.1.0, all.1.1.0, all.1.1.1.0, all.1.1.1.1.0, all.1.1.1.1.1.0)
 
 bare_keyed : (rows : _) → rows ≡ [] → AreKeyed rows
 bare_keyed rows none = subst AreKeyed (sym none) (record { ints = tt; distinct = tt })
@@ -81,12 +82,13 @@ rests_declined old new alone settled lasts rests = record {
 -- the hall's tables stood
 pub scanned_adopted : (old new : State) → old.in_transaction ≡ false → (IsTrue old.is_open → old.now ≡ old.committed) → old.now.schema ≡ hall_schema
     → Lasts old new → (HasCleanDisk new → AreScanned all_tables old new) → HasAdopted old new
-scanned_adopted old new mode settled has lasts scanned =
+scanned_adopted old new alone settled has lasts scanned =
     let left = λ (clean : HasCleanDisk new). (scanned clean).left in
     let was = λ (clean : HasCleanDisk new). sym (left clean).is_open ∙ (scanned clean).serves in
     record {
+      alone = alone;
       hall = record {
-        autocommit = λ clean. (left clean).mode ∙ mode;
+        autocommit = λ clean. (left clean).mode ∙ alone;
         settled = λ clean opens. ((left clean).now_is ∙ settled (was clean) ∙ sym (left clean).committed_is, ap (λ (d : Database). d.schema) (left clean).now_is ∙ has);
         keyed = λ clean opens. subst (λ (d : Database). AreAllKeyed d.trees) (sym (left clean).now_is) (scanned clean).keyed;
       };
@@ -127,15 +129,16 @@ module _ {S : Type 0} (g : Ghosts S) (held : Held S) (settled : IsTrue (state g 
       commit_refused mid end error (grown was refl).mode (fails clean))
 
   -- committed, the hall stands with an empty world
-  pub committed_adopted : (mid end : State) → held.schema ≡ no_schema → Carries base mid → (HasCleanDisk mid → IsTrue base.in_transaction → HasGrown all_tables [] base mid)
+  pub committed_adopted : held.in_transaction ≡ false → (mid end : State) → held.schema ≡ no_schema → Carries base mid → (HasCleanDisk mid → IsTrue base.in_transaction → HasGrown all_tables [] base mid)
       → Lasts mid end → end.in_transaction ≡ false
       → (HasCleanDisk end → IsTrue mid.in_transaction × Shows mid end mid.now mid.now false × KeepsCounts mid end × (end.marks ≡ []))
       → HasAdopted (state g held) end
-  committed_adopted mid end none carries grown lasts ended ok =
+  committed_adopted alone mid end none carries grown lasts ended ok =
       let now : HasCleanDisk end → HasCleanDisk mid = λ (clean : HasCleanDisk end). let was : HasCleanDisk mid = omega (arith, lasts.clean, clean) in was in
       let bare : HasCleanDisk end → IsBare hall_schema end.now = λ (clean : HasCleanDisk end).
       subst (IsBare hall_schema) (sym (ok clean).1.now_is) (bare_hall mid.now ((grown (now clean) refl).made (awaits_all base.now none))) in
       record {
+        alone = alone;
         hall = record {
           autocommit = λ clean. ended;
           settled = λ clean opens. ((ok clean).1.now_is ∙ sym (ok clean).1.committed_is, (bare clean).is);
@@ -143,5 +146,5 @@ module _ {S : Type 0} (g : Ghosts S) (held : Held S) (settled : IsTrue (state g 
         };
         follows = record { lasts = last_then (state g held) mid end (last_begun g held mid carries.lasts) lasts; opened = λ clean opens. (carries.kept (now clean) refl).was_open (ok clean).1.was_open };
         serves = λ clean. (ok clean).1.is_open;
-        stood = λ clean. inr (none, bare_world end.now.trees (bare clean).empty);
+        stood = λ clean. inr (none, bare clean);
       }

@@ -17,7 +17,8 @@ use Rattle.hall_policy.specs.declared.record.AnswerKey.{AnswerKey}
 use Rattle.hall_policy.specs.declared.record.AnswerRow.{AnswerRow}
 use Rattle.hall_policy.proofs.Maps.{value_of_get}
 use Rattle.hall_policy.proofs.Orders.{answer_total, same_answer_keys}
-use Rattle.hall_store.proofs.Tests.{text_decides, and_first, and_second, and_both}
+use Rattle.hall_store.proofs.Tests.{and_both}
+use Rattle.hall_policy.proofs.Texts.{text_decides, and_first, and_second}
 use Rattle.hall_store.specs.Store.{IsListing, IsNumberTaken, HasSubmitted, is_of}
 use Rattle.hall_sql.specs.Tables.{hall_schema}
 use Rattle.hall_sql.specs.Rows.{answer_in, answer_of, world_of}

@@ -1,5 +1,5 @@
 -- What the statements on answers say of the world.
-use Rattle.std.proofs.Common.{◌&&◌, flat_map, option_to_list, Bool, true, sym, subst, ◌∙◌, ◌≡◌, ◌≤◌, ℕ, pos, List, [], ◌∷◌, length, map, slice_get, Option, Some, None, refl, ap}
+use Rattle.std.proofs.Common.{◌&&◌, flat_map, option_to_list, Bool, true, sym, subst, ◌∙◌, ◌≡◌, ◌≤◌, ℕ, pos, List, [], ◌∷◌, length, map, slice_get, Some, refl, ap}
 use Rattle.std.specs.List.{list_all}
 use Rattle.std.specs.Ordering.{eq_by_cmp}
 use Rattle.std.specs.FinMap.{get}
@@ -8,7 +8,6 @@ use Rattle.sqlite.specs.Order.{Row}
 use Rattle.sqlite_value.specs.Order.{column}
 use Rattle.sqlite.specs.Term.{holds}
 use Rattle.sqlite.specs.State.{State, Shown}
-use Rattle.hall_grid.specs.FormReading.{◌>>=◌}
 use Rattle.hall_policy.specs.Text.{is_word_byte, is_printable}
 use Rattle.hall_policy.specs.World.{answer_cmp}
 use Rattle.std.specs.Ordering.{nat_cmp}
@@ -49,44 +48,7 @@ use Rattle.hall_sql.specs.Rows.{answer_in, answer_of, world_of}
 use Rattle.hall_sql.proofs.AnswerTexts.{key_terms, answer_columns, answer_is}
 use Rattle.hall_sql.proofs.ColumnLemmas.{kind_column, number_column, column_equals, column_is, last_equal, more_equal}
 use Rattle.hall_sql.proofs.FoundLemmas.{asked_found}
-
-abbrev of_parts : List ℕ → List ℕ → ℕ → List ℕ → ℕ → ℕ → List ℕ → ℕ → AnswerRow
-of_parts entrant round number token n moment answer verdict = record {
-  key = record { entrant = entrant; round = round; number = number; token = token };
-  n = n;
-  moment = moment;
-  answer = answer;
-  verdict = verdict;
-}
-
-record PartsOf (row : AnswerRow) (a b : Option (List ℕ)) (c : Option ℕ) (d : Option (List ℕ)) (e : Option ℕ) : Type 0 where
-  entrant : a ≡ Some row.key.entrant
-  round : b ≡ Some row.key.round
-  number : c ≡ Some row.key.number
-  token : d ≡ Some row.key.token
-  n : e ≡ Some row.n
-
--- an answer that is read has its parts in the columns
-parts : (a : Option (List ℕ)) (b : Option (List ℕ)) (c : Option (ℕ)) (d : Option (List ℕ)) (e : Option (ℕ)) (f : Option (ℕ)) (g : Option (List ℕ)) (h : Option (ℕ)) (row : AnswerRow)
-    → (a >>= (λ entrant. b >>= (λ round. c >>= (λ number. d >>= (λ token. e >>= (λ n. f >>= (λ moment. g >>= (λ answer. h >>= (λ verdict. Some (of_parts entrant round number token n moment answer verdict)))))))))) ≡ Some row
-    → PartsOf row a b c d e
-parts None b c d e f g h row is = absurd cc
-parts (Some a) None c d e f g h row is = absurd cc
-parts (Some a) (Some b) None d e f g h row is = absurd cc
-parts (Some a) (Some b) (Some c) None e f g h row is = absurd cc
-parts (Some a) (Some b) (Some c) (Some d) None f g h row is = absurd cc
-parts (Some a) (Some b) (Some c) (Some d) (Some e) None g h row is = absurd cc
-parts (Some a) (Some b) (Some c) (Some d) (Some e) (Some f) None h row is = absurd cc
-parts (Some a) (Some b) (Some c) (Some d) (Some e) (Some f) (Some g) None row is = absurd cc
-parts (Some a) (Some b) (Some c) (Some d) (Some e) (Some f) (Some g) (Some h) row is =
-    let same : of_parts a b c d e f g h ≡ row = cc in
-    record {
-      entrant = ap (λ (x : AnswerRow). Some x.key.entrant) same;
-      round = ap (λ (x : AnswerRow). Some x.key.round) same;
-      number = ap (λ (x : AnswerRow). Some x.key.number) same;
-      token = ap (λ (x : AnswerRow). Some x.key.token) same;
-      n = ap (λ (x : AnswerRow). Some x.n) same;
-    }
+use Rattle.hall_sql.proofs.RecordParts.{answer_parts_of}
 
 -- the columns of an answer that listings are ordered by
 pub record HasColumns (r : Row) (row : AnswerRow) : Type 0 where
@@ -98,7 +60,7 @@ pub record HasColumns (r : Row) (row : AnswerRow) : Type 0 where
 
 pub has_columns : (r : Row) (row : AnswerRow) → answer_of r ≡ Some row → HasColumns r row
 has_columns r row is =
-    let it = parts (name_in (column r 1)) (name_in (column r 2)) (within 1 99 (column r 3)) (token_in (column r 4)) (within 1 50 (column r 5))
+    let it = answer_parts_of (name_in (column r 1)) (name_in (column r 2)) (within 1 99 (column r 3)) (token_in (column r 4)) (within 1 50 (column r 5))
     (within 0 4102444800 (column r 6)) (kind_in 0 4000 is_printable (column r 7)) (within 0 65535 (column r 8)) row is in
     record {
       entrant = kind_column 1 24 is_word_byte (column r 1) row.key.entrant it.entrant;

@@ -1,9 +1,9 @@
 -- What the statements on answers mean under the hall's tables.
-use Rattle.std.proofs.Common.{◌≡◌, List, ℕ, codes, refl, false, [], ◌∷◌}
+use Rattle.std.proofs.Common.{◌≡◌, List, ℕ, codes, refl, pos, true, false, [], ◌∷◌}
 use Rattle.sqlite_tied.specs.Compute.{everything}
 use Rattle.sqlite_value.specs.declared.keys.Key.{Key}
 use Rattle.sqlite.specs.Term.{Term, lit, col}
-use Rattle.sqlite.specs.declared.types.Value.TheVariants.{Null}
+use Rattle.sqlite.specs.declared.types.Value.TheVariants.{Null, Text, Int}
 use Rattle.sqlite.specs.Source.TheVariants.{Values}
 use Rattle.sqlite.specs.Listing.{understood, reads_listing}
 use Rattle.sqlite.specs.Command.TheVariants.{Select, Insert}
@@ -12,6 +12,8 @@ use Rattle.hall_sql.specs.Tables.{hall_schema}
 use Rattle.hall_sql.specs.Statements.{plain_query, answer_text, answers_in_text, answers_of_text, add_answer_text}
 use Rattle.hall_sql.specs.Statements.{answers_given_text, number_taken_text}
 use Rattle.hall_sql.proofs.PeopleTexts.{equals, rising}
+use Rattle.hall_sql.specs.Asked.{IsAsked, is_whole}
+use Rattle.hall_sql.proofs.AskedLemmas.{asked}
 
 abbrev pub answer_columns : List Term
 answer_columns =
@@ -29,8 +31,13 @@ answer_names =
 pub answer_is : (command_of (understood hall_schema answer_text)
     ≡ Select (record { lets = []; body = plain_query 9 key_terms answer_columns [] }) answer_names)
     × (reads_listing hall_schema answer_text ≡ false) × IsPlain (understood hall_schema answer_text)
+    × (is_whole answer_text 4 (understood hall_schema answer_text) ≡ true)
 unfolding understood everything
-answer_is = (refl, refl, (refl, refl))
+answer_is = (refl, refl, (refl, refl), refl)
+
+pub answer_asked : (entrant round : List ℕ) (number : ℕ) (token : List ℕ) → IsAsked answer_text (Text entrant ∷ Text round ∷ Int (pos number) ∷ Text token ∷ [])
+answer_asked entrant round number token =
+    asked answer_text (Text entrant ∷ Text round ∷ Int (pos number) ∷ Text token ∷ []) 9 key_terms answer_columns [] _ answer_is.0 answer_is.1 answer_is.2 answer_is.3 refl
 
 -- entrant, number, n, token
 abbrev pub listing_order : List (Term × Key)
@@ -39,14 +46,24 @@ listing_order = (col 1 1, rising) ∷ (col 1 3, rising) ∷ (col 1 5, rising) �
 pub answers_in_is : (command_of (understood hall_schema answers_in_text)
     ≡ Select (record { lets = []; body = plain_query 9 (equals 2 0 ∷ []) answer_columns listing_order }) answer_names)
     × (reads_listing hall_schema answers_in_text ≡ false) × IsPlain (understood hall_schema answers_in_text)
+    × (is_whole answers_in_text 1 (understood hall_schema answers_in_text) ≡ true)
 unfolding understood everything
-answers_in_is = (refl, refl, (refl, refl))
+answers_in_is = (refl, refl, (refl, refl), refl)
+
+pub answers_in_asked : (round : List ℕ) → IsAsked answers_in_text (Text round ∷ [])
+answers_in_asked round =
+    asked answers_in_text (Text round ∷ []) 9 (equals 2 0 ∷ []) answer_columns listing_order _ answers_in_is.0 answers_in_is.1 answers_in_is.2 answers_in_is.3 refl
 
 pub answers_of_is : (command_of (understood hall_schema answers_of_text)
     ≡ Select (record { lets = []; body = plain_query 9 (equals 2 1 ∷ equals 1 0 ∷ []) answer_columns listing_order }) answer_names)
     × (reads_listing hall_schema answers_of_text ≡ false) × IsPlain (understood hall_schema answers_of_text)
+    × (is_whole answers_of_text 2 (understood hall_schema answers_of_text) ≡ true)
 unfolding understood everything
-answers_of_is = (refl, refl, (refl, refl))
+answers_of_is = (refl, refl, (refl, refl), refl)
+
+pub answers_of_asked : (entrant round : List ℕ) → IsAsked answers_of_text (Text entrant ∷ Text round ∷ [])
+answers_of_asked entrant round =
+    asked answers_of_text (Text entrant ∷ Text round ∷ []) 9 (equals 2 1 ∷ equals 1 0 ∷ []) answer_columns listing_order _ answers_of_is.0 answers_of_is.1 answers_of_is.2 answers_of_is.3 refl
 
 -- entrant = ?1 AND round = ?2 AND number = ?3
 abbrev pub place_terms : List Term
@@ -55,8 +72,13 @@ place_terms = equals 1 0 ∷ equals 2 1 ∷ equals 3 2 ∷ []
 pub answers_given_is : (command_of (understood hall_schema answers_given_text)
     ≡ Select (record { lets = []; body = plain_query 9 place_terms answer_columns [] }) answer_names)
     × (reads_listing hall_schema answers_given_text ≡ false) × IsPlain (understood hall_schema answers_given_text)
+    × (is_whole answers_given_text 3 (understood hall_schema answers_given_text) ≡ true)
 unfolding understood everything
-answers_given_is = (refl, refl, (refl, refl))
+answers_given_is = (refl, refl, (refl, refl), refl)
+
+pub answers_given_asked : (entrant round : List ℕ) (number : ℕ) → IsAsked answers_given_text (Text entrant ∷ Text round ∷ Int (pos number) ∷ [])
+answers_given_asked entrant round number =
+    asked answers_given_text (Text entrant ∷ Text round ∷ Int (pos number) ∷ []) 9 place_terms answer_columns [] _ answers_given_is.0 answers_given_is.1 answers_given_is.2 answers_given_is.3 refl
 
 -- entrant = ?1 AND round = ?2 AND number = ?3 AND n = ?4
 abbrev pub nth_terms : List Term
@@ -65,8 +87,13 @@ nth_terms = equals 1 0 ∷ equals 2 1 ∷ equals 3 2 ∷ equals 5 3 ∷ []
 pub number_taken_is : (command_of (understood hall_schema number_taken_text)
     ≡ Select (record { lets = []; body = plain_query 9 nth_terms answer_columns [] }) answer_names)
     × (reads_listing hall_schema number_taken_text ≡ false) × IsPlain (understood hall_schema number_taken_text)
+    × (is_whole number_taken_text 4 (understood hall_schema number_taken_text) ≡ true)
 unfolding understood everything
-number_taken_is = (refl, refl, (refl, refl))
+number_taken_is = (refl, refl, (refl, refl), refl)
+
+pub number_taken_asked : (entrant round : List ℕ) (number n : ℕ) → IsAsked number_taken_text (Text entrant ∷ Text round ∷ Int (pos number) ∷ Int (pos n) ∷ [])
+number_taken_asked entrant round number n =
+    asked number_taken_text (Text entrant ∷ Text round ∷ Int (pos number) ∷ Int (pos n) ∷ []) 9 nth_terms answer_columns [] _ number_taken_is.0 number_taken_is.1 number_taken_is.2 number_taken_is.3 refl
 
 -- the rowid that is chosen, and each parameter
 abbrev pub added_terms : List Term

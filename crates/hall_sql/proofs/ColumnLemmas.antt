@@ -1,5 +1,5 @@
 -- What a column holds whose value is read, and how SQL compares it.
-use Rattle.std.proofs.Common.{◌≡◌, ◌==◌, ◌&&◌, ◌⊎◌, inl, inr, ℕ, pos, negsuc, List, Bool, true, false, cond, Option, Some, None, refl, sym, ap, subst, ◌∙◌, arith}
+use Rattle.std.proofs.Common.{◌≡◌, ◌==◌, ◌&&◌, ◌⊎◌, inl, inr, ℕ, pos, negsuc, List, Bool, true, false, cond, Option, Some, None, refl, ap, ◌∙◌, arith}
 use Rattle.std.specs.Prelude.{nat_le}
 use Rattle.std.specs.declared.cmp.Ordering.{Ordering}
 use Rattle.std.specs.declared.cmp.Ordering.TheVariants.{Less, Equal, Greater}
@@ -22,7 +22,7 @@ use Rattle.hall_grid.specs.declared.fault.TextFault.{TextFault}
 use Rattle.hall_grid.specs.Text.{SpellsText, FaultOf}
 use Rattle.hall_grid.proofs.SpellsOrHasFault.{spells_or_fault}
 use Rattle.hall_grid.proofs.SpellsOnePuzzle.{one_puzzle, no_text_fault}
-use Rattle.hall_sql.specs.Values.{board_of, puzzle_in, passing, kind_in, within}
+use Rattle.hall_sql.specs.Values.{board_of, passing, kind_in, within}
 
 -- what passes a test is what was tested
 pub passed : {A : Type 0} (test : A → Bool) (x y : A) → passing test x ≡ Some y → (x ≡ y) × (test x ≡ true)
@@ -114,13 +114,6 @@ spelled text board spells = go (spells_or_fault text)
         → board_of outcome ≡ Some board
     go (inl other) = ap Some (one_puzzle text other.0 board other.1 spells)
     go (inr fault) = absurd (no_text_fault text board fault.0 spells fault.1)
-
--- the puzzle of a column is the one that its text spells
-pub puzzle_read : (v : Value) (text given : List ℕ) (board : Board) → v ≡ Text text → given ≡ text
-    → board_of (spells_or_fault given) ≡ Some board → puzzle_in v ≡ Some board
-puzzle_read v text given board is same spells =
-    subst (λ w. puzzle_in w ≡ Some board) (sym is)
-    (subst (λ t. board_of (spells_or_fault t) ≡ Some board) same spells)
 
 -- a column equals a text where the texts are the same
 pub column_same : (v : Value) (s t : List ℕ) → v ≡ Text s

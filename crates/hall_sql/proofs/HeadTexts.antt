@@ -1,8 +1,8 @@
 -- What the statements on the heads of rounds mean under the hall's tables.
-use Rattle.std.proofs.Common.{◌≡◌, List, codes, refl, false, [], ◌∷◌}
+use Rattle.std.proofs.Common.{◌≡◌, List, ℕ, codes, refl, true, false, [], ◌∷◌}
 use Rattle.sqlite_tied.specs.Compute.{everything}
 use Rattle.sqlite.specs.Term.{Term, lit, col}
-use Rattle.sqlite.specs.declared.types.Value.TheVariants.{Null}
+use Rattle.sqlite.specs.declared.types.Value.TheVariants.{Null, Text}
 use Rattle.sqlite.specs.Source.TheVariants.{Values}
 use Rattle.sqlite.specs.Table.{Table}
 use Rattle.sqlite.specs.Tree.{Trees}
@@ -15,6 +15,8 @@ use Rattle.hall_sql.specs.Statements.{plain_query, head_text, look_head_text, ad
 use Rattle.hall_sql.proofs.UpdateLemmas.{update}
 use Rattle.hall_sql.proofs.PeopleTexts.{equals}
 use Rattle.hall_sql.proofs.RoundTexts.{round_columns, round_names}
+use Rattle.hall_sql.specs.Asked.{IsAsked, is_whole}
+use Rattle.hall_sql.proofs.AskedLemmas.{asked}
 
 -- id = ?1
 abbrev pub id_terms : List Term
@@ -27,8 +29,13 @@ rounds_there = record rounds_table { tree = 5 }
 pub head_is : (command_of (understood hall_schema head_text)
     ≡ Select (record { lets = []; body = plain_query 5 id_terms round_columns [] }) round_names)
     × (reads_listing hall_schema head_text ≡ false) × IsPlain (understood hall_schema head_text)
+    × (is_whole head_text 1 (understood hall_schema head_text) ≡ true)
 unfolding understood everything
-head_is = (refl, refl, (refl, refl))
+head_is = (refl, refl, (refl, refl), refl)
+
+pub head_asked : (id : List ℕ) → IsAsked head_text (Text id ∷ [])
+head_asked id =
+    asked head_text (Text id ∷ []) 5 id_terms round_columns [] _ head_is.0 head_is.1 head_is.2 head_is.3 refl
 
 pub look_head_is : (command_of (understood hall_schema look_head_text)
     ≡ Select (record { lets = []; body = plain_query 5 id_terms (col 1 1 ∷ []) [] }) (codes "id" ∷ []))

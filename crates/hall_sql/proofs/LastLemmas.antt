@@ -9,7 +9,7 @@ use Rattle.hall_store.specs.Store.{Leads, MoreFaults}
 use Rattle.hall_store.proofs.Knowing.{lasts_then}
 use Rattle.hall_sql.specs.Standing.{Lasts, Follows, content_of}
 
-more_faults : (a b : ℕ) → min (a + 1) (2 ^ 64 - 1) ≤ b → MoreFaults a b
+pub more_faults : (a b : ℕ) → min (a + 1) (2 ^ 64 - 1) ≤ b → MoreFaults a b
 more_faults a b more = elim (cases_lt a b) [
   | inl less ↦ inl less
   | inr top ↦ inr (omega (arith, more, top))

@@ -1,6 +1,8 @@
 pub mod Selections
 pub mod LastLemmas
 pub mod CallLemmas
+pub mod CauseLemmas
+pub mod AskedLemmas
 pub mod ColumnLemmas
 pub mod MapLemmas
 pub mod FoundLemmas
@@ -59,3 +61,5 @@ pub mod FeedListings
 pub mod Agrees
 pub mod EachLemmas
 pub mod OpenedLemmas
+pub mod RecordParts
+pub mod UnreadLemmas

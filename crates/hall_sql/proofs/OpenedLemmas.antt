@@ -20,13 +20,15 @@ use Rattle.hall_sql.specs.Tables.{no_schema, hall_schema}
 use Rattle.hall_sql.specs.Rows.{world_of}
 use Rattle.hall_sql.specs.Standing.{StoodOrEmpty, HasAdopted, content_of}
 use Rattle.hall_sql.specs.Opened.{StandsFor, IsFound, Starts, MemoryServes, OneWorldIsFound}
+use Rattle.hall_sql.proofs.AdoptLemmas.{bare_world}
 
 -- the database of a connection that was taken over
 stood : (old new : State) → IsSound old.now.schema old.now.trees → StoodOrEmpty old new
     → StandsFor old.now.trees (world_of new.now.trees)
 stood old new sound (inl same) =
     inl (subst (λ (s : Schema). IsSound s old.now.trees) same.0 sound, ap (λ (d : Database). world_of d.trees) same.1)
-stood old new sound (inr none) = inr (subst (λ (s : Schema). IsSound s old.now.trees) none.0 sound, none.1)
+stood old new sound (inr none) =
+    inr (subst (λ (s : Schema). IsSound s old.now.trees) none.0 sound, bare_world new.now none.1)
 
 -- files without a byte hold no table
 from_nothing : (image : Image) (db : Trees) (world : World) → AreFoundIn image db → StandsFor db world → image.db ≡ []
@@ -84,7 +86,7 @@ hall_is_some same = let tables = ap (λ (s : Schema). length s.tables) same in c
 pub from_empty : (old new : State) → old.now.schema ≡ no_schema → StoodOrEmpty old new
     → world_of new.now.trees ≡ empty_world
 from_empty old new none (inl same) = absurd (hall_is_some (sym none ∙ same.0))
-from_empty old new none (inr empty) = empty.1
+from_empty old new none (inr empty) = bare_world new.now empty.1
 
 -- over memory the disk is clean
 pub empty_in_memory : (conn store : Held MemStore) → IsEmpty (state over_memory conn)

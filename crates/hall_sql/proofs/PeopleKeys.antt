@@ -19,7 +19,8 @@ use Rattle.hall_policy.specs.World.{same_text}
 use Rattle.hall_policy.specs.declared.record.Person.{Person}
 use Rattle.hall_policy.proofs.Maps.{value_of_get}
 use Rattle.hall_policy.proofs.Orders.{text_total, same_texts}
-use Rattle.hall_store.proofs.Tests.{text_decides, find-Contains}
+use Rattle.hall_store.proofs.Tests.{find-Contains}
+use Rattle.hall_policy.proofs.Texts.{text_decides}
 use Rattle.hall_store.specs.Caller.{IsKeyHolder, with_key}
 use Rattle.hall_sql.specs.Tables.{hall_schema, people_table}
 use Rattle.hall_sql.specs.Rows.{person_in, person_of, world_of}

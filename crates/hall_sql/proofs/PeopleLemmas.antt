@@ -1,5 +1,5 @@
 -- What the statements on people say of the world.
-use Rattle.std.proofs.Common.{◌≡◌, ◌≤◌, ℕ, List, [], ◌∷◌, length, map, slice_get, Option, Some, None, refl, ap}
+use Rattle.std.proofs.Common.{◌≡◌, ◌≤◌, ℕ, List, [], ◌∷◌, length, map, slice_get, Some, refl}
 use Rattle.std.specs.List.{list_all}
 use Rattle.std.specs.Ordering.{eq_by_cmp}
 use Rattle.std.specs.FinMap.{get}
@@ -8,10 +8,8 @@ use Rattle.sqlite.specs.Order.{Row}
 use Rattle.sqlite_value.specs.Order.{column}
 use Rattle.sqlite.specs.Term.{holds}
 use Rattle.sqlite.specs.State.{State, Shown}
-use Rattle.hall_grid.specs.FormReading.{◌>>=◌}
 use Rattle.hall_policy.specs.Text.{text_cmp, is_word_byte, is_key_byte}
 use Rattle.hall_policy.specs.declared.record.Person.{Person}
-use Rattle.hall_policy.specs.declared.record.Roles.{Roles}
 use Rattle.hall_sql.specs.Tables.{hall_schema}
 use Rattle.hall_sql.specs.Statements.{person_text}
 use Rattle.hall_sql.specs.Values.{name_in, key_in, roles_in}
@@ -20,23 +18,13 @@ use Rattle.hall_sql.proofs.PeopleTexts.{equals, person_columns, person_is}
 use Rattle.hall_sql.proofs.ColumnLemmas.{kind_column, column_equals, last_equal}
 use Rattle.hall_policy.proofs.Orders.{text_total, same_texts}
 use Rattle.hall_sql.proofs.FoundLemmas.{asked_found}
-
--- a person that is read has its parts in the columns
-parts : (a b : Option (List ℕ)) (c : Option Roles) (p : Person)
-    → (a >>= (λ name. b >>= (λ key. c >>= (λ roles. Some (let q : Person = record { name = name; key = key; roles = roles } in q))))) ≡ Some p
-    → (a ≡ Some p.name) × (b ≡ Some p.key) × (c ≡ Some p.roles)
-parts None b c p is = absurd cc
-parts (Some name) None c p is = absurd cc
-parts (Some name) (Some key) None p is = absurd cc
-parts (Some name) (Some key) (Some roles) p is =
-    let same : (let q : Person = record { name = name; key = key; roles = roles } in q) ≡ p = cc in
-    (ap (λ (q : Person). Some q.name) same, ap (λ (q : Person). Some q.key) same, ap (λ (q : Person). Some q.roles) same)
+use Rattle.hall_sql.proofs.RecordParts.{person_parts_of}
 
 pub name_column : (r : Row) (p : Person) → person_of r ≡ Some p → column r 1 ≡ Text p.name
-name_column r p is = kind_column 1 24 is_word_byte (column r 1) p.name (parts (name_in (column r 1)) (key_in (column r 2)) (roles_in (column r 3)) p is).0
+name_column r p is = kind_column 1 24 is_word_byte (column r 1) p.name (person_parts_of (name_in (column r 1)) (key_in (column r 2)) (roles_in (column r 3)) p is).name
 
 pub key_column : (r : Row) (p : Person) → person_of r ≡ Some p → column r 2 ≡ Text p.key
-key_column r p is = kind_column 8 64 is_key_byte (column r 2) p.key (parts (name_in (column r 1)) (key_in (column r 2)) (roles_in (column r 3)) p is).1
+key_column r p is = kind_column 8 64 is_key_byte (column r 2) p.key (person_parts_of (name_in (column r 1)) (key_in (column r 2)) (roles_in (column r 3)) p is).key
 
 -- WHERE name = ?1 asks for the name
 named : (name : List ℕ) (r : Row) (p : Person) → person_of r ≡ Some p

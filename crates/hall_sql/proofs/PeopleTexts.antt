@@ -1,5 +1,5 @@
 -- What the statements on people mean under the hall's tables.
-use Rattle.std.proofs.Common.{◌≡◌, List, ℕ, codes, refl, false, [], ◌∷◌}
+use Rattle.std.proofs.Common.{◌≡◌, List, ℕ, codes, refl, true, false, [], ◌∷◌}
 use Rattle.sqlite_tied.specs.Compute.{everything}
 use Rattle.sqlite_sql.specs.declared.ops.BinaryOp.TheVariants.{Compare}
 use Rattle.sqlite_sql.specs.declared.ops.CompareOp.TheVariants.{Eq}
@@ -9,10 +9,12 @@ use Rattle.sqlite.specs.Term.{Term, lit, col, op2}
 use Rattle.sqlite.specs.Listing.{understood, reads_listing}
 use Rattle.sqlite.specs.Command.TheVariants.{Select, Insert}
 use Rattle.sqlite.specs.Source.TheVariants.{Values}
-use Rattle.sqlite.specs.declared.types.Value.TheVariants.{Null}
+use Rattle.sqlite.specs.declared.types.Value.TheVariants.{Null, Text}
 use Rattle.sqlite.proofs.Callers.{IsPlain, command_of}
 use Rattle.hall_sql.specs.Tables.{hall_schema}
 use Rattle.hall_sql.specs.Statements.{plain_query, person_text, person_by_key_text, add_person_text}
+use Rattle.hall_sql.specs.Asked.{IsAsked, is_whole}
+use Rattle.hall_sql.proofs.AskedLemmas.{asked}
 
 abbrev pub equals : ℕ → ℕ → Term
 equals place parameter = op2 (Compare Eq Binary) (col 1 place) (col 0 parameter)
@@ -28,15 +30,25 @@ pub person_is : (command_of (understood hall_schema person_text)
     ≡ Select (record { lets = []; body = plain_query 0 (equals 1 0 ∷ []) person_columns [] })
     (codes "name" ∷ codes "pass" ∷ codes "roles" ∷ []))
     × (reads_listing hall_schema person_text ≡ false) × IsPlain (understood hall_schema person_text)
+    × (is_whole person_text 1 (understood hall_schema person_text) ≡ true)
 unfolding understood everything
-person_is = (refl, refl, (refl, refl))
+person_is = (refl, refl, (refl, refl), refl)
+
+pub person_asked : (name : List ℕ) → IsAsked person_text (Text name ∷ [])
+person_asked name =
+    asked person_text (Text name ∷ []) 0 (equals 1 0 ∷ []) person_columns [] _ person_is.0 person_is.1 person_is.2 person_is.3 refl
 
 pub person_by_key_is : (command_of (understood hall_schema person_by_key_text)
     ≡ Select (record { lets = []; body = plain_query 0 (equals 2 0 ∷ []) person_columns [] })
     (codes "name" ∷ codes "pass" ∷ codes "roles" ∷ []))
     × (reads_listing hall_schema person_by_key_text ≡ false) × IsPlain (understood hall_schema person_by_key_text)
+    × (is_whole person_by_key_text 1 (understood hall_schema person_by_key_text) ≡ true)
 unfolding understood everything
-person_by_key_is = (refl, refl, (refl, refl))
+person_by_key_is = (refl, refl, (refl, refl), refl)
+
+pub person_by_key_asked : (key : List ℕ) → IsAsked person_by_key_text (Text key ∷ [])
+person_by_key_asked key =
+    asked person_by_key_text (Text key ∷ []) 0 (equals 2 0 ∷ []) person_columns [] _ person_by_key_is.0 person_by_key_is.1 person_by_key_is.2 person_by_key_is.3 refl
 
 -- the rowid that is chosen, and each parameter
 abbrev pub added_terms : List Term

@@ -19,7 +19,6 @@ use Rattle.sqlite_rules.proofs.ListLemmas.{all_has}
 use Rattle.sqlite_value.specs.Keys.{plain, first_key}
 use Rattle.sqlite_value.specs.Order.{column}
 use Rattle.sqlite_value.proofs.OrderLemmas.{then-Equal, value_cmp-Int}
-use Rattle.hall_grid.specs.FormReading.{◌>>=◌}
 use Rattle.hall_policy.specs.Text.{is_word_byte}
 use Rattle.hall_policy.specs.Rules.{Lists}
 use Rattle.hall_policy.specs.World.{World, place_cmp}
@@ -42,43 +41,13 @@ use Rattle.hall_sql.proofs.ListedLemmas.{by_order, records_asked, records_sorted
 use Rattle.hall_sql.proofs.MapLemmas.{found, get_kept}
 use Rattle.hall_sql.proofs.RoundQueries.{place_columns, puzzle_terms, first_terms, number_order, places_with_is, places_of_is}
 use Rattle.hall_sql.proofs.UniqueLemmas.{equal_texts, equal_numbers, first_not, kept_keyed, records_listed}
+use Rattle.hall_sql.proofs.RecordParts.{place_parts_of}
 
 abbrev pub Place : Type 0
 Place = PlaceKey × Entry
 
 abbrev pub key_of : Place → PlaceKey
 key_of place = place.0
-
-abbrev of_parts : List ℕ → ℕ → List ℕ → List ℕ → ℕ → Place
-of_parts round number author label points = (
-  record { round = round; number = number },
-  record { puzzle = record { author = author; label = label }; points = points },
-)
-
-record PartsOf (place : Place) (a : Option (List ℕ)) (b : Option ℕ) (c d : Option (List ℕ)) : Type 0 where
-  round : a ≡ Some place.0.round
-  number : b ≡ Some place.0.number
-  author : c ≡ Some place.1.puzzle.author
-  label : d ≡ Some place.1.puzzle.label
-
--- a place that is read has its parts in the columns
-parts : (a : Option (List ℕ)) (b : Option ℕ) (c d : Option (List ℕ)) (e : Option ℕ) (place : Place)
-    → (a >>= (λ round. b >>= (λ number. c >>= (λ author. d >>= (λ label. e >>= (λ points.
-    Some (of_parts round number author label points))))))) ≡ Some place
-    → PartsOf place a b c d
-parts None b c d e place is = absurd cc
-parts (Some a) None c d e place is = absurd cc
-parts (Some a) (Some b) None d e place is = absurd cc
-parts (Some a) (Some b) (Some c) None e place is = absurd cc
-parts (Some a) (Some b) (Some c) (Some d) None place is = absurd cc
-parts (Some a) (Some b) (Some c) (Some d) (Some e) place is =
-    let same : of_parts a b c d e ≡ place = cc in
-    record {
-      round = ap (λ (x : Place). Some x.0.round) same;
-      number = ap (λ (x : Place). Some x.0.number) same;
-      author = ap (λ (x : Place). Some x.1.puzzle.author) same;
-      label = ap (λ (x : Place). Some x.1.puzzle.label) same;
-    }
 
 -- the columns of a place and of the puzzle there
 pub record HasColumns (r : Row) (place : Place) : Type 0 where
@@ -89,7 +58,7 @@ pub record HasColumns (r : Row) (place : Place) : Type 0 where
 
 pub has_columns : (r : Row) (place : Place) → place_of r ≡ Some place → HasColumns r place
 has_columns r place is =
-    let it = parts (name_in (column r 1)) (within 1 99 (column r 2)) (name_in (column r 3)) (name_in (column r 4))
+    let it = place_parts_of (name_in (column r 1)) (within 1 99 (column r 2)) (name_in (column r 3)) (name_in (column r 4))
     (within 1 1000 (column r 5)) place is in
     record {
       round = kind_column 1 24 is_word_byte (column r 1) place.0.round it.round;

@@ -1,5 +1,5 @@
 -- What the statements that write the puzzles of a round leave.
-use Rattle.std.proofs.Common.{◌≡◌, ◌≢◌, ◌≤◌, ◌<◌, ◌+◌, ℕ, suc, List, [], ◌∷◌, ◌++◌, length, map, filter, flat_map, take, get_or, option_to_list, Bool, true, false, not, cond, Option, Some, None, Ok, IsTrue, refl, sym, ap, subst, ◌∙◌, arith}
+use Rattle.std.proofs.Common.{◌≡◌, ◌≢◌, ◌≤◌, ◌<◌, ◌+◌, ℕ, suc, List, [], ◌∷◌, ◌++◌, length, map, filter, flat_map, take, get_or, option_to_list, Bool, true, false, not, cond, Some, None, Ok, IsTrue, refl, sym, ap, subst, ◌∙◌, arith}
 use Rattle.std.proofs.lemmas.List.{take_more, length-take-le}
 use Rattle.std.specs.List.{AllByRecursion}
 use Rattle.std.specs.FinMap.{FinMap, from_entries, get, insert, get-insert, get-retain_keys, same_map}
@@ -26,7 +26,6 @@ use Rattle.sqlite.specs.Source.TheVariants.{Values}
 use Rattle.sqlite.specs.Command.TheVariants.{Insert}
 use Rattle.sqlite.specs.State.{State, Executes}
 use Rattle.sqlite.proofs.Callers.{runs_as}
-use Rattle.hall_grid.specs.FormReading.{◌>>=◌}
 use Rattle.hall_policy.specs.Text.{text_cmp, is_word_byte}
 use Rattle.hall_policy.specs.World.{World, puzzle_cmp, place_cmp, answer_cmp, protest_cmp, same_text}
 use Rattle.hall_policy.specs.Ranges.{IsRoundId, IsEntry, IsWithin}
@@ -57,31 +56,15 @@ use Rattle.hall_sql.proofs.KeyedLemmas.{keyed_after, keyed_filter, added_keyed}
 use Rattle.hall_sql.proofs.PeopleTexts.{equals}
 use Rattle.hall_sql.proofs.PlaceTexts.{places_there, places_apart, places_restricted, drop_places_is, added_terms, add_place_is}
 use Rattle.hall_sql.proofs.WriteLemmas.{same_worlds, cast_null, cast_number}
+use Rattle.hall_sql.proofs.RecordParts.{place_parts_of}
 
 -- ---- what a row of the table says
-
-abbrev of_parts : List ℕ → ℕ → List ℕ → List ℕ → ℕ → PlaceKey × Entry
-of_parts round number author label points =
-    (record { round = round; number = number }, record { puzzle = record { author = author; label = label }; points = points })
-
--- a place that is read has its round from the first column
-round_read : (a : Option (List ℕ)) (b : Option ℕ) (c d : Option (List ℕ)) (e : Option ℕ) (place : PlaceKey × Entry)
-    → (a >>= (λ round. b >>= (λ number. c >>= (λ author. d >>= (λ label. e >>= (λ points. Some (of_parts round number author label points))))))) ≡ Some place
-    → a ≡ Some place.0.round
-round_read None b c d e place is = absurd cc
-round_read (Some a) None c d e place is = absurd cc
-round_read (Some a) (Some b) None d e place is = absurd cc
-round_read (Some a) (Some b) (Some c) None e place is = absurd cc
-round_read (Some a) (Some b) (Some c) (Some d) None place is = absurd cc
-round_read (Some a) (Some b) (Some c) (Some d) (Some e) place is =
-    let same : of_parts a b c d e ≡ place = cc in
-    ap (λ (x : PlaceKey × Entry). Some x.0.round) same
 
 -- WHERE round = ?1 asks for the round
 agrees : (id : List ℕ) (r : Row) (place : PlaceKey × Entry) → place_of r ≡ Some place → is_under id r ≡ same_text place.0.round id
 agrees id r place is =
     let round = kind_column 1 24 is_word_byte (column r 1) place.0.round
-    (round_read (name_in (column r 1)) (within 1 99 (column r 2)) (name_in (column r 3)) (name_in (column r 4)) (within 1 1000 (column r 5)) place is) in
+    (place_parts_of (name_in (column r 1)) (within 1 99 (column r 2)) (name_in (column r 3)) (name_in (column r 4)) (within 1 1000 (column r 5)) place is).round in
     and_true _ ∙ column_same (column r 1) place.0.round id round
 
 -- where the table of places alone was written, the places alone are changed

@@ -1,5 +1,5 @@
 -- What the statements on protests say of the world.
-use Rattle.std.proofs.Common.{◌≡◌, ◌≤◌, ◌&&◌, ℕ, pos, List, [], ◌∷◌, length, map, flat_map, true, slice_get, Option, Some, None, IfSome, option_to_list, refl, sym, ap, subst, ◌∙◌}
+use Rattle.std.proofs.Common.{◌≡◌, ◌≤◌, ◌&&◌, ℕ, pos, List, [], ◌∷◌, length, map, flat_map, true, slice_get, Some, IfSome, option_to_list, refl, sym, ap, subst, ◌∙◌}
 use Rattle.std.proofs.lemmas.Option.{IfSome_then}
 use Rattle.std.specs.List.{list_all, AllByRecursion}
 use Rattle.std.specs.List.Sorted.{IsPermutation}
@@ -17,12 +17,10 @@ use Rattle.sqlite_rules.proofs.ListLemmas.{all_has}
 use Rattle.sqlite_value.specs.Keys.{plain, first_key}
 use Rattle.sqlite_value.specs.Order.{column}
 use Rattle.sqlite_value.proofs.OrderLemmas.{then-Equal, value_cmp-Text}
-use Rattle.hall_grid.specs.FormReading.{◌>>=◌}
 use Rattle.hall_policy.specs.Text.{text_cmp, is_word_byte, is_printable}
 use Rattle.hall_policy.specs.World.{protest_cmp}
 use Rattle.hall_policy.specs.declared.record.ProtestKey.{ProtestKey}
 use Rattle.hall_policy.specs.declared.record.ProtestRow.{ProtestRow}
-use Rattle.hall_policy.specs.declared.record.Ruling.{Ruling}
 use Rattle.hall_policy.proofs.Orders.{protest_total, same_protest_keys}
 use Rattle.hall_store.specs.Store.{protests_in, protests_of, is_protest_in, is_protest_of}
 use Rattle.hall_sql.specs.Tables.{hall_schema}
@@ -36,45 +34,8 @@ use Rattle.hall_sql.proofs.FoundLemmas.{asked_found, asked_alone}
 use Rattle.hall_sql.proofs.ListedLemmas.{by_order, values_asked}
 use Rattle.hall_sql.proofs.PeopleTexts.{equals}
 use Rattle.hall_sql.proofs.ProtestTexts.{protests_there, key_terms, key_order, protest_columns, protest_is, protests_of_is, protests_in_is}
+use Rattle.hall_sql.proofs.RecordParts.{protest_parts_of}
 use Rattle.hall_sql.proofs.UniqueLemmas.{equal_texts, first_not, records_listed}
-
-abbrev of_parts : List ℕ → List ℕ → List ℕ → ℕ → List ℕ → Option Ruling → ProtestRow
-of_parts entrant round token number text ruling = record {
-  key = record { entrant = entrant; round = round; token = token };
-  number = number;
-  text = text;
-  ruling = ruling;
-}
-
-record PartsOf (row : ProtestRow) (a b c : Option (List ℕ)) (d : Option ℕ) (e : Option (List ℕ)) (f : Option (Option Ruling)) : Type 0 where
-  entrant : a ≡ Some row.key.entrant
-  round : b ≡ Some row.key.round
-  token : c ≡ Some row.key.token
-  number : d ≡ Some row.number
-  text : e ≡ Some row.text
-  ruling : f ≡ Some row.ruling
-
--- a protest that is read has its parts in the columns
-parts : (a b c : Option (List ℕ)) (d : Option ℕ) (e : Option (List ℕ)) (f : Option (Option Ruling)) (row : ProtestRow)
-    → (a >>= (λ entrant. b >>= (λ round. c >>= (λ token. d >>= (λ number. e >>= (λ text. f >>= (λ ruling.
-    Some (of_parts entrant round token number text ruling)))))))) ≡ Some row
-    → PartsOf row a b c d e f
-parts None b c d e f row is = absurd cc
-parts (Some a) None c d e f row is = absurd cc
-parts (Some a) (Some b) None d e f row is = absurd cc
-parts (Some a) (Some b) (Some c) None e f row is = absurd cc
-parts (Some a) (Some b) (Some c) (Some d) None f row is = absurd cc
-parts (Some a) (Some b) (Some c) (Some d) (Some e) None row is = absurd cc
-parts (Some a) (Some b) (Some c) (Some d) (Some e) (Some f) row is =
-    let same : of_parts a b c d e f ≡ row = cc in
-    record {
-      entrant = ap (λ (x : ProtestRow). Some x.key.entrant) same;
-      round = ap (λ (x : ProtestRow). Some x.key.round) same;
-      token = ap (λ (x : ProtestRow). Some x.key.token) same;
-      number = ap (λ (x : ProtestRow). Some x.number) same;
-      text = ap (λ (x : ProtestRow). Some x.text) same;
-      ruling = ap (λ (x : ProtestRow). Some x.ruling) same;
-    }
 
 -- the columns of a protest, and what its ruling is read from
 pub record HasColumns (r : Row) (row : ProtestRow) : Type 0 where
@@ -87,7 +48,7 @@ pub record HasColumns (r : Row) (row : ProtestRow) : Type 0 where
 
 pub has_columns : (r : Row) (row : ProtestRow) → protest_of r ≡ Some row → HasColumns r row
 has_columns r row is =
-    let it = parts (name_in (column r 1)) (name_in (column r 2)) (token_in (column r 3)) (within 1 99 (column r 4))
+    let it = protest_parts_of (name_in (column r 1)) (name_in (column r 2)) (token_in (column r 3)) (within 1 99 (column r 4))
     (kind_in 1 200 is_printable (column r 5)) (ruling_in (column r 6) (column r 7)) row is in
     record {
       entrant = kind_column 1 24 is_word_byte (column r 1) row.key.entrant it.entrant;

@@ -11,7 +11,8 @@ use Rattle.hall_policy.specs.declared.record.ProtestRow.{ProtestRow}
 use Rattle.hall_policy.specs.declared.record.Ruling.{Ruling}
 use Rattle.hall_policy.proofs.Maps.{value_of_get}
 use Rattle.hall_policy.proofs.Orders.{protest_total, same_protest_keys}
-use Rattle.hall_store.proofs.Tests.{Contains-filter, filter-Contains, text_decides, and_first, and_second, and_both, and_turned}
+use Rattle.hall_store.proofs.Tests.{Contains-filter, filter-Contains, and_both, and_turned}
+use Rattle.hall_policy.proofs.Texts.{text_decides, and_first, and_second}
 use Rattle.hall_store.specs.Store.{IsProtestOpen, protests_of, protests_in, is_protest_of, is_protest_in}
 use Rattle.hall_sql.specs.Rows.{protest_of, world_of}
 use Rattle.hall_sql.proofs.AmongLemmas.{kept_value}

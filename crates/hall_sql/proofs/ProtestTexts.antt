@@ -1,8 +1,8 @@
 -- What the statements on protests mean under the hall's tables.
-use Rattle.std.proofs.Common.{◌≡◌, List, ℕ, codes, refl, false, [], ◌∷◌}
+use Rattle.std.proofs.Common.{◌≡◌, List, ℕ, codes, refl, true, false, [], ◌∷◌}
 use Rattle.sqlite_tied.specs.Compute.{everything}
 use Rattle.sqlite_value.specs.declared.keys.Key.{Key}
-use Rattle.sqlite.specs.declared.types.Value.TheVariants.{Null}
+use Rattle.sqlite.specs.declared.types.Value.TheVariants.{Null, Text}
 use Rattle.sqlite.specs.Term.{Term, col, lit}
 use Rattle.sqlite.specs.Listing.{understood, reads_listing}
 use Rattle.sqlite.specs.Program.{overlay}
@@ -16,6 +16,8 @@ use Rattle.hall_sql.specs.Statements.{plain_query, protest_text, protests_of_tex
 use Rattle.hall_sql.specs.Statements.{add_protest_text, rule_protest_text}
 use Rattle.hall_sql.proofs.UpdateLemmas.{update}
 use Rattle.hall_sql.proofs.PeopleTexts.{equals, rising}
+use Rattle.hall_sql.specs.Asked.{IsAsked, is_whole}
+use Rattle.hall_sql.proofs.AskedLemmas.{asked}
 
 abbrev pub protest_columns : List Term
 protest_columns = col 1 1 ∷ col 1 2 ∷ col 1 3 ∷ col 1 4 ∷ col 1 5 ∷ col 1 6 ∷ col 1 7 ∷ []
@@ -36,20 +38,35 @@ key_order = (col 1 1, rising) ∷ (col 1 2, rising) ∷ (col 1 3, rising) ∷ []
 pub protest_is : (command_of (understood hall_schema protest_text)
     ≡ Select (record { lets = []; body = plain_query 12 key_terms protest_columns [] }) protest_names)
     × (reads_listing hall_schema protest_text ≡ false) × IsPlain (understood hall_schema protest_text)
+    × (is_whole protest_text 3 (understood hall_schema protest_text) ≡ true)
 unfolding understood everything
-protest_is = (refl, refl, (refl, refl))
+protest_is = (refl, refl, (refl, refl), refl)
+
+pub protest_asked : (entrant round token : List ℕ) → IsAsked protest_text (Text entrant ∷ Text round ∷ Text token ∷ [])
+protest_asked entrant round token =
+    asked protest_text (Text entrant ∷ Text round ∷ Text token ∷ []) 12 key_terms protest_columns [] _ protest_is.0 protest_is.1 protest_is.2 protest_is.3 refl
 
 pub protests_of_is : (command_of (understood hall_schema protests_of_text)
     ≡ Select (record { lets = []; body = plain_query 12 (equals 2 1 ∷ equals 1 0 ∷ []) protest_columns key_order }) protest_names)
     × (reads_listing hall_schema protests_of_text ≡ false) × IsPlain (understood hall_schema protests_of_text)
+    × (is_whole protests_of_text 2 (understood hall_schema protests_of_text) ≡ true)
 unfolding understood everything
-protests_of_is = (refl, refl, (refl, refl))
+protests_of_is = (refl, refl, (refl, refl), refl)
+
+pub protests_of_asked : (entrant round : List ℕ) → IsAsked protests_of_text (Text entrant ∷ Text round ∷ [])
+protests_of_asked entrant round =
+    asked protests_of_text (Text entrant ∷ Text round ∷ []) 12 (equals 2 1 ∷ equals 1 0 ∷ []) protest_columns key_order _ protests_of_is.0 protests_of_is.1 protests_of_is.2 protests_of_is.3 refl
 
 pub protests_in_is : (command_of (understood hall_schema protests_in_text)
     ≡ Select (record { lets = []; body = plain_query 12 (equals 2 0 ∷ []) protest_columns key_order }) protest_names)
     × (reads_listing hall_schema protests_in_text ≡ false) × IsPlain (understood hall_schema protests_in_text)
+    × (is_whole protests_in_text 1 (understood hall_schema protests_in_text) ≡ true)
 unfolding understood everything
-protests_in_is = (refl, refl, (refl, refl))
+protests_in_is = (refl, refl, (refl, refl), refl)
+
+pub protests_in_asked : (round : List ℕ) → IsAsked protests_in_text (Text round ∷ [])
+protests_in_asked round =
+    asked protests_in_text (Text round ∷ []) 12 (equals 2 0 ∷ []) protest_columns key_order _ protests_in_is.0 protests_in_is.1 protests_in_is.2 protests_in_is.3 refl
 
 -- the rowid that is chosen, and each parameter
 abbrev pub added_terms : List Term

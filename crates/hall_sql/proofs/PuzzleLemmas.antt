@@ -1,5 +1,5 @@
 -- What the statements on puzzles say of the world.
-use Rattle.std.proofs.Common.{◌≡◌, ◌≤◌, ℕ, List, [], ◌∷◌, length, map, slice_get, Option, Some, None, refl, ap}
+use Rattle.std.proofs.Common.{◌≡◌, ◌≤◌, List, [], ◌∷◌, length, map, slice_get, Some, refl}
 use Rattle.std.specs.List.{list_all}
 use Rattle.std.specs.Ordering.{eq_by_cmp}
 use Rattle.std.specs.FinMap.{get}
@@ -8,14 +8,11 @@ use Rattle.sqlite.specs.Order.{Row}
 use Rattle.sqlite_value.specs.Order.{column}
 use Rattle.sqlite.specs.Term.{holds}
 use Rattle.sqlite.specs.State.{State, Shown}
-use Rattle.hall_grid.specs.FormReading.{◌>>=◌}
-use Rattle.hall_grid.specs.Board.{Board}
 use Rattle.hall_policy.specs.Text.{is_word_byte}
 use Rattle.hall_policy.specs.World.{puzzle_cmp}
 use Rattle.hall_policy.proofs.Orders.{puzzle_total, same_puzzle_keys}
 use Rattle.hall_policy.specs.declared.record.PuzzleKey.{PuzzleKey}
 use Rattle.hall_policy.specs.declared.record.PuzzleRow.{PuzzleRow}
-use Rattle.hall_policy.specs.declared.record.PuzzleState.{PuzzleState}
 use Rattle.hall_sql.specs.Tables.{hall_schema}
 use Rattle.hall_sql.specs.Statements.{puzzle_text}
 use Rattle.hall_sql.specs.Values.{name_in, puzzle_in, state_in}
@@ -23,28 +20,13 @@ use Rattle.hall_sql.specs.Rows.{puzzle_row_in, puzzle_row_of, world_of}
 use Rattle.hall_sql.proofs.PuzzleTexts.{key_terms, puzzle_columns, puzzle_is}
 use Rattle.hall_sql.proofs.ColumnLemmas.{kind_column, column_equals, last_equal, more_equal}
 use Rattle.hall_sql.proofs.FoundLemmas.{asked_found}
-
-abbrev of_parts : List ℕ → List ℕ → Board → PuzzleState → PuzzleRow
-of_parts author label puzzle state =
-    record { key = record { author = author; label = label }; puzzle = puzzle; state = state }
-
--- a puzzle that is read has its key in the columns
-key_parts : (a b : Option (List ℕ)) (c : Option Board) (d : Option PuzzleState) (row : PuzzleRow)
-    → (a >>= (λ author. b >>= (λ label. c >>= (λ puzzle. d >>= (λ state. Some (of_parts author label puzzle state)))))) ≡ Some row
-    → (a ≡ Some row.key.author) × (b ≡ Some row.key.label)
-key_parts None b c d row is = absurd cc
-key_parts (Some a) None c d row is = absurd cc
-key_parts (Some a) (Some b) None d row is = absurd cc
-key_parts (Some a) (Some b) (Some c) None row is = absurd cc
-key_parts (Some a) (Some b) (Some c) (Some d) row is =
-    let same : of_parts a b c d ≡ row = cc in
-    (ap (λ (x : PuzzleRow). Some x.key.author) same, ap (λ (x : PuzzleRow). Some x.key.label) same)
+use Rattle.hall_sql.proofs.RecordParts.{puzzle_parts_of}
 
 pub key_columns : (r : Row) (row : PuzzleRow) → puzzle_row_of r ≡ Some row
     → (column r 1 ≡ Text row.key.author) × (column r 2 ≡ Text row.key.label)
 key_columns r row is =
-    let parts = key_parts (name_in (column r 1)) (name_in (column r 2)) (puzzle_in (column r 3)) (state_in (column r 4) (column r 5)) row is in
-    (kind_column 1 24 is_word_byte (column r 1) row.key.author parts.0, kind_column 1 24 is_word_byte (column r 2) row.key.label parts.1)
+    let parts = puzzle_parts_of (name_in (column r 1)) (name_in (column r 2)) (puzzle_in (column r 3)) (state_in (column r 4) (column r 5)) row is in
+    (kind_column 1 24 is_word_byte (column r 1) row.key.author parts.author, kind_column 1 24 is_word_byte (column r 2) row.key.label parts.label)
 
 abbrev pub key_params : PuzzleKey → Row
 key_params key = Text key.author ∷ Text key.label ∷ []

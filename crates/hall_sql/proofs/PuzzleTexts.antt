@@ -1,9 +1,9 @@
 -- What the statements on puzzles mean under the hall's tables.
-use Rattle.std.proofs.Common.{◌≡◌, List, ℕ, codes, refl, false, [], ◌∷◌}
+use Rattle.std.proofs.Common.{◌≡◌, List, ℕ, codes, refl, true, false, [], ◌∷◌}
 use Rattle.sqlite_tied.specs.Compute.{everything}
 use Rattle.sqlite_value.specs.declared.keys.Key.{Key}
 use Rattle.sqlite.specs.Term.{Term, lit, col}
-use Rattle.sqlite.specs.declared.types.Value.TheVariants.{Null}
+use Rattle.sqlite.specs.declared.types.Value.TheVariants.{Null, Text}
 use Rattle.sqlite.specs.Source.TheVariants.{Values}
 use Rattle.sqlite.specs.Table.{Table}
 use Rattle.sqlite.specs.Tree.{Trees}
@@ -16,6 +16,8 @@ use Rattle.hall_sql.specs.Statements.{plain_query, puzzle_text, all_puzzles_text
 use Rattle.hall_sql.specs.Statements.{add_puzzle_text, replace_puzzle_text}
 use Rattle.hall_sql.proofs.UpdateLemmas.{update}
 use Rattle.hall_sql.proofs.PeopleTexts.{equals, rising}
+use Rattle.hall_sql.specs.Asked.{IsAsked, is_whole}
+use Rattle.hall_sql.proofs.AskedLemmas.{asked}
 
 abbrev pub puzzle_columns : List Term
 puzzle_columns = col 1 1 ∷ col 1 2 ∷ col 1 3 ∷ col 1 4 ∷ col 1 5 ∷ []
@@ -30,8 +32,13 @@ puzzle_names = codes "author" ∷ codes "label" ∷ codes "body" ∷ codes "stat
 pub puzzle_is : (command_of (understood hall_schema puzzle_text)
     ≡ Select (record { lets = []; body = plain_query 3 key_terms puzzle_columns [] }) puzzle_names)
     × (reads_listing hall_schema puzzle_text ≡ false) × IsPlain (understood hall_schema puzzle_text)
+    × (is_whole puzzle_text 2 (understood hall_schema puzzle_text) ≡ true)
 unfolding understood everything
-puzzle_is = (refl, refl, (refl, refl))
+puzzle_is = (refl, refl, (refl, refl), refl)
+
+pub puzzle_asked : (author label : List ℕ) → IsAsked puzzle_text (Text author ∷ Text label ∷ [])
+puzzle_asked author label =
+    asked puzzle_text (Text author ∷ Text label ∷ []) 3 key_terms puzzle_columns [] _ puzzle_is.0 puzzle_is.1 puzzle_is.2 puzzle_is.3 refl
 
 -- the order of keys: author, label
 abbrev pub key_order : List (Term × Key)
@@ -40,14 +47,24 @@ key_order = (col 1 1, rising) ∷ (col 1 2, rising) ∷ []
 pub all_puzzles_is : (command_of (understood hall_schema all_puzzles_text)
     ≡ Select (record { lets = []; body = plain_query 3 [] puzzle_columns key_order }) puzzle_names)
     × (reads_listing hall_schema all_puzzles_text ≡ false) × IsPlain (understood hall_schema all_puzzles_text)
+    × (is_whole all_puzzles_text 0 (understood hall_schema all_puzzles_text) ≡ true)
 unfolding understood everything
-all_puzzles_is = (refl, refl, (refl, refl))
+all_puzzles_is = (refl, refl, (refl, refl), refl)
+
+pub all_puzzles_asked : IsAsked all_puzzles_text ([])
+all_puzzles_asked =
+    asked all_puzzles_text ([]) 3 [] puzzle_columns key_order _ all_puzzles_is.0 all_puzzles_is.1 all_puzzles_is.2 all_puzzles_is.3 refl
 
 pub puzzles_of_is : (command_of (understood hall_schema puzzles_of_text)
     ≡ Select (record { lets = []; body = plain_query 3 (equals 1 0 ∷ []) puzzle_columns key_order }) puzzle_names)
     × (reads_listing hall_schema puzzles_of_text ≡ false) × IsPlain (understood hall_schema puzzles_of_text)
+    × (is_whole puzzles_of_text 1 (understood hall_schema puzzles_of_text) ≡ true)
 unfolding understood everything
-puzzles_of_is = (refl, refl, (refl, refl))
+puzzles_of_is = (refl, refl, (refl, refl), refl)
+
+pub puzzles_of_asked : (author : List ℕ) → IsAsked puzzles_of_text (Text author ∷ [])
+puzzles_of_asked author =
+    asked puzzles_of_text (Text author ∷ []) 3 (equals 1 0 ∷ []) puzzle_columns key_order _ puzzles_of_is.0 puzzles_of_is.1 puzzles_of_is.2 puzzles_of_is.3 refl
 
 -- as the schema has it
 abbrev pub puzzles_there : Table

@@ -1,5 +1,5 @@
 -- What the statements on rounds say of the world.
-use Rattle.std.proofs.Common.{◌≡◌, ℕ, List, [], ◌∷◌, map, flat_map, Bool, true, Option, Some, None, option_to_list, refl, sym, ap, subst, ◌∙◌}
+use Rattle.std.proofs.Common.{◌≡◌, List, [], ◌∷◌, map, flat_map, true, Some, option_to_list, refl, sym, subst, ◌∙◌}
 use Rattle.std.specs.List.{AllByRecursion}
 use Rattle.std.specs.List.Sorted.{IsPermutation}
 use Rattle.std.specs.FinMap.{values}
@@ -16,9 +16,7 @@ use Rattle.sqlite_trees.proofs.ListLemmas.{filter_all, all_of}
 use Rattle.sqlite_value.specs.Keys.{plain, first_key}
 use Rattle.sqlite_value.specs.Order.{column}
 use Rattle.sqlite_value.proofs.OrderLemmas.{then-Equal, value_cmp-Text}
-use Rattle.hall_grid.specs.FormReading.{◌>>=◌}
 use Rattle.hall_policy.specs.Text.{text_cmp, is_word_byte, is_printable}
-use Rattle.hall_policy.specs.declared.record.Mode as mode
 use Rattle.hall_policy.specs.declared.record.Round.{Round}
 use Rattle.hall_policy.proofs.Orders.{text_total, same_texts}
 use Rattle.hall_sql.specs.Tables.{hall_schema, rounds_table}
@@ -30,48 +28,14 @@ use Rattle.hall_sql.proofs.ColumnLemmas.{kind_column}
 use Rattle.hall_sql.proofs.ListedLemmas.{by_order, values_asked}
 use Rattle.hall_sql.proofs.RoundTexts.{round_columns, id_order, all_rounds_is}
 use Rattle.hall_sql.proofs.UniqueLemmas.{equal_texts, first_not, records_listed}
-
-abbrev of_parts : List ℕ → List ℕ → ℕ → ℕ → ℕ → mode.Mode → ℕ → ℕ → Bool → Bool → Round
-of_parts id title start minutes protest_minutes how penalty bonus released published = record {
-  id = id;
-  title = title;
-  start = start;
-  minutes = minutes;
-  protest_minutes = protest_minutes;
-  mode = how;
-  penalty = penalty;
-  bonus = bonus;
-  released = released;
-  published = published;
-}
-
--- a round that is read has its id from the first column
-id_read : (a b : Option (List ℕ)) (c d e : Option ℕ) (f : Option mode.Mode) (g h : Option ℕ) (i j : Option Bool)
-    (row : Round)
-    → (a >>= (λ id. b >>= (λ title. c >>= (λ start. d >>= (λ minutes. e >>= (λ protest_minutes. f >>= (λ how.
-    g >>= (λ penalty. h >>= (λ bonus. i >>= (λ released. j >>= (λ published.
-    Some (of_parts id title start minutes protest_minutes how penalty bonus released published)))))))))))) ≡ Some row
-    → a ≡ Some row.id
-id_read None b c d e f g h i j row is = absurd cc
-id_read (Some a) None c d e f g h i j row is = absurd cc
-id_read (Some a) (Some b) None d e f g h i j row is = absurd cc
-id_read (Some a) (Some b) (Some c) None e f g h i j row is = absurd cc
-id_read (Some a) (Some b) (Some c) (Some d) None f g h i j row is = absurd cc
-id_read (Some a) (Some b) (Some c) (Some d) (Some e) None g h i j row is = absurd cc
-id_read (Some a) (Some b) (Some c) (Some d) (Some e) (Some f) None h i j row is = absurd cc
-id_read (Some a) (Some b) (Some c) (Some d) (Some e) (Some f) (Some g) None i j row is = absurd cc
-id_read (Some a) (Some b) (Some c) (Some d) (Some e) (Some f) (Some g) (Some h) None j row is = absurd cc
-id_read (Some a) (Some b) (Some c) (Some d) (Some e) (Some f) (Some g) (Some h) (Some i) None row is = absurd cc
-id_read (Some a) (Some b) (Some c) (Some d) (Some e) (Some f) (Some g) (Some h) (Some i) (Some j) row is =
-    let same : of_parts a b c d e f g h i j ≡ row = cc in
-    ap (λ (x : Round). Some x.id) same
+use Rattle.hall_sql.proofs.RecordParts.{round_parts_of}
 
 pub id_column : (r : Row) (row : Round) → round_of r ≡ Some row → column r 1 ≡ Text row.id
 id_column r row is =
     kind_column 1 24 is_word_byte (column r 1) row.id
-    (id_read (name_in (column r 1)) (kind_in 1 60 is_printable (column r 2)) (within 0 4102444800 (column r 3))
+    (round_parts_of (name_in (column r 1)) (kind_in 1 60 is_printable (column r 2)) (within 0 4102444800 (column r 3))
     (within 1 1440 (column r 4)) (within 0 10080 (column r 5)) (mode_in (column r 6)) (within 0 1000 (column r 7))
-    (within 0 1000 (column r 8)) (flag_in (column r 9)) (flag_in (column r 10)) row is)
+    (within 0 1000 (column r 8)) (flag_in (column r 9)) (flag_in (column r 10)) row is).id
 
 -- two rows of one id agree on the column of the primary key
 agreeing : (r y : Row) (x z : Round) → round_of r ≡ Some x → round_of y ≡ Some z → x.id ≡ z.id

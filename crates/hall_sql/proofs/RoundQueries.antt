@@ -1,14 +1,17 @@
 -- What the queries on one round, and on its places, mean under the hall's tables.
-use Rattle.std.proofs.Common.{◌≡◌, List, ℕ, codes, refl, false, [], ◌∷◌}
+use Rattle.std.proofs.Common.{◌≡◌, List, ℕ, codes, refl, true, false, [], ◌∷◌}
 use Rattle.sqlite_tied.specs.Compute.{everything}
 use Rattle.sqlite_value.specs.declared.keys.Key.{Key}
 use Rattle.sqlite.specs.Term.{Term, col}
+use Rattle.sqlite.specs.declared.types.Value.TheVariants.{Text}
 use Rattle.sqlite.specs.Listing.{understood, reads_listing}
 use Rattle.sqlite.specs.Command.TheVariants.{Select}
 use Rattle.sqlite.proofs.Callers.{IsPlain, command_of}
 use Rattle.hall_sql.specs.Tables.{hall_schema}
 use Rattle.hall_sql.specs.Statements.{plain_query, places_with_text, places_of_text}
 use Rattle.hall_sql.proofs.PeopleTexts.{equals, rising}
+use Rattle.hall_sql.specs.Asked.{IsAsked, is_whole}
+use Rattle.hall_sql.proofs.AskedLemmas.{asked}
 
 abbrev pub place_columns : List Term
 place_columns = col 1 1 ∷ col 1 2 ∷ col 1 3 ∷ col 1 4 ∷ col 1 5 ∷ []
@@ -23,8 +26,13 @@ puzzle_terms = equals 3 0 ∷ equals 4 1 ∷ []
 pub places_with_is : (command_of (understood hall_schema places_with_text)
     ≡ Select (record { lets = []; body = plain_query 7 puzzle_terms place_columns [] }) place_names)
     × (reads_listing hall_schema places_with_text ≡ false) × IsPlain (understood hall_schema places_with_text)
+    × (is_whole places_with_text 2 (understood hall_schema places_with_text) ≡ true)
 unfolding understood everything
-places_with_is = (refl, refl, (refl, refl))
+places_with_is = (refl, refl, (refl, refl), refl)
+
+pub places_with_asked : (author label : List ℕ) → IsAsked places_with_text (Text author ∷ Text label ∷ [])
+places_with_asked author label =
+    asked places_with_text (Text author ∷ Text label ∷ []) 7 puzzle_terms place_columns [] _ places_with_is.0 places_with_is.1 places_with_is.2 places_with_is.3 refl
 
 -- id = ?1, or round = ?1
 abbrev pub first_terms : List Term
@@ -37,5 +45,10 @@ number_order = (col 1 2, rising) ∷ []
 pub places_of_is : (command_of (understood hall_schema places_of_text)
     ≡ Select (record { lets = []; body = plain_query 7 first_terms place_columns number_order }) place_names)
     × (reads_listing hall_schema places_of_text ≡ false) × IsPlain (understood hall_schema places_of_text)
+    × (is_whole places_of_text 1 (understood hall_schema places_of_text) ≡ true)
 unfolding understood everything
-places_of_is = (refl, refl, (refl, refl))
+places_of_is = (refl, refl, (refl, refl), refl)
+
+pub places_of_asked : (id : List ℕ) → IsAsked places_of_text (Text id ∷ [])
+places_of_asked id =
+    asked places_of_text (Text id ∷ []) 7 first_terms place_columns number_order _ places_of_is.0 places_of_is.1 places_of_is.2 places_of_is.3 refl

@@ -7,7 +7,8 @@ use Rattle.hall_policy.specs.declared.record.Entry.{Entry}
 use Rattle.hall_policy.specs.declared.record.PlaceKey.{PlaceKey}
 use Rattle.hall_policy.specs.declared.record.Round.{Round}
 use Rattle.hall_store.specs.Store.{IsRoundKept}
-use Rattle.hall_store.proofs.Tests.{contained, placed, text_decides}
+use Rattle.hall_store.proofs.Tests.{contained, placed}
+use Rattle.hall_policy.proofs.Texts.{text_decides}
 use Rattle.hall_sql.specs.Places.{is_in_round, ArePlaces, AreNumbered}
 
 abbrev Place : Type 0

@@ -1,12 +1,13 @@
 -- From what a statement leaves to what the trait of stores says.
-use Rattle.std.proofs.Common.{◌≡◌, ℕ, List, map, Option, Some, IsTrue, Result, Ok, Err, IfOk, sym, subst, ◌∙◌, arith}
+use Rattle.std.proofs.Common.{◌≡◌, ℕ, List, Option, IsTrue, Result, Ok, Err, IfOk, sym, subst, ◌∙◌, arith}
 use Rattle.sqlite.specs.Effect.{Database}
 use Rattle.sqlite.specs.Order.{Row}
-use Rattle.sqlite.specs.State.{State, HasCleanDisk, Shown}
+use Rattle.sqlite.specs.State.{State, HasCleanDisk}
 use Rattle.hall_policy.specs.World.{World}
 use Rattle.hall_store.specs.Store.{Served}
 use Rattle.hall_sql.specs.Tables.{hall_schema}
 use Rattle.hall_sql.specs.Rows.{world_of}
+use Rattle.hall_sql.specs.Cause.{AreRead}
 use Rattle.hall_sql.specs.Whole.{AreRecords}
 use Rattle.hall_sql.specs.Standing.{AreAllKeyed, IsHall, Rested, content_of}
 use Rattle.hall_sql.proofs.LastLemmas.{last_then}
@@ -22,13 +23,14 @@ told_so old new Means hall rested serves means clean =
     let opened = rested.follows.opened clean opens in
     (opens, subst (λ (d : Database). Means (world_of d.trees)) (sym (rested.same clean opens)) (means clean opened (hall.settled was opened).1 (hall.keyed was opened)))
 
--- and so does what is made of its rows
+-- and so does what a read hands over, which holds in a store that serves alone
 pub told : {R E : Type 0} (old new : State) (result : Result R E) (P : R → Type 0) (Means : World → R → Type 0) → IsHall old → Rested old new
-    → (HasCleanDisk new → IsTrue new.is_open) → IfOk result P
+    → (HasCleanDisk new → IfOk result P) → ((x : R) → P x → IsTrue new.is_open)
     → ((x : R) → P x → HasCleanDisk new → IsTrue old.is_open → old.now.schema ≡ hall_schema → AreAllKeyed old.now.trees → Means (world_of old.now.trees) x)
     → Served (content_of new) result Means
-told old new (Ok x) P Means hall rested serves has means = told_so old new (λ world. Means world x) hall rested serves (means x has)
-told old new (Err e) P Means hall rested serves has means = tt
+told old new (Ok x) P Means hall rested has serves means = λ clean.
+    told_so old new (λ world. Means world x) hall rested (λ now. serves x (has now)) (λ now. means x (has now) now) clean
+told old new (Err e) P Means hall rested has serves means = tt
 
 -- and what is made of what calls told, where the store serves
 pub served_so : {R E : Type 0} (new : State) (result : Result R E) (Means : World → R → Type 0) → (HasCleanDisk new → IsTrue new.is_open)
@@ -55,7 +57,7 @@ always (Ok x) P holds = holds
 always (Err e) P holds = tt
 
 -- the rows that were read are all that a query answered
-pub read_whole : {X : Type 0} (read : Row → Option X) (sql : List ℕ) (params : Row) (old new : State) (rows : List Row) (records : List X)
-    → map read rows ≡ map Some records → Shown sql params old new rows → AreRecords read sql params old new
-read_whole read sql params old new rows records reads shown =
-    record { rows = rows; records = records; reads = reads; shown = shown }
+pub read_whole : {X : Type 0} (read : Row → Option X) (sql : List ℕ) (params : Row) (old new : State) (records : List X)
+    → AreRead read sql params old new records → AreRecords read sql params old new
+read_whole read sql params old new records it =
+    record { rows = it.1.rows; records = records; reads = it.1.reads; shown = it.1.shown }

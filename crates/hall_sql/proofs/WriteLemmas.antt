@@ -1,5 +1,5 @@
 -- From what a statement that writes leaves to what the trait of stores says.
-use Rattle.std.proofs.Common.{◌≡◌, inl, ℕ, ℤ, pos, List, Bool, true, false, cond, if◌then◌else◌, IsTrue, Result, Ok, Err, None, refl, sym, ap, ◌∙◌, arith}
+use Rattle.std.proofs.Common.{◌≡◌, inl, ℕ, ℤ, pos, List, Bool, true, false, cond, if◌then◌else◌, IsTrue, Result, Ok, Err, OnErr, None, refl, sym, ap, ◌∙◌, arith}
 use Rattle.sqlite.specs.declared.types.Value.{Value}
 use Rattle.sqlite.specs.declared.types.Value.TheVariants.{Null, Int}
 use Rattle.sqlite.specs.Cast.{cast}
@@ -18,6 +18,7 @@ use Rattle.hall_sql.specs.Rows.{world_of}
 use Rattle.hall_sql.specs.Standing.{Lasts, AreAllKeyed, IsHall, Rested, HasMade, Wrote, content_of}
 use Rattle.hall_store.proofs.Knowing.{leads_then}
 use Rattle.hall_sql.proofs.LastLemmas.{follows_leads}
+use Rattle.hall_sql.proofs.StoreLemmas.{rests_on}
 
 -- a write outside a transaction is committed
 pub writes_hall : (old new : State) (command : Command) (text : List ℕ) (given : Row) (count : ℕ) → old.in_transaction ≡ false
@@ -49,9 +50,10 @@ made_wrote change old new done lasts made =
         };
         made = λ clean. ((it clean).serves, (it clean).world);
       };
+      refused = tt;
     }
 
--- and one that is refused leaves the world
+-- and one that is refused leaves the tables
 pub rested_wrote : {R E : Type 0} (change : Change) (old new : State) (fault : E) → Rested old new → Wrote {R = R} change old new (Err fault)
 rested_wrote change old new fault rested = record {
   hall = rested.hall;
@@ -59,6 +61,7 @@ rested_wrote change old new fault rested = record {
     leads = follows_leads old new rested.follows;
     made = λ clean opens. ap (λ (d : Database). world_of d.trees) (rested.same clean opens);
   };
+  refused = rested;
 }
 
 -- a write after a query that left the world
@@ -73,11 +76,16 @@ rested_then {R} {E} change old mid new result rested serves wrote =
         leads = leads_then (content_of old) (content_of mid) (content_of new) (follows_leads old mid rested.follows) wrote.makes.leads;
         made = by result wrote.makes.made world;
       };
+      refused = left result wrote.refused;
     }
   where
     by : (result : Result R E) → Made change (content_of mid) (content_of new) result → (HasCleanDisk new → world_of mid.now.trees ≡ world_of old.now.trees) → Made change (content_of old) (content_of new) result
     by (Ok done) made world = λ clean. let it = made clean in (it.0, it.1 ∙ ap (changed change) (world clean))
     by (Err fault) made world = λ clean opens. made clean opens ∙ world clean
+
+    left : (result : Result R E) → OnErr result (Rested mid new) → OnErr result (Rested old new)
+    left (Ok done) none = tt
+    left (Err fault) second = rests_on old mid new rested second
 
 -- a query that left the world made a change that changes nothing
 pub rested_made : {R E : Type 0} (change : Change) (old new : State) (done : R) → Rested old new → (HasCleanDisk new → IsTrue new.is_open)
@@ -90,6 +98,7 @@ rested_made change old new done rested serves nothing = record {
         let world = ap (λ (d : Database). world_of d.trees) (rested.same clean (serves clean)) in
         (serves clean, sym (nothing clean) ∙ ap (changed change) world);
   };
+  refused = tt;
 }
 
 -- a write that made one change made another that is the same of its world
@@ -99,6 +108,7 @@ pub wrote_too : {R E : Type 0} (change other : Change) (old new : State) (result
 wrote_too {R} {E} change other old new result same wrote = record {
   hall = wrote.hall;
   makes = record { leads = wrote.makes.leads; made = by result wrote.makes.made wrote.makes.leads.honest };
+  refused = wrote.refused;
 }
   where
     by : (result : Result R E) → Made change (content_of old) (content_of new) result → (HasCleanDisk new → HasCleanDisk old)

@@ -14,3 +14,5 @@ pub mod Feed
 pub mod Cache
 pub mod Opened
 pub mod Whole
+pub mod Asked
+pub mod Cause

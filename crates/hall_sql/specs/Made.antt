@@ -6,6 +6,7 @@ use Rattle.sqlite.specs.Schema.{Schema}
 use Rattle.sqlite.specs.Change.{created}
 use Rattle.sqlite.specs.Effect.{Database}
 use Rattle.sqlite.specs.State.{State}
+use Rattle.hall_sql.specs.Standing.{IsBare}
 use Rattle.hall_sql.specs.declared.tables.HallTable.{HallTable}
 use Rattle.hall_sql.specs.declared.tables.HallTable.TheVariants.{People, Puzzles, Rounds, Places, Answers, Protests}
 use Rattle.hall_sql.specs.Tables.{hall_schema, people_text, people_table, puzzles_text, puzzles_table, rounds_text}
@@ -48,11 +49,6 @@ schema_before Protests = with_answers
 abbrev pub Lacks : List HallTable → Schema → Type 0
 Lacks [] schema = schema ≡ hall_schema
 Lacks (table ∷ tables) schema = (schema ≡ schema_before table) × Lacks tables (created schema (shape_of table))
-
--- the database has this schema, and its tables no rows
-pub record IsBare (schema : Schema) (held : Database) : Type 0 where
-  pub is : held.schema ≡ schema
-  pub empty : AllByRecursion (λ (table : Table). held.trees table.tree ≡ []) schema.tables
 
 -- once these tables are made, it is the hall with no rows
 pub record Awaits (tables : List HallTable) (held : Database) : Type 0 where

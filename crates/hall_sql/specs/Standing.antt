@@ -1,5 +1,5 @@
 -- What the store keeps true of its connection, what a call leaves, and the content that a connection shows.
-use Rattle.std.specs.Prelude.{◌≡◌, ◌≢◌, ◌≤◌, ◌⊎◌, ℕ, Bool, false, List, [], ◌∷◌, map, IsTrue, Result, Ok, Err}
+use Rattle.std.specs.Prelude.{◌≡◌, ◌≢◌, ◌≤◌, ◌⊎◌, ℕ, Bool, false, List, [], ◌∷◌, map, IsTrue, Result, Ok, Err, OnErr}
 use Rattle.std.specs.List.{AllByRecursion, filter, list_all}
 use Rattle.std.specs.List.Sorted.{IsPermutation, IsSorted}
 use Rattle.std.specs.declared.cmp.Ordering.TheVariants.{Equal}
@@ -17,7 +17,6 @@ use Rattle.sqlite.specs.Query.{Query, output, output_cmp}
 use Rattle.sqlite.specs.State.{State, HasCleanDisk, IsUnchanged, IsRolledBack}
 use Rattle.hall_store.specs.Store.{Content, MoreFaults, Makes}
 use Rattle.hall_store.specs.Change.{changed}
-use Rattle.hall_store.specs.Maps.{empty_world}
 use Rattle.hall_store.specs.declared.change.Change.{Change}
 use Rattle.hall_sql.specs.Tables.{no_schema, hall_schema}
 use Rattle.hall_sql.specs.Rows.{world_of}
@@ -113,19 +112,26 @@ pub record HasMade (change : Change) (old new : State) : Type 0 where
   pub serves : IsTrue new.is_open
   pub world : world_of new.now.trees ≡ changed change (world_of old.now.trees)
 
--- a call that writes: the hall stands, and it made the change, or was refused and left the world
+-- a call that writes: the hall stands, and it made the change, or was refused and left the tables
 pub record Wrote {R E : Type 0} (change : Change) (old new : State) (result : Result R E) : Type 0 where
   pub hall : IsHall new
   pub makes : Makes change (content_of old) (content_of new) result
+  pub refused : OnErr result (Rested old new)
 
--- The hall's tables stood and are as they were, or there was nothing, and they were made and hold an empty world.
+-- the database has this schema, and its tables no rows
+pub record IsBare (schema : Schema) (held : Database) : Type 0 where
+  pub is : held.schema ≡ schema
+  pub empty : AllByRecursion (λ table. held.trees table.tree ≡ []) schema.tables
+
+-- The hall's tables stood and are as they were, or there was nothing, and they were made and hold no row.
 abbrev pub StoodOrEmpty : State → State → Type 0
 StoodOrEmpty old new =
     ((old.now.schema ≡ hall_schema) × (new.now ≡ old.now))
-    ⊎ ((old.now.schema ≡ no_schema) × (world_of new.now.trees ≡ empty_world))
+    ⊎ ((old.now.schema ≡ no_schema) × IsBare hall_schema new.now)
 
--- a connection became a hall's
+-- a connection on which no transaction was open became a hall's
 pub record HasAdopted (old new : State) : Type 0 where
+  pub alone : old.in_transaction ≡ false
   pub hall : IsHall new
   pub follows : Follows old new
   pub serves : HasCleanDisk new → IsTrue new.is_open

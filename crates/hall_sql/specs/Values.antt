@@ -1,5 +1,5 @@
 -- What a column's value stands for. A value that is no such thing stands for nothing.
-use Rattle.std.specs.Prelude.{nat_le, ◌&&◌, ◌==◌, ◌⊎◌, ◌/◌, ◌%◌, ℕ, ℤ, pos, negsuc, length, Bool, true, false, List}
+use Rattle.std.specs.Prelude.{nat_le, IsTrue, ◌<◌, ◌&&◌, ◌==◌, ◌⊎◌, ◌/◌, ◌%◌, ℕ, ℤ, pos, negsuc, length, Bool, true, false, List}
 use Rattle.std.specs.Prelude.{if◌then◌else◌, Option, Some, None}
 use Rattle.std.proofs.Common.{inl, inr}
 use Rattle.std.specs.Ordering.{int_eq}
@@ -53,6 +53,10 @@ kind_in least most allows value = text_in value >>= passing (is_kind least most 
 -- the number from least to most
 abbrev pub within : ℕ → ℕ → Value → Option ℕ
 within least most value = number_in value >>= passing (λ n. nat_le least n && nat_le n most)
+
+-- all bytes that are allowed are ASCII
+abbrev pub AreAscii : (ℕ → Bool) → Type 0
+AreAscii allows = (byte : ℕ) → IsTrue (allows byte) → byte < 128
 
 -- the name, label or id: 1 to 24 bytes
 abbrev pub name_in : Value → Option (List ℕ)

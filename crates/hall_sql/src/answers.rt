@@ -2,7 +2,7 @@
 ghost use Rattle.std.specs.Prelude.{◌≡◌, ◌↔◌, IsTrue, Ok, IfOk, OnErr, [], ◌∷◌, pos};
 ghost use Rattle.std.specs.FinMap.{get};
 ghost use Rattle.sqlite.specs.Held.{state};
-ghost use Rattle.hall_store.specs.Store.{Served, IsListing, is_of, is_in, IsNumberTaken, HasSubmitted, Asks};
+ghost use Rattle.hall_store.specs.Store.{Served, Fails, IsListing, is_of, is_in, IsNumberTaken, HasSubmitted, Asks};
 ghost use Rattle.hall_policy.specs.Rules.{answers_given};
 ghost use Rattle.hall_store.specs.Change.{CanAddAnswer};
 ghost use Rattle.hall_store.specs.declared.change.Change.TheVariants.{AddAnswer};
@@ -15,9 +15,10 @@ ghost use Rattle.hall_sql.specs.Statements.{add_answer_text, answer_text, answer
 ghost use Rattle.hall_sql.specs.Statements.{answers_in_text, answers_of_text, number_taken_text};
 ghost use Rattle.hall_sql.specs.Rows.{answer_in};
 ghost use Rattle.hall_sql.specs.Whole.{AreRecords};
+ghost use Rattle.hall_sql.specs.Cause.{ReadFails, FindFails};
 
-use crate::calls::{ask, run};
-use crate::record::{at_most_one, read_all};
+use crate::calls::run;
+use crate::reads::{find, read};
 use hall_policy::{AnswerKey, AnswerNumber, AnswerRow, Name, PuzzleNumber, RoundId};
 use hall_store::StoreFault;
 use sqlite::{Alter, Connection, params};
@@ -41,9 +42,14 @@ pub(crate) fn answer<S: Alter>(
         AreRecords answer_in answer_text
         (Text key.now.entrant ∷ Text key.now.round ∷ Int (pos key.now.number) ∷ Text key.now.token ∷ [])
         (state S.Store conn.old) (state S.Store conn.new)) }
+    ensures cause { HasCleanDisk (state S.Store conn.new) → Fails
+        (FindFails answer_in answer_text
+        (Text key.now.entrant ∷ Text key.now.round ∷ Int (pos key.now.number) ∷ Text key.now.token ∷ [])
+        (state S.Store conn.old) (state S.Store conn.new)) result }
 {
-    let rows = ask(
+    find(
         conn,
+        alloc,
         ANSWER,
         params![
             key.entrant.as_str(),
@@ -51,8 +57,7 @@ pub(crate) fn answer<S: Alter>(
             key.number.get() as u32,
             key.token.as_str()
         ],
-    )?;
-    at_most_one(read_all(alloc, &rows)?)
+    )
 }
 
 const ANSWERS_OF: &str =
@@ -73,10 +78,12 @@ pub(crate) fn answers_of<S: Alter>(
     ensures whole { HasCleanDisk (state S.Store conn.new) → IfOk result (λ _.
         AreRecords answer_in answers_of_text (Text entrant.now ∷ Text round.now ∷ []) (state S.Store conn.old)
         (state S.Store conn.new)) }
+    ensures cause { HasCleanDisk (state S.Store conn.new) → Fails
+        (ReadFails answer_in answers_of_text (Text entrant.now ∷ Text round.now ∷ []) (state S.Store conn.old)
+        (state S.Store conn.new)) result }
 {
     let _schema = conn.schema();
-    let rows = ask(conn, ANSWERS_OF, params![entrant.as_str(), round.as_str()])?;
-    read_all(alloc, &rows)
+    read(conn, alloc, ANSWERS_OF, params![entrant.as_str(), round.as_str()])
 }
 
 pub(crate) const ANSWERS_IN: &str =
@@ -96,10 +103,12 @@ pub(crate) fn answers_in<S: Alter>(
     ensures whole { HasCleanDisk (state S.Store conn.new) → IfOk result (λ _.
         AreRecords answer_in answers_in_text (Text round.now ∷ []) (state S.Store conn.old)
         (state S.Store conn.new)) }
+    ensures cause { HasCleanDisk (state S.Store conn.new) → Fails
+        (ReadFails answer_in answers_in_text (Text round.now ∷ []) (state S.Store conn.old)
+        (state S.Store conn.new)) result }
 {
     let _schema = conn.schema();
-    let rows = ask(conn, ANSWERS_IN, params![round.as_str()])?;
-    read_all(alloc, &rows)
+    read(conn, alloc, ANSWERS_IN, params![round.as_str()])
 }
 
 const ANSWERS_GIVEN: &str =
@@ -122,14 +131,18 @@ pub(crate) fn answers_given<S: Alter>(
         AreRecords answer_in answers_given_text
         (Text entrant.now ∷ Text round.now ∷ Int (pos number) ∷ []) (state S.Store conn.old)
         (state S.Store conn.new)) }
+    ensures cause { HasCleanDisk (state S.Store conn.new) → Fails
+        (ReadFails answer_in answers_given_text (Text entrant.now ∷ Text round.now ∷ Int (pos number) ∷ [])
+        (state S.Store conn.old) (state S.Store conn.new)) result }
 {
     let _schema = conn.schema();
-    let rows = ask(
+    let rows = read::<S, AnswerRow>(
         conn,
+        alloc,
         ANSWERS_GIVEN,
         params![entrant.as_str(), round.as_str(), number.get() as u32],
     )?;
-    Ok(read_all::<AnswerRow>(alloc, &rows)?.len() as u64)
+    Ok(rows.len() as u64)
 }
 
 const NUMBER_TAKEN: &str =
@@ -152,10 +165,15 @@ pub(crate) fn is_number_taken<S: Alter>(
     ensures whole { HasCleanDisk (state S.Store conn.new) → IfOk result (λ _.
         AreRecords answer_in number_taken_text (Text entrant.now ∷ Text round.now ∷ Int (pos number) ∷ Int (pos n) ∷ [])
         (state S.Store conn.old) (state S.Store conn.new)) }
+    ensures cause { HasCleanDisk (state S.Store conn.new) → Fails
+        (ReadFails answer_in number_taken_text
+        (Text entrant.now ∷ Text round.now ∷ Int (pos number) ∷ Int (pos n) ∷ []) (state S.Store conn.old)
+        (state S.Store conn.new)) result }
 {
     let _schema = conn.schema();
-    let rows = ask(
+    let rows = read::<S, AnswerRow>(
         conn,
+        alloc,
         NUMBER_TAKEN,
         params![
             entrant.as_str(),
@@ -164,7 +182,7 @@ pub(crate) fn is_number_taken<S: Alter>(
             n.get() as u32
         ],
     )?;
-    Ok(!read_all::<AnswerRow>(alloc, &rows)?.is_empty())
+    Ok(!rows.is_empty())
 }
 
 /// Whether the entrant has an answer in the round.
@@ -181,6 +199,9 @@ pub(crate) fn has_answered<S: Alter>(
     ensures whole { HasCleanDisk (state S.Store conn.new) → IfOk result (λ _.
         AreRecords answer_in answers_of_text (Text entrant.now ∷ Text round.now ∷ []) (state S.Store conn.old)
         (state S.Store conn.new)) }
+    ensures cause { HasCleanDisk (state S.Store conn.new) → Fails
+        (ReadFails answer_in answers_of_text (Text entrant.now ∷ Text round.now ∷ []) (state S.Store conn.old)
+        (state S.Store conn.new)) result }
 {
     Ok(!answers_of(conn, alloc, entrant, round)?.is_empty())
 }

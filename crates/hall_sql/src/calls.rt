@@ -1,10 +1,15 @@
 //! One statement each: what it leaves of the connection.
-ghost use Rattle.std.specs.Prelude.{◌≡◌, true, IsTrue, Ok, IfOk, OnOk, OnErr};
+ghost use Rattle.std.specs.Prelude.{◌≡◌, ◌≢◌, true, IsTrue, Ok, IfOk, OnOk, OnErr};
 ghost use Rattle.sqlite.specs.Values.{bound};
 ghost use Rattle.sqlite.specs.Held.{state};
 ghost use Rattle.sqlite.specs.Given.{IsPlain};
 ghost use Rattle.sqlite.specs.Listing.{understood};
-ghost use Rattle.sqlite.specs.State.{HasCleanDisk, Shown, Executes};
+ghost use Rattle.sqlite.specs.State.{HasCleanDisk, Shown, Executes, FailsToQuery};
+ghost use Rattle.sqlite.specs.declared.error.Error.{Error as Refusal};
+ghost use Rattle.sqlite.specs.declared.error.Error.TheVariants.{SqliteFailure};
+ghost use Rattle.sqlite.specs.declared.error.ErrorCode.TheVariants.{OutOfMemory};
+ghost use Rattle.hall_store.specs.Store.{Fails};
+ghost use Rattle.hall_store.specs.declared.fault.StoreFault.TheVariants.{Failed};
 ghost use Rattle.hall_sql.specs.Tables.{hall_schema};
 ghost use Rattle.hall_sql.specs.Standing.{IsHall, Rested, Lasts};
 ghost use Rattle.hall_sql.specs.Inside.{Carries};
@@ -14,7 +19,9 @@ use sqlite::types::ValueRef;
 use sqlite::{Alter, Connection, Error, ErrorCode, Row, Transaction};
 
 /// Want of memory, or that the store failed.
-pub(crate) fn fault_of(error: &Error) -> StoreFault {
+pub(crate) fn fault_of(error: &Error) -> StoreFault
+    ensures { result ≡ Failed → error.now ≢ SqliteFailure OutOfMemory }
+{
     match error {
         Error::SqliteFailure(ErrorCode::OutOfMemory) => StoreFault::Memory,
         _ => StoreFault::Failed,
@@ -34,6 +41,8 @@ pub(crate) fn ask<S: Alter>(
         (λ _. IsTrue (state S.Store conn.new).is_open) }
     ensures shown { HasCleanDisk (state S.Store conn.new) → IfOk result
         (λ rows. Shown sql.now (bound params.now) (state S.Store conn.old) (state S.Store conn.new) rows.items) }
+    ensures cause { HasCleanDisk (state S.Store conn.new) → Fails ((e : Refusal) × (e ≢ SqliteFailure OutOfMemory)
+        × FailsToQuery sql.now (bound params.now) (state S.Store conn.old) (state S.Store conn.new) e) result }
 {
     match conn.query_all(sql, params) {
         Ok(rows) => Ok(rows),

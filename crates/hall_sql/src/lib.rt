@@ -12,6 +12,7 @@ mod open;
 mod people;
 mod protests;
 mod puzzles;
+mod reads;
 mod record;
 mod round_writes;
 mod rounds;

@@ -3,7 +3,7 @@ ghost use Rattle.std.specs.Prelude.{◌≡◌, IsTrue, IfOk, OnOk, [], ◌∷◌
 ghost use Rattle.std.specs.FinMap.{get};
 ghost use Rattle.sqlite.specs.Held.{state};
 ghost use Rattle.sqlite.specs.State.{HasCleanDisk};
-ghost use Rattle.hall_store.specs.Store.{Served};
+ghost use Rattle.hall_store.specs.Store.{Served, Fails};
 ghost use Rattle.hall_store.specs.Caller.{IsKeyHolder};
 ghost use Rattle.hall_store.specs.declared.change.Change.TheVariants.{Import};
 ghost use Rattle.hall_sql.specs.Columns.{roles_code};
@@ -13,8 +13,10 @@ ghost use Rattle.sqlite.specs.declared.types.Value.TheVariants.{Text};
 ghost use Rattle.hall_sql.specs.Statements.{person_by_key_text, person_text};
 ghost use Rattle.hall_sql.specs.Rows.{person_in};
 ghost use Rattle.hall_sql.specs.Whole.{AreRecords};
+ghost use Rattle.hall_sql.specs.Cause.{FindFails};
 
-use crate::calls::{ask, ask_in, fault_of, run_in};
+use crate::calls::{ask_in, fault_of, run_in};
+use crate::reads::find;
 use crate::record::{at_most_one, read_all};
 use hall_policy::{Key, Name, People, Person, SomeRoles};
 use hall_store::StoreFault;
@@ -36,9 +38,11 @@ pub(crate) fn person<S: Alter>(
     ensures whole { HasCleanDisk (state S.Store conn.new) → IfOk result (λ _.
         AreRecords person_in person_text (Text name.now ∷ []) (state S.Store conn.old)
         (state S.Store conn.new)) }
+    ensures cause { HasCleanDisk (state S.Store conn.new) → Fails
+        (FindFails person_in person_text (Text name.now ∷ []) (state S.Store conn.old)
+        (state S.Store conn.new)) result }
 {
-    let rows = ask(conn, PERSON, params![name.as_str()])?;
-    at_most_one(read_all(alloc, &rows)?)
+    find(conn, alloc, PERSON, params![name.as_str()])
 }
 
 const PERSON_BY_KEY: &str = "SELECT name, pass, roles FROM people WHERE pass = ?1";
@@ -56,10 +60,12 @@ pub(crate) fn person_by_key<S: Alter>(
     ensures whole { HasCleanDisk (state S.Store conn.new) → IfOk result (λ _.
         AreRecords person_in person_by_key_text (Text key.now ∷ []) (state S.Store conn.old)
         (state S.Store conn.new)) }
+    ensures cause { HasCleanDisk (state S.Store conn.new) → Fails
+        (FindFails person_in person_by_key_text (Text key.now ∷ []) (state S.Store conn.old)
+        (state S.Store conn.new)) result }
 {
     let _schema = conn.schema();
-    let rows = ask(conn, PERSON_BY_KEY, params![key.as_str()])?;
-    at_most_one(read_all(alloc, &rows)?)
+    find(conn, alloc, PERSON_BY_KEY, params![key.as_str()])
 }
 
 /// The person of the name, as the transaction has it.

@@ -6,7 +6,7 @@ ghost use Rattle.sqlite.specs.State.{HasCleanDisk, Executes};
 ghost use Rattle.hall_policy.specs.Ranges.{IsProtestRow, IsRuling};
 ghost use Rattle.hall_policy.specs.Rules.{protests_made};
 ghost use Rattle.hall_policy.specs.World.{ruling_points};
-ghost use Rattle.hall_store.specs.Store.{Served, IsProtestOpen, Asks, protests_of, protests_in};
+ghost use Rattle.hall_store.specs.Store.{Served, Fails, IsProtestOpen, Asks, protests_of, protests_in};
 ghost use Rattle.hall_policy.specs.declared.record.ProtestRow.{ProtestRow};
 ghost use Rattle.hall_store.specs.Change.{CanAddProtest};
 ghost use Rattle.hall_store.specs.declared.change.Change.TheVariants.{AddProtest, RuleProtest};
@@ -17,9 +17,10 @@ ghost use Rattle.hall_sql.specs.Statements.{add_protest_text, rule_protest_text}
 ghost use Rattle.hall_sql.specs.Statements.{protest_text, protests_in_text, protests_of_text};
 ghost use Rattle.hall_sql.specs.Rows.{protest_in};
 ghost use Rattle.hall_sql.specs.Whole.{AreRecords};
+ghost use Rattle.hall_sql.specs.Cause.{ReadFails, FindFails};
 
-use crate::calls::{ask, run};
-use crate::record::{at_most_one, read_all};
+use crate::calls::run;
+use crate::reads::{find, read};
 use hall_policy::{Name, ProtestKey, ProtestRow, RoundId, Ruling};
 use hall_store::StoreFault;
 use sqlite::{Alter, Connection, params};
@@ -44,13 +45,16 @@ pub(crate) fn protest<S: Alter>(
         AreRecords protest_in protest_text
         (Text key.now.entrant ∷ Text key.now.round ∷ Text key.now.token ∷ []) (state S.Store conn.old)
         (state S.Store conn.new)) }
+    ensures cause { HasCleanDisk (state S.Store conn.new) → Fails
+        (FindFails protest_in protest_text (Text key.now.entrant ∷ Text key.now.round ∷ Text key.now.token ∷ [])
+        (state S.Store conn.old) (state S.Store conn.new)) result }
 {
-    let rows = ask(
+    find(
         conn,
+        alloc,
         PROTEST,
         params![key.entrant.as_str(), key.round.as_str(), key.token.as_str()],
-    )?;
-    at_most_one(read_all(alloc, &rows)?)
+    )
 }
 
 const PROTESTS_OF: &str =
@@ -71,10 +75,12 @@ pub(crate) fn protests_of<S: Alter>(
     ensures whole { HasCleanDisk (state S.Store conn.new) → IfOk result (λ _.
         AreRecords protest_in protests_of_text (Text entrant.now ∷ Text round.now ∷ []) (state S.Store conn.old)
         (state S.Store conn.new)) }
+    ensures cause { HasCleanDisk (state S.Store conn.new) → Fails
+        (ReadFails protest_in protests_of_text (Text entrant.now ∷ Text round.now ∷ []) (state S.Store conn.old)
+        (state S.Store conn.new)) result }
 {
     let _schema = conn.schema();
-    let rows = ask(conn, PROTESTS_OF, params![entrant.as_str(), round.as_str()])?;
-    read_all(alloc, &rows)
+    read(conn, alloc, PROTESTS_OF, params![entrant.as_str(), round.as_str()])
 }
 
 /// How many protests of the entrant in the round are kept.
@@ -91,6 +97,9 @@ pub(crate) fn protests_made<S: Alter>(
     ensures whole { HasCleanDisk (state S.Store conn.new) → IfOk result (λ _.
         AreRecords protest_in protests_of_text (Text entrant.now ∷ Text round.now ∷ []) (state S.Store conn.old)
         (state S.Store conn.new)) }
+    ensures cause { HasCleanDisk (state S.Store conn.new) → Fails
+        (ReadFails protest_in protests_of_text (Text entrant.now ∷ Text round.now ∷ []) (state S.Store conn.old)
+        (state S.Store conn.new)) result }
 {
     Ok(protests_of(conn, alloc, entrant, round)?.len() as u64)
 }
@@ -112,10 +121,12 @@ pub(crate) fn protests_in<S: Alter>(
     ensures whole { HasCleanDisk (state S.Store conn.new) → IfOk result (λ _.
         AreRecords protest_in protests_in_text (Text round.now ∷ []) (state S.Store conn.old)
         (state S.Store conn.new)) }
+    ensures cause { HasCleanDisk (state S.Store conn.new) → Fails
+        (ReadFails protest_in protests_in_text (Text round.now ∷ []) (state S.Store conn.old)
+        (state S.Store conn.new)) result }
 {
     let _schema = conn.schema();
-    let rows = ask(conn, PROTESTS_IN, params![round.as_str()])?;
-    read_all(alloc, &rows)
+    read(conn, alloc, PROTESTS_IN, params![round.as_str()])
 }
 
 /// Whether one of the protests is open.
@@ -143,6 +154,9 @@ pub(crate) fn has_open_protest<S: Alter>(
     ensures whole { HasCleanDisk (state S.Store conn.new) → IfOk result (λ _.
         AreRecords protest_in protests_in_text (Text round.now ∷ []) (state S.Store conn.old)
         (state S.Store conn.new)) }
+    ensures cause { HasCleanDisk (state S.Store conn.new) → Fails
+        (ReadFails protest_in protests_in_text (Text round.now ∷ []) (state S.Store conn.old)
+        (state S.Store conn.new)) result }
 {
     let rows = protests_in(conn, alloc, round)?;
     Ok(is_any_open(&rows))

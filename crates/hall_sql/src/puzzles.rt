@@ -2,7 +2,7 @@
 ghost use Rattle.std.specs.Prelude.{◌≡◌, IsTrue, Ok, IfOk, OnErr, [], ◌∷◌};
 ghost use Rattle.std.specs.FinMap.{get, values};
 ghost use Rattle.sqlite.specs.Held.{state};
-ghost use Rattle.hall_store.specs.Store.{Served, puzzles_of};
+ghost use Rattle.hall_store.specs.Store.{Served, Fails, puzzles_of};
 ghost use Rattle.hall_policy.specs.Rules.{puzzles_put};
 ghost use Rattle.sqlite.specs.State.{HasCleanDisk, Executes};
 ghost use Rattle.hall_grid.specs.Text.{SpellsText};
@@ -14,9 +14,10 @@ ghost use Rattle.sqlite.specs.declared.types.Value.TheVariants.{Text};
 ghost use Rattle.hall_sql.specs.Statements.{all_puzzles_text, puzzle_text, puzzles_of_text};
 ghost use Rattle.hall_sql.specs.Rows.{puzzle_row_in};
 ghost use Rattle.hall_sql.specs.Whole.{AreRecords};
+ghost use Rattle.hall_sql.specs.Cause.{ReadFails, FindFails};
 
 use crate::calls::{ask, run};
-use crate::record::{at_most_one, read_all};
+use crate::reads::{find, read};
 use hall_grid::write_puzzle;
 use hall_policy::{Name, PuzzleKey, PuzzleRow, PuzzleState};
 use hall_store::StoreFault;
@@ -39,13 +40,16 @@ pub(crate) fn puzzle<S: Alter>(
     ensures whole { HasCleanDisk (state S.Store conn.new) → IfOk result (λ _.
         AreRecords puzzle_row_in puzzle_text (Text key.now.author ∷ Text key.now.label ∷ []) (state S.Store conn.old)
         (state S.Store conn.new)) }
+    ensures cause { HasCleanDisk (state S.Store conn.new) → Fails
+        (FindFails puzzle_row_in puzzle_text (Text key.now.author ∷ Text key.now.label ∷ []) (state S.Store conn.old)
+        (state S.Store conn.new)) result }
 {
-    let rows = ask(
+    find(
         conn,
+        alloc,
         PUZZLE,
         params![key.author.as_str(), key.label.as_str()],
-    )?;
-    at_most_one(read_all(alloc, &rows)?)
+    )
 }
 
 const ALL_PUZZLES: &str =
@@ -63,10 +67,11 @@ pub(crate) fn all_puzzles<S: Alter>(
     ensures whole { HasCleanDisk (state S.Store conn.new) → IfOk result (λ _.
         AreRecords puzzle_row_in all_puzzles_text [] (state S.Store conn.old)
         (state S.Store conn.new)) }
+    ensures cause { HasCleanDisk (state S.Store conn.new) → Fails
+        (ReadFails puzzle_row_in all_puzzles_text [] (state S.Store conn.old) (state S.Store conn.new)) result }
 {
     let _schema = conn.schema();
-    let rows = ask(conn, ALL_PUZZLES, &[])?;
-    read_all(alloc, &rows)
+    read(conn, alloc, ALL_PUZZLES, &[])
 }
 
 const PUZZLES_OF: &str =
@@ -86,10 +91,12 @@ pub(crate) fn puzzles_of<S: Alter>(
     ensures whole { HasCleanDisk (state S.Store conn.new) → IfOk result (λ _.
         AreRecords puzzle_row_in puzzles_of_text (Text author.now ∷ []) (state S.Store conn.old)
         (state S.Store conn.new)) }
+    ensures cause { HasCleanDisk (state S.Store conn.new) → Fails
+        (ReadFails puzzle_row_in puzzles_of_text (Text author.now ∷ []) (state S.Store conn.old)
+        (state S.Store conn.new)) result }
 {
     let _schema = conn.schema();
-    let rows = ask(conn, PUZZLES_OF, params![author.as_str()])?;
-    read_all(alloc, &rows)
+    read(conn, alloc, PUZZLES_OF, params![author.as_str()])
 }
 
 /// How many puzzles of the author are kept.
@@ -105,6 +112,9 @@ pub(crate) fn puzzles_put<S: Alter>(
     ensures whole { HasCleanDisk (state S.Store conn.new) → IfOk result (λ _.
         AreRecords puzzle_row_in puzzles_of_text (Text author.now ∷ []) (state S.Store conn.old)
         (state S.Store conn.new)) }
+    ensures cause { HasCleanDisk (state S.Store conn.new) → Fails
+        (ReadFails puzzle_row_in puzzles_of_text (Text author.now ∷ []) (state S.Store conn.old)
+        (state S.Store conn.new)) result }
 {
     Ok(puzzles_of(conn, alloc, author)?.len() as u64)
 }

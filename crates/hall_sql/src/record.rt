@@ -1,13 +1,22 @@
 //! How a row of a table gives a record.
-ghost use Rattle.std.specs.Prelude.{◌≡◌, ◌≤◌, List, map, length, slice_get, Option, Some, IfOk, IfSome};
+ghost use Rattle.std.specs.Prelude.{◌≡◌, ◌≢◌, ◌≤◌, ◌<◌, ℕ, ℤ, List, map, length, slice_get, Option, Some, None, FitsSigned};
+ghost use Rattle.std.specs.Prelude.{IfOk, IfErr, IfSome, IfNone};
+ghost use Rattle.std.specs.Int.{w32};
 ghost use Rattle.sqlite.specs.Order.{Row as Columns};
 ghost use Rattle.sqlite_value.specs.Order.{column};
+ghost use Rattle.sqlite_value.specs.Value.{owned};
 ghost use Rattle.hall_sql.specs.Values.{board_of, number_in, kind_in, within, roles_in, puzzle_in};
 ghost use Rattle.hall_sql.specs.Values.{unsolved_of, state_in, int_in, ruling_points_of, unpointed_of, ruling_in};
 ghost use Rattle.hall_sql.specs.Values.{mode_in, flag_in};
 ghost use Rattle.hall_grid.proofs.SpellsOrHasFault.{spells_or_fault};
 ghost use Rattle.hall_sql.specs.Rows.{person_in, puzzle_row_in, IsAnswerKeyIn, answer_in, protest_in, round_in};
 ghost use Rattle.hall_sql.specs.Rows.{place_in};
+ghost use Rattle.hall_sql.specs.Cause.{IsAnyUnread};
+ghost use Rattle.hall_policy.specs.declared.record.AnswerKey.{AnswerKey as KeyColumns};
+ghost use Rattle.hall_sql.specs.Values.{AreAscii};
+ghost use Rattle.hall_store.specs.Store.{Fails};
+ghost use Rattle.hall_store.specs.declared.fault.StoreFault.TheVariants.{Failed};
+ghost use Rattle.hall_grid.specs.declared.fault.TextFault.TheVariants.{Memory as NoMemory};
 
 use crate::calls::fault_of;
 use hall_grid::{Broken, Puzzle, TextFault, parse_puzzle};
@@ -18,6 +27,7 @@ use hall_policy::{
 };
 use hall_store::StoreFault;
 use sqlite::Row;
+use sqlite::types::ValueRef;
 use std::alloc::Global;
 
 /// A record that a row of a query gives.
@@ -27,13 +37,15 @@ pub(crate) trait Record: Sized {
 
     /// Refused where the columns are no record of this kind.
     fn from_row(alloc: Global, row: &Row) -> Result<Self, StoreFault>
-        ensures { IfOk result (λ one. read row.now ≡ Some one) };
+        ensures one { IfOk result (λ one. read row.now ≡ Some one) }
+        ensures unread { Fails (read row.now ≡ None) result };
 }
 
 /// The text of a kind in a column.
 #[tactic(auto, using(crate::proofs::ColumnLemmas::of_kind))]
 fn text_at<K: TextKind>(row: &Row, at: usize) -> Result<Checked<K>, StoreFault>
-    ensures { IfOk result (λ text. kind_in K.LEAST K.MOST K.allows (column row.now at) ≡ Some text) }
+    ensures text { IfOk result (λ text. kind_in K.LEAST K.MOST K.allows (column row.now at) ≡ Some text) }
+    ensures unread { Fails (AreAscii K.allows → kind_in K.LEAST K.MOST K.allows (column row.now at) ≡ None) result }
 {
     match row.get::<String>(at) {
         Ok(text) => Checked::new(text).ok_or(StoreFault::Failed),
@@ -46,7 +58,8 @@ fn number_at<const LEAST: u64, const MOST: u64>(
     row: &Row,
     at: usize,
 ) -> Result<Within<LEAST, MOST>, StoreFault>
-    ensures { IfOk result (λ number. within LEAST MOST (column row.now at) ≡ Some number) }
+    ensures number { IfOk result (λ number. within LEAST MOST (column row.now at) ≡ Some number) }
+    ensures unread { Fails (MOST < 4294967296 → within LEAST MOST (column row.now at) ≡ None) result }
 {
     match row.get::<u32>(at) {
         Ok(number) => Within::new(u64::from(number)).ok_or(StoreFault::Failed),
@@ -56,7 +69,8 @@ fn number_at<const LEAST: u64, const MOST: u64>(
 
 /// The roles whose sum stands in a column.
 fn roles_at(row: &Row, at: usize) -> Result<SomeRoles, StoreFault>
-    ensures { IfOk result (λ roles. roles_in (column row.now at) ≡ Some roles) }
+    ensures roles { IfOk result (λ roles. roles_in (column row.now at) ≡ Some roles) }
+    ensures unread { Fails (roles_in (column row.now at) ≡ None) result }
 {
     let sum = number_at::<1, 15>(row, at)?.get();
     let roles = Roles {
@@ -68,30 +82,53 @@ fn roles_at(row: &Row, at: usize) -> Result<SomeRoles, StoreFault>
     SomeRoles::new(roles).ok_or(StoreFault::Failed)
 }
 
-/// The puzzle that a text spells.
-fn spelled(alloc: Global, text: &str) -> Result<Puzzle, StoreFault>
-    ensures { IfOk result (λ puzzle. board_of (spells_or_fault text.now) ≡ Some puzzle) }
+/// Want of memory, or that the text spells no puzzle.
+fn text_fault(fault: &TextFault) -> StoreFault
+    ensures { result ≡ Failed → fault.now ≢ NoMemory }
 {
-    match parse_puzzle(alloc, text.as_bytes()) {
+    match fault {
+        TextFault::Memory => StoreFault::Memory,
+        _ => StoreFault::Failed,
+    }
+}
+
+/// The puzzle that a text spells.
+fn spelled(alloc: Global, text: &[u8]) -> Result<Puzzle, StoreFault>
+    ensures puzzle { IfOk result (λ puzzle. board_of (spells_or_fault text.now) ≡ Some puzzle) }
+    ensures unread { Fails (board_of (spells_or_fault text.now) ≡ None) result }
+{
+    match parse_puzzle(alloc, text) {
         Ok(puzzle) => Ok(puzzle),
-        Err(TextFault::Memory) => Err(StoreFault::Memory),
-        Err(_) => Err(StoreFault::Failed),
+        Err(fault) => Err(text_fault(&fault)),
+    }
+}
+
+/// The puzzle whose text the value is.
+fn puzzle_of(alloc: Global, value: ValueRef<'_>) -> Result<Puzzle, StoreFault>
+    ensures puzzle { IfOk result (λ puzzle. puzzle_in (owned value.entry) ≡ Some puzzle) }
+    ensures unread { Fails (puzzle_in (owned value.entry) ≡ None) result }
+{
+    match value {
+        ValueRef::Text(text) => spelled(alloc, text),
+        _ => Err(StoreFault::Failed),
     }
 }
 
 /// The puzzle whose text stands in a column.
 fn puzzle_at(alloc: Global, row: &Row, at: usize) -> Result<Puzzle, StoreFault>
-    ensures { IfOk result (λ puzzle. puzzle_in (column row.now at) ≡ Some puzzle) }
+    ensures puzzle { IfOk result (λ puzzle. puzzle_in (column row.now at) ≡ Some puzzle) }
+    ensures unread { Fails (puzzle_in (column row.now at) ≡ None) result }
 {
-    match row.get::<String>(at) {
-        Ok(text) => spelled(alloc, text.as_str()),
-        Err(error) => Err(fault_of(&error)),
+    match row.get_ref(at) {
+        Ok(value) => puzzle_of(alloc, value),
+        Err(_) => Err(StoreFault::Failed),
     }
 }
 
 /// The code that stands in a column.
 fn code_at(row: &Row, at: usize) -> Result<u32, StoreFault>
-    ensures { IfOk result (λ code. number_in (column row.now at) ≡ Some code) }
+    ensures code { IfOk result (λ code. number_in (column row.now at) ≡ Some code) }
+    ensures unread { Fails ((code : ℕ) → number_in (column row.now at) ≡ Some code → 4294967296 ≤ code) result }
 {
     match row.get::<u32>(at) {
         Ok(code) => Ok(code),
@@ -114,7 +151,9 @@ fn unsolved(code: u32) -> Option<PuzzleState>
 
 /// The state whose code and solution stand in two columns.
 fn state_at(row: &Row, code_at_place: usize, solution_at: usize) -> Result<PuzzleState, StoreFault>
-    ensures { IfOk result (λ state. state_in (column row.now code_at_place) (column row.now solution_at) ≡ Some state) }
+    ensures state { IfOk result
+        (λ state. state_in (column row.now code_at_place) (column row.now solution_at) ≡ Some state) }
+    ensures unread { Fails (state_in (column row.now code_at_place) (column row.now solution_at) ≡ None) result }
 {
     let code = code_at(row, code_at_place)?;
     let solution: AnswerText = text_at(row, solution_at)?;
@@ -131,11 +170,10 @@ impl Record for Person {
     ghost read = { person_in };
 
     fn from_row(_: Global, row: &Row) -> Result<Person, StoreFault> {
-        Ok(Person {
-            name: text_at(row, 0)?,
-            key: text_at(row, 1)?,
-            roles: roles_at(row, 2)?,
-        })
+        let name = text_at(row, 0)?;
+        let key = text_at(row, 1)?;
+        let roles = roles_at(row, 2)?;
+        Ok(Person { name, key, roles })
     }
 }
 
@@ -157,20 +195,25 @@ impl Record for PuzzleRow {
 
 /// The key of an answer, in the first four columns.
 fn answer_key_at(row: &Row) -> Result<AnswerKey, StoreFault>
-    ensures { IfOk result (IsAnswerKeyIn row.now) }
+    ensures key { IfOk result (IsAnswerKeyIn row.now) }
+    ensures unread { Fails ((key : KeyColumns) → ¬ (IsAnswerKeyIn row.now key)) result }
 {
     let number = number_at(row, 2)?;
+    let entrant = text_at(row, 0)?;
+    let round = text_at(row, 1)?;
+    let token = text_at(row, 3)?;
     Ok(AnswerKey {
-        entrant: text_at(row, 0)?,
-        round: text_at(row, 1)?,
+        entrant,
+        round,
         number,
-        token: text_at(row, 3)?,
+        token,
     })
 }
 
 /// The verdict whose bits stand in a column.
 fn verdict_at(row: &Row, at: usize) -> Result<Broken, StoreFault>
-    ensures { IfOk result (λ verdict. within 0 65535 (column row.now at) ≡ Some verdict) }
+    ensures verdict { IfOk result (λ verdict. within 0 65535 (column row.now at) ≡ Some verdict) }
+    ensures unread { Fails (within 0 65535 (column row.now at) ≡ None) result }
 {
     Ok(Broken::from_bits(number_at::<0, 65535>(row, at)?.get() as u16))
 }
@@ -196,7 +239,9 @@ impl Record for AnswerRow {
 
 /// The points that stand in a column.
 fn points_at(row: &Row, at: usize) -> Result<i32, StoreFault>
-    ensures { IfOk result (λ points. int_in (column row.now at) ≡ Some points) }
+    ensures points { IfOk result (λ points. int_in (column row.now at) ≡ Some points) }
+    ensures unread { Fails ((points : ℤ) → int_in (column row.now at) ≡ Some points → ¬ (FitsSigned w32 points))
+        result }
 {
     match row.get::<i32>(at) {
         Ok(points) => Ok(points),
@@ -206,7 +251,8 @@ fn points_at(row: &Row, at: usize) -> Result<i32, StoreFault>
 
 /// The points of a ruling, where they lie in its range.
 fn ruling_points(points: i32) -> Option<RulingPoints>
-    ensures { IfSome result (λ some. ruling_points_of points ≡ Some some) }
+    ensures some { IfSome result (λ some. ruling_points_of points ≡ Some some) }
+    ensures none { IfNone result (ruling_points_of points ≡ None) }
 {
     match i16::try_from(points) {
         Ok(points) => RulingPoints::new(points),
@@ -231,14 +277,17 @@ fn ruling_at(
     code_at_place: usize,
     points_at_place: usize,
 ) -> Result<Option<Ruling>, StoreFault>
-    ensures { IfOk result
+    ensures ruling { IfOk result
         (λ ruling. ruling_in (column row.now code_at_place) (column row.now points_at_place) ≡ Some ruling) }
+    ensures unread { Fails (ruling_in (column row.now code_at_place) (column row.now points_at_place) ≡ None) result }
 {
     let code = code_at(row, code_at_place)?;
     let points = points_at(row, points_at_place)?;
     if code == 1 {
-        let points = ruling_points(points).ok_or(StoreFault::Failed)?;
-        return Ok(Some(Ruling::Upheld(points)));
+        return match ruling_points(points) {
+            Some(points) => Ok(Some(Ruling::Upheld(points))),
+            None => Err(StoreFault::Failed),
+        };
     }
     if points != 0 {
         return Err(StoreFault::Failed);
@@ -271,7 +320,8 @@ impl Record for ProtestRow {
 
 /// The mode whose code stands in a column.
 fn mode_at(row: &Row, at: usize) -> Result<Mode, StoreFault>
-    ensures { IfOk result (λ mode. mode_in (column row.now at) ≡ Some mode) }
+    ensures mode { IfOk result (λ mode. mode_in (column row.now at) ≡ Some mode) }
+    ensures unread { Fails (mode_in (column row.now at) ≡ None) result }
 {
     match code_at(row, at)? {
         0 => Ok(Mode::Instant),
@@ -282,7 +332,8 @@ fn mode_at(row: &Row, at: usize) -> Result<Mode, StoreFault>
 
 /// The flag that stands in a column as 0 or 1.
 fn flag_at(row: &Row, at: usize) -> Result<bool, StoreFault>
-    ensures { IfOk result (λ flag. flag_in (column row.now at) ≡ Some flag) }
+    ensures flag { IfOk result (λ flag. flag_in (column row.now at) ≡ Some flag) }
+    ensures unread { Fails (flag_in (column row.now at) ≡ None) result }
 {
     match code_at(row, at)? {
         0 => Ok(false),
@@ -344,7 +395,8 @@ impl Record for Place {
 
 /// All rows as records.
 pub(crate) fn read_all<T: Record + Drop>(alloc: Global, rows: &[Row]) -> Result<Vec<T>, StoreFault>
-    ensures { IfOk result (λ records. map T.Record.read rows.now ≡ map Some records.items) }
+    ensures all { IfOk result (λ records. map T.Record.read rows.now ≡ map Some records.items) }
+    ensures unread { Fails (IsAnyUnread T.Record.read rows.now) result }
 {
     let mut records = Vec::new(alloc);
     for row in rows {
@@ -358,7 +410,8 @@ pub(crate) fn read_all<T: Record + Drop>(alloc: Global, rows: &[Row]) -> Result<
 
 /// The one record, if there is any. More than one under a key is refused.
 pub(crate) fn at_most_one<T: Drop>(mut records: Vec<T>) -> Result<Option<T>, StoreFault>
-    ensures { IfOk result (λ one. (length records.items ≤ 1) × (one ≡ slice_get records.items 0)) }
+    ensures one { IfOk result (λ one. (length records.items ≤ 1) × (one ≡ slice_get records.items 0)) }
+    ensures more { IfErr result (λ _. 1 < length records.items) }
 {
     if 1 < records.len() {
         return Err(StoreFault::Failed);

@@ -1,10 +1,10 @@
 //! The table of rounds.
-ghost use Rattle.std.specs.Prelude.{◌≡◌, ◌++◌, ◌∷◌, [], ℕ, List, length, map, suc, IfOk, IfSome, OnOk};
+ghost use Rattle.std.specs.Prelude.{◌≡◌, ◌≢◌, ◌++◌, ◌∷◌, [], ℕ, List, length, map, suc, IfOk, IfErr, IfSome, OnOk};
 ghost use Rattle.std.specs.FinMap.{get, values};
 ghost use Rattle.sqlite.specs.Held.{Held, state};
 ghost use Rattle.sqlite.specs.State.{HasCleanDisk};
 ghost use Rattle.hall_policy.specs.World.{World};
-ghost use Rattle.hall_store.specs.Store.{Served, AreUsing, IsRoundKept};
+ghost use Rattle.hall_store.specs.Store.{Served, Fails, AreUsing, IsRoundKept};
 ghost use Rattle.hall_sql.specs.Places.{has_puzzle, is_in_round, ArePlaces, AreListed, AreNumbered};
 ghost use Rattle.hall_sql.specs.RoundColumns.{IsHead};
 ghost use Rattle.hall_sql.specs.Standing.{IsHall, Rested, content_of};
@@ -12,9 +12,11 @@ ghost use Rattle.sqlite.specs.declared.types.Value.TheVariants.{Text};
 ghost use Rattle.hall_sql.specs.Statements.{all_rounds_text, head_text, places_of_text, places_with_text};
 ghost use Rattle.hall_sql.specs.Rows.{place_in, round_in};
 ghost use Rattle.hall_sql.specs.Whole.{AreRecords};
+ghost use Rattle.hall_sql.specs.Cause.{ReadFails, FindFails, RoundFails, AreNoRound};
+ghost use Rattle.hall_store.specs.declared.fault.StoreFault.TheVariants.{Memory};
 
-use crate::calls::ask;
-use crate::record::{Place, at_most_one, read_all};
+use crate::reads::{find, read};
+use crate::record::Place;
 use hall_policy::{Entries, Entry, PuzzleKey, Round, RoundId, RoundRow};
 use hall_store::StoreFault;
 use sqlite::{Alter, Connection, params};
@@ -36,10 +38,11 @@ pub(crate) fn rounds<S: Alter>(
     ensures whole { HasCleanDisk (state S.Store conn.new) → IfOk result (λ _.
         AreRecords round_in all_rounds_text [] (state S.Store conn.old)
         (state S.Store conn.new)) }
+    ensures cause { HasCleanDisk (state S.Store conn.new) → Fails
+        (ReadFails round_in all_rounds_text [] (state S.Store conn.old) (state S.Store conn.new)) result }
 {
     let _schema = conn.schema();
-    let rows = ask(conn, ROUNDS, &[])?;
-    read_all(alloc, &rows)
+    read(conn, alloc, ROUNDS, &[])
 }
 
 const PLACES_WITH: &str = "SELECT round, number, author, label, points FROM round_puzzles \
@@ -58,19 +61,23 @@ fn places_with<S: Alter>(
     ensures whole { HasCleanDisk (state S.Store conn.new) → IfOk result (λ _.
         AreRecords place_in places_with_text (Text key.now.author ∷ Text key.now.label ∷ []) (state S.Store conn.old)
         (state S.Store conn.new)) }
+    ensures cause { HasCleanDisk (state S.Store conn.new) → Fails
+        (ReadFails place_in places_with_text (Text key.now.author ∷ Text key.now.label ∷ []) (state S.Store conn.old)
+        (state S.Store conn.new)) result }
 {
     let _schema = conn.schema();
-    let rows = ask(
+    read(
         conn,
+        alloc,
         PLACES_WITH,
         params![key.author.as_str(), key.label.as_str()],
-    )?;
-    read_all(alloc, &rows)
+    )
 }
 
 /// The rounds of the places.
 fn rounds_of(alloc: Global, places: Vec<Place>) -> Result<Vec<RoundId>, StoreFault>
-    ensures { IfOk result (λ ids. ids.items ≡ map (λ place. place.0.round) places.items) }
+    ensures ids { IfOk result (λ ids. ids.items ≡ map (λ place. place.0.round) places.items) }
+    ensures memory { IfErr result (λ fault. fault ≡ Memory) }
 {
     let mut ids = Vec::new(alloc);
     for (key, _) in places {
@@ -94,6 +101,9 @@ pub(crate) fn rounds_using<S: Alter>(
     ensures whole { HasCleanDisk (state S.Store conn.new) → IfOk result (λ _.
         AreRecords place_in places_with_text (Text key.now.author ∷ Text key.now.label ∷ []) (state S.Store conn.old)
         (state S.Store conn.new)) }
+    ensures cause { HasCleanDisk (state S.Store conn.new) → Fails
+        (ReadFails place_in places_with_text (Text key.now.author ∷ Text key.now.label ∷ []) (state S.Store conn.old)
+        (state S.Store conn.new)) result }
 {
     let places = places_with(conn, alloc, key)?;
     rounds_of(alloc, places)
@@ -118,9 +128,10 @@ pub(crate) fn head<S: Alter>(
     ensures whole { HasCleanDisk (state S.Store conn.new) → IfOk result (λ _.
         AreRecords round_in head_text (Text id.now ∷ []) (state S.Store conn.old)
         (state S.Store conn.new)) }
+    ensures cause { HasCleanDisk (state S.Store conn.new) → Fails
+        (FindFails round_in head_text (Text id.now ∷ []) (state S.Store conn.old) (state S.Store conn.new)) result }
 {
-    let rows = ask(conn, HEAD, params![id.as_str()])?;
-    at_most_one(read_all(alloc, &rows)?)
+    find(conn, alloc, HEAD, params![id.as_str()])
 }
 
 const PLACES_OF: &str = "SELECT round, number, author, label, points FROM round_puzzles \
@@ -139,16 +150,19 @@ fn places_of<S: Alter>(
     ensures whole { HasCleanDisk (state S.Store conn.new) → IfOk result (λ _.
         AreRecords place_in places_of_text (Text id.now ∷ []) (state S.Store conn.old)
         (state S.Store conn.new)) }
+    ensures cause { HasCleanDisk (state S.Store conn.new) → Fails
+        (ReadFails place_in places_of_text (Text id.now ∷ []) (state S.Store conn.old)
+        (state S.Store conn.new)) result }
 {
     let _schema = conn.schema();
-    let rows = ask(conn, PLACES_OF, params![id.as_str()])?;
-    read_all(alloc, &rows)
+    read(conn, alloc, PLACES_OF, params![id.as_str()])
 }
 
 /// Adds the entry of a place. Refused where the place isn't the next.
 fn add_entry(entries: &mut Vec<Entry>, place: Place) -> Result<(), StoreFault>
     ensures added { OnOk result (entries.new.items ≡ entries.old.items ++ place.1 ∷ []) }
     ensures next { OnOk result (place.0.number ≡ suc (length entries.old.items)) }
+    ensures other { Fails (place.0.number ≢ suc (length entries.old.items)) result }
 {
     let (key, entry) = place;
     if key.number.get() != entries.len() as u64 + 1 {
@@ -162,8 +176,9 @@ fn add_entry(entries: &mut Vec<Entry>, place: Place) -> Result<(), StoreFault>
 
 /// The entries of places that are numbered from 1 on.
 fn entries_of(alloc: Global, places: Vec<Place>) -> Result<Vec<Entry>, StoreFault>
-    ensures { IfOk result
+    ensures entries { IfOk result
         (λ entries. (entries.items ≡ map (λ place. place.1) places.items) × AreNumbered places.items) }
+    ensures other { Fails (¬ (AreNumbered places.items)) result }
 {
     let mut entries = Vec::new(alloc);
     for place in places {
@@ -178,14 +193,15 @@ fn row_of(
     head: Option<Round>,
     places: Vec<Place>,
 ) -> Result<Option<RoundRow>, StoreFault>
-    ensures { (world : World) (id : List ℕ) → head ≡ get world.rounds id → ArePlaces world (is_in_round id) places.items
-        → IfOk result (IsRoundKept world id) }
+    ensures row { (world : World) (id : List ℕ) → head ≡ get world.rounds id
+        → ArePlaces world (is_in_round id) places.items → IfOk result (IsRoundKept world id) }
+    ensures none { Fails (AreNoRound head places.items) result }
 {
     match head {
-        Some(round) => {
-            let puzzles = Entries::new(entries_of(alloc, places)?).ok_or(StoreFault::Failed)?;
-            Ok(Some(RoundRow { round, puzzles }))
-        }
+        Some(round) => match Entries::new(entries_of(alloc, places)?) {
+            Some(puzzles) => Ok(Some(RoundRow { round, puzzles })),
+            None => Err(StoreFault::Failed),
+        },
         None if places.is_empty() => Ok(None),
         None => Err(StoreFault::Failed),
     }
@@ -204,6 +220,8 @@ pub(crate) fn round<S: Alter>(
     ensures whole { HasCleanDisk (state S.Store conn.new) → IfOk result (λ _. (mid : Held S)
         × AreRecords round_in head_text (Text id.now ∷ []) (state S.Store conn.old) (state S.Store mid)
         × AreRecords place_in places_of_text (Text id.now ∷ []) (state S.Store mid) (state S.Store conn.new)) }
+    ensures cause { HasCleanDisk (state S.Store conn.new) → Fails
+        (RoundFails S.Store id.now (state S.Store conn.old) (state S.Store conn.new)) result }
 {
     let head = head(conn, alloc, id)?;
     let places = places_of(conn, alloc, id)?;

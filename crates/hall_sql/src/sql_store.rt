@@ -1,7 +1,7 @@
 //! The store over SQL tables.
 ghost use Rattle.std.specs.Prelude.{◌≡◌, IfOk, IfErr};
 ghost use Rattle.sqlite.specs.Held.{state};
-ghost use Rattle.hall_sql.specs.Standing.{HasAdopted, HasDeclined};
+ghost use Rattle.hall_sql.specs.Standing.{HasAdopted, HasDeclined, IsHall};
 
 use crate::adoption::adopt;
 use crate::answers::{
@@ -64,9 +64,10 @@ impl<S: Alter + Drop> SqlStore<S> {
         }
     }
 
-    /// The connection, as the last call left it.
+    /// The connection, as the last call left it: no transaction is open, and while it is open, all is committed.
     pub fn into_connection(self) -> Connection<S>
-        ensures { result ≡ self }
+        ensures same { result ≡ self }
+        ensures hall { IsHall (state S.Store result) }
     {
         self.conn
     }
@@ -83,7 +84,10 @@ impl<S: Alter + Drop> Store for SqlStore<S> {
     ghost use Rattle.hall_store.specs.Store.{Kept, Served, Fails, puzzles_of, IsRoundKept, AreUsing, IsNumberTaken};
     ghost use Rattle.hall_store.specs.Store.{IsListing, is_of, is_in};
     ghost use Rattle.hall_store.specs.Store.{HasSubmitted, IsProtestOpen, protests_of, protests_in};
-    ghost use Rattle.hall_store.specs.Store.{Fed, IsRefusedNext};
+    ghost use Rattle.hall_store.specs.Store.{Asks, Fed, IsRefusedNext};
+    ghost use Rattle.hall_store.specs.Change.{CanAddAnswer, CanAddProtest};
+    ghost use Rattle.hall_store.specs.declared.change.Change.TheVariants.{Import, PutPuzzle, SetState, PutRound};
+    ghost use Rattle.hall_store.specs.declared.change.Change.TheVariants.{SetRoundFlag, AddAnswer, AddProtest, RuleProtest};
     ghost use Rattle.hall_store.specs.declared.fault.StoreFault.TheVariants.{Failed};
     ghost use Rattle.hall_sql.specs.Rows.{person_in, puzzle_row_in, round_in, place_in, answer_in, protest_in};
     ghost use Rattle.hall_sql.specs.Statements.{person_text, person_by_key_text, puzzle_text, all_puzzles_text};
@@ -92,7 +96,8 @@ impl<S: Alter + Drop> Store for SqlStore<S> {
     ghost use Rattle.hall_sql.specs.Statements.{answers_of_text, answers_in_text, protest_text, protests_of_text};
     ghost use Rattle.hall_sql.specs.Statements.{protests_in_text};
     ghost use Rattle.hall_sql.specs.Whole.{AreRecords};
-    ghost use Rattle.hall_sql.specs.Standing.{content_of};
+    ghost use Rattle.hall_sql.specs.Cause.{ReadFails, FindFails, RoundFails};
+    ghost use Rattle.hall_sql.specs.Standing.{Rested, Wrote, content_of};
 
     ghost content = { λ s. content_of (state S.Store s) };
 
@@ -100,34 +105,45 @@ impl<S: Alter + Drop> Store for SqlStore<S> {
 
     fn person_by_key(&mut self, alloc: Global, key: &Key) -> Result<Option<Person>, StoreFault>
         ensures kept { Kept (content_of (state S.Store self.old)) (content_of (state S.Store self.new)) }
+        ensures rested { Rested (state S.Store self.old) (state S.Store self.new) }
         ensures served { Served (content_of (state S.Store self.new)) result
             (λ world found. IsKeyHolder world key.now found) }
         ensures fault { Fails (Unit {0}) result }
         ensures whole { HasCleanDisk (state S.Store self.new) → IfOk result (λ _.
             AreRecords person_in person_by_key_text (Text key.now ∷ []) (state S.Store self.old)
             (state S.Store self.new)) }
+        ensures cause { HasCleanDisk (state S.Store self.new) → Fails
+            (FindFails person_in person_by_key_text (Text key.now ∷ []) (state S.Store self.old)
+            (state S.Store self.new)) result }
     {
         person_by_key(&mut self.conn, alloc, key)
     }
 
     fn person(&mut self, alloc: Global, name: &Name) -> Result<Option<Person>, StoreFault>
         ensures kept { Kept (content_of (state S.Store self.old)) (content_of (state S.Store self.new)) }
+        ensures rested { Rested (state S.Store self.old) (state S.Store self.new) }
         ensures served { Served (content_of (state S.Store self.new)) result
             (λ world found. found ≡ get world.people name.now) }
         ensures fault { Fails (Unit {0}) result }
         ensures whole { HasCleanDisk (state S.Store self.new) → IfOk result (λ _.
             AreRecords person_in person_text (Text name.now ∷ []) (state S.Store self.old)
             (state S.Store self.new)) }
+        ensures cause { HasCleanDisk (state S.Store self.new) → Fails
+            (FindFails person_in person_text (Text name.now ∷ []) (state S.Store self.old)
+            (state S.Store self.new)) result }
     {
         person(&mut self.conn, alloc, name)
     }
 
-    fn import(&mut self, alloc: Global, people: &People) -> Result<(), StoreFault> {
+    fn import(&mut self, alloc: Global, people: &People) -> Result<(), StoreFault>
+        ensures wrote { Wrote (Import people.now) (state S.Store self.old) (state S.Store self.new) result }
+    {
         import(&mut self.conn, alloc, people)
     }
 
     fn puzzle(&mut self, alloc: Global, key: &PuzzleKey) -> Result<Option<PuzzleRow>, StoreFault>
         ensures kept { Kept (content_of (state S.Store self.old)) (content_of (state S.Store self.new)) }
+        ensures rested { Rested (state S.Store self.old) (state S.Store self.new) }
         ensures served { Served (content_of (state S.Store self.new)) result
             (λ world found. found ≡ get world.puzzles key.now) }
         ensures fault { Fails (Unit {0}) result }
@@ -135,47 +151,63 @@ impl<S: Alter + Drop> Store for SqlStore<S> {
             AreRecords puzzle_row_in puzzle_text
             (Text key.now.author ∷ Text key.now.label ∷ []) (state S.Store self.old)
             (state S.Store self.new)) }
+        ensures cause { HasCleanDisk (state S.Store self.new) → Fails
+            (FindFails puzzle_row_in puzzle_text (Text key.now.author ∷ Text key.now.label ∷ [])
+            (state S.Store self.old) (state S.Store self.new)) result }
     {
         puzzle(&mut self.conn, alloc, key)
     }
 
     fn puzzles_of(&mut self, alloc: Global, author: &Name) -> Result<Vec<PuzzleRow>, StoreFault>
         ensures kept { Kept (content_of (state S.Store self.old)) (content_of (state S.Store self.new)) }
+        ensures rested { Rested (state S.Store self.old) (state S.Store self.new) }
         ensures served { Served (content_of (state S.Store self.new)) result
             (λ world rows. rows.items ≡ puzzles_of world author.now) }
         ensures fault { Fails (Unit {0}) result }
         ensures whole { HasCleanDisk (state S.Store self.new) → IfOk result (λ _.
             AreRecords puzzle_row_in puzzles_of_text (Text author.now ∷ []) (state S.Store self.old)
             (state S.Store self.new)) }
+        ensures cause { HasCleanDisk (state S.Store self.new) → Fails
+            (ReadFails puzzle_row_in puzzles_of_text (Text author.now ∷ []) (state S.Store self.old)
+            (state S.Store self.new)) result }
     {
         puzzles_of(&mut self.conn, alloc, author)
     }
 
     fn all_puzzles(&mut self, alloc: Global) -> Result<Vec<PuzzleRow>, StoreFault>
         ensures kept { Kept (content_of (state S.Store self.old)) (content_of (state S.Store self.new)) }
+        ensures rested { Rested (state S.Store self.old) (state S.Store self.new) }
         ensures served { Served (content_of (state S.Store self.new)) result
             (λ world rows. rows.items ≡ values world.puzzles) }
         ensures fault { Fails (Unit {0}) result }
         ensures whole { HasCleanDisk (state S.Store self.new) → IfOk result (λ _.
             AreRecords puzzle_row_in all_puzzles_text [] (state S.Store self.old)
             (state S.Store self.new)) }
+        ensures cause { HasCleanDisk (state S.Store self.new) → Fails
+            (ReadFails puzzle_row_in all_puzzles_text [] (state S.Store self.old) (state S.Store self.new)) result }
     {
         all_puzzles(&mut self.conn, alloc)
     }
 
     fn puzzles_put(&mut self, alloc: Global, author: &Name) -> Result<u64, StoreFault>
         ensures kept { Kept (content_of (state S.Store self.old)) (content_of (state S.Store self.new)) }
+        ensures rested { Rested (state S.Store self.old) (state S.Store self.new) }
         ensures served { Served (content_of (state S.Store self.new)) result
             (λ world count. count ≡ puzzles_put world author.now) }
         ensures fault { Fails (Unit {0}) result }
         ensures whole { HasCleanDisk (state S.Store self.new) → IfOk result (λ _.
             AreRecords puzzle_row_in puzzles_of_text (Text author.now ∷ []) (state S.Store self.old)
             (state S.Store self.new)) }
+        ensures cause { HasCleanDisk (state S.Store self.new) → Fails
+            (ReadFails puzzle_row_in puzzles_of_text (Text author.now ∷ []) (state S.Store self.old)
+            (state S.Store self.new)) result }
     {
         puzzles_put(&mut self.conn, alloc, author)
     }
 
-    fn put_puzzle(&mut self, alloc: Global, row: PuzzleRow) -> Result<(), StoreFault> {
+    fn put_puzzle(&mut self, alloc: Global, row: PuzzleRow) -> Result<(), StoreFault>
+        ensures wrote { Wrote (PutPuzzle row) (state S.Store self.old) (state S.Store self.new) result }
+    {
         put_puzzle(&mut self.conn, alloc, &row)
     }
 
@@ -183,36 +215,46 @@ impl<S: Alter + Drop> Store for SqlStore<S> {
         &mut self,
         alloc: Global,
         key: &PuzzleKey,
-        state: PuzzleState,
-    ) -> Result<(), StoreFault> {
-        set_state(&mut self.conn, alloc, key, state)
+        known: PuzzleState,
+    ) -> Result<(), StoreFault>
+        ensures wrote { Wrote (SetState key.now known) (state S.Store self.old) (state S.Store self.new) result }
+    {
+        set_state(&mut self.conn, alloc, key, known)
     }
 
     fn round(&mut self, alloc: Global, id: &RoundId) -> Result<Option<RoundRow>, StoreFault>
         ensures kept { Kept (content_of (state S.Store self.old)) (content_of (state S.Store self.new)) }
+        ensures rested { Rested (state S.Store self.old) (state S.Store self.new) }
         ensures served { Served (content_of (state S.Store self.new)) result
             (λ world found. IsRoundKept world id.now found) }
         ensures fault { Fails (Unit {0}) result }
         ensures whole { HasCleanDisk (state S.Store self.new) → IfOk result (λ _. (mid : Held S)
             × AreRecords round_in head_text (Text id.now ∷ []) (state S.Store self.old) (state S.Store mid)
             × AreRecords place_in places_of_text (Text id.now ∷ []) (state S.Store mid) (state S.Store self.new)) }
+        ensures cause { HasCleanDisk (state S.Store self.new) → Fails
+            (RoundFails S.Store id.now (state S.Store self.old) (state S.Store self.new)) result }
     {
         round(&mut self.conn, alloc, id)
     }
 
     fn rounds(&mut self, alloc: Global) -> Result<Vec<Round>, StoreFault>
         ensures kept { Kept (content_of (state S.Store self.old)) (content_of (state S.Store self.new)) }
+        ensures rested { Rested (state S.Store self.old) (state S.Store self.new) }
         ensures served { Served (content_of (state S.Store self.new)) result
             (λ world rounds. rounds.items ≡ values world.rounds) }
         ensures fault { Fails (Unit {0}) result }
         ensures whole { HasCleanDisk (state S.Store self.new) → IfOk result (λ _.
             AreRecords round_in all_rounds_text [] (state S.Store self.old)
             (state S.Store self.new)) }
+        ensures cause { HasCleanDisk (state S.Store self.new) → Fails
+            (ReadFails round_in all_rounds_text [] (state S.Store self.old) (state S.Store self.new)) result }
     {
         rounds(&mut self.conn, alloc)
     }
 
-    fn put_round(&mut self, _alloc: Global, row: RoundRow) -> Result<(), StoreFault> {
+    fn put_round(&mut self, _alloc: Global, row: RoundRow) -> Result<(), StoreFault>
+        ensures wrote { Wrote (PutRound row) (state S.Store self.old) (state S.Store self.new) result }
+    {
         put_round(&mut self.conn, &row)
     }
 
@@ -221,12 +263,15 @@ impl<S: Alter + Drop> Store for SqlStore<S> {
         alloc: Global,
         id: &RoundId,
         flag: RoundFlag,
-    ) -> Result<(), StoreFault> {
+    ) -> Result<(), StoreFault>
+        ensures wrote { Wrote (SetRoundFlag id.now flag) (state S.Store self.old) (state S.Store self.new) result }
+    {
         set_round_flag(&mut self.conn, alloc, id, flag)
     }
 
     fn rounds_using(&mut self, alloc: Global, key: &PuzzleKey) -> Result<Vec<RoundId>, StoreFault>
         ensures kept { Kept (content_of (state S.Store self.old)) (content_of (state S.Store self.new)) }
+        ensures rested { Rested (state S.Store self.old) (state S.Store self.new) }
         ensures served { Served (content_of (state S.Store self.new)) result
             (λ world ids. AreUsing world key.now ids.items) }
         ensures fault { Fails (Unit {0}) result }
@@ -234,12 +279,16 @@ impl<S: Alter + Drop> Store for SqlStore<S> {
             AreRecords place_in places_with_text
             (Text key.now.author ∷ Text key.now.label ∷ []) (state S.Store self.old)
             (state S.Store self.new)) }
+        ensures cause { HasCleanDisk (state S.Store self.new) → Fails
+            (ReadFails place_in places_with_text (Text key.now.author ∷ Text key.now.label ∷ [])
+            (state S.Store self.old) (state S.Store self.new)) result }
     {
         rounds_using(&mut self.conn, alloc, key)
     }
 
     fn answer(&mut self, alloc: Global, key: &AnswerKey) -> Result<Option<AnswerRow>, StoreFault>
         ensures kept { Kept (content_of (state S.Store self.old)) (content_of (state S.Store self.new)) }
+        ensures rested { Rested (state S.Store self.old) (state S.Store self.new) }
         ensures served { Served (content_of (state S.Store self.new)) result
             (λ world found. found ≡ get world.answers key.now) }
         ensures fault { Fails (Unit {0}) result }
@@ -247,6 +296,10 @@ impl<S: Alter + Drop> Store for SqlStore<S> {
             AreRecords answer_in answer_text
             (Text key.now.entrant ∷ Text key.now.round ∷ Int (pos key.now.number) ∷ Text key.now.token ∷ [])
             (state S.Store self.old) (state S.Store self.new)) }
+        ensures cause { HasCleanDisk (state S.Store self.new) → Fails
+            (FindFails answer_in answer_text
+            (Text key.now.entrant ∷ Text key.now.round ∷ Int (pos key.now.number) ∷ Text key.now.token ∷ [])
+            (state S.Store self.old) (state S.Store self.new)) result }
     {
         answer(&mut self.conn, alloc, key)
     }
@@ -259,6 +312,7 @@ impl<S: Alter + Drop> Store for SqlStore<S> {
         number: PuzzleNumber,
     ) -> Result<u64, StoreFault>
         ensures kept { Kept (content_of (state S.Store self.old)) (content_of (state S.Store self.new)) }
+        ensures rested { Rested (state S.Store self.old) (state S.Store self.new) }
         ensures served { Served (content_of (state S.Store self.new)) result
             (λ world count. count ≡ answers_given world entrant.now round.now number) }
         ensures fault { Fails (Unit {0}) result }
@@ -266,6 +320,9 @@ impl<S: Alter + Drop> Store for SqlStore<S> {
             AreRecords answer_in answers_given_text
             (Text entrant.now ∷ Text round.now ∷ Int (pos number) ∷ []) (state S.Store self.old)
             (state S.Store self.new)) }
+        ensures cause { HasCleanDisk (state S.Store self.new) → Fails
+            (ReadFails answer_in answers_given_text (Text entrant.now ∷ Text round.now ∷ Int (pos number) ∷ [])
+            (state S.Store self.old) (state S.Store self.new)) result }
     {
         answers_given(&mut self.conn, alloc, entrant, round, number)
     }
@@ -279,6 +336,7 @@ impl<S: Alter + Drop> Store for SqlStore<S> {
         n: AnswerNumber,
     ) -> Result<bool, StoreFault>
         ensures kept { Kept (content_of (state S.Store self.old)) (content_of (state S.Store self.new)) }
+        ensures rested { Rested (state S.Store self.old) (state S.Store self.new) }
         ensures served { Served (content_of (state S.Store self.new)) result
             (λ world taken. IsTrue taken ↔ IsNumberTaken world entrant.now round.now number n) }
         ensures fault { Fails (Unit {0}) result }
@@ -286,6 +344,10 @@ impl<S: Alter + Drop> Store for SqlStore<S> {
             AreRecords answer_in number_taken_text
             (Text entrant.now ∷ Text round.now ∷ Int (pos number) ∷ Int (pos n) ∷ [])
             (state S.Store self.old) (state S.Store self.new)) }
+        ensures cause { HasCleanDisk (state S.Store self.new) → Fails
+            (ReadFails answer_in number_taken_text
+            (Text entrant.now ∷ Text round.now ∷ Int (pos number) ∷ Int (pos n) ∷ []) (state S.Store self.old)
+            (state S.Store self.new)) result }
     {
         is_number_taken(&mut self.conn, alloc, entrant, round, number, n)
     }
@@ -297,29 +359,40 @@ impl<S: Alter + Drop> Store for SqlStore<S> {
         round: &RoundId,
     ) -> Result<Vec<AnswerRow>, StoreFault>
         ensures kept { Kept (content_of (state S.Store self.old)) (content_of (state S.Store self.new)) }
+        ensures rested { Rested (state S.Store self.old) (state S.Store self.new) }
         ensures served { Served (content_of (state S.Store self.new)) result
             (λ world rows. IsListing world (is_of entrant.now round.now) rows.items) }
         ensures fault { Fails (Unit {0}) result }
         ensures whole { HasCleanDisk (state S.Store self.new) → IfOk result (λ _.
             AreRecords answer_in answers_of_text (Text entrant.now ∷ Text round.now ∷ []) (state S.Store self.old)
             (state S.Store self.new)) }
+        ensures cause { HasCleanDisk (state S.Store self.new) → Fails
+            (ReadFails answer_in answers_of_text (Text entrant.now ∷ Text round.now ∷ []) (state S.Store self.old)
+            (state S.Store self.new)) result }
     {
         answers_of(&mut self.conn, alloc, entrant, round)
     }
 
     fn answers_in(&mut self, alloc: Global, round: &RoundId) -> Result<Vec<AnswerRow>, StoreFault>
         ensures kept { Kept (content_of (state S.Store self.old)) (content_of (state S.Store self.new)) }
+        ensures rested { Rested (state S.Store self.old) (state S.Store self.new) }
         ensures served { Served (content_of (state S.Store self.new)) result
             (λ world rows. IsListing world (is_in round.now) rows.items) }
         ensures fault { Fails (Unit {0}) result }
         ensures whole { HasCleanDisk (state S.Store self.new) → IfOk result (λ _.
             AreRecords answer_in answers_in_text (Text round.now ∷ []) (state S.Store self.old)
             (state S.Store self.new)) }
+        ensures cause { HasCleanDisk (state S.Store self.new) → Fails
+            (ReadFails answer_in answers_in_text (Text round.now ∷ []) (state S.Store self.old)
+            (state S.Store self.new)) result }
     {
         answers_in(&mut self.conn, alloc, round)
     }
 
-    fn add_answer(&mut self, _alloc: Global, row: AnswerRow) -> Result<(), StoreFault> {
+    fn add_answer(&mut self, _alloc: Global, row: AnswerRow) -> Result<(), StoreFault>
+        requires { Asks (content_of (state S.Store self.old)) (λ world. CanAddAnswer world row) }
+        ensures wrote { Wrote (AddAnswer row) (state S.Store self.old) (state S.Store self.new) result }
+    {
         add_answer(&mut self.conn, &row)
     }
 
@@ -330,6 +403,7 @@ impl<S: Alter + Drop> Store for SqlStore<S> {
         sink: &mut K,
     ) -> Result<(), StoreFault>
         ensures kept { Kept (content_of (state S.Store self.old)) (content_of (state S.Store self.new)) }
+        ensures rested { Rested (state S.Store self.old) (state S.Store self.new) }
         ensures fed { Fed K.takes (λ world rows. IsListing world (is_in round.now) rows)
             (content_of (state S.Store self.old)) (content_of (state S.Store self.new)) sink.old result sink.new }
         ensures fault { IfErr result (λ fault. fault ≡ Failed → Unit {0} ⊎ IsRefusedNext K.takes K.refuses
@@ -349,18 +423,23 @@ impl<S: Alter + Drop> Store for SqlStore<S> {
         round: &RoundId,
     ) -> Result<bool, StoreFault>
         ensures kept { Kept (content_of (state S.Store self.old)) (content_of (state S.Store self.new)) }
+        ensures rested { Rested (state S.Store self.old) (state S.Store self.new) }
         ensures served { Served (content_of (state S.Store self.new)) result
             (λ world found. IsTrue found ↔ HasSubmitted world entrant.now round.now) }
         ensures fault { Fails (Unit {0}) result }
         ensures whole { HasCleanDisk (state S.Store self.new) → IfOk result (λ _.
             AreRecords answer_in answers_of_text (Text entrant.now ∷ Text round.now ∷ []) (state S.Store self.old)
             (state S.Store self.new)) }
+        ensures cause { HasCleanDisk (state S.Store self.new) → Fails
+            (ReadFails answer_in answers_of_text (Text entrant.now ∷ Text round.now ∷ []) (state S.Store self.old)
+            (state S.Store self.new)) result }
     {
         has_answered(&mut self.conn, alloc, entrant, round)
     }
 
     fn protest(&mut self, alloc: Global, key: &ProtestKey) -> Result<Option<ProtestRow>, StoreFault>
         ensures kept { Kept (content_of (state S.Store self.old)) (content_of (state S.Store self.new)) }
+        ensures rested { Rested (state S.Store self.old) (state S.Store self.new) }
         ensures served { Served (content_of (state S.Store self.new)) result
             (λ world found. found ≡ get world.protests key.now) }
         ensures fault { Fails (Unit {0}) result }
@@ -368,6 +447,9 @@ impl<S: Alter + Drop> Store for SqlStore<S> {
             AreRecords protest_in protest_text
             (Text key.now.entrant ∷ Text key.now.round ∷ Text key.now.token ∷ []) (state S.Store self.old)
             (state S.Store self.new)) }
+        ensures cause { HasCleanDisk (state S.Store self.new) → Fails
+            (FindFails protest_in protest_text (Text key.now.entrant ∷ Text key.now.round ∷ Text key.now.token ∷ [])
+            (state S.Store self.old) (state S.Store self.new)) result }
     {
         protest(&mut self.conn, alloc, key)
     }
@@ -379,24 +461,32 @@ impl<S: Alter + Drop> Store for SqlStore<S> {
         round: &RoundId,
     ) -> Result<u64, StoreFault>
         ensures kept { Kept (content_of (state S.Store self.old)) (content_of (state S.Store self.new)) }
+        ensures rested { Rested (state S.Store self.old) (state S.Store self.new) }
         ensures served { Served (content_of (state S.Store self.new)) result
             (λ world count. count ≡ protests_made world entrant.now round.now) }
         ensures fault { Fails (Unit {0}) result }
         ensures whole { HasCleanDisk (state S.Store self.new) → IfOk result (λ _.
             AreRecords protest_in protests_of_text (Text entrant.now ∷ Text round.now ∷ []) (state S.Store self.old)
             (state S.Store self.new)) }
+        ensures cause { HasCleanDisk (state S.Store self.new) → Fails
+            (ReadFails protest_in protests_of_text (Text entrant.now ∷ Text round.now ∷ []) (state S.Store self.old)
+            (state S.Store self.new)) result }
     {
         protests_made(&mut self.conn, alloc, entrant, round)
     }
 
     fn has_open_protest(&mut self, alloc: Global, round: &RoundId) -> Result<bool, StoreFault>
         ensures kept { Kept (content_of (state S.Store self.old)) (content_of (state S.Store self.new)) }
+        ensures rested { Rested (state S.Store self.old) (state S.Store self.new) }
         ensures served { Served (content_of (state S.Store self.new)) result
             (λ world found. IsTrue found ↔ IsProtestOpen world round.now) }
         ensures fault { Fails (Unit {0}) result }
         ensures whole { HasCleanDisk (state S.Store self.new) → IfOk result (λ _.
             AreRecords protest_in protests_in_text (Text round.now ∷ []) (state S.Store self.old)
             (state S.Store self.new)) }
+        ensures cause { HasCleanDisk (state S.Store self.new) → Fails
+            (ReadFails protest_in protests_in_text (Text round.now ∷ []) (state S.Store self.old)
+            (state S.Store self.new)) result }
     {
         has_open_protest(&mut self.conn, alloc, round)
     }
@@ -408,29 +498,40 @@ impl<S: Alter + Drop> Store for SqlStore<S> {
         round: &RoundId,
     ) -> Result<Vec<ProtestRow>, StoreFault>
         ensures kept { Kept (content_of (state S.Store self.old)) (content_of (state S.Store self.new)) }
+        ensures rested { Rested (state S.Store self.old) (state S.Store self.new) }
         ensures served { Served (content_of (state S.Store self.new)) result
             (λ world rows. rows.items ≡ protests_of world entrant.now round.now) }
         ensures fault { Fails (Unit {0}) result }
         ensures whole { HasCleanDisk (state S.Store self.new) → IfOk result (λ _.
             AreRecords protest_in protests_of_text (Text entrant.now ∷ Text round.now ∷ []) (state S.Store self.old)
             (state S.Store self.new)) }
+        ensures cause { HasCleanDisk (state S.Store self.new) → Fails
+            (ReadFails protest_in protests_of_text (Text entrant.now ∷ Text round.now ∷ []) (state S.Store self.old)
+            (state S.Store self.new)) result }
     {
         protests_of(&mut self.conn, alloc, entrant, round)
     }
 
     fn protests_in(&mut self, alloc: Global, round: &RoundId) -> Result<Vec<ProtestRow>, StoreFault>
         ensures kept { Kept (content_of (state S.Store self.old)) (content_of (state S.Store self.new)) }
+        ensures rested { Rested (state S.Store self.old) (state S.Store self.new) }
         ensures served { Served (content_of (state S.Store self.new)) result
             (λ world rows. rows.items ≡ protests_in world round.now) }
         ensures fault { Fails (Unit {0}) result }
         ensures whole { HasCleanDisk (state S.Store self.new) → IfOk result (λ _.
             AreRecords protest_in protests_in_text (Text round.now ∷ []) (state S.Store self.old)
             (state S.Store self.new)) }
+        ensures cause { HasCleanDisk (state S.Store self.new) → Fails
+            (ReadFails protest_in protests_in_text (Text round.now ∷ []) (state S.Store self.old)
+            (state S.Store self.new)) result }
     {
         protests_in(&mut self.conn, alloc, round)
     }
 
-    fn add_protest(&mut self, _alloc: Global, row: ProtestRow) -> Result<(), StoreFault> {
+    fn add_protest(&mut self, _alloc: Global, row: ProtestRow) -> Result<(), StoreFault>
+        requires { Asks (content_of (state S.Store self.old)) (λ world. CanAddProtest world row) }
+        ensures wrote { Wrote (AddProtest row) (state S.Store self.old) (state S.Store self.new) result }
+    {
         add_protest(&mut self.conn, &row)
     }
 
@@ -439,7 +540,9 @@ impl<S: Alter + Drop> Store for SqlStore<S> {
         alloc: Global,
         key: &ProtestKey,
         ruling: Ruling,
-    ) -> Result<(), StoreFault> {
+    ) -> Result<(), StoreFault>
+        ensures wrote { Wrote (RuleProtest key.now ruling) (state S.Store self.old) (state S.Store self.new) result }
+    {
         rule_protest(&mut self.conn, alloc, key, ruling)
     }
 
@@ -450,6 +553,7 @@ impl<S: Alter + Drop> Store for SqlStore<S> {
         sink: &mut K,
     ) -> Result<(), StoreFault>
         ensures kept { Kept (content_of (state S.Store self.old)) (content_of (state S.Store self.new)) }
+        ensures rested { Rested (state S.Store self.old) (state S.Store self.new) }
         ensures fed { Fed K.takes (λ world rows. rows ≡ protests_in world round.now)
             (content_of (state S.Store self.old)) (content_of (state S.Store self.new)) sink.old result sink.new }
         ensures fault { IfErr result (λ fault. fault ≡ Failed → Unit {0} ⊎ IsRefusedNext K.takes K.refuses

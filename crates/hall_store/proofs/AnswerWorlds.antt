@@ -34,7 +34,8 @@ use Rattle.hall_store.specs.declared.slot.Part.TheVariants.{Entrant, Puzzle}
 use Rattle.hall_store.proofs.Firsts.{slot_total}
 use Rattle.hall_store.proofs.MapWorlds.{get_found, entries_made, inserted}
 use Rattle.hall_store.proofs.Ranges.{equal_from_test, all_of_each}
-use Rattle.hall_store.proofs.Tests.{and_first, and_second, and_both, contained, not_true, text_decides, true_not_false, Contains-filter, filter-Contains}
+use Rattle.hall_store.proofs.Tests.{and_both, contained, not_true, true_not_false, Contains-filter, filter-Contains}
+use Rattle.hall_policy.proofs.Texts.{and_first, and_second, text_decides}
 
 -- ---- one answer
 -- two orders in turn tie where both do

@@ -10,7 +10,8 @@ use Rattle.hall_policy.proofs.Maps.{get-insert_other}
 use Rattle.hall_policy.proofs.Orders.{text_total, same_texts, place_total, same_place_keys}
 use Rattle.hall_store.specs.Change.{with_person, with_people, without_list, with_list, relisted}
 use Rattle.hall_store.proofs.Inserts.{found_after, others_stay, inserted_there}
-use Rattle.hall_store.proofs.Tests.{text_decides, true_not_false, contained, placed}
+use Rattle.hall_store.proofs.Tests.{true_not_false, contained, placed}
+use Rattle.hall_policy.proofs.Texts.{text_decides}
 
 -- ---- places
 abbrev place_key : List ℕ → ℕ → PlaceKey

@@ -27,7 +27,8 @@ use Rattle.hall_store.specs.declared.slot.AnswerSlot.{AnswerSlot}
 use Rattle.hall_store.specs.declared.slot.UseKey.{UseKey}
 use Rattle.hall_store.specs.declared.slot.Part.{Part}
 use Rattle.hall_store.specs.declared.slot.Part.TheVariants.{Round, Entrant, Puzzle}
-use Rattle.hall_store.proofs.Tests.{and_first, and_second, and_both, text_decides}
+use Rattle.hall_store.proofs.Tests.{and_both}
+use Rattle.hall_policy.proofs.Texts.{and_first, and_second, text_decides}
 use Rattle.hall_store.proofs.Ranges.{all_of_each, values_filtered, stand_together}
 
 -- ---- the orders

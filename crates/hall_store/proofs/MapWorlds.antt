@@ -29,7 +29,8 @@ use Rattle.hall_store.specs.Maps.{world_of, head_of, places_from, places_in}
 use Rattle.hall_store.specs.Store.{IsRoundKept}
 use Rattle.hall_store.specs.declared.map_store.MapStore.{MapStore}
 use Rattle.hall_store.proofs.Ranges.{equal_from_test, none_past}
-use Rattle.hall_store.proofs.Tests.{find-Contains, find-None, text_decides, not_true}
+use Rattle.hall_store.proofs.Tests.{find-Contains, find-None, not_true}
+use Rattle.hall_policy.proofs.Texts.{text_decides}
 
 or_none : {X : Type 0} (o : Option X) → option_or o None ≡ o
 or_none None = refl

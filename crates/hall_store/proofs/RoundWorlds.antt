@@ -20,7 +20,8 @@ use Rattle.hall_store.specs.Maps.{head_of, places_in}
 use Rattle.hall_store.proofs.Changes.{get-relisted}
 use Rattle.hall_store.proofs.MapWorlds.{get_found, entries_made, inserted, head_found, place_found, place_of}
 use Rattle.hall_store.proofs.Ranges.{equal_from_test}
-use Rattle.hall_store.proofs.Tests.{not_true, true_not_false, text_decides}
+use Rattle.hall_store.proofs.Tests.{not_true, true_not_false}
+use Rattle.hall_policy.proofs.Texts.{text_decides}
 
 abbrev heads : List (List ℕ × RoundRow) → FinMap text_cmp Round
 heads es = from_entries (map head_of es)

@@ -2,21 +2,12 @@
 use Rattle.std.proofs.Common.{◌≡◌, ◌&&◌, ◌||◌, ℕ, zero, suc, Bool, true, false, cond, List, [], ◌∷◌, Option, Some, None, Contains, refl, sym, ap, ◌∙◌, subst, arith, slice_get, is_some}
 use Rattle.std.specs.List.{filter, find, list_any, list_all}
 use Rattle.std.specs.Bool.{Decides}
-use Rattle.std.specs.Cmp.{unsigned_Decides}
-use Rattle.std.specs.Cmp.Lexicographic.{pointwise_decides}
 use Rattle.std.proofs.lemmas.Option.{slice_get_within, slice_get-get_or, get_or_from_slice_get}
 use Rattle.hall_policy.specs.World.{same_text}
+use Rattle.hall_policy.proofs.Texts.{and_first, and_second, text_decides}
 use Rattle.hall_policy.specs.declared.record.PuzzleKey.{PuzzleKey}
 
 -- ---- truth values
-pub and_first : (a b : Bool) → (a && b) ≡ true → a ≡ true
-and_first true b h = refl
-and_first false b h = h
-
-pub and_second : (a b : Bool) → (a && b) ≡ true → b ≡ true
-and_second true b h = h
-and_second false b h = let no : false ≡ true = h in cc
-
 pub and_both : (a b : Bool) → a ≡ true → b ≡ true → (a && b) ≡ true
 and_both true b p q = q
 and_both false b p q = p
@@ -41,10 +32,6 @@ none_unless_some None h = refl
 none_unless_some (Some x) h = let no : true ≡ false = h in absurd (cc)
 
 -- ---- texts
--- texts are one exactly where the test passes
-pub text_decides : (a b : List ℕ) → Decides (same_text a b) (a ≡ b)
-text_decides a b = pointwise_decides unsigned_Decides a b
-
 -- puzzles' keys are one exactly where both their texts are
 pub puzzle_decides : (a b : PuzzleKey) → Decides (same_text a.author b.author && same_text a.label b.label) (a ≡ b)
 puzzle_decides a b = (

@@ -2,7 +2,7 @@
 use hall_policy::SinkFault;
 use std::alloc::AllocError;
 
-/// The store refused, or memory did; the world is as it was.
+/// The store refused, or memory did; while the store serves, the world is as it was.
 #[derive(Clone, Copy, Debug, PartialEq, Eq)]
 pub enum StoreFault {
     /// No memory was left.

@@ -1,10 +1,10 @@
 //! Values that are taken out of the sets of candidates where nothing follows from a single cell or unit.
-ghost use Rattle.std.specs.Prelude.{◌≡◌, ◌≤◌, false, IsTrue, length};
+ghost use Rattle.std.specs.Prelude.{◌≡◌, ◌≤◌, ◌<◌, ℕ, false, IsTrue, length, slice_index};
 ghost use Rattle.hall_grid.specs.Board.{cells};
 ghost use Rattle.hall_solve.specs.Question.{IsPartial, IsHopeless};
 ghost use Rattle.hall_sudoku.specs.Units.{units_question};
 ghost use Rattle.hall_sudoku.specs.Candidates.{AreCandidates, AreFilled};
-ghost use Rattle.hall_sudoku.specs.Parts.{AreOut};
+ghost use Rattle.hall_sudoku.specs.Parts.{AreElsewhere, AreOut};
 
 use crate::parts::Parts;
 use crate::units::Units;
@@ -39,6 +39,31 @@ fn all_filled(units: &Units, partial: &Partial, candidates: &[Values]) -> bool
     true
 }
 
+/// For each cell the values that another of the first units must have in the cell's second unit.
+fn elsewhere_of<const CELLS: usize>(
+    units: &Units,
+    first: &[u8],
+    second: &[u8],
+    candidates: &[Values],
+) -> [Values; CELLS]
+    requires room { cells units.now ≤ length candidates.now }
+    requires fits { cells units.now ≤ CELLS }
+    requires few { CELLS ≤ 625 }
+    requires first_size { length first.now ≡ cells units.now }
+    requires second_size { length second.now ≡ cells units.now }
+    requires first_small { (cell : ℕ) → cell < length first.now → slice_index first.now cell < units.now.cols }
+    requires second_small { (cell : ℕ) → cell < length second.now → slice_index second.now cell < units.now.cols }
+    ensures size { length result ≡ CELLS }
+    ensures elsewhere { AreElsewhere units.now (slice_index first.now) (slice_index second.now) candidates.now result }
+{
+    let parts = Parts {
+        units,
+        first,
+        second,
+    };
+    parts.elsewhere::<CELLS>(candidates)
+}
+
 /// Takes out what boxes and lines say of each other.
 fn take_out_by_parts<const CELLS: usize>(
     units: &Units,
@@ -53,50 +78,14 @@ fn take_out_by_parts<const CELLS: usize>(
     ensures { AreCandidates units.now partial.now.places candidates.new }
 {
     let (rows, columns, boxes) = (units.rows(), units.columns(), units.boxes());
-    let boxes_of_rows = Parts {
-        units,
-        first: rows,
-        second: boxes,
-    };
-    take_out(
-        units,
-        partial,
-        &boxes_of_rows.elsewhere::<CELLS>(candidates),
-        candidates,
-    );
-    let boxes_of_columns = Parts {
-        units,
-        first: columns,
-        second: boxes,
-    };
-    take_out(
-        units,
-        partial,
-        &boxes_of_columns.elsewhere::<CELLS>(candidates),
-        candidates,
-    );
-    let rows_of_boxes = Parts {
-        units,
-        first: boxes,
-        second: rows,
-    };
-    take_out(
-        units,
-        partial,
-        &rows_of_boxes.elsewhere::<CELLS>(candidates),
-        candidates,
-    );
-    let columns_of_boxes = Parts {
-        units,
-        first: boxes,
-        second: columns,
-    };
-    take_out(
-        units,
-        partial,
-        &columns_of_boxes.elsewhere::<CELLS>(candidates),
-        candidates,
-    );
+    let out = elsewhere_of::<CELLS>(units, rows, boxes, candidates);
+    take_out(units, partial, &out, candidates);
+    let out = elsewhere_of::<CELLS>(units, columns, boxes, candidates);
+    take_out(units, partial, &out, candidates);
+    let out = elsewhere_of::<CELLS>(units, boxes, rows, candidates);
+    take_out(units, partial, &out, candidates);
+    let out = elsewhere_of::<CELLS>(units, boxes, columns, candidates);
+    take_out(units, partial, &out, candidates);
 }
 
 /// Takes values out; tells whether each cell has a candidate left.

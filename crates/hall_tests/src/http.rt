@@ -421,7 +421,7 @@ fn listed<'a>(rt: &(impl AllocGlobal + Abort), seen: &'a Seen) -> Listed<'a> {
     ] {
         coming.push(next).expect(rt, "memory");
     }
-    Listed { coming }
+    Listed { coming, seen }
 }
 
 #[test]
@@ -442,6 +442,7 @@ fn each_line_that_is_let_in_is_served(rt: HostRuntime) {
             "{connections} connections"
         );
         drop(listener);
+        assert!(rt; seen.most_held.get() == 1, "{connections} connections");
         let written = seen.into_written();
         assert!(rt;
             written == joined(&rt, replies),

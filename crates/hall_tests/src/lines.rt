@@ -1,5 +1,6 @@
 //! Lines whose clients never stop sending, and what lets such lines in.
 use crate::devices::{Circling, endless_reader};
+use hall_grid::Counted;
 use hall_http::{Accepted, Line, Listener};
 use std::alloc::Global;
 use std::cell::{Cell, RefCell};
@@ -14,6 +15,10 @@ pub(crate) struct Seen {
     pub(crate) reads_before_end: Cell<usize>,
     /// What was written on the lines that were told so, one line after another.
     written: RefCell<Vec<u8>>,
+    /// How many lines are let in and not let go.
+    held: Cell<usize>,
+    /// The most of them at once.
+    pub(crate) most_held: Cell<usize>,
 }
 
 impl Seen {
@@ -22,6 +27,8 @@ impl Seen {
             reads: Cell::new(0),
             reads_before_end: Cell::new(0),
             written: RefCell::new(Vec::new(alloc)),
+            held: Cell::new(0),
+            most_held: Cell::new(0),
         }
     }
 
@@ -30,6 +37,8 @@ impl Seen {
             reads: _,
             reads_before_end: _,
             written,
+            held: _,
+            most_held: _,
         } = self;
         written.into_inner()
     }
@@ -74,7 +83,7 @@ impl<'a> Line for Endless<'a> {
 
     ghost refuses = { λ _ _. Unit {0} };
 
-    ghost hears = { λ _ _ _. Unit {0} };
+    ghost hears = { λ _ _ _ _. Unit {0} };
 
     fn set_up(&mut self) -> io::Result<(Watched<'a>, Vec<u8>)> {
         let Some(sent) = self.sent else {
@@ -88,10 +97,12 @@ impl<'a> Line for Endless<'a> {
         Ok((reader, Vec::new(self.alloc)))
     }
 
-    fn end_writing(&mut self, writer: Vec<u8>) {
+    fn end_writing(&mut self, _reader: &Counted<Watched<'a>>, writer: Counted<Vec<u8>>)
+        ensures { Unit {0} }
+    {
         self.seen.reads_before_end.set(self.seen.reads.get());
         if let Ok(mut written) = self.seen.written.try_borrow_mut() {
-            let _ = written.extend_from_slice(writer.as_slice());
+            let _ = written.extend_from_slice(writer.into_inner().as_slice());
         }
     }
 }
@@ -100,6 +111,7 @@ impl<'a> Line for Endless<'a> {
 #[derive(Drop)]
 pub(crate) struct Listed<'a> {
     pub(crate) coming: Vec<Accepted<Endless<'a>>>,
+    pub(crate) seen: &'a Seen,
 }
 
 impl<'a> Listener for Listed<'a> {
@@ -107,10 +119,22 @@ impl<'a> Listener for Listed<'a> {
 
     ghost accepts = { λ _ _ _. Unit {0} };
 
+    ghost lets_go = { λ _ _ _. Unit {0} };
+
     fn accept(&mut self) -> Accepted<Endless<'a>> {
-        match self.coming.pop() {
-            Some(next) => next,
-            None => Accepted::Refused,
+        let Some(next) = self.coming.pop() else {
+            return Accepted::Refused;
+        };
+        if let Accepted::Line(_) = next {
+            let held = self.seen.held.get().saturating_add(1);
+            self.seen.held.set(held);
+            self.seen.most_held.set(held.max(self.seen.most_held.get()));
         }
+        next
+    }
+
+    fn let_go(&mut self, line: Endless<'a>) {
+        self.seen.held.set(self.seen.held.get().saturating_sub(1));
+        drop(line);
     }
 }

@@ -2,7 +2,7 @@
 use Rattle.std.proofs.Common.{◌≡◌, ◌⊎◌, ℕ, List, Option, inl, inr}
 use Rattle.std.specs.Prelude.{Result, Ok, Err, IsErrOf}
 use Rattle.std.specs.Io.KnownBytes.{Appends}
-use Rattle.hall_grid.specs.Device.{HasFailed, Tally}
+use Rattle.hall_grid.specs.Device.{Rises, Tally}
 use Rattle.hall_http.specs.Device.{WritesPart}
 use Rattle.hall_tool.specs.Input.{IsInput}
 use Rattle.hall_tool.specs.LineRun.{IsLineRun}
@@ -27,7 +27,7 @@ module _ {R W : Type 0} (Writes : List ℕ → List ℕ → ℕ → Type 0) (rem
 
   -- the reader failed, or memory was wanting for what it gave
   pub unread_run : (fault : ToolFault) → (fault ≡ tool.Memory) ⊎ (fault ≡ tool.Device)
-      → (IsErrOf {T = ℕ} (Err fault) tool.Device → HasFailed reader.failures read.failures) → written ≡ writer
+      → (IsErrOf {T = ℕ} (Err fault) tool.Device → Rises reader.failures read.failures) → written ≡ writer
       → Ran (Err fault)
   unread_run fault cause failed same = record {
     line = tt;
@@ -48,7 +48,7 @@ module _ {R W : Type 0} (Writes : List ℕ → List ℕ → ℕ → Type 0) (rem
   }
 
   -- the writer failed, and a first part of the line was written
-  pub broken_run : HasFailed writer.failures written.failures
+  pub broken_run : Rises writer.failures written.failures
       → ((input : List ℕ) × (line : List ℕ) × (status : ℕ) × IsInput (remaining reader.device) input
       × Writes input line status × WritesPart (contents writer.device) (contents written.device) line)
       → Ran (Err tool.Device)

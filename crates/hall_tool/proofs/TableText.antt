@@ -13,8 +13,10 @@ use Rattle.hall_desk.specs.Plan.{planned_reply}
 use Rattle.hall_desk.specs.Plans.{IsPlanFor, Planned}
 use Rattle.hall_desk.specs.Step.{IsAnswered}
 use Rattle.hall_desk.specs.declared.planned.Plan.{Plan}
+use Rattle.hall_desk.specs.declared.reply.Reply.{Reply}
 use Rattle.hall_policy.specs.World.{World}
-use Rattle.hall_tool.specs.TableText.{IsTableReply, IsTableOver}
+use Rattle.hall_policy.specs.declared.rule.Decision.TheVariants.{Allow, Deny, Repeat}
+use Rattle.hall_tool.specs.TableText.{IsOtherReply, IsTableReply, IsTableOver, MayFail}
 
 abbrev asked : List ℕ → Request
 asked round = record { key = None; action = Table round }
@@ -33,6 +35,20 @@ table_told new round plan t none planned =
       | inl over ↦ inl (λ honest. ((over honest).0, of_plan new.world round plan (over honest).1))
       | inr always ↦ inr (λ world. of_plan world round plan (always.1 world))
     ]
+
+-- a request for a table is answered by a table or a denial
+no_other : (world : World) (round : List ℕ) (given : Reply) → IsTableReply world round given → IsOtherReply given → ⊥
+no_other world round given (found, (Deny rule, first, decided)) other = other.1 rule decided.0
+no_other world round given (found, (Repeat, first, decided)) other = decided.0
+no_other world round given (found, (Allow, first, decided)) other = other.0 decided.0.2 decided.0.6
+
+-- so another reply was told by a device that wasn't honest
+pub other_fails : (can_fail : Type 0) (new : Content) (round : List ℕ) (given : Reply) → IsTableOver new round given
+    → IsOtherReply given → MayFail can_fail new
+other_fails can_fail new round given (inl over) other =
+    inr (λ honest. absurd (no_other new.world round given (over honest).1 other))
+other_fails can_fail new round given (inr always) other =
+    inr (λ honest. absurd (no_other new.world round given (always new.world) other))
 
 pub word_low : (byte : ℕ) → IsTrue (is_word_byte byte) → byte < 128
 word_low byte h = grind (arith, nat_tests)

@@ -6,8 +6,9 @@ use Rattle.hall_grid.specs.Device.{Tally}
 use Rattle.hall_store.specs.Store.{Content}
 use Rattle.hall_sql.specs.declared.open.OpenFault.{OpenFault}
 use Rattle.hall_tool.specs.Commands.{IsInitAt, IsReplayInMemory, IsTaskAt}
+use Rattle.hall_tool.specs.Help.{help_text, version_text}
 use Rattle.hall_tool.specs.JudgeText.{IsJudgeRun}
-use Rattle.hall_tool.specs.Shown.{IsShowRun}
+use Rattle.hall_tool.specs.Shown.{IsShown}
 use Rattle.hall_tool.specs.SolveText.{IsSolveRun}
 use Rattle.hall_tool.specs.Tasks.{DoesTable, command_end}
 use Rattle.hall_tool.specs.declared.fault.CommandFault.{CommandFault}
@@ -50,7 +51,7 @@ IsCommandRun image_at gives withholds opened refused found missed closes content
     IsTaskAt image_at found missed closes content (DoesTable content contents round) db old new reader read writer written result
 IsCommandRun image_at gives withholds opened refused found missed closes content serves remaining contents
     (Help page) host old new reader read writer written result =
-    EndsAs (IsShowRun contents writer written) result × (new ≡ old) × (read ≡ reader)
+    EndsAs (IsShown contents (help_text page) writer written) result × (new ≡ old) × (read ≡ reader)
 IsCommandRun image_at gives withholds opened refused found missed closes content serves remaining contents
     Version host old new reader read writer written result =
-    EndsAs (IsShowRun contents writer written) result × (new ≡ old) × (read ≡ reader)
+    EndsAs (IsShown contents version_text writer written) result × (new ≡ old) × (read ≡ reader)

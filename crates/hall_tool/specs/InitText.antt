@@ -1,7 +1,7 @@
 -- What is written of an entry list that is imported into a file, and the exit status.
 use Rattle.std.specs.Prelude.{◌≡◌, ℕ, List, ◌++◌, codes, decimal, Option, Result, IfOk, IsErrOf}
 use Rattle.std.specs.Io.KnownBytes.{Appends}
-use Rattle.hall_grid.specs.Device.{HasFailed, Tally}
+use Rattle.hall_grid.specs.Device.{Rises, Tally}
 use Rattle.hall_store.specs.Store.{Content, Kept, Leads}
 use Rattle.hall_desk.specs.Desk.{SaneThen}
 use Rattle.hall_desk.specs.Sane.{Sane}
@@ -36,7 +36,7 @@ pub record IsInitRun {W : Type 0} (contents : W → Option (List ℕ)) (list : L
   pub sane : SaneThen Sane old new
   pub line : IfOk result (λ status. (line : List ℕ) × InitText list old new line status
       × Appends (contents writer.device) (contents written.device) line)
-  pub device : IsErrOf result tool.Device → HasFailed writer.failures written.failures
+  pub device : IsErrOf result tool.Device → Rises writer.failures written.failures
   pub part : IsErrOf result tool.Device → (line : List ℕ) × (status : ℕ) × InitText list old new line status
       × WritesPart (contents writer.device) (contents written.device) line
   pub memory : IsErrOf result tool.Memory → Kept old new × (written ≡ writer)

@@ -1,7 +1,7 @@
 -- A command that reads an input and writes one line of it.
 use Rattle.std.specs.Prelude.{◌≡◌, ◌⊎◌, ℕ, List, Option, Result, IfOk, IsErrOf}
 use Rattle.std.specs.Io.KnownBytes.{Appends}
-use Rattle.hall_grid.specs.Device.{HasFailed, Tally}
+use Rattle.hall_grid.specs.Device.{Rises, Tally}
 use Rattle.hall_http.specs.Device.{WritesPart}
 use Rattle.hall_tool.specs.Input.{IsInput}
 use Rattle.hall_tool.specs.declared.fault.ToolFault.{ToolFault}
@@ -15,7 +15,7 @@ pub record IsLineRun {R W : Type 0} (Writes : List ℕ → List ℕ → ℕ → 
   pub line : IfOk result (λ status. (input : List ℕ) × (line : List ℕ) × IsInput (remaining reader.device) input
       × Writes input line status × Appends (contents writer.device) (contents written.device) line)
   pub device : IsErrOf result tool.Device
-      → HasFailed reader.failures read.failures ⊎ HasFailed writer.failures written.failures
+      → Rises reader.failures read.failures ⊎ Rises writer.failures written.failures
   pub part : IsErrOf result tool.Device → (written ≡ writer)
       ⊎ ((input : List ℕ) × (line : List ℕ) × (status : ℕ) × IsInput (remaining reader.device) input
       × Writes input line status × WritesPart (contents writer.device) (contents written.device) line)

@@ -1,7 +1,7 @@
 -- The command replay: an entry list before any request, and the records of an input over the world that it leaves.
 use Rattle.std.specs.Prelude.{◌≡◌, ◌≢◌, ◌⊎◌, ℕ, List, [], Option, Result, Ok, Err, IfOk, OnErr, IsErrOf}
 use Rattle.std.specs.Io.KnownBytes.{Appends}
-use Rattle.hall_grid.specs.Device.{HasFailed, Tally}
+use Rattle.hall_grid.specs.Device.{Rises, Tally}
 use Rattle.hall_store.specs.Store.{Content, Kept, Leads}
 use Rattle.hall_http.specs.Device.{WritesPart}
 use Rattle.hall_http.specs.Replay.{IsReplayed}
@@ -18,8 +18,9 @@ pub record IsSeedRun {W : Type 0} (contents : W → Option (List ℕ)) (list : L
   pub leads : Leads old new
   pub line : IfOk result (λ status. (line : List ℕ) × SeedText list old new line status
       × Appends (contents writer.device) (contents written.device) line)
+  pub same : IfOk result (λ status. written.failures ≡ writer.failures)
   pub kept : OnErr result (Kept old new)
-  pub device : IsErrOf result tool.Device → HasFailed writer.failures written.failures
+  pub device : IsErrOf result tool.Device → Rises writer.failures written.failures
   pub part : IsErrOf result tool.Device → (line : List ℕ) × (status : ℕ) × SeedText list old new line status
       × WritesPart (contents writer.device) (contents written.device) line
   pub memory : IsErrOf result tool.Memory → written ≡ writer
@@ -41,6 +42,6 @@ IsReplayRun {S} {R} {W} content remaining contents list old new reader read writ
     ⊎ ((seeded : S) × (told : Tally W) × (end : Result (Unit {0}) ReplayFault)
     × IsSeedRun contents list (content old) (content seeded) writer told (Ok 0)
     × IsReplayed (remaining reader.device) (remaining read.device) (contents told.device) (contents written.device)
-    (content seeded) (content new) (HasFailed reader.failures read.failures) (HasFailed told.failures written.failures)
+    (content seeded) (content new) reader.failures read.failures told.failures written.failures
     reader.calls read.calls end
     × (result ≡ replay_end end))

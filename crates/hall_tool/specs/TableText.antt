@@ -1,12 +1,13 @@
 -- What is written of a round's table, and the exit status.
-use Rattle.std.specs.Prelude.{◌≡◌, ◌⊎◌, ℕ, List, None, Option, Result, IfOk, IsErrOf}
+use Rattle.std.specs.Prelude.{◌≡◌, ◌≢◌, ◌⊎◌, ℕ, List, None, Option, Result, IfOk, IsErrOf}
 use Rattle.std.specs.Io.KnownBytes.{Appends}
-use Rattle.hall_grid.specs.Device.{HasFailed, Tally}
+use Rattle.hall_grid.specs.Device.{Rises, Tally}
 use Rattle.hall_policy.specs.Ranges.{IsRoundId}
 use Rattle.hall_policy.specs.World.{World}
 use Rattle.hall_policy.specs.declared.record.PuzzleState.{PuzzleState}
 use Rattle.hall_policy.specs.declared.request.Action.TheVariants.{Table}
 use Rattle.hall_store.specs.Store.{Content, Kept}
+use Rattle.hall_desk.specs.Sane.{Sane}
 use Rattle.hall_desk.specs.Step.{IsAnswered}
 use Rattle.hall_desk.specs.declared.reply.Reply.{Reply}
 use Rattle.hall_desk.specs.declared.reply.Reply.TheVariants as reply
@@ -20,6 +21,14 @@ abbrev pub IsTableWritten : Reply → List ℕ → ℕ → Type 0
 IsTableWritten (reply.Table table) text status = (text ≡ table) × (status ≡ 0)
 IsTableWritten (reply.Denied rule) text status = (text ≡ denial_of rule) × (status ≡ 2)
 IsTableWritten other text status = ⊥
+
+-- the reply is neither
+abbrev pub IsOtherReply : Reply → Type 0
+IsOtherReply given = ((table : List ℕ) → given ≢ reply.Table table) × ((rule : ℕ) → given ≢ reply.Denied rule)
+
+-- the store can fail, or its world, where its device was honest, isn't sane: for such a cause alone a plan fails
+abbrev pub MayFail : Type 0 → Content → Type 0
+MayFail can_fail new = can_fail ⊎ (new.honest → new.serves × ¬ (Sane new.world))
 
 -- A request for the round's table is answered so, and leaves the world. It needs no key, and asks for no search; the
 -- moment, which is here 0, decides nothing of it.
@@ -48,7 +57,7 @@ pub record IsTableRun {W : Type 0} (contents : W → Option (List ℕ)) (round :
   pub kept : Kept old new
   pub text : IfOk result (λ status. (text : List ℕ) × TableText round new text status
       × Appends (contents writer.device) (contents written.device) text)
-  pub device : IsErrOf result tool.Device → HasFailed writer.failures written.failures
+  pub device : IsErrOf result tool.Device → Rises writer.failures written.failures
   pub part : IsErrOf result tool.Device → (text : List ℕ) × (status : ℕ) × TableText round new text status
       × WritesPart (contents writer.device) (contents written.device) text
   pub memory : IsErrOf result tool.Memory → written ≡ writer

@@ -2,7 +2,7 @@
 ghost use Rattle.std.specs.Prelude.{◌≡◌, ◌≤◌, ◌+◌, ◌++◌, ℕ, List, IfOk, IsErrOf, OnErr, [], length, string_bytes};
 ghost use Rattle.std.specs.String.{string_capacity, string_len};
 ghost use Rattle.std.specs.Io.KnownBytes.{Appends};
-ghost use Rattle.hall_grid.specs.Device.{HasFailed};
+ghost use Rattle.hall_grid.specs.Device.{Rises};
 ghost use Rattle.hall_store.specs.Store.{Kept, Leads};
 ghost use Rattle.hall_desk.specs.Desk.{kept_by, SaneThen};
 ghost use Rattle.hall_desk.specs.Sane.{Sane};
@@ -82,7 +82,7 @@ pub fn init_run<S: Store, W: Write>(
         × Appends (W.contents writer.old.device) (W.contents writer.new.device) line) }
     ensures sane { SaneThen Sane (S.content (kept_by desk.old)) (S.content (kept_by desk.new)) }
     ensures refused { (refusal : Refusal) → people_in list.now ≡ Err refusal → desk.new ≡ desk.old }
-    ensures device { IsErrOf result ToolFault.Device → HasFailed writer.old.failures writer.new.failures }
+    ensures device { IsErrOf result ToolFault.Device → Rises writer.old.failures writer.new.failures }
     // At a device's fault a first part of the line was written, perhaps none of it; the people may have been imported.
     ensures part { IsErrOf result ToolFault.Device → (line : List ℕ) × (status : ℕ)
         × InitText list.now (S.content (kept_by desk.old)) (S.content (kept_by desk.new)) line status

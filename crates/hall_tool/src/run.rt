@@ -3,14 +3,13 @@ ghost use Rattle.sqlite.specs.Held.{state};
 ghost use Rattle.hall_http.specs.Listener.{AreServed};
 ghost use Rattle.hall_sql.specs.Opened.{IsCauseAt, IsCauseThere, OpensAt, OpensThere};
 ghost use Rattle.hall_sql.specs.Standing.{content_of};
-ghost use Rattle.hall_tool.specs.CommandRun.{EndsAs, IsCommandRun};
-ghost use Rattle.hall_tool.specs.Shown.{IsShowRun};
+ghost use Rattle.hall_tool.specs.CommandRun.{IsCommandRun};
 ghost use Rattle.hall_tool.specs.Tasks.{DoesServe};
 
 use crate::commands::{init_at, replay_in_memory, task_at};
-use crate::fault::{CommandFault, ToolFault};
+use crate::fault::CommandFault;
+use crate::help::{VERSION, help_text};
 use crate::judge::judge_run;
-use crate::pages::{help_text, version_text};
 use crate::show::show_run;
 use crate::solve::solve_run;
 use crate::task::{Serve, Table, command_end};
@@ -19,7 +18,7 @@ use hall_grid::Counted;
 use hall_http::Host;
 use hall_sql::PathFiles;
 use sqlite::Alter;
-use std::alloc::{AllocError, Global};
+use std::alloc::Global;
 use std::io::{Read, Write};
 
 /// Runs the command over the files, the host, the input and the output. The result is the exit status: as the command's
@@ -35,9 +34,9 @@ pub fn run_command<S: Alter + Drop, F: PathFiles<S>, H: Host, R: Read, W: Write>
     ensures { IsCommandRun F.image_at F.gives F.withholds (OpensAt F.opens) (IsCauseAt S.Store F.refuses F.opens F.closes)
         (OpensThere F.tells F.opens) (IsCauseThere S.Store F.tells F.refuses F.opens F.closes) F.closes
         (λ s. content_of (state S.Store s)) (DoesServe H.listens H.refuses H.shows
-        (AreServed H.Listener.accepts H.Listener.Line.hands_out H.Listener.Line.refuses H.Listener.Line.hears
-        H.Listener.Line.Reader.remaining H.Listener.Line.Writer.contents (λ s. content_of (state S.Store s))
-        H.Clock.now_gives)) R.remaining W.contents command.now host.now files.old files.new
+        (AreServed H.Listener.accepts H.Listener.lets_go H.Listener.Line.hands_out H.Listener.Line.refuses
+        H.Listener.Line.hears H.Listener.Line.Reader.remaining H.Listener.Line.Writer.contents
+        (λ s. content_of (state S.Store s)) H.Clock.now_gives)) R.remaining W.contents command.now host.now files.old files.new
         input.old input.new output.old output.new result }
 {
     match command {
@@ -76,20 +75,7 @@ pub fn run_command<S: Alter + Drop, F: PathFiles<S>, H: Host, R: Read, W: Write>
             };
             task_at(alloc, files, db.as_str(), &task, input, output)
         }
-        Command::Help(page) => show(help_text(alloc, *page), output),
-        Command::Version => show(version_text(alloc), output),
-    }
-}
-
-/// Shows a text.
-fn show<W: Write>(
-    text: Result<String, AllocError>,
-    output: &mut Counted<W>,
-) -> Result<u8, CommandFault>
-    ensures { EndsAs (IsShowRun W.contents output.old output.new) result }
-{
-    match text {
-        Ok(text) => command_end(show_run(text.as_str(), output)),
-        Err(_) => Err(CommandFault::Tool(ToolFault::Memory)),
+        Command::Help(page) => command_end(show_run(help_text(*page), output)),
+        Command::Version => command_end(show_run(VERSION, output)),
     }
 }

@@ -1,7 +1,7 @@
 //! People of an entry list, who stand before any request.
 ghost use Rattle.std.specs.Prelude.{◌≡◌, ◌⊎◌, ℕ, List, IfOk, IfErr, IsErrOf, OnErr, Err, string_bytes};
 ghost use Rattle.std.specs.Io.KnownBytes.{Appends};
-ghost use Rattle.hall_grid.specs.Device.{HasFailed};
+ghost use Rattle.hall_grid.specs.Device.{Rises};
 ghost use Rattle.hall_store.specs.Store.{Kept, Leads};
 ghost use Rattle.hall_desk.specs.Desk.{kept_by, SaneThen};
 ghost use Rattle.hall_desk.specs.Sane.{Sane};
@@ -111,11 +111,12 @@ pub fn seed_run<S: Store, W: Write>(
     ensures line { IfOk result (λ status. (line : List ℕ)
         × SeedText list.now (S.content (kept_by desk.old)) (S.content (kept_by desk.new)) line status
         × Appends (W.contents writer.old.device) (W.contents writer.new.device) line) }
+    ensures same { IfOk result (λ _. writer.new.failures ≡ writer.old.failures) }
     ensures sane { SaneThen Sane (S.content (kept_by desk.old)) (S.content (kept_by desk.new)) }
     ensures refused { (refusal : Refusal) → people_in list.now ≡ Err refusal → desk.new ≡ desk.old }
     // A fault leaves the world.
     ensures kept { OnErr result (Kept (S.content (kept_by desk.old)) (S.content (kept_by desk.new))) }
-    ensures device { IsErrOf result ToolFault.Device → HasFailed writer.old.failures writer.new.failures }
+    ensures device { IsErrOf result ToolFault.Device → Rises writer.old.failures writer.new.failures }
     // At a device's fault a first part of the line was written, perhaps none of it.
     ensures part { IsErrOf result ToolFault.Device → (line : List ℕ) × (status : ℕ)
         × SeedText list.now (S.content (kept_by desk.old)) (S.content (kept_by desk.new)) line status

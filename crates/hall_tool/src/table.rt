@@ -1,7 +1,7 @@
 //! The command `table`.
 ghost use Rattle.std.specs.Prelude.{◌≡◌, ◌⊎◌, ℕ, List, None, Option, IfOk, IfErr, IfSome, IsErrOf, string_bytes};
 ghost use Rattle.std.specs.Io.KnownBytes.{Appends};
-ghost use Rattle.hall_grid.specs.Device.{HasFailed};
+ghost use Rattle.hall_grid.specs.Device.{Rises};
 ghost use Rattle.hall_policy.specs.Ranges.{IsRoundId};
 ghost use Rattle.hall_store.specs.Store.{Kept};
 ghost use Rattle.hall_desk.specs.Desk.{kept_by};
@@ -9,7 +9,7 @@ ghost use Rattle.hall_desk.specs.Plan.{planned_reply};
 ghost use Rattle.hall_desk.specs.declared.reply.Reply.{Reply};
 ghost use Rattle.hall_http.specs.Device.{WritesPart};
 ghost use Rattle.hall_tool.specs.SeedText.{denial_of};
-ghost use Rattle.hall_tool.specs.TableText.{IsTableOver, IsTableWritten, TableText};
+ghost use Rattle.hall_tool.specs.TableText.{IsOtherReply, IsTableOver, IsTableWritten, MayFail, TableText};
 
 use crate::ending::Ending;
 use crate::fault::ToolFault;
@@ -47,6 +47,7 @@ fn denied(alloc: Global, rule: u8) -> Result<Ending, AllocError>
 fn written(alloc: Global, reply: &Reply) -> Result<Ending, ToolFault>
     ensures written { IfOk result (λ a. IsTableWritten reply.now (string_bytes a.line) a.status) }
     ensures cause { IfErr result (λ e. (e ≡ ToolFault.Memory) ⊎ (e ≡ ToolFault.Store)) }
+    ensures fault { IsErrOf result ToolFault.Store → IsOtherReply reply.now }
 {
     match reply {
         Reply::Table(text) => {
@@ -62,10 +63,22 @@ fn written(alloc: Global, reply: &Reply) -> Result<Ending, ToolFault>
 fn written_of(alloc: Global, plan: Plan) -> Result<Ending, ToolFault>
     ensures written { IfOk result (λ a. IsTableWritten (planned_reply plan) (string_bytes a.line) a.status) }
     ensures cause { IfErr result (λ e. (e ≡ ToolFault.Memory) ⊎ (e ≡ ToolFault.Store)) }
+    ensures fault { IsErrOf result ToolFault.Store → IsOtherReply (planned_reply plan) }
 {
     let ending = written(alloc, plan.reply());
     drop(plan);
     ending
+}
+
+/// A fault of the store, as it is told.
+fn told(fault: StoreFault) -> ToolFault
+    ensures { ((fault ≡ StoreFault.Memory) × (result ≡ ToolFault.Memory))
+        ⊎ ((fault ≡ StoreFault.Failed) × (result ≡ ToolFault.Store)) }
+{
+    match fault {
+        StoreFault::Memory => ToolFault::Memory,
+        StoreFault::Failed => ToolFault::Store,
+    }
 }
 
 /// The round's table, as it is written.
@@ -79,6 +92,7 @@ fn table_of<S: Store>(
         × IsTableOver (S.content (kept_by desk.new)) round given
         × IsTableWritten given (string_bytes a.line) a.status) }
     ensures cause { IfErr result (λ e. (e ≡ ToolFault.Memory) ⊎ (e ≡ ToolFault.Store)) }
+    ensures fault { IsErrOf result ToolFault.Store → MayFail S.can_fail (S.content (kept_by desk.new)) }
 {
     let Some(t) = Moment::new(0) else {
         unreachable!()
@@ -91,8 +105,7 @@ fn table_of<S: Store>(
     drop(request);
     match planned {
         Ok(plan) => written_of(alloc, plan),
-        Err(StoreFault::Memory) => Err(ToolFault::Memory),
-        Err(StoreFault::Failed) => Err(ToolFault::Store),
+        Err(fault) => Err(told(fault)),
     }
 }
 
@@ -105,6 +118,7 @@ fn table_ending<S: Store>(
     ensures kept { Kept (S.content (kept_by desk.old)) (S.content (kept_by desk.new)) }
     ensures text { IfOk result (λ a. TableText round.now (S.content (kept_by desk.new)) (string_bytes a.line) a.status) }
     ensures cause { IfErr result (λ e. (e ≡ ToolFault.Memory) ⊎ (e ≡ ToolFault.Store)) }
+    ensures fault { IsErrOf result ToolFault.Store → MayFail S.can_fail (S.content (kept_by desk.new)) }
 {
     match round_id(alloc, round)? {
         Some(id) => table_of(alloc, desk, id),
@@ -114,7 +128,8 @@ fn table_ending<S: Store>(
 
 /// Writes the table of the round whose id the bytes are, or on a line the number of the rule that denies it: 4 for a
 /// round that isn't there, or bytes that are no round's id, 15 for one that isn't published. The result is the exit
-/// status: 0 for the table, 2 for a denial. The world stays.
+/// status: 0 for the table, 2 for a denial. The world stays. `Store` is answered only where the store can fail, or its
+/// world isn't sane.
 pub fn table_run<S: Store, W: Write>(
     alloc: Global,
     desk: &mut Desk<S>,
@@ -124,7 +139,7 @@ pub fn table_run<S: Store, W: Write>(
     ensures kept { Kept (S.content (kept_by desk.old)) (S.content (kept_by desk.new)) }
     ensures text { IfOk result (λ status. (text : List ℕ) × TableText round.now (S.content (kept_by desk.new)) text status
         × Appends (W.contents writer.old.device) (W.contents writer.new.device) text) }
-    ensures device { IsErrOf result ToolFault.Device → HasFailed writer.old.failures writer.new.failures }
+    ensures device { IsErrOf result ToolFault.Device → Rises writer.old.failures writer.new.failures }
     // At a device's fault a first part of the text was written, perhaps none of it.
     ensures part { IsErrOf result ToolFault.Device → (text : List ℕ) × (status : ℕ)
         × TableText round.now (S.content (kept_by desk.new)) text status
@@ -132,6 +147,7 @@ pub fn table_run<S: Store, W: Write>(
     // Another fault leaves the writer as it was.
     ensures memory { IsErrOf result ToolFault.Memory → writer.new ≡ writer.old }
     ensures store { IsErrOf result ToolFault.Store → writer.new ≡ writer.old }
+    ensures fault { IsErrOf result ToolFault.Store → MayFail S.can_fail (S.content (kept_by desk.new)) }
 {
     let ending = table_ending(alloc, desk, round)?;
     write_all(writer, ending.line.as_bytes())?;

@@ -137,8 +137,9 @@ impl<H: Host> Task for Serve<'_, H> {
     ghost use Rattle.hall_tool.specs.Tasks.{DoesServe};
 
     ghost does = { λ S R W content remaining contents task. DoesServe H.listens H.refuses H.shows
-        (AreServed H.Listener.accepts H.Listener.Line.hands_out H.Listener.Line.refuses H.Listener.Line.hears
-        H.Listener.Line.Reader.remaining H.Listener.Line.Writer.contents content H.Clock.now_gives)
+        (AreServed H.Listener.accepts H.Listener.lets_go H.Listener.Line.hands_out H.Listener.Line.refuses
+        H.Listener.Line.hears H.Listener.Line.Reader.remaining H.Listener.Line.Writer.contents content
+        H.Clock.now_gives)
         task.host.now task.port task.connections };
 
     fn run<S: Store, R: Read, W: Write>(

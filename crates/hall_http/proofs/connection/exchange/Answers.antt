@@ -8,7 +8,7 @@ returns-in-Ok g c = record {
   exchange = record { request = c.args.request.now; moment = c.now-moment.result; reply = answer_text c.answer-answer.result };
   asked = refl;
   exchanged = (c.requires, c.now-moment.ensures, c.answer-answer.ensures);
-  sent = (closing_request _ _ c.requires c.closes-closing.ensures c.if-closing.true, c.in-Ok.ensures.written);
+  sent = (closing_request _ _ c.requires c.closes-closing.ensures c.if-closing.true, c.in-Ok.ensures.written, c.in-Ok.ensures.same);
 }
 
 pub returns-in-Ok-2 : goal.returns-in-Ok-2

@@ -5,9 +5,11 @@ use Rattle.hall_http.proofs.Refusals.{refusal_text}
 use Rattle.hall_http.proofs.connection.refuse.Goals as goal
 
 pub returns-in-Ok : goal.returns-in-Ok
-returns-in-Ok g c =
-    subst (λ (s : List ℕ). Appends (g.W.Write.contents c.args.writer.now.device) (g.W.Write.contents c.write_all.new.writer.device) s)
-    (c.as_bytes.ensures.value ∙ refusal_text) c.in-Ok.ensures.written
+returns-in-Ok g c = (
+  subst (λ (s : List ℕ). Appends (g.W.Write.contents c.args.writer.now.device) (g.W.Write.contents c.write_all.new.writer.device) s)
+      (c.as_bytes.ensures.value ∙ refusal_text) c.in-Ok.ensures.written,
+  c.in-Ok.ensures.same,
+)
 
 pub returns-in-Err : goal.returns-in-Err
 returns-in-Err g c = (

@@ -11,22 +11,22 @@ returns-in_err-routes-clause-right g c = λ h s sane. right_answers (g.S.Store.c
 
 pub returns-clause-served : goal.returns-clause-served
 returns-clause-served g c =
-    handled_served kept_by g.S.Store.content g.C.Clock.now_gives _ _ _ _ _ _ _ _ _ _ _ _ c.serve_requests.result
+    handled_served kept_by g.S.Store.content g.C.Clock.now_gives _ _ _ _ _ _ _ _ _ _ _ _ _ _ c.serve_requests.result
     c.serve_requests.ensures
 
 pub returns-clause-sane : goal.returns-clause-sane
 returns-clause-sane g c =
-    handled_sane (λ desk. g.S.Store.content (kept_by desk)) g.C.Clock.now_gives _ _ _ _ _ _ _ _ _ _ _ _ c.serve_requests.result
+    handled_sane (λ desk. g.S.Store.content (kept_by desk)) g.C.Clock.now_gives _ _ _ _ _ _ _ _ _ _ _ _ _ _ c.serve_requests.result
     c.serve_requests.ensures
 
 pub returns-clause-unique : goal.returns-clause-unique
 returns-clause-unique g c = λ h s sane.
     unique_solutions (g.S.Store.content (kept_by c.serve_requests.new.handler)).world
-    (handled_sane (λ desk. g.S.Store.content (kept_by desk)) g.C.Clock.now_gives _ _ _ _ _ _ _ _ _ _ _ _
+    (handled_sane (λ desk. g.S.Store.content (kept_by desk)) g.C.Clock.now_gives _ _ _ _ _ _ _ _ _ _ _ _ _ _
     c.serve_requests.result c.serve_requests.ensures h s sane)
 
 pub returns-clause-right : goal.returns-clause-right
 returns-clause-right g c = λ h s sane.
     right_answers (g.S.Store.content (kept_by c.serve_requests.new.handler)).world
-    (handled_sane (λ desk. g.S.Store.content (kept_by desk)) g.C.Clock.now_gives _ _ _ _ _ _ _ _ _ _ _ _
+    (handled_sane (λ desk. g.S.Store.content (kept_by desk)) g.C.Clock.now_gives _ _ _ _ _ _ _ _ _ _ _ _ _ _
     c.serve_requests.result c.serve_requests.ensures h s sane)

@@ -22,24 +22,26 @@ loop-requests-preserved-in-Open g c =
 pub returns-in-Closing : goal.returns-in-Closing
 returns-in-Closing g c =
     let turn = c.exchange-turn.ensures in
-    let (shut, wrote) = rw c.in-Closing.is at turn.sent in
+    let (shut, wrote, same) = rw c.in-Closing.is at turn.sent in
     closes_last _ _ _ _ _ _ _ _ _ _ _ _ _ _ _ c.loop-requests.invariant.kept turn.exchange _ _ c.in-Whole.size
-    (rw c.unread-in-Whole.ensures at turn.asked) turn.exchanged _ _ c.loop-requests-test.true
+    (rw c.unread-in-Whole.ensures at turn.asked) turn.exchanged _ _ _ _ c.loop-requests-test.true
     c.loop-requests.invariant.seldom _ shut wrote
+    (c.loop-requests.invariant.reader, same ∙ c.loop-requests.invariant.writer)
 
 pub returns-in-Failed : goal.returns-in-Failed
 returns-in-Failed g c =
     let turn = c.exchange-turn.ensures in
     let (part, rose) = rw c.in-Failed.is at turn.sent in
     unsent _ _ _ _ _ _ _ _ _ _ _ _ _ _ _ c.loop-requests.invariant.kept turn.exchange _ _ c.in-Whole.size
-    (rw c.unread-in-Whole.ensures at turn.asked) turn.exchanged _ _ c.loop-requests-test.true
-    c.loop-requests.invariant.seldom _ part (rw c.loop-requests.invariant.writer at rose)
+    (rw c.unread-in-Whole.ensures at turn.asked) turn.exchanged _ _ _ _ c.loop-requests-test.true
+    c.loop-requests.invariant.seldom _ part
+    (c.loop-requests.invariant.reader, rw c.loop-requests.invariant.writer at rose)
 
 pub returns-in-Never : goal.returns-in-Never
 returns-in-Never g c =
-    never_request _ _ _ _ _ _ _ _ _ _ _ _ _ _ _ c.loop-requests.invariant.kept _ _ c.loop-requests.invariant.few
-    c.loop-requests-test.true c.loop-requests.invariant.seldom _ _ _ _
-    (rw c.unread.ensures at c.in-Never.ensures) c.refuse.ensures (λ rose. rw c.loop-requests.invariant.writer at rose)
+    never_request _ _ _ _ _ _ _ _ _ _ _ _ _ _ _ c.loop-requests.invariant.kept _ _ _ _ c.loop-requests.invariant.few
+    c.loop-requests-test.true c.loop-requests.invariant.seldom _ _ (rw c.unread.ensures at c.in-Never.ensures)
+    c.loop-requests.invariant.reader (rw c.loop-requests.invariant.writer at c.refuse.ensures)
 
 pub loop-requests-init : goal.loop-requests-init
 loop-requests-init g c = record {
@@ -72,17 +74,17 @@ loop-requests-preserved g c =
 pub returns-in-Ok-false : goal.returns-in-Ok-false
 returns-in-Ok-false g c =
     let ends = rw c.in-Ok-false.field-0-test at c.in-Ok-false.ensures.read in
-    at_end _ _ _ _ _ _ _ _ _ _ _ _ _ _ _ c.loop-requests.invariant.kept _ _ c.loop-requests.invariant.few
+    at_end _ _ _ _ _ _ _ _ _ _ _ _ _ _ _ c.loop-requests.invariant.kept _ _ _ _ c.loop-requests.invariant.few
     c.loop-requests-test.true (rw c.unread.ensures at c.in-More.ensures).0
     (omega (arith, c.loop-requests.invariant.seldom, c.if-reads-eq-READ_LIMIT.false)) _ c.read_more.new.self _
-    c.read_more.ensures.asked _ _ _ _ _ c.end_of_input.result ends
-    (rw c.unread-in-Ok-false.ensures at c.end_of_input.ensures)
-    (λ rose. rw c.loop-requests.invariant.writer at rose)
+    c.read_more.ensures.asked _ c.end_of_input.result (rw c.loop-requests.invariant.reader at ends)
+    (rw (c.unread-in-Ok-false.ensures, c.loop-requests.invariant.writer) at c.end_of_input.ensures)
 
 pub returns-in-Err-Device : goal.returns-in-Err-Device
 returns-in-Err-Device g c =
     let refused = rw c.in-Err-Device.field-0-is at c.in-Err-Device.ensures.read in
-    unread_device _ _ _ _ _ _ _ _ _ _ _ _ _ _ _ c.loop-requests.invariant.kept _ _ c.loop-requests.invariant.few
+    unread_device _ _ _ _ _ _ _ _ _ _ _ _ _ _ _ c.loop-requests.invariant.kept _ _ _ _ c.loop-requests.invariant.few
     c.loop-requests-test.true (rw c.unread.ensures at c.in-More.ensures).0
     (omega (arith, c.loop-requests.invariant.seldom, c.if-reads-eq-READ_LIMIT.false)) _ c.read_more.new.self _
-    c.read_more.ensures.asked _ _ fault.Device refused (λ rose. rw c.loop-requests.invariant.reader at rose)
+    c.read_more.ensures.asked fault.Device (rw c.loop-requests.invariant.reader at refused)
+    c.loop-requests.invariant.writer

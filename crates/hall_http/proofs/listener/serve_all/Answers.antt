@@ -8,18 +8,20 @@ use Rattle.hall_http.proofs.listener.serve_all.Goals.{in-Line, in-Gone}
 pub loop-turn-preserved : goal.loop-turn-preserved
 loop-turn-preserved g c =
     elim c.match-accept.branch [
-      | in-Line w ↦ served_turn g.L.Listener.accepts g.L.Line.Line.hands_out g.L.Line.Line.refuses g.L.Line.Line.hears
-          g.L.Line.Reader.Read.remaining g.L.Line.Writer.Write.contents g.S.Store.content g.C.Clock.now_gives
-          c.loop-turn._turn c.args.listener.now (kept_by c.args.desk.now) c.args.clock.now c.loop-turn.listener
-          (kept_by c.loop-turn.desk) c.loop-turn.clock c.loop-turn.invariant c.accept.new.self w.in-Line.line
+      | in-Line w ↦ served_turn g.L.Listener.accepts g.L.Listener.lets_go g.L.Line.Line.hands_out g.L.Line.Line.refuses
+          g.L.Line.Line.hears g.L.Line.Reader.Read.remaining g.L.Line.Writer.Write.contents g.S.Store.content
+          g.C.Clock.now_gives c.loop-turn._turn c.args.listener.now (kept_by c.args.desk.now) c.args.clock.now c.loop-turn.listener
+          (kept_by c.loop-turn.desk) c.loop-turn.clock c.loop-turn.invariant c.accept.new.self w.let_go.new.self
+          c.match-accept.listener w.in-Line.line
           w.serve_line-ended.new.line (kept_by w.serve_line-ended.new.desk) (kept_by c.match-accept.desk)
           w.serve_line-ended.new.clock c.match-accept.clock w.serve_line-ended.result w.in-Line.ensures
-          w.serve_line-ended.ensures.line (ap kept_by w.desk-is) w.clock-is
-      | in-Gone w ↦ gone_turn g.L.Listener.accepts g.L.Line.Line.hands_out g.L.Line.Line.refuses g.L.Line.Line.hears
-          g.L.Line.Reader.Read.remaining g.L.Line.Writer.Write.contents g.S.Store.content g.C.Clock.now_gives
-          c.loop-turn._turn c.args.listener.now (kept_by c.args.desk.now) c.args.clock.now c.loop-turn.listener
-          (kept_by c.loop-turn.desk) c.loop-turn.clock c.loop-turn.invariant c.accept.new.self
-          (kept_by c.match-accept.desk) c.match-accept.clock w.in-Gone.ensures (ap kept_by w.desk-is) w.clock-is
+          w.serve_line-ended.ensures.line w.let_go.ensures w.listener-is (ap kept_by w.desk-is) w.clock-is
+      | in-Gone w ↦ gone_turn g.L.Listener.accepts g.L.Listener.lets_go g.L.Line.Line.hands_out g.L.Line.Line.refuses
+          g.L.Line.Line.hears g.L.Line.Reader.Read.remaining g.L.Line.Writer.Write.contents g.S.Store.content
+          g.C.Clock.now_gives c.loop-turn._turn c.args.listener.now (kept_by c.args.desk.now) c.args.clock.now c.loop-turn.listener
+          (kept_by c.loop-turn.desk) c.loop-turn.clock c.loop-turn.invariant c.accept.new.self c.match-accept.listener
+          (kept_by c.match-accept.desk) c.match-accept.clock w.in-Gone.ensures w.listener-is (ap kept_by w.desk-is)
+          w.clock-is
     ]
 
 pub returns-in-Refused-clause-served : goal.returns-in-Refused-clause-served
@@ -28,9 +30,9 @@ returns-in-Refused-clause-served g c =
 
 pub returns-in-Refused-clause-sane : goal.returns-in-Refused-clause-sane
 returns-in-Refused-clause-sane g c =
-    turns_sane g.L.Listener.accepts g.L.Line.Line.hands_out g.L.Line.Line.refuses g.L.Line.Line.hears
-    g.L.Line.Reader.Read.remaining g.L.Line.Writer.Write.contents g.S.Store.content g.C.Clock.now_gives
-    c.loop-turn._turn c.args.listener.now (kept_by c.args.desk.now) c.args.clock.now c.loop-turn.listener
+    turns_sane g.L.Listener.accepts g.L.Listener.lets_go g.L.Line.Line.hands_out g.L.Line.Line.refuses
+    g.L.Line.Line.hears g.L.Line.Reader.Read.remaining g.L.Line.Writer.Write.contents g.S.Store.content
+    g.C.Clock.now_gives c.loop-turn._turn c.args.listener.now (kept_by c.args.desk.now) c.args.clock.now c.loop-turn.listener
     (kept_by c.loop-turn.desk) c.loop-turn.clock c.loop-turn.invariant
 
 pub returns-in-Refused-clause-unique : goal.returns-in-Refused-clause-unique
@@ -43,16 +45,16 @@ returns-in-Refused-clause-right g c = λ h s sane.
 
 pub returns-clause-served : goal.returns-clause-served
 returns-clause-served g c =
-    all_turns g.L.Listener.accepts g.L.Line.Line.hands_out g.L.Line.Line.refuses g.L.Line.Line.hears
-    g.L.Line.Reader.Read.remaining g.L.Line.Writer.Write.contents g.S.Store.content g.C.Clock.now_gives
-    c.loop-turn._turn c.args.listener.now (kept_by c.args.desk.now) c.args.clock.now c.loop-turn.listener
+    all_turns g.L.Listener.accepts g.L.Listener.lets_go g.L.Line.Line.hands_out g.L.Line.Line.refuses
+    g.L.Line.Line.hears g.L.Line.Reader.Read.remaining g.L.Line.Writer.Write.contents g.S.Store.content
+    g.C.Clock.now_gives c.loop-turn._turn c.args.listener.now (kept_by c.args.desk.now) c.args.clock.now c.loop-turn.listener
     (kept_by c.loop-turn.desk) c.loop-turn.clock c.loop-turn.invariant c.args.connections (omega arith) (omega arith)
 
 pub returns-clause-sane : goal.returns-clause-sane
 returns-clause-sane g c =
-    turns_sane g.L.Listener.accepts g.L.Line.Line.hands_out g.L.Line.Line.refuses g.L.Line.Line.hears
-    g.L.Line.Reader.Read.remaining g.L.Line.Writer.Write.contents g.S.Store.content g.C.Clock.now_gives
-    c.loop-turn._turn c.args.listener.now (kept_by c.args.desk.now) c.args.clock.now c.loop-turn.listener
+    turns_sane g.L.Listener.accepts g.L.Listener.lets_go g.L.Line.Line.hands_out g.L.Line.Line.refuses
+    g.L.Line.Line.hears g.L.Line.Reader.Read.remaining g.L.Line.Writer.Write.contents g.S.Store.content
+    g.C.Clock.now_gives c.loop-turn._turn c.args.listener.now (kept_by c.args.desk.now) c.args.clock.now c.loop-turn.listener
     (kept_by c.loop-turn.desk) c.loop-turn.clock c.loop-turn.invariant
 
 pub returns-clause-unique : goal.returns-clause-unique

@@ -21,7 +21,8 @@ returns-in-Err g c =
     let (r, late, whole) = rw c.unread.ensures at c.in-Whole.ensures in
     let says = rw (c.unread-in-Whole.ensures, ← late) at c.answer_bytes-answer.ensures.answers in
     unsent _ _ _ _ _ _ _ _ _ _ c.records.invariant.kept r c.in-Whole.start c.in-Whole.end _ _ whole c.answer_bytes-answer.ensures.leads says _
-    _ _ c.records.invariant.few c.in-Err.ensures.part (rw c.records.invariant.writer at c.in-Err.ensures.device)
+    _ _ _ _ c.records.invariant.few c.in-Err.ensures.part
+    (c.records.invariant.reader, rw c.records.invariant.writer at c.in-Err.ensures.device)
 
 pub records-preserved-in-Ok : goal.records-preserved-in-Ok
 records-preserved-in-Ok g c =
@@ -50,23 +51,24 @@ records-preserved g c =
 pub returns-in-Err-Device : goal.returns-in-Err-Device
 returns-in-Err-Device g c =
     let (same, none, rose) = rw c.in-Err-Device.field-0-is at c.in-Err-Device.ensures.read in
-    unread_device _ _ _ _ _ _ _ _ _ _ c.records.invariant.kept _ _ (rw c.unread.ensures at c.in-More.ensures)
+    unread_device _ _ _ _ _ _ _ _ _ _ c.records.invariant.kept _ _ _ _ (rw c.unread.ensures at c.in-More.ensures)
     (omega (arith, c.records.invariant.few, c.if-reads-eq-READ_LIMIT.false)) _ _ c.read_more.ensures.asked none
-    (rw c.records.invariant.reader at rose)
+    (rw c.records.invariant.reader at rose, c.records.invariant.writer)
 
 pub returns-in-Never : goal.returns-in-Never
 returns-in-Never g c =
-    never_record _ _ _ _ _ _ _ _ _ _ c.records.invariant.kept _ _ c.records.invariant.few
-    (rw c.unread.ensures at c.in-Never.ensures)
+    never_record _ _ _ _ _ _ _ _ _ _ c.records.invariant.kept _ _ _ _ c.records.invariant.few
+    (rw c.unread.ensures at c.in-Never.ensures) (c.records.invariant.reader, c.records.invariant.writer)
 
 pub returns-then-reads-eq-READ_LIMIT : goal.returns-then-reads-eq-READ_LIMIT
 returns-then-reads-eq-READ_LIMIT g c =
-    too_many _ _ _ _ _ _ _ _ _ _ c.records.invariant.kept _ _ (rw c.unread.ensures at c.in-More.ensures)
-    c.if-reads-eq-READ_LIMIT.true
+    too_many _ _ _ _ _ _ _ _ _ _ c.records.invariant.kept _ _ _ _ (rw c.unread.ensures at c.in-More.ensures)
+    c.if-reads-eq-READ_LIMIT.true (c.records.invariant.reader, c.records.invariant.writer)
 
 pub returns-in-Ok-false : goal.returns-in-Ok-false
 returns-in-Ok-false g c =
     let ends = rw c.in-Ok-false.field-0-test at c.in-Ok-false.ensures.read in
-    at_end _ _ _ _ _ _ _ _ _ _ c.records.invariant.kept _ _ (rw c.unread.ensures at c.in-More.ensures)
+    at_end _ _ _ _ _ _ _ _ _ _ c.records.invariant.kept _ _ _ _ (rw c.unread.ensures at c.in-More.ensures)
     (omega (arith, c.records.invariant.few, c.if-reads-eq-READ_LIMIT.false)) _ _ c.read_more.ensures.asked
-    c.end_of_input.result c.read_more.new.self _ _ ends (rw c.unread-in-Ok-false.ensures at c.end_of_input.ensures)
+    c.end_of_input.result c.read_more.new.self (rw c.records.invariant.reader at ends) c.records.invariant.writer
+    (rw c.unread-in-Ok-false.ensures at c.end_of_input.ensures)

@@ -1,29 +1,17 @@
 use Rattle.std.proofs.lemmas.Result.{IfOk-from_err}
 use Rattle.hall_nurikabe.proofs.AreRegions.{AreRegions-members}
-use Rattle.hall_nurikabe.proofs.AreStepsLeft.{AreStepsLeft-members}
 use Rattle.hall_nurikabe.proofs.deduce.look_at_reaches.Goals as goal
-
-pub wall_far_cells-requires-clause-left : goal.wall_far_cells-requires-clause-left
-wall_far_cells-requires-clause-left c =
-    rw c.deref-2.ensures.value
-    (AreStepsLeft-members _ _ _ _ c.in_ok-open.ensures.marked (rw c.deref.ensures.value at c.in_ok-left.ensures))
 
 pub fill_reaches-requires-clause-reaches : goal.fill_reaches-requires-clause-reaches
 fill_reaches-requires-clause-reaches c =
-    rw (c.deref-4.ensures.value, c.deref-5.ensures.value)
-    (AreRegions-members _ _ _ _ _ c.in_ok-open.ensures.marked (rw (c.size.ensures.size, c.deref-3.ensures.value) at c.in_ok-reaches.ensures))
+    rw (c.deref-2.ensures.value, c.deref-3.ensures.value)
+    (AreRegions-members _ _ _ _ _ c.in_ok-open.ensures.marked (rw (c.size.ensures.size, c.deref.ensures.value) at c.in_ok-reaches.ensures))
 
 pub returns-in_err-open-clause-dead : goal.returns-in_err-open-clause-dead
 returns-in_err-open-clause-dead c = IfOk-from_err c.from_residual.result _ c.from_residual.ensures.0
 
 pub returns-in_err-open-clause-forced : goal.returns-in_err-open-clause-forced
 returns-in_err-open-clause-forced c = IfOk-from_err c.from_residual.result _ c.from_residual.ensures.0
-
-pub returns-in_err-left-clause-dead : goal.returns-in_err-left-clause-dead
-returns-in_err-left-clause-dead c = IfOk-from_err c.from_residual-in_err-left.result _ c.from_residual-in_err-left.ensures.0
-
-pub returns-in_err-left-clause-forced : goal.returns-in_err-left-clause-forced
-returns-in_err-left-clause-forced c = IfOk-from_err c.from_residual-in_err-left.result _ c.from_residual-in_err-left.ensures.0
 
 pub returns-in_err-reaches-clause-dead : goal.returns-in_err-reaches-clause-dead
 returns-in_err-reaches-clause-dead c = IfOk-from_err c.from_residual-in_err-reaches.result _ c.from_residual-in_err-reaches.ensures.0

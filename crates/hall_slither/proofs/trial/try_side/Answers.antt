@@ -12,5 +12,5 @@ returns-in_err-try_both c = grind (arith, common_steps)
 pub since-requires : goal.since-requires
 since-requires c = grind (arith, common_steps)
 
-pub closes_loop-requires-clause-mark : goal.closes_loop-requires-clause-mark
-closes_loop-requires-clause-mark c = grind (arith, common_steps)
+pub join_since-requires-clause-mark : goal.join_since-requires-clause-mark
+join_since-requires-clause-mark c = grind (arith, common_steps)

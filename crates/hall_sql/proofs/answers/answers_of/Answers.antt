@@ -4,23 +4,26 @@ use Rattle.hall_sql.specs.Rows.{answer_in}
 use Rattle.sqlite.specs.declared.types.Value.TheVariants.{Text}
 use Rattle.std.proofs.lemmas.Result.{IfOk-weaker}
 use Rattle.sqlite.specs.Held.{state}
-use Rattle.hall_sql.proofs.AnswerTexts.{answers_of_is}
+use Rattle.hall_sql.proofs.AnswerTexts.{answers_of_asked}
 use Rattle.hall_sql.proofs.AnswerLemmas.{answers_of_listed}
 use Rattle.hall_sql.proofs.StoreLemmas.{told, read_whole}
+use Rattle.hall_sql.specs.Cause.{AreRead}
 use Rattle.hall_sql.proofs.answers.answers_of.Goals as goal
 
-pub ask-requires-clause-plain : goal.ask-requires-clause-plain
-ask-requires-clause-plain g c = answers_of_is.2
+pub read-requires-clause-asks : goal.read-requires-clause-asks
+read-requires-clause-asks g c = rw (c.params-to_sql.ensures, c.params-to_sql-2.ensures, c.as_str.ensures.text, c.as_str-2.ensures.text) (answers_of_asked c.args.entrant.now c.args.round.now)
 
 pub returns-clause-served : goal.returns-clause-served
 returns-clause-served g c =
-    told (state g.S.Store c.args.conn.now) (state g.S.Store c.ask.new.conn) c.read_all.result _ _ c.requires.hall c.ask.ensures.rested
-    c.in_ok-rows.ensures.serves c.read_all.ensures
-    (λ out h clean opened has keyed. answers_of_listed _ (state g.S.Store c.ask.new.conn) has keyed.1.1.1.1.0 (c.schema-schema.ensures.live opened).0
-    c.in_ok-rows.rows.items out.items (rw c.deref.ensures.value at h) c.args.entrant.now c.args.round.now
-    (rw (c.params-to_sql.ensures, c.params-to_sql-2.ensures, c.as_str.ensures.text, c.as_str-2.ensures.text) at (c.in_ok-rows.ensures.shown clean)))
+    told (state g.S.Store c.args.conn.now) (state g.S.Store c.read.new.conn) c.read.result (λ out. AreRead answer_in answers_of_text (Text c.args.entrant.now ∷ Text c.args.round.now ∷ []) (state g.S.Store c.args.conn.now) (state g.S.Store c.read.new.conn) out.items) _ c.requires.hall c.read.ensures.rested
+    (rw (c.params-to_sql.ensures, c.params-to_sql-2.ensures, c.as_str.ensures.text, c.as_str-2.ensures.text) at c.read.ensures.read) (λ out it. it.0)
+    (λ out it clean opened has keyed. answers_of_listed _ (state g.S.Store c.read.new.conn) has keyed.1.1.1.1.0 (c.schema-schema.ensures.live opened).0
+    it.1.rows out.items it.1.reads c.args.entrant.now c.args.round.now
+    it.1.shown)
 
 pub returns-clause-whole : goal.returns-clause-whole
 returns-clause-whole g c clean =
-    IfOk-weaker c.read_all.result _ _ (λ out h. read_whole answer_in answers_of_text (Text c.args.entrant.now ∷ Text c.args.round.now ∷ []) (state g.S.Store c.args.conn.now) (state g.S.Store c.ask.new.conn) c.in_ok-rows.rows.items out.items
-    (rw c.deref.ensures.value at h) (rw (c.params-to_sql.ensures, c.params-to_sql-2.ensures, c.as_str.ensures.text, c.as_str-2.ensures.text) at (c.in_ok-rows.ensures.shown clean))) c.read_all.ensures
+    IfOk-weaker c.read.result (λ out. AreRead answer_in answers_of_text (Text c.args.entrant.now ∷ Text c.args.round.now ∷ []) (state g.S.Store c.args.conn.now) (state g.S.Store c.read.new.conn) out.items) _ (λ out it. read_whole answer_in answers_of_text (Text c.args.entrant.now ∷ Text c.args.round.now ∷ []) (state g.S.Store c.args.conn.now) (state g.S.Store c.read.new.conn) out.items it) ((rw (c.params-to_sql.ensures, c.params-to_sql-2.ensures, c.as_str.ensures.text, c.as_str-2.ensures.text) at c.read.ensures.read) clean)
+
+pub returns-clause-cause : goal.returns-clause-cause
+returns-clause-cause g c = rw (c.params-to_sql.ensures, c.params-to_sql-2.ensures, c.as_str.ensures.text, c.as_str-2.ensures.text) at c.read.ensures.cause

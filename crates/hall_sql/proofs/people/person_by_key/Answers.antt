@@ -4,25 +4,29 @@ use Rattle.std.proofs.Common.{sym, subst, [], ◌∷◌}
 use Rattle.sqlite.specs.Held.{state}
 use Rattle.hall_store.specs.Caller.{IsKeyHolder}
 use Rattle.hall_sql.specs.Rows.{world_of, person_in}
-use Rattle.hall_sql.proofs.PeopleTexts.{person_by_key_is}
+use Rattle.hall_sql.proofs.PeopleTexts.{person_by_key_asked}
 use Rattle.hall_sql.proofs.PeopleKeys.{key_holder}
-use Rattle.hall_sql.proofs.StoreLemmas.{told, read_whole, always}
+use Rattle.hall_sql.proofs.StoreLemmas.{told, read_whole}
+use Rattle.hall_sql.specs.Cause.{IsFound}
+use Rattle.std.proofs.lemmas.Result.{IfOk-weaker}
 use Rattle.hall_sql.proofs.people.person_by_key.Goals as goal
 
-pub ask-requires-clause-plain : goal.ask-requires-clause-plain
-ask-requires-clause-plain g c = person_by_key_is.2
+pub find-requires-clause-asks : goal.find-requires-clause-asks
+find-requires-clause-asks g c = rw (c.params-to_sql.ensures, c.as_str.ensures.text) (person_by_key_asked c.args.key.now)
 
 pub returns-clause-served : goal.returns-clause-served
 returns-clause-served g c =
     let old = state g.S.Store c.args.conn.now in
-    told old (state g.S.Store c.ask.new.conn) c.at_most_one.result _ _ c.requires.hall c.ask.ensures.rested
-    c.in_ok-rows.ensures.serves c.at_most_one.ensures
-    (λ o h clean opened has keyed. subst (IsKeyHolder (world_of old.now.trees) c.args.key.now) (sym h.1)
-    (key_holder old (state g.S.Store c.ask.new.conn) has keyed.0 (c.schema-schema.ensures.live opened).0 c.in_ok-rows.rows.items
-    c.in_ok-read_all.field-0.items (rw c.deref.ensures.value at c.in_ok-read_all.ensures) h.0 c.args.key.now
-    (rw (c.params-to_sql.ensures, c.as_str.ensures.text) at (c.in_ok-rows.ensures.shown clean))))
+    told (state g.S.Store c.args.conn.now) (state g.S.Store c.find.new.conn) c.find.result (IsFound person_in person_by_key_text (Text c.args.key.now ∷ []) (state g.S.Store c.args.conn.now) (state g.S.Store c.find.new.conn)) _ c.requires.hall c.find.ensures.rested
+    (rw (c.params-to_sql.ensures, c.as_str.ensures.text) at c.find.ensures.found) (λ found it. it.are.0)
+    (λ found it clean opened has keyed. subst (IsKeyHolder (world_of old.now.trees) c.args.key.now) (sym it.is)
+    (key_holder old (state g.S.Store c.find.new.conn) has keyed.0 (c.schema-schema.ensures.live opened).0 it.are.1.rows
+    it.records it.are.1.reads it.few c.args.key.now
+    it.are.1.shown))
 
 pub returns-clause-whole : goal.returns-clause-whole
 returns-clause-whole g c clean =
-    always c.at_most_one.result _ (read_whole person_in person_by_key_text (Text c.args.key.now ∷ []) (state g.S.Store c.args.conn.now) (state g.S.Store c.ask.new.conn) c.in_ok-rows.rows.items c.in_ok-read_all.field-0.items
-    (rw c.deref.ensures.value at c.in_ok-read_all.ensures) (rw (c.params-to_sql.ensures, c.as_str.ensures.text) at (c.in_ok-rows.ensures.shown clean)))
+    IfOk-weaker c.find.result (IsFound person_in person_by_key_text (Text c.args.key.now ∷ []) (state g.S.Store c.args.conn.now) (state g.S.Store c.find.new.conn)) _ (λ found it. read_whole person_in person_by_key_text (Text c.args.key.now ∷ []) (state g.S.Store c.args.conn.now) (state g.S.Store c.find.new.conn) it.records it.are) ((rw (c.params-to_sql.ensures, c.as_str.ensures.text) at c.find.ensures.found) clean)
+
+pub returns-clause-cause : goal.returns-clause-cause
+returns-clause-cause g c = rw (c.params-to_sql.ensures, c.as_str.ensures.text) at c.find.ensures.cause

@@ -14,5 +14,5 @@ returns-clause-done g c clean inside =
     IfOk-weaker c.at_most_one.result _ _
     (λ o h. shown_did _ _ _ old new c.in_ok-rows.rows.items inside person_is.2 shown
     (λ it. h.1 ∙ person_found c.args.name.now old new c.in_ok-rows.rows.items c.in_ok-read_all.field-0.items it.schema shown
-    (rw c.deref.ensures.value at c.in_ok-read_all.ensures) h.0))
-    c.at_most_one.ensures
+    (rw c.deref.ensures.value at c.in_ok-read_all.ensures.all) h.0))
+    c.at_most_one.ensures.one

@@ -9,39 +9,43 @@ use Rattle.sqlite.specs.Held.{state}
 use Rattle.sqlite.specs.State.{HasCleanDisk}
 use Rattle.hall_sql.specs.Columns.{is_protest_under, IsAlone}
 use Rattle.hall_sql.specs.Tables.{hall_schema}
-use Rattle.hall_sql.proofs.ProtestTexts.{protest_is}
+use Rattle.hall_sql.proofs.ProtestTexts.{protest_asked}
 use Rattle.hall_sql.proofs.ProtestLemmas.{protest_found, protest_alone}
-use Rattle.hall_sql.proofs.StoreLemmas.{told, read_whole, always}
+use Rattle.hall_sql.proofs.StoreLemmas.{told, read_whole}
+use Rattle.hall_sql.specs.Cause.{IsFound}
 use Rattle.hall_sql.proofs.protests.protest.Goals as goal
 
-pub ask-requires-clause-plain : goal.ask-requires-clause-plain
-ask-requires-clause-plain g c = protest_is.2
+pub find-requires-clause-asks : goal.find-requires-clause-asks
+find-requires-clause-asks g c = rw (c.params-to_sql.ensures, c.params-to_sql-2.ensures, c.params-to_sql-3.ensures, c.as_str.ensures.text, c.as_str-2.ensures.text, c.as_str-3.ensures.text) (protest_asked c.args.key.now.entrant c.args.key.now.round c.args.key.now.token)
 
 pub returns-clause-served : goal.returns-clause-served
 returns-clause-served g c =
-    told (state g.S.Store c.args.conn.now) (state g.S.Store c.ask.new.conn) c.at_most_one.result _ _ c.requires.hall c.ask.ensures.rested
-    c.in_ok-rows.ensures.serves c.at_most_one.ensures
-    (λ o h clean opened has keyed. h.1 ∙ protest_found c.args.key.now _ (state g.S.Store c.ask.new.conn) c.in_ok-rows.rows.items c.in_ok-read_all.field-0.items has
-    (rw (c.params-to_sql.ensures, c.params-to_sql-2.ensures, c.params-to_sql-3.ensures, c.as_str.ensures.text, c.as_str-2.ensures.text, c.as_str-3.ensures.text) at (c.in_ok-rows.ensures.shown clean)) (rw c.deref.ensures.value at c.in_ok-read_all.ensures) h.0)
+    told (state g.S.Store c.args.conn.now) (state g.S.Store c.find.new.conn) c.find.result (IsFound protest_in protest_text (Text c.args.key.now.entrant ∷ Text c.args.key.now.round ∷ Text c.args.key.now.token ∷ []) (state g.S.Store c.args.conn.now) (state g.S.Store c.find.new.conn)) _ c.requires.hall c.find.ensures.rested
+    (rw (c.params-to_sql.ensures, c.params-to_sql-2.ensures, c.params-to_sql-3.ensures, c.as_str.ensures.text, c.as_str-2.ensures.text, c.as_str-3.ensures.text) at c.find.ensures.found) (λ found it. it.are.0)
+    (λ found it clean opened has keyed. it.is ∙ protest_found c.args.key.now _ (state g.S.Store c.find.new.conn) it.are.1.rows it.records has
+    it.are.1.shown it.are.1.reads it.few)
 
 pub returns-clause-alone : goal.returns-clause-alone
 returns-clause-alone g c clean =
-    let rested = c.ask.ensures.rested in
-    let opens = c.in_ok-rows.ensures.serves clean in
-    let was : HasCleanDisk (state g.S.Store c.args.conn.now) = omega (arith, rested.follows.lasts.clean, clean) in
-    let opened = rested.follows.opened clean opens in
-    let has : (state g.S.Store c.args.conn.now).now.schema ≡ hall_schema = (c.requires.hall.settled was opened).1 in
-    IfOk-weaker c.at_most_one.result _ _
-    (λ o h. let alone = protest_alone c.args.key.now (state g.S.Store c.args.conn.now) (state g.S.Store c.ask.new.conn) c.in_ok-rows.rows.items c.in_ok-read_all.field-0.items has
-    (rw (c.params-to_sql.ensures, c.params-to_sql-2.ensures, c.params-to_sql-3.ensures, c.as_str.ensures.text, c.as_str-2.ensures.text, c.as_str-3.ensures.text) at (c.in_ok-rows.ensures.shown clean)) (rw c.deref.ensures.value at c.in_ok-read_all.ensures) h.0 in
-    IfSome_then o (subst (λ found. IfSome found (IsAlone c.args.key.now (state g.S.Store c.args.conn.now))) (sym h.1) alone)
-    (λ row it. record {
-      one = it.one;
-      found = ap (λ (d : Database). filter (is_protest_under c.args.key.now) (d.trees 12)) (rested.same clean opens) ∙ it.found;
-      reads = it.reads;
-    })) c.at_most_one.ensures
+    let old = state g.S.Store c.args.conn.now in
+    let new = state g.S.Store c.find.new.conn in
+    let key = c.args.key.now in
+    let rested = c.find.ensures.rested in
+    let was : HasCleanDisk old = omega (arith, rested.follows.lasts.clean, clean) in
+    IfOk-weaker c.find.result (IsFound protest_in protest_text (Text key.entrant ∷ Text key.round ∷ Text key.token ∷ []) old new) _ (λ o it.
+    let has : old.now.schema ≡ hall_schema = (c.requires.hall.settled was (rested.follows.opened clean it.are.0)).1 in
+    let alone = protest_alone key old new it.are.1.rows it.records has it.are.1.shown it.are.1.reads it.few in
+    IfSome_then o (subst (λ found. IfSome found (IsAlone key old)) (sym it.is) alone)
+    (λ row one. record {
+      one = one.one;
+      found = ap (λ (d : Database). filter (is_protest_under key) (d.trees 12)) (rested.same clean it.are.0) ∙ one.found;
+      reads = one.reads;
+    }))
+    ((rw (c.params-to_sql.ensures, c.params-to_sql-2.ensures, c.params-to_sql-3.ensures, c.as_str.ensures.text, c.as_str-2.ensures.text, c.as_str-3.ensures.text) at c.find.ensures.found) clean)
 
 pub returns-clause-whole : goal.returns-clause-whole
 returns-clause-whole g c clean =
-    always c.at_most_one.result _ (read_whole protest_in protest_text (Text c.args.key.now.entrant ∷ Text c.args.key.now.round ∷ Text c.args.key.now.token ∷ []) (state g.S.Store c.args.conn.now) (state g.S.Store c.ask.new.conn) c.in_ok-rows.rows.items c.in_ok-read_all.field-0.items
-    (rw c.deref.ensures.value at c.in_ok-read_all.ensures) (rw (c.params-to_sql.ensures, c.params-to_sql-2.ensures, c.params-to_sql-3.ensures, c.as_str.ensures.text, c.as_str-2.ensures.text, c.as_str-3.ensures.text) at (c.in_ok-rows.ensures.shown clean)))
+    IfOk-weaker c.find.result (IsFound protest_in protest_text (Text c.args.key.now.entrant ∷ Text c.args.key.now.round ∷ Text c.args.key.now.token ∷ []) (state g.S.Store c.args.conn.now) (state g.S.Store c.find.new.conn)) _ (λ found it. read_whole protest_in protest_text (Text c.args.key.now.entrant ∷ Text c.args.key.now.round ∷ Text c.args.key.now.token ∷ []) (state g.S.Store c.args.conn.now) (state g.S.Store c.find.new.conn) it.records it.are) ((rw (c.params-to_sql.ensures, c.params-to_sql-2.ensures, c.params-to_sql-3.ensures, c.as_str.ensures.text, c.as_str-2.ensures.text, c.as_str-3.ensures.text) at c.find.ensures.found) clean)
+
+pub returns-clause-cause : goal.returns-clause-cause
+returns-clause-cause g c = rw (c.params-to_sql.ensures, c.params-to_sql-2.ensures, c.params-to_sql-3.ensures, c.as_str.ensures.text, c.as_str-2.ensures.text, c.as_str-3.ensures.text) at c.find.ensures.cause

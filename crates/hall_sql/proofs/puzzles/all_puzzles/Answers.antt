@@ -3,23 +3,26 @@ use Rattle.hall_sql.specs.Statements.{all_puzzles_text}
 use Rattle.hall_sql.specs.Rows.{puzzle_row_in}
 use Rattle.std.proofs.lemmas.Result.{IfOk-weaker}
 use Rattle.sqlite.specs.Held.{state}
-use Rattle.hall_sql.proofs.PuzzleTexts.{all_puzzles_is}
+use Rattle.hall_sql.proofs.PuzzleTexts.{all_puzzles_asked}
 use Rattle.hall_sql.proofs.PuzzleListings.{all_puzzles_listed}
 use Rattle.hall_sql.proofs.StoreLemmas.{told, read_whole}
+use Rattle.hall_sql.specs.Cause.{AreRead}
 use Rattle.hall_sql.proofs.puzzles.all_puzzles.Goals as goal
 
-pub ask-requires-clause-plain : goal.ask-requires-clause-plain
-ask-requires-clause-plain g c = all_puzzles_is.2
+pub read-requires-clause-asks : goal.read-requires-clause-asks
+read-requires-clause-asks g c = all_puzzles_asked
 
 pub returns-clause-served : goal.returns-clause-served
 returns-clause-served g c =
-    told (state g.S.Store c.args.conn.now) (state g.S.Store c.ask.new.conn) c.read_all.result _ _ c.requires.hall c.ask.ensures.rested
-    c.in_ok-rows.ensures.serves c.read_all.ensures
-    (λ out h clean opened has keyed. all_puzzles_listed _ (state g.S.Store c.ask.new.conn) has keyed.1.0 (c.schema-schema.ensures.live opened).0
-    c.in_ok-rows.rows.items out.items (rw c.deref.ensures.value at h)
-    (c.in_ok-rows.ensures.shown clean))
+    told (state g.S.Store c.args.conn.now) (state g.S.Store c.read.new.conn) c.read.result (λ out. AreRead puzzle_row_in all_puzzles_text [] (state g.S.Store c.args.conn.now) (state g.S.Store c.read.new.conn) out.items) _ c.requires.hall c.read.ensures.rested
+    c.read.ensures.read (λ out it. it.0)
+    (λ out it clean opened has keyed. all_puzzles_listed _ (state g.S.Store c.read.new.conn) has keyed.1.0 (c.schema-schema.ensures.live opened).0
+    it.1.rows out.items it.1.reads
+    it.1.shown)
 
 pub returns-clause-whole : goal.returns-clause-whole
 returns-clause-whole g c clean =
-    IfOk-weaker c.read_all.result _ _ (λ out h. read_whole puzzle_row_in all_puzzles_text [] (state g.S.Store c.args.conn.now) (state g.S.Store c.ask.new.conn) c.in_ok-rows.rows.items out.items
-    (rw c.deref.ensures.value at h) (c.in_ok-rows.ensures.shown clean)) c.read_all.ensures
+    IfOk-weaker c.read.result (λ out. AreRead puzzle_row_in all_puzzles_text [] (state g.S.Store c.args.conn.now) (state g.S.Store c.read.new.conn) out.items) _ (λ out it. read_whole puzzle_row_in all_puzzles_text [] (state g.S.Store c.args.conn.now) (state g.S.Store c.read.new.conn) out.items it) (c.read.ensures.read clean)
+
+pub returns-clause-cause : goal.returns-clause-cause
+returns-clause-cause g c = c.read.ensures.cause

@@ -6,34 +6,37 @@ use Rattle.std.proofs.lemmas.Result.{IfOk-weaker}
 use Rattle.sqlite.specs.Held.{state}
 use Rattle.sqlite.specs.State.{HasCleanDisk}
 use Rattle.hall_sql.specs.Tables.{hall_schema}
-use Rattle.hall_sql.proofs.HeadTexts.{head_is}
+use Rattle.hall_sql.proofs.HeadTexts.{head_asked}
 use Rattle.hall_sql.proofs.RoundWrites.{head_found, head_alone, head_stays}
-use Rattle.hall_sql.proofs.StoreLemmas.{told, read_whole, always}
+use Rattle.hall_sql.proofs.StoreLemmas.{told, read_whole}
+use Rattle.hall_sql.specs.Cause.{IsFound}
 use Rattle.hall_sql.proofs.rounds.head.Goals as goal
 
-pub ask-requires-clause-plain : goal.ask-requires-clause-plain
-ask-requires-clause-plain g c = head_is.2
+pub find-requires-clause-asks : goal.find-requires-clause-asks
+find-requires-clause-asks g c = rw (c.params-to_sql.ensures, c.as_str.ensures.text) (head_asked c.args.id.now)
 
 pub returns-clause-served : goal.returns-clause-served
 returns-clause-served g c =
-    told (state g.S.Store c.args.conn.now) (state g.S.Store c.ask.new.conn) c.at_most_one.result _ _ c.requires.hall c.ask.ensures.rested
-    c.in_ok-rows.ensures.serves c.at_most_one.ensures
-    (λ o h clean opened has keyed. h.1 ∙ head_found c.args.id.now _ (state g.S.Store c.ask.new.conn) c.in_ok-rows.rows.items c.in_ok-read_all.field-0.items has
-    (rw (c.params-to_sql.ensures, c.as_str.ensures.text) at (c.in_ok-rows.ensures.shown clean)) (rw c.deref.ensures.value at c.in_ok-read_all.ensures) h.0)
+    told (state g.S.Store c.args.conn.now) (state g.S.Store c.find.new.conn) c.find.result (IsFound round_in head_text (Text c.args.id.now ∷ []) (state g.S.Store c.args.conn.now) (state g.S.Store c.find.new.conn)) _ c.requires.hall c.find.ensures.rested
+    (rw (c.params-to_sql.ensures, c.as_str.ensures.text) at c.find.ensures.found) (λ found it. it.are.0)
+    (λ found it clean opened has keyed. it.is ∙ head_found c.args.id.now _ (state g.S.Store c.find.new.conn) it.are.1.rows it.records has
+    it.are.1.shown it.are.1.reads it.few)
 
 pub returns-clause-alone : goal.returns-clause-alone
 returns-clause-alone g c clean =
     let old = state g.S.Store c.args.conn.now in
-    let new = state g.S.Store c.ask.new.conn in
-    let rested = c.ask.ensures.rested in
-    let opens = c.in_ok-rows.ensures.serves clean in
+    let new = state g.S.Store c.find.new.conn in
+    let rested = c.find.ensures.rested in
     let was : HasCleanDisk old = omega (arith, rested.follows.lasts.clean, clean) in
-    let has : old.now.schema ≡ hall_schema = (c.requires.hall.settled was (rested.follows.opened clean opens)).1 in
-    IfOk-weaker c.at_most_one.result _ _ (λ o h. head_stays c.args.id.now old new o (rested.same clean opens)
-    (head_alone c.args.id.now old new c.in_ok-rows.rows.items c.in_ok-read_all.field-0.items o has
-    (rw (c.params-to_sql.ensures, c.as_str.ensures.text) at (c.in_ok-rows.ensures.shown clean)) (rw c.deref.ensures.value at c.in_ok-read_all.ensures) h.0 h.1)) c.at_most_one.ensures
+    IfOk-weaker c.find.result (IsFound round_in head_text (Text c.args.id.now ∷ []) old new) _ (λ found it.
+    let has : old.now.schema ≡ hall_schema = (c.requires.hall.settled was (rested.follows.opened clean it.are.0)).1 in
+    head_stays c.args.id.now old new found (rested.same clean it.are.0)
+    (head_alone c.args.id.now old new it.are.1.rows it.records found has it.are.1.shown it.are.1.reads it.few it.is))
+    ((rw (c.params-to_sql.ensures, c.as_str.ensures.text) at c.find.ensures.found) clean)
 
 pub returns-clause-whole : goal.returns-clause-whole
 returns-clause-whole g c clean =
-    always c.at_most_one.result _ (read_whole round_in head_text (Text c.args.id.now ∷ []) (state g.S.Store c.args.conn.now) (state g.S.Store c.ask.new.conn) c.in_ok-rows.rows.items c.in_ok-read_all.field-0.items
-    (rw c.deref.ensures.value at c.in_ok-read_all.ensures) (rw (c.params-to_sql.ensures, c.as_str.ensures.text) at (c.in_ok-rows.ensures.shown clean)))
+    IfOk-weaker c.find.result (IsFound round_in head_text (Text c.args.id.now ∷ []) (state g.S.Store c.args.conn.now) (state g.S.Store c.find.new.conn)) _ (λ found it. read_whole round_in head_text (Text c.args.id.now ∷ []) (state g.S.Store c.args.conn.now) (state g.S.Store c.find.new.conn) it.records it.are) ((rw (c.params-to_sql.ensures, c.as_str.ensures.text) at c.find.ensures.found) clean)
+
+pub returns-clause-cause : goal.returns-clause-cause
+returns-clause-cause g c = rw (c.params-to_sql.ensures, c.as_str.ensures.text) at c.find.ensures.cause

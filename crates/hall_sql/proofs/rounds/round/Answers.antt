@@ -1,9 +1,12 @@
-use Rattle.std.proofs.Common.{◌∙◌, arith, sym, ap}
+use Rattle.std.proofs.Common.{◌∙◌, inl, inr, arith, sym, ap, subst}
+use Rattle.std.proofs.lemmas.Result.{IfErr-weaker}
 use Rattle.std.specs.FinMap.{get}
 use Rattle.sqlite.specs.Effect.{Database}
 use Rattle.sqlite.specs.Held.{state}
 use Rattle.sqlite.specs.State.{HasCleanDisk}
 use Rattle.hall_sql.specs.Rows.{world_of}
+use Rattle.hall_sql.specs.Cause.{AreNoRound}
+use Rattle.hall_sql.proofs.CauseLemmas.{fails_as}
 use Rattle.hall_sql.proofs.StoreLemmas.{always, served_so}
 use Rattle.hall_sql.proofs.rounds.round.Goals as goal
 
@@ -17,9 +20,28 @@ returns-clause-served g c =
     let places = c.in_ok-places.ensures.served clean in
     let was : HasCleanDisk mid = omega (arith, rested.follows.lasts.clean, clean) in
     let head = (c.in_ok-head.ensures.served was).1 ∙ ap (λ (d : Database). get (world_of d.trees).rounds c.args.id.now) (sym (rested.same clean places.0)) in
-    c.row_of.ensures (world_of new.now.trees) c.args.id.now head places.1.whole)
+    c.row_of.ensures.row (world_of new.now.trees) c.args.id.now head places.1.whole)
 
 pub returns-clause-whole : goal.returns-clause-whole
 returns-clause-whole g c clean =
     let was : HasCleanDisk (state g.S.Store c.head.new.conn) = omega (arith, c.places_of.ensures.rested.follows.lasts.clean, clean) in
     always c.row_of.result _ (c.head.new.conn, c.in_ok-head.ensures.whole was, c.in_ok-places.ensures.whole clean)
+
+pub returns-in_err-head-clause-cause : goal.returns-in_err-head-clause-cause
+returns-in_err-head-clause-cause g c clean =
+    fails_as c.from_residual.result _ _ c.from_residual.ensures.1 (λ failed. inl (c.in_err-head.ensures.cause clean failed))
+
+pub returns-in_err-places-clause-cause : goal.returns-in_err-places-clause-cause
+returns-in_err-places-clause-cause g c clean =
+    fails_as c.from_residual-in_err-places.result _ _ c.from_residual-in_err-places.ensures.1
+    (λ failed. inr (inl (c.head.new.conn, c.in_err-places.ensures.cause clean failed)))
+
+pub returns-clause-cause : goal.returns-clause-cause
+returns-clause-cause g c clean =
+    let rested = c.places_of.ensures.rested in
+    let places = c.in_ok-places.ensures.served clean in
+    let was : HasCleanDisk (state g.S.Store c.head.new.conn) = omega (arith, rested.follows.lasts.clean, clean) in
+    let head = (c.in_ok-head.ensures.served was).1 ∙ ap (λ (d : Database). get (world_of d.trees).rounds c.args.id.now) (sym (rested.same clean places.0)) in
+    IfErr-weaker c.row_of.result _ _ (λ fault none failed.
+    inr (inr (c.in_ok-places.places.items, places.1, subst (λ found. AreNoRound found c.in_ok-places.places.items) head (none failed))))
+    c.row_of.ensures.none

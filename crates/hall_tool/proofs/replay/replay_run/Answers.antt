@@ -22,6 +22,7 @@ returns-in-Ok-eq0-clause-run g c =
           (record {
             leads = seeded.leads;
             line = seeded.line;
+            same = seeded.same;
             kept = seeded.kept;
             device = seeded.device;
             part = seeded.part;
@@ -46,6 +47,7 @@ returns-in_default-2-clause-run g c =
       record {
         leads = seeded.leads;
         line = seeded.line;
+        same = seeded.same;
         kept = seeded.kept;
         device = seeded.device;
         part = seeded.part;

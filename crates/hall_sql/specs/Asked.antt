@@ -1,0 +1,34 @@
+-- The text of a query that is refused for no cause of its own.
+use Rattle.std.specs.Prelude.{◌≡◌, ◌&&◌, ℕ, Bool, true, false, List, [], length, nat_le, nat_eq, Result, Ok, Err}
+use Rattle.sqlite.specs.Order.{Row}
+use Rattle.sqlite.specs.Tree.{Trees}
+use Rattle.sqlite.specs.Given.{IsPlain}
+use Rattle.sqlite.specs.Listing.{understood, reads_listing}
+use Rattle.sqlite.proofs.Callers.{command_of}
+use Rattle.sqlite_schema.specs.declared.command.Command.{Command}
+use Rattle.sqlite_schema.specs.declared.command.Command.TheVariants.{Select}
+use Rattle.sqlite_schema.specs.Program.{lets_of}
+use Rattle.sqlite_sql.specs.Program.{ProgramOverflows}
+use Rattle.sqlite_typing.specs.Types.{accepts_program}
+use Rattle.sqlite_resolve.specs.declared.compiled.Compiled.{Compiled}
+use Rattle.sqlite_resolve.specs.declared.error.CompileError.{CompileError}
+use Rattle.hall_sql.specs.Tables.{hall_schema}
+
+-- the text is one statement, and takes so many parameters
+abbrev pub is_whole : List ℕ → ℕ → Result Compiled CompileError → Bool
+is_whole sql count (Ok c) = nat_le (length sql) c.tail && nat_eq count (length c.names)
+is_whole sql count (Err fault) = false
+
+-- the command is a query whose types go with these parameters, and sums nothing up that could overflow
+abbrev pub IsSafe : Command → Row → Type 0
+IsSafe (Select q names) params =
+    (accepts_program hall_schema (lets_of q) q.body params ≡ true)
+    × ((db : Trees) → ¬ (ProgramOverflows db params [] (lets_of q) q.body))
+IsSafe _ params = ⊥
+
+-- over the hall's tables the text is one query of these parameters, with no cause of its own to fail
+pub record IsAsked (sql : List ℕ) (params : Row) : Type 0 where
+  pub plain : IsPlain (understood hall_schema sql)
+  pub unlisted : reads_listing hall_schema sql ≡ false
+  pub whole : is_whole sql (length params) (understood hall_schema sql) ≡ true
+  pub safe : IsSafe (command_of (understood hall_schema sql)) params

@@ -1,0 +1,53 @@
+//! The records that a query of the tables answers.
+ghost use Rattle.std.specs.Prelude.{IfOk};
+ghost use Rattle.sqlite.specs.Values.{bound};
+ghost use Rattle.sqlite.specs.Held.{state};
+ghost use Rattle.sqlite.specs.State.{HasCleanDisk};
+ghost use Rattle.hall_store.specs.Store.{Fails};
+ghost use Rattle.hall_sql.specs.Standing.{IsHall, Rested};
+ghost use Rattle.hall_sql.specs.Asked.{IsAsked};
+ghost use Rattle.hall_sql.specs.Cause.{ReadFails, FindFails, AreRead, IsFound};
+
+use crate::calls::ask;
+use crate::record::{Record, at_most_one, read_all};
+use hall_store::StoreFault;
+use sqlite::types::ValueRef;
+use sqlite::{Alter, Connection};
+use std::alloc::Global;
+
+/// All rows of the query as records.
+pub(crate) fn read<S: Alter, T: Record + Drop>(
+    conn: &mut Connection<S>,
+    alloc: Global,
+    sql: &str,
+    params: &[ValueRef<'_>],
+) -> Result<Vec<T>, StoreFault>
+    requires asks { IsAsked sql.now (bound params.now) }
+    requires hall { IsHall (state S.Store conn.old) }
+    ensures rested { Rested (state S.Store conn.old) (state S.Store conn.new) }
+    ensures read { HasCleanDisk (state S.Store conn.new) → IfOk result (λ records.
+        AreRead T.Record.read sql.now (bound params.now) (state S.Store conn.old) (state S.Store conn.new) records.items) }
+    ensures cause { HasCleanDisk (state S.Store conn.new) → Fails
+        (ReadFails T.Record.read sql.now (bound params.now) (state S.Store conn.old) (state S.Store conn.new)) result }
+{
+    let rows = ask(conn, sql, params)?;
+    read_all(alloc, &rows)
+}
+
+/// The one row of the query as a record, if there is any. More than one is refused.
+pub(crate) fn find<S: Alter, T: Record + Drop>(
+    conn: &mut Connection<S>,
+    alloc: Global,
+    sql: &str,
+    params: &[ValueRef<'_>],
+) -> Result<Option<T>, StoreFault>
+    requires asks { IsAsked sql.now (bound params.now) }
+    requires hall { IsHall (state S.Store conn.old) }
+    ensures rested { Rested (state S.Store conn.old) (state S.Store conn.new) }
+    ensures found { HasCleanDisk (state S.Store conn.new) → IfOk result
+        (IsFound T.Record.read sql.now (bound params.now) (state S.Store conn.old) (state S.Store conn.new)) }
+    ensures cause { HasCleanDisk (state S.Store conn.new) → Fails
+        (FindFails T.Record.read sql.now (bound params.now) (state S.Store conn.old) (state S.Store conn.new)) result }
+{
+    at_most_one(read(conn, alloc, sql, params)?)
+}

@@ -1,0 +1,8 @@
+-- What was written, however the write ended.
+use Rattle.std.proofs.Common.{◌⊎◌, inl, inr}
+use Rattle.std.specs.Prelude.{OnErr, OnOk, Result, Ok, Err}
+
+pub either_end : {A B : Type 0} (result : Result A B) (Whole Failed Part : Type 0) → OnOk result Whole
+    → OnErr result Failed → OnErr result Part → Whole ⊎ (Failed × Part)
+either_end (Ok done) Whole Failed Part whole failed part = inl whole
+either_end (Err fault) Whole Failed Part whole failed part = inr (failed, part)

@@ -1,0 +1,12 @@
+use Rattle.std.proofs.Common.{inl, inr, refl}
+use Rattle.hall_tool.proofs.program.run_words.Goals as goal
+
+pub returns-in-Ok : goal.returns-in-Ok
+returns-in-Ok g c = inl (
+  c.in-Ok.command,
+  c.run_command.result,
+  c.in-Ok.ensures.command,
+  c.run_command.ensures,
+  c.end.ensures.told,
+  c.end.ensures.status,
+)

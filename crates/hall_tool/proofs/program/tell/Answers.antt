@@ -1,0 +1,7 @@
+use Rattle.hall_tool.proofs.Telling.{either_end}
+use Rattle.hall_tool.proofs.program.tell.Goals as goal
+
+pub returns : goal.returns
+returns g c =
+    either_end c.write_all.result _ _ _ (rw c.as_bytes.ensures.value at c.write_all.ensures.written)
+    c.write_all.ensures.device (rw c.as_bytes.ensures.value at c.write_all.ensures.part)

@@ -1,0 +1,54 @@
+-- What is told of a fault: that there is one, on a line, and on the next one what to do.
+use Rattle.std.specs.Prelude.{ℕ, List}
+use Rattle.std.specs.IoError.{error_kind}
+use Rattle.std.specs.declared.io.ErrorKind.{ErrorKind}
+use Rattle.std.specs.declared.io.ErrorKind.TheVariants.{OutOfMemory}
+use Rattle.sqlite.specs.declared.error.Error.{Error}
+use Rattle.sqlite.specs.declared.error.Error.TheVariants.{SqliteFailure}
+use Rattle.sqlite.specs.declared.error.ErrorCode.{ErrorCode}
+use Rattle.sqlite.specs.declared.error.ErrorCode.TheVariants as code
+use Rattle.hall_sql.specs.declared.open.OpenFault.{OpenFault}
+use Rattle.hall_sql.specs.declared.open.OpenFault.TheVariants as database
+use Rattle.hall_store.specs.declared.fault.StoreFault.TheVariants as store
+use Rattle.hall_tool.specs.declared.fault.CommandFault.{CommandFault}
+use Rattle.hall_tool.specs.declared.fault.CommandFault.TheVariants as command
+use Rattle.hall_tool.specs.declared.fault.ToolFault.TheVariants as tool
+use Rattle.hall_tool.specs.declared.advice.TheConstants.{NO_MEMORY, NO_DEVICE, NO_STORE, NO_LIST, NO_FILE, IN_USE}
+use Rattle.hall_tool.specs.declared.advice.TheConstants.{NO_DATABASE, OTHER_TABLES, FULL, UNREADABLE}
+use Rattle.hall_tool.specs.declared.advice.TheConstants.{NO_PORT, NO_CLIENT}
+
+-- of an entry list that can't be read
+abbrev pub list_lines : ErrorKind → List ℕ
+list_lines OutOfMemory = NO_MEMORY.now
+list_lines any = NO_LIST.now
+
+-- of a database that can't be opened, by the code of SQLite's failure
+abbrev pub code_lines : ErrorCode → List ℕ
+code_lines code.DatabaseBusy = IN_USE.now
+code_lines code.DatabaseCorrupt = NO_DATABASE.now
+code_lines code.NotADatabase = NO_DATABASE.now
+code_lines code.DiskFull = FULL.now
+code_lines code.OutOfMemory = NO_MEMORY.now
+code_lines other = UNREADABLE.now
+
+-- of a database that can't be opened
+abbrev pub open_lines : Error → List ℕ
+open_lines (SqliteFailure failure) = code_lines failure
+open_lines other = UNREADABLE.now
+
+-- of a database that can't be had
+abbrev pub database_lines : OpenFault → List ℕ
+database_lines database.Missing = NO_FILE.now
+database_lines (database.Unopened error) = open_lines error
+database_lines (database.Refused store.Memory) = NO_MEMORY.now
+database_lines (database.Refused store.Failed) = OTHER_TABLES.now
+
+-- of any fault
+abbrev pub fault_lines : CommandFault → List ℕ
+fault_lines (command.Tool tool.Memory) = NO_MEMORY.now
+fault_lines (command.Tool tool.Device) = NO_DEVICE.now
+fault_lines (command.Tool tool.Store) = NO_STORE.now
+fault_lines (command.List error) = list_lines (error_kind error)
+fault_lines (command.Database fault) = database_lines fault
+fault_lines command.Port = NO_PORT.now
+fault_lines command.Client = NO_CLIENT.now

@@ -1,0 +1,172 @@
+//! The pages of help, and the version.
+ghost use Rattle.std.specs.Prelude.{◌≡◌};
+ghost use Rattle.hall_tool.specs.Help.{help_text};
+
+use crate::pages::Page;
+
+/// The program's name and version, on a line.
+pub(crate) const VERSION: &str = "hall 0.1.0\n";
+
+const HALL: &str = "\
+A contest hall: judges answers to puzzles, searches for the solutions of a puzzle, and holds rounds over HTTP, whose
+records stand in an SQLite database.
+
+Usage: hall judge|solve|init|serve|table|replay [OPTIONS] < FILE
+
+Options:
+  -h, --help     Print help
+  -V, --version  Print version
+
+Commands:
+  judge   Judge the answer to a puzzle
+  solve   Search for the solutions of a puzzle
+  init    Import the people of an entry list into a database file
+  serve   Serve a database file over HTTP
+  table   Write the table of a published round
+  replay  Answer recorded requests
+
+`hall COMMAND --help` tells more of a command.
+
+Exit status: 0 done; 1 a wrong answer, or not one solution; 2 refused input, or denied; 3 a fault of memory, of a device
+or of the database, with `fault` on standard error and what to do; 64 a wrong command line.
+
+Example:
+  $ hall judge < examples/right.txt
+  right
+";
+
+const JUDGE: &str = "\
+Judges the answer to a puzzle.
+
+Reads a puzzle text, as in a puzz.link address, and an answer, each on a line and at most 8192 bytes together. Writes
+`right`, or `wrong` and the names of the rules that are broken, or `refused` and the first fault of the puzzle text with
+its place, or `refused input`.
+
+Usage: hall judge < FILE
+
+Options:
+  -h, --help  Print help
+
+Exit status: 0 right; 1 wrong; 2 refused.
+
+Example:
+  $ hall judge < examples/wrong.txt
+  wrong U2 U4
+";
+
+const SOLVE: &str = "\
+Searches for the solutions of a puzzle.
+
+Reads a puzzle text, as in a puzz.link address, on a line of at most 8192 bytes. Writes `one` and the answer, `none`,
+`more`, or `gave up` where more visits to partial fillings would be needed, or `refused` and the first fault of the
+puzzle text with its place, or `refused input`.
+
+Usage: hall solve [--budget N] < FILE
+
+Options:
+      --budget <N>  Visit at most N partial fillings: 0 to 1000000 [default: 200000]
+  -h, --help        Print help
+
+Exit status: 0 one solution; 1 none, more or gave up; 2 refused.
+
+Example:
+  $ hall solve --budget 1000 < examples/loop.txt
+  one 110011/101101
+";
+
+const INIT: &str = "\
+Imports the people of an entry list into a database file, which is made where it isn't there.
+
+Writes `added` and how many people were added; those who stand there already are passed over. Where the list is none, it
+writes `refused` and the list's first fault, and where its people may not stand, `denied` and the rule; the file then
+holds what it held.
+
+Usage: hall init --db F --people L
+
+Options:
+      --db <F>      The database file F
+      --people <L>  Import the people of the entry list L
+  -h, --help        Print help
+
+Exit status: 0 where the people were imported; 2 where the list is refused or denied; 3 where the list or the file can't
+be read or written, with `fault` on standard error and what to do.
+
+Example:
+  $ hall init --db hall.db --people examples/people.csv
+  added 6
+";
+
+const SERVE: &str = "\
+Serves the database file over HTTP on 127.0.0.1, one connection after another.
+
+The moment of a request is the system's. A connection has at most 1000 requests; one on which nothing arrives, or nothing
+is taken, for 10 seconds is ended, and the next is served.
+
+Usage: hall serve --db F --port N [--connections N]
+
+Options:
+      --db <F>           The database file F
+      --port <N>         Listen on port N of 127.0.0.1: 1 to 65535
+      --connections <N>  End after N connections: 1 to 1000000 [default: 1000000]
+  -h, --help             Print help
+
+Exit status: 0 after the last connection; 3 where the file can't be opened, the port not be listened on, or where no
+more connections come in, with `fault` on standard error and what to do.
+
+Example:
+  $ hall serve --db hall.db --port 8080
+";
+
+const REPLAY: &str = "\
+Answers recorded requests, beginning with the people of an entry list and nothing else.
+
+Reads records, each a line `@MOMENT LENGTH` and so many bytes of one HTTP/1.1 request. The moment is in seconds since
+1970. Writes the replies one after another. Where the list is none, it writes `refused` and the list's first fault, and
+where its people may not stand, `denied` and the rule; then it reads no record.
+
+Usage: hall replay --people L < FILE
+
+Options:
+      --people <L>  Import the people of the entry list L
+  -h, --help        Print help
+
+Exit status: 0 where the input is whole records and no more; 2 where it goes on with no whole record, or the list is
+refused or denied.
+
+Example:
+  $ hall replay --people examples/people.csv < examples/replay.txt
+";
+
+const TABLE: &str = "\
+Writes the table of a published round.
+
+Where there is no such round it writes `denied 4`, and where the round isn't published `denied 15`.
+
+Usage: hall table --db F --round R
+
+Options:
+      --db <F>     The database file F
+      --round <R>  The round's id R
+  -h, --help       Print help
+
+Exit status: 0 where the table was written; 2 where it is denied; 3 where the file can't be opened, with `fault` on
+standard error and what to do.
+
+Example:
+  $ hall table --db hall.db --round r1
+";
+
+/// The text of a page of help: what the command does, its options with their ranges and defaults, and an example.
+pub fn help_text(page: Page) -> &'static str
+    ensures { result.now ≡ help_text page }
+{
+    match page {
+        Page::Hall => HALL,
+        Page::Judge => JUDGE,
+        Page::Solve => SOLVE,
+        Page::Init => INIT,
+        Page::Serve => SERVE,
+        Page::Replay => REPLAY,
+        Page::Table => TABLE,
+    }
+}
