@@ -167,10 +167,10 @@ module _ {D H C : Type 0} (kept : D → H) (content : H → Content) (now_gives 
 
 module _ {H C : Type 0} (content : H → Content) (now_gives : C → Option ℕ → C → Type 0)
     (stream after wrote written : Option (List ℕ)) (h : H) (c : C) (i : H) (d : C) (failed fails broke breaks asked asks : ℕ)
-    where
-  pub handled_sane : (e : ServeEnd)
-      → IsHandled (answers content now_gives) now_gives stream after wrote written h c i d failed fails broke breaks asked asks e
-      → SaneThen Sane (content h) (content i)
-  handled_sane e handled =
-      runs_sane (content h) handled.exchanges (content i)
-      (session_runs content now_gives h c handled.exchanges i d handled.session)
+  where
+    pub handled_sane : (e : ServeEnd)
+        → IsHandled (answers content now_gives) now_gives stream after wrote written h c i d failed fails broke breaks asked asks e
+        → SaneThen Sane (content h) (content i)
+    handled_sane e handled =
+        runs_sane (content h) handled.exchanges (content i)
+        (session_runs content now_gives h c handled.exchanges i d handled.session)

@@ -173,10 +173,10 @@ module _ (board : Board) (kind : board.kind ≡ Nurikabe) (p : List (Option ℕ)
         large (Some label) e =
             many_cells (λ y. IsLabelled labels y label) (get_or sizes label 0) sized
             (λ y h.
-                let walk = island board kind p part labels r.components f s root y label e h in
-                let has = o.found label root numbered e in
-                let enough = group_has y label has.0 walk h has.1 in
-                (walk, let some = positive in omega arith))
+            let walk = island board kind p part labels r.components f s root y label e h in
+            let has = o.found label root numbered e in
+            let enough = group_has y label has.0 walk h has.1 in
+            (walk, let some = positive in omega arith))
             e (λ other h. subst (λ z. get_or sizes z 0 ≡ get_or sizes label 0) (one_label labels root label other e h) refl)
           where
             sized : HasCount (λ y. IsLabelled labels y label) (get_or sizes label 0)

@@ -83,7 +83,12 @@ pub(crate) fn answers_of<S: Alter>(
         (state S.Store conn.new)) result }
 {
     let _schema = conn.schema();
-    read(conn, alloc, ANSWERS_OF, params![entrant.as_str(), round.as_str()])
+    read(
+        conn,
+        alloc,
+        ANSWERS_OF,
+        params![entrant.as_str(), round.as_str()],
+    )
 }
 
 pub(crate) const ANSWERS_IN: &str =

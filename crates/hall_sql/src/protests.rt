@@ -80,7 +80,12 @@ pub(crate) fn protests_of<S: Alter>(
         (state S.Store conn.new)) result }
 {
     let _schema = conn.schema();
-    read(conn, alloc, PROTESTS_OF, params![entrant.as_str(), round.as_str()])
+    read(
+        conn,
+        alloc,
+        PROTESTS_OF,
+        params![entrant.as_str(), round.as_str()],
+    )
 }
 
 /// How many protests of the entrant in the round are kept.

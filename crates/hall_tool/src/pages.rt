@@ -84,8 +84,7 @@ fn hall_line<'a>(alloc: Global) -> Command<'a>
 fn judge_line<'a>(alloc: Global) -> Command<'a>
     ensures { app_of result ≡ line_of Page.Judge }
 {
-    Command::new(alloc, "judge")
-        .override_usage("hall judge < FILE")
+    Command::new(alloc, "judge").override_usage("hall judge < FILE")
 }
 
 fn solve_line<'a>(alloc: Global) -> Result<Command<'a>, AllocError>

@@ -21,7 +21,7 @@ loop-reach-preserved c =
     let none : (i : ℕ) → get_or new i 0 ≤ c.loop-reach.reach - 1 → get_or new i 0 ≤ c.greatest_within-reach.result = search rules in
     rw back (record {
       sources = AreSources-raised board c.args.labels.now c.args.sizes.now c.args.owners.now c.args.position.now.partial.now.places (IsMarked free) (c.loop-reach.reach - 1) old new
-      c.loop-reach.invariant.sources raised;
+          c.loop-reach.invariant.sources raised;
       falls = falls_below board.size (IsMarked free) new (c.loop-reach.reach - 1) c.greatest_within-reach.result falls none;
     })
 

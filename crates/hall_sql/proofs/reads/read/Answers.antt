@@ -23,12 +23,15 @@ pub returns-clause-read : goal.returns-clause-read
 returns-clause-read g c clean =
     let old = state g.S.Store c.args.conn.now in
     let opens = c.in_ok-rows.ensures.serves clean in
-    IfOk-weaker c.read_all.result _ _ (λ out reads. (opens, record {
-      served = c.ask.ensures.rested.follows.opened clean opens;
-      rows = c.in_ok-rows.rows.items;
-      reads = rw c.deref.ensures.value at reads;
-      shown = c.in_ok-rows.ensures.shown clean;
-    })) c.read_all.ensures.all
+    IfOk-weaker c.read_all.result _ _ (λ out reads. (
+      opens,
+      record {
+        served = c.ask.ensures.rested.follows.opened clean opens;
+        rows = c.in_ok-rows.rows.items;
+        reads = rw c.deref.ensures.value at reads;
+        shown = c.in_ok-rows.ensures.shown clean;
+      },
+    )) c.read_all.ensures.all
 
 pub returns-clause-cause : goal.returns-clause-cause
 returns-clause-cause g c clean =
