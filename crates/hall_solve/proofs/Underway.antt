@@ -1,5 +1,5 @@
 -- How far a search has come: what it found, and what is still ahead.
-use Rattle.std.proofs.Common.{◌≡◌, ◌≢◌, ◌↔◌, ◌⊎◌, ℕ, ◌+◌, ◌-◌, ◌<◌, ◌≤◌, List, [], Option, Some, None, length, get_or, set, refl, sym, ◌∙◌, ap, arith, subst, inl, inr}
+use Rattle.std.proofs.Common.{◌≡◌, ◌≢◌, ◌↔◌, ◌⊎◌, ℕ, ◌+◌, ◌-◌, ◌<◌, ◌≤◌, List, [], Option, Some, None, length, set, refl, sym, ◌∙◌, ap, arith, subst, inl, inr}
 use Rattle.std.specs.Prelude.{All}
 use Rattle.std.proofs.lemmas.Bool.{cases_eq}
 use Rattle.std.proofs.lemmas.List.{length-take}
@@ -11,7 +11,7 @@ use Rattle.hall_solve.specs.declared.visit.Visited.TheVariants.{Closed, Whole, O
 use Rattle.hall_solve.specs.Question.{Question, IsSame, IsFilling, IsPartial, IsHopeless, Extends, Solves, Narrows, open_places, plain_tree}
 use Rattle.hall_solve.specs.Answer.{IsTrueOf, OutcomeOf}
 use Rattle.hall_solve.specs.Trail.{Trailed, IsTrailed, Grows}
-use Rattle.hall_solve.specs.Choices.{AreMade, AwaitsTurn, InRange, IsAhead, SameBelow, visits_left, visits_ahead}
+use Rattle.hall_solve.specs.Choices.{AreMade, AwaitsTurn, IsAhead, SameBelow, visits_left, visits_ahead}
 use Rattle.hall_solve.specs.Visit.{IsVisit}
 use Rattle.hall_solve.proofs.Boards.{Solves-same, same_turned, IsPartial-set}
 use Rattle.hall_solve.proofs.Trees.{plain_tree-le, plain_tree-pos}

@@ -1,7 +1,7 @@
 //! The search over one board: a visit, then the next value of the newest choice that has one.
 ghost use Rattle.std.specs.Prelude.{◌≡◌, ◌≤◌, ◌<◌, ◌+◌, ◌↔◌, ◌⊎◌, ℕ, false, List, None, Some, IfOk, IsTrue};
 ghost use Rattle.std.specs.Prelude.{length, slice_index_or, slice_set};
-ghost use Rattle.hall_solve.specs.Question.{IsPartial, IsFilling, IsSame, IsOpen, plain_tree, open_places};
+ghost use Rattle.hall_solve.specs.Question.{IsPartial, IsFilling, IsHopeless, IsSame, IsOpen, plain_tree, open_places};
 ghost use Rattle.hall_solve.specs.Answer.{OutcomeOf, fewest_visits};
 ghost use Rattle.hall_solve.specs.Trail.{IsTrailed};
 ghost use Rattle.hall_solve.specs.Choices.{AreMade, AwaitsTurn, InRange, IsAhead, visits_left, visits_ahead};
@@ -46,7 +46,7 @@ pub fn search<R: Rules>(
         match visit(alloc, rules, &mut board)? {
             Visited::Open(place) => {
                 descend(&mut board, &mut stack, place)?;
-                if !rules.refuses(&board, place) {
+                if !is_refused(rules, &board, &stack) {
                     continue;
                 }
             }
@@ -119,12 +119,23 @@ fn turn<R: Rules>(rules: &R, board: &mut Partial, stack: &mut Vec<Choice>) -> bo
     ensures trailed { IsTrue result → IsTrailed board.new }
 {
     'turning: while advance(board, stack, rules.values()) {
-        match stack.last() {
-            Some(choice) if rules.refuses(board, choice.place) => {}
-            _ => return true,
+        if !is_refused(rules, board, stack) {
+            return true;
         }
     }
     false
+}
+
+/// Whether the rules refuse the value of the newest choice.
+fn is_refused<R: Rules>(rules: &R, board: &Partial, stack: &[Choice]) -> bool
+    requires partial { IsPartial (R.question rules.now) board.now.places }
+    requires made { AreMade board.now stack.now }
+    ensures hopeless { IsTrue result → IsHopeless (R.question rules.now) board.now.places }
+{
+    match stack.last() {
+        Some(choice) => rules.refuses(board, choice.place),
+        None => false,
+    }
 }
 
 /// Goes to the next value of the newest choice that has one.

@@ -6,7 +6,7 @@ use Rattle.hall_solve.specs.Visit.{IsVisit}
 use Rattle.hall_solve.proofs.Boards.{same_twice}
 use Rattle.hall_solve.proofs.Underway.{IsEnded, AreMade-grows, answer_of, opened_after, turned_among, turning_after, outcome_all, gave_up}
 use Rattle.hall_solve.proofs.explore.search.Goals as goal
-use Rattle.hall_solve.proofs.explore.search.Goals.{in-Open+in_ok-descend-in-Open+else-not-refuses, in-Closed, in-Whole+in-None, in-None-found, in-Some-found}
+use Rattle.hall_solve.proofs.explore.search.Goals.{in-Open+in_ok-descend-in-Open+else-not-is_refused, in-Closed, in-Whole+in-None, in-None-found, in-Some-found}
 
 pub descend-requires-clause-made : goal.descend-requires-clause-made
 descend-requires-clause-made g c =
@@ -15,8 +15,8 @@ descend-requires-clause-made g c =
     let open_there : IsVisit (g.R.Rules.question c.visiting.rules) c.visiting.board c.visit.new.partial (Open c.in-Open.place) = subst (λ (v : Visited). IsVisit (g.R.Rules.question c.visiting.rules) c.visiting.board c.visit.new.partial v) c.in-Open.is c.in_ok-place.ensures.visit in
     AreMade-grows q c.args.start.now.places c.visiting.board c.visiting.stack.items 0 c.visit.new.partial u.trailed open_there.1 u.made
 
-pub visiting-preserved-then-not-refuses : goal.visiting-preserved-then-not-refuses
-visiting-preserved-then-not-refuses g c =
+pub visiting-preserved-then-not-is_refused : goal.visiting-preserved-then-not-is_refused
+visiting-preserved-then-not-is_refused g c =
     let q = g.R.Rules.question c.args.rules.now in
     let r = g.R.Rules.question c.visiting.rules in
     let b = c.visiting.board in
@@ -50,7 +50,7 @@ turn-requires g c =
     let ended : IsEnded s c.visit.new.partial c.visiting.stack.items c.visiting.found m rest found c.in_ok-place.field-0 = elim c.match-branch-4.branch [
       | in-Closed w ↦ inl (inl (w.in-Closed.is, w.found-is), w.board-is, rw w.stack-is refl)
       | in-Whole+in-None w ↦ inl (inr (w.in-Whole.filling, w.in-Whole.is, w.in-None.ensures.value, w.found-is), w.board-is, rw w.stack-is refl)
-      | in-Open+in_ok-descend-in-Open+else-not-refuses w ↦ inr (
+      | in-Open+in_ok-descend-in-Open+else-not-is_refused w ↦ inr (
         rw (w.board-is, w.stack-is) (let after = w.in_ok-descend-in-Open.ensures in record {
           place = w.in-Open.place;
           is = w.in-Open.is;
@@ -59,7 +59,7 @@ turn-requires g c =
           trailed = after.trailed;
           ahead = after.ahead;
           paid = after.paid;
-          hopeless = w.refuses.ensures.hopeless cc;
+          hopeless = w.is_refused.ensures.hopeless cc;
         }),
         w.found-is,
       )
@@ -80,7 +80,7 @@ returns-then-not-turn-clause-outcome g c =
     let ended : IsEnded s c.visit.new.partial c.visiting.stack.items c.visiting.found m rest found c.in_ok-place.field-0 = elim c.match-branch-4.branch [
       | in-Closed w ↦ inl (inl (w.in-Closed.is, w.found-is), w.board-is, rw w.stack-is refl)
       | in-Whole+in-None w ↦ inl (inr (w.in-Whole.filling, w.in-Whole.is, w.in-None.ensures.value, w.found-is), w.board-is, rw w.stack-is refl)
-      | in-Open+in_ok-descend-in-Open+else-not-refuses w ↦ inr (
+      | in-Open+in_ok-descend-in-Open+else-not-is_refused w ↦ inr (
         rw (w.board-is, w.stack-is) (let after = w.in_ok-descend-in-Open.ensures in record {
           place = w.in-Open.place;
           is = w.in-Open.is;
@@ -89,7 +89,7 @@ returns-then-not-turn-clause-outcome g c =
           trailed = after.trailed;
           ahead = after.ahead;
           paid = after.paid;
-          hopeless = w.refuses.ensures.hopeless cc;
+          hopeless = w.is_refused.ensures.hopeless cc;
         }),
         w.found-is,
       )
@@ -121,7 +121,7 @@ visiting-preserved g c =
     let ended : IsEnded s c.visit.new.partial c.visiting.stack.items c.visiting.found m rest found c.in_ok-place.field-0 = elim c.match-branch-4.branch [
       | in-Closed w ↦ inl (inl (w.in-Closed.is, w.found-is), w.board-is, rw w.stack-is refl)
       | in-Whole+in-None w ↦ inl (inr (w.in-Whole.filling, w.in-Whole.is, w.in-None.ensures.value, w.found-is), w.board-is, rw w.stack-is refl)
-      | in-Open+in_ok-descend-in-Open+else-not-refuses w ↦ inr (
+      | in-Open+in_ok-descend-in-Open+else-not-is_refused w ↦ inr (
         rw (w.board-is, w.stack-is) (let after = w.in_ok-descend-in-Open.ensures in record {
           place = w.in-Open.place;
           is = w.in-Open.is;
@@ -130,7 +130,7 @@ visiting-preserved g c =
           trailed = after.trailed;
           ahead = after.ahead;
           paid = after.paid;
-          hopeless = w.refuses.ensures.hopeless cc;
+          hopeless = w.is_refused.ensures.hopeless cc;
         }),
         w.found-is,
       )

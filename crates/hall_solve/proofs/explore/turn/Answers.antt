@@ -1,6 +1,6 @@
 use Rattle.std.proofs.Common.{◌≡◌, ℕ, ◌-◌, ◌<◌, ◌≤◌, List, Option, length, arith, refl, ◌∙◌, ap, subst, inl, inr}
 use Rattle.hall_solve.specs.declared.choice.Choice.{Choice}
-use Rattle.hall_solve.specs.Question.{Question, IsPartial, IsFilling}
+use Rattle.hall_solve.specs.Question.{Question, IsPartial, IsFilling, IsHopeless}
 use Rattle.hall_solve.specs.Trail.{Trailed}
 use Rattle.hall_solve.specs.Choices.{InRange, visits_left, visits_ahead}
 use Rattle.hall_solve.proofs.Trees.{plain_tree-pos}
@@ -28,6 +28,7 @@ turning-preserved g c =
     let after = c.advance.ensures in
     let on = c.turning-test.true in
     let n = c.advance.new.board in
+    let hopeless : IsHopeless q n.places = c.is_refused.ensures.hopeless cc in
     let within = λ (f : List ℕ) (h : IsFilling q f). range q c.turning.board.places c.values.result f before.partial c.values.ensures h in
     record {
       partial = record { size = after.size ∙ before.partial.size; in_range = λ i v h. elim (after.values on i v h) [ inl old ↦ before.partial.in_range i v old | inr small ↦ rw (← c.values.ensures) small ] };
@@ -35,7 +36,7 @@ turning-preserved g c =
       size = after.size ∙ before.size;
       waited = λ f h w. before.waited f h ((after.ahead on f (within f h)).1 (inr w));
       waits = λ f h right w. elim ((after.ahead on f (within f h)).0 (before.waits f h right w)) [
-        | inl e ↦ absurd (c.refuses.ensures.hopeless c.if-refuses.true f (record { filling = h; extends = e; right = right }))
+        | inl e ↦ absurd (hopeless f (record { filling = h; extends = e; right = right }))
         | inr later ↦ later
       ];
       paid =
@@ -43,8 +44,8 @@ turning-preserved g c =
           omega (arith, less, before.paid);
     }
 
-pub returns-in_default-clause-waited : goal.returns-in_default-clause-waited
-returns-in_default-clause-waited g c = λ yes f h a.
+pub returns-then-not-is_refused-clause-waited : goal.returns-then-not-is_refused-clause-waited
+returns-then-not-is_refused-clause-waited g c = λ yes f h a.
     let q = g.R.Rules.question c.args.rules.now in
     let before = c.turning.invariant in
     before.waited f h ((c.advance.ensures.ahead c.turning-test.true f (range q c.turning.board.places c.values.result f before.partial c.values.ensures h)).1 a)
