@@ -1,5 +1,5 @@
 -- How far a search has come: what it found, and what is still ahead.
-use Rattle.std.proofs.Common.{◌≡◌, ◌≢◌, ◌↔◌, ◌⊎◌, ℕ, ◌+◌, ◌-◌, ◌<◌, ◌≤◌, List, [], Option, Some, None, length, get_or, set, refl, sym, ◌∙◌, ap, arith, subst, inl, inr}
+use Rattle.std.proofs.Common.{◌≡◌, ◌≢◌, ◌↔◌, ◌⊎◌, ℕ, ◌+◌, ◌-◌, ◌<◌, ◌≤◌, List, [], Option, Some, None, length, set, refl, sym, ◌∙◌, ap, arith, subst, inl, inr}
 use Rattle.std.specs.Prelude.{All}
 use Rattle.std.proofs.lemmas.Bool.{cases_eq}
 use Rattle.std.proofs.lemmas.List.{length-take}
@@ -11,7 +11,7 @@ use Rattle.hall_solve.specs.declared.visit.Visited.TheVariants.{Closed, Whole, O
 use Rattle.hall_solve.specs.Question.{Question, IsSame, IsFilling, IsPartial, IsHopeless, Extends, Solves, Narrows, open_places, plain_tree}
 use Rattle.hall_solve.specs.Answer.{IsTrueOf, OutcomeOf}
 use Rattle.hall_solve.specs.Trail.{Trailed, IsTrailed, Grows}
-use Rattle.hall_solve.specs.Choices.{AreMade, AwaitsTurn, InRange, IsAhead, SameBelow, visits_left, visits_ahead}
+use Rattle.hall_solve.specs.Choices.{AreMade, AwaitsTurn, IsAhead, SameBelow, visits_left, visits_ahead}
 use Rattle.hall_solve.specs.Visit.{IsVisit}
 use Rattle.hall_solve.proofs.Boards.{Solves-same, same_turned, IsPartial-set}
 use Rattle.hall_solve.proofs.Trees.{plain_tree-le, plain_tree-pos}
@@ -31,6 +31,7 @@ pub record IsUnderWay (q : Question) (start : List (Option ℕ)) (b : Trailed) (
 -- after a visit below which nothing is left
 pub record IsTurning (q : Question) (start : List (Option ℕ)) (b : Trailed) (stack : List Choice) (got : Option (List ℕ)) (visits : ℕ) : Type 0 where
   pub partial : IsPartial q b.places
+  pub made : AreMade b stack
   pub solutions : (f : List ℕ) → Solves q start f → (got ≡ Some f) ⊎ AwaitsTurn b stack f
   pub found : (f : List ℕ) → got ≡ Some f → Solves q start f × (AwaitsTurn b stack f → ⊥) × (stack ≢ [] → 2 ≤ visits)
   pub ahead : (f : List ℕ) → IsFilling q f → AwaitsTurn b stack f → Extends f start
@@ -72,6 +73,7 @@ module _ (q : Question) (start : List (Option ℕ)) (b : Trailed) (stack : List 
   pub closed_turning : (got : Option (List ℕ)) → IsUnderWay q start b stack got visits → IsHopeless q b.places → IsTurning q start b stack got (visits + 1)
   closed_turning got u none = record {
     partial = u.partial;
+    made = u.made;
     solutions = λ f s. elim (u.solutions f s) [ inl e ↦ inl e | inr a ↦ elim a [ inl e ↦ absurd (none f (again got u f s e)) | inr w ↦ inr w ] ];
     found = λ f e. let h = u.found f e in (h.0, λ w. h.1 (inr w), λ more. omega (arith, h.2));
     ahead = λ f s w. u.ahead f s (inr w);
@@ -79,9 +81,22 @@ module _ (q : Question) (start : List (Option ℕ)) (b : Trailed) (stack : List 
     visited = omega arith;
   }
 
+  -- a board that was refused is not visited
+  pub refused_turning : (got : Option (List ℕ)) → IsUnderWay q start b stack got visits → IsHopeless q b.places → 0 < visits → IsTurning q start b stack got visits
+  refused_turning got u none some = record {
+    partial = u.partial;
+    made = u.made;
+    solutions = λ f s. elim (u.solutions f s) [ inl e ↦ inl e | inr a ↦ elim a [ inl e ↦ absurd (none f (again got u f s e)) | inr w ↦ inr w ] ];
+    found = λ f e. let h = u.found f e in (h.0, λ w. h.1 (inr w), λ more. h.2);
+    ahead = λ f s w. u.ahead f s (inr w);
+    paid = omega (arith, u.paid);
+    visited = some;
+  }
+
   pub whole_turning : (g : List ℕ) → IsUnderWay q start b stack None visits → Solves q b.places g → ((f : List ℕ) → Solves q b.places f → f ≡ g) → IsTurning q start b stack (Some g) (visits + 1)
   whole_turning g u s one = record {
     partial = u.partial;
+    made = u.made;
     solutions = λ f t. elim (u.solutions f t) [ inl e ↦ absurd (no f e) | inr a ↦ elim a [ inl e ↦ inl (ap Some (sym (one f (again None u f t e)))) | inr w ↦ inr w ] ];
     found = λ f e.
         let same : g ≡ f = cc in
@@ -107,26 +122,23 @@ module _ (q : Question) (start : List (Option ℕ)) (b : Trailed) (stack : List 
   pub gave_up : (got : Option (List ℕ)) → IsUnderWay q start b stack got visits → visits < plain_tree q.values (open_places start)
   gave_up got u = omega (arith, u.paid, plain_tree-pos q.values (length b.places - length b.trail))
 
-  range : (f : List ℕ) → IsPartial q b.places → IsFilling q f → InRange (length b.places) q.values f
-  range f p s i h = s.in_range i (omega (arith, h, p.size))
-
   -- every choice was tried to its end
-  pub all_found : (got : Option (List ℕ)) → IsTurning q start b stack got visits → ((f : List ℕ) → InRange (length b.places) q.values f → AwaitsTurn b stack f → ⊥) → IsTrueOf (Solves q start) (answer_of got)
-  all_found None t over = λ f s. elim (t.solutions f s) [ inl e ↦ absurd cc | inr w ↦ over f (range f t.partial s.filling) w ]
+  pub all_found : (got : Option (List ℕ)) → IsTurning q start b stack got visits → ((f : List ℕ) → IsFilling q f → q.right f → AwaitsTurn b stack f → ⊥) → IsTrueOf (Solves q start) (answer_of got)
+  all_found None t over = λ f s. elim (t.solutions f s) [ inl e ↦ absurd cc | inr w ↦ over f s.filling s.right w ]
   all_found (Some g) t over = (
     (t.found g refl).0,
-    λ f s. elim (t.solutions f s) [ inl e ↦ (let same : Some g ≡ Some f = e in cc) | inr w ↦ absurd (over f (range f t.partial s.filling) w) ],
+    λ f s. elim (t.solutions f s) [ inl e ↦ (let same : Some g ≡ Some f = e in cc) | inr w ↦ absurd (over f s.filling s.right w) ],
   )
 
   -- a choice has a next value
-  pub turned : (got : Option (List ℕ)) (n : Trailed) (rest : List Choice) → IsTurning q start b stack got visits → AreMade n rest → IsTrailed n → length n.places ≡ length b.places → ((i v : ℕ) → get_or n.places i None ≡ Some v → (get_or b.places i None ≡ Some v) ⊎ (v < q.values)) → ((f : List ℕ) → InRange (length b.places) q.values f → AwaitsTurn b stack f ↔ IsAhead n rest f) → visits_ahead q.values n rest ≤ visits_left (length b.places) q.values stack → IsUnderWay q start n rest got visits
-  turned got n rest t made trailed size values next paid = record {
-    partial = record { size = size ∙ t.partial.size; in_range = λ i v h. elim (values i v h) [ inl old ↦ t.partial.in_range i v old | inr small ↦ small ] };
+  pub turned : (got : Option (List ℕ)) (n : Trailed) (rest : List Choice) → IsTurning q start b stack got visits → IsPartial q n.places → AreMade n rest → IsTrailed n → ((f : List ℕ) → IsFilling q f → q.right f → AwaitsTurn b stack f → IsAhead n rest f) → ((f : List ℕ) → IsFilling q f → IsAhead n rest f → AwaitsTurn b stack f) → visits_ahead q.values n rest ≤ visits_left (length b.places) q.values stack → IsUnderWay q start n rest got visits
+  turned got n rest t partial made trailed next waited paid = record {
+    partial = partial;
     trailed = trailed;
     made = made;
-    solutions = λ f s. elim (t.solutions f s) [ inl e ↦ inl e | inr w ↦ inr ((next f (range f t.partial s.filling)).0 w) ];
-    found = λ f e. let h = t.found f e in (h.0, λ a. h.1 ((next f (range f t.partial h.0.filling)).1 a), h.2 (λ none. some none));
-    ahead = λ f s a. t.ahead f s ((next f (range f t.partial s)).1 a);
+    solutions = λ f s. elim (t.solutions f s) [ inl e ↦ inl e | inr w ↦ inr (next f s.filling s.right w) ];
+    found = λ f e. let h = t.found f e in (h.0, λ a. h.1 (waited f h.0.filling a), h.2 (λ none. some none));
+    ahead = λ f s a. t.ahead f s (waited f s a);
     paid = omega (arith, t.paid);
     begun = λ e. absurd (omega (arith, t.visited));
   }
@@ -185,22 +197,51 @@ module _ (q : Question) (start : List (Option ℕ)) (b : Trailed) (stack : List 
       same_left : visits_left (length n.places) q.values stack ≡ visits_left (length b.places) q.values stack
       same_left = ap (λ k. visits_left k q.values stack) g.size
 
--- a choice has a next value, told with the number of values by another name
-pub turned_among : (q : Question) (start : List (Option ℕ)) (b : Trailed) (stack : List Choice) (visits k : ℕ) (got : Option (List ℕ)) (n : Trailed) (rest : List Choice) → k ≡ q.values → IsTurning q start b stack got visits → AreMade n rest → IsTrailed n → length n.places ≡ length b.places → ((i v : ℕ) → get_or n.places i None ≡ Some v → (get_or b.places i None ≡ Some v) ⊎ (v < k)) → ((f : List ℕ) → InRange (length b.places) k f → AwaitsTurn b stack f ↔ IsAhead n rest f) → visits_ahead k n rest ≤ visits_left (length b.places) k stack → IsUnderWay q start n rest got visits
-turned_among q start b stack visits k got n rest e t made trailed size values next paid =
-    turned q start b stack visits got n rest t made trailed size
-    (subst (λ (x : ℕ). (i v : ℕ) → get_or n.places i None ≡ Some v → (get_or b.places i None ≡ Some v) ⊎ (v < x)) e values)
-    (subst (λ (x : ℕ). (f : List ℕ) → InRange (length b.places) x f → AwaitsTurn b stack f ↔ IsAhead n rest f) e next)
-    (subst (λ (x : ℕ). visits_ahead x n rest ≤ visits_left (length b.places) x stack) e paid)
+IsFilling-same : (q r : Question) (f : List ℕ) → IsSame q r → IsFilling q f → IsFilling r f
+IsFilling-same q r f e h = record { size = h.size ∙ sym e.cells; in_range = λ i lt. rw e.values (h.in_range i (omega (arith, lt, e.cells))) }
+
+-- a place is open, told of a question that asks the same
+pub opened_after : (q r : Question) (start : List (Option ℕ)) (b : Trailed) (stack : List Choice) (visits after : ℕ) (got : Option (List ℕ)) (n m : Trailed) (rest : List Choice) (place : ℕ) → IsSame q r → IsUnderWay q start b stack got visits → IsVisit r b n (Open place) → after ≡ visits + 1 → m.places ≡ set n.places place (Some 0) → AreMade m rest → IsTrailed m → ((f : List ℕ) → IsAhead n stack f ↔ IsAhead m rest f) → ((k : ℕ) → 0 < k → visits_ahead k m rest + 1 ≡ visits_ahead k n stack) → IsUnderWay q start m rest got after
+opened_after q r start b stack visits after got n m rest place same u visit count places made trailed next paid =
+    let h = IsVisit-same q r b n (Open place) same visit in
+    subst (λ (k : ℕ). IsUnderWay q start m rest got k) (sym count)
+    (opened q start b stack visits got n m rest place u h.0.0 h.1 h.0.1.0 h.0.2 places made trailed next (paid q.values h.0.2))
+
+-- a choice has a next value, told of a question that asks the same
+pub turned_among : (q r : Question) (start : List (Option ℕ)) (b : Trailed) (stack : List Choice) (visits : ℕ) (got : Option (List ℕ)) (n : Trailed) (rest : List Choice) → IsSame q r → IsTurning q start b stack got visits → IsPartial r n.places → AreMade n rest → IsTrailed n → ((f : List ℕ) → IsFilling r f → r.right f → AwaitsTurn b stack f → IsAhead n rest f) → ((f : List ℕ) → IsFilling r f → IsAhead n rest f → AwaitsTurn b stack f) → visits_ahead r.values n rest ≤ visits_left (length b.places) r.values stack → IsUnderWay q start n rest got visits
+turned_among q r start b stack visits got n rest e t partial made trailed next waited paid =
+    turned q start b stack visits got n rest t
+    (record { size = partial.size ∙ e.cells; in_range = λ i v at. rw (sym e.values) (partial.in_range i v at) })
+    made trailed
+    (λ f filling right. next f (IsFilling-same q r f e filling) ((e.right f).1 right))
+    (λ f filling. waited f (IsFilling-same q r f e filling))
+    (subst (λ (x : ℕ). visits_ahead x n rest ≤ visits_left (length b.places) x stack) e.values paid)
 
 -- nothing awaits its turn: the answer
-pub outcome_all : (q : Question) (start : List (Option ℕ)) (b : Trailed) (stack : List Choice) (visits k budget : ℕ) (got : Option (List ℕ)) (o : Outcome) → k ≡ q.values → IsTurning q start b stack got visits → ((f : List ℕ) → InRange (length b.places) k f → AwaitsTurn b stack f → ⊥) → o ≡ answer_of got → visits ≤ budget → OutcomeOf q start budget o
-outcome_all q start b stack visits k budget got o e t over is le =
-    subst (λ (x : Outcome). OutcomeOf q start budget x) (sym is) (told got (all_found q start b stack visits got t (subst (λ (x : ℕ). (f : List ℕ) → InRange (length b.places) x f → AwaitsTurn b stack f → ⊥) e over)))
+pub outcome_all : (q r : Question) (start : List (Option ℕ)) (b : Trailed) (stack : List Choice) (visits budget : ℕ) (got : Option (List ℕ)) (o : Outcome) → IsSame q r → IsTurning q start b stack got visits → ((f : List ℕ) → IsFilling r f → r.right f → AwaitsTurn b stack f → ⊥) → o ≡ answer_of got → visits ≤ budget → OutcomeOf q start budget o
+outcome_all q r start b stack visits budget got o e t over is le =
+    subst (λ (x : Outcome). OutcomeOf q start budget x) (sym is) (told got (all_found q start b stack visits got t (λ f filling right. over f (IsFilling-same q r f e filling) ((e.right f).1 right))))
   where
     told : (g : Option (List ℕ)) → IsTrueOf (Solves q start) (answer_of g) → OutcomeOf q start budget (answer_of g)
     told None h = record { answer = h; gives_up_late = λ (eq : Nothing ≡ GaveUp). absurd cc; within_budget = omega (arith, t.visited) }
     told (Some f) h = record { answer = h; gives_up_late = λ (eq : One f ≡ GaveUp). absurd cc; within_budget = omega (arith, t.visited) }
+
+-- the visit left a place open, whose first value was chosen and refused
+pub record IsRefused (q : Question) (n : Trailed) (stack : List Choice) (m : Trailed) (rest : List Choice) (v : Visited) : Type 0 where
+  pub place : ℕ
+  pub is : v ≡ Open place
+  pub places : m.places ≡ set n.places place (Some 0)
+  pub made : AreMade m rest
+  pub trailed : IsTrailed m
+  pub ahead : (f : List ℕ) → IsAhead n stack f ↔ IsAhead m rest f
+  pub paid : (k : ℕ) → 0 < k → visits_ahead k m rest + 1 ≡ visits_ahead k n stack
+  pub hopeless : IsHopeless q m.places
+
+-- after the visit nothing is left below the board: it was closed, it was whole and the first such, or its first value was refused
+abbrev pub IsEnded : Question → Trailed → List Choice → Option (List ℕ) → Trailed → List Choice → Option (List ℕ) → Visited → Type 0
+IsEnded q n stack old m rest new v =
+    (((v ≡ Closed) × (new ≡ old)) ⊎ ((g : List ℕ) × (v ≡ Whole g) × (None ≡ old) × (new ≡ Some g))) × (m ≡ n) × (rest ≡ stack)
+    ⊎ IsRefused q n stack m rest v × (new ≡ old)
 
 -- what a visit closed, or the first that it found
 pub turning_of : (q r : Question) (start : List (Option ℕ)) (b n : Trailed) (stack : List Choice) (visits after : ℕ) (v : Visited) (old new : Option (List ℕ)) → IsSame q r → IsUnderWay q start b stack old visits → IsVisit r b n v → after ≡ visits + 1 → ((v ≡ Closed) × (new ≡ old)) ⊎ ((g : List ℕ) × (v ≡ Whole g) × (None ≡ old) × (new ≡ Some g)) → IsTurning q start n stack new after
@@ -210,3 +251,10 @@ turning_of q r start b n stack visits after v old new same u h count (inl e) =
 turning_of q r start b n stack visits after v old new same u h count (inr w) =
     let whole : IsVisit q b n (Whole w.0) = subst (λ (x : Visited). IsVisit q b n x) w.1 (IsVisit-same q r b n v same h) in
     rw (whole.1, w.3, count) (whole_turning q start b stack visits w.0 (subst (λ (o : Option (List ℕ)). IsUnderWay q start b stack o visits) (sym w.2) u) whole.0.0 whole.0.1)
+
+-- whichever way nothing is left below the board
+pub turning_after : (q r s : Question) (start : List (Option ℕ)) (b n : Trailed) (stack : List Choice) (visits after : ℕ) (v : Visited) (old : Option (List ℕ)) (m : Trailed) (rest : List Choice) (new : Option (List ℕ)) → IsSame q r → IsSame q s → IsUnderWay q start b stack old visits → IsVisit r b n v → after ≡ visits + 1 → IsEnded s n stack old m rest new v → IsTurning q start m rest new after
+turning_after q r s start b n stack visits after v old m rest new same same_after u h count (inl e) = rw (e.1, e.2) (turning_of q r start b n stack visits after v old new same u h count e.0)
+turning_after q r s start b n stack visits after v old m rest new same same_after u h count (inr e) =
+    let under_way = opened_after q r start b stack visits after old n m rest e.0.place same u (subst (λ (x : Visited). IsVisit r b n x) e.0.is h) count e.0.places e.0.made e.0.trailed e.0.ahead e.0.paid in
+    rw e.1 (refused_turning q start m rest after old under_way (λ f t. e.0.hopeless f (Solves-same q s m.places f same_after t)) (omega (arith, count)))

@@ -1,7 +1,7 @@
 //! The search over one board: a visit, then the next value of the newest choice that has one.
 ghost use Rattle.std.specs.Prelude.{◌≡◌, ◌≤◌, ◌<◌, ◌+◌, ◌↔◌, ◌⊎◌, ℕ, false, List, None, Some, IfOk, IsTrue};
 ghost use Rattle.std.specs.Prelude.{length, slice_index_or, slice_set};
-ghost use Rattle.hall_solve.specs.Question.{IsPartial, IsSame, IsOpen, plain_tree, open_places};
+ghost use Rattle.hall_solve.specs.Question.{IsPartial, IsFilling, IsHopeless, IsSame, IsOpen, plain_tree, open_places};
 ghost use Rattle.hall_solve.specs.Answer.{OutcomeOf, fewest_visits};
 ghost use Rattle.hall_solve.specs.Trail.{IsTrailed};
 ghost use Rattle.hall_solve.specs.Choices.{AreMade, AwaitsTurn, InRange, IsAhead, visits_left, visits_ahead};
@@ -46,7 +46,9 @@ pub fn search<R: Rules>(
         match visit(alloc, rules, &mut board)? {
             Visited::Open(place) => {
                 descend(&mut board, &mut stack, place)?;
-                continue;
+                if !is_refused(rules, &board, &stack) {
+                    continue;
+                }
             }
             Visited::Closed => {}
             Visited::Whole(filling) => match found.take() {
@@ -54,7 +56,7 @@ pub fn search<R: Rules>(
                 Some(first) => return Ok(Outcome::More(first, filling)),
             },
         }
-        if !advance(&mut board, &mut stack, rules.values()) {
+        if !turn(rules, &mut board, &mut stack) {
             return Ok(match found {
                 None => Outcome::None,
                 Some(filling) => Outcome::One(filling),
@@ -98,6 +100,42 @@ fn descend(board: &mut Partial, stack: &mut Vec<Choice>, place: usize) -> Result
         value: 0,
     })?;
     Ok(())
+}
+
+/// Goes to the next value of the newest choice that has one, past those that the rules refuse.
+fn turn<R: Rules>(rules: &R, board: &mut Partial, stack: &mut Vec<Choice>) -> bool
+    requires partial { IsPartial (R.question rules.now) board.old.places }
+    requires made { AreMade board.old stack.old.items }
+    ensures made { IsTrue result → AreMade board.new stack.new.items }
+    ensures waited { IsTrue result → (f : List ℕ) → IsFilling (R.question rules.now) f
+        → IsAhead board.new stack.new.items f → AwaitsTurn board.old stack.old.items f }
+    ensures ahead { IsTrue result → (f : List ℕ) → IsFilling (R.question rules.now) f → (R.question rules.now).right f
+        → AwaitsTurn board.old stack.old.items f → IsAhead board.new stack.new.items f }
+    ensures paid { IsTrue result → visits_ahead (R.question rules.now).values board.new stack.new.items
+        ≤ visits_left (length board.old.places) (R.question rules.now).values stack.old.items }
+    ensures over { result ≡ false → (f : List ℕ) → IsFilling (R.question rules.now) f
+        → (R.question rules.now).right f → AwaitsTurn board.old stack.old.items f → ⊥ }
+    ensures partial { IsTrue result → IsPartial (R.question rules.now) board.new.places }
+    ensures trailed { IsTrue result → IsTrailed board.new }
+{
+    'turning: while advance(board, stack, rules.values()) {
+        if !is_refused(rules, board, stack) {
+            return true;
+        }
+    }
+    false
+}
+
+/// Whether the rules refuse the value of the newest choice.
+fn is_refused<R: Rules>(rules: &R, board: &Partial, stack: &[Choice]) -> bool
+    requires partial { IsPartial (R.question rules.now) board.now.places }
+    requires made { AreMade board.now stack.now }
+    ensures hopeless { IsTrue result → IsHopeless (R.question rules.now) board.now.places }
+{
+    match stack.last() {
+        Some(choice) => rules.refuses(board, choice.place),
+        None => false,
+    }
 }
 
 /// Goes to the next value of the newest choice that has one.

@@ -1,5 +1,5 @@
 //! What a kind of puzzle tells a search.
-ghost use Rattle.std.specs.Prelude.{◌≡◌, ◌↔◌, ℕ, ◌+◌, ◌-◌, ◌^◌, ◌<◌, List, Option, IfOk, OnErr, IfSome, IfNone, IsTrue};
+ghost use Rattle.std.specs.Prelude.{◌≡◌, ◌↔◌, ℕ, ◌+◌, ◌-◌, ◌^◌, ◌<◌, List, Option, IfOk, OnErr, IfSome, IfNone, IsTrue, length};
 ghost use Rattle.hall_solve.specs.Question.{Question, IsSame, IsFilling, IsPartial};
 ghost use Rattle.hall_solve.specs.Question.{IsHopeless, IsOpen, IsWhole, Narrows};
 ghost use Rattle.hall_solve.specs.Trail.{Grows};
@@ -83,5 +83,16 @@ pub trait Rules {
         ensures whole { IfNone result (IsWhole partial.now.places) }
     {
         partial.first_unset()
+    }
+
+    /// Whether it sees at once that the value at the place can't stand, so that no visit is needed to tell.
+    ///
+    /// A `true` is sure. A kind that doesn't give it has every value visited.
+    fn refuses(&self, partial: &Partial, place: usize) -> bool
+        requires partial { IsPartial (question self.now) partial.now.places }
+        requires place { place < length partial.now.places }
+        ensures hopeless { IsTrue result → IsHopeless (question self.now) partial.now.places }
+    {
+        false
     }
 }

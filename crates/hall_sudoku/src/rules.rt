@@ -8,6 +8,7 @@ ghost use Rattle.hall_solve.specs.Question.{IsPartial, IsOpen, IsWhole};
 use crate::candidates::{candidates, fewest};
 use crate::judge::broken;
 use crate::narrow::narrow;
+use crate::rival::has_rival;
 use crate::units::{Room, Units};
 use hall_grid::{Clue, Filling, Kind, Puzzle};
 use hall_solve::{Partial, Rules, Step, settle};
@@ -98,6 +99,10 @@ impl<'a> Rules for SudokuRules<'a> {
             Room::Sixteen => place_in::<256>(&self.units, partial),
             Room::Most => place_in::<625>(&self.units, partial),
         }
+    }
+
+    fn refuses(&self, partial: &Partial, place: usize) -> bool {
+        has_rival(&self.units, partial, place)
     }
 }
 

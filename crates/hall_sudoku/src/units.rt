@@ -1,9 +1,9 @@
 //! The units of all cells of a board, as tables.
-ghost use Rattle.std.specs.Prelude.{◌≡◌, ◌<◌, ◌≤◌, ℕ, IfOk, length, slice_index};
+ghost use Rattle.std.specs.Prelude.{◌≡◌, ◌↔◌, ◌<◌, ◌≤◌, ℕ, IfOk, IsTrue, length, slice_index};
 ghost use Rattle.hall_grid.specs.Board.{cells, row, col, HasSize};
 ghost use Rattle.hall_grid.specs.Sudoku.{box};
 ghost use Rattle.hall_sudoku.specs.Unit.{unit_of};
-ghost use Rattle.hall_sudoku.specs.Units.{IsDivision, room_of};
+ghost use Rattle.hall_sudoku.specs.Units.{IsDivision, Share, room_of};
 
 use crate::unit::{Unit, unit_of};
 use hall_grid::{Kind, Size};
@@ -153,6 +153,8 @@ impl Units {
     pub(crate) fn share(&self, cell: usize, other: usize) -> bool
         requires cell { cell < cells self.now }
         requires other { other < cells self.now }
+        ensures share { IsTrue result ↔ Share self.now cell other }
+        ensures sudoku { HasSize Kind.Sudoku self.now }
     {
         self.rows[cell] == self.rows[other]
             || self.columns[cell] == self.columns[other]
