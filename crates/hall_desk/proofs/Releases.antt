@@ -51,8 +51,8 @@ takes_part world caller asked person id is there entrants named released may_ask
 pub released_using : (world : World) (key : PuzzleKey) (ids : List (List ℕ)) → AreUsing world key ids →
     ((id : List ℕ) × Contains ids id × IsReleasedRound world id) ↔ ((id : List ℕ) × StandsReleased world key id)
 released_using world key ids using = (
-  (λ h. let at = (using h.0).0 h.1 in (h.0, (h.2.0, at.0, h.2.1, h.2.2, at.1, at.2))),
-  (λ h. let at = h.1 in (h.0, (using h.0).1 (at.1, at.4, at.5), (at.0, at.2, at.3))),
+  (λ h. let at = (using.whole h.0).0 h.1 in (h.0, (h.2.0, at.0, h.2.1, h.2.2, at.1, at.2))),
+  (λ h. let at = h.1 in (h.0, (using.whole h.0).1 (at.1, at.4, at.5), (at.0, at.2, at.3))),
 )
 
 -- what is told of one fact is told of an equal one
@@ -75,10 +75,10 @@ pub others_using : (world : World) (key : PuzzleKey) (id : List ℕ) (ids others
 others_using world key id ids others using left = (
   (λ h.
       let at = filter-Contains (λ other. not (same_text other id)) ids h.0 h.1.0 (ap (λ (l : List (List ℕ)). slice_get l h.1.0) (sym left) ∙ slice_get-get_or others h.1.0 h.0 h.1.1 ∙ ap Some h.1.2) in
-      let entry = (using h.0).0 (at.0, slice_get_within ids at.0 h.0 at.1, get_or_from_slice_get ids at.0 h.0 h.0 at.1) in
+      let entry = (using.whole h.0).0 (at.0, slice_get_within ids at.0 h.0 at.1, get_or_from_slice_get ids at.0 h.0 h.0 at.1) in
       (h.0, (λ same. let no : false ≡ true = sym (not_true (same_text h.0 id) at.2) ∙ (text_decides h.0 id).1 same in cc), (h.2.0, entry.0, h.2.1, h.2.2, entry.1, entry.2))),
   (λ h.
-      let among = (using h.0).1 (h.2.1, h.2.4, h.2.5) in
+      let among = (using.whole h.0).1 (h.2.1, h.2.4, h.2.5) in
       let passes : not (same_text h.0 id) ≡ true = elim (same_text h.0 id) as (λ b. same_text h.0 id ≡ b → not b ≡ true) [ true ↦ λ e. absurd (h.1 ((text_decides h.0 id).0 e)) | false ↦ λ e. refl ] refl in
       let at = Contains-filter (λ other. not (same_text other id)) ids h.0 among passes in
       let shown : slice_get others at.0 ≡ Some h.0 = ap (λ (l : List (List ℕ)). slice_get l at.0) left ∙ at.1 in

@@ -1,6 +1,6 @@
 -- What no event of a hall's life takes away: who has a key, the answers and protests that stand, their rulings, and the
--- released rounds.
-use Rattle.std.proofs.Common.{◌≡◌, ◌≢◌, inl, inr, if◌then◌else◌, ℕ, suc, Bool, true, false, cond, List, [], ◌∷◌, Option, Some, None, Contains, refl, sym, ap, ◌∙◌, subst, arith, lit<}
+-- released rounds with their puzzles.
+use Rattle.std.proofs.Common.{◌≡◌, ◌≢◌, ◌⊎◌, inl, inr, if◌then◌else◌, ℕ, suc, Bool, true, false, cond, List, [], ◌∷◌, Option, Some, None, Contains, IsTrue, refl, sym, ap, ◌∙◌, subst, arith, lit<}
 use Rattle.std.specs.Prelude.{find, is_some}
 use Rattle.std.specs.FinMap.{FinMap, get, insert, entries, values, put, get-entries, entries-insert}
 use Rattle.std.specs.FinMap.{find as by_key}
@@ -11,11 +11,12 @@ use Rattle.std.specs.declared.cmp.Ordering.{Ordering}
 use Rattle.std.specs.declared.cmp.Ordering.TheVariants.{Less, Equal, Greater}
 use Rattle.hall_policy.specs.Text.{text_cmp}
 use Rattle.hall_policy.specs.World.{World, protest_of, same_text, puzzle_cmp, place_cmp}
-use Rattle.hall_policy.specs.Rules.{Conflicts}
+use Rattle.hall_policy.specs.Rules.{Conflicts, StandsReleased}
 use Rattle.hall_policy.specs.First.{NoneBelow}
 use Rattle.hall_policy.specs.declared.rule.Rule.TheVariants as rule
 use Rattle.hall_policy.specs.declared.rule.Decision.TheVariants.{Allow, Repeat, Deny}
 use Rattle.hall_policy.specs.declared.record.Person.{Person}
+use Rattle.hall_policy.specs.declared.record.PuzzleKey.{PuzzleKey}
 use Rattle.hall_policy.specs.declared.record.PuzzleState.{PuzzleState}
 use Rattle.hall_policy.specs.declared.record.PuzzleRow.{PuzzleRow}
 use Rattle.hall_policy.specs.declared.record.Round.{Round}
@@ -28,13 +29,15 @@ use Rattle.hall_policy.specs.declared.request.Sheet.{Sheet}
 use Rattle.hall_policy.specs.declared.request.Action.{Action}
 use Rattle.hall_policy.specs.declared.request.Action.TheVariants as action
 use Rattle.hall_policy.specs.declared.request.Request.{Request}
-use Rattle.hall_policy.proofs.Orders.{text_total, same_texts, answer_total, same_answer_keys, protest_total, same_protest_keys}
+use Rattle.hall_grid.specs.Board.{Board}
+use Rattle.hall_policy.proofs.Orders.{text_total, same_texts, puzzle_total, same_puzzle_keys, answer_total, same_answer_keys, protest_total, same_protest_keys}
 use Rattle.hall_store.specs.Caller.{with_key, caller_of}
 use Rattle.hall_store.specs.Change.{with_person, with_people, relisted}
 use Rattle.hall_desk.specs.Found.{IsReleasedRound}
-use Rattle.hall_desk.specs.Step.{Step, Seed, Allowed, draft_of, answer_row, open_protest}
+use Rattle.hall_desk.specs.Sane.{Sane}
+use Rattle.hall_desk.specs.Step.{Step, Seed, Allowed, IsSearched, IsFound, is_open, new_row, draft_of, answer_row, open_protest}
 use Rattle.hall_desk.specs.History.{Event, requested, seeded, Happens}
-use Rattle.hall_desk.specs.Records.{StaysReleased, StaysProtested, Remains, RecordsStay}
+use Rattle.hall_desk.specs.Records.{StaysReleased, StaysProtested, StaysListed, Remains, RecordsStay, ReleasedPuzzlesStay}
 use Rattle.hall_desk.specs.declared.reply.Reply.{Reply}
 use Rattle.hall_store.proofs.Changes.{with_people-known}
 use Rattle.hall_store.proofs.Inserts.{keys_apart, others_stay, inserted_there}
@@ -64,6 +67,30 @@ stays_as_found world later id round at is places = record {
 protest_as_found : (later : World) (key : ProtestKey) (row : ProtestRow) → get later.protests key ≡ Some row → StaysProtested later key row
 protest_as_found later key row at = record { after = row; found = at; same = refl; ruled = λ ruling is. is }
 
+-- a puzzle that is found as it was
+puzzle_as_found : (later : World) (key : PuzzleKey) (row : PuzzleRow) → get later.puzzles key ≡ Some row → StaysListed later key row
+puzzle_as_found later key row at = record { after = row; found = at; same = refl; state = inl refl }
+
+-- and so in a world with the same puzzles
+puzzles_as_found : (world later : World) → later.puzzles ≡ world.puzzles → (id : List ℕ) (key : PuzzleKey) (row : PuzzleRow) → StandsReleased world key id → get world.puzzles key ≡ Some row → StaysListed later key row
+puzzles_as_found world later same id key row stands at = puzzle_as_found later key row (ap (λ (m : FinMap puzzle_cmp PuzzleRow). get m key) same ∙ at)
+
+-- a puzzle of a released round that stays is one of it
+still_listed : (world later : World) (key : PuzzleKey) (id : List ℕ) → ((round : Round) → get world.rounds id ≡ Some round → IsTrue round.released → StaysReleased world later id round) → StandsReleased world key id → StandsReleased later key id
+still_listed world later key id rounds (round, entry, at, is, lists, own) =
+    let stays = rounds round at is in
+    (stays.after, entry, stays.found, ap (λ (r : Round). r.released) stays.same ∙ is, (lists.0, stays.places lists.0 ∙ lists.1), own)
+
+-- a state that a search may set, twice
+state_on : (puzzle : Board) (first mid last : PuzzleState) →
+    ((mid ≡ first) ⊎ ((is_open first ≡ true) × (budget : ℕ) × IsFound puzzle budget mid)) →
+    ((last ≡ mid) ⊎ ((is_open mid ≡ true) × (budget : ℕ) × IsFound puzzle budget last)) →
+    ((last ≡ first) ⊎ ((is_open first ≡ true) × (budget : ℕ) × IsFound puzzle budget last))
+state_on puzzle first mid last (inl a) (inl b) = inl (b ∙ a)
+state_on puzzle first mid last (inl a) (inr (open_yet, budget, found)) = inr (ap is_open (sym a) ∙ open_yet, budget, found)
+state_on puzzle first mid last (inr (open_yet, budget, found)) (inl b) = inr (open_yet, budget, subst (IsFound puzzle budget) (sym b) found)
+state_on puzzle first mid last (inr (open_yet, before, set)) (inr (open_still, budget, found)) = inr (open_yet, budget, found)
+
 -- the caller is told by the people alone
 callers_stay : (world later : World) → later.people ≡ world.people → (key : Option (List ℕ)) (person : Person) → caller_of world key ≡ Some person → caller_of later key ≡ Some person
 callers_stay world later same None person is = is
@@ -71,7 +98,7 @@ callers_stay world later same (Some key) person is = ap (λ (people : FinMap tex
 
 -- a world keeps what it has
 remains_itself : (world : World) → Remains world world
-remains_itself world = record { people = λ name person at. at; callers = λ key person is. is; answers = λ key row at. at; protests = protest_as_found world; rounds = λ id round at is. stays_as_found world world id round at is refl }
+remains_itself world = record { people = λ name person at. at; callers = λ key person is. is; answers = λ key row at. at; protests = protest_as_found world; rounds = λ id round at is. stays_as_found world world id round at is refl; puzzles = puzzles_as_found world world refl }
 
 -- so does one that is the same
 remains_same : (world new : World) → new ≡ world → Remains world new
@@ -102,11 +129,24 @@ remains_on world mid later first second = record {
         risen = λ published. b.risen (a.risen published);
         places = λ number. b.places number ∙ a.places number;
       };
+  puzzles = λ id key row stands at.
+      let a = first.puzzles id key row stands at in
+      let b = second.puzzles id key a.after (still_listed world mid key id (first.rounds id) stands) a.found in
+      let same_puzzle : a.after.puzzle ≡ row.puzzle = ap (λ (r : PuzzleRow). r.puzzle) a.same in
+      record {
+        after = b.after;
+        found = b.found;
+        same = b.same ∙ ap (λ (r : PuzzleRow). let now : PuzzleRow = record r { state = b.after.state } in now) a.same;
+        state = state_on row.puzzle row.state a.after.state b.after.state a.state
+            (subst (λ (p : Board). (b.after.state ≡ a.after.state) ⊎ ((is_open a.after.state ≡ true) × (budget : ℕ) × IsFound p budget b.after.state)) same_puzzle b.state);
+      };
 }
 
--- a world whose puzzles change keeps the rest
-puzzles_change : (world new : World) (puzzles : FinMap puzzle_cmp PuzzleRow) → new ≡ record world { puzzles = puzzles } → Remains world new
-puzzles_change world new puzzles made =
+-- a world whose puzzles change keeps the rest, where those of released rounds stay
+puzzles_change : (world new : World) (puzzles : FinMap puzzle_cmp PuzzleRow) →
+    ((id : List ℕ) (key : PuzzleKey) (row : PuzzleRow) → StandsReleased world key id → get world.puzzles key ≡ Some row → StaysListed (record world { puzzles = puzzles }) key row) →
+    new ≡ record world { puzzles = puzzles } → Remains world new
+puzzles_change world new puzzles listed made =
     let after : World = record world { puzzles = puzzles } in
     subst (λ (w : World). Remains world w) (sym made)
     (record {
@@ -115,7 +155,38 @@ puzzles_change world new puzzles made =
       answers = λ key row at. at;
       protests = protest_as_found after;
       rounds = λ id round at is. stays_as_found world after id round at is refl;
+      puzzles = listed;
     })
+
+-- a PutPuzzle's rule denies a puzzle of a released round
+put_remains : (world : World) (caller : Option Person) (key : PuzzleKey) (puzzle : Board) (t : ℕ) (new : World) →
+    NoneBelow 21 world caller (action.PutPuzzle key puzzle) t → new ≡ record world { puzzles = insert world.puzzles key (new_row key puzzle) } → Remains world new
+put_remains world caller key puzzle t new none made =
+    let put : PuzzleRow = new_row key puzzle in
+    let after : World = record world { puzzles = insert world.puzzles key put } in
+    puzzles_change world new (insert world.puzzles key put)
+    (λ id q row stands at. puzzle_as_found after q row (others_stay puzzle_total same_puzzle_keys world.puzzles key put q row
+        (λ own. (none rule.InReleasedRound (lit< tt)).0 ((4, lit< tt, refl), (id, subst (λ (k : PuzzleKey). StandsReleased world k id) own stands))) at)) made
+
+-- a Certify sets the state of its puzzle alone, to what a search finds
+certify_remains : (world : World) (key : PuzzleKey) (row : PuzzleRow) (budget : ℕ) (found : PuzzleState) (given : Reply) (new : World) →
+    get world.puzzles key ≡ Some row → IsSearched world key row budget found given new → Remains world new
+certify_remains world key row budget found given new kept h =
+    let now : PuzzleRow = record row { state = found } in
+    let after : World = record world { puzzles = insert world.puzzles key now } in
+    puzzles_change world new (insert world.puzzles key now)
+    (λ id q r stands at. elim (keys_apart puzzle_total same_puzzle_keys q key) [
+      | inl own ↦
+          let both : Some row ≡ Some r = sym kept ∙ ap (get world.puzzles) (sym own) ∙ at in
+          let one : row ≡ r = cc in
+          record {
+            after = now;
+            found = inserted_there puzzle_total same_puzzle_keys world.puzzles key now q own;
+            same = ap (λ (x : PuzzleRow). let found_one : PuzzleRow = record x { state = found } in found_one) one;
+            state = inr (ap (λ (x : PuzzleRow). is_open x.state) (sym one) ∙ h.unsettled, budget, subst (λ (x : PuzzleRow). IsFound x.puzzle budget found) one h.is_found);
+          }
+      | inr other ↦ puzzle_as_found after q r (others_stay puzzle_total same_puzzle_keys world.puzzles key now q r other at)
+    ]) h.stored
 
 -- ---- an Import
 -- who is found first stays so, as a value that fails the test is put under a new key
@@ -184,6 +255,7 @@ people_join world people new fits made =
       answers = λ key row at. at;
       protests = protest_as_found after;
       rounds = λ id round at is. stays_as_found world after id round at is refl;
+      puzzles = puzzles_as_found world after refl;
     })
 
 -- an Import's rule denies a list that conflicts with somebody
@@ -219,6 +291,7 @@ put_round_remains world caller id sheet t found given new none (told, made) =
             risen = λ published. published;
             places = λ number. relisted_other world.places id sheet.puzzles (record { round = q; number = number }) other;
           };
+      puzzles = puzzles_as_found world after refl;
     })
 
 -- a round of which a flag rises, that of publication where it was released before, leaves the rest
@@ -244,6 +317,7 @@ round_changes world new id round now kept same risen made =
             }
         | inr other ↦ stays_as_found world after q r (others_stay text_total same_texts world.rounds id now q r other at) is refl
       ];
+      puzzles = puzzles_as_found world after refl;
     })
 
 -- a Submit stores its answer where none stands
@@ -259,6 +333,7 @@ submit_remains world caller id number token answer t found given new none (perso
           (λ own. token_decides world caller t person id number token answer old is (ap (get world.answers) (sym own) ∙ at) 21 none (lit< tt)) at;
       protests = protest_as_found after;
       rounds = λ q r at is. stays_as_found world after q r at is refl;
+      puzzles = puzzles_as_found world after refl;
     })
 
 -- a Protest stores its row where none stands
@@ -274,6 +349,7 @@ protest_remains world caller id token number text t found given new none (person
       protests = λ key old at. protest_as_found after key old (others_stay protest_total same_protest_keys world.protests row.key row key old
           (λ own. protest_token_decides world caller t person id token number text old is (ap (get world.protests) (sym own) ∙ at) 21 none (lit< tt)) at);
       rounds = λ q r at is. stays_as_found world after q r at is refl;
+      puzzles = puzzles_as_found world after refl;
     })
 
 -- a Rule rules its protest where no ruling stands
@@ -301,19 +377,19 @@ rule_remains world caller id entrant token ruling t found given new none (row, k
         | inr other ↦ protest_as_found after key old (others_stay protest_total same_protest_keys world.protests own_key now key old other at)
       ];
       rounds = λ q r at is. stays_as_found world after q r at is refl;
+      puzzles = puzzles_as_found world after refl;
     })
 
 -- a round that is released already is left as it is by its release
 released_as_it_was : (round : Round) → round.released ≡ true → ◌≡◌ {A = Round} (record round { released = true }) (record round { published = round.published })
 released_as_it_was round is = ap (λ (b : Bool). let now : Round = record round { released = b } in now) (sym is)
 
--- a PutPuzzle and a Certify change puzzles alone, a Release and a Publish one flag of their round; what else takes
--- effect is said above
+-- a Release and a Publish change one flag of their round; what else takes effect is said above
 allowed_remains : (world : World) (caller : Option Person) (asked : Action) (t : ℕ) (found : PuzzleState) (given : Reply) (new : World) →
     NoneBelow 21 world caller asked t → Allowed world caller asked t found given new → Remains world new
 allowed_remains world caller (action.PutPuzzle key puzzle) t found given new none (text, canonical, inl h) = remains_same world new h.4
-allowed_remains world caller (action.PutPuzzle key puzzle) t found given new none (text, canonical, inr h) = puzzles_change world new _ h.2
-allowed_remains world caller (action.Certify key budget) t found given new none (row, kept, inl h) = puzzles_change world new _ h.stored
+allowed_remains world caller (action.PutPuzzle key puzzle) t found given new none (text, canonical, inr h) = put_remains world caller key puzzle t new none h.2
+allowed_remains world caller (action.Certify key budget) t found given new none (row, kept, inl h) = certify_remains world key row budget found given new kept h
 allowed_remains world caller (action.Certify key budget) t found given new none (row, kept, inr h) = remains_same world new h.same
 allowed_remains world caller (action.Release id) t found given new none (round, kept, told, made) = round_changes world new id round (record round { released = true }) kept (λ is. released_as_it_was round is) (λ is. is) made
 allowed_remains world caller (action.Publish id) t found given new none (round, kept, told, made) = round_changes world new id round (record round { published = true }) kept (λ _. refl) (λ _. refl) made
@@ -349,3 +425,16 @@ pub records_stay : RecordsStay
 records_stay world last [] life = remains_same world last life
 records_stay world last (event ∷ rest) life =
     remains_on world life.0 last (event_remains world event life.0 life.1) (records_stay life.0 last rest life.2)
+
+-- a puzzle whose search came to an end stays whole
+settled_stays : (later : World) (key : PuzzleKey) (row : PuzzleRow) → StaysListed later key row → is_open row.state ≡ false → get later.puzzles key ≡ Some row
+settled_stays later key row stays settled = elim stays.state [
+  | inl same ↦ stays.found ∙ ap (λ (r : PuzzleRow). Some r) (stays.same ∙ ap (λ (s : PuzzleState). let now : PuzzleRow = record row { state = s } in now) same)
+  | inr (open_yet, budget, found) ↦ absurd (let no : true ≡ false = sym open_yet ∙ settled in cc)
+]
+
+-- so do those of a sane world's released rounds
+pub released_puzzles_stay : ReleasedPuzzlesStay
+released_puzzles_stay world later events sane life id key stands =
+    let (row, solution, at, one) = sane.certified id key stands in
+    settled_stays later key row ((records_stay world later events life).puzzles id key row stands at) (ap is_open one) ∙ sym at

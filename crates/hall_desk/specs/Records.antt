@@ -1,16 +1,21 @@
 -- The records that nothing in a hall's life takes away.
-use Rattle.std.specs.Prelude.{◌≡◌, ℕ, List, Option, Some, IsTrue}
+use Rattle.std.specs.Prelude.{◌≡◌, ◌⊎◌, ℕ, true, List, Option, Some, IsTrue}
 use Rattle.std.specs.FinMap.{get}
 use Rattle.hall_policy.specs.World.{World, place_of}
+use Rattle.hall_policy.specs.Rules.{StandsReleased}
 use Rattle.hall_policy.specs.declared.record.AnswerKey.{AnswerKey}
 use Rattle.hall_policy.specs.declared.record.AnswerRow.{AnswerRow}
 use Rattle.hall_policy.specs.declared.record.Person.{Person}
 use Rattle.hall_policy.specs.declared.record.ProtestKey.{ProtestKey}
 use Rattle.hall_policy.specs.declared.record.ProtestRow.{ProtestRow}
+use Rattle.hall_policy.specs.declared.record.PuzzleKey.{PuzzleKey}
+use Rattle.hall_policy.specs.declared.record.PuzzleRow.{PuzzleRow}
 use Rattle.hall_policy.specs.declared.record.Round.{Round}
 use Rattle.hall_policy.specs.declared.record.Ruling.{Ruling}
 use Rattle.hall_store.specs.Caller.{caller_of}
+use Rattle.hall_desk.specs.Step.{is_open, IsFound}
 use Rattle.hall_desk.specs.History.{Event, History}
+use Rattle.hall_desk.specs.Sane.{Sane}
 
 -- a protest as it stays: its whole row but for the ruling, and that too once it has one
 pub record StaysProtested (later : World) (key : ProtestKey) (row : ProtestRow) : Type 0 where
@@ -27,6 +32,15 @@ pub record StaysReleased (world later : World) (id : List ℕ) (round : Round) :
   pub risen : IsTrue round.published → IsTrue after.published
   pub places : (number : ℕ) → place_of later id number ≡ place_of world id number
 
+-- a puzzle of a released round as it stays: its whole row but for the state, which a search may set, and only where none
+-- came to an end yet
+pub record StaysListed (later : World) (key : PuzzleKey) (row : PuzzleRow) : Type 0 where
+  pub after : PuzzleRow
+  pub found : get later.puzzles key ≡ Some after
+  pub same : after ≡ record row { state = after.state }
+  pub state : (after.state ≡ row.state)
+      ⊎ ((is_open row.state ≡ true) × (budget : ℕ) × IsFound row.puzzle budget after.state)
+
 -- the later world has the records of the one before
 pub record Remains (world later : World) : Type 0 where
   -- a person stays whole, with key and roles, and is found by the same key
@@ -41,7 +55,15 @@ pub record Remains (world later : World) : Type 0 where
       StaysProtested later key row
   pub rounds : (id : List ℕ) (round : Round) → get world.rounds id ≡ Some round → IsTrue round.released →
       StaysReleased world later id round
+  pub puzzles : (id : List ℕ) (key : PuzzleKey) (row : PuzzleRow) → StandsReleased world key id →
+      get world.puzzles key ≡ Some row → StaysListed later key row
 
 -- whatever happens in a hall's life, its records stay
 abbrev pub RecordsStay : Type 0
 RecordsStay = (world later : World) (events : List Event) → History world events later → Remains world later
+
+-- from a sane world on, the whole row of each puzzle of a released round stays: its text, its author and its solution
+abbrev pub ReleasedPuzzlesStay : Type 0
+ReleasedPuzzlesStay =
+    (world later : World) (events : List Event) → Sane world → History world events later →
+    (id : List ℕ) (key : PuzzleKey) → StandsReleased world key id → get later.puzzles key ≡ get world.puzzles key

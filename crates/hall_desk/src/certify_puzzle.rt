@@ -17,7 +17,7 @@ use hall_grid::{Filling, Puzzle, write_answer};
 use hall_policy::{
     Action, AnswerText, Budget, Decision, Facts, Moment, PuzzleKey, PuzzleState, decide,
 };
-use hall_solve::{Outcome, Searched, Visits};
+use hall_solve::{Outcome, Visits};
 use hall_store::{Change, Store, StoreFault};
 use std::alloc::{AllocError, Global};
 
@@ -134,8 +134,9 @@ fn find_state(alloc: Global, puzzle: &Puzzle, budget: u64) -> Result<FoundState,
     ensures state { IfOk result (λ found. IsFound puzzle.now budget found.state) }
     ensures spent { IfOk result (λ found. HasSpent budget (Reply.Certified (state_name found.state)) found.visits) }
 {
-    let Searched { outcome, visits } = certify(alloc, puzzle, budget)?;
-    match outcome {
+    let searched = certify(alloc, puzzle, budget)?;
+    let visits = searched.visits();
+    match searched.outcome() {
         Outcome::None => Ok(FoundState {
             state: PuzzleState::NoSolution,
             visits,

@@ -1,7 +1,7 @@
 //! Laws of the definitions, each the contract of a function that does nothing.
 ghost use Rattle.hall_desk.specs.Agreement.{AnswersAgree, StepsAgree};
 ghost use Rattle.hall_desk.specs.History.{RunsAreHistories};
-ghost use Rattle.hall_desk.specs.Records.{RecordsStay};
+ghost use Rattle.hall_desk.specs.Records.{RecordsStay, ReleasedPuzzlesStay};
 ghost use Rattle.hall_desk.specs.Promises.{SanityKeepsPromises, TokensActOnce, AcceptedAnswersStay, RetriesAreAnswered};
 ghost use Rattle.hall_desk.specs.Promises.{ProtestTokensActOnce, RulingsActOnce};
 ghost use Rattle.hall_desk.specs.Promises.{SaneTokensActOnce, SaneProtestTokensActOnce};
@@ -23,10 +23,11 @@ pub fn law_sanity()
     ensures { SanityKeepsPromises }
 {}
 
-/// Whatever happens in a hall's life, its people, answers, protests, rulings and released rounds stay; each run of
-/// requests is such a life.
+/// Whatever happens in a hall's life, its people, answers, protests, rulings and released rounds with their puzzles
+/// stay; each run of requests is such a life.
 pub fn law_records()
     ensures stay { RecordsStay }
+    ensures puzzles { ReleasedPuzzlesStay }
     ensures runs { RunsAreHistories }
 {}
 

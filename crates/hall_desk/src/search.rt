@@ -2,7 +2,7 @@
 ghost use Rattle.std.specs.Prelude.{◌≡◌, IfOk};
 ghost use Rattle.hall_solve.specs.Question.{IsPartial};
 ghost use Rattle.hall_solve.specs.Puzzle.{OutcomeOfPuzzle, question_of, start_of};
-ghost use Rattle.hall_solve.specs.Searched.{visits_made, IsSpent};
+ghost use Rattle.hall_solve.specs.Searched.{outcome_of, IsSpent};
 
 use hall_grid::{Kind, Puzzle};
 use hall_nurikabe::NurikabeRules;
@@ -11,11 +11,11 @@ use hall_solve::{Partial, Searched, search_counted};
 use hall_sudoku::SudokuRules;
 use std::alloc::{AllocError, Global};
 
-/// What the search of the puzzle finds in at most `budget` visits: no solution, one and no other, two different ones,
-/// or that it gave up; and the visits that a search within the budget made: where it gave up, the whole budget.
+/// What a search of the puzzle finds in at most `budget` visits: no solution, one and no other, two different ones, or
+/// that it gave up; and the visits that the same search made: where it gave up, the whole budget.
 pub fn certify(alloc: Global, puzzle: &Puzzle, budget: u64) -> Result<Searched, AllocError>
-    ensures outcome { IfOk result (λ searched. OutcomeOfPuzzle puzzle.now budget searched.outcome) }
-    ensures spent { IfOk result (λ searched. IsSpent budget searched.outcome (visits_made searched.visits)) }
+    ensures outcome { IfOk result (λ searched. OutcomeOfPuzzle puzzle.now budget (outcome_of searched)) }
+    ensures spent { IfOk result (IsSpent budget) }
 {
     let start = start(alloc, puzzle)?;
     search_from(alloc, puzzle, &start, budget)
@@ -42,8 +42,8 @@ fn search_from(
 ) -> Result<Searched, AllocError>
     requires start { start.now.places ≡ start_of puzzle.now.kind puzzle.now }
     requires partial { IsPartial (question_of puzzle.now.kind puzzle.now) start.now.places }
-    ensures outcome { IfOk result (λ searched. OutcomeOfPuzzle puzzle.now budget searched.outcome) }
-    ensures spent { IfOk result (λ searched. IsSpent budget searched.outcome (visits_made searched.visits)) }
+    ensures outcome { IfOk result (λ searched. OutcomeOfPuzzle puzzle.now budget (outcome_of searched)) }
+    ensures spent { IfOk result (IsSpent budget) }
 {
     match puzzle.kind() {
         Kind::Sudoku => {

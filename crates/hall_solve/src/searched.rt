@@ -2,7 +2,7 @@
 ghost use Rattle.std.specs.Prelude.{◌≡◌, IfOk};
 ghost use Rattle.hall_solve.specs.Question.{IsPartial};
 ghost use Rattle.hall_solve.specs.Answer.{OutcomeOf};
-ghost use Rattle.hall_solve.specs.Searched.{visits_made, IsSpent};
+ghost use Rattle.hall_solve.specs.Searched.{visits_made, outcome_of, visits_of, IsSpent};
 
 use crate::explore::search;
 use crate::outcome::Outcome;
@@ -25,11 +25,28 @@ impl Visits {
     }
 }
 
-/// What a search found, and the visits that it made.
+/// What a search found, and the visits that it made. A search alone makes one of these, so who has one has both of the
+/// same search.
 #[derive(Drop)]
 pub struct Searched {
-    pub outcome: Outcome,
-    pub visits: Visits,
+    outcome: Outcome,
+    visits: Visits,
+}
+
+impl Searched {
+    /// What the search found.
+    pub fn outcome(self) -> Outcome
+        ensures { result ≡ outcome_of self }
+    {
+        self.outcome
+    }
+
+    /// The visits that the search made.
+    pub fn visits(&self) -> Visits
+        ensures { result ≡ visits_of self.now }
+    {
+        self.visits
+    }
 }
 
 /// Searches as [`search`] does, and tells the visits.
@@ -43,9 +60,9 @@ pub fn search_counted<R: Rules>(
     requires not_asked { R.asked rules.old ≡ 0 }
     requires start { IsPartial (R.question rules.old) start.now.places }
     ensures outcome { IfOk result
-        (λ searched. OutcomeOf (R.question rules.old) start.now.places budget searched.outcome) }
-    ensures counted { IfOk result (λ searched. visits_made searched.visits ≡ R.visits rules.new) }
-    ensures spent { IfOk result (λ searched. IsSpent budget searched.outcome (visits_made searched.visits)) }
+        (λ searched. OutcomeOf (R.question rules.old) start.now.places budget (outcome_of searched)) }
+    ensures counted { IfOk result (λ searched. visits_made (visits_of searched) ≡ R.visits rules.new) }
+    ensures spent { IfOk result (IsSpent budget) }
 {
     let outcome = search(alloc, rules, start, budget)?;
     Ok(Searched {

@@ -1,10 +1,13 @@
 -- What the queries on places say of the world.
-use Rattle.std.proofs.Common.{◌≡◌, ◌&&◌, ℕ, pos, List, [], ◌∷◌, ◌++◌, map, filter, flat_map, Bool, true, false, cond, IsTrue, Option, Some, None, option_map, option_to_list, slice_get, Contains, refl, sym, ap, ap₂, subst, ◌∙◌}
+use Rattle.std.proofs.Common.{◌≡◌, ◌&&◌, ℕ, pos, List, [], ◌∷◌, ◌++◌, map, filter, flat_map, Bool, true, false, cond, IsTrue, Option, Some, None, option_map, option_to_list, slice_get, Contains, refl, sym, ap, ap₂, subst, ◌∙◌, ◌+◌, ◌<◌, length, arith}
 use Rattle.std.proofs.lemmas.List.Sorted.{IsPermutation-sym, Contains-permutation}
+use Rattle.std.proofs.lemmas.List.{get_or-map, length-map}
+use Rattle.std.proofs.lemmas.List.Kept.{Contains-dedup, Contains-from_dedup, IsStrictlySortedBy-dedup}
 use Rattle.std.proofs.lemmas.Option.{slice_get-map}
-use Rattle.std.specs.List.{list_all, AllByRecursion}
-use Rattle.std.specs.List.Sorted.{IsPermutation}
-use Rattle.std.specs.Ordering.{eq_by_cmp, nat_cmp}
+use Rattle.std.specs.Cmp.Lexicographic.{nat_list_eq_equiv, texts_ties}
+use Rattle.std.specs.List.{list_all, AllByRecursion, dedup}
+use Rattle.std.specs.List.Sorted.{IsPermutation, IsSorted, IsStrictlySortedBy}
+use Rattle.std.specs.Ordering.{eq_by_cmp, is_lt, nat_cmp}
 use Rattle.std.specs.FinMap.{FinMap, find as find_key, get, values, get-from_entries}
 use Rattle.sqlite.specs.declared.types.Value.TheVariants.{Int, Text}
 use Rattle.sqlite.specs.Effect.{IsDatabase}
@@ -18,28 +21,29 @@ use Rattle.sqlite_schema.specs.Rules.{agree, passes}
 use Rattle.sqlite_rules.proofs.ListLemmas.{all_has}
 use Rattle.sqlite_value.specs.Keys.{plain, first_key}
 use Rattle.sqlite_value.specs.Order.{column}
-use Rattle.sqlite_value.proofs.OrderLemmas.{then-Equal, value_cmp-Int}
-use Rattle.hall_policy.specs.Text.{is_word_byte}
+use Rattle.sqlite_value.proofs.OrderLemmas.{then-Equal, value_cmp-Int, value_cmp-Text}
+use Rattle.hall_policy.specs.Text.{is_word_byte, text_cmp}
 use Rattle.hall_policy.specs.Rules.{Lists}
-use Rattle.hall_policy.specs.World.{World, place_cmp}
+use Rattle.hall_policy.specs.World.{World, place_cmp, same_text}
 use Rattle.hall_policy.specs.declared.record.Entry.{Entry}
 use Rattle.hall_policy.specs.declared.record.PlaceKey.{PlaceKey}
 use Rattle.hall_policy.specs.declared.record.PuzzleKey.{PuzzleKey}
 use Rattle.hall_policy.proofs.Maps.{value_of_get}
-use Rattle.hall_policy.proofs.Orders.{place_total, same_place_keys}
+use Rattle.hall_policy.proofs.Orders.{place_total, same_place_keys, text_total}
+use Rattle.hall_policy.proofs.Texts.{text_decides}
 use Rattle.hall_store.specs.Store.{AreUsing}
 use Rattle.hall_store.proofs.Tests.{filter-Contains, contained, placed as placed_at, puzzle_decides}
 use Rattle.hall_sql.specs.Tables.{hall_schema, round_puzzles_table}
 use Rattle.hall_sql.specs.Values.{name_in, within}
 use Rattle.hall_sql.specs.Rows.{entry, kept, place_in, place_of, world_of}
-use Rattle.hall_sql.specs.Places.{has_puzzle, is_in_round, number_cmp, ArePlaces, AreListed}
+use Rattle.hall_sql.specs.Places.{has_puzzle, is_in_round, number_cmp, round_cmp, ArePlaces, ArePlacesWith, AreListed}
 use Rattle.hall_sql.specs.Standing.{AreKeyed}
 use Rattle.hall_sql.specs.Statements.{places_with_text, places_of_text}
 use Rattle.hall_sql.proofs.AmongLemmas.{kept_value, is_among}
 use Rattle.hall_sql.proofs.ColumnLemmas.{int_as_nat, kind_column, number_column, column_same, and_true}
 use Rattle.hall_sql.proofs.ListedLemmas.{by_order, records_asked, records_sorted}
 use Rattle.hall_sql.proofs.MapLemmas.{found, get_kept}
-use Rattle.hall_sql.proofs.RoundQueries.{place_columns, puzzle_terms, first_terms, number_order, places_with_is, places_of_is}
+use Rattle.hall_sql.proofs.RoundQueries.{place_columns, puzzle_terms, first_terms, number_order, round_order, places_with_is, places_of_is}
 use Rattle.hall_sql.proofs.UniqueLemmas.{equal_texts, equal_numbers, first_not, kept_keyed, records_listed}
 use Rattle.hall_sql.proofs.RecordParts.{place_parts_of}
 
@@ -162,13 +166,29 @@ module _ (old new : State) (has : old.now.schema ≡ hall_schema) (keyed : AreKe
       ap₂ ◌&&◌ (column_same (column r 3) x.1.puzzle.author key.author it.author)
       (and_true _ ∙ column_same (column r 4) x.1.puzzle.label key.label it.label)
 
+  -- ORDER BY round is the order of rounds
+  same_rounds : (key : PuzzleKey) (a b : Row) (x y : Place) → place_of a ≡ Some x → place_of b ≡ Some y
+      → by_order 7 puzzle_terms place_columns round_order (Text key.author ∷ Text key.label ∷ []) a b ≡ round_cmp x y
+  same_rounds key a b x y p q =
+      rw (
+        (has_columns a x p).round,
+        (has_columns b y q).round,
+        value_cmp-Text x.0.round y.0.round,
+        then-Equal (text_cmp x.0.round y.0.round),
+      )
+
   pub places_with_told : (key : PuzzleKey) → Shown places_with_text (Text key.author ∷ Text key.label ∷ []) old new rows
-      → ArePlaces (world_of old.now.trees) (has_puzzle key) out
-  places_with_told key shown =
-      are_places old.now.trees (has_puzzle key) out
-      (records_asked place_in 5 places_with_text (Text key.author ∷ Text key.label ∷ []) 7 puzzle_terms place_columns [] _
-      places_with_is.0 places_with_is.1 places_with_is.2 (λ db. refl) (λ r. refl) (has_puzzle key) (with_agrees key) old new
-      rows out has shown is _ whole)
+      → ArePlacesWith (world_of old.now.trees) key out
+  places_with_told key shown = record {
+    whole = are_places old.now.trees (has_puzzle key) out
+        (records_asked place_in 5 places_with_text (Text key.author ∷ Text key.label ∷ []) 7 puzzle_terms place_columns
+        round_order _ places_with_is.0 places_with_is.1 places_with_is.2 (λ db. refl) (λ r. refl) (has_puzzle key)
+        (with_agrees key) old new rows out has shown is _ whole);
+    in_order =
+        records_sorted place_in 5 places_with_text (Text key.author ∷ Text key.label ∷ []) 7 puzzle_terms place_columns
+        round_order _ places_with_is.0 places_with_is.1 places_with_is.2 (λ db. refl) (λ r. refl) (has_puzzle key)
+        (with_agrees key) old new rows out has shown is round_cmp (same_rounds key);
+  }
 
   in_agrees : (id : List ℕ) (r : Row) (x : Place) → place_of r ≡ Some x
       → list_all (holds ((Text id ∷ []) ∷ r ∷ [])) first_terms ≡ is_in_round id x
@@ -216,25 +236,44 @@ mapped_from f xs y among =
     go None e h = absurd cc
     go (Some x) e h = (x, contained xs x (placed_at (map f xs) y among).0 e, cc)
 
--- the rounds of the places that have the puzzle are those that have it
-pub using_told : (world : World) (key : PuzzleKey) (places : List Place) (ids : List (List ℕ))
-    → ArePlaces world (has_puzzle key) places → ids ≡ map (λ (place : Place). place.0.round) places → AreUsing world key ids
-using_told world key places ids are is id = (there, back)
-  where
-    there : Contains ids id → (entry : Entry) × Lists world id entry × (entry.puzzle ≡ key)
-    there among =
-        let it = mapped_from (λ (place : Place). place.0.round) places id (subst (λ l. Contains l id) is among) in
-        let place : Place = it.0 in
-        let fact = (are place).0 it.1 in
-        let own : place.0 ≡ (let k : PlaceKey = record { round = id; number = place.0.number } in k) =
-        λ i. record { round = it.2 i; number = place.0.number } in (
-          place.1,
-          (place.0.number, subst (λ k. get world.places k ≡ Some place.1) own fact.0),
-          (puzzle_decides place.1.puzzle key).0 fact.1,
-        )
+-- the order of the rounds of places
+sorted_rounds : (places : List Place) → IsSorted round_cmp places → IsSorted text_cmp (map (λ (place : Place). place.0.round) places)
+sorted_rounds places sorted k d low inside =
+    let round : Place → List ℕ = λ place. place.0.round in
+    let any : Place = (record { round = d; number = 0 }, record { puzzle = record { author = d; label = d }; points = 0 }) in
+    let within : k + 1 < length places = omega (arith, length-map places round, inside) in
+    ap₂ (λ a b. is_lt (text_cmp a b)) (get_or-map round places (k + 1) any d within)
+    (get_or-map round places k any d (omega (arith, within)))
+    ∙ sorted k any low within
 
-    back : (entry : Entry) × Lists world id entry × (entry.puzzle ≡ key) → Contains ids id
-    back h =
-        let place : Place = (record { round = id; number = h.1.0 }, h.0) in
-        subst (λ l. Contains l id) (sym is)
-        (mapped (λ (place : Place). place.0.round) places place ((are place).1 (h.1.1, (puzzle_decides h.0.puzzle key).1 h.2)))
+-- the rounds of the places that have the puzzle are those that have it
+module _ (world : World) (key : PuzzleKey) (places : List Place) (are : ArePlacesWith world key places) where
+  abbrev rounds : List (List ℕ)
+  rounds = map (λ (place : Place). place.0.round) places
+
+  there : (id : List ℕ) → Contains rounds id → (entry : Entry) × Lists world id entry × (entry.puzzle ≡ key)
+  there id among =
+      let it = mapped_from (λ (place : Place). place.0.round) places id among in
+      let place : Place = it.0 in
+      let fact = (are.whole place).0 it.1 in
+      let own : place.0 ≡ (let k : PlaceKey = record { round = id; number = place.0.number } in k) =
+      λ i. record { round = it.2 i; number = place.0.number } in (
+        place.1,
+        (place.0.number, subst (λ k. get world.places k ≡ Some place.1) own fact.0),
+        (puzzle_decides place.1.puzzle key).0 fact.1,
+      )
+
+  back : (id : List ℕ) → (entry : Entry) × Lists world id entry × (entry.puzzle ≡ key) → Contains rounds id
+  back id h =
+      let place : Place = (record { round = id; number = h.1.0 }, h.0) in
+      mapped (λ (place : Place). place.0.round) places place ((are.whole place).1 (h.1.1, (puzzle_decides h.0.puzzle key).1 h.2))
+
+  pub using_told : (ids : List (List ℕ)) → ids ≡ dedup same_text rounds → AreUsing world key ids
+  using_told ids is = record {
+    whole = λ id. (
+      (λ among. there id (Contains-from_dedup same_text rounds id (subst (λ l. Contains l id) is among))),
+      (λ h. subst (λ l. Contains l id) (sym is) (Contains-dedup nat_list_eq_equiv (λ x y. (text_decides x y).0) rounds id (back id h))),
+    );
+    in_order = subst (IsStrictlySortedBy text_cmp) (sym is)
+        (IsStrictlySortedBy-dedup text_total (λ x y. texts_ties x y) rounds (sorted_rounds places are.in_order));
+  }

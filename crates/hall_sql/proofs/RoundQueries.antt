@@ -23,8 +23,12 @@ place_names = codes "round" ∷ codes "number" ∷ codes "author" ∷ codes "lab
 abbrev pub puzzle_terms : List Term
 puzzle_terms = equals 3 0 ∷ equals 4 1 ∷ []
 
+-- the order of rounds
+abbrev pub round_order : List (Term × Key)
+round_order = (col 1 1, rising) ∷ []
+
 pub places_with_is : (command_of (understood hall_schema places_with_text)
-    ≡ Select (record { lets = []; body = plain_query 7 puzzle_terms place_columns [] }) place_names)
+    ≡ Select (record { lets = []; body = plain_query 7 puzzle_terms place_columns round_order }) place_names)
     × (reads_listing hall_schema places_with_text ≡ false) × IsPlain (understood hall_schema places_with_text)
     × (is_whole places_with_text 2 (understood hall_schema places_with_text) ≡ true)
 unfolding understood everything
@@ -32,7 +36,7 @@ places_with_is = (refl, refl, (refl, refl), refl)
 
 pub places_with_asked : (author label : List ℕ) → IsAsked places_with_text (Text author ∷ Text label ∷ [])
 places_with_asked author label =
-    asked places_with_text (Text author ∷ Text label ∷ []) 7 puzzle_terms place_columns [] _ places_with_is.0 places_with_is.1 places_with_is.2 places_with_is.3 refl
+    asked places_with_text (Text author ∷ Text label ∷ []) 7 puzzle_terms place_columns round_order _ places_with_is.0 places_with_is.1 places_with_is.2 places_with_is.3 refl
 
 -- id = ?1, or round = ?1
 abbrev pub first_terms : List Term

@@ -4,6 +4,7 @@ use Rattle.std.specs.declared.cmp.Ordering.{Ordering}
 use Rattle.std.specs.Ordering.{nat_cmp}
 use Rattle.std.specs.List.Sorted.{IsSorted}
 use Rattle.std.specs.FinMap.{get}
+use Rattle.hall_policy.specs.Text.{text_cmp}
 use Rattle.hall_policy.specs.World.{World, same_text}
 use Rattle.hall_policy.specs.declared.record.PlaceKey.{PlaceKey}
 use Rattle.hall_policy.specs.declared.record.PuzzleKey.{PuzzleKey}
@@ -35,3 +36,12 @@ pub record AreListed (world : World) (id : List ℕ) (places : List (PlaceKey ×
 -- the places are numbered from 1 on
 abbrev pub AreNumbered : List (PlaceKey × Entry) → Type 0
 AreNumbered places = (i : ℕ) (place : PlaceKey × Entry) → slice_get places i ≡ Some place → place.0.number ≡ suc i
+
+-- the order of rounds
+abbrev pub round_cmp : PlaceKey × Entry → PlaceKey × Entry → Ordering
+round_cmp a b = text_cmp a.0.round b.0.round
+
+-- all places that have the puzzle, in the order of their rounds
+pub record ArePlacesWith (world : World) (key : PuzzleKey) (places : List (PlaceKey × Entry)) : Type 0 where
+  pub whole : ArePlaces world (has_puzzle key) places
+  pub in_order : IsSorted round_cmp places

@@ -161,11 +161,11 @@ rule_protest_text =
     codes "UPDATE protests SET ruling = ?4, points = ?5 WHERE entrant = ?1 "
     ++ codes "AND round = ?2 AND token = ?3"
 
--- the places that have a puzzle
+-- the places that have a puzzle, in the order of their rounds
 abbrev pub places_with_text : List ℕ
 places_with_text =
     codes "SELECT round, number, author, label, points FROM round_puzzles "
-    ++ codes "WHERE author = ?1 AND label = ?2"
+    ++ codes "WHERE author = ?1 AND label = ?2 ORDER BY round"
 
 -- the places of a round, in the order of their numbers
 abbrev pub places_of_text : List ℕ

@@ -1,11 +1,12 @@
 //! The table of rounds.
 ghost use Rattle.std.specs.Prelude.{◌≡◌, ◌≢◌, ◌++◌, ◌∷◌, [], ℕ, List, length, map, suc, IfOk, IfErr, IfSome, OnOk};
+ghost use Rattle.std.specs.List.{dedup};
 ghost use Rattle.std.specs.FinMap.{get, values};
 ghost use Rattle.sqlite.specs.Held.{Held, state};
 ghost use Rattle.sqlite.specs.State.{HasCleanDisk};
-ghost use Rattle.hall_policy.specs.World.{World};
+ghost use Rattle.hall_policy.specs.World.{World, same_text};
 ghost use Rattle.hall_store.specs.Store.{Served, Fails, AreUsing, IsRoundKept};
-ghost use Rattle.hall_sql.specs.Places.{has_puzzle, is_in_round, ArePlaces, AreListed, AreNumbered};
+ghost use Rattle.hall_sql.specs.Places.{is_in_round, ArePlaces, ArePlacesWith, AreListed, AreNumbered};
 ghost use Rattle.hall_sql.specs.RoundColumns.{IsHead};
 ghost use Rattle.hall_sql.specs.Standing.{IsHall, Rested, content_of};
 ghost use Rattle.sqlite.specs.declared.types.Value.TheVariants.{Text};
@@ -46,9 +47,9 @@ pub(crate) fn rounds<S: Alter>(
 }
 
 const PLACES_WITH: &str = "SELECT round, number, author, label, points FROM round_puzzles \
-    WHERE author = ?1 AND label = ?2";
+    WHERE author = ?1 AND label = ?2 ORDER BY round";
 
-/// The places that have the puzzle.
+/// The places that have the puzzle, in the order of their rounds.
 fn places_with<S: Alter>(
     conn: &mut Connection<S>,
     alloc: Global,
@@ -57,7 +58,7 @@ fn places_with<S: Alter>(
     requires hall { IsHall (state S.Store conn.old) }
     ensures rested { Rested (state S.Store conn.old) (state S.Store conn.new) }
     ensures served { Served (content_of (state S.Store conn.new)) result
-        (λ world places. ArePlaces world (has_puzzle key.now) places.items) }
+        (λ world places. ArePlacesWith world key.now places.items) }
     ensures whole { HasCleanDisk (state S.Store conn.new) → IfOk result (λ _.
         AreRecords place_in places_with_text (Text key.now.author ∷ Text key.now.label ∷ []) (state S.Store conn.old)
         (state S.Store conn.new)) }
@@ -74,8 +75,8 @@ fn places_with<S: Alter>(
     )
 }
 
-/// The rounds of the places.
-fn rounds_of(alloc: Global, places: Vec<Place>) -> Result<Vec<RoundId>, StoreFault>
+/// The round of each place.
+fn round_of_each(alloc: Global, places: Vec<Place>) -> Result<Vec<RoundId>, StoreFault>
     ensures ids { IfOk result (λ ids. ids.items ≡ map (λ place. place.0.round) places.items) }
     ensures memory { IfErr result (λ fault. fault ≡ Memory) }
 {
@@ -88,7 +89,18 @@ fn rounds_of(alloc: Global, places: Vec<Place>) -> Result<Vec<RoundId>, StoreFau
     Ok(ids)
 }
 
-/// The ids of the rounds that have the puzzle.
+/// The rounds of the places, each once where the places of each round stand together.
+fn rounds_of(alloc: Global, places: Vec<Place>) -> Result<Vec<RoundId>, StoreFault>
+    ensures ids { IfOk result
+        (λ ids. ids.items ≡ dedup same_text (map (λ place. place.0.round) places.items)) }
+    ensures memory { IfErr result (λ fault. fault ≡ Memory) }
+{
+    let mut ids = round_of_each(alloc, places)?;
+    ids.dedup();
+    Ok(ids)
+}
+
+/// The ids of the rounds that have the puzzle, each once, in their order.
 pub(crate) fn rounds_using<S: Alter>(
     conn: &mut Connection<S>,
     alloc: Global,

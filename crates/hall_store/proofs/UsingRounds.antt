@@ -1,6 +1,11 @@
 -- The rounds of ordered maps that have a puzzle.
-use Rattle.std.proofs.Common.{◌≡◌, ◌&&◌, ℕ, zero, suc, Bool, true, false, List, map, slice_get, Option, Some, None, Contains, refl, sym, ap, ◌∙◌, subst}
-use Rattle.std.specs.List.{filter}
+use Rattle.std.proofs.Common.{◌≡◌, ◌↔◌, ◌&&◌, ℕ, zero, suc, Bool, true, false, List, [], ◌∷◌, map, slice_get, Option, Some, None, Contains, refl, sym, ap, ◌∙◌, subst, cond}
+use Rattle.std.specs.List.{filter, AllByRecursion}
+use Rattle.std.specs.Cmp.{tied_itself}
+use Rattle.std.specs.Ordering.{ordering_then}
+use Rattle.std.specs.declared.cmp.Ordering.TheVariants.{Less, Equal}
+use Rattle.std.proofs.lemmas.Map.Keys.{sorted_head, sorted_tail}
+use Rattle.hall_policy.proofs.Orders.{text_total}
 use Rattle.std.specs.List.Sorted.{IsStrictlySortedBy}
 use Rattle.std.specs.Option.{option_map}
 use Rattle.std.specs.Map.{lookup, keys_of}
@@ -41,6 +46,53 @@ mapped_from {X} f xs y among =
       | Some x ↦ λ e h. (x, contained xs x at.0 e, let same : f x ≡ y = cc in same)
     ] refl (sym (slice_get-map f xs at.0) ∙ at.1)
 
+-- ---- the order of the ids
+is_below : (a b : UseKey) → a.author ≡ b.author → a.label ≡ b.label → use_cmp a b ≡ Less → text_cmp a.round b.round ≡ Less
+is_below a b author label below =
+    let rounds = text_cmp a.round b.round in
+    let tie : text_cmp a.author b.author ≡ Equal = ap (text_cmp a.author) (sym author) ∙ tied_itself text_total a.author in
+    let other : text_cmp a.label b.label ≡ Equal = ap (text_cmp a.label) (sym label) ∙ tied_itself text_total a.label in
+    ap (λ r. ordering_then r rounds) (sym other) ∙ ap (λ r. ordering_then r (ordering_then (text_cmp a.label b.label) rounds)) (sym tie) ∙ below
+
+module _ (key : PuzzleKey) (test : UseKey × Unit {0} → Bool) where
+  -- the rounds of the puzzle's uses that pass the test
+  abbrev rounds_of : List (UseKey × Unit {0}) → List (List ℕ)
+  rounds_of uses = map (λ (u : UseKey × Unit {0}). u.0.round) (filter test (filter (λ (u : UseKey × Unit {0}). is_use_of key u.0) uses))
+
+  of_puzzle : (used : UseKey) → is_use_of key used ≡ true → ◌≡◌ {A = PuzzleKey} (record { author = used.author; label = used.label }) key
+  of_puzzle used own = (puzzle_decides (record { author = used.author; label = used.label }) key).0 own
+
+  all_below : (x : UseKey) → is_use_of key x ≡ true → (uses : List (UseKey × Unit {0})) → AllByRecursion (λ y. use_cmp x y ≡ Less) (keys_of uses) →
+      AllByRecursion (λ y. text_cmp x.round y ≡ Less) (rounds_of uses)
+  all_below x own [] below = tt
+  all_below x own (used ∷ uses) below =
+      let rest = filter (λ (u : UseKey × Unit {0}). is_use_of key u.0) uses in
+      let later = all_below x own uses below.1 in
+      elim (is_use_of key used.0) as (λ b. is_use_of key used.0 ≡ b → AllByRecursion (λ y. text_cmp x.round y ≡ Less) (map (λ (u : UseKey × Unit {0}). u.0.round) (filter test (cond b (used ∷ rest) rest)))) [
+        | true ↦ λ ours.
+            let same = of_puzzle x own ∙ sym (of_puzzle used.0 ours) in
+            let first : text_cmp x.round used.0.round ≡ Less = is_below x used.0 (ap (λ (k : PuzzleKey). k.author) same) (ap (λ (k : PuzzleKey). k.label) same) below.0 in
+            elim (test used) as (λ b. AllByRecursion (λ y. text_cmp x.round y ≡ Less) (map (λ (u : UseKey × Unit {0}). u.0.round) (cond b (used ∷ filter test rest) (filter test rest)))) [
+              | true ↦ (first, later)
+              | false ↦ later
+            ]
+        | false ↦ λ _. later
+      ] refl
+
+  pub ids_in_order : (uses : List (UseKey × Unit {0})) → IsStrictlySortedBy use_cmp (keys_of uses) → IsStrictlySortedBy text_cmp (rounds_of uses)
+  unfolding IsStrictlySortedBy
+  ids_in_order [] sorted = tt
+  ids_in_order (used ∷ uses) sorted =
+      let rest = filter (λ (u : UseKey × Unit {0}). is_use_of key u.0) uses in
+      let later = ids_in_order uses (sorted_tail use_cmp used.0 (keys_of uses) sorted) in
+      elim (is_use_of key used.0) as (λ b. is_use_of key used.0 ≡ b → IsStrictlySortedBy text_cmp (map (λ (u : UseKey × Unit {0}). u.0.round) (filter test (cond b (used ∷ rest) rest)))) [
+        | true ↦ λ ours. elim (test used) as (λ b. IsStrictlySortedBy text_cmp (map (λ (u : UseKey × Unit {0}). u.0.round) (cond b (used ∷ filter test rest) (filter test rest)))) [
+          | true ↦ (all_below used.0 ours uses (sorted_head use_cmp used.0 (keys_of uses) sorted), later)
+          | false ↦ later
+        ]
+        | false ↦ λ _. later
+      ] refl
+
 module _ (store : MapStore) (key : PuzzleKey) (rounds_sorted : IsStrictlySortedBy text_cmp (keys_of store.rounds.entries)) where
   abbrev uses : List (UseKey × Unit {0})
   uses = store.uses.entries
@@ -73,9 +125,8 @@ module _ (store : MapStore) (key : PuzzleKey) (rounds_sorted : IsStrictlySortedB
   in_row id zero entry (Some row) at = absurd (let no : None ≡ Some entry = at in cc)
   in_row id (suc before) entry (Some row) at = (row, refl, contained row.puzzles entry before at)
 
-  -- the ids that the index leads to, where the rows agree, are those of the rounds that have the puzzle
-  pub using_found : (ids : List (List ℕ)) → ids ≡ ids_using store.rounds.entries key uses → AreUsing (world_of store) key ids
-  using_found ids is id = (
+  whole : (ids : List (List ℕ)) → ids ≡ ids_using store.rounds.entries key uses → (id : List ℕ) → Contains ids id ↔ ((entry : Entry) × Lists (world_of store) id entry × (entry.puzzle ≡ key))
+  whole ids is id = (
     (λ among.
         let used = mapped_from (λ (u : UseKey × Unit {0}). u.0.round) (filter true_use (filter of_key uses)) id (subst (λ (l : List (List ℕ)). Contains l id) is among) in
         let kept = filter-Contains true_use (filter of_key uses) used.0 used.1 in
@@ -93,3 +144,10 @@ module _ (store : MapStore) (key : PuzzleKey) (rounds_sorted : IsStrictlySortedB
         (mapped (λ (u : UseKey × Unit {0}). u.0.round) (filter true_use (filter of_key uses)) used
         (Contains-filter true_use (filter of_key uses) used (Contains-filter of_key uses used among ours) has))),
   )
+
+  -- the ids that the index leads to, where the rows agree, are those of the rounds that have the puzzle
+  pub using_found : IsStrictlySortedBy use_cmp (keys_of uses) → (ids : List (List ℕ)) → ids ≡ ids_using store.rounds.entries key uses → AreUsing (world_of store) key ids
+  using_found uses_sorted ids is = record {
+    whole = whole ids is;
+    in_order = subst (λ (l : List (List ℕ)). IsStrictlySortedBy text_cmp l) (sym is) (ids_in_order key true_use uses uses_sorted);
+  }

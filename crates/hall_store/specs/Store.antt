@@ -1,7 +1,7 @@
 -- What the calls of a store say, where its device was honest and the store still serves.
 use Rattle.std.specs.Prelude.{◌≡◌, ◌↔◌, ◌⊎◌, ◌&&◌, ◌++◌, ℕ, ◌<◌, ◌≤◌, Bool, List, [], ◌∷◌, Result, Ok, Err, IfErr, Option, Some, None, Contains}
 use Rattle.std.specs.List.{filter}
-use Rattle.std.specs.List.Sorted.{IsSorted, IsPermutation}
+use Rattle.std.specs.List.Sorted.{IsSorted, IsStrictlySortedBy, IsPermutation}
 use Rattle.std.specs.Ordering.{nat_cmp, ordering_then}
 use Rattle.std.specs.declared.cmp.Ordering.{Ordering}
 use Rattle.std.specs.FinMap.{get, values}
@@ -134,10 +134,10 @@ IsProtestOpen world round =
     (key : ProtestKey) × (row : ProtestRow) × (key.round ≡ round) × (get world.protests key ≡ Some row)
     × (row.ruling ≡ None)
 
--- the ids of the rounds that have the puzzle
-abbrev pub AreUsing : World → PuzzleKey → List (List ℕ) → Type 0
-AreUsing world key ids =
-    (id : List ℕ) → Contains ids id ↔ ((entry : Entry) × Lists world id entry × (entry.puzzle ≡ key))
+-- the ids of the rounds that have the puzzle, each once, in their order
+pub record AreUsing (world : World) (key : PuzzleKey) (ids : List (List ℕ)) : Type 0 where
+  pub whole : (id : List ℕ) → Contains ids id ↔ ((entry : Entry) × Lists world id entry × (entry.puzzle ≡ key))
+  pub in_order : IsStrictlySortedBy text_cmp ids
 
 -- the author's puzzles, in the order of their keys
 abbrev pub puzzles_of : World → List ℕ → List PuzzleRow

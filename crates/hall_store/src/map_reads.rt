@@ -204,6 +204,7 @@ pub(crate) fn ids_using(
     requires first { first.now ≡ use_of key.now least_word }
     ensures ids { IfOk result (λ ids. ids.items ≡ ids_using rounds.now.entries key.now uses.now.entries) }
     ensures rounds_ordered { tree.IsOrdered text_cmp rounds.now }
+    ensures uses_ordered { tree.IsOrdered use_cmp uses.now }
 {
     // The map's order is told by any call, and is needed where no use is found too.
     let _count = rounds.len();

@@ -122,7 +122,7 @@ pub trait Store: Drop {
         ensures makes { Makes (SetRoundFlag id.now flag) (content self.old) (content self.new) result }
         ensures fault { Fails can_fail result };
 
-    /// The ids of the rounds that have the puzzle, each at least once.
+    /// The ids of the rounds that have the puzzle, each once, in their order.
     fn rounds_using(&mut self, alloc: Global, key: &PuzzleKey) -> Result<Vec<RoundId>, StoreFault>
         ensures kept { Kept (content self.old) (content self.new) }
         ensures served { Served (content self.new) result (λ world ids. AreUsing world key.now ids.items) }

@@ -18,7 +18,7 @@ use std::io::{Read, Write};
 fn outcome_line(alloc: Global, puzzle: &Puzzle, budget: u64) -> Result<Ending, AllocError>
     ensures { IfOk result (λ a. IsOutcomeLine puzzle.now budget (string_bytes a.line) a.status) }
 {
-    match certify(alloc, puzzle, budget)?.outcome {
+    match certify(alloc, puzzle, budget)?.outcome() {
         Outcome::One(filling) => {
             let text = write_answer(alloc, puzzle, &filling)?;
             let line = format!(in alloc; "one {text}\n")?;

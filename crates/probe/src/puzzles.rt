@@ -11,10 +11,10 @@ pub(crate) fn certify_row(alloc: Global, row: &str) -> Result<&'static str, Faul
     let budget = number_of(budget)?;
     let puzzle = parse_puzzle(alloc, text.as_bytes())?;
     let found = certify(alloc, &puzzle, budget)?;
-    Ok(match &found.outcome {
+    Ok(match found.outcome() {
         Outcome::None => "none",
-        Outcome::One(_) => "one",
-        Outcome::More(_, _) => "more",
+        Outcome::One(_solution) => "one",
+        Outcome::More(_first, _second) => "more",
         Outcome::GaveUp => "gave up",
     })
 }

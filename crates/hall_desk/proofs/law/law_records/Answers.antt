@@ -1,4 +1,4 @@
-use Rattle.hall_desk.proofs.Remaining.{records_stay}
+use Rattle.hall_desk.proofs.Remaining.{records_stay, released_puzzles_stay}
 use Rattle.hall_desk.proofs.Histories.{runs_are_histories}
 use Rattle.hall_desk.proofs.law.law_records.Goals as goal
 
@@ -7,3 +7,6 @@ returns-clause-stay c = records_stay
 
 pub returns-clause-runs : goal.returns-clause-runs
 returns-clause-runs c = runs_are_histories
+
+pub returns-clause-puzzles : goal.returns-clause-puzzles
+returns-clause-puzzles c = released_puzzles_stay

@@ -13,7 +13,7 @@ returns-clause-served g c =
     let new = state g.S.Store c.places_with.new.conn in
     served_so new c.rounds_of.result _ (λ clean. (c.in_ok-places.ensures.served clean).0)
     (λ clean. IfOk-weaker c.rounds_of.result _ _
-    (λ ids is. using_told (world_of new.now.trees) c.args.key.now c.in_ok-places.places.items ids.items (c.in_ok-places.ensures.served clean).1 is)
+    (λ ids is. using_told (world_of new.now.trees) c.args.key.now c.in_ok-places.places.items (c.in_ok-places.ensures.served clean).1 ids.items is)
     c.rounds_of.ensures.ids)
 
 pub returns-clause-whole : goal.returns-clause-whole
