@@ -91,20 +91,61 @@ pub(crate) fn candidates<const CELLS: usize>(
     Some(candidates)
 }
 
-/// How much is known round a cell: a count of the open cells of its units that may have one of its values, those with
-/// two values left five times.
+/// How much is known at a cell that may have one of the values: 1 where it is open, and 5 where it has two values left.
+fn tie(candidates: &[Values], partial: &Partial, values: Values, cell: usize) -> u32
+    requires cell { cell < length partial.now.places }
+    requires room { cell < length candidates.now }
+{
+    let left = candidates[cell];
+    if partial.get(cell).is_some() || left.and(values).is_empty() {
+        return 0;
+    }
+    if left.count() == 2 { 5 } else { 1 }
+}
+
+/// How much is known round a cell: at the other cells of its units.
 fn ties(units: &Units, candidates: &[Values], partial: &Partial, cell: usize) -> u32
     requires exact { length partial.now.places ≡ cells units.now }
     requires room { cells units.now ≤ length candidates.now }
     requires cell { cell < cells units.now }
 {
+    let (row, column) = (units.row(cell), units.column(cell));
+    let values = candidates[cell];
     let mut ties: u32 = 0;
-    for other in 0..partial.len() {
-        if partial.get(other).is_none() && units.share(cell, other) {
-            let left = candidates[other];
-            if !left.and(candidates[cell]).is_empty() {
-                ties = ties.saturating_add(if left.count() == 2 { 5 } else { 1 });
+    for line in 0..usize::from(units.side()) {
+        if line != column {
+            let beside = units.at(row, line);
+            ties = ties.saturating_add(tie(candidates, partial, values, beside));
+        }
+        if line != row {
+            let below = units.at(line, column);
+            ties = ties.saturating_add(tie(candidates, partial, values, below));
+            if units.box_number(below) == units.box_number(cell) {
+                ties = ties.saturating_add(ties_across(units, candidates, partial, cell, line));
             }
+        }
+    }
+    ties
+}
+
+/// How much is known at the cells of the cell's box that stand in another row, and not below or above it.
+fn ties_across(
+    units: &Units,
+    candidates: &[Values],
+    partial: &Partial,
+    cell: usize,
+    row: usize,
+) -> u32
+    requires exact { length partial.now.places ≡ cells units.now }
+    requires room { cells units.now ≤ length candidates.now }
+    requires cell { cell < cells units.now }
+    requires row { row < units.now.cols }
+{
+    let mut ties: u32 = 0;
+    for column in 0..usize::from(units.side()) {
+        let other = units.at(row, column);
+        if column != units.column(cell) && units.box_number(other) == units.box_number(cell) {
+            ties = ties.saturating_add(tie(candidates, partial, candidates[cell], other));
         }
     }
     ties

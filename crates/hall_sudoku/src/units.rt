@@ -1,5 +1,5 @@
 //! The units of all cells of a board, as tables.
-ghost use Rattle.std.specs.Prelude.{◌≡◌, ◌↔◌, ◌<◌, ◌≤◌, ℕ, IfOk, IsTrue, length, slice_index};
+ghost use Rattle.std.specs.Prelude.{◌≡◌, ◌↔◌, ◌<◌, ◌≤◌, ◌+◌, ◌*◌, ℕ, IfOk, IsTrue, length, slice_index};
 ghost use Rattle.hall_grid.specs.Board.{cells, row, col, HasSize};
 ghost use Rattle.hall_grid.specs.Sudoku.{box};
 ghost use Rattle.hall_sudoku.specs.Unit.{unit_of};
@@ -127,6 +127,7 @@ impl Units {
         requires { cell < cells self.now }
         ensures row { result ≡ row self.now cell }
         ensures small { result < MOST_UNITS }
+        ensures below { result < self.now.cols }
     {
         self.rows[cell] as usize
     }
@@ -147,6 +148,16 @@ impl Units {
         ensures small { result < MOST_UNITS }
     {
         self.boxes[cell] as usize
+    }
+
+    /// The cell in the row and the column.
+    pub(crate) fn at(&self, row: usize, column: usize) -> usize
+        requires row { row < self.now.cols }
+        requires column { column < self.now.cols }
+        ensures cell { result ≡ row * self.now.cols + column }
+        ensures board { result < cells self.now }
+    {
+        row * self.size.cols + column
     }
 
     /// Whether the cells have a unit in common.
