@@ -4,7 +4,7 @@ use Rattle.std.specs.Prelude.{All}
 use Rattle.std.specs.List.{AllByRecursion}
 use Rattle.std.specs.FinMap.{FinMap, get}
 use Rattle.std.proofs.lemmas.Bool.{false≢true}
-use Rattle.std.proofs.lemmas.List.Elements.{All-tail}
+use Rattle.std.proofs.lemmas.List.Elements.{All-head, All-tail}
 use Rattle.hall_policy.specs.World.{World, puzzle_cmp, end_of}
 use Rattle.hall_policy.specs.Ranges.{IsWorld, IsAnswer}
 use Rattle.hall_policy.specs.Actions.{rules_asked}
@@ -27,7 +27,7 @@ use Rattle.hall_desk.specs.Run.{IsTimed}
 use Rattle.hall_desk.specs.Sane.{Sane}
 use Rattle.hall_desk.specs.Shown.{state_name, is_sealed}
 use Rattle.hall_desk.specs.Step.{is_open, Asked, Decided, IsAnswered}
-use Rattle.hall_desk.specs.Without.{PublishesNothing, is_other_person, stays, replies_where, is_certify, certifies}
+use Rattle.hall_desk.specs.Without.{GrantsNoPublication, is_other_person, stays, replies_where, is_certify, certifies}
 use Rattle.hall_desk.specs.Exchanged.{swapped}
 use Rattle.hall_desk.specs.AnsweredRun.{AnsweredRun, timed, left_in, exchanged_asked, CertifiedWithoutOthers, CertifiedExchanged}
 use Rattle.hall_desk.specs.declared.reply.Reply.{Reply}
@@ -111,27 +111,27 @@ module _ (last : World) (e : Person) (settled : IsWorld last) (there : get last.
   both asked = stays last e asked && certifies asked
 
   abbrev Claim : List Asked → Type 0
-  Claim list = (world other end : World) (replies others : List Reply) → Sane world → Sane other → others_alike.Alike last e settled there alone world other → All IsTimed (map timed list) → All PublishesNothing (map timed list) →
+  Claim list = (world other end : World) (replies others : List Reply) → Sane world → Sane other → others_alike.Alike last e settled there alone world other → All IsTimed (map timed list) → All GrantsNoPublication replies → All GrantsNoPublication others →
       AnsweredRun world list replies last → AnsweredRun other (left_in last e list) others end → replies_where both (map timed list) replies ≡ replies_where certifies (map timed (left_in last e list)) others
 
   keep_one : (q : Asked) (rest : List Asked) (world other end : World) (given : Reply) (replies others : List Reply) → Claim rest → Sane world → Sane other → others_alike.Alike last e settled there alone world other →
-      All IsTimed (map timed (q ∷ rest)) → All PublishesNothing (map timed (q ∷ rest)) → AnsweredRun world (q ∷ rest) (given ∷ replies) last → is_other_person e (caller_of last q.request.key) ≡ false →
+      All IsTimed (map timed (q ∷ rest)) → All GrantsNoPublication (given ∷ replies) → All GrantsNoPublication others → AnsweredRun world (q ∷ rest) (given ∷ replies) last → is_other_person e (caller_of last q.request.key) ≡ false →
       AnsweredRun other (q ∷ left_in last e rest) others end →
       (if certifies (timed q) then given ∷ replies_where both (map timed rest) replies else replies_where both (map timed rest) replies)
       ≡ replies_where certifies (timed q ∷ map timed (left_in last e rest)) others
-  keep_one q rest world other end given replies [] claim sane also alike typed never run kept left = absurd left
-  keep_one q rest world other end given replies (answered ∷ others) claim sane also alike typed never run kept left =
+  keep_one q rest world other end given replies [] claim sane also alike typed never none run kept left = absurd left
+  keep_one q rest world other end given replies (answered ∷ others) claim sane also alike typed never none run kept left =
       both_more (certifies (timed q)) given answered (replies_where both (map timed rest) replies) (replies_where certifies (map timed (left_in last e rest)) others)
       (λ is. answered_alike as_is world other alike.people alike.puzzles q q refl refl refl (sym (as_it_stands q.request.action)) given answered run.0 left.0 is run.1 left.1)
       (claim run.0 left.0 end replies others (others_alike.still_sane last e settled there alone q rest world other given replies sane also alike typed never run)
       (others_alike.sane_with last e settled there alone q rest world other given replies sane also alike typed never run answered left.0 left.1)
-      (others_alike.alike_with last e settled there alone q rest world other given replies sane also alike typed never run kept answered left.0 left.1)
-      (All-tail IsTimed (timed q) (map timed rest) typed) (All-tail PublishesNothing (timed q) (map timed rest) never) run.2 left.2)
+      (others_alike.alike_with last e settled there alone q rest world other given replies sane also alike typed never run kept answered left.0 (All-head GrantsNoPublication answered others none) left.1)
+      (All-tail IsTimed (timed q) (map timed rest) typed) (All-tail GrantsNoPublication given replies never) (All-tail GrantsNoPublication answered others none) run.2 left.2)
 
   pub certified_left : (list : List Asked) → Claim list
-  certified_left [] world other end replies others sane also alike typed never run left = refl
-  certified_left (q ∷ rest) world other end [] others sane also alike typed never run left = absurd run
-  certified_left (q ∷ rest) world other end (given ∷ replies) others sane also alike typed never run left =
+  certified_left [] world other end replies others sane also alike typed never none run left = refl
+  certified_left (q ∷ rest) world other end [] others sane also alike typed never none run left = absurd run
+  certified_left (q ∷ rest) world other end (given ∷ replies) others sane also alike typed never none run left =
       elim (is_other_person e (caller_of last q.request.key)) as (λ b. is_other_person e (caller_of last q.request.key) ≡ b →
       AnsweredRun other (cond (not b) (q ∷ left_in last e rest) (left_in last e rest)) others end →
       (if not b && certifies (timed q) then given ∷ replies_where both (map timed rest) replies else replies_where both (map timed rest) replies)
@@ -139,14 +139,14 @@ module _ (last : World) (e : Person) (settled : IsWorld last) (there : get last.
         | true ↦ λ is_other made.
             certified_left rest run.0 other end replies others (others_alike.still_sane last e settled there alone q rest world other given replies sane also alike typed never run) also
             (others_alike.alike_without last e settled there alone q rest world other given replies sane also alike typed never run is_other)
-            (All-tail IsTimed (timed q) (map timed rest) typed) (All-tail PublishesNothing (timed q) (map timed rest) never) run.2 made
-        | false ↦ λ kept made. keep_one q rest world other end given replies others (certified_left rest) sane also alike typed never run kept made
+            (All-tail IsTimed (timed q) (map timed rest) typed) (All-tail GrantsNoPublication given replies never) none run.2 made
+        | false ↦ λ kept made. keep_one q rest world other end given replies others (certified_left rest) sane also alike typed never none run kept made
       ] refl left
 
 pub certified_without_others : CertifiedWithoutOthers
-certified_without_others world last end e list replies others sane typed never there alone run left =
+certified_without_others world last end e list replies others sane typed there alone run left never none =
     let settled : Sane last = run_sane world (map timed list) replies last typed (others_alike.run_of world last list replies run) sane in
-    certified_left last e settled.typed there alone list world world end replies others sane sane (others_alike.alike_itself _ _ world) typed never run left
+    certified_left last e settled.typed there alone list world world end replies others sane sane (others_alike.alike_itself _ _ world) typed never none run left
 
 -- ---- in the exchanged list
 module _ (last : World) (e : Person) (settled : IsWorld last) (there : get last.people e.name ≡ Some e) (alone : is_entrant_alone e ≡ true)

@@ -13,10 +13,13 @@ use Rattle.hall_policy.specs.declared.record.Person.{Person}
 use Rattle.hall_policy.specs.declared.record.Round.{Round}
 use Rattle.hall_policy.specs.declared.record.AnswerRow.{AnswerRow}
 use Rattle.hall_policy.specs.declared.record.ProtestKey.{ProtestKey}
+use Rattle.hall_policy.specs.declared.record.PuzzleState.{PuzzleState}
 use Rattle.hall_policy.specs.declared.record.Ruling.{Ruling}
 use Rattle.hall_policy.specs.declared.request.Action.{Action}
 use Rattle.hall_policy.specs.declared.request.Action.TheVariants as action
 use Rattle.hall_policy.specs.declared.request.Request.{Request}
+use Rattle.hall_policy.specs.declared.rule.Decision.{Decision}
+use Rattle.hall_policy.specs.declared.rule.Decision.TheVariants.{Allow, Repeat, Deny}
 use Rattle.hall_policy.proofs.Orders.{text_total}
 use Rattle.hall_store.specs.Caller.{caller_of}
 use Rattle.hall_desk.specs.Run.{IsTimed, Run}
@@ -25,7 +28,7 @@ use Rattle.hall_desk.specs.Step.{Asked, IsAnswered, Step, Decided}
 use Rattle.hall_policy.specs.OwnAlike.{is_entrant_alone, seen, as_is}
 use Rattle.hall_desk.specs.Alike.{LooksAlike, AlikeFor}
 use Rattle.hall_desk.specs.AnsweredRun.{AnsweredRun, timed, left_in, OthersHiddenInAnswers}
-use Rattle.hall_desk.specs.Without.{PublishesNothing, has_key, replies_to, is_other_person}
+use Rattle.hall_desk.specs.Without.{GrantsNoPublication, has_key, replies_to, is_other_person}
 use Rattle.hall_desk.specs.declared.reply.Reply.{Reply}
 use Rattle.hall_policy.proofs.Texts.{text_decides, and_first, and_second}
 use Rattle.hall_desk.proofs.Answering.{find-value}
@@ -259,7 +262,7 @@ module _ (last : World) (e : Person) (settled : IsWorld last) (there : get last.
   agrees world other alike (action.Import people) never = inl tt
   agrees world other alike _ never = inl tt
 
-  module _ (world other next after : World) (q : Asked) (given answered : Reply) (typed : IsWorld world) (retyped : IsWorld other) (alike : Alike world other) (never : PublishesNothing (timed q))
+  module _ (world other next after : World) (q : Asked) (given answered : Reply) (typed : IsWorld world) (retyped : IsWorld other) (alike : Alike world other) (never : (id : List ℕ) → q.request.action ≢ action.Publish id)
       (kept : (person : Person) → caller_of world q.request.key ≡ Some person → (round : List ℕ) → Stays world person.name round)
       (first : IsAnswered world q given next) (second : IsAnswered other q answered after) where
     abbrev a : Action
@@ -309,6 +312,18 @@ module _ (last : World) (e : Person) (settled : IsWorld last) (there : get last.
       | inr rules ↦ ruled_apart rules
     ]
 
+  -- ---- a publication that isn't granted
+  asks_publication : (a : Action) → ((id : List ℕ) × (a ≡ action.Publish id)) ⊎ ((id : List ℕ) → a ≢ action.Publish id)
+  asks_publication (action.Publish id) = inl (id, refl)
+  asks_publication _ = inr (λ id same. cc)
+
+  -- it leaves the world
+  refused_leaves : (world : World) (caller : Option Person) (t : ℕ) (id : List ℕ) (d : Decision) (found : PuzzleState) (given : Reply) (new : World) → GrantsNoPublication given →
+      Decided d world caller (action.Publish id) t found given new → new ≡ world
+  refused_leaves world caller t id (Deny k) found given new none h = h.1
+  refused_leaves world caller t id Repeat found given new none h = h.1
+  refused_leaves world caller t id Allow found given new none (round, at, told, made) = absurd (none id told)
+
   -- ---- lists
   someone : (found : Option Person) → is_other_person e found ≡ true → (person : Person) × (found ≡ Some person)
   someone None h = absurd (false≢true h)
@@ -316,7 +331,7 @@ module _ (last : World) (e : Person) (settled : IsWorld last) (there : get last.
 
   -- the first request
   module _ (q : Asked) (rest : List Asked) (world other : World) (given : Reply) (replies : List Reply) (sane : Sane world) (also : Sane other) (alike : Alike world other)
-      (typed : All IsTimed (map timed (q ∷ rest))) (never : All PublishesNothing (map timed (q ∷ rest))) (run : AnsweredRun world (q ∷ rest) (given ∷ replies) last) where
+      (typed : All IsTimed (map timed (q ∷ rest))) (never : All GrantsNoPublication (given ∷ replies)) (run : AnsweredRun world (q ∷ rest) (given ∷ replies) last) where
     pub remains : Remains world last
     remains = run_remains world (map timed (q ∷ rest)) (given ∷ replies) last (run_of world last (q ∷ rest) (given ∷ replies) run)
 
@@ -338,40 +353,46 @@ module _ (last : World) (e : Person) (settled : IsWorld last) (there : get last.
         left_out world run.0 other caller q.request.action some.0 by.under is_so who changes alike
 
     -- and where both make it
-    pub alike_with : is_other_person e (caller_of last q.request.key) ≡ false → (answered : Reply) (after : World) → IsAnswered other q answered after → Alike run.0 after
-    alike_with kept answered after done =
-        both_made world other run.0 after q given answered sane.typed also.typed alike (All-head PublishesNothing (timed q) (map timed rest) never)
-        (kept_caller world remains q.request.key kept) run.1 done
+    pub alike_with : is_other_person e (caller_of last q.request.key) ≡ false → (answered : Reply) (after : World) → GrantsNoPublication answered → IsAnswered other q answered after → Alike run.0 after
+    alike_with kept answered after none done = elim (asks_publication q.request.action) [
+      | inl (id, asked) ↦
+          subst (λ (w : World). Alike run.0 w) (sym (refused_leaves other (caller_of other q.request.key) q.moment id done.0 q.found answered after none
+          (subst (λ (x : Action). Decided done.0 other (caller_of other q.request.key) x q.moment q.found answered after) asked done.2)))
+          (subst (λ (w : World). Alike w other) (sym (refused_leaves world (caller_of world q.request.key) q.moment id run.1.0 q.found given run.0 (All-head GrantsNoPublication given replies never)
+          (subst (λ (x : Action). Decided run.1.0 world (caller_of world q.request.key) x q.moment q.found given run.0) asked run.1.2))) alike)
+      | inr never_asked ↦ both_made world other run.0 after q given answered sane.typed also.typed alike never_asked
+          (kept_caller world remains q.request.key kept) run.1 done
+    ]
 
     pub sane_with : (answered : Reply) (after : World) → IsAnswered other q answered after → Sane after
     sane_with answered after done = step_sane other q.moment q.request answered after head_timed.moment head_timed.request (step_of other after q answered done) also
 
   abbrev Claim : List Asked → Type 0
-  Claim list = (world other end : World) (replies others : List Reply) → Sane world → Sane other → Alike world other → All IsTimed (map timed list) → All PublishesNothing (map timed list) →
+  Claim list = (world other end : World) (replies others : List Reply) → Sane world → Sane other → Alike world other → All IsTimed (map timed list) → All GrantsNoPublication replies → All GrantsNoPublication others →
       AnsweredRun world list replies last → AnsweredRun other (left_in last e list) others end →
       replies_to e.key (map timed list) replies ≡ replies_to e.key (map timed (left_in last e list)) others
 
   -- the first request is left out
   leave_out : (q : Asked) (rest : List Asked) (world other end : World) (given : Reply) (replies others : List Reply) → Claim rest → Sane world → Sane other → Alike world other →
-      All IsTimed (map timed (q ∷ rest)) → All PublishesNothing (map timed (q ∷ rest)) →
+      All IsTimed (map timed (q ∷ rest)) → All GrantsNoPublication (given ∷ replies) → All GrantsNoPublication others →
       AnsweredRun world (q ∷ rest) (given ∷ replies) last → is_other_person e (caller_of last q.request.key) ≡ true → AnsweredRun other (left_in last e rest) others end →
       replies_to e.key (map timed (q ∷ rest)) (given ∷ replies) ≡ replies_to e.key (map timed (left_in last e rest)) others
-  leave_out q rest world other end given replies others claim sane also alike typed never run is_other left =
+  leave_out q rest world other end given replies others claim sane also alike typed never none run is_other left =
       let some = someone (caller_of last q.request.key) is_other in
       let is_so : is_other_person e (Some some.0) ≡ true = ap (is_other_person e) (sym some.1) ∙ is_other in
       let tail : List Reply = replies_to e.key (map timed rest) replies in
       ap (λ (b : Bool). if b then given ∷ tail else tail) (not_e world (remains q rest world other given replies sane also alike typed never run) q.request.key some.0 some.1 is_so)
       ∙ claim run.0 other end replies others (still_sane q rest world other given replies sane also alike typed never run) also
       (alike_without q rest world other given replies sane also alike typed never run is_other)
-      (All-tail IsTimed (timed q) (map timed rest) typed) (All-tail PublishesNothing (timed q) (map timed rest) never) run.2 left
+      (All-tail IsTimed (timed q) (map timed rest) typed) (All-tail GrantsNoPublication given replies never) none run.2 left
 
   -- the first request is made in both
   make_both : (q : Asked) (rest : List Asked) (world other end : World) (given : Reply) (replies others : List Reply) → Claim rest → Sane world → Sane other → Alike world other →
-      All IsTimed (map timed (q ∷ rest)) → All PublishesNothing (map timed (q ∷ rest)) →
+      All IsTimed (map timed (q ∷ rest)) → All GrantsNoPublication (given ∷ replies) → All GrantsNoPublication others →
       AnsweredRun world (q ∷ rest) (given ∷ replies) last → is_other_person e (caller_of last q.request.key) ≡ false → AnsweredRun other (q ∷ left_in last e rest) others end →
       replies_to e.key (map timed (q ∷ rest)) (given ∷ replies) ≡ replies_to e.key (map timed (q ∷ left_in last e rest)) others
-  make_both q rest world other end given replies [] claim sane also alike typed never run kept left = absurd left
-  make_both q rest world other end given replies (answered ∷ others) claim sane also alike typed never run kept left =
+  make_both q rest world other end given replies [] claim sane also alike typed never none run kept left = absurd left
+  make_both q rest world other end given replies (answered ∷ others) claim sane also alike typed never none run kept left =
       let next : World = run.0 in
       let after : World = left.0 in
       let ours : List Reply = replies_to e.key (map timed rest) replies in
@@ -379,8 +400,8 @@ module _ (last : World) (e : Person) (settled : IsWorld last) (there : get last.
       let tail : ours ≡ theirs =
       claim next after end replies others (still_sane q rest world other given replies sane also alike typed never run)
       (sane_with q rest world other given replies sane also alike typed never run answered after left.1)
-      (alike_with q rest world other given replies sane also alike typed never run kept answered after left.1)
-      (All-tail IsTimed (timed q) (map timed rest) typed) (All-tail PublishesNothing (timed q) (map timed rest) never) run.2 left.2 in
+      (alike_with q rest world other given replies sane also alike typed never run kept answered after (All-head GrantsNoPublication answered others none) left.1)
+      (All-tail IsTimed (timed q) (map timed rest) typed) (All-tail GrantsNoPublication given replies never) (All-tail GrantsNoPublication answered others none) run.2 left.2 in
       elim (has_key e.key q.request.key) as (λ b. has_key e.key q.request.key ≡ b → (if b then given ∷ ours else ours) ≡ (if b then answered ∷ theirs else theirs)) [
         | true ↦ λ own.
             let same : given ≡ answered = plain_answers nothing world other alike.people alike.rounds alike.places sane.typed also.typed e alone q q refl refl
@@ -391,14 +412,14 @@ module _ (last : World) (e : Person) (settled : IsWorld last) (there : get last.
       ] refl
 
   pub others_from : (list : List Asked) → Claim list
-  others_from [] world other end replies others sane also alike typed never run left = refl
-  others_from (q ∷ rest) world other end [] others sane also alike typed never run left = absurd run
-  others_from (q ∷ rest) world other end (given ∷ replies) others sane also alike typed never run left =
+  others_from [] world other end replies others sane also alike typed never none run left = refl
+  others_from (q ∷ rest) world other end [] others sane also alike typed never none run left = absurd run
+  others_from (q ∷ rest) world other end (given ∷ replies) others sane also alike typed never none run left =
       elim (is_other_person e (caller_of last q.request.key)) as (λ b. is_other_person e (caller_of last q.request.key) ≡ b →
       AnsweredRun other (cond (not b) (q ∷ left_in last e rest) (left_in last e rest)) others end →
       replies_to e.key (map timed (q ∷ rest)) (given ∷ replies) ≡ replies_to e.key (map timed (cond (not b) (q ∷ left_in last e rest) (left_in last e rest))) others) [
-        | true ↦ λ is_other made. leave_out q rest world other end given replies others (others_from rest) sane also alike typed never run is_other made
-        | false ↦ λ kept made. make_both q rest world other end given replies others (others_from rest) sane also alike typed never run kept made
+        | true ↦ λ is_other made. leave_out q rest world other end given replies others (others_from rest) sane also alike typed never none run is_other made
+        | false ↦ λ kept made. make_both q rest world other end given replies others (others_from rest) sane also alike typed never none run kept made
       ] refl left
 
 pub alike_itself : (hidden : List ℕ → Bool) (Kept : List ℕ → List ℕ → Type 0) (world : World) → AlikeFor as_is hidden Kept world world
@@ -406,6 +427,6 @@ alike_itself hidden Kept world = record { people = refl; puzzles = refl; rounds 
 
 -- the law
 pub others_hidden : OthersHiddenInAnswers
-others_hidden world last end e list replies others sane typed never there alone run left =
+others_hidden world last end e list replies others sane typed there alone run left never none =
     let settled : Sane last = run_sane world (map timed list) replies last typed (run_of world last list replies run) sane in
-    others_from last e settled.typed there alone list world world end replies others sane sane (alike_itself _ _ world) typed never run left
+    others_from last e settled.typed there alone list world world end replies others sane sane (alike_itself _ _ world) typed never none run left

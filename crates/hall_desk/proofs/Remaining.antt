@@ -34,7 +34,6 @@ use Rattle.hall_policy.proofs.Orders.{text_total, same_texts, puzzle_total, same
 use Rattle.hall_store.specs.Caller.{with_key, caller_of}
 use Rattle.hall_store.specs.Change.{with_person, with_people, relisted}
 use Rattle.hall_desk.specs.Found.{IsReleasedRound}
-use Rattle.hall_desk.specs.Sane.{Sane}
 use Rattle.hall_desk.specs.Step.{Step, Seed, Allowed, IsSearched, IsFound, is_open, new_row, draft_of, answer_row, open_protest}
 use Rattle.hall_desk.specs.History.{Event, requested, seeded, Happens}
 use Rattle.hall_desk.specs.Records.{StaysReleased, StaysProtested, StaysListed, Remains, RecordsStay, ReleasedPuzzlesStay}
@@ -166,7 +165,7 @@ put_remains world caller key puzzle t new none made =
     let after : World = record world { puzzles = insert world.puzzles key put } in
     puzzles_change world new (insert world.puzzles key put)
     (λ id q row stands at. puzzle_as_found after q row (others_stay puzzle_total same_puzzle_keys world.puzzles key put q row
-        (λ own. (none rule.InReleasedRound (lit< tt)).0 ((4, lit< tt, refl), (id, subst (λ (k : PuzzleKey). StandsReleased world k id) own stands))) at)) made
+    (λ own. (none rule.InReleasedRound (lit< tt)).0 ((4, lit< tt, refl), (id, subst (λ (k : PuzzleKey). StandsReleased world k id) own stands))) at)) made
 
 -- a Certify sets the state of its puzzle alone, to what a search finds
 certify_remains : (world : World) (key : PuzzleKey) (row : PuzzleRow) (budget : ℕ) (found : PuzzleState) (given : Reply) (new : World) →

@@ -15,7 +15,7 @@ use Rattle.hall_policy.specs.declared.request.Request.{Request}
 use Rattle.hall_desk.specs.Sane.{Sane}
 use Rattle.hall_desk.specs.Step.{is_open, Asked, IsAnswered}
 use Rattle.hall_desk.specs.Run.{IsTimed, Run}
-use Rattle.hall_desk.specs.Without.{PublishesNothing, stays, replies_where, replies_to, certifies, Serve}
+use Rattle.hall_desk.specs.Without.{GrantsNoPublication, stays, replies_where, replies_to, certifies, Serve}
 use Rattle.hall_desk.specs.Exchanged.{swapped, exchanged_request, exchanged_replies, IsSealedRound}
 use Rattle.hall_desk.specs.declared.reply.Reply.{Reply}
 
@@ -54,22 +54,24 @@ abbrev pub left_in : World → Person → List Asked → List Asked
 left_in last e list = filter (λ asked. stays last e (timed asked)) list
 
 -- of others who hold the role entrant alone, e learns nothing: the replies to e are those to the list without their
--- requests, where each search that stands in both lists finds the same in both
+-- requests, where each search that stands in both lists finds the same in both, and no reply grants a publication
 abbrev pub OthersHiddenInAnswers : Type 0
 OthersHiddenInAnswers =
     (world last end : World) (e : Person) (list : List Asked) (replies others : List Reply) →
-    Sane world → All IsTimed (map timed list) → All PublishesNothing (map timed list) →
+    Sane world → All IsTimed (map timed list) →
     get last.people e.name ≡ Some e → IsTrue (is_entrant_alone e) →
     AnsweredRun world list replies last → AnsweredRun world (left_in last e list) others end →
+    All GrantsNoPublication replies → All GrantsNoPublication others →
     replies_to e.key (map timed list) replies ≡ replies_to e.key (map timed (left_in last e list)) others
 
 -- and each request to certify that stands in both is answered alike then
 abbrev pub CertifiedWithoutOthers : Type 0
 CertifiedWithoutOthers =
     (world last end : World) (e : Person) (list : List Asked) (replies others : List Reply) →
-    Sane world → All IsTimed (map timed list) → All PublishesNothing (map timed list) →
+    Sane world → All IsTimed (map timed list) →
     get last.people e.name ≡ Some e → IsTrue (is_entrant_alone e) →
     AnsweredRun world list replies last → AnsweredRun world (left_in last e list) others end →
+    All GrantsNoPublication replies → All GrantsNoPublication others →
     replies_where (λ asked. stays last e asked && certifies asked) (map timed list) replies
     ≡ replies_where certifies (map timed (left_in last e list)) others
 

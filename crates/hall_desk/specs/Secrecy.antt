@@ -20,24 +20,25 @@ use Rattle.hall_desk.specs.Sane.{Sane}
 use Rattle.hall_desk.specs.Step.{Step}
 use Rattle.hall_desk.specs.Run.{IsTimed, Run}
 use Rattle.hall_desk.specs.History.{Event, History, IsTyped}
-use Rattle.hall_desk.specs.Without.{PublishesNothing, stays, without, replies_where, replies_to, certifies, Serve}
+use Rattle.hall_desk.specs.Without.{GrantsNoPublication, stays, without, replies_where, replies_to, certifies, Serve}
 use Rattle.hall_desk.specs.Exchanged.{exchanged_list, exchanged_replies, IsSealedRound}
 use Rattle.hall_desk.specs.declared.reply.Reply.{Reply}
 use Rattle.hall_desk.specs.declared.reply.Reply.TheVariants as reply
 
 -- ---- others
 
--- from the world, e learns nothing of others who hold the role entrant alone: for a list of requests that publishes
--- nothing, and a person e of the world at the list's end who holds the role entrant alone, the replies to e in a run of
--- the list are those in a run of the list without the others' requests. The two premises on the runs: no reply is
--- Unavailable, and each request to certify that stands in both lists is answered alike in both, so their searches find
+-- from the world, e learns nothing of others who hold the role entrant alone: for a list of requests, and a person e of
+-- the world at the list's end who holds the role entrant alone, the replies to e in a run of the list are those in a run
+-- of the list without the others' requests. The three premises on the runs: no reply is Unavailable, none grants a
+-- publication, and each request to certify that stands in both lists is answered alike in both, so their searches find
 -- the same
 abbrev pub HidesOthers : World → Type 0
 HidesOthers world =
     (last end : World) (e : Person) (list : List (ℕ × Request)) (replies others : List Reply) →
-    All IsTimed list → All PublishesNothing list → get last.people e.name ≡ Some e → IsTrue (is_entrant_alone e) →
+    All IsTimed list → get last.people e.name ≡ Some e → IsTrue (is_entrant_alone e) →
     let left : List (ℕ × Request) = without last e list in
     Run world list replies last → Run world left others end → Serve replies → Serve others →
+    All GrantsNoPublication replies → All GrantsNoPublication others →
     replies_where (λ asked. stays last e asked && certifies asked) list replies ≡ replies_where certifies left others →
     replies_to e.key list replies ≡ replies_to e.key left others
 

@@ -5,15 +5,15 @@ use Rattle.hall_policy.specs.World.{World, same_text}
 use Rattle.hall_policy.specs.OwnAlike.{is_entrant_alone}
 use Rattle.hall_policy.specs.declared.record.Person.{Person}
 use Rattle.hall_policy.specs.declared.request.Action.{Action}
-use Rattle.hall_policy.specs.declared.request.Action.TheVariants.{Certify, Publish}
+use Rattle.hall_policy.specs.declared.request.Action.TheVariants.{Certify}
 use Rattle.hall_policy.specs.declared.request.Request.{Request}
 use Rattle.hall_store.specs.Caller.{caller_of}
 use Rattle.hall_desk.specs.declared.reply.Reply.{Reply}
 use Rattle.hall_desk.specs.declared.reply.Reply.TheVariants as reply
 
--- the request doesn't publish
-abbrev pub PublishesNothing : ℕ × Request → Type 0
-PublishesNothing asked = (round : List ℕ) → asked.1.action ≢ Publish round
+-- the reply grants no publication
+abbrev pub GrantsNoPublication : Reply → Type 0
+GrantsNoPublication given = (round : List ℕ) → given ≢ reply.Published round
 
 -- the person is another one than e, and holds the role entrant alone
 abbrev pub is_other_person : Person → Option Person → Bool

@@ -60,16 +60,17 @@ pub fn law_rulings()
     ensures answered { RulingRetriesAreAnswered }
 {}
 
-/// Of what others do who are entrants alone, an entrant alone learns nothing: where nobody asks to publish, the replies
-/// to that entrant in a run are those in a run without the others' requests.
+/// Of what others do who are entrants alone, an entrant alone learns nothing: where no publication is granted, the
+/// replies to that entrant in a run are those in a run without the others' requests.
 ///
-/// In neither run a reply is 503: its request counts as not made, so a run with one is the run of another list. Of when
-/// a 503 comes, nothing is said. And each request to certify
+/// In neither run a reply grants a publication, since an open protest of another denies one that would be granted without
+/// it. In neither run a reply is 503: its request counts as not made, so a run with one is the run of another list. Of
+/// when a 503 comes, nothing is said. And each request to certify
 /// that stands in both lists is answered alike in both, since the request doesn't fix which of its true answers a search
 /// within a budget gives.
 ///
-/// `answered` says the same of lists that have with each request what its search finds, in place of the second premise,
-/// `searches` that there the second premise holds, and `runs` that these lists are the runs without 503.
+/// `answered` says the same of lists that have with each request what its search finds, in place of the last premise,
+/// `searches` that there the last premise holds, and `runs` that these lists are the runs without 503.
 pub fn law_others()
     ensures others { OthersHidden }
     ensures lives { LivesHideOthers }
@@ -90,7 +91,8 @@ pub fn law_before_start()
 /// the round, the replies to an entrant alone in a run stay the very same, but that the two are exchanged too where
 /// answers to the round are listed.
 ///
-/// The premises on two runs are those of `law_others`, and so are `answered` and `searches`.
+/// The premises on two runs are those of `law_others`, but that publications may be granted, and so are `answered` and
+/// `searches`.
 pub fn law_sealed()
     ensures verdicts { SealedVerdicts }
     ensures runs { SealedRuns }

@@ -1,12 +1,11 @@
 -- What the bytes of replies tell to one key.
 use Rattle.std.proofs.Common.{◌≡◌, ◌≢◌, inl, inr, if◌then◌else◌, ℕ, Bool, true, false, cond, not, List, [], ◌∷◌, Some, Ok, Err, refl, sym, ap, ◌∙◌, subst}
-use Rattle.std.specs.Prelude.{All}
 use Rattle.std.proofs.lemmas.List.Elements.{All-head, All-tail, All-nil, All-cons}
 use Rattle.hall_policy.specs.World.{World}
 use Rattle.hall_policy.specs.declared.record.Person.{Person}
 use Rattle.hall_policy.specs.declared.request.Request.{Request}
 use Rattle.hall_desk.specs.Run.{Run}
-use Rattle.hall_desk.specs.Without.{PublishesNothing, without, replies_where, replies_to, has_key, certifies, Serve}
+use Rattle.hall_desk.specs.Without.{without, replies_where, replies_to, has_key, certifies, Serve}
 use Rattle.hall_desk.specs.Exchanged.{swapped, exchanged_request, exchanged_list, exchanged_replies}
 use Rattle.hall_desk.specs.declared.reply.Reply.{Reply}
 use Rattle.hall_desk.specs.declared.reply.Reply.TheVariants as reply
@@ -17,7 +16,7 @@ use Rattle.hall_http.specs.Request.{RequestOf}
 use Rattle.hall_http.specs.Reply.{BytesOf}
 use Rattle.hall_http.specs.Connection.{Exchange}
 use Rattle.hall_http.specs.Serving.{IsNotMade, IsMade, AreMade}
-use Rattle.hall_http.specs.Told.{HasOneSpelling, AsksFor, AreTold, AllServed, ComesAgain, is_others, AreWithout, AsksNoPublication, BytesHideOthers, ComesExchanged, AreExchanged, AreBytes, BytesHideAnswers}
+use Rattle.hall_http.specs.Told.{HasOneSpelling, AsksFor, AreTold, AllServed, ComesAgain, is_others, AreWithout, BytesHideOthers, ComesExchanged, AreExchanged, AreBytes, BytesHideAnswers}
 use Rattle.hall_http.proofs.Asked.{one_asked}
 
 one_text : (given : Reply) (x y : List ℕ) → BytesOf given x → BytesOf given y → x ≡ y
@@ -97,13 +96,6 @@ served_replies (x ∷ xs) requests replies served (inr (q, given, later, rest, a
     (λ lacks. served_first x xs served (subst (λ (g : Reply). BytesOf g x.reply) lacks is.written))
     (served_replies xs later rest (served_later x xs served) made))
 
-publish_nothing : (xs : List Exchange) (requests : List (ℕ × Request)) (replies : List Reply) → All AsksNoPublication xs → AreMade xs requests replies → All PublishesNothing requests
-publish_nothing [] requests replies plain made = subst (λ (rs : List (ℕ × Request)). All PublishesNothing rs) (sym made.0) (All-nil PublishesNothing)
-publish_nothing (x ∷ xs) requests replies plain (inl (missed, made)) = publish_nothing xs requests replies (All-tail AsksNoPublication x xs plain) made
-publish_nothing (x ∷ xs) requests replies plain (inr (q, given, later, rest, are, come, is, made)) =
-    subst (λ (rs : List (ℕ × Request)). All PublishesNothing rs) (sym are)
-    (All-cons PublishesNothing q later (λ round. All-head AsksNoPublication x xs plain q.1 round is.reads) (publish_nothing xs later rest (All-tail AsksNoPublication x xs plain) made))
-
 -- what comes again is the same request, or is none
 module _ (last : World) (e : Person) where
   abbrev others : ℕ × Request → Bool
@@ -146,14 +138,14 @@ module _ (last : World) (e : Person) where
 
 -- the law
 pub bytes_hide_others : BytesHideOthers
-bytes_hide_others world last end e xs ys texts others whole left sane plain there alone without_them served kept same told told_too =
+bytes_hide_others world last end e xs ys texts others whole left sane there alone without_them served kept none none_left same told told_too =
     let requests : left.requests ≡ without last e whole.requests = left_requests last e xs ys whole.requests left.requests whole.replies left.replies served kept whole.made left.made without_them in
     let key : ℕ × Request → Bool = λ asked. has_key e.key asked.1.key in
     let replies : replies_where key whole.requests whole.replies ≡ replies_where key left.requests left.replies =
-    others_hidden_in_runs world sane last end e whole.requests whole.replies left.replies whole.timed (publish_nothing xs whole.requests whole.replies plain whole.made) there alone whole.run
+    others_hidden_in_runs world sane last end e whole.requests whole.replies left.replies whole.timed there alone whole.run
     (subst (λ (rs : List (ℕ × Request)). Run world rs left.replies end) requests left.run)
     (served_replies xs whole.requests whole.replies served whole.made) (served_replies ys left.requests left.replies kept left.made)
-    (same ∙ ap (λ (rs : List (ℕ × Request)). replies_where certifies rs left.replies) requests)
+    none none_left (same ∙ ap (λ (rs : List (ℕ × Request)). replies_where certifies rs left.replies) requests)
     ∙ ap (λ (rs : List (ℕ × Request)). replies_where key rs left.replies) (sym requests) in
     same_bytes (replies_where key left.requests left.replies) texts others
     (subst (λ (gs : List Reply). AreBytes gs texts) replies (told_bytes (λ request. has_key e.key request.key) xs whole.requests whole.replies texts served whole.made told))

@@ -1,16 +1,15 @@
 -- What the bytes of replies tell of replies, and to one key.
-use Rattle.std.specs.Prelude.{◌≡◌, ◌≢◌, ◌&&◌, ◌⊎◌, ℕ, Bool, true, List, [], ◌∷◌, Some, All, Ok, IsTrue}
+use Rattle.std.specs.Prelude.{◌≡◌, ◌&&◌, ◌⊎◌, ℕ, Bool, true, List, [], ◌∷◌, Some, All, Ok, IsTrue}
 use Rattle.std.specs.FinMap.{get}
 use Rattle.hall_policy.specs.World.{World}
 use Rattle.hall_policy.specs.OwnAlike.{is_entrant_alone}
 use Rattle.hall_policy.specs.Ranges.{IsAnswer}
 use Rattle.hall_policy.specs.declared.record.Person.{Person}
 use Rattle.hall_policy.specs.declared.record.Round.{Round}
-use Rattle.hall_policy.specs.declared.request.Action.TheVariants.{Publish}
 use Rattle.hall_policy.specs.declared.request.Request.{Request}
 use Rattle.hall_store.specs.Caller.{caller_of}
 use Rattle.hall_desk.specs.Sane.{Sane}
-use Rattle.hall_desk.specs.Without.{is_other_person, stays, certifies, replies_where, replies_to, has_key}
+use Rattle.hall_desk.specs.Without.{GrantsNoPublication, is_other_person, stays, certifies, replies_where, replies_to, has_key}
 use Rattle.hall_desk.specs.Exchanged.{swapped, exchanged_request, exchanged_replies, IsSealedRound}
 use Rattle.hall_desk.specs.declared.reply.Reply.{Reply}
 use Rattle.hall_desk.specs.declared.reply.Reply.TheVariants.{Unavailable as NotServed}
@@ -55,21 +54,17 @@ AreWithout last e (x ∷ xs) ys =
     ⊎ (¬ (AsksFor (is_others last e) x)
     × (y : Exchange) × (rest : List Exchange) × (ys ≡ y ∷ rest) × ComesAgain x y × AreWithout last e xs rest)
 
--- the bytes don't ask to publish
-abbrev pub AsksNoPublication : Exchange → Type 0
-AsksNoPublication x =
-    (request : Request) (round : List ℕ) → RequestOf x.request (Ok request) → request.action ≢ Publish round
-
 -- the replies' bytes tell e nothing of others who hold the role entrant alone: two runs of the hall from a sane world,
--- one over bytes that ask to publish nothing, and one over those without the others' requests, write the same bytes to
--- the requests with e's key; where no reply is 503, and each request to certify that comes in both runs is answered
+-- one over bytes, and one over those without the others' requests, write the same bytes to the requests with e's key;
+-- where no reply is 503, none grants a publication, and each request to certify that comes in both runs is answered
 -- alike
 abbrev pub BytesHideOthers : Type 0
 BytesHideOthers =
     (world last end : World) (e : Person) (xs ys : List Exchange) (texts others : List (List ℕ)) →
     (whole : IsRunOver world xs last) (left : IsRunOver world ys end) →
-    Sane world → All AsksNoPublication xs → get last.people e.name ≡ Some e → IsTrue (is_entrant_alone e) →
+    Sane world → get last.people e.name ≡ Some e → IsTrue (is_entrant_alone e) →
     AreWithout last e xs ys → AllServed xs → AllServed ys →
+    All GrantsNoPublication whole.replies → All GrantsNoPublication left.replies →
     replies_where (λ asked. stays last e asked && certifies asked) whole.requests whole.replies
     ≡ replies_where certifies left.requests left.replies →
     AreTold (λ request. has_key e.key request.key) xs texts →

@@ -14,9 +14,9 @@ pub fn law_requests()
 {}
 
 /// Equal replies have equal bytes. So the bytes of the replies to an entrant alone are the same where the requests of
-/// others who are entrants alone don't come, if nobody asks to publish; and until a sealed round's end, where two answers
-/// to the round are exchanged, they are those of the same replies with the two exchanged where answers to the round are
-/// listed. In neither run a reply is 503, and each request to certify that comes in both is answered alike.
+/// others who are entrants alone don't come, if no publication is granted; and until a sealed round's end, where two
+/// answers to the round are exchanged, they are those of the same replies with the two exchanged where answers to the
+/// round are listed. In neither run a reply is 503, and each request to certify that comes in both is answered alike.
 pub fn law_bytes()
     ensures spelling { HasOneSpelling }
     ensures others { BytesHideOthers }
