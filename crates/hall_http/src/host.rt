@@ -14,16 +14,18 @@ pub trait Host {
 
     type Clock: Clock + Drop;
 
-    ghost listens: { Self → ℕ → Self.Listener → Type 0 };
+    /// Asked to listen on the port, it hands out this listener.
+    ghost listens: { Self → ℕ → Self.Listener → Self → Type 0 };
 
-    ghost refuses: { Self → ℕ → Type 0 };
+    /// Asked to listen on the port, it refuses.
+    ghost refuses: { Self → ℕ → Self → Type 0 };
 
     ghost shows: { Self → Self.Clock → Type 0 };
 
     /// Listens on the port, for clients of this machine alone.
-    fn listen(&self, port: u64) -> io::Result<Self::Listener>
-        ensures listening { IfOk result (λ listener. listens self.now port listener) }
-        ensures refused { OnErr result (refuses self.now port) };
+    fn listen(&mut self, port: u64) -> io::Result<Self::Listener>
+        ensures listening { IfOk result (λ listener. listens self.old port listener self.new) }
+        ensures refused { OnErr result (refuses self.old port self.new) };
 
     /// The machine's clock.
     fn clock(&self) -> Self::Clock
@@ -50,13 +52,13 @@ impl<'r, N: Net<Listener = TcpListener, Stream = TcpStream> + time::Clock> Host
 
     type Clock = SystemClock<'r, N>;
 
-    ghost listens = { λ _ _ _. Unit {0} };
+    ghost listens = { λ _ _ _ _. Unit {0} };
 
-    ghost refuses = { λ _ _. Unit {0} };
+    ghost refuses = { λ _ _ _. Unit {0} };
 
     ghost shows = { λ _ _. Unit {0} };
 
-    fn listen(&self, port: u64) -> io::Result<TcpListener> {
+    fn listen(&mut self, port: u64) -> io::Result<TcpListener> {
         let Ok(port) = u16::try_from(port) else {
             return Err(io::Error::from(ErrorKind::InvalidInput));
         };

@@ -35,7 +35,7 @@ fn the_systems_clock_tells_seconds_of_this_century(rt: HostRuntime) {
 
 #[test]
 fn the_systems_host_listens_for_this_machine_alone(rt: HostRuntime) -> Result<(), Fail> {
-    let host = SystemHost::new(&rt);
+    let mut host = SystemHost::new(&rt);
     let listener = host.listen(0)?;
     assert!(rt; listener.local_addr()?.ip().is_loopback());
     assert!(rt; host.listen(65_536).is_err());

@@ -3,7 +3,7 @@ use Rattle.std.proofs.Common.{◌≡◌, ◌⊎◌, ℕ, List, Option, inl, inr}
 use Rattle.std.specs.Prelude.{Result, Ok, Err, IsErrOf}
 use Rattle.std.specs.Io.KnownBytes.{Appends}
 use Rattle.hall_grid.specs.Device.{Rises, Tally}
-use Rattle.hall_http.specs.Device.{WritesPart}
+use Rattle.hall_http.specs.Device.{NoneFailed, WritesPart}
 use Rattle.hall_tool.specs.Input.{IsInput}
 use Rattle.hall_tool.specs.LineRun.{IsLineRun}
 use Rattle.hall_tool.specs.declared.fault.ToolFault.{ToolFault}
@@ -16,9 +16,11 @@ module _ {R W : Type 0} (Writes : List ℕ → List ℕ → ℕ → Type 0) (rem
 
   -- a line was written
   pub told_run : (status : ℕ) → ((input : List ℕ) × (line : List ℕ) × IsInput (remaining reader.device) input
-      × Writes input line status × Appends (contents writer.device) (contents written.device) line) → Ran (Ok status)
-  told_run status told = record {
+      × Writes input line status × Appends (contents writer.device) (contents written.device) line)
+      → NoneFailed reader.failures read.failures writer.failures written.failures → Ran (Ok status)
+  told_run status told none = record {
     line = told;
+    same = none;
     device = λ is. absurd cc;
     part = λ is. absurd cc;
     memory = λ is. absurd cc;
@@ -31,6 +33,7 @@ module _ {R W : Type 0} (Writes : List ℕ → List ℕ → ℕ → Type 0) (rem
       → Ran (Err fault)
   unread_run fault cause failed same = record {
     line = tt;
+    same = tt;
     device = λ is. inl (failed is);
     part = λ is. inl same;
     memory = λ is. same;
@@ -41,6 +44,7 @@ module _ {R W : Type 0} (Writes : List ℕ → List ℕ → ℕ → Type 0) (rem
   pub wanting_run : written ≡ writer → Ran (Err tool.Memory)
   wanting_run same = record {
     line = tt;
+    same = tt;
     device = λ is. absurd cc;
     part = λ is. absurd cc;
     memory = λ is. same;
@@ -54,6 +58,7 @@ module _ {R W : Type 0} (Writes : List ℕ → List ℕ → ℕ → Type 0) (rem
       → Ran (Err tool.Device)
   broken_run failed told = record {
     line = tt;
+    same = tt;
     device = λ is. inr failed;
     part = λ is. inr told;
     memory = λ is. absurd cc;

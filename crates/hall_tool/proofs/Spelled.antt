@@ -1,7 +1,7 @@
 -- Words of each command, and that no words spell two.
-use Rattle.std.proofs.Common.{ap, inl, inr, sym, subst, refl, ◌∙◌, ◌≡◌, ℕ, List, [], ◌∷◌, Option, Some, None, codes}
+use Rattle.std.proofs.Common.{ap, inl, inr, sym, subst, refl, ◌∙◌, ◌≡◌, ℕ, List, Option, Some, None, codes}
 use Rattle.std.specs.Prelude.{◌⊎◌}
-use Rattle.clap.specs.Words.{Kinds, Row, Text, first_of}
+use Rattle.clap.specs.Words.{Row, Text, first_of}
 use Rattle.clap.specs.declared.error.kind.ErrorKind.{ErrorKind}
 use Rattle.clap.specs.declared.error.kind.ErrorKind.TheVariants.{DisplayHelp, DisplayVersion}
 use Rattle.clap.proofs.OnLiterals.{clap_on_literals}

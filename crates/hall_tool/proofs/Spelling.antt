@@ -5,7 +5,7 @@ use Rattle.std.specs.Prelude.{◌≢◌, ◌⊎◌, slice_get, unwrap_or}
 use Rattle.std.specs.Str.{bytes_eq}
 use Rattle.std.proofs.lemmas.Slice.Eq.{bytes_eq-Decides}
 use Rattle.clap.specs.Words.{Kinds, HasKind, IsAmong, Row, Text, fault_of, first_of, first_value, is_simple}
-use Rattle.clap.specs.Words.{is_simple_and_free, kind_of, matches_of, rows_of}
+use Rattle.clap.specs.Words.{is_simple_and_free, kind_of, rows_of}
 use Rattle.clap.specs.declared.parser.matches.Found.{Found}
 use Rattle.clap.proofs.WalkLemmas.{first_value-rows}
 use Rattle.clap.specs.Simple.{argument_words, built}

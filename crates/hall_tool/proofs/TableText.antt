@@ -1,6 +1,6 @@
 -- The plan of a request for a table tells the reply that is written.
 use Rattle.std.proofs.Common.{inl, inr, subst}
-use Rattle.std.specs.Prelude.{◌≡◌, ◌<◌, ℕ, List, Ok, None, IsTrue, Result}
+use Rattle.std.specs.Prelude.{◌≡◌, ◌<◌, ℕ, List, Ok, None, IsTrue}
 use Rattle.std.proofs.lemmas.Bool.Decides.{nat_tests}
 use Rattle.std.proofs.Common.{arith}
 use Rattle.hall_policy.specs.Text.{is_word_byte}

@@ -5,7 +5,7 @@ use Rattle.sqlite.specs.Recovery.{Image}
 use Rattle.hall_grid.specs.Device.{Tally}
 use Rattle.hall_store.specs.Store.{Content}
 use Rattle.hall_sql.specs.declared.open.OpenFault.{OpenFault}
-use Rattle.hall_tool.specs.Commands.{IsInitAt, IsReplayInMemory, IsTaskAt}
+use Rattle.hall_tool.specs.Commands.{IsInitAt, IsReplayInMemory, IsTaskAt, TablesCanFail}
 use Rattle.hall_tool.specs.Help.{help_text, version_text}
 use Rattle.hall_tool.specs.JudgeText.{IsJudgeRun}
 use Rattle.hall_tool.specs.Shown.{IsShown}
@@ -22,36 +22,39 @@ abbrev pub EndsAs : (Result ℕ ToolFault → Type 0) → Result ℕ CommandFaul
 EndsAs Done result = (ended : Result ℕ ToolFault) × Done ended × (result ≡ command_end ended)
 
 -- The command was run, over files that give lists and hand out databases so, made or there, stores with this content,
--- what it is to serve so many connections on a host's port, a reader and a writer. One that asks for no file leaves the
--- files as they were.
+-- what it is to serve so many connections on a machine's port, a reader and a writer. One that asks for no file leaves
+-- the files as they were, and each but serving the machine.
 abbrev pub IsCommandRun : {F N S R W : Type 0} → (List ℕ → Image) → (F → List ℕ → List ℕ → F → Type 0)
     → (F → List ℕ → F → Type 0) → (F → List ℕ → F → Type 0) → (F → List ℕ → F → OpenFault → Type 0)
     → (F → List ℕ → F → Type 0) → (F → List ℕ → F → OpenFault → Type 0) → (F → Held S → F → Type 0)
     → (Held S → Content)
-    → (N → ℕ → ℕ → Held S → Held S → Tally R → Tally R → Tally W → Tally W → Result ℕ CommandFault → Type 0)
-    → (R → Option (List ℕ)) → (W → Option (List ℕ)) → Command → N → F → F → Tally R → Tally R → Tally W → Tally W
+    → (ℕ → ℕ → N → N → Held S → Held S → Tally R → Tally R → Tally W → Tally W → Result ℕ CommandFault → Type 0)
+    → (R → Option (List ℕ)) → (W → Option (List ℕ)) → Command → F → F → N → N → Tally R → Tally R → Tally W → Tally W
     → Result ℕ CommandFault → Type 0
 IsCommandRun image_at gives withholds opened refused found missed closes content serves remaining contents
-    Judge host old new reader read writer written result =
-    EndsAs (IsJudgeRun remaining contents reader read writer written) result × (new ≡ old)
+    Judge old new host asked reader read writer written result =
+    EndsAs (IsJudgeRun remaining contents reader read writer written) result × (new ≡ old) × (asked ≡ host)
 IsCommandRun image_at gives withholds opened refused found missed closes content serves remaining contents
-    (Solve budget) host old new reader read writer written result =
-    EndsAs (IsSolveRun budget remaining contents reader read writer written) result × (new ≡ old)
+    (Solve budget) old new host asked reader read writer written result =
+    EndsAs (IsSolveRun budget remaining contents reader read writer written) result × (new ≡ old) × (asked ≡ host)
 IsCommandRun image_at gives withholds opened refused found missed closes content serves remaining contents
-    (Init db people) host old new reader read writer written result =
-    IsInitAt image_at gives withholds opened refused closes content contents db people old new reader read writer written result
+    (Init db people) old new host asked reader read writer written result =
+    IsInitAt image_at gives withholds opened refused closes content contents db people old new host asked
+    reader read writer written result
 IsCommandRun image_at gives withholds opened refused found missed closes content serves remaining contents
-    (Serve db port connections) host old new reader read writer written result =
-    IsTaskAt image_at found missed closes content (serves host port connections) db old new reader read writer written result
+    (Serve db port connections) old new host asked reader read writer written result =
+    IsTaskAt image_at found missed closes content (serves port connections) db old new host asked
+    reader read writer written result
 IsCommandRun image_at gives withholds opened refused found missed closes content serves remaining contents
-    (Replay people) host old new reader read writer written result =
-    IsReplayInMemory gives withholds remaining contents people old new reader read writer written result
+    (Replay people) old new host asked reader read writer written result =
+    IsReplayInMemory gives withholds remaining contents people old new host asked reader read writer written result
 IsCommandRun image_at gives withholds opened refused found missed closes content serves remaining contents
-    (Table db round) host old new reader read writer written result =
-    IsTaskAt image_at found missed closes content (DoesTable content contents round) db old new reader read writer written result
+    (Table db round) old new host asked reader read writer written result =
+    IsTaskAt image_at found missed closes content (DoesTable content TablesCanFail contents round) db old new host asked
+    reader read writer written result
 IsCommandRun image_at gives withholds opened refused found missed closes content serves remaining contents
-    (Help page) host old new reader read writer written result =
-    EndsAs (IsShown contents (help_text page) writer written) result × (new ≡ old) × (read ≡ reader)
+    (Help page) old new host asked reader read writer written result =
+    EndsAs (IsShown contents (help_text page) writer written) result × (new ≡ old) × (asked ≡ host) × (read ≡ reader)
 IsCommandRun image_at gives withholds opened refused found missed closes content serves remaining contents
-    Version host old new reader read writer written result =
-    EndsAs (IsShown contents version_text writer written) result × (new ≡ old) × (read ≡ reader)
+    Version old new host asked reader read writer written result =
+    EndsAs (IsShown contents version_text writer written) result × (new ≡ old) × (asked ≡ host) × (read ≡ reader)

@@ -13,8 +13,11 @@ use Rattle.hall_sql.specs.declared.open.OpenFault.{OpenFault}
 use Rattle.hall_tool.specs.Tasks.{DoesInit, DoesReplay}
 use Rattle.hall_tool.specs.declared.fault.CommandFault.{CommandFault}
 use Rattle.hall_tool.specs.declared.fault.CommandFault.TheVariants as stop
-use Rattle.hall_tool.specs.declared.fault.ToolFault.{ToolFault}
 use Rattle.hall_tool.specs.declared.fault.ToolFault.TheVariants.{Memory}
+
+-- each call of a store in a database can fail
+abbrev pub TablesCanFail : Type 0
+TablesCanFail = Unit {0}
 
 -- the list was withheld; or the database was refused for this cause; or memory was wanting
 abbrev pub StopsAt : Type 0 → (OpenFault → Type 0) → Type 0 → CommandFault → Type 0
@@ -23,49 +26,51 @@ StopsAt Withheld Refused Wants (stop.Database cause) = Refused cause
 StopsAt Withheld Refused Wants (stop.Tool Memory) = Wants
 StopsAt Withheld Refused Wants other = ⊥
 
--- the command stopped so, and the reader and the writer are as they were
-abbrev pub IsStopped : {R W : Type 0} → Type 0 → (OpenFault → Type 0) → Type 0 → Tally R → Tally R → Tally W → Tally W
-    → Result ℕ CommandFault → Type 0
-IsStopped Withheld Refused Wants reader read writer written (Ok status) = ⊥
-IsStopped Withheld Refused Wants reader read writer written (Err fault) =
-    StopsAt Withheld Refused Wants fault × (read ≡ reader) × (written ≡ writer)
+-- the command stopped so, and the machine, the reader and the writer are as they were
+abbrev pub IsStopped : {N R W : Type 0} → Type 0 → (OpenFault → Type 0) → Type 0 → N → N → Tally R → Tally R
+    → Tally W → Tally W → Result ℕ CommandFault → Type 0
+IsStopped Withheld Refused Wants host asked reader read writer written (Ok status) = ⊥
+IsStopped Withheld Refused Wants host asked reader read writer written (Err fault) =
+    StopsAt Withheld Refused Wants fault × (asked ≡ host) × (read ≡ reader) × (written ≡ writer)
 
 -- The files handed out the database at the path, this was done from the world that they held to the one in the database
 -- that they were given back; or they refused it, and nothing was done.
-abbrev pub IsTaskAt : {F S R W : Type 0} → (List ℕ → Image) → (F → List ℕ → F → Type 0)
+abbrev pub IsTaskAt : {F N S R W : Type 0} → (List ℕ → Image) → (F → List ℕ → F → Type 0)
     → (F → List ℕ → F → OpenFault → Type 0) → (F → Held S → F → Type 0) → (Held S → Content)
-    → (Held S → Held S → Tally R → Tally R → Tally W → Tally W → Result ℕ CommandFault → Type 0) → List ℕ → F → F
-    → Tally R → Tally R → Tally W → Tally W → Result ℕ CommandFault → Type 0
-IsTaskAt {F} {S} image_at opened refused closes content does db old new reader read writer written result =
+    → (N → N → Held S → Held S → Tally R → Tally R → Tally W → Tally W → Result ℕ CommandFault → Type 0) → List ℕ
+    → F → F → N → N → Tally R → Tally R → Tally W → Tally W → Result ℕ CommandFault → Type 0
+IsTaskAt {F} {N} {S} image_at opened refused closes content does db old new host asked reader read writer written
+    result =
     ((first last : Held S) × (between : F) × opened old db between × closes between last new
-    × Starts (image_at db) (content first) × does first last reader read writer written result)
-    ⊎ IsStopped ⊥ (refused old db new) ⊥ reader read writer written result
+    × Starts (image_at db) (content first) × does host asked first last reader read writer written result)
+    ⊎ IsStopped ⊥ (refused old db new) ⊥ host asked reader read writer written result
 
 -- The files gave the list and handed out the database at the path, the people of the list were imported into the world
--- that they held, and they were given the database back; or they withheld or refused one of the two, and nothing was done.
-abbrev pub IsInitAt : {F S R W : Type 0} → (List ℕ → Image) → (F → List ℕ → List ℕ → F → Type 0)
+-- that they held, and they were given the database back; or they withheld or refused one of the two, and nothing was
+-- done.
+abbrev pub IsInitAt : {F N S R W : Type 0} → (List ℕ → Image) → (F → List ℕ → List ℕ → F → Type 0)
     → (F → List ℕ → F → Type 0) → (F → List ℕ → F → Type 0) → (F → List ℕ → F → OpenFault → Type 0)
-    → (F → Held S → F → Type 0) → (Held S → Content) → (W → Option (List ℕ)) → List ℕ → List ℕ → F → F
+    → (F → Held S → F → Type 0) → (Held S → Content) → (W → Option (List ℕ)) → List ℕ → List ℕ → F → F → N → N
     → Tally R → Tally R → Tally W → Tally W → Result ℕ CommandFault → Type 0
-IsInitAt {F} {S} image_at gives withholds opened refused closes content contents db people old new
+IsInitAt {F} {N} {S} image_at gives withholds opened refused closes content contents db people old new host asked
     reader read writer written result =
     ((list : List ℕ) × (listed between : F) × (first last : Held S)
     × gives old people list listed × opened listed db between × closes between last new
     × Starts (image_at db) (content first)
-    × DoesInit content contents list first last reader read writer written result)
+    × DoesInit content TablesCanFail contents list host asked first last reader read writer written result)
     ⊎ IsStopped (withholds old people new)
     (λ cause. (list : List ℕ) × (listed : F) × gives old people list listed × refused listed db new cause) ⊥
-    reader read writer written result
+    host asked reader read writer written result
 
 -- The files gave the list, and the records of the reader were answered over a hall in memory that was empty before the
 -- list; or they withheld it, or memory was wanting, and nothing was done.
-abbrev pub IsReplayInMemory : {F R W : Type 0} → (F → List ℕ → List ℕ → F → Type 0) → (F → List ℕ → F → Type 0)
-    → (R → Option (List ℕ)) → (W → Option (List ℕ)) → List ℕ → F → F
+abbrev pub IsReplayInMemory : {F N R W : Type 0} → (F → List ℕ → List ℕ → F → Type 0) → (F → List ℕ → F → Type 0)
+    → (R → Option (List ℕ)) → (W → Option (List ℕ)) → List ℕ → F → F → N → N
     → Tally R → Tally R → Tally W → Tally W → Result ℕ CommandFault → Type 0
-IsReplayInMemory gives withholds remaining contents people old new reader read writer written result =
+IsReplayInMemory gives withholds remaining contents people old new host asked reader read writer written result =
     ((list : List ℕ) × (first last : Held MemStore)
     × gives old people list new × ((content_of (state over_memory first)).world ≡ empty_world)
-    × DoesReplay (λ s. content_of (state over_memory s)) remaining contents list first last
+    × DoesReplay (λ s. content_of (state over_memory s)) TablesCanFail remaining contents list host asked first last
     reader read writer written result)
     ⊎ IsStopped (withholds old people new) (λ cause. ⊥) ((list : List ℕ) × gives old people list new)
-    reader read writer written result
+    host asked reader read writer written result

@@ -28,16 +28,17 @@ abbrev pub InitText : List ℕ → Content → Content → List ℕ → ℕ → 
 InitText list old new line status =
     (seeded : Seeded) × IsSeeded list old new seeded × (line ≡ init_line seeded) × (status ≡ seeded_status seeded)
 
--- what came of the list was written on a line; at a device's fault, a first part of it; another fault left the world and
--- the writer
-pub record IsInitRun {W : Type 0} (contents : W → Option (List ℕ)) (list : List ℕ) (old new : Content)
-    (writer written : Tally W) (result : Result ℕ ToolFault) : Type 0 where
+-- what came of the list was written on a line; at a device's fault, a first part of it; another fault left the world
+-- and the writer, and the store is one only where it can fail
+pub record IsInitRun {W : Type 0} (can_fail : Type 0) (contents : W → Option (List ℕ)) (list : List ℕ)
+    (old new : Content) (writer written : Tally W) (result : Result ℕ ToolFault) : Type 0 where
   pub leads : Leads old new
   pub sane : SaneThen Sane old new
   pub line : IfOk result (λ status. (line : List ℕ) × InitText list old new line status
       × Appends (contents writer.device) (contents written.device) line)
+  pub same : IfOk result (λ status. written.failures ≡ writer.failures)
   pub device : IsErrOf result tool.Device → Rises writer.failures written.failures
   pub part : IsErrOf result tool.Device → (line : List ℕ) × (status : ℕ) × InitText list old new line status
       × WritesPart (contents writer.device) (contents written.device) line
   pub memory : IsErrOf result tool.Memory → Kept old new × (written ≡ writer)
-  pub store : IsErrOf result tool.Store → Kept old new × (written ≡ writer)
+  pub store : IsErrOf result tool.Store → can_fail × Kept old new × (written ≡ writer)

@@ -1,5 +1,5 @@
 -- The command replay: an entry list before any request, and the records of an input over the world that it leaves.
-use Rattle.std.specs.Prelude.{◌≡◌, ◌≢◌, ◌⊎◌, ℕ, List, [], Option, Result, Ok, Err, IfOk, OnErr, IsErrOf}
+use Rattle.std.specs.Prelude.{◌≡◌, ◌≢◌, ◌⊎◌, ℕ, List, Option, Result, Ok, Err, IfOk, OnErr, IsErrOf}
 use Rattle.std.specs.Io.KnownBytes.{Appends}
 use Rattle.hall_grid.specs.Device.{Rises, Tally}
 use Rattle.hall_store.specs.Store.{Content, Kept, Leads}
@@ -12,9 +12,9 @@ use Rattle.hall_tool.specs.declared.fault.ToolFault.{ToolFault}
 use Rattle.hall_tool.specs.declared.fault.ToolFault.TheVariants as tool
 
 -- an entry list was imported before any request, or was refused or denied on a line; or a fault left the world, and
--- perhaps a first part of the line
-pub record IsSeedRun {W : Type 0} (contents : W → Option (List ℕ)) (list : List ℕ) (old new : Content)
-    (writer written : Tally W) (result : Result ℕ ToolFault) : Type 0 where
+-- perhaps a first part of the line, and the store is one only where it can fail
+pub record IsSeedRun {W : Type 0} (can_fail : Type 0) (contents : W → Option (List ℕ)) (list : List ℕ)
+    (old new : Content) (writer written : Tally W) (result : Result ℕ ToolFault) : Type 0 where
   pub leads : Leads old new
   pub line : IfOk result (λ status. (line : List ℕ) × SeedText list old new line status
       × Appends (contents writer.device) (contents written.device) line)
@@ -25,6 +25,7 @@ pub record IsSeedRun {W : Type 0} (contents : W → Option (List ℕ)) (list : L
       × WritesPart (contents writer.device) (contents written.device) line
   pub memory : IsErrOf result tool.Memory → written ≡ writer
   pub store : IsErrOf result tool.Store → written ≡ writer
+  pub cause : IsErrOf result tool.Store → can_fail
 
 -- 0 exactly where the records ended well, 2 where what was left is none; a fault is a fault
 abbrev pub replay_end : {U : Type 0} → Result U ReplayFault → Result ℕ ToolFault
@@ -33,14 +34,15 @@ replay_end (Err replay.Record) = Ok 2
 replay_end (Err replay.Device) = Err tool.Device
 replay_end (Err replay.Memory) = Err tool.Memory
 
--- Where the list wasn't imported, that is all, and no record was read; else the records were answered from the world that
--- the import left.
-abbrev pub IsReplayRun : {S R W : Type 0} → (S → Content) → (R → Option (List ℕ)) → (W → Option (List ℕ)) → List ℕ
-    → S → S → Tally R → Tally R → Tally W → Tally W → Result ℕ ToolFault → Type 0
-IsReplayRun {S} {R} {W} content remaining contents list old new reader read writer written result =
-    (IsSeedRun contents list (content old) (content new) writer written result × (result ≢ Ok 0) × (read ≡ reader))
+-- Where the list wasn't imported, that is all, and no record was read; else the records were answered from the world
+-- that the import left.
+abbrev pub IsReplayRun : {S R W : Type 0} → (S → Content) → Type 0 → (R → Option (List ℕ)) → (W → Option (List ℕ))
+    → List ℕ → S → S → Tally R → Tally R → Tally W → Tally W → Result ℕ ToolFault → Type 0
+IsReplayRun {S} {R} {W} content can_fail remaining contents list old new reader read writer written result =
+    (IsSeedRun can_fail contents list (content old) (content new) writer written result × (result ≢ Ok 0)
+    × (read ≡ reader))
     ⊎ ((seeded : S) × (told : Tally W) × (end : Result (Unit {0}) ReplayFault)
-    × IsSeedRun contents list (content old) (content seeded) writer told (Ok 0)
+    × IsSeedRun can_fail contents list (content old) (content seeded) writer told (Ok 0)
     × IsReplayed (remaining reader.device) (remaining read.device) (contents told.device) (contents written.device)
     (content seeded) (content new) reader.failures read.failures told.failures written.failures
     reader.calls read.calls end

@@ -51,14 +51,16 @@ TableText round content text status =
     ⊎ (IsRoundId round × ((given : Reply) × IsTableOver content round given × IsTableWritten given text status))
 
 -- the world stays, and the table or its denial was written; at a device's fault, a first part of it; another fault left
--- the writer
-pub record IsTableRun {W : Type 0} (contents : W → Option (List ℕ)) (round : List ℕ) (old new : Content)
-    (writer written : Tally W) (result : Result ℕ ToolFault) : Type 0 where
+-- the writer, and the store is one only where it may fail
+pub record IsTableRun {W : Type 0} (can_fail : Type 0) (contents : W → Option (List ℕ)) (round : List ℕ)
+    (old new : Content) (writer written : Tally W) (result : Result ℕ ToolFault) : Type 0 where
   pub kept : Kept old new
   pub text : IfOk result (λ status. (text : List ℕ) × TableText round new text status
       × Appends (contents writer.device) (contents written.device) text)
+  pub same : IfOk result (λ status. written.failures ≡ writer.failures)
   pub device : IsErrOf result tool.Device → Rises writer.failures written.failures
   pub part : IsErrOf result tool.Device → (text : List ℕ) × (status : ℕ) × TableText round new text status
       × WritesPart (contents writer.device) (contents written.device) text
   pub memory : IsErrOf result tool.Memory → written ≡ writer
   pub store : IsErrOf result tool.Store → written ≡ writer
+  pub fault : IsErrOf result tool.Store → MayFail can_fail new

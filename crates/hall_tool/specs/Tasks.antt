@@ -1,4 +1,5 @@
--- What is done with a hall, over stores with some content, readers and writers: where it leads, and how it ends.
+-- What is done with a hall, on a machine, over stores with some content, readers and writers: where it leads, and how
+-- it ends.
 use Rattle.std.specs.Prelude.{◌≡◌, ◌⊎◌, ℕ, List, Option, Result, Ok, Err}
 use Rattle.hall_grid.specs.Device.{Tally}
 use Rattle.hall_store.specs.Store.{Content}
@@ -16,41 +17,43 @@ abbrev pub command_end : Result ℕ ToolFault → Result ℕ CommandFault
 command_end (Ok status) = Ok status
 command_end (Err fault) = Err (Tool fault)
 
--- the people of the list are imported, and the reader isn't asked
-abbrev pub DoesInit : {S R W : Type 0} → (S → Content) → (W → Option (List ℕ)) → List ℕ → S → S → Tally R → Tally R
-    → Tally W → Tally W → Result ℕ CommandFault → Type 0
-DoesInit content contents list old new reader read writer written result =
-    (ended : Result ℕ ToolFault) × IsInitRun contents list (content old) (content new) writer written ended
-    × (result ≡ command_end ended) × (read ≡ reader)
+-- the people of the list are imported, and neither the machine nor the reader is asked
+abbrev pub DoesInit : {N S R W : Type 0} → (S → Content) → Type 0 → (W → Option (List ℕ)) → List ℕ → N → N → S → S
+    → Tally R → Tally R → Tally W → Tally W → Result ℕ CommandFault → Type 0
+DoesInit content can_fail contents list host asked old new reader read writer written result =
+    (ended : Result ℕ ToolFault) × IsInitRun can_fail contents list (content old) (content new) writer written ended
+    × (result ≡ command_end ended) × (asked ≡ host) × (read ≡ reader)
 
--- the table of the round is written, and the reader isn't asked
-abbrev pub DoesTable : {S R W : Type 0} → (S → Content) → (W → Option (List ℕ)) → List ℕ → S → S → Tally R → Tally R
-    → Tally W → Tally W → Result ℕ CommandFault → Type 0
-DoesTable content contents round old new reader read writer written result =
-    (ended : Result ℕ ToolFault) × IsTableRun contents round (content old) (content new) writer written ended
-    × (result ≡ command_end ended) × (read ≡ reader)
+-- the table of the round is written, and neither the machine nor the reader is asked
+abbrev pub DoesTable : {N S R W : Type 0} → (S → Content) → Type 0 → (W → Option (List ℕ)) → List ℕ → N → N → S → S
+    → Tally R → Tally R → Tally W → Tally W → Result ℕ CommandFault → Type 0
+DoesTable content can_fail contents round host asked old new reader read writer written result =
+    (ended : Result ℕ ToolFault) × IsTableRun can_fail contents round (content old) (content new) writer written ended
+    × (result ≡ command_end ended) × (asked ≡ host) × (read ≡ reader)
 
--- the people of the list are imported, and the records of the reader are answered
-abbrev pub DoesReplay : {S R W : Type 0} → (S → Content) → (R → Option (List ℕ)) → (W → Option (List ℕ)) → List ℕ
-    → S → S → Tally R → Tally R → Tally W → Tally W → Result ℕ CommandFault → Type 0
-DoesReplay content remaining contents list old new reader read writer written result =
+-- the people of the list are imported, and the records of the reader are answered; the machine isn't asked
+abbrev pub DoesReplay : {N S R W : Type 0} → (S → Content) → Type 0 → (R → Option (List ℕ)) → (W → Option (List ℕ))
+    → List ℕ → N → N → S → S → Tally R → Tally R → Tally W → Tally W → Result ℕ CommandFault → Type 0
+DoesReplay content can_fail remaining contents list host asked old new reader read writer written result =
     (ended : Result ℕ ToolFault)
-    × IsReplayRun content remaining contents list old new reader read writer written ended
-    × (result ≡ command_end ended)
+    × IsReplayRun content can_fail remaining contents list old new reader read writer written ended
+    × (result ≡ command_end ended) × (asked ≡ host)
 
 -- 0 after the last connection; a fault where no more could come in
 abbrev pub serve_end : ServeAllEnd → Result ℕ CommandFault
 serve_end end.Served = Ok 0
 serve_end end.Refused = Err Client
 
--- The host listened on the port and showed a clock, and so many connections were served over the store, one after
--- another; or it refused the port, and the store is as it was. Neither the reader nor the writer is asked.
-abbrev pub DoesServe : {N L C S R W : Type 0} → (N → ℕ → L → Type 0) → (N → ℕ → Type 0) → (N → C → Type 0)
-    → (ℕ → L → S → C → L → S → C → ServeAllEnd → Type 0) → N → ℕ → ℕ → S → S → Tally R → Tally R → Tally W → Tally W
-    → Result ℕ CommandFault → Type 0
-DoesServe {N} {L} {C} listens refuses shows served host port connections old new reader read writer written result =
+-- The machine was asked once to listen, on the port. It listened there and showed a clock, and so many connections were
+-- served over the store, one after another; or it refused, and the store is as it was. Neither reader nor writer is
+-- asked.
+abbrev pub DoesServe : {N L C S R W : Type 0} → (N → ℕ → L → N → Type 0) → (N → ℕ → N → Type 0) → (N → C → Type 0)
+    → (ℕ → L → S → C → L → S → C → ServeAllEnd → Type 0) → ℕ → ℕ → N → N → S → S → Tally R → Tally R
+    → Tally W → Tally W → Result ℕ CommandFault → Type 0
+DoesServe {N} {L} {C} listens refuses shows served port connections host asked old new reader read writer written
+    result =
     (((listener left : L) × (clock later : C) × (end : ServeAllEnd)
-    × listens host port listener × shows host clock × served connections listener old clock left new later end
-    × (result ≡ serve_end end))
-    ⊎ (refuses host port × (new ≡ old) × (result ≡ Err Port)))
+    × listens host port listener asked × shows asked clock
+    × served connections listener old clock left new later end × (result ≡ serve_end end))
+    ⊎ (refuses host port asked × (new ≡ old) × (result ≡ Err Port)))
     × (read ≡ reader) × (written ≡ writer)

@@ -3,7 +3,7 @@
 ghost use Rattle.sqlite.specs.Held.{Held, state};
 ghost use Rattle.hall_sql.specs.Opened.{IsCauseAt, IsCauseThere, OpensAt, OpensThere};
 ghost use Rattle.hall_sql.specs.Standing.{content_of};
-ghost use Rattle.hall_tool.specs.Commands.{IsInitAt, IsReplayInMemory, IsTaskAt};
+ghost use Rattle.hall_tool.specs.Commands.{IsInitAt, IsReplayInMemory, IsTaskAt, TablesCanFail};
 
 use crate::fault::{CommandFault, ToolFault};
 use crate::task::{Init, Replay, Task};
@@ -16,43 +16,46 @@ use std::alloc::Global;
 use std::io::{Read, Write};
 
 /// Does the task with the hall that the store keeps, behind a cache, and gives the store back.
-fn task_over<T: Store, K: Task, R: Read, W: Write>(
+fn task_over<T: Store, N, K: Task<N>, R: Read, W: Write>(
     alloc: Global,
+    host: &mut N,
     store: T,
     task: &K,
     reader: &mut Counted<R>,
     writer: &mut Counted<W>,
 ) -> (T, Result<u8, CommandFault>)
-    ensures { K.does T R W T.content R.remaining W.contents task.now store result.0
+    ensures { K.does T R W T.content T.can_fail R.remaining W.contents task.now host.old host.new store result.0
         reader.old reader.new writer.old writer.new result.1 }
 {
     let mut desk = Desk::new(CachedStore::new(alloc, store));
-    let ended = task.run(alloc, &mut desk, reader, writer);
+    let ended = task.run(alloc, host, &mut desk, reader, writer);
     (desk.into_store().into_store(), ended)
 }
 
 /// Does the task with the hall in the tables, and gives the files their database back.
-fn task_in<S: Alter + Drop, F: PathFiles<S>, K: Task, R: Read, W: Write>(
+fn task_in<S: Alter + Drop, F: PathFiles<S>, N, K: Task<N>, R: Read, W: Write>(
     alloc: Global,
     files: &mut F,
+    host: &mut N,
     store: SqlStore<S>,
     task: &K,
     reader: &mut Counted<R>,
     writer: &mut Counted<W>,
 ) -> Result<u8, CommandFault>
     ensures { (last : Held S) × F.closes files.old last files.new
-        × K.does (Held S) R W (λ s. content_of (state S.Store s)) R.remaining W.contents task.now
-        store last reader.old reader.new writer.old writer.new result }
+        × K.does (Held S) R W (λ s. content_of (state S.Store s)) TablesCanFail R.remaining W.contents task.now
+        host.old host.new store last reader.old reader.new writer.old writer.new result }
 {
-    let (left, ended) = task_over(alloc, store, task, reader, writer);
+    let (left, ended) = task_over(alloc, host, store, task, reader, writer);
     files.close(&mut Some(left.into_connection()));
     ended
 }
 
 /// Does the task with the hall in the database file at the path, which is there.
-pub fn task_at<S: Alter + Drop, F: PathFiles<S>, K: Task, R: Read, W: Write>(
+pub fn task_at<S: Alter + Drop, F: PathFiles<S>, N, K: Task<N>, R: Read, W: Write>(
     alloc: Global,
     files: &mut F,
+    host: &mut N,
     db: &str,
     task: &K,
     reader: &mut Counted<R>,
@@ -60,20 +63,21 @@ pub fn task_at<S: Alter + Drop, F: PathFiles<S>, K: Task, R: Read, W: Write>(
 ) -> Result<u8, CommandFault>
     ensures { IsTaskAt F.image_at (OpensThere F.tells F.opens) (IsCauseThere S.Store F.tells F.refuses F.opens F.closes)
         F.closes (λ s. content_of (state S.Store s))
-        (K.does (Held S) R W (λ s. content_of (state S.Store s)) R.remaining W.contents task.now)
-        db.now files.old files.new reader.old reader.new writer.old writer.new result }
+        (K.does (Held S) R W (λ s. content_of (state S.Store s)) TablesCanFail R.remaining W.contents task.now)
+        db.now files.old files.new host.old host.new reader.old reader.new writer.old writer.new result }
 {
     match open_there(files, db) {
-        Ok(store) => task_in(alloc, files, store, task, reader, writer),
+        Ok(store) => task_in(alloc, files, host, store, task, reader, writer),
         Err(cause) => Err(CommandFault::Database(cause)),
     }
 }
 
 /// Imports the people of the entry list at the path `people` into the database file at the path `db`, made there where
 /// there is none.
-pub fn init_at<S: Alter + Drop, F: PathFiles<S>, R: Read, W: Write>(
+pub fn init_at<S: Alter + Drop, F: PathFiles<S>, N, R: Read, W: Write>(
     alloc: Global,
     files: &mut F,
+    host: &mut N,
     db: &str,
     people: &str,
     reader: &mut Counted<R>,
@@ -81,7 +85,7 @@ pub fn init_at<S: Alter + Drop, F: PathFiles<S>, R: Read, W: Write>(
 ) -> Result<u8, CommandFault>
     ensures { IsInitAt F.image_at F.gives F.withholds (OpensAt F.opens) (IsCauseAt S.Store F.refuses F.opens F.closes)
         F.closes (λ s. content_of (state S.Store s)) W.contents db.now people.now files.old files.new
-        reader.old reader.new writer.old writer.new result }
+        host.old host.new reader.old reader.new writer.old writer.new result }
 {
     let list = match files.read(people) {
         Ok(list) => list,
@@ -91,22 +95,23 @@ pub fn init_at<S: Alter + Drop, F: PathFiles<S>, R: Read, W: Write>(
         list: list.as_slice(),
     };
     match open_at(files, db) {
-        Ok(store) => task_in(alloc, files, store, &task, reader, writer),
+        Ok(store) => task_in(alloc, files, host, store, &task, reader, writer),
         Err(cause) => Err(CommandFault::Database(cause)),
     }
 }
 
 /// Answers the records of the reader over a hall in memory, with the people of the entry list at the path and nothing
 /// else.
-pub fn replay_in_memory<S: Alter, F: PathFiles<S>, R: Read, W: Write>(
+pub fn replay_in_memory<S: Alter, F: PathFiles<S>, N, R: Read, W: Write>(
     alloc: Global,
     files: &mut F,
+    host: &mut N,
     people: &str,
     reader: &mut Counted<R>,
     writer: &mut Counted<W>,
 ) -> Result<u8, CommandFault>
     ensures { IsReplayInMemory F.gives F.withholds R.remaining W.contents
-        people.now files.old files.new reader.old reader.new writer.old writer.new result }
+        people.now files.old files.new host.old host.new reader.old reader.new writer.old writer.new result }
 {
     let list = match files.read(people) {
         Ok(list) => list,
@@ -117,7 +122,7 @@ pub fn replay_in_memory<S: Alter, F: PathFiles<S>, R: Read, W: Write>(
     };
     match open_in_memory(alloc) {
         Ok(store) => {
-            let (left, ended) = task_over(alloc, store, &task, reader, writer);
+            let (left, ended) = task_over(alloc, host, store, &task, reader, writer);
             drop(left);
             ended
         }

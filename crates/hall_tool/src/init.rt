@@ -67,8 +67,8 @@ fn init_ending(alloc: Global, line: String, seeded: Seeded) -> Result<Ending, Al
     }
 }
 
-/// Imports the people of an entry list, whose rule on lists alone is asked, and writes on a line how many were added, or
-/// why nobody was. The result is the exit status: 0 where the people were imported, 2 where the list is refused or
+/// Imports the people of an entry list, whose rule on lists alone is asked, and writes on a line how many were added,
+/// or why nobody was. The result is the exit status: 0 where the people were imported, 2 where the list is refused or
 /// denied.
 pub fn init_run<S: Store, W: Write>(
     alloc: Global,
@@ -80,6 +80,7 @@ pub fn init_run<S: Store, W: Write>(
     ensures line { IfOk result (λ status. (line : List ℕ)
         × InitText list.now (S.content (kept_by desk.old)) (S.content (kept_by desk.new)) line status
         × Appends (W.contents writer.old.device) (W.contents writer.new.device) line) }
+    ensures same { IfOk result (λ _. writer.new.failures ≡ writer.old.failures) }
     ensures sane { SaneThen Sane (S.content (kept_by desk.old)) (S.content (kept_by desk.new)) }
     ensures refused { (refusal : Refusal) → people_in list.now ≡ Err refusal → desk.new ≡ desk.old }
     ensures device { IsErrOf result ToolFault.Device → Rises writer.old.failures writer.new.failures }
@@ -88,8 +89,8 @@ pub fn init_run<S: Store, W: Write>(
         × InitText list.now (S.content (kept_by desk.old)) (S.content (kept_by desk.new)) line status
         × WritesPart (W.contents writer.old.device) (W.contents writer.new.device) line }
     // Another fault leaves the world and the writer.
-    ensures memory { IsErrOf result ToolFault.Memory → Kept (S.content (kept_by desk.old)) (S.content (kept_by desk.new))
-        × (writer.new ≡ writer.old) }
+    ensures memory { IsErrOf result ToolFault.Memory → Kept (S.content (kept_by desk.old))
+        (S.content (kept_by desk.new)) × (writer.new ≡ writer.old) }
     ensures store { IsErrOf result ToolFault.Store → S.can_fail × Kept (S.content (kept_by desk.old))
         (S.content (kept_by desk.new)) × (writer.new ≡ writer.old) }
 {

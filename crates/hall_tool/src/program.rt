@@ -37,7 +37,7 @@ const NO_TEXT: &str = "error: a word is no text\n";
 pub fn run_words<S: Alter + Drop, F: PathFiles<S>, H: Host, R: Read, W: Write, E: Write>(
     alloc: Global,
     files: &mut F,
-    host: &H,
+    host: &mut H,
     words: &[String],
     input: &mut Counted<R>,
     output: &mut Counted<W>,
@@ -49,10 +49,9 @@ pub fn run_words<S: Alter + Drop, F: PathFiles<S>, H: Host, R: Read, W: Write, E
         (DoesServe H.listens H.refuses H.shows
         (AreServed H.Listener.accepts H.Listener.lets_go H.Listener.Line.hands_out H.Listener.Line.refuses
         H.Listener.Line.hears H.Listener.Line.Reader.remaining H.Listener.Line.Writer.contents
-        (λ s. content_of (state S.Store s)) H.Clock.now_gives)) R.remaining W.contents command host.now
-        files.old files.new
-        input.old input.new output.old output.new ended)
-        ((files.new ≡ files.old) × (input.new ≡ input.old) × (output.new ≡ output.old))
+        (λ s. content_of (state S.Store s)) H.Clock.now_gives)) R.remaining W.contents command
+        files.old files.new host.old host.new input.old input.new output.old output.new ended)
+        ((files.new ≡ files.old) × (host.new ≡ host.old) × (input.new ≡ input.old) × (output.new ≡ output.old))
         E.contents (map string_bytes words.now) error.old error.new result }
 {
     match read_words(alloc, words) {

@@ -38,7 +38,7 @@ pub fn replay_run<S: Store, R: Read, W: Write>(
     reader: &mut Counted<R>,
     writer: &mut Counted<W>,
 ) -> Result<u8, ToolFault>
-    ensures run { IsReplayRun S.content R.remaining W.contents list.now (kept_by desk.old) (kept_by desk.new)
+    ensures run { IsReplayRun S.content S.can_fail R.remaining W.contents list.now (kept_by desk.old) (kept_by desk.new)
         reader.old reader.new writer.old writer.new result }
     ensures sane { SaneThen Sane (S.content (kept_by desk.old)) (S.content (kept_by desk.new)) }
 {

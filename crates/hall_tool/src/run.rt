@@ -26,18 +26,19 @@ use std::io::{Read, Write};
 pub fn run_command<S: Alter + Drop, F: PathFiles<S>, H: Host, R: Read, W: Write>(
     alloc: Global,
     files: &mut F,
-    host: &H,
+    host: &mut H,
     command: &Command,
     input: &mut Counted<R>,
     output: &mut Counted<W>,
 ) -> Result<u8, CommandFault>
-    ensures { IsCommandRun F.image_at F.gives F.withholds (OpensAt F.opens) (IsCauseAt S.Store F.refuses F.opens F.closes)
-        (OpensThere F.tells F.opens) (IsCauseThere S.Store F.tells F.refuses F.opens F.closes) F.closes
+    ensures { IsCommandRun F.image_at F.gives F.withholds (OpensAt F.opens)
+        (IsCauseAt S.Store F.refuses F.opens F.closes) (OpensThere F.tells F.opens)
+        (IsCauseThere S.Store F.tells F.refuses F.opens F.closes) F.closes
         (λ s. content_of (state S.Store s)) (DoesServe H.listens H.refuses H.shows
         (AreServed H.Listener.accepts H.Listener.lets_go H.Listener.Line.hands_out H.Listener.Line.refuses
         H.Listener.Line.hears H.Listener.Line.Reader.remaining H.Listener.Line.Writer.contents
-        (λ s. content_of (state S.Store s)) H.Clock.now_gives)) R.remaining W.contents command.now host.now files.old files.new
-        input.old input.new output.old output.new result }
+        (λ s. content_of (state S.Store s)) H.Clock.now_gives)) R.remaining W.contents command.now
+        files.old files.new host.old host.new input.old input.new output.old output.new result }
 {
     match command {
         Command::Judge => command_end(judge_run(alloc, input, output)),
@@ -45,6 +46,7 @@ pub fn run_command<S: Alter + Drop, F: PathFiles<S>, H: Host, R: Read, W: Write>
         Command::Init { db, people } => init_at(
             alloc,
             files,
+            host,
             db.as_str(),
             people.as_str(),
             input,
@@ -56,15 +58,15 @@ pub fn run_command<S: Alter + Drop, F: PathFiles<S>, H: Host, R: Read, W: Write>
             connections,
         } => {
             let task = Serve {
-                host,
                 port: *port,
                 connections: *connections,
             };
-            task_at(alloc, files, db.as_str(), &task, input, output)
+            task_at(alloc, files, host, db.as_str(), &task, input, output)
         }
         Command::Replay { people } => replay_in_memory(
             alloc,
             files,
+            host,
             people.as_str(),
             input,
             output,
@@ -73,7 +75,7 @@ pub fn run_command<S: Alter + Drop, F: PathFiles<S>, H: Host, R: Read, W: Write>
             let task = Table {
                 round: round.as_str().as_bytes(),
             };
-            task_at(alloc, files, db.as_str(), &task, input, output)
+            task_at(alloc, files, host, db.as_str(), &task, input, output)
         }
         Command::Help(page) => command_end(show_run(help_text(*page), output)),
         Command::Version => command_end(show_run(VERSION, output)),

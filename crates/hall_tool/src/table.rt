@@ -116,7 +116,8 @@ fn table_ending<S: Store>(
     round: &[u8],
 ) -> Result<Ending, ToolFault>
     ensures kept { Kept (S.content (kept_by desk.old)) (S.content (kept_by desk.new)) }
-    ensures text { IfOk result (λ a. TableText round.now (S.content (kept_by desk.new)) (string_bytes a.line) a.status) }
+    ensures text { IfOk result
+        (λ a. TableText round.now (S.content (kept_by desk.new)) (string_bytes a.line) a.status) }
     ensures cause { IfErr result (λ e. (e ≡ ToolFault.Memory) ⊎ (e ≡ ToolFault.Store)) }
     ensures fault { IsErrOf result ToolFault.Store → MayFail S.can_fail (S.content (kept_by desk.new)) }
 {
@@ -137,8 +138,10 @@ pub fn table_run<S: Store, W: Write>(
     writer: &mut Counted<W>,
 ) -> Result<u8, ToolFault>
     ensures kept { Kept (S.content (kept_by desk.old)) (S.content (kept_by desk.new)) }
-    ensures text { IfOk result (λ status. (text : List ℕ) × TableText round.now (S.content (kept_by desk.new)) text status
+    ensures text { IfOk result (λ status. (text : List ℕ)
+        × TableText round.now (S.content (kept_by desk.new)) text status
         × Appends (W.contents writer.old.device) (W.contents writer.new.device) text) }
+    ensures same { IfOk result (λ _. writer.new.failures ≡ writer.old.failures) }
     ensures device { IsErrOf result ToolFault.Device → Rises writer.old.failures writer.new.failures }
     // At a device's fault a first part of the text was written, perhaps none of it.
     ensures part { IsErrOf result ToolFault.Device → (text : List ℕ) × (status : ℕ)

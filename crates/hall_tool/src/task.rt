@@ -13,29 +13,30 @@ use hall_store::Store;
 use std::alloc::Global;
 use std::io::{Read, Write};
 
-/// What is done with a hall.
-pub trait Task {
+/// What is done with a hall, on a machine.
+pub trait Task<N> {
     ghost use Rattle.std.specs.Prelude.{List, ℕ, Option, Result};
     ghost use Rattle.hall_grid.specs.Device.{Tally};
     ghost use Rattle.hall_store.specs.Store.{Content};
     ghost use Rattle.hall_desk.specs.Desk.{kept_by};
     ghost use Rattle.hall_tool.specs.declared.fault.CommandFault.{CommandFault};
 
-    /// Over stores with this content, and readers and writers that hold this, it leads from one store, reader and writer
-    /// to another, and ends so.
-    ghost does: { (S R W : Type 0) → (S → Content) → (R → Option (List ℕ)) → (W → Option (List ℕ)) → Self → S → S
-        → Tally R → Tally R → Tally W → Tally W → Result ℕ CommandFault → Type 0 };
+    /// Over stores with this content, which can fail or can't, and readers and writers that hold this, it leads from
+    /// one machine, store, reader and writer to another, and ends so.
+    ghost does: { (S R W : Type 0) → (S → Content) → Type 0 → (R → Option (List ℕ)) → (W → Option (List ℕ)) → Self
+        → N → N → S → S → Tally R → Tally R → Tally W → Tally W → Result ℕ CommandFault → Type 0 };
 
     /// Does it with the hall that the desk keeps, and gives the exit status.
     fn run<S: Store, R: Read, W: Write>(
         &self,
         alloc: Global,
+        host: &mut N,
         desk: &mut Desk<S>,
         reader: &mut Counted<R>,
         writer: &mut Counted<W>,
     ) -> Result<u8, CommandFault>
-        ensures { does S R W S.content R.remaining W.contents self.now (kept_by desk.old) (kept_by desk.new)
-            reader.old reader.new writer.old writer.new result };
+        ensures { does S R W S.content S.can_fail R.remaining W.contents self.now host.old host.new (kept_by desk.old)
+            (kept_by desk.new) reader.old reader.new writer.old writer.new result };
 }
 
 /// How a command ends where what it does ended so.
@@ -64,14 +65,16 @@ pub struct Init<'a> {
     pub list: &'a [u8],
 }
 
-impl Task for Init<'_> {
+impl<N> Task<N> for Init<'_> {
     ghost use Rattle.hall_tool.specs.Tasks.{DoesInit};
 
-    ghost does = { λ S R W content remaining contents task. DoesInit content contents task.list.now };
+    ghost does = { λ S R W content can_fail remaining contents task.
+        DoesInit content can_fail contents task.list.now };
 
     fn run<S: Store, R: Read, W: Write>(
         &self,
         alloc: Global,
+        _host: &mut N,
         desk: &mut Desk<S>,
         _reader: &mut Counted<R>,
         writer: &mut Counted<W>,
@@ -86,14 +89,16 @@ pub struct Table<'a> {
     pub round: &'a [u8],
 }
 
-impl Task for Table<'_> {
+impl<N> Task<N> for Table<'_> {
     ghost use Rattle.hall_tool.specs.Tasks.{DoesTable};
 
-    ghost does = { λ S R W content remaining contents task. DoesTable content contents task.round.now };
+    ghost does = { λ S R W content can_fail remaining contents task.
+        DoesTable content can_fail contents task.round.now };
 
     fn run<S: Store, R: Read, W: Write>(
         &self,
         alloc: Global,
+        _host: &mut N,
         desk: &mut Desk<S>,
         _reader: &mut Counted<R>,
         writer: &mut Counted<W>,
@@ -108,14 +113,16 @@ pub struct Replay<'a> {
     pub list: &'a [u8],
 }
 
-impl Task for Replay<'_> {
+impl<N> Task<N> for Replay<'_> {
     ghost use Rattle.hall_tool.specs.Tasks.{DoesReplay};
 
-    ghost does = { λ S R W content remaining contents task. DoesReplay content remaining contents task.list.now };
+    ghost does = { λ S R W content can_fail remaining contents task.
+        DoesReplay content can_fail remaining contents task.list.now };
 
     fn run<S: Store, R: Read, W: Write>(
         &self,
         alloc: Global,
+        _host: &mut N,
         desk: &mut Desk<S>,
         reader: &mut Counted<R>,
         writer: &mut Counted<W>,
@@ -126,33 +133,33 @@ impl Task for Replay<'_> {
 
 /// Serves so many connections on the host's port, one after another, however each ends.
 #[derive(Clone, Copy)]
-pub struct Serve<'h, H: Host> {
-    pub host: &'h H,
+pub struct Serve {
     pub port: u64,
     pub connections: u64,
 }
 
-impl<H: Host> Task for Serve<'_, H> {
+impl<H: Host> Task<H> for Serve {
     ghost use Rattle.hall_http.specs.Listener.{AreServed};
     ghost use Rattle.hall_tool.specs.Tasks.{DoesServe};
 
-    ghost does = { λ S R W content remaining contents task. DoesServe H.listens H.refuses H.shows
+    ghost does = { λ S R W content can_fail remaining contents task. DoesServe H.listens H.refuses H.shows
         (AreServed H.Listener.accepts H.Listener.lets_go H.Listener.Line.hands_out H.Listener.Line.refuses
         H.Listener.Line.hears H.Listener.Line.Reader.remaining H.Listener.Line.Writer.contents content
         H.Clock.now_gives)
-        task.host.now task.port task.connections };
+        task.port task.connections };
 
     fn run<S: Store, R: Read, W: Write>(
         &self,
         alloc: Global,
+        host: &mut H,
         desk: &mut Desk<S>,
         _reader: &mut Counted<R>,
         _writer: &mut Counted<W>,
     ) -> Result<u8, CommandFault> {
-        let Ok(mut listener) = self.host.listen(self.port) else {
+        let Ok(mut listener) = host.listen(self.port) else {
             return Err(CommandFault::Port);
         };
-        let mut clock = self.host.clock();
+        let mut clock = host.clock();
         serve_end(serve_all(alloc, desk, &mut listener, &mut clock, self.connections))
     }
 }

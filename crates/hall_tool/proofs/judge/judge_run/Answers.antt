@@ -13,6 +13,7 @@ returns g c =
     (Appends (g.W.Write.contents c.args.writer.now.device) (g.W.Write.contents c.write_all.new.writer.device))
     c.in_ok-input.ensures.front (rw c.deref.ensures.value at c.in_ok-ending.ensures)
     (rw c.as_bytes.ensures.value at c.in_ok-write_all.ensures.written))
+    (c.in_ok-input.ensures.same, c.in_ok-write_all.ensures.same)
 
 pub returns-in_err-write_all : goal.returns-in_err-write_all
 returns-in_err-write_all g c =

@@ -1,4 +1,4 @@
-use Rattle.std.proofs.Common.{inl, inr, refl}
+use Rattle.std.proofs.Common.{inl}
 use Rattle.hall_tool.proofs.program.run_words.Goals as goal
 
 pub returns-in-Ok : goal.returns-in-Ok

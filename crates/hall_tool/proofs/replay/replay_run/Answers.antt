@@ -16,7 +16,7 @@ returns-in-Ok-eq0-clause-run g c =
       kept_by c.seed_run.new.desk,
       c.seed_run.new.writer,
       c.replay.result,
-      subst (λ (ended : Result ℕ ToolFault). IsSeedRun g.W.Write.contents c.args.list.now
+      subst (λ (ended : Result ℕ ToolFault). IsSeedRun g.S.Store.can_fail g.W.Write.contents c.args.list.now
           (g.S.Store.content (kept_by c.args.desk.now)) (g.S.Store.content (kept_by c.seed_run.new.desk))
           c.args.writer.now c.seed_run.new.writer ended) zero
           (record {
@@ -28,6 +28,7 @@ returns-in-Ok-eq0-clause-run g c =
             part = seeded.part;
             memory = seeded.memory;
             store = seeded.store;
+            cause = seeded.cause;
           }),
       c.replay.ensures.replayed,
       c.replay_end.ensures,
@@ -53,6 +54,7 @@ returns-in_default-2-clause-run g c =
         part = seeded.part;
         memory = seeded.memory;
         store = seeded.store;
+        cause = seeded.cause;
       },
       other,
       refl,

@@ -1,5 +1,4 @@
 use Rattle.std.proofs.Common.{◌≡◌, ◌∙◌, sym, inl, inr}
-use Rattle.std.specs.Prelude.{IfOk}
 use Rattle.std.proofs.lemmas.Result.{IfOk-weaker}
 use Rattle.hall_desk.specs.Desk.{kept_by}
 use Rattle.hall_desk.specs.Plan.{planned_reply}
