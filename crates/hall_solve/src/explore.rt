@@ -16,8 +16,8 @@ use std::alloc::{AllocError, Global};
 
 /// Searches for the fillings that solve, in at most `budget` visits.
 ///
-/// It visits each partial filling once, and asks about a whole one at its visit alone. It gives up
-/// only where one more visit than the budget would be needed.
+/// It visits each partial filling once, and asks about a whole one at its visit alone. One whose newest
+/// value the rules refuse it passes over. It gives up only where one more visit than the budget would be needed.
 pub fn search<R: Rules>(
     alloc: Global,
     rules: &mut R,

@@ -1,5 +1,6 @@
 //! What a kind of puzzle tells a search.
-ghost use Rattle.std.specs.Prelude.{◌≡◌, ◌↔◌, ℕ, ◌+◌, ◌-◌, ◌^◌, ◌<◌, List, Option, IfOk, OnErr, IfSome, IfNone, IsTrue, length};
+ghost use Rattle.std.specs.Prelude.{◌≡◌, ◌↔◌, ℕ, ◌+◌, ◌-◌, ◌^◌, ◌<◌, List, Option, IfOk, OnErr, IfSome, IfNone, IsTrue};
+ghost use Rattle.std.specs.Prelude.{length};
 ghost use Rattle.hall_solve.specs.Question.{Question, IsSame, IsFilling, IsPartial};
 ghost use Rattle.hall_solve.specs.Question.{IsHopeless, IsOpen, IsWhole, Narrows};
 ghost use Rattle.hall_solve.specs.Trail.{Grows};
