@@ -2,7 +2,7 @@
 ghost use Rattle.std.specs.Prelude.{◌≡◌, IfOk, OnErr};
 ghost use Rattle.std.specs.Time.{system_time_nanos};
 ghost use Rattle.std.specs.declared.time.SystemTime.{SystemTime};
-ghost use Rattle.hall_http.specs.Clock.{moment_at, IsOfReading};
+ghost use Rattle.hall_http.specs.Clock.{moment_at, read_by, IsOfReading};
 
 use crate::connection::Clock;
 use hall_policy::Moment;
@@ -48,8 +48,10 @@ pub struct SystemClock<T> {
 }
 
 impl<T: WallClock> SystemClock<T> {
-    /// The clock that reads the time of day there.
-    pub fn new(time: T) -> SystemClock<T> {
+    /// The clock that reads the time of day there. It reads nothing yet.
+    pub fn new(time: T) -> SystemClock<T>
+        ensures { read_by result ≡ time }
+    {
         SystemClock { time }
     }
 }
@@ -57,7 +59,8 @@ impl<T: WallClock> SystemClock<T> {
 // A moment is that of one reading, made for it.
 impl<T: WallClock> Clock for SystemClock<T> {
     ghost now_gives = { λ before moment after.
-        IsOfReading (λ reading. T.reads before.time reading after.time) (T.refuses before.time after.time) moment };
+        IsOfReading (λ reading. T.reads (read_by before) reading (read_by after))
+        (T.refuses (read_by before) (read_by after)) moment };
 
     fn now(&mut self) -> Option<Moment> {
         moment_of(self.time.read().ok()?)
