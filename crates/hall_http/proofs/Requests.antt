@@ -1,14 +1,17 @@
 -- The answer to a request: of the bytes that asked for it, and what it leaves of a sane world.
-use Rattle.std.proofs.Common.{sym, subst, ℕ, List, inl, inr}
+use Rattle.std.proofs.Common.{◌≡◌, sym, subst, refl, ℕ, List, inl, inr}
 use Rattle.hall_policy.specs.World.{World}
 use Rattle.hall_policy.specs.declared.request.Request.{Request}
 use Rattle.hall_store.specs.Store.{Content}
+use Rattle.hall_desk.specs.Plans.{IsNobodys}
 use Rattle.hall_desk.specs.Run.{IsTimed}
 use Rattle.hall_desk.specs.Sane.{Sane}
 use Rattle.hall_desk.proofs.StepsSane.{step_sane}
-use Rattle.std.specs.Prelude.{Ok}
+use Rattle.std.specs.Prelude.{Result, Ok}
 use Rattle.hall_http.specs.Answered.{Answers, AnswersRequest, AnswersRequestOver}
-use Rattle.hall_http.specs.Request.{RequestOf}
+use Rattle.hall_http.specs.Request.{RequestOf, AsksNothing}
+use Rattle.hall_http.specs.declared.form.FormFault.{FormFault}
+use Rattle.hall_http.proofs.Asked.{one_asked}
 
 pub answers_bytes : (world : World) (t : ℕ) (bytes : List ℕ) (request : Request) (text : List ℕ) (after : World)
     → RequestOf bytes (Ok request) → IsTimed (t, request) → AnswersRequest world t request text after
@@ -28,3 +31,13 @@ pub request_sane : (old new : Content) (t : ℕ) (request : Request) (text : Lis
 request_sane old new t request text timed (inl (always, left)) serves sane = subst Sane (sym (left serves)) sane
 request_sane old new t request text timed (inr (before, after, says)) serves sane =
     turn_sane old.world t request text new.world timed says sane
+
+one_request : (x y : Request) (a b : Result Request FormFault) → a ≡ Ok x → b ≡ Ok y → a ≡ b → x ≡ y
+one_request x y a b e g same = cc
+
+-- what is asked for by bytes that ask nothing, nobody may make
+pub nobodys : (bytes : List ℕ) (request : Request) → RequestOf bytes (Ok request) → AsksNothing bytes → IsNobodys request
+nobodys bytes request reads (inl never) = absurd (never (request, reads))
+nobodys bytes request reads (inr (other, read, nobody)) =
+    let same = one_asked bytes (Ok other) (Ok request) read reads in
+    subst IsNobodys (one_request other request (Ok other) (Ok request) refl refl same) nobody

@@ -77,7 +77,7 @@ onward_runs old xs new (last, more, stays) = (last, run_over old.world xs last m
 
 module _ {H C : Type 0} (content : H → Content) (now_gives : C → Option ℕ → C → Type 0) where
   abbrev answers : H → Option ℕ → List ℕ → List ℕ → H → Type 0
-  answers old moment request reply new = IsAnswered (content old) moment request reply (content new)
+  answers = IsAnswered content
 
   pub session_whole : (h : H) (c : C) (xs : List Exchange) (i : H) (d : C) → Session answers now_gives h c xs i d
       → All (λ x. IsWhole x.request) xs
@@ -137,7 +137,13 @@ module _ {D H C : Type 0} (kept : D → H) (content : H → Content) (now_gives 
       → AreAnswered (λ h. content (kept h)) now_gives h c xs i d
       → AreAnswered content now_gives (kept h) c xs (kept i) d
   session_kept h c [] i d (same, ends) = (ap kept same, ends)
-  session_kept h c (x ∷ xs) i d (m, n, first, rest) = (kept m, n, first, session_kept m n xs i d rest)
+  session_kept h c (x ∷ xs) i d (m, n, (whole, time, says), rest) =
+      let first : IsAnswered content (kept h) x.moment x.request x.reply (kept m) = record {
+        leads = says.leads;
+        answers = says.answers;
+        untouched = λ nothing. ap kept (says.untouched nothing);
+      } in
+      (kept m, n, (whole, time, first), session_kept m n xs i d rest)
 
 module _ {D H C : Type 0} (kept : D → H) (content : H → Content) (now_gives : C → Option ℕ → C → Type 0)
     (stream after wrote written : Option (List ℕ)) (h : D) (c : C) (i : D) (d : C) (failed fails broke breaks asked asks : ℕ)

@@ -2,6 +2,11 @@
 use Rattle.std.specs.Prelude.{◌≡◌, ◌⊎◌, ℕ, ◌/◌, nat_le, if◌then◌else◌, Option, Some, None}
 use Rattle.std.specs.Time.{system_time_nanos}
 use Rattle.std.specs.declared.time.SystemTime.{SystemTime}
+use Rattle.hall_http.specs.declared.clock.SystemClock.{SystemClock}
+
+-- what the clock reads the time of day from
+abbrev pub read_by : {T : Type 0} → SystemClock T → T
+read_by clock = clock.time
 
 -- the whole seconds of so many nanoseconds since 1970, where they are a moment
 abbrev pub moment_at : ℕ → Option ℕ

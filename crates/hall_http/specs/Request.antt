@@ -11,6 +11,7 @@ use Rattle.hall_policy.specs.declared.record.PuzzleKey.{PuzzleKey}
 use Rattle.hall_policy.specs.declared.request.Action.{Action}
 use Rattle.hall_policy.specs.declared.request.Action.TheVariants as action
 use Rattle.hall_policy.specs.declared.request.Request.{Request}
+use Rattle.hall_desk.specs.Plans.{IsNobodys}
 use Rattle.hall_sheet.specs.declared.fault.Refusal.{Refusal}
 use Rattle.hall_sheet.specs.declared.fault.SheetFault.{SheetFault}
 use Rattle.hall_sheet.specs.declared.fault.SheetFault.TheVariants as sheet_fault
@@ -114,3 +115,8 @@ RequestOf bytes outcome =
 -- the bytes are one whole request of the hall
 abbrev pub AsksRequest : List ℕ → Type 0
 AsksRequest bytes = (request : Request) × RequestOf bytes (Ok request)
+
+-- the bytes are no request of the hall, or one that nobody may make
+abbrev pub AsksNothing : List ℕ → Type 0
+AsksNothing bytes =
+    ¬ (AsksRequest bytes) ⊎ ((request : Request) × RequestOf bytes (Ok request) × IsNobodys request)

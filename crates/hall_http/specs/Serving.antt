@@ -6,7 +6,7 @@ use Rattle.hall_store.specs.Store.{Content, Leads, Over}
 use Rattle.hall_desk.specs.Run.{IsTimed, Run}
 use Rattle.hall_desk.specs.declared.reply.Reply.{Reply}
 use Rattle.hall_desk.specs.declared.reply.Reply.TheVariants.{Unavailable as NotServed}
-use Rattle.hall_http.specs.Request.{RequestOf}
+use Rattle.hall_http.specs.Request.{RequestOf, AsksNothing}
 use Rattle.hall_http.specs.Reply.{BytesOf}
 use Rattle.hall_http.specs.Answered.{Answers, IsRefused}
 use Rattle.hall_http.specs.Connection.{Exchange, Session}
@@ -16,17 +16,19 @@ abbrev pub AnswersAt : World → Option ℕ → List ℕ → List ℕ → World 
 AnswersAt world (Some moment) request reply after = Answers world moment request reply after
 AnswersAt world None request reply after = BytesOf NotServed reply × (after ≡ world)
 
--- the same over a store
-pub record IsAnswered (old : Content) (moment : Option ℕ) (request reply : List ℕ) (new : Content) : Type 0 where
-  pub leads : Leads old new
-  pub answers : new.honest → Over (λ before after. AnswersAt before moment request reply after) old new
+-- the same over a store, which stays as it is where the request asks nothing of it
+pub record IsAnswered {H : Type 0} (content : H → Content) (old : H) (moment : Option ℕ) (request reply : List ℕ)
+    (new : H) : Type 0 where
+  pub leads : Leads (content old) (content new)
+  pub answers : (content new).honest →
+      Over (λ before after. AnswersAt before moment request reply after) (content old) (content new)
+  pub untouched : AsksNothing request → new ≡ old
 
 -- the requests are answered over a store at the moments that a clock gives, one after another, each over the store that
 -- the one before it left: where a fault has shut it, by 503, or by what no store decides
 abbrev pub AreAnswered : {H C : Type 0} → (H → Content) → (C → Option ℕ → C → Type 0) → H → C → List Exchange → H → C
     → Type 0
-AreAnswered content now_gives =
-    Session (λ old moment request reply new. IsAnswered (content old) moment request reply (content new)) now_gives
+AreAnswered content now_gives = Session (IsAnswered content) now_gives
 
 -- the clock was asked once for each request, in their order
 abbrev pub AreMoments : {C : Type 0} → (C → Option ℕ → C → Type 0) → C → List Exchange → C → Type 0

@@ -2,11 +2,12 @@
 ghost use Rattle.std.specs.Prelude.{◌≡◌, IfOk, OnErr, string_bytes};
 ghost use Rattle.hall_store.specs.Store.{Leads};
 ghost use Rattle.hall_desk.specs.Desk.{kept_by, SaneThen};
+ghost use Rattle.hall_desk.specs.Plans.{IsNobodys};
 ghost use Rattle.hall_desk.specs.Promises.{HasUniqueSolutions, RightAnswersAreSolutions};
 ghost use Rattle.hall_desk.specs.Run.{IsTimed};
 ghost use Rattle.hall_desk.specs.Sane.{Sane};
 ghost use Rattle.hall_http.specs.Answered.{answer_text, AnswersFault, AnswersOver, AnswersRequestOver, IsStepReplyOver};
-ghost use Rattle.hall_http.specs.Request.{AsksRequest};
+ghost use Rattle.hall_http.specs.Request.{AsksNothing};
 
 use crate::form::{FormFault, RequestFault};
 use crate::reply::{UNAVAILABLE, fault_bytes, reply_bytes};
@@ -53,7 +54,7 @@ pub fn answer_bytes<S: Store>(
     ensures leads { Leads (S.content (kept_by desk.old)) (S.content (kept_by desk.new)) }
     ensures answers { (S.content (kept_by desk.new)).honest → AnswersOver (S.content (kept_by desk.old))
         moment bytes.now (answer_text result) (S.content (kept_by desk.new)) }
-    ensures untouched { ¬ (AsksRequest bytes.now) → desk.new ≡ desk.old }
+    ensures untouched { AsksNothing bytes.now → desk.new ≡ desk.old }
     ensures sane { SaneThen Sane (S.content (kept_by desk.old)) (S.content (kept_by desk.new)) }
     ensures unique { SaneThen HasUniqueSolutions (S.content (kept_by desk.old)) (S.content (kept_by desk.new)) }
     ensures right { SaneThen RightAnswersAreSolutions (S.content (kept_by desk.old)) (S.content (kept_by desk.new)) }
@@ -86,6 +87,7 @@ fn answer_request<S: Store>(
     ensures timed { IsTimed (moment, request.now) }
     ensures answers { (S.content (kept_by desk.new)).honest → AnswersRequestOver (S.content (kept_by desk.old))
         moment request.now (answer_text result) (S.content (kept_by desk.new)) }
+    ensures untouched { IsNobodys request.now → desk.new ≡ desk.old }
 {
     // They are read for the ranges that their types keep.
     let _moment = moment.get();
@@ -108,6 +110,7 @@ fn step_bytes<S: Store>(
         (S.content (kept_by desk.old)) moment request.now (string_bytes text) (S.content (kept_by desk.new))) }
     ensures err { OnErr result ((S.content (kept_by desk.new)).honest → (S.content (kept_by desk.new)).serves →
         (S.content (kept_by desk.new)).world ≡ (S.content (kept_by desk.old)).world) }
+    ensures untouched { IsNobodys request.now → desk.new ≡ desk.old }
 {
     let plan = desk.plan(alloc, moment, request)?;
     let text = reply_bytes(alloc, plan.reply())?;

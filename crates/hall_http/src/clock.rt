@@ -2,7 +2,7 @@
 ghost use Rattle.std.specs.Prelude.{◌≡◌, IfOk, OnErr};
 ghost use Rattle.std.specs.Time.{system_time_nanos};
 ghost use Rattle.std.specs.declared.time.SystemTime.{SystemTime};
-ghost use Rattle.hall_http.specs.Clock.{moment_at, IsOfReading};
+ghost use Rattle.hall_http.specs.Clock.{moment_at, read_by, IsOfReading};
 
 use crate::connection::Clock;
 use hall_policy::Moment;
@@ -19,43 +19,48 @@ pub fn moment_of(reading: SystemTime) -> Option<Moment>
 
 /// What the time of day is read from.
 pub trait WallClock {
-    ghost reads: { Self → SystemTime → Type 0 };
+    // Each is told of it before and after one reading.
+    ghost reads: { Self → SystemTime → Self → Type 0 };
 
-    ghost refuses: { Self → Type 0 };
+    ghost refuses: { Self → Self → Type 0 };
 
     /// A reading.
-    fn read(&self) -> io::Result<SystemTime>
-        ensures reading { IfOk result (λ reading. reads self.now reading) }
-        ensures refused { OnErr result (refuses self.now) };
+    fn read(&mut self) -> io::Result<SystemTime>
+        ensures reading { IfOk result (λ reading. reads self.old reading self.new) }
+        ensures refused { OnErr result (refuses self.old self.new) };
 }
 
 // The kit's clock promises nothing of its readings.
-impl<T: time::Clock> WallClock for T {
-    ghost reads = { λ _ _. Unit {0} };
+impl<'t, T: time::Clock> WallClock for &'t T {
+    ghost reads = { λ _ _ _. Unit {0} };
 
-    ghost refuses = { λ _. Unit {0} };
+    ghost refuses = { λ _ _. Unit {0} };
 
-    fn read(&self) -> io::Result<SystemTime> {
-        SystemTime::now(self)
+    fn read(&mut self) -> io::Result<SystemTime> {
+        SystemTime::now(*self)
     }
 }
 
 /// The system's clock, in whole Unix seconds.
 #[derive(Drop)]
-pub struct SystemClock<'t, T> {
-    time: &'t T,
+pub struct SystemClock<T> {
+    time: T,
 }
 
-impl<'t, T: WallClock> SystemClock<'t, T> {
-    /// The clock that the runtime has.
-    pub fn new(time: &'t T) -> SystemClock<'t, T> {
+impl<T: WallClock> SystemClock<T> {
+    /// The clock that reads the time of day there. It reads nothing yet.
+    pub fn new(time: T) -> SystemClock<T>
+        ensures { read_by result ≡ time }
+    {
         SystemClock { time }
     }
 }
 
-impl<'t, T: WallClock> Clock for SystemClock<'t, T> {
+// A moment is that of one reading, made for it.
+impl<T: WallClock> Clock for SystemClock<T> {
     ghost now_gives = { λ before moment after.
-        (after ≡ before) × IsOfReading (T.reads before.time.now) (T.refuses before.time.now) moment };
+        IsOfReading (λ reading. T.reads (read_by before) reading (read_by after))
+        (T.refuses (read_by before) (read_by after)) moment };
 
     fn now(&mut self) -> Option<Moment> {
         moment_of(self.time.read().ok()?)

@@ -27,8 +27,7 @@ pub(crate) trait Handler {
 }
 
 impl<S: Store> Handler for Desk<S> {
-    ghost answers = { λ old moment request reply new.
-        IsAnswered (S.content (kept_by old)) moment request reply (S.content (kept_by new)) };
+    ghost answers = { IsAnswered (λ desk. S.content (kept_by desk)) };
 
     fn answer(
         &mut self,

@@ -50,7 +50,7 @@ impl<'r, N: Net<Listener = TcpListener, Stream = TcpStream> + time::Clock> Host
     for SystemHost<'r, N> {
     type Listener = TcpListener;
 
-    type Clock = SystemClock<'r, N>;
+    type Clock = SystemClock<&'r N>;
 
     ghost listens = { λ _ _ _ _. Unit {0} };
 
@@ -65,7 +65,7 @@ impl<'r, N: Net<Listener = TcpListener, Stream = TcpStream> + time::Clock> Host
         TcpListener::bind(self.rt, (Ipv4Addr::LOCALHOST, port))
     }
 
-    fn clock(&self) -> SystemClock<'r, N> {
+    fn clock(&self) -> SystemClock<&'r N> {
         SystemClock::new(self.rt)
     }
 }

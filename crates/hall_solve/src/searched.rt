@@ -1,7 +1,7 @@
 //! A search that tells how many visits it made.
-ghost use Rattle.std.specs.Prelude.{◌≡◌, IfOk};
-ghost use Rattle.hall_solve.specs.Question.{IsPartial};
-ghost use Rattle.hall_solve.specs.Answer.{OutcomeOf};
+ghost use Rattle.std.specs.Prelude.{◌≡◌, ◌≤◌, IfOk};
+ghost use Rattle.hall_solve.specs.Question.{IsPartial, IsSame, plain_tree, open_places};
+ghost use Rattle.hall_solve.specs.Answer.{OutcomeOf, fewest_visits};
 ghost use Rattle.hall_solve.specs.Searched.{visits_made, outcome_of, visits_of, IsSpent};
 
 use crate::explore::search;
@@ -61,8 +61,17 @@ pub fn search_counted<R: Rules>(
     requires start { IsPartial (R.question rules.old) start.now.places }
     ensures outcome { IfOk result
         (λ searched. OutcomeOf (R.question rules.old) start.now.places budget (outcome_of searched)) }
+
+    // How many visits it made.
     ensures counted { IfOk result (λ searched. visits_made (visits_of searched) ≡ R.visits rules.new) }
     ensures spent { IfOk result (IsSpent budget) }
+    ensures took { IfOk result (λ searched. fewest_visits (outcome_of searched) ≤ R.visits rules.new) }
+    ensures frugal { IfOk result
+        (λ _. R.visits rules.new ≤ plain_tree (R.question rules.old).values (open_places start.now.places)) }
+    ensures within { R.visits rules.new ≤ budget }
+    ensures at_visits { R.asked rules.new ≤ R.visits rules.new }
+
+    ensures same { IsSame (R.question rules.old) (R.question rules.new) }
 {
     let outcome = search(alloc, rules, start, budget)?;
     Ok(Searched {
