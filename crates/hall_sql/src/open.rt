@@ -27,7 +27,8 @@ pub enum OpenFault {
 ///
 /// What is asked of them may change them, so that a contract tells what was asked, and in which order.
 pub trait PathFiles<S: Alter> {
-    ghost use Rattle.std.specs.Prelude.{◌≡◌, List, ℕ, Bool, IfOk, IfErr, IfSome, None, OnErr};
+    ghost use Rattle.std.specs.Prelude.{◌≡◌, List, ℕ, Bool, IfOk, IfErr, IfSome, None};
+    ghost use Rattle.std.specs.declared.io.Error.{Error as ReadError};
     ghost use Rattle.sqlite.specs.Recovery.{Image};
     ghost use Rattle.sqlite.specs.Held.{Held, state};
     ghost use Rattle.sqlite.specs.declared.error.Error.{Error};
@@ -42,8 +43,8 @@ pub trait PathFiles<S: Alter> {
     /// Asked for the bytes of the file at the path, they give these.
     ghost gives: { Self → List ℕ → List ℕ → Self → Type 0 };
 
-    /// Asked for the bytes of the file at the path, they give none.
-    ghost withholds: { Self → List ℕ → Self → Type 0 };
+    /// Asked for the bytes of the file at the path, they give none, by this error.
+    ghost withholds: { Self → List ℕ → ReadError → Self → Type 0 };
 
     /// Asked for the database at the path, they hand out this one.
     ghost opens: { Self → List ℕ → Held S → Self → Type 0 };
@@ -61,7 +62,7 @@ pub trait PathFiles<S: Alter> {
     /// The bytes of the file at the path.
     fn read(&mut self, path: &str) -> io::Result<Vec<u8>>
         ensures given { IfOk result (λ bytes. gives self.old path.now bytes.items self.new) }
-        ensures withheld { OnErr result (withholds self.old path.now self.new) };
+        ensures withheld { IfErr result (λ error. withholds self.old path.now error self.new) };
 
     /// The database at the path, which is made where there is none.
     fn open(&mut self, path: &str) -> Result<Connection<S>, Error>

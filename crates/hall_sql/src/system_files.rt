@@ -34,7 +34,7 @@ impl<B: Start> PathFiles<FileStore<FileFrom<B>>> for SystemFiles<'_, B> {
 
     ghost gives = { λ old path bytes new. ⊤ };
 
-    ghost withholds = { λ old path new. ⊤ };
+    ghost withholds = { λ old path error new. ⊤ };
 
     ghost opens = { λ old path conn new. ⊤ };
 

@@ -1,6 +1,9 @@
 -- What is told of a fault: that there is one, on a line, and on the next one what to do.
-use Rattle.std.specs.Prelude.{ℕ, List}
+use Rattle.std.specs.Prelude.{◌≡◌, ◌≢◌, ℕ, List, [], ◌∷◌, ◌++◌, codes}
 use Rattle.std.specs.IoError.{error_kind}
+use Rattle.std.specs.List.{IsDistinct}
+use Rattle.std.specs.Str.{bytes_eq}
+use Rattle.std.specs.Str.Iter.{HasSubslice, LacksByte}
 use Rattle.std.specs.declared.io.ErrorKind.{ErrorKind}
 use Rattle.std.specs.declared.io.ErrorKind.TheVariants.{OutOfMemory}
 use Rattle.sqlite.specs.declared.error.Error.{Error}
@@ -52,3 +55,31 @@ fault_lines (command.List error) = list_lines (error_kind error)
 fault_lines (command.Database fault) = database_lines fault
 fault_lines command.Port = NO_PORT.now
 fault_lines command.Client = NO_CLIENT.now
+
+-- the text is `fault` on a line, and then a line that says something
+abbrev pub IsFaultText : List ℕ → Type 0
+IsFaultText text =
+    (line : List ℕ) × (text ≡ codes "fault\n" ++ (line ++ codes "\n")) × (line ≢ []) × LacksByte 10 line
+
+-- all of the texts
+abbrev pub fault_texts : List (List ℕ)
+fault_texts =
+    NO_MEMORY.now ∷ NO_DEVICE.now ∷ NO_STORE.now ∷ NO_LIST.now ∷ NO_FILE.now ∷ IN_USE.now ∷ NO_DATABASE.now
+    ∷ OTHER_TABLES.now ∷ FULL.now ∷ UNREADABLE.now ∷ NO_PORT.now ∷ NO_CLIENT.now ∷ []
+
+-- each fault is told on two lines; no two of the texts are the same; and each has the words for what failed
+pub record AreFaultsTold : Type 0 where
+  pub lines : (fault : CommandFault) → IsFaultText (fault_lines fault)
+  pub apart : IsDistinct bytes_eq fault_texts
+  pub memory : HasSubslice NO_MEMORY.now (codes "memory")
+  pub device : HasSubslice NO_DEVICE.now (codes "the input or the output")
+  pub store : HasSubslice NO_STORE.now (codes "the database failed")
+  pub list : HasSubslice NO_LIST.now (codes "the entry list")
+  pub file : HasSubslice NO_FILE.now (codes "no such database file")
+  pub in_use : HasSubslice IN_USE.now (codes "another program")
+  pub database : HasSubslice NO_DATABASE.now (codes "no whole SQLite database")
+  pub tables : HasSubslice OTHER_TABLES.now (codes "other tables")
+  pub full : HasSubslice FULL.now (codes "the disk is full")
+  pub unreadable : HasSubslice UNREADABLE.now (codes "can't be opened")
+  pub port : HasSubslice NO_PORT.now (codes "the port")
+  pub client : HasSubslice NO_CLIENT.now (codes "no more connections")

@@ -1,5 +1,6 @@
 -- What each command does with files, a host, an input and an output, and how it ends.
 use Rattle.std.specs.Prelude.{◌≡◌, ℕ, List, Option, Result}
+use Rattle.std.specs.declared.io.Error.{Error}
 use Rattle.sqlite.specs.Held.{Held}
 use Rattle.sqlite.specs.Recovery.{Image}
 use Rattle.hall_grid.specs.Device.{Tally}
@@ -25,7 +26,7 @@ EndsAs Done result = (ended : Result ℕ ToolFault) × Done ended × (result ≡
 -- what it is to serve so many connections on a machine's port, a reader and a writer. One that asks for no file leaves
 -- the files as they were, and each but serving the machine.
 abbrev pub IsCommandRun : {F N S R W : Type 0} → (List ℕ → Image) → (F → List ℕ → List ℕ → F → Type 0)
-    → (F → List ℕ → F → Type 0) → (F → List ℕ → F → Type 0) → (F → List ℕ → F → OpenFault → Type 0)
+    → (F → List ℕ → Error → F → Type 0) → (F → List ℕ → F → Type 0) → (F → List ℕ → F → OpenFault → Type 0)
     → (F → List ℕ → F → Type 0) → (F → List ℕ → F → OpenFault → Type 0) → (F → Held S → F → Type 0)
     → (Held S → Content)
     → (ℕ → ℕ → N → N → Held S → Held S → Tally R → Tally R → Tally W → Tally W → Result ℕ CommandFault → Type 0)

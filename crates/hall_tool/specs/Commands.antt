@@ -1,5 +1,6 @@
 -- The commands over files: what was done with a hall, or where a command stopped before it did anything.
 use Rattle.std.specs.Prelude.{◌≡◌, ◌⊎◌, ℕ, List, Option, Result, Ok, Err}
+use Rattle.std.specs.declared.io.Error.{Error}
 use Rattle.sqlite_trees.specs.declared.memory.MemStore.{MemStore}
 use Rattle.sqlite.specs.Held.{Held, state}
 use Rattle.sqlite.specs.Recovery.{Image}
@@ -19,16 +20,16 @@ use Rattle.hall_tool.specs.declared.fault.ToolFault.TheVariants.{Memory}
 abbrev pub TablesCanFail : Type 0
 TablesCanFail = Unit {0}
 
--- the list was withheld; or the database was refused for this cause; or memory was wanting
-abbrev pub StopsAt : Type 0 → (OpenFault → Type 0) → Type 0 → CommandFault → Type 0
-StopsAt Withheld Refused Wants (stop.List error) = Withheld
+-- the list was withheld by this error; or the database was refused for this cause; or memory was wanting
+abbrev pub StopsAt : (Error → Type 0) → (OpenFault → Type 0) → Type 0 → CommandFault → Type 0
+StopsAt Withheld Refused Wants (stop.List error) = Withheld error
 StopsAt Withheld Refused Wants (stop.Database cause) = Refused cause
 StopsAt Withheld Refused Wants (stop.Tool Memory) = Wants
 StopsAt Withheld Refused Wants other = ⊥
 
 -- the command stopped so, and the machine, the reader and the writer are as they were
-abbrev pub IsStopped : {N R W : Type 0} → Type 0 → (OpenFault → Type 0) → Type 0 → N → N → Tally R → Tally R
-    → Tally W → Tally W → Result ℕ CommandFault → Type 0
+abbrev pub IsStopped : {N R W : Type 0} → (Error → Type 0) → (OpenFault → Type 0) → Type 0 → N → N
+    → Tally R → Tally R → Tally W → Tally W → Result ℕ CommandFault → Type 0
 IsStopped Withheld Refused Wants host asked reader read writer written (Ok status) = ⊥
 IsStopped Withheld Refused Wants host asked reader read writer written (Err fault) =
     StopsAt Withheld Refused Wants fault × (asked ≡ host) × (read ≡ reader) × (written ≡ writer)
@@ -43,13 +44,13 @@ IsTaskAt {F} {N} {S} image_at opened refused closes content does db old new host
     result =
     ((first last : Held S) × (between : F) × opened old db between × closes between last new
     × Starts (image_at db) (content first) × does host asked first last reader read writer written result)
-    ⊎ IsStopped ⊥ (refused old db new) ⊥ host asked reader read writer written result
+    ⊎ IsStopped (λ error. ⊥) (refused old db new) ⊥ host asked reader read writer written result
 
 -- The files gave the list and handed out the database at the path, the people of the list were imported into the world
 -- that they held, and they were given the database back; or they withheld or refused one of the two, and nothing was
 -- done.
 abbrev pub IsInitAt : {F N S R W : Type 0} → (List ℕ → Image) → (F → List ℕ → List ℕ → F → Type 0)
-    → (F → List ℕ → F → Type 0) → (F → List ℕ → F → Type 0) → (F → List ℕ → F → OpenFault → Type 0)
+    → (F → List ℕ → Error → F → Type 0) → (F → List ℕ → F → Type 0) → (F → List ℕ → F → OpenFault → Type 0)
     → (F → Held S → F → Type 0) → (Held S → Content) → (W → Option (List ℕ)) → List ℕ → List ℕ → F → F → N → N
     → Tally R → Tally R → Tally W → Tally W → Result ℕ CommandFault → Type 0
 IsInitAt {F} {N} {S} image_at gives withholds opened refused closes content contents db people old new host asked
@@ -58,13 +59,14 @@ IsInitAt {F} {N} {S} image_at gives withholds opened refused closes content cont
     × gives old people list listed × opened listed db between × closes between last new
     × Starts (image_at db) (content first)
     × DoesInit content TablesCanFail contents list host asked first last reader read writer written result)
-    ⊎ IsStopped (withholds old people new)
+    ⊎ IsStopped (λ error. withholds old people error new)
     (λ cause. (list : List ℕ) × (listed : F) × gives old people list listed × refused listed db new cause) ⊥
     host asked reader read writer written result
 
 -- The files gave the list, and the records of the reader were answered over a hall in memory that was empty before the
 -- list; or they withheld it, or memory was wanting, and nothing was done.
-abbrev pub IsReplayInMemory : {F N R W : Type 0} → (F → List ℕ → List ℕ → F → Type 0) → (F → List ℕ → F → Type 0)
+abbrev pub IsReplayInMemory : {F N R W : Type 0} → (F → List ℕ → List ℕ → F → Type 0)
+    → (F → List ℕ → Error → F → Type 0)
     → (R → Option (List ℕ)) → (W → Option (List ℕ)) → List ℕ → F → F → N → N
     → Tally R → Tally R → Tally W → Tally W → Result ℕ CommandFault → Type 0
 IsReplayInMemory gives withholds remaining contents people old new host asked reader read writer written result =
@@ -72,5 +74,6 @@ IsReplayInMemory gives withholds remaining contents people old new host asked re
     × gives old people list new × ((content_of (state over_memory first)).world ≡ empty_world)
     × DoesReplay (λ s. content_of (state over_memory s)) TablesCanFail remaining contents list host asked first last
     reader read writer written result)
-    ⊎ IsStopped (withholds old people new) (λ cause. ⊥) ((list : List ℕ) × gives old people list new)
+    ⊎ IsStopped (λ error. withholds old people error new) (λ cause. ⊥)
+    ((list : List ℕ) × gives old people list new)
     host asked reader read writer written result

@@ -89,7 +89,7 @@ pub fn init_at<S: Alter + Drop, F: PathFiles<S>, N, R: Read, W: Write>(
 {
     let list = match files.read(people) {
         Ok(list) => list,
-        Err(error) => return Err(CommandFault::List(error)),
+        Err(withheld) => return Err(CommandFault::List(withheld)),
     };
     let task = Init {
         list: list.as_slice(),
