@@ -14,7 +14,8 @@ use sqlite_schema::schema::Schema;
 
 /// There is neither a table nor an index nor a view.
 fn has_nothing(schema: &Schema) -> bool
-    ensures { IsTrue result → schema.now ≡ no_schema }
+    ensures is { IsTrue result → schema.now ≡ no_schema }
+    ensures only { schema.now ≡ no_schema → IsTrue result }
 {
     schema.tables.is_empty() && schema.indexes.is_empty() && schema.views.is_empty()
 }
