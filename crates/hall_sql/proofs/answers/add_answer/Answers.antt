@@ -6,5 +6,5 @@ use Rattle.hall_sql.proofs.answers.add_answer.Goals as goal
 
 pub returns-in-Ok : goal.returns-in-Ok
 returns-in-Ok g c =
-    made_wrote (AddAnswer c.args.row.now) (state g.S.Store c.args.conn.now) (state g.S.Store c.write.new.conn) tt c.write.ensures.lasts
+    made_wrote (AddAnswer c.args.row.now) (state g.S.Store c.args.conn.now) (state g.S.Store c.write.new.conn) tt c.requires.hall c.write.ensures.lasts
     (λ was clean. answer_added c.args.row.now c.in_range.ensures _ _ _ c.requires.hall was (λ opened. (c.requires.can was opened).fresh) (c.in-Ok.ensures.runs clean))

@@ -6,5 +6,5 @@ use Rattle.hall_sql.proofs.puzzles.put_over.Goals as goal
 
 pub returns-in-Ok : goal.returns-in-Ok
 returns-in-Ok g c =
-    made_wrote (PutPuzzle c.args.row.now) (state g.S.Store c.args.conn.now) (state g.S.Store c.write.new.conn) tt c.write.ensures.lasts
+    made_wrote (PutPuzzle c.args.row.now) (state g.S.Store c.args.conn.now) (state g.S.Store c.write.new.conn) tt c.requires.hall c.write.ensures.lasts
     (λ was clean. puzzle_replaced c.args.text.now c.args.row.now c.requires.spells c.in_range.ensures c.write.ensures.in_range _ _ _ c.requires.hall was (λ opened. c.requires.found was) (c.in-Ok.ensures.runs clean))
