@@ -1,5 +1,5 @@
 -- A query of one table, as the hall asks it, fails for the store's causes alone.
-use Rattle.std.proofs.Common.{◌≡◌, ◌≢◌, inl, inr, ℕ, List, [], ◌∷◌, length, true, false, append-nil, IsSome, Option, None, Ok, Err, sym, ap, subst, ◌∙◌}
+use Rattle.std.proofs.Common.{◌≡◌, ◌≢◌, ◌⊎◌, inl, inr, ℕ, List, [], ◌∷◌, length, true, false, append-nil, IsSome, Option, None, Ok, Err, sym, ap, subst, ◌∙◌}
 use Rattle.std.proofs.lemmas.Bool.{cases_Bool, and_parts, leb-true, eqb-true}
 use Rattle.sqlite_trees.specs.declared.error.StoreError.{StoreError}
 use Rattle.sqlite_trees.specs.declared.error.StoreError.TheVariants.{OutOfMemory, Io, Corrupt, Full, Broken, Unstorable}
@@ -94,7 +94,7 @@ not_run sql params old new e plain whole other has (inr h) = elim (store_cause o
   | inr none ↦ absurd none
 ]
 
-open_cause : (sql : List ℕ) (params : Row) (old new : State) (e : Error) → IsAsked sql params → old.step_limit ≡ None
+pub open_cause : (sql : List ℕ) (params : Row) (old new : State) (e : Error) → IsAsked sql params → old.step_limit ≡ None
     → e ≢ SqliteFailure code.OutOfMemory → old.now.schema ≡ hall_schema → FailsToQuery sql params old new e → IsStoreCause old new
 unfolding FailsToQuery
 open_cause sql params old new e asks free other has (inl h) = not_run sql params old new e asks.plain asks.whole other has h
@@ -106,7 +106,7 @@ open_cause sql params old new e asks free other has (inr h) =
     let db : it.0 ≡ old.now = subst (λ b. IsSourceOf b old.now it.0) (ap (λ s. reads_listing s sql) has ∙ asks.unlisted) it.1 in
     let refuses : RefusesToRead old.step_limit h.0.command old.now params e =
     subst (λ (d : Database). RefusesToRead old.step_limit h.0.command d params e) {x = it.0} db it.2 in
-    absurd (subst IsSome free (limited h.0.command old.now params e old.step_limit has safe refuses))
+    absurd (let no : false ≡ true = subst IsSome free (limited h.0.command old.now params e old.step_limit has safe refuses) in cc)
 
 pub asked_cause : (sql : List ℕ) (params : Row) (old new : State) (e : Error) → IsAsked sql params → IsHall old → HasCleanDisk old
     → e ≢ SqliteFailure code.OutOfMemory → FailsToQuery sql params old new e → IsStoreCause old new
