@@ -17,7 +17,9 @@ use Rattle.sqlite.proofs.Callers.{IsPlain, command_of, statement_of}
 use Rattle.hall_store.specs.Store.{MoreFaults}
 use Rattle.hall_sql.specs.Tables.{hall_schema}
 use Rattle.hall_sql.specs.Standing.{IsHall, Lasts}
-use Rattle.hall_sql.specs.Inside.{Steps, IsHallData}
+use Rattle.hall_sql.specs.Inside.{Steps, IsHallData, Carries, Did}
+use Rattle.sqlite_trees.specs.declared.store.Store.{Ghosts}
+use Rattle.sqlite.specs.Held.{Held, state}
 use Rattle.hall_sql.specs.Asked.{IsAsked, is_whole}
 use Rattle.hall_sql.specs.Cause.{IsStoreCause}
 use Rattle.std.specs.List.{filter}
@@ -30,7 +32,7 @@ use Rattle.hall_sql.specs.RoundColumns.{head_params}
 use Rattle.hall_sql.specs.RoundPuts.{CountsHeads}
 use Rattle.hall_sql.specs.Statements.{add_puzzle_text, replace_puzzle_text, add_head_text, replace_head_text}
 use Rattle.hall_sql.proofs.EachLemmas.{next_item}
-use Rattle.hall_sql.specs.WriteCause.{PuzzleIsRefused, PutPuzzleFails, HeadIsRefused, PutHeadFails}
+use Rattle.hall_sql.specs.WriteCause.{PuzzleIsRefused, PutPuzzleFails, HeadIsRefused, IsHeadRefused}
 use Rattle.hall_sql.specs.WriteCause.{IsEdit, IsWritten, enforced, IsRefused, RunFails, Refuses, RefusesInside, RefusesToAsk, IsUnderWay}
 use Rattle.hall_sql.proofs.AskedLemmas.{store_cause, not_run, open_cause}
 
@@ -245,6 +247,34 @@ many_heads round (suc zero) db some more = absurd (more refl)
 many_heads round (suc (suc n)) db some more = tt
 
 pub head_found : (round : Round) (count : ℕ) (a b c : State) → Lasts a b → HasCleanDisk b → Lasts b c → CountsHeads round.id count a.now b.now
-    → IsStoreCause b c ⊎ HeadIsRefused round count b.now → PutHeadFails round a c
+    → IsStoreCause b c ⊎ HeadIsRefused round count b.now → IsStoreCause a c ⊎ IsHeadRefused round a.now
 head_found round count a b c before clean after counts (inl cause) = inl (cause_over a b c before clean after cause)
 head_found round count a b c before clean after counts (inr refused) = inr (count, counts.many, subst (HeadIsRefused round count) counts.same refused)
+
+-- ---- a transaction
+
+module _ {S : Type 0} (g : Ghosts S) (held : Held S) (hall : IsHall (state g held)) where
+  -- where the transaction began
+  abbrev base : State
+  base = state g (record held { in_transaction = true })
+
+  -- what was refused inside it was rolled back
+  pub whole_cause : {Refused : Type 0} (mid end : State) → HasCleanDisk (state g held) → Lasts mid end
+      → (IsUnderWay base → IsStoreCause base mid ⊎ Refused) → IsStoreCause (state g held) end ⊎ Refused
+  whole_cause mid end clean lasts why = elim (cases_Bool (state g held).is_open) [
+    | inl opens ↦
+        let ours : IsHallData base.now = record { schema = (hall.settled clean opens).1; keyed = hall.keyed clean opens } in
+        elim (why (record { mode = refl; unlimited = hall.unlimited; hall = ours })) [
+          | inl cause ↦ inl (cause_later base mid end lasts cause)
+          | inr refused ↦ inr refused
+        ]
+    | inr shut ↦ inl (inr shut)
+  ]
+
+  -- or its commit was
+  pub commit_fails : (Does : Database → Database → Type 0) (mid end : State) (e : Error) → Carries base mid
+      → (HasCleanDisk mid → IsTrue base.in_transaction → Did Does base mid) → Lasts mid end → HasCleanDisk end
+      → e ≢ SqliteFailure code.OutOfMemory → FailsToCommit mid end e → IsStoreCause (state g held) end
+  commit_fails Does mid end e carries did lasts clean other fails =
+      let was : HasCleanDisk mid = omega (arith, lasts.clean, clean) in
+      cause_over base mid end carries.lasts was lasts (commit_cause mid end e (did was refl).steps.mode other fails)

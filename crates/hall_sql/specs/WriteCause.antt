@@ -142,10 +142,8 @@ HeadIsRefused round zero db = IsRefused add_head_text (head_params round) db
 HeadIsRefused round (suc zero) db = IsRefused replace_head_text (head_params round) db
 HeadIsRefused round (suc (suc more)) db = Unit
 
--- why a put of a round's head fails
-abbrev pub PutHeadFails : Round → State → State → Type 0
-PutHeadFails round old new =
-    IsStoreCause old new ⊎ ((count : ℕ) × HasSoManyHeads round.id old.now count × HeadIsRefused round count old.now)
+abbrev pub IsHeadRefused : Round → Database → Type 0
+IsHeadRefused round db = (count : ℕ) × HasSoManyHeads round.id db count × HeadIsRefused round count db
 
 -- the entries before one stand at their places, and the statement that puts it is refused there
 pub record PlaceIsRefused (id : List ℕ) (entries : List Entry) (old : Database) : Type 0 where
@@ -173,7 +171,8 @@ pub record RestIsRefused (row : RoundRow) (old : Database) : Type 0 where
 
 -- why a put of a round fails
 abbrev pub PutRoundFails : RoundRow → State → State → Type 0
-PutRoundFails row old new = PutHeadFails row.round old new ⊎ RestIsRefused row old.now
+PutRoundFails row old new =
+    IsStoreCause old new ⊎ (IsHeadRefused row.round old.now ⊎ RestIsRefused row old.now)
 
 -- ---- people
 

@@ -16,8 +16,8 @@ ghost use Rattle.sqlite.specs.declared.types.Value.TheVariants.{Text};
 ghost use Rattle.hall_store.specs.Store.{Fails};
 ghost use Rattle.hall_sql.specs.Cause.{IsStoreCause};
 ghost use Rattle.hall_sql.specs.Statements.{add_head_text, replace_head_text, drop_places_text, add_place_text};
-ghost use Rattle.hall_sql.specs.WriteCause.{RunFails, SetFlagFails, PutHeadFails, PutRoundFails, InsideFails};
-ghost use Rattle.hall_sql.specs.WriteCause.{PlaceIsRefused, RestIsRefused};
+ghost use Rattle.hall_sql.specs.WriteCause.{RunFails, SetFlagFails, PutRoundFails, InsideFails};
+ghost use Rattle.hall_sql.specs.WriteCause.{IsHeadRefused, PlaceIsRefused};
 
 use crate::calls::{ask_in, fault_of, run, run_in};
 use crate::rounds::head;
@@ -179,7 +179,8 @@ fn put_head<S: Alter>(tx: &mut Transaction<'_, S>, round: &Round) -> Result<(), 
         → OnOk result (Did (PutsHead round.now) (state S.Store tx.old.conn.now)
         (state S.Store tx.new.conn.now)) }
     ensures cause { InsideFails (state S.Store tx.old.conn.now) (state S.Store tx.new.conn.now)
-        (PutHeadFails round.now (state S.Store tx.old.conn.now) (state S.Store tx.new.conn.now)) result }
+        (IsStoreCause (state S.Store tx.old.conn.now) (state S.Store tx.new.conn.now)
+        ⊎ IsHeadRefused round.now (state S.Store tx.old.conn.now).now) result }
 {
     match look(tx, &round.id)? {
         0 => put_new(tx, round),
@@ -281,8 +282,7 @@ fn put_inside<S: Alter>(tx: &mut Transaction<'_, S>, row: &RoundRow) -> Result<(
         → OnOk result (Did (Changes (PutRound row.now)) (state S.Store tx.old.conn.now)
         (state S.Store tx.new.conn.now)) }
     ensures cause { InsideFails (state S.Store tx.old.conn.now) (state S.Store tx.new.conn.now)
-        (PutHeadFails row.now.round (state S.Store tx.old.conn.now) (state S.Store tx.new.conn.now)
-        ⊎ RestIsRefused row.now (state S.Store tx.old.conn.now).now) result }
+        (PutRoundFails row.now (state S.Store tx.old.conn.now) (state S.Store tx.new.conn.now)) result }
 {
     put_head(tx, &row.round)?;
     drop_places(tx, &row.round.id)?;

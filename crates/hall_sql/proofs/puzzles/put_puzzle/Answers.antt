@@ -17,5 +17,5 @@ returns-clause-cause g c clean =
     let was : HasCleanDisk mid = c.put_found.ensures.wrote.makes.leads.honest clean in
     let opens = c.in_ok-count.ensures.serves was in
     IfErr-weaker c.put_found.result _ _ (λ fault why failed.
-    puzzle_found c.args.row.now c.in_ok-count.field-0 (state g.S.Store c.args.conn.now) mid (state g.S.Store c.put_found.new.conn)
+    puzzle_found c.args.row.now c.in_ok-count.count (state g.S.Store c.args.conn.now) mid (state g.S.Store c.put_found.new.conn)
     c.look.ensures.rested.follows.lasts.counts opens (c.look.ensures.rested.same was opens) (c.in_ok-count.ensures.found was) (why failed)) (c.put_found.ensures.cause clean)
