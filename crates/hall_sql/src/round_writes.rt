@@ -148,7 +148,8 @@ fn put_new<S: Alter>(tx: &mut Transaction<'_, S>, round: &Round) -> Result<(), S
         → OnOk result (PutsHeadOver 0 round.now (state S.Store tx.old.conn.now)
         (state S.Store tx.new.conn.now)) }
     ensures cause { InsideFails (state S.Store tx.old.conn.now) (state S.Store tx.new.conn.now)
-        (RunFails add_head_text (head_params round.now) (state S.Store tx.old.conn.now) (state S.Store tx.new.conn.now)) result }
+        (RunFails add_head_text (head_params round.now) (state S.Store tx.old.conn.now)
+        (state S.Store tx.new.conn.now)) result }
 {
     in_range(round);
     run_in(tx, ADD_HEAD, &columns(round))?;

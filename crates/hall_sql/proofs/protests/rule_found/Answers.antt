@@ -20,5 +20,3 @@ returns-in-Err-clause-cause g c clean failed =
     let was : HasCleanDisk (state g.S.Store c.args.conn.now) = omega (arith, c.write_ruling.ensures.lasts.clean, clean) in
     refused_cause rule_protest_text (ruling_params c.args.key.now (Some c.args.ruling)) (state g.S.Store c.args.conn.now) (state g.S.Store c.write_ruling.new.conn) (rule_protest_written c.args.key.now (Some c.args.ruling)) c.requires.hall was
     (c.in-Err.ensures.runs clean failed)
-
-

@@ -31,5 +31,9 @@ returns-in-Some-clause-cause g c clean =
     let there : get (world_of mid.now.trees).puzzles c.args.key.now ≡ Some c.in-Some.row = sym served.1 ∙ c.in-Some.is in
     let found = subst (λ (d : Database). get (world_of d.trees).puzzles c.args.key.now ≡ Some c.in-Some.row) same there in
     IfErr-weaker c.put_state.result _ _ (λ fault why failed.
-    inr (c.in-Some.row, found, puzzle_served (record c.in-Some.row { state = c.args.known }) old mid (state g.S.Store c.put_state.new.conn)
-    c.puzzle.ensures.rested.follows.lasts.counts served.0 same (why failed))) (c.put_state.ensures.cause clean)
+    inr (
+      c.in-Some.row,
+      found,
+      puzzle_served (record c.in-Some.row { state = c.args.known }) old mid (state g.S.Store c.put_state.new.conn)
+          c.puzzle.ensures.rested.follows.lasts.counts served.0 same (why failed),
+    )) (c.put_state.ensures.cause clean)

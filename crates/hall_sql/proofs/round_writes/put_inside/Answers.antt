@@ -78,5 +78,3 @@ returns-clause-cause g c clean goes =
         });
       }))
     ]) (c.put_places.ensures.cause clean on_m)
-
-

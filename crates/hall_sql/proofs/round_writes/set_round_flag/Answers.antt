@@ -38,5 +38,9 @@ returns-in-Some-clause-cause g c clean =
     let there : get (world_of mid.now.trees).rounds c.args.id.now ≡ Some c.in-Some.round = sym served.1 ∙ c.in-Some.is in
     let found = subst (λ (d : Database). get (world_of d.trees).rounds c.args.id.now ≡ Some c.in-Some.round) same there in
     IfErr-weaker c.set_flag.result _ _ (λ fault why failed.
-    inr (c.in-Some.round, found, run_served replace_head_text (head_params (flagged c.args.flag c.in-Some.round)) old mid (state g.S.Store c.set_flag.new.conn)
-    c.head.ensures.rested.follows.lasts.counts served.0 same (why failed))) (c.set_flag.ensures.cause clean)
+    inr (
+      c.in-Some.round,
+      found,
+      run_served replace_head_text (head_params (flagged c.args.flag c.in-Some.round)) old mid (state g.S.Store c.set_flag.new.conn)
+          c.head.ensures.rested.follows.lasts.counts served.0 same (why failed),
+    )) (c.set_flag.ensures.cause clean)
