@@ -11,11 +11,11 @@ use Rattle.sqlite.specs.Steps.{FailsToCommit}
 use Rattle.hall_store.specs.Maps.{empty_world}
 use Rattle.hall_sql.specs.Tables.{no_schema, hall_schema}
 use Rattle.hall_sql.specs.Rows.{world_of}
-use Rattle.hall_sql.specs.Standing.{Lasts, AreKeyed, AreAllKeyed, Rests, IsBare, HasAdopted, HasDeclined}
+use Rattle.hall_sql.specs.Standing.{Lasts, AreKeyed, AreAllKeyed, Rests, IsBare, HasAdopted, HasDeclined, without_limit}
 use Rattle.hall_sql.specs.Inside.{Carries}
 use Rattle.hall_sql.specs.Made.{all_tables, Awaits, HasGrown}
 use Rattle.hall_sql.specs.Scan.{AreScanned}
-use Rattle.hall_sql.proofs.LastLemmas.{last_none, last_then, last_begun}
+use Rattle.hall_sql.proofs.LastLemmas.{last_none, last_then, last_begun, last_lifted}
 use Rattle.hall_sql.proofs.TransactionLemmas.{commit_refused}
 
 -- tables with no rows hold nobody and nothing
@@ -81,18 +81,19 @@ rests_declined old new alone settled lasts rests = record {
 
 -- the hall's tables stood
 pub scanned_adopted : (old new : State) → old.in_transaction ≡ false → (IsTrue old.is_open → old.now ≡ old.committed) → old.now.schema ≡ hall_schema
-    → Lasts old new → (HasCleanDisk new → AreScanned all_tables old new) → HasAdopted old new
+    → Lasts old new → (HasCleanDisk new → AreScanned all_tables old new) → HasAdopted old (without_limit new)
 scanned_adopted old new alone settled has lasts scanned =
     let left = λ (clean : HasCleanDisk new). (scanned clean).left in
     let was = λ (clean : HasCleanDisk new). sym (left clean).is_open ∙ (scanned clean).serves in
     record {
       alone = alone;
       hall = record {
+        unlimited = refl;
         autocommit = λ clean. (left clean).mode ∙ alone;
         settled = λ clean opens. ((left clean).now_is ∙ settled (was clean) ∙ sym (left clean).committed_is, ap (λ (d : Database). d.schema) (left clean).now_is ∙ has);
         keyed = λ clean opens. subst (λ (d : Database). AreAllKeyed d.trees) (sym (left clean).now_is) (scanned clean).keyed;
       };
-      follows = record { lasts = lasts; opened = λ clean opens. was clean };
+      follows = record { lasts = last_lifted old new lasts; opened = λ clean opens. was clean };
       serves = λ clean. (scanned clean).serves;
       stood = λ clean. inl (has, (left clean).now_is);
     }
@@ -132,7 +133,7 @@ module _ {S : Type 0} (g : Ghosts S) (held : Held S) (settled : IsTrue (state g 
   pub committed_adopted : held.in_transaction ≡ false → (mid end : State) → held.schema ≡ no_schema → Carries base mid → (HasCleanDisk mid → IsTrue base.in_transaction → HasGrown all_tables [] base mid)
       → Lasts mid end → end.in_transaction ≡ false
       → (HasCleanDisk end → IsTrue mid.in_transaction × Shows mid end mid.now mid.now false × KeepsCounts mid end × (end.marks ≡ []))
-      → HasAdopted (state g held) end
+      → HasAdopted (state g held) (without_limit end)
   committed_adopted alone mid end none carries grown lasts ended ok =
       let now : HasCleanDisk end → HasCleanDisk mid = λ (clean : HasCleanDisk end). let was : HasCleanDisk mid = omega (arith, lasts.clean, clean) in was in
       let bare : HasCleanDisk end → IsBare hall_schema end.now = λ (clean : HasCleanDisk end).
@@ -140,11 +141,12 @@ module _ {S : Type 0} (g : Ghosts S) (held : Held S) (settled : IsTrue (state g 
       record {
         alone = alone;
         hall = record {
+          unlimited = refl;
           autocommit = λ clean. ended;
           settled = λ clean opens. ((ok clean).1.now_is ∙ sym (ok clean).1.committed_is, (bare clean).is);
           keyed = λ clean opens. all_bare_keyed end.now.trees (bare clean).empty;
         };
-        follows = record { lasts = last_then (state g held) mid end (last_begun g held mid carries.lasts) lasts; opened = λ clean opens. (carries.kept (now clean) refl).was_open (ok clean).1.was_open };
+        follows = record { lasts = last_lifted (state g held) end (last_then (state g held) mid end (last_begun g held mid carries.lasts) lasts); opened = λ clean opens. (carries.kept (now clean) refl).was_open (ok clean).1.was_open };
         serves = λ clean. (ok clean).1.is_open;
         stood = λ clean. inr (none, bare clean);
       }

@@ -1,5 +1,5 @@
 -- A query of one table, as the hall asks it, fails for the store's causes alone.
-use Rattle.std.proofs.Common.{◌≡◌, ◌≢◌, inl, inr, ℕ, List, [], ◌∷◌, length, true, false, append-nil, IsSome, Option, None, Ok, Err, sym, ap, subst, ◌∙◌}
+use Rattle.std.proofs.Common.{◌≡◌, ◌≢◌, ◌⊎◌, inl, inr, ℕ, List, [], ◌∷◌, length, true, false, append-nil, IsSome, Option, None, Ok, Err, sym, ap, subst, ◌∙◌}
 use Rattle.std.proofs.lemmas.Bool.{cases_Bool, and_parts, leb-true, eqb-true}
 use Rattle.sqlite_trees.specs.declared.error.StoreError.{StoreError}
 use Rattle.sqlite_trees.specs.declared.error.StoreError.TheVariants.{OutOfMemory, Io, Corrupt, Full, Broken, Unstorable}
@@ -49,29 +49,29 @@ asked sql params tree terms project order names is unlisted plain whole typed = 
 }
 
 -- an error of the store that is no want of memory
-store_cause : (old new : State) (e : Error) → e ≢ SqliteFailure code.OutOfMemory → (cause : StoreError) → e ≡ store_error cause
-    → HasCause old new ⊥ cause → IsStoreCause old new
-store_cause old new e other OutOfMemory is has = absurd (other is)
-store_cause old new e other Io is has = inl (more_faults old.faults new.faults has)
-store_cause old new e other Corrupt is has = inl (more_faults old.faults new.faults has)
-store_cause old new e other Full is has = inl (more_faults old.faults new.faults has)
-store_cause old new e other Broken is has = inr (inl has)
-store_cause old new e other Unstorable is has = absurd has
+pub store_cause : (old new : State) (TooBig : Type 0) (e : Error) → e ≢ SqliteFailure code.OutOfMemory → (cause : StoreError) → e ≡ store_error cause
+    → HasCause old new TooBig cause → IsStoreCause old new ⊎ TooBig
+store_cause old new TooBig e other OutOfMemory is has = absurd (other is)
+store_cause old new TooBig e other Io is has = inl (inl (more_faults old.faults new.faults has))
+store_cause old new TooBig e other Corrupt is has = inl (inl (more_faults old.faults new.faults has))
+store_cause old new TooBig e other Full is has = inl (inl (more_faults old.faults new.faults has))
+store_cause old new TooBig e other Broken is has = inl (inr has)
+store_cause old new TooBig e other Unstorable is has = inr has
 
 -- the text is a statement
-is_statement : (sql : List ℕ) (params : Row) (s : State) (e : Error) → s.now.schema ≡ hall_schema → IsAsked sql params
-    → ¬ (IsNoStatement s sql params e)
-is_statement sql params s e has asks (inl h) =
+is_statement : (sql : List ℕ) (params : Row) (s : State) (e : Error) → s.now.schema ≡ hall_schema → IsPlain (understood hall_schema sql)
+    → is_whole sql (length params) (understood hall_schema sql) ≡ true → ¬ (IsNoStatement s sql params e)
+is_statement sql params s e has plain whole (inl h) =
     let known : understood hall_schema sql ≡ Err h.0 = sym (ap (λ x. understood x sql) has) ∙ h.1 in
-    subst IsPlain known asks.plain
-is_statement sql params s e has asks (inr h) =
+    subst IsPlain known plain
+is_statement sql params s e has plain whole (inr h) =
     let known : understood hall_schema sql ≡ Ok h.0 = sym (ap (λ x. understood x sql) has) ∙ h.1 in
-    let (long, given) = and_parts _ _ (subst (λ r. is_whole sql (length params) r ≡ true) known asks.whole) in
+    let (long, given) = and_parts _ _ (subst (λ r. is_whole sql (length params) r ≡ true) known whole) in
     elim h.2 [
       | inl more ↦ more.0 (leb-true _ _ long)
       | inr other ↦ elim other [
         | inl differs ↦ differs.0 (eqb-true _ _ given)
-        | inr timed ↦ timed.0 (subst IsPlain known asks.plain).1
+        | inr timed ↦ timed.0 (subst IsPlain known plain).1
       ]
     ]
 
@@ -83,18 +83,22 @@ limited (Select q names) db params e limit has safe (inr (inl h)) = absurd (safe
 limited (Select q names) db params e limit has safe (inr (inr h)) = h.1
 limited _ db params e limit has safe h = absurd safe
 
--- where the store was open, and so the tables were the hall's
-not_run : (sql : List ℕ) (params : Row) (old new : State) (e : Error) → IsAsked sql params → e ≢ SqliteFailure code.OutOfMemory
+-- a text that was not run, where the store was open, and so the tables were the hall's
+pub not_run : (sql : List ℕ) (params : Row) (old new : State) (e : Error) → IsPlain (understood hall_schema sql)
+    → is_whole sql (length params) (understood hall_schema sql) ≡ true → e ≢ SqliteFailure code.OutOfMemory
     → old.now.schema ≡ hall_schema → IsNotRun old new sql params e → IsStoreCause old new
 unfolding IsNotRun
-not_run sql params old new e asks other has (inl h) = absurd (is_statement sql params old e has asks h.0)
-not_run sql params old new e asks other has (inr h) = store_cause old new e other h.0 h.1 h.2
+not_run sql params old new e plain whole other has (inl h) = absurd (is_statement sql params old e has plain whole h.0)
+not_run sql params old new e plain whole other has (inr h) = elim (store_cause old new ⊥ e other h.0 h.1 h.2) [
+  | inl cause ↦ cause
+  | inr none ↦ absurd none
+]
 
-open_cause : (sql : List ℕ) (params : Row) (old new : State) (e : Error) → IsAsked sql params → e ≢ SqliteFailure code.OutOfMemory
-    → old.now.schema ≡ hall_schema → FailsToQuery sql params old new e → IsStoreCause old new
+pub open_cause : (sql : List ℕ) (params : Row) (old new : State) (e : Error) → IsAsked sql params → old.step_limit ≡ None
+    → e ≢ SqliteFailure code.OutOfMemory → old.now.schema ≡ hall_schema → FailsToQuery sql params old new e → IsStoreCause old new
 unfolding FailsToQuery
-open_cause sql params old new e asks other has (inl h) = not_run sql params old new e asks other has h
-open_cause sql params old new e asks other has (inr h) =
+open_cause sql params old new e asks free other has (inl h) = not_run sql params old new e asks.plain asks.whole other has h
+open_cause sql params old new e asks free other has (inr h) =
     let known : understood hall_schema sql ≡ Ok h.0 = sym (ap (λ x. understood x sql) has) ∙ h.1.is in
     let bare = subst IsPlain {x = understood hall_schema sql} known asks.plain in
     let safe : IsSafe h.0.command params = subst (λ r. IsSafe (command_of r) params) known asks.safe in
@@ -102,11 +106,11 @@ open_cause sql params old new e asks other has (inr h) =
     let db : it.0 ≡ old.now = subst (λ b. IsSourceOf b old.now it.0) (ap (λ s. reads_listing s sql) has ∙ asks.unlisted) it.1 in
     let refuses : RefusesToRead old.step_limit h.0.command old.now params e =
     subst (λ (d : Database). RefusesToRead old.step_limit h.0.command d params e) {x = it.0} db it.2 in
-    inr (inr (limited h.0.command old.now params e old.step_limit has safe refuses))
+    absurd (let no : false ≡ true = subst IsSome free (limited h.0.command old.now params e old.step_limit has safe refuses) in cc)
 
 pub asked_cause : (sql : List ℕ) (params : Row) (old new : State) (e : Error) → IsAsked sql params → IsHall old → HasCleanDisk old
     → e ≢ SqliteFailure code.OutOfMemory → FailsToQuery sql params old new e → IsStoreCause old new
 asked_cause sql params old new e asks hall clean other fails = elim (cases_Bool old.is_open) [
-  | inl opens ↦ open_cause sql params old new e asks other (hall.settled clean opens).1 fails
-  | inr shut ↦ inr (inl shut)
+  | inl opens ↦ open_cause sql params old new e asks hall.unlimited other (hall.settled clean opens).1 fails
+  | inr shut ↦ inr shut
 ]

@@ -13,7 +13,7 @@ use Rattle.hall_sql.specs.Inside.{Did, Changes}
 use Rattle.hall_sql.proofs.InsideLemmas.{did_then}
 
 -- an item of the list, and those after it
-next_item : {A : Type 0} (items : List A) (i : ℕ) (none : A) → i < length items → drop i items ≡ get_or items i none ∷ drop (i + 1) items
+pub next_item : {A : Type 0} (items : List A) (i : ℕ) (none : A) → i < length items → drop i items ≡ get_or items i none ∷ drop (i + 1) items
 next_item items i none low = drop-cons items i none low ∙ ap (λ n. get_or items i none ∷ drop n items) (sym (add-one i))
 
 pub more_grown : (tables : List HallTable) (i : ℕ) (none : HallTable) (a b c : State) → i < length tables

@@ -1,5 +1,5 @@
 -- What calls leave of a connection, one after another.
-use Rattle.std.proofs.Common.{true, inl, inr, ℕ, ◌+◌, ◌-◌, ◌^◌, ◌≤◌, min, arith}
+use Rattle.std.proofs.Common.{true, inl, inr, ℕ, ◌+◌, ◌-◌, ◌^◌, ◌≤◌, min, refl, ◌∙◌, arith}
 use Rattle.std.proofs.lemmas.Bool.{cases_lt}
 use Rattle.sqlite_trees.specs.declared.store.Store.{Ghosts}
 use Rattle.sqlite.specs.Tree.{Trees}
@@ -7,7 +7,7 @@ use Rattle.sqlite.specs.Held.{Held, state}
 use Rattle.sqlite.specs.State.{State, HasCleanDisk, Survives}
 use Rattle.hall_store.specs.Store.{Leads, MoreFaults}
 use Rattle.hall_store.proofs.Knowing.{lasts_then}
-use Rattle.hall_sql.specs.Standing.{Lasts, Follows, content_of}
+use Rattle.hall_sql.specs.Standing.{Lasts, Follows, without_limit, content_of}
 
 pub more_faults : (a b : ℕ) → min (a + 1) (2 ^ 64 - 1) ≤ b → MoreFaults a b
 more_faults a b more = elim (cases_lt a b) [
@@ -24,10 +24,11 @@ survived old new Commits it = record {
     | inl left ↦ inl left
     | inr more ↦ inr (more_faults old.faults new.faults more)
   ];
+  unlimited = λ none. it.limit ∙ none;
 }
 
 pub last_none : (s : State) → Lasts s s
-last_none s = record { clean = omega arith; counts = omega arith; closes = λ clean opens. inl opens }
+last_none s = record { clean = omega arith; counts = omega arith; closes = λ clean opens. inl opens; unlimited = λ none. none }
 
 pub last_then : (a b c : State) → Lasts a b → Lasts b c → Lasts a c
 last_then a b c first second = record {
@@ -36,11 +37,16 @@ last_then a b c first second = record {
   closes = λ clean.
       let mid : HasCleanDisk b = omega (arith, second.clean, clean) in
       lasts_then (content_of a) (content_of b) (content_of c) first.counts second.counts (first.closes mid) (second.closes clean);
+  unlimited = λ none. second.unlimited (first.unlimited none);
 }
 
 -- a transaction that begins leaves what a connection shows, but for its mode
 pub last_begun : {S : Type 0} (g : Ghosts S) (held : Held S) (mid : State) → Lasts (state g (record held { in_transaction = true })) mid → Lasts (state g held) mid
-last_begun g held mid it = record { clean = it.clean; counts = it.counts; closes = it.closes }
+last_begun g held mid it = record { clean = it.clean; counts = it.counts; closes = it.closes; unlimited = it.unlimited }
+
+-- so is one whose limit is lifted
+pub last_lifted : (old new : State) → Lasts old new → Lasts old (without_limit new)
+last_lifted old new it = record { clean = it.clean; counts = it.counts; closes = it.closes; unlimited = λ none. refl }
 
 -- what follows leads on
 pub follows_leads : (old new : State) → Follows old new → Leads (content_of old) (content_of new)

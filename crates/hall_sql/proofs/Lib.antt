@@ -2,6 +2,8 @@ pub mod Selections
 pub mod LastLemmas
 pub mod CallLemmas
 pub mod CauseLemmas
+pub mod WriteCauseLemmas
+pub mod Written
 pub mod AskedLemmas
 pub mod ColumnLemmas
 pub mod MapLemmas

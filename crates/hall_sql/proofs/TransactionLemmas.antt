@@ -8,7 +8,7 @@ use Rattle.sqlite.specs.State.{State, HasCleanDisk, KeepsCounts, IsRolledBack, S
 use Rattle.sqlite.specs.Steps.{FailsToCommit}
 use Rattle.hall_store.specs.declared.change.Change.{Change}
 use Rattle.hall_sql.specs.Rows.{world_of}
-use Rattle.hall_sql.specs.Standing.{Lasts, AreAllKeyed, IsHall, Rested, Wrote}
+use Rattle.hall_sql.specs.Standing.{Lasts, AreAllKeyed, IsHall, Rested, Wrote, without_limit}
 use Rattle.hall_sql.specs.Inside.{IsHallData, Carries, Did, Changes}
 use Rattle.hall_sql.proofs.LastLemmas.{last_none, last_then, last_begun}
 use Rattle.hall_sql.proofs.WriteLemmas.{made_wrote, rested_wrote}
@@ -27,8 +27,9 @@ commit_refused mid end e mode (inl h) = h.3
 commit_refused mid end e mode (inr h) = absurd (let no : false ≡ true = sym h.1 ∙ mode in cc)
 
 -- what is committed over the hall's tables is a hall
-pub shown_hall : (mid end : State) → IsHallData mid.now → end.in_transaction ≡ false → Shows mid end mid.now mid.now false → IsHall end
+pub shown_hall : (mid end : State) → IsHallData mid.now → end.in_transaction ≡ false → Shows mid end mid.now mid.now false → IsHall (without_limit end)
 shown_hall mid end ours ended shown = record {
+  unlimited = refl;
   autocommit = λ clean. ended;
   settled = λ clean opens. (shown.now_is ∙ sym shown.committed_is, ap (λ (d : Database). d.schema) shown.now_is ∙ ours.schema);
   keyed = λ clean opens. subst (λ (d : Database). AreAllKeyed d.trees) (sym shown.now_is) ours.keyed;
@@ -53,6 +54,7 @@ module _ {S : Type 0} (g : Ghosts S) (held : Held S) (hall : IsHall (state g hel
       λ clean opens. ((rolled clean).undone opens).0 ∙ (keeps clean).committed (opens_mid clean opens) ∙ sym (settled clean opens).0 in
       record {
         hall = record {
+          unlimited = lasts.unlimited (carries.lasts.unlimited hall.unlimited);
           autocommit = λ clean. ended;
           settled = λ clean opens. (((rolled clean).undone opens).0 ∙ sym ((rolled clean).undone opens).1, ap (λ (d : Database). d.schema) (same clean opens) ∙ (settled clean opens).1);
           keyed = λ clean opens. subst (λ (d : Database). AreAllKeyed d.trees) (sym (same clean opens)) (hall.keyed (before clean) (opens_old clean opens));
@@ -83,7 +85,7 @@ module _ {S : Type 0} (g : Ghosts S) (held : Held S) (hall : IsHall (state g hel
       → (HasCleanDisk end → IsTrue mid.in_transaction × Shows mid end mid.now mid.now false × KeepsCounts mid end × (end.marks ≡ []))
       → Wrote {E = E} change (state g held) end (Ok done)
   committed_wrote change done mid end carries did lasts ended ok =
-      made_wrote change (state g held) end done (last_then (state g held) mid end (last_begun g held mid carries.lasts) lasts) (λ was clean.
+      made_wrote change (state g held) end done hall (last_then (state g held) mid end (last_begun g held mid carries.lasts) lasts) (λ was clean.
       let clean_mid : HasCleanDisk mid = omega (arith, lasts.clean, clean) in
       let shown = (ok clean).1 in
       let opened = (carries.kept clean_mid refl).was_open shown.was_open in

@@ -15,28 +15,30 @@ use Rattle.hall_store.specs.Change.{changed}
 use Rattle.hall_store.specs.declared.change.Change.{Change}
 use Rattle.hall_sql.specs.Tables.{hall_schema}
 use Rattle.hall_sql.specs.Rows.{world_of}
-use Rattle.hall_sql.specs.Standing.{Lasts, AreAllKeyed, IsHall, Rested, HasMade, Wrote, content_of}
+use Rattle.hall_sql.specs.Standing.{Lasts, AreAllKeyed, IsHall, Rested, HasMade, Wrote, without_limit, content_of}
 use Rattle.hall_store.proofs.Knowing.{leads_then}
 use Rattle.hall_sql.proofs.LastLemmas.{follows_leads}
 use Rattle.hall_sql.proofs.StoreLemmas.{rests_on}
 
 -- a write outside a transaction is committed
 pub writes_hall : (old new : State) (command : Command) (text : List ℕ) (given : Row) (count : ℕ) → old.in_transaction ≡ false
-    → (w : Writes old new None command text given count) → new.now.schema ≡ hall_schema → AreAllKeyed new.now.trees → IsHall new
+    → (w : Writes old new None command text given count) → new.now.schema ≡ hall_schema → AreAllKeyed new.now.trees → IsHall (without_limit new)
 writes_hall old new command text given count mode w has keyed = record {
+  unlimited = refl;
   autocommit = λ clean. w.shown.mode ∙ mode;
   keyed = λ clean opens. keyed;
   settled = λ clean opens. (sym (w.shown.committed_is ∙ ap (λ b. if b then old.committed else new.now) mode), has);
 }
 
 -- a statement that ran makes the change
-pub made_wrote : {R E : Type 0} (change : Change) (old new : State) (done : R) → Lasts old new
+pub made_wrote : {R E : Type 0} (change : Change) (old new : State) (done : R) → IsHall old → Lasts old new
     → (HasCleanDisk old → HasCleanDisk new → HasMade change old new) → Wrote {E = E} change old new (Ok done)
-made_wrote change old new done lasts made =
+made_wrote change old new done hall lasts made =
     let before = λ (clean : HasCleanDisk new). let was : HasCleanDisk old = omega (arith, lasts.clean, clean) in was in
     let it = λ (clean : HasCleanDisk new). made (before clean) clean in
     record {
       hall = record {
+        unlimited = lasts.unlimited hall.unlimited;
         autocommit = λ clean. (it clean).hall.autocommit clean;
         settled = λ clean opens. (it clean).hall.settled clean opens;
         keyed = λ clean opens. (it clean).hall.keyed clean opens;

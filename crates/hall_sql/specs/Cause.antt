@@ -1,6 +1,6 @@
 -- Why a read of the tables answers that it failed.
 use Rattle.std.specs.Prelude.{◌≡◌, ◌≢◌, ◌⊎◌, ◌<◌, ◌≤◌, ◌∷◌, ℕ, false, List, [], length, map, slice_get}
-use Rattle.std.specs.Prelude.{Contains, IsSome, IsTrue, Option, Some, None}
+use Rattle.std.specs.Prelude.{Contains, IsTrue, Option, Some, None}
 use Rattle.std.specs.FinMap.{get}
 use Rattle.sqlite.specs.declared.types.Value.TheVariants.{Text}
 use Rattle.sqlite_trees.specs.declared.store.Store.{Ghosts}
@@ -18,10 +18,9 @@ use Rattle.hall_sql.specs.Places.{AreListed, AreNumbered}
 use Rattle.hall_sql.specs.Rows.{place_in, round_in, world_of}
 use Rattle.hall_sql.specs.Statements.{head_text, places_of_text}
 
--- The cause lies in the store: a fault of its device was counted in the call, or had shut the store before, or the
--- connection has a limit on the steps of a query. The hall sets no such limit, and no clause says so.
+-- the cause lies in the store: a fault of its device was counted in the call, or had shut the store before
 abbrev pub IsStoreCause : State → State → Type 0
-IsStoreCause old new = MoreFaults old.faults new.faults ⊎ ((old.is_open ≡ false) ⊎ IsSome old.step_limit)
+IsStoreCause old new = MoreFaults old.faults new.faults ⊎ (old.is_open ≡ false)
 
 -- one of the rows is no record of this kind
 abbrev pub IsAnyUnread : {X : Type 0} → (Row → Option X) → List Row → Type 0

@@ -16,3 +16,4 @@ pub mod Opened
 pub mod Whole
 pub mod Asked
 pub mod Cause
+pub mod WriteCause

@@ -1,5 +1,5 @@
 -- What the store keeps true of its connection, what a call leaves, and the content that a connection shows.
-use Rattle.std.specs.Prelude.{◌≡◌, ◌≢◌, ◌≤◌, ◌⊎◌, ℕ, Bool, false, List, [], ◌∷◌, map, IsTrue, Result, Ok, Err, OnErr}
+use Rattle.std.specs.Prelude.{◌≡◌, ◌≢◌, ◌≤◌, ◌⊎◌, ℕ, Bool, false, List, [], ◌∷◌, map, IsTrue, Result, Ok, Err, OnErr, None}
 use Rattle.std.specs.List.{AllByRecursion, filter, list_all}
 use Rattle.std.specs.List.Sorted.{IsPermutation, IsSorted}
 use Rattle.std.specs.declared.cmp.Ordering.TheVariants.{Equal}
@@ -39,17 +39,24 @@ pub record AreKeyed (rows : List Row) : Type 0 where
 abbrev pub AreAllKeyed : Trees → Type 0
 AreAllKeyed trees = AllByRecursion (λ table. AreKeyed (trees table.tree)) hall_schema.tables
 
--- No transaction is open. Where the store still serves, all is committed, and the tables are the hall's.
+-- No transaction is open, and the steps of a query have no limit. Where the store still serves, all is committed, and the
+-- tables are the hall's.
 pub record IsHall (s : State) : Type 0 where
+  pub unlimited : s.step_limit ≡ None
   pub autocommit : HasCleanDisk s → s.in_transaction ≡ false
   pub settled : HasCleanDisk s → IsTrue s.is_open → (s.now ≡ s.committed) × (s.now.schema ≡ hall_schema)
   pub keyed : HasCleanDisk s → IsTrue s.is_open → AreAllKeyed s.now.trees
 
--- no fault is forgotten, and only a fault that is counted shuts the store
+-- the connection, had it no limit on the steps of a query
+abbrev pub without_limit : State → State
+without_limit s = record s { step_limit = None }
+
+-- no fault is forgotten, only a fault that is counted shuts the store, and no limit is set on the steps of a query
 pub record Lasts (old new : State) : Type 0 where
   pub clean : doubt old.is_clean ≤ doubt new.is_clean
   pub counts : old.faults ≤ new.faults
   pub closes : HasCleanDisk new → IsTrue old.is_open → IsTrue new.is_open ⊎ MoreFaults old.faults new.faults
+  pub unlimited : old.step_limit ≡ None → new.step_limit ≡ None
 
 -- so it was left, and a store that is shut stays so
 pub record Follows (old new : State) : Type 0 where
@@ -107,7 +114,7 @@ pub record HasReplaced (schema : Schema) (tree : ℕ) (keeps : Row → Bool) (ma
 
 -- a statement ran and made the change
 pub record HasMade (change : Change) (old new : State) : Type 0 where
-  pub hall : IsHall new
+  pub hall : IsHall (without_limit new)
   pub was_open : IsTrue old.is_open
   pub serves : IsTrue new.is_open
   pub world : world_of new.now.trees ≡ changed change (world_of old.now.trees)
@@ -148,3 +155,8 @@ pub record HasDeclined (old new : State) : Type 0 where
 abbrev pub Adopts : {R E : Type 0} → State → State → Result R E → Type 0
 Adopts old new (Ok done) = HasAdopted old new
 Adopts old new (Err fault) = HasDeclined old new
+
+-- so it did, but for a limit on the steps of a query, which is still to be lifted
+abbrev pub Readies : {R E : Type 0} → State → State → Result R E → Type 0
+Readies old new (Ok done) = HasAdopted old (without_limit new)
+Readies old new (Err fault) = HasDeclined old new

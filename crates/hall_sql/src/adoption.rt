@@ -2,7 +2,7 @@
 ghost use Rattle.std.specs.Prelude.{◌≡◌, IsTrue, []};
 ghost use Rattle.sqlite.specs.Held.{state};
 ghost use Rattle.hall_sql.specs.Tables.{no_schema};
-ghost use Rattle.hall_sql.specs.Standing.{Adopts};
+ghost use Rattle.hall_sql.specs.Standing.{Adopts, Readies};
 
 use crate::make::make;
 use crate::scan::check_all_rowids;
@@ -20,10 +20,9 @@ fn has_nothing(schema: &Schema) -> bool
     schema.tables.is_empty() && schema.indexes.is_empty() && schema.views.is_empty()
 }
 
-/// Makes the hall's tables where there is none, and takes them over where they stand. Any other database is refused,
-/// and so is an open transaction; a refused connection has the tables that it had.
-pub fn adopt<S: Alter>(conn: &mut Connection<S>) -> Result<(), StoreFault>
-    ensures { Adopts (state S.Store conn.old) (state S.Store conn.new) result }
+/// Makes the hall's tables where there is none, and looks through them where they stand.
+fn ready<S: Alter>(conn: &mut Connection<S>) -> Result<(), StoreFault>
+    ensures { Readies (state S.Store conn.old) (state S.Store conn.new) result }
 {
     if !conn.is_autocommit() {
         return Err(StoreFault::Failed);
@@ -35,4 +34,19 @@ pub fn adopt<S: Alter>(conn: &mut Connection<S>) -> Result<(), StoreFault>
         return Err(StoreFault::Failed);
     }
     check_all_rowids(conn, &ALL)
+}
+
+/// Makes the hall's tables where there is none, and takes them over where they stand. Any other database is refused,
+/// and so is an open transaction; a refused connection has the tables that it had. One that is taken over has no limit
+/// on the steps of a query any more.
+pub fn adopt<S: Alter>(conn: &mut Connection<S>) -> Result<(), StoreFault>
+    ensures { Adopts (state S.Store conn.old) (state S.Store conn.new) result }
+{
+    match ready(conn) {
+        Ok(()) => {
+            conn.set_step_limit(None);
+            Ok(())
+        }
+        Err(fault) => Err(fault),
+    }
 }

@@ -1,5 +1,5 @@
 //! The table of answers.
-ghost use Rattle.std.specs.Prelude.{◌≡◌, ◌↔◌, IsTrue, Ok, IfOk, OnErr, [], ◌∷◌, pos};
+ghost use Rattle.std.specs.Prelude.{◌≡◌, ◌↔◌, IsTrue, IfOk, OnErr, [], ◌∷◌, pos};
 ghost use Rattle.std.specs.FinMap.{get};
 ghost use Rattle.sqlite.specs.Held.{state};
 ghost use Rattle.hall_store.specs.Store.{Served, Fails, IsListing, is_of, is_in, IsNumberTaken, HasSubmitted, Asks};
@@ -7,7 +7,7 @@ ghost use Rattle.hall_policy.specs.Rules.{answers_given};
 ghost use Rattle.hall_store.specs.Change.{CanAddAnswer};
 ghost use Rattle.hall_store.specs.declared.change.Change.TheVariants.{AddAnswer};
 ghost use Rattle.hall_policy.specs.Ranges.{IsAnswerRow};
-ghost use Rattle.sqlite.specs.State.{HasCleanDisk, Executes};
+ghost use Rattle.sqlite.specs.State.{HasCleanDisk};
 ghost use Rattle.hall_sql.specs.Columns.{answer_params};
 ghost use Rattle.hall_sql.specs.Standing.{IsHall, Rested, Wrote, content_of, Lasts};
 ghost use Rattle.sqlite.specs.declared.types.Value.TheVariants.{Text, Int};
@@ -16,6 +16,7 @@ ghost use Rattle.hall_sql.specs.Statements.{answers_in_text, answers_of_text, nu
 ghost use Rattle.hall_sql.specs.Rows.{answer_in};
 ghost use Rattle.hall_sql.specs.Whole.{AreRecords};
 ghost use Rattle.hall_sql.specs.Cause.{ReadFails, FindFails};
+ghost use Rattle.hall_sql.specs.WriteCause.{Ran, RunFails};
 
 use crate::calls::run;
 use crate::reads::{find, read};
@@ -234,8 +235,8 @@ fn write<S: Alter>(conn: &mut Connection<S>, row: &AnswerRow) -> Result<usize, S
     requires hall { IsHall (state S.Store conn.old) }
     ensures lasts { Lasts (state S.Store conn.old) (state S.Store conn.new) }
     ensures refused { OnErr result (Rested (state S.Store conn.old) (state S.Store conn.new)) }
-    ensures runs { HasCleanDisk (state S.Store conn.new) → IfOk result (λ count.
-        Executes add_answer_text (answer_params row.now) (state S.Store conn.old) (state S.Store conn.new) (Ok count)) }
+    ensures runs { HasCleanDisk (state S.Store conn.new) →
+        Ran add_answer_text (answer_params row.now) (state S.Store conn.old) (state S.Store conn.new) result }
 {
     run(
         conn,
@@ -260,7 +261,9 @@ pub(crate) fn add_answer<S: Alter>(
 ) -> Result<(), StoreFault>
     requires hall { IsHall (state S.Store conn.old) }
     requires can { Asks (content_of (state S.Store conn.old)) (λ world. CanAddAnswer world row.now) }
-    ensures { Wrote (AddAnswer row.now) (state S.Store conn.old) (state S.Store conn.new) result }
+    ensures wrote { Wrote (AddAnswer row.now) (state S.Store conn.old) (state S.Store conn.new) result }
+    ensures cause { HasCleanDisk (state S.Store conn.new) → Fails (RunFails add_answer_text
+        (answer_params row.now) (state S.Store conn.old) (state S.Store conn.new)) result }
 {
     in_range(row);
     match write(conn, row) {

@@ -13,6 +13,7 @@ ghost use Rattle.hall_store.specs.declared.fault.StoreFault.TheVariants.{Failed}
 ghost use Rattle.hall_sql.specs.Tables.{hall_schema};
 ghost use Rattle.hall_sql.specs.Standing.{IsHall, Rested, Lasts};
 ghost use Rattle.hall_sql.specs.Inside.{Carries};
+ghost use Rattle.hall_sql.specs.WriteCause.{Ran, RefusesInside, RefusesToAsk};
 
 use hall_store::StoreFault;
 use sqlite::types::ValueRef;
@@ -59,8 +60,8 @@ pub(crate) fn run<S: Alter>(
     requires hall { IsHall (state S.Store conn.old) }
     ensures lasts { Lasts (state S.Store conn.old) (state S.Store conn.new) }
     ensures refused { OnErr result (Rested (state S.Store conn.old) (state S.Store conn.new)) }
-    ensures runs { HasCleanDisk (state S.Store conn.new) → IfOk result (λ count.
-        Executes sql.now (bound params.now) (state S.Store conn.old) (state S.Store conn.new) (Ok count)) }
+    ensures runs { HasCleanDisk (state S.Store conn.new) →
+        Ran sql.now (bound params.now) (state S.Store conn.old) (state S.Store conn.new) result }
 {
     match conn.execute(sql, params) {
         Ok(count) => Ok(count),
@@ -78,6 +79,8 @@ pub(crate) fn ask_in<S: Alter>(
     ensures carries { Carries (state S.Store tx.old.conn.now) (state S.Store tx.new.conn.now) }
     ensures shown { HasCleanDisk (state S.Store tx.new.conn.now) → IfOk result (λ rows.
         Shown sql.now (bound params.now) (state S.Store tx.old.conn.now) (state S.Store tx.new.conn.now) rows.items) }
+    ensures cause { HasCleanDisk (state S.Store tx.new.conn.now) → Fails (RefusesToAsk sql.now (bound params.now)
+        (state S.Store tx.old.conn.now) (state S.Store tx.new.conn.now)) result }
 {
     match tx.query_all(sql, params) {
         Ok(rows) => Ok(rows),
@@ -98,6 +101,9 @@ pub(crate) fn run_in<S: Alter>(
     ensures runs { HasCleanDisk (state S.Store tx.new.conn.now) → IsTrue (state S.Store tx.old.conn.now).in_transaction
         → IfOk result (λ count. Executes sql.now (bound params.now)
         (state S.Store tx.old.conn.now) (state S.Store tx.new.conn.now) (Ok count)) }
+    ensures cause { HasCleanDisk (state S.Store tx.new.conn.now) → IsTrue (state S.Store tx.old.conn.now).in_transaction
+        → Fails (RefusesInside sql.now (bound params.now) (state S.Store tx.old.conn.now)
+        (state S.Store tx.new.conn.now)) result }
 {
     match tx.execute(sql, params) {
         Ok(count) => Ok(count),

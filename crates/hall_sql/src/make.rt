@@ -4,7 +4,7 @@ ghost use Rattle.sqlite.specs.Held.{state};
 ghost use Rattle.sqlite.specs.State.{HasCleanDisk};
 ghost use Rattle.hall_sql.specs.Inside.{Carries};
 ghost use Rattle.hall_sql.specs.Tables.{no_schema};
-ghost use Rattle.hall_sql.specs.Standing.{Adopts};
+ghost use Rattle.hall_sql.specs.Standing.{Readies};
 ghost use Rattle.hall_sql.specs.Made.{Grows, HasGrown};
 
 use crate::calls::{fault_of, run_in};
@@ -45,7 +45,7 @@ pub(crate) fn make<S: Alter>(conn: &mut Connection<S>) -> Result<(), StoreFault>
     requires settled { IsTrue (state S.Store conn.old).is_open
         → (state S.Store conn.old).now ≡ (state S.Store conn.old).committed }
     requires bare { conn.old.schema ≡ no_schema }
-    ensures { Adopts (state S.Store conn.old) (state S.Store conn.new) result }
+    ensures { Readies (state S.Store conn.old) (state S.Store conn.new) result }
 {
     let mut tx = conn.transaction();
     make_tables(&mut tx, &ALL)?;

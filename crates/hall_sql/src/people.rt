@@ -1,19 +1,20 @@
 //! The table of people.
-ghost use Rattle.std.specs.Prelude.{◌≡◌, IsTrue, IfOk, OnOk, [], ◌∷◌};
+ghost use Rattle.std.specs.Prelude.{◌≡◌, ◌⊎◌, IsTrue, IfOk, OnOk, [], ◌∷◌};
 ghost use Rattle.std.specs.FinMap.{get};
 ghost use Rattle.sqlite.specs.Held.{state};
 ghost use Rattle.sqlite.specs.State.{HasCleanDisk};
 ghost use Rattle.hall_store.specs.Store.{Served, Fails};
 ghost use Rattle.hall_store.specs.Caller.{IsKeyHolder};
 ghost use Rattle.hall_store.specs.declared.change.Change.TheVariants.{Import};
-ghost use Rattle.hall_sql.specs.Columns.{roles_code};
+ghost use Rattle.hall_sql.specs.Columns.{person_params, roles_code};
 ghost use Rattle.hall_sql.specs.Standing.{IsHall, Rested, Wrote, content_of};
 ghost use Rattle.hall_sql.specs.Inside.{Carries, Did, Changes, Tells, AddsPerson};
 ghost use Rattle.sqlite.specs.declared.types.Value.TheVariants.{Text};
-ghost use Rattle.hall_sql.specs.Statements.{person_by_key_text, person_text};
+ghost use Rattle.hall_sql.specs.Statements.{add_person_text, person_by_key_text, person_text};
 ghost use Rattle.hall_sql.specs.Rows.{person_in};
 ghost use Rattle.hall_sql.specs.Whole.{AreRecords};
-ghost use Rattle.hall_sql.specs.Cause.{FindFails};
+ghost use Rattle.hall_sql.specs.Cause.{IsStoreCause, FindFails};
+ghost use Rattle.hall_sql.specs.WriteCause.{RunFails, IsUnfound, PersonIsRefused, ImportFails, InsideFails};
 
 use crate::calls::{ask_in, fault_of, run_in};
 use crate::reads::find;
@@ -79,6 +80,9 @@ fn person_in<S: Alter>(
     ensures done { HasCleanDisk (state S.Store tx.new.conn.now) → IsTrue (state S.Store tx.old.conn.now).in_transaction
         → IfOk result (λ found. Did (Tells (λ world. found ≡ get world.people name.now))
         (state S.Store tx.old.conn.now) (state S.Store tx.new.conn.now)) }
+    ensures cause { InsideFails (state S.Store tx.old.conn.now) (state S.Store tx.new.conn.now)
+        (IsStoreCause (state S.Store tx.old.conn.now) (state S.Store tx.new.conn.now)
+        ⊎ IsUnfound name.now (state S.Store tx.old.conn.now) (state S.Store tx.new.conn.now)) result }
 {
     let rows = ask_in(tx, PERSON, params![name.as_str()])?;
     at_most_one(read_all(alloc, &rows)?)
@@ -103,6 +107,9 @@ fn add_person<S: Alter>(tx: &mut Transaction<'_, S>, person: &Person) -> Result<
     ensures carries { Carries (state S.Store tx.old.conn.now) (state S.Store tx.new.conn.now) }
     ensures done { HasCleanDisk (state S.Store tx.new.conn.now) → IsTrue (state S.Store tx.old.conn.now).in_transaction
         → OnOk result (Did (AddsPerson person.now) (state S.Store tx.old.conn.now) (state S.Store tx.new.conn.now)) }
+    ensures cause { InsideFails (state S.Store tx.old.conn.now) (state S.Store tx.new.conn.now)
+        (RunFails add_person_text (person_params person.now) (state S.Store tx.old.conn.now)
+        (state S.Store tx.new.conn.now)) result }
 {
     person.in_range();
     run_in(
@@ -128,6 +135,9 @@ fn import_one<S: Alter>(
     ensures done { HasCleanDisk (state S.Store tx.new.conn.now) → IsTrue (state S.Store tx.old.conn.now).in_transaction
         → OnOk result (Did (Changes (Import (person.now ∷ [])))
         (state S.Store tx.old.conn.now) (state S.Store tx.new.conn.now)) }
+    ensures cause { InsideFails (state S.Store tx.old.conn.now) (state S.Store tx.new.conn.now)
+        (IsStoreCause (state S.Store tx.old.conn.now) (state S.Store tx.new.conn.now)
+        ⊎ PersonIsRefused person.now (state S.Store tx.old.conn.now) (state S.Store tx.new.conn.now)) result }
 {
     match person_in(tx, alloc, &person.name)? {
         Some(_) => Ok(()),
@@ -146,6 +156,8 @@ fn import_all<S: Alter>(
     ensures done { HasCleanDisk (state S.Store tx.new.conn.now) → IsTrue (state S.Store tx.old.conn.now).in_transaction
         → OnOk result (Did (Changes (Import people.now))
         (state S.Store tx.old.conn.now) (state S.Store tx.new.conn.now)) }
+    ensures cause { InsideFails (state S.Store tx.old.conn.now) (state S.Store tx.new.conn.now)
+        (ImportFails S.Store people.now (state S.Store tx.old.conn.now) (state S.Store tx.new.conn.now)) result }
 {
     for person in people {
         import_one(tx, alloc, person)?;
@@ -160,7 +172,9 @@ pub(crate) fn import<S: Alter>(
     people: &People,
 ) -> Result<(), StoreFault>
     requires hall { IsHall (state S.Store conn.old) }
-    ensures { Wrote (Import people.now) (state S.Store conn.old) (state S.Store conn.new) result }
+    ensures wrote { Wrote (Import people.now) (state S.Store conn.old) (state S.Store conn.new) result }
+    ensures cause { HasCleanDisk (state S.Store conn.new) → Fails (ImportFails S.Store people.now
+        (state S.Store conn.old) (state S.Store conn.new)) result }
 {
     if !conn.is_autocommit() {
         return Err(StoreFault::Failed);

@@ -1,8 +1,8 @@
 //! The table of protests.
-ghost use Rattle.std.specs.Prelude.{◌≡◌, ◌↔◌, IsTrue, Ok, IfOk, IfSome, OnErr, None, Contains, [], ◌∷◌};
+ghost use Rattle.std.specs.Prelude.{◌≡◌, ◌↔◌, IsTrue, IfOk, IfSome, OnErr, Some, None, Contains, [], ◌∷◌};
 ghost use Rattle.std.specs.FinMap.{get};
 ghost use Rattle.sqlite.specs.Held.{state};
-ghost use Rattle.sqlite.specs.State.{HasCleanDisk, Executes};
+ghost use Rattle.sqlite.specs.State.{HasCleanDisk};
 ghost use Rattle.hall_policy.specs.Ranges.{IsProtestRow, IsRuling};
 ghost use Rattle.hall_policy.specs.Rules.{protests_made};
 ghost use Rattle.hall_policy.specs.World.{ruling_points};
@@ -18,6 +18,7 @@ ghost use Rattle.hall_sql.specs.Statements.{protest_text, protests_in_text, prot
 ghost use Rattle.hall_sql.specs.Rows.{protest_in};
 ghost use Rattle.hall_sql.specs.Whole.{AreRecords};
 ghost use Rattle.hall_sql.specs.Cause.{ReadFails, FindFails};
+ghost use Rattle.hall_sql.specs.WriteCause.{Ran, RunFails, RuleFails};
 
 use crate::calls::run;
 use crate::reads::{find, read};
@@ -210,9 +211,8 @@ fn write<S: Alter>(conn: &mut Connection<S>, row: &ProtestRow) -> Result<usize, 
     requires hall { IsHall (state S.Store conn.old) }
     ensures lasts { Lasts (state S.Store conn.old) (state S.Store conn.new) }
     ensures refused { OnErr result (Rested (state S.Store conn.old) (state S.Store conn.new)) }
-    ensures runs { HasCleanDisk (state S.Store conn.new) → IfOk result (λ count.
-        Executes add_protest_text (protest_params row.now) (state S.Store conn.old) (state S.Store conn.new)
-        (Ok count)) }
+    ensures runs { HasCleanDisk (state S.Store conn.new) →
+        Ran add_protest_text (protest_params row.now) (state S.Store conn.old) (state S.Store conn.new) result }
 {
     run(
         conn,
@@ -236,7 +236,9 @@ pub(crate) fn add_protest<S: Alter>(
 ) -> Result<(), StoreFault>
     requires hall { IsHall (state S.Store conn.old) }
     requires can { Asks (content_of (state S.Store conn.old)) (λ world. CanAddProtest world row.now) }
-    ensures { Wrote (AddProtest row.now) (state S.Store conn.old) (state S.Store conn.new) result }
+    ensures wrote { Wrote (AddProtest row.now) (state S.Store conn.old) (state S.Store conn.new) result }
+    ensures cause { HasCleanDisk (state S.Store conn.new) → Fails (RunFails add_protest_text
+        (protest_params row.now) (state S.Store conn.old) (state S.Store conn.new)) result }
 {
     in_range(row);
     match write(conn, row) {
@@ -258,8 +260,8 @@ fn write_ruling<S: Alter>(
     ensures in_range { IfSome ruling.now IsRuling }
     ensures lasts { Lasts (state S.Store conn.old) (state S.Store conn.new) }
     ensures refused { OnErr result (Rested (state S.Store conn.old) (state S.Store conn.new)) }
-    ensures runs { HasCleanDisk (state S.Store conn.new) → IfOk result (λ count. Executes rule_protest_text
-        (ruling_params key.now ruling.now) (state S.Store conn.old) (state S.Store conn.new) (Ok count)) }
+    ensures runs { HasCleanDisk (state S.Store conn.new) → Ran rule_protest_text (ruling_params key.now ruling.now)
+        (state S.Store conn.old) (state S.Store conn.new) result }
 {
     run(
         conn,
@@ -283,7 +285,9 @@ fn rule_found<S: Alter>(
 ) -> Result<(), StoreFault>
     requires hall { IsHall (state S.Store conn.old) }
     requires alone { HasCleanDisk (state S.Store conn.old) → IsAlone key.now (state S.Store conn.old) row.now }
-    ensures { Wrote (RuleProtest key.now ruling) (state S.Store conn.old) (state S.Store conn.new) result }
+    ensures wrote { Wrote (RuleProtest key.now ruling) (state S.Store conn.old) (state S.Store conn.new) result }
+    ensures cause { HasCleanDisk (state S.Store conn.new) → Fails (RunFails rule_protest_text
+        (ruling_params key.now (Some ruling)) (state S.Store conn.old) (state S.Store conn.new)) result }
 {
     in_range(row);
     match write_ruling(conn, key, &Some(ruling)) {
@@ -300,7 +304,9 @@ pub(crate) fn rule_protest<S: Alter>(
     ruling: Ruling,
 ) -> Result<(), StoreFault>
     requires hall { IsHall (state S.Store conn.old) }
-    ensures { Wrote (RuleProtest key.now ruling) (state S.Store conn.old) (state S.Store conn.new) result }
+    ensures wrote { Wrote (RuleProtest key.now ruling) (state S.Store conn.old) (state S.Store conn.new) result }
+    ensures cause { HasCleanDisk (state S.Store conn.new) → Fails (RuleFails key.now ruling
+        (state S.Store conn.old) (state S.Store conn.new)) result }
 {
     match protest(conn, alloc, key)? {
         Some(row) => rule_found(conn, key, &row, ruling),

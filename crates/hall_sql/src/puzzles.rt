@@ -1,20 +1,21 @@
 //! The table of puzzles.
-ghost use Rattle.std.specs.Prelude.{◌≡◌, IsTrue, Ok, IfOk, OnErr, [], ◌∷◌};
+ghost use Rattle.std.specs.Prelude.{◌≡◌, ◌⊎◌, IsTrue, IfOk, OnErr, [], ◌∷◌};
 ghost use Rattle.std.specs.FinMap.{get, values};
 ghost use Rattle.sqlite.specs.Held.{state};
 ghost use Rattle.hall_store.specs.Store.{Served, Fails, puzzles_of};
 ghost use Rattle.hall_policy.specs.Rules.{puzzles_put};
-ghost use Rattle.sqlite.specs.State.{HasCleanDisk, Executes};
+ghost use Rattle.sqlite.specs.State.{HasCleanDisk};
 ghost use Rattle.hall_grid.specs.Text.{SpellsText};
 ghost use Rattle.hall_policy.specs.Ranges.{IsPuzzleKey, IsState};
 ghost use Rattle.hall_store.specs.declared.change.Change.TheVariants.{PutPuzzle, SetState};
 ghost use Rattle.hall_sql.specs.Columns.{puzzle_params, HasSoMany, state_code, solution_of};
 ghost use Rattle.hall_sql.specs.Standing.{IsHall, Rested, Wrote, content_of, Lasts};
 ghost use Rattle.sqlite.specs.declared.types.Value.TheVariants.{Text};
-ghost use Rattle.hall_sql.specs.Statements.{all_puzzles_text, puzzle_text, puzzles_of_text};
+ghost use Rattle.hall_sql.specs.Statements.{add_puzzle_text, all_puzzles_text, puzzle_text, puzzles_of_text, replace_puzzle_text};
 ghost use Rattle.hall_sql.specs.Rows.{puzzle_row_in};
 ghost use Rattle.hall_sql.specs.Whole.{AreRecords};
-ghost use Rattle.hall_sql.specs.Cause.{ReadFails, FindFails};
+ghost use Rattle.hall_sql.specs.Cause.{IsStoreCause, ReadFails, FindFails};
+ghost use Rattle.hall_sql.specs.WriteCause.{Ran, RunFails, PuzzleIsRefused, PutPuzzleFails, SetStateFails};
 
 use crate::calls::{ask, run};
 use crate::reads::{find, read};
@@ -161,6 +162,8 @@ fn look<S: Alter>(conn: &mut Connection<S>, key: &PuzzleKey) -> Result<usize, St
         (λ _. IsTrue (state S.Store conn.new).is_open) }
     ensures found { HasCleanDisk (state S.Store conn.new) → IfOk result
         (HasSoMany key.now (state S.Store conn.new)) }
+    ensures cause { HasCleanDisk (state S.Store conn.new) → Fails
+        (IsStoreCause (state S.Store conn.old) (state S.Store conn.new)) result }
 {
     Ok(ask(conn, LOOK, params![key.author.as_str(), key.label.as_str()])?.len())
 }
@@ -182,8 +185,8 @@ fn write<S: Alter>(
     ensures in_range { IsState row.now.state }
     ensures lasts { Lasts (state S.Store conn.old) (state S.Store conn.new) }
     ensures refused { OnErr result (Rested (state S.Store conn.old) (state S.Store conn.new)) }
-    ensures runs { HasCleanDisk (state S.Store conn.new) → IfOk result (λ count. Executes sql.now
-        (puzzle_params text.now row.now) (state S.Store conn.old) (state S.Store conn.new) (Ok count)) }
+    ensures runs { HasCleanDisk (state S.Store conn.new) →
+        Ran sql.now (puzzle_params text.now row.now) (state S.Store conn.old) (state S.Store conn.new) result }
 {
     let solution = solution_of(&row.state);
     run(
@@ -208,7 +211,9 @@ fn put_new<S: Alter>(
     requires hall { IsHall (state S.Store conn.old) }
     requires spells { SpellsText text.now row.now.puzzle }
     requires found { HasCleanDisk (state S.Store conn.old) → HasSoMany row.now.key (state S.Store conn.old) 0 }
-    ensures { Wrote (PutPuzzle row.now) (state S.Store conn.old) (state S.Store conn.new) result }
+    ensures wrote { Wrote (PutPuzzle row.now) (state S.Store conn.old) (state S.Store conn.new) result }
+    ensures cause { HasCleanDisk (state S.Store conn.new) → Fails (RunFails add_puzzle_text
+        (puzzle_params text.now row.now) (state S.Store conn.old) (state S.Store conn.new)) result }
 {
     in_range(&row.key);
     match write(conn, ADD, row, text) {
@@ -226,7 +231,9 @@ fn put_over<S: Alter>(
     requires hall { IsHall (state S.Store conn.old) }
     requires spells { SpellsText text.now row.now.puzzle }
     requires found { HasCleanDisk (state S.Store conn.old) → HasSoMany row.now.key (state S.Store conn.old) 1 }
-    ensures { Wrote (PutPuzzle row.now) (state S.Store conn.old) (state S.Store conn.new) result }
+    ensures wrote { Wrote (PutPuzzle row.now) (state S.Store conn.old) (state S.Store conn.new) result }
+    ensures cause { HasCleanDisk (state S.Store conn.new) → Fails (RunFails replace_puzzle_text
+        (puzzle_params text.now row.now) (state S.Store conn.old) (state S.Store conn.new)) result }
 {
     in_range(&row.key);
     match write(conn, REPLACE, row, text) {
@@ -245,7 +252,9 @@ fn put_found<S: Alter>(
     requires hall { IsHall (state S.Store conn.old) }
     requires spells { SpellsText text.now row.now.puzzle }
     requires found { HasCleanDisk (state S.Store conn.old) → HasSoMany row.now.key (state S.Store conn.old) count }
-    ensures { Wrote (PutPuzzle row.now) (state S.Store conn.old) (state S.Store conn.new) result }
+    ensures wrote { Wrote (PutPuzzle row.now) (state S.Store conn.old) (state S.Store conn.new) result }
+    ensures cause { HasCleanDisk (state S.Store conn.new) → Fails (IsStoreCause (state S.Store conn.old)
+        (state S.Store conn.new) ⊎ PuzzleIsRefused row.now count (state S.Store conn.old).now) result }
 {
     match count {
         0 => put_new(conn, row, text),
@@ -261,7 +270,9 @@ pub(crate) fn put_puzzle<S: Alter>(
     row: &PuzzleRow,
 ) -> Result<(), StoreFault>
     requires hall { IsHall (state S.Store conn.old) }
-    ensures { Wrote (PutPuzzle row.now) (state S.Store conn.old) (state S.Store conn.new) result }
+    ensures wrote { Wrote (PutPuzzle row.now) (state S.Store conn.old) (state S.Store conn.new) result }
+    ensures cause { HasCleanDisk (state S.Store conn.new) → Fails (PutPuzzleFails row.now
+        (state S.Store conn.old) (state S.Store conn.new)) result }
 {
     let text = write_puzzle(alloc, &row.puzzle)?;
     let count = look(conn, &row.key)?;
@@ -276,8 +287,10 @@ fn put_state<S: Alter>(
     known: PuzzleState,
 ) -> Result<(), StoreFault>
     requires hall { IsHall (state S.Store conn.old) }
-    ensures { Wrote (PutPuzzle (record row { state = known })) (state S.Store conn.old) (state S.Store conn.new)
+    ensures wrote { Wrote (PutPuzzle (record row { state = known })) (state S.Store conn.old) (state S.Store conn.new)
         result }
+    ensures cause { HasCleanDisk (state S.Store conn.new) → Fails (PutPuzzleFails
+        (record row { state = known }) (state S.Store conn.old) (state S.Store conn.new)) result }
 {
     let row = PuzzleRow {
         key: row.key,
@@ -295,7 +308,9 @@ pub(crate) fn set_state<S: Alter>(
     known: PuzzleState,
 ) -> Result<(), StoreFault>
     requires hall { IsHall (state S.Store conn.old) }
-    ensures { Wrote (SetState key.now known) (state S.Store conn.old) (state S.Store conn.new) result }
+    ensures wrote { Wrote (SetState key.now known) (state S.Store conn.old) (state S.Store conn.new) result }
+    ensures cause { HasCleanDisk (state S.Store conn.new) → Fails (SetStateFails key.now known
+        (state S.Store conn.old) (state S.Store conn.new)) result }
 {
     match puzzle(conn, alloc, key)? {
         Some(row) => put_state(conn, alloc, row, known),

@@ -1,5 +1,5 @@
 //! What is written to the tables of rounds and of their puzzles.
-ghost use Rattle.std.specs.Prelude.{◌≡◌, ◌≤◌, length, IsTrue, IfOk, IfSome, OnOk};
+ghost use Rattle.std.specs.Prelude.{◌≡◌, ◌≤◌, ◌⊎◌, [], ◌∷◌, length, IsTrue, IfOk, IfSome, OnOk};
 ghost use Rattle.std.specs.FinMap.{get};
 ghost use Rattle.sqlite.specs.Held.{state};
 ghost use Rattle.sqlite.specs.Values.{bound};
@@ -9,9 +9,15 @@ ghost use Rattle.hall_store.specs.Store.{Served};
 ghost use Rattle.hall_store.specs.Change.{flagged};
 ghost use Rattle.hall_store.specs.declared.change.Change.TheVariants.{PutRound, SetRoundFlag};
 ghost use Rattle.hall_sql.specs.Inside.{Carries, Did, Changes};
-ghost use Rattle.hall_sql.specs.RoundColumns.{mode_code, head_params, IsHead};
+ghost use Rattle.hall_sql.specs.RoundColumns.{mode_code, head_params, place_params, IsHead};
 ghost use Rattle.hall_sql.specs.RoundPuts.{CountsHeads, PutsHead, PutsHeadOver, DropsPlaces, PutsPlace, PutsPlaces};
 ghost use Rattle.hall_sql.specs.Standing.{IsHall, Rested, Wrote, content_of};
+ghost use Rattle.sqlite.specs.declared.types.Value.TheVariants.{Text};
+ghost use Rattle.hall_store.specs.Store.{Fails};
+ghost use Rattle.hall_sql.specs.Cause.{IsStoreCause};
+ghost use Rattle.hall_sql.specs.Statements.{add_head_text, replace_head_text, drop_places_text, add_place_text};
+ghost use Rattle.hall_sql.specs.WriteCause.{RunFails, SetFlagFails, PutRoundFails, InsideFails};
+ghost use Rattle.hall_sql.specs.WriteCause.{IsHeadRefused, PlaceIsRefused};
 
 use crate::calls::{ask_in, fault_of, run, run_in};
 use crate::rounds::head;
@@ -85,7 +91,9 @@ fn set_flag<S: Alter>(
 ) -> Result<(), StoreFault>
     requires hall { IsHall (state S.Store conn.old) }
     requires found { HasCleanDisk (state S.Store conn.old) → IsHead round.id (state S.Store conn.old) round }
-    ensures { Wrote (SetRoundFlag round.id flag) (state S.Store conn.old) (state S.Store conn.new) result }
+    ensures wrote { Wrote (SetRoundFlag round.id flag) (state S.Store conn.old) (state S.Store conn.new) result }
+    ensures cause { HasCleanDisk (state S.Store conn.new) → Fails (RunFails replace_head_text
+        (head_params (flagged flag round)) (state S.Store conn.old) (state S.Store conn.new)) result }
 {
     let flagged = flagged(round, flag);
     in_range(&flagged);
@@ -103,7 +111,9 @@ pub(crate) fn set_round_flag<S: Alter>(
     flag: RoundFlag,
 ) -> Result<(), StoreFault>
     requires hall { IsHall (state S.Store conn.old) }
-    ensures { Wrote (SetRoundFlag id.now flag) (state S.Store conn.old) (state S.Store conn.new) result }
+    ensures wrote { Wrote (SetRoundFlag id.now flag) (state S.Store conn.old) (state S.Store conn.new) result }
+    ensures cause { HasCleanDisk (state S.Store conn.new) → Fails (SetFlagFails id.now flag
+        (state S.Store conn.old) (state S.Store conn.new)) result }
 {
     match head(conn, alloc, id)? {
         Some(round) => set_flag(conn, round, flag),
@@ -120,6 +130,8 @@ fn look<S: Alter>(tx: &mut Transaction<'_, S>, id: &RoundId) -> Result<usize, St
     ensures done { HasCleanDisk (state S.Store tx.new.conn.now) → IsTrue (state S.Store tx.old.conn.now).in_transaction
         → IfOk result (λ count. Did (CountsHeads id.now count) (state S.Store tx.old.conn.now)
         (state S.Store tx.new.conn.now)) }
+    ensures cause { InsideFails (state S.Store tx.old.conn.now) (state S.Store tx.new.conn.now)
+        (IsStoreCause (state S.Store tx.old.conn.now) (state S.Store tx.new.conn.now)) result }
 {
     Ok(ask_in(tx, LOOK, params![id.as_str()])?.len())
 }
@@ -135,6 +147,9 @@ fn put_new<S: Alter>(tx: &mut Transaction<'_, S>, round: &Round) -> Result<(), S
     ensures done { HasCleanDisk (state S.Store tx.new.conn.now) → IsTrue (state S.Store tx.old.conn.now).in_transaction
         → OnOk result (PutsHeadOver 0 round.now (state S.Store tx.old.conn.now)
         (state S.Store tx.new.conn.now)) }
+    ensures cause { InsideFails (state S.Store tx.old.conn.now) (state S.Store tx.new.conn.now)
+        (RunFails add_head_text (head_params round.now) (state S.Store tx.old.conn.now)
+        (state S.Store tx.new.conn.now)) result }
 {
     in_range(round);
     run_in(tx, ADD_HEAD, &columns(round))?;
@@ -148,6 +163,9 @@ fn put_over<S: Alter>(tx: &mut Transaction<'_, S>, round: &Round) -> Result<(), 
     ensures done { HasCleanDisk (state S.Store tx.new.conn.now) → IsTrue (state S.Store tx.old.conn.now).in_transaction
         → OnOk result (PutsHeadOver 1 round.now (state S.Store tx.old.conn.now)
         (state S.Store tx.new.conn.now)) }
+    ensures cause { InsideFails (state S.Store tx.old.conn.now) (state S.Store tx.new.conn.now)
+        (RunFails replace_head_text (head_params round.now) (state S.Store tx.old.conn.now)
+        (state S.Store tx.new.conn.now)) result }
 {
     in_range(round);
     run_in(tx, REPLACE_HEAD, &columns(round))?;
@@ -161,6 +179,9 @@ fn put_head<S: Alter>(tx: &mut Transaction<'_, S>, round: &Round) -> Result<(), 
     ensures done { HasCleanDisk (state S.Store tx.new.conn.now) → IsTrue (state S.Store tx.old.conn.now).in_transaction
         → OnOk result (Did (PutsHead round.now) (state S.Store tx.old.conn.now)
         (state S.Store tx.new.conn.now)) }
+    ensures cause { InsideFails (state S.Store tx.old.conn.now) (state S.Store tx.new.conn.now)
+        (IsStoreCause (state S.Store tx.old.conn.now) (state S.Store tx.new.conn.now)
+        ⊎ IsHeadRefused round.now (state S.Store tx.old.conn.now).now) result }
 {
     match look(tx, &round.id)? {
         0 => put_new(tx, round),
@@ -178,6 +199,9 @@ fn drop_places<S: Alter>(tx: &mut Transaction<'_, S>, id: &RoundId) -> Result<()
     ensures done { HasCleanDisk (state S.Store tx.new.conn.now) → IsTrue (state S.Store tx.old.conn.now).in_transaction
         → OnOk result (Did (DropsPlaces id.now) (state S.Store tx.old.conn.now)
         (state S.Store tx.new.conn.now)) }
+    ensures cause { InsideFails (state S.Store tx.old.conn.now) (state S.Store tx.new.conn.now)
+        (RunFails drop_places_text (Text id.now ∷ []) (state S.Store tx.old.conn.now)
+        (state S.Store tx.new.conn.now)) result }
 {
     run_in(tx, DROP_PLACES, params![id.as_str()])?;
     Ok(())
@@ -208,6 +232,9 @@ fn put_place<S: Alter>(
     ensures done { HasCleanDisk (state S.Store tx.new.conn.now) → IsTrue (state S.Store tx.old.conn.now).in_transaction
         → OnOk result (Did (PutsPlace id.now number entry.now) (state S.Store tx.old.conn.now)
         (state S.Store tx.new.conn.now)) }
+    ensures cause { InsideFails (state S.Store tx.old.conn.now) (state S.Store tx.new.conn.now)
+        (RunFails add_place_text (place_params id.now number entry.now)
+        (state S.Store tx.old.conn.now) (state S.Store tx.new.conn.now)) result }
 {
     entry_in_range(entry);
     run_in(
@@ -236,6 +263,9 @@ fn put_places<S: Alter>(
     ensures done { HasCleanDisk (state S.Store tx.new.conn.now) → IsTrue (state S.Store tx.old.conn.now).in_transaction
         → OnOk result (Did (PutsPlaces id.now entries.now) (state S.Store tx.old.conn.now)
         (state S.Store tx.new.conn.now)) }
+    ensures cause { InsideFails (state S.Store tx.old.conn.now) (state S.Store tx.new.conn.now)
+        (IsStoreCause (state S.Store tx.old.conn.now) (state S.Store tx.new.conn.now)
+        ⊎ PlaceIsRefused id.now entries.now (state S.Store tx.old.conn.now).now) result }
 {
     let mut number = 0u32;
     for entry in entries {
@@ -252,6 +282,8 @@ fn put_inside<S: Alter>(tx: &mut Transaction<'_, S>, row: &RoundRow) -> Result<(
     ensures done { HasCleanDisk (state S.Store tx.new.conn.now) → IsTrue (state S.Store tx.old.conn.now).in_transaction
         → OnOk result (Did (Changes (PutRound row.now)) (state S.Store tx.old.conn.now)
         (state S.Store tx.new.conn.now)) }
+    ensures cause { InsideFails (state S.Store tx.old.conn.now) (state S.Store tx.new.conn.now)
+        (PutRoundFails row.now (state S.Store tx.old.conn.now) (state S.Store tx.new.conn.now)) result }
 {
     put_head(tx, &row.round)?;
     drop_places(tx, &row.round.id)?;
@@ -264,7 +296,9 @@ pub(crate) fn put_round<S: Alter>(
     row: &RoundRow,
 ) -> Result<(), StoreFault>
     requires hall { IsHall (state S.Store conn.old) }
-    ensures { Wrote (PutRound row.now) (state S.Store conn.old) (state S.Store conn.new) result }
+    ensures wrote { Wrote (PutRound row.now) (state S.Store conn.old) (state S.Store conn.new) result }
+    ensures cause { HasCleanDisk (state S.Store conn.new) → Fails (PutRoundFails row.now
+        (state S.Store conn.old) (state S.Store conn.new)) result }
 {
     if !conn.is_autocommit() {
         return Err(StoreFault::Failed);

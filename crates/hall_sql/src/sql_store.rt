@@ -97,6 +97,10 @@ impl<S: Alter + Drop> Store for SqlStore<S> {
     ghost use Rattle.hall_sql.specs.Statements.{protests_in_text};
     ghost use Rattle.hall_sql.specs.Whole.{AreRecords};
     ghost use Rattle.hall_sql.specs.Cause.{ReadFails, FindFails, RoundFails};
+    ghost use Rattle.hall_sql.specs.Columns.{answer_params, protest_params};
+    ghost use Rattle.hall_sql.specs.Statements.{add_answer_text, add_protest_text};
+    ghost use Rattle.hall_sql.specs.WriteCause.{ImportFails, PutPuzzleFails, PutRoundFails, RuleFails, RunFails};
+    ghost use Rattle.hall_sql.specs.WriteCause.{SetFlagFails, SetStateFails};
     ghost use Rattle.hall_sql.specs.Standing.{Rested, Wrote, content_of};
 
     ghost content = { λ s. content_of (state S.Store s) };
@@ -137,6 +141,8 @@ impl<S: Alter + Drop> Store for SqlStore<S> {
 
     fn import(&mut self, alloc: Global, people: &People) -> Result<(), StoreFault>
         ensures wrote { Wrote (Import people.now) (state S.Store self.old) (state S.Store self.new) result }
+        ensures cause { HasCleanDisk (state S.Store self.new) → Fails
+            (ImportFails S.Store people.now (state S.Store self.old) (state S.Store self.new)) result }
     {
         import(&mut self.conn, alloc, people)
     }
@@ -207,6 +213,8 @@ impl<S: Alter + Drop> Store for SqlStore<S> {
 
     fn put_puzzle(&mut self, alloc: Global, row: PuzzleRow) -> Result<(), StoreFault>
         ensures wrote { Wrote (PutPuzzle row) (state S.Store self.old) (state S.Store self.new) result }
+        ensures cause { HasCleanDisk (state S.Store self.new) → Fails
+            (PutPuzzleFails row (state S.Store self.old) (state S.Store self.new)) result }
     {
         put_puzzle(&mut self.conn, alloc, &row)
     }
@@ -218,6 +226,8 @@ impl<S: Alter + Drop> Store for SqlStore<S> {
         known: PuzzleState,
     ) -> Result<(), StoreFault>
         ensures wrote { Wrote (SetState key.now known) (state S.Store self.old) (state S.Store self.new) result }
+        ensures cause { HasCleanDisk (state S.Store self.new) → Fails
+            (SetStateFails key.now known (state S.Store self.old) (state S.Store self.new)) result }
     {
         set_state(&mut self.conn, alloc, key, known)
     }
@@ -254,6 +264,8 @@ impl<S: Alter + Drop> Store for SqlStore<S> {
 
     fn put_round(&mut self, _alloc: Global, row: RoundRow) -> Result<(), StoreFault>
         ensures wrote { Wrote (PutRound row) (state S.Store self.old) (state S.Store self.new) result }
+        ensures cause { HasCleanDisk (state S.Store self.new) → Fails
+            (PutRoundFails row (state S.Store self.old) (state S.Store self.new)) result }
     {
         put_round(&mut self.conn, &row)
     }
@@ -265,6 +277,8 @@ impl<S: Alter + Drop> Store for SqlStore<S> {
         flag: RoundFlag,
     ) -> Result<(), StoreFault>
         ensures wrote { Wrote (SetRoundFlag id.now flag) (state S.Store self.old) (state S.Store self.new) result }
+        ensures cause { HasCleanDisk (state S.Store self.new) → Fails
+            (SetFlagFails id.now flag (state S.Store self.old) (state S.Store self.new)) result }
     {
         set_round_flag(&mut self.conn, alloc, id, flag)
     }
@@ -392,6 +406,8 @@ impl<S: Alter + Drop> Store for SqlStore<S> {
     fn add_answer(&mut self, _alloc: Global, row: AnswerRow) -> Result<(), StoreFault>
         requires { Asks (content_of (state S.Store self.old)) (λ world. CanAddAnswer world row) }
         ensures wrote { Wrote (AddAnswer row) (state S.Store self.old) (state S.Store self.new) result }
+        ensures cause { HasCleanDisk (state S.Store self.new) → Fails
+            (RunFails add_answer_text (answer_params row) (state S.Store self.old) (state S.Store self.new)) result }
     {
         add_answer(&mut self.conn, &row)
     }
@@ -531,6 +547,8 @@ impl<S: Alter + Drop> Store for SqlStore<S> {
     fn add_protest(&mut self, _alloc: Global, row: ProtestRow) -> Result<(), StoreFault>
         requires { Asks (content_of (state S.Store self.old)) (λ world. CanAddProtest world row) }
         ensures wrote { Wrote (AddProtest row) (state S.Store self.old) (state S.Store self.new) result }
+        ensures cause { HasCleanDisk (state S.Store self.new) → Fails
+            (RunFails add_protest_text (protest_params row) (state S.Store self.old) (state S.Store self.new)) result }
     {
         add_protest(&mut self.conn, &row)
     }
@@ -542,6 +560,8 @@ impl<S: Alter + Drop> Store for SqlStore<S> {
         ruling: Ruling,
     ) -> Result<(), StoreFault>
         ensures wrote { Wrote (RuleProtest key.now ruling) (state S.Store self.old) (state S.Store self.new) result }
+        ensures cause { HasCleanDisk (state S.Store self.new) → Fails
+            (RuleFails key.now ruling (state S.Store self.old) (state S.Store self.new)) result }
     {
         rule_protest(&mut self.conn, alloc, key, ruling)
     }

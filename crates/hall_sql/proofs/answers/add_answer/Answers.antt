@@ -2,9 +2,21 @@ use Rattle.sqlite.specs.Held.{state}
 use Rattle.hall_store.specs.declared.change.Change.TheVariants.{AddAnswer}
 use Rattle.hall_sql.proofs.AnswerWrites.{answer_added}
 use Rattle.hall_sql.proofs.WriteLemmas.{made_wrote}
+use Rattle.std.proofs.Common.{arith}
+use Rattle.sqlite.specs.State.{HasCleanDisk}
+use Rattle.hall_sql.proofs.Written.{add_answer_written}
+use Rattle.hall_sql.proofs.WriteCauseLemmas.{refused_cause}
+use Rattle.hall_sql.specs.Statements.{add_answer_text}
+use Rattle.hall_sql.specs.Columns.{answer_params}
 use Rattle.hall_sql.proofs.answers.add_answer.Goals as goal
 
-pub returns-in-Ok : goal.returns-in-Ok
-returns-in-Ok g c =
-    made_wrote (AddAnswer c.args.row.now) (state g.S.Store c.args.conn.now) (state g.S.Store c.write.new.conn) tt c.write.ensures.lasts
+pub returns-in-Ok-clause-wrote : goal.returns-in-Ok-clause-wrote
+returns-in-Ok-clause-wrote g c =
+    made_wrote (AddAnswer c.args.row.now) (state g.S.Store c.args.conn.now) (state g.S.Store c.write.new.conn) tt c.requires.hall c.write.ensures.lasts
     (λ was clean. answer_added c.args.row.now c.in_range.ensures _ _ _ c.requires.hall was (λ opened. (c.requires.can was opened).fresh) (c.in-Ok.ensures.runs clean))
+
+pub returns-in-Err-clause-cause : goal.returns-in-Err-clause-cause
+returns-in-Err-clause-cause g c clean failed =
+    let was : HasCleanDisk (state g.S.Store c.args.conn.now) = omega (arith, c.write.ensures.lasts.clean, clean) in
+    refused_cause add_answer_text (answer_params c.args.row.now) (state g.S.Store c.args.conn.now) (state g.S.Store c.write.new.conn) (add_answer_written c.args.row.now) c.requires.hall was
+    (c.in-Err.ensures.runs clean failed)

@@ -13,3 +13,6 @@ returns-in-Err-clause-carries g c = record {
   lasts = survived _ _ _ c.query_all.ensures.survives;
   kept = λ clean inside. unshown_keeps _ _ _ _ _ (c.in-Err.ensures.err clean);
 }
+
+pub returns-in-Err-clause-cause : goal.returns-in-Err-clause-cause
+returns-in-Err-clause-cause g c clean = λ failed. (c.in-Err.error, c.fault_of.ensures failed, c.in-Err.ensures.err clean)

@@ -2,9 +2,21 @@ use Rattle.sqlite.specs.Held.{state}
 use Rattle.hall_store.specs.declared.change.Change.TheVariants.{RuleProtest}
 use Rattle.hall_sql.proofs.ProtestWrites.{protest_ruled}
 use Rattle.hall_sql.proofs.WriteLemmas.{made_wrote}
+use Rattle.std.proofs.Common.{arith, Some}
+use Rattle.sqlite.specs.State.{HasCleanDisk}
+use Rattle.hall_sql.proofs.Written.{rule_protest_written}
+use Rattle.hall_sql.proofs.WriteCauseLemmas.{refused_cause}
+use Rattle.hall_sql.specs.Statements.{rule_protest_text}
+use Rattle.hall_sql.specs.Columns.{ruling_params}
 use Rattle.hall_sql.proofs.protests.rule_found.Goals as goal
 
-pub returns-in-Ok : goal.returns-in-Ok
-returns-in-Ok g c =
-    made_wrote (RuleProtest c.args.key.now c.args.ruling) (state g.S.Store c.args.conn.now) (state g.S.Store c.write_ruling.new.conn) tt c.write_ruling.ensures.lasts
+pub returns-in-Ok-clause-wrote : goal.returns-in-Ok-clause-wrote
+returns-in-Ok-clause-wrote g c =
+    made_wrote (RuleProtest c.args.key.now c.args.ruling) (state g.S.Store c.args.conn.now) (state g.S.Store c.write_ruling.new.conn) tt c.requires.hall c.write_ruling.ensures.lasts
     (λ was clean. protest_ruled c.args.key.now c.args.row.now c.args.ruling c.in_range.ensures c.write_ruling.ensures.in_range _ _ _ c.requires.hall was (c.requires.alone was) (c.in-Ok.ensures.runs clean))
+
+pub returns-in-Err-clause-cause : goal.returns-in-Err-clause-cause
+returns-in-Err-clause-cause g c clean failed =
+    let was : HasCleanDisk (state g.S.Store c.args.conn.now) = omega (arith, c.write_ruling.ensures.lasts.clean, clean) in
+    refused_cause rule_protest_text (ruling_params c.args.key.now (Some c.args.ruling)) (state g.S.Store c.args.conn.now) (state g.S.Store c.write_ruling.new.conn) (rule_protest_written c.args.key.now (Some c.args.ruling)) c.requires.hall was
+    (c.in-Err.ensures.runs clean failed)

@@ -1,9 +1,24 @@
 use Rattle.sqlite.specs.Held.{state}
 use Rattle.hall_store.specs.declared.change.Change.TheVariants.{RuleProtest}
 use Rattle.hall_sql.proofs.WriteLemmas.{rested_then}
+use Rattle.std.proofs.Common.{inr, Some}
+use Rattle.std.proofs.lemmas.Result.{IfErr-weaker}
+use Rattle.sqlite.specs.State.{HasCleanDisk}
+use Rattle.hall_sql.specs.Statements.{rule_protest_text}
+use Rattle.hall_sql.specs.Columns.{ruling_params}
+use Rattle.hall_sql.proofs.WriteCauseLemmas.{run_served}
 use Rattle.hall_sql.proofs.protests.rule_protest.Goals as goal
 
-pub returns-in-Some : goal.returns-in-Some
-returns-in-Some g c =
+pub returns-in-Some-clause-wrote : goal.returns-in-Some-clause-wrote
+returns-in-Some-clause-wrote g c =
     rested_then (RuleProtest c.args.key.now c.args.ruling) (state g.S.Store c.args.conn.now) (state g.S.Store c.protest.new.conn) _ c.rule_found.result
-    c.protest.ensures.rested (λ clean. (c.in_ok-row.ensures.served clean).0) c.rule_found.ensures
+    c.protest.ensures.rested (λ clean. (c.in_ok-row.ensures.served clean).0) c.rule_found.ensures.wrote
+
+pub returns-in-Some-clause-cause : goal.returns-in-Some-clause-cause
+returns-in-Some-clause-cause g c clean =
+    let was : HasCleanDisk (state g.S.Store c.protest.new.conn) = c.rule_found.ensures.wrote.makes.leads.honest clean in
+    let opens = (c.in_ok-row.ensures.served was).0 in
+    IfErr-weaker c.rule_found.result _ _ (λ fault why failed.
+    inr (run_served rule_protest_text (ruling_params c.args.key.now (Some c.args.ruling)) (state g.S.Store c.args.conn.now) (state g.S.Store c.protest.new.conn)
+    (state g.S.Store c.rule_found.new.conn) c.protest.ensures.rested.follows.lasts.counts opens (c.protest.ensures.rested.same was opens) (why failed)))
+    (c.rule_found.ensures.cause clean)

@@ -1,4 +1,4 @@
-use Rattle.std.proofs.Common.{rules, arith, ◌≡◌, ◌∙◌, length, sym, subst}
+use Rattle.std.proofs.Common.{rules, arith, ◌≡◌, ◌∙◌, length, sym, subst, [], ◌∷◌}
 use Rattle.sqlite.specs.Held.{state}
 use Rattle.sqlite.specs.Effect.{Database}
 use Rattle.sqlite.specs.State.{HasCleanDisk}
@@ -7,6 +7,11 @@ use Rattle.hall_sql.specs.Tables.{hall_schema}
 use Rattle.hall_sql.specs.Columns.{stands_under}
 use Rattle.hall_sql.proofs.PuzzleTexts.{look_puzzle_is}
 use Rattle.hall_sql.proofs.PuzzleWrites.{puzzle_looked}
+use Rattle.sqlite.specs.declared.types.Value.TheVariants.{Text}
+use Rattle.hall_sql.specs.Statements.{look_puzzle_text}
+use Rattle.hall_sql.proofs.CauseLemmas.{fails_as}
+use Rattle.hall_sql.proofs.AskedLemmas.{asked_cause}
+use Rattle.hall_sql.proofs.Written.{look_puzzle_asked}
 use Rattle.hall_sql.proofs.puzzles.look.Goals as goal
 
 pub ask-requires-clause-plain : goal.ask-requires-clause-plain
@@ -22,3 +27,13 @@ returns-clause-found g c clean =
     let many = puzzle_looked c.args.key.now (state g.S.Store c.args.conn.now) (state g.S.Store c.ask.new.conn) c.in_ok-ask.field-0.items has (rw (c.params-to_sql.ensures, c.params-to_sql-2.ensures, c.as_str.ensures.text, c.as_str-2.ensures.text) at (c.in_ok-ask.ensures.shown clean)) in
     let count : length c.in_ok-ask.field-0.items ≡ c.len.result = search rules in
     subst (λ (d : Database). length (filter (stands_under c.args.key.now) (d.trees 3)) ≡ c.len.result) (sym (rested.same clean opens)) (many ∙ count)
+
+pub returns-in_err-ask-clause-cause : goal.returns-in_err-ask-clause-cause
+returns-in_err-ask-clause-cause g c clean =
+    let old = state g.S.Store c.args.conn.now in
+    let key = c.args.key.now in
+    let was : HasCleanDisk old = omega (arith, c.ask.ensures.rested.follows.lasts.clean, clean) in
+    fails_as c.from_residual.result _ _ c.from_residual.ensures.1 (λ failed.
+    let it = rw (c.params-to_sql.ensures, c.params-to_sql-2.ensures, c.as_str.ensures.text, c.as_str-2.ensures.text) at (c.in_err-ask.ensures.cause clean failed) in
+    asked_cause look_puzzle_text (Text key.author ∷ Text key.label ∷ []) old (state g.S.Store c.ask.new.conn) it.0 (look_puzzle_asked key.author key.label)
+    c.requires.hall was it.1 it.2)

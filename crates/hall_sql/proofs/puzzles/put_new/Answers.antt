@@ -2,9 +2,21 @@ use Rattle.sqlite.specs.Held.{state}
 use Rattle.hall_store.specs.declared.change.Change.TheVariants.{PutPuzzle}
 use Rattle.hall_sql.proofs.PuzzleWrites.{puzzle_added}
 use Rattle.hall_sql.proofs.WriteLemmas.{made_wrote}
+use Rattle.std.proofs.Common.{arith}
+use Rattle.sqlite.specs.State.{HasCleanDisk}
+use Rattle.hall_sql.proofs.Written.{add_puzzle_written}
+use Rattle.hall_sql.proofs.WriteCauseLemmas.{refused_cause}
+use Rattle.hall_sql.specs.Statements.{add_puzzle_text}
+use Rattle.hall_sql.specs.Columns.{puzzle_params}
 use Rattle.hall_sql.proofs.puzzles.put_new.Goals as goal
 
-pub returns-in-Ok : goal.returns-in-Ok
-returns-in-Ok g c =
-    made_wrote (PutPuzzle c.args.row.now) (state g.S.Store c.args.conn.now) (state g.S.Store c.write.new.conn) tt c.write.ensures.lasts
+pub returns-in-Ok-clause-wrote : goal.returns-in-Ok-clause-wrote
+returns-in-Ok-clause-wrote g c =
+    made_wrote (PutPuzzle c.args.row.now) (state g.S.Store c.args.conn.now) (state g.S.Store c.write.new.conn) tt c.requires.hall c.write.ensures.lasts
     (λ was clean. puzzle_added c.args.text.now c.args.row.now c.requires.spells c.in_range.ensures c.write.ensures.in_range _ _ _ c.requires.hall was (λ opened. c.requires.found was) (c.in-Ok.ensures.runs clean))
+
+pub returns-in-Err-clause-cause : goal.returns-in-Err-clause-cause
+returns-in-Err-clause-cause g c clean failed =
+    let was : HasCleanDisk (state g.S.Store c.args.conn.now) = omega (arith, c.write.ensures.lasts.clean, clean) in
+    refused_cause add_puzzle_text (puzzle_params c.args.text.now c.args.row.now) (state g.S.Store c.args.conn.now) (state g.S.Store c.write.new.conn) (add_puzzle_written c.args.text.now c.args.row.now) c.requires.hall was
+    (c.in-Err.ensures.runs clean failed)

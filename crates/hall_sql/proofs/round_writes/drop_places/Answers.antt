@@ -2,6 +2,12 @@ use Rattle.sqlite.specs.Held.{state}
 use Rattle.hall_sql.specs.RoundPuts.{DropsPlaces}
 use Rattle.hall_sql.proofs.InsideLemmas.{did}
 use Rattle.hall_sql.proofs.PlaceWrites.{places_dropped}
+use Rattle.hall_sql.specs.Statements.{drop_places_text}
+use Rattle.hall_sql.proofs.CauseLemmas.{fails_as}
+use Rattle.hall_sql.proofs.Written.{drop_places_written}
+use Rattle.hall_sql.proofs.WriteCauseLemmas.{inside_cause}
+use Rattle.sqlite.specs.declared.types.Value.TheVariants.{Text}
+use Rattle.std.proofs.Common.{[], ◌∷◌}
 use Rattle.hall_sql.proofs.round_writes.drop_places.Goals as goal
 
 pub returns-clause-done : goal.returns-clause-done
@@ -9,3 +15,9 @@ returns-clause-done g c clean inside =
     let it = c.in_ok-run_in.ensures in
     did (DropsPlaces c.args.id.now) (state g.S.Store c.args.tx.now.conn.now) (state g.S.Store c.run_in.new.tx.conn.now) (it.mode clean inside)
     (λ held. places_dropped c.args.id.now _ _ _ held (rw (c.params-to_sql.ensures, c.as_str.ensures.text) at (it.runs clean inside)))
+
+pub returns-in_err-run_in-clause-cause : goal.returns-in_err-run_in-clause-cause
+returns-in_err-run_in-clause-cause g c clean goes =
+    fails_as c.from_residual.result _ _ c.from_residual.ensures.1 (λ failed.
+    inside_cause drop_places_text (Text c.args.id.now ∷ []) (state g.S.Store c.args.tx.now.conn.now) (state g.S.Store c.run_in.new.tx.conn.now) (drop_places_written c.args.id.now) goes
+    (rw (c.params-to_sql.ensures, c.as_str.ensures.text) at (c.in_err-run_in.ensures.cause clean goes.mode failed)))

@@ -1,7 +1,19 @@
 use Rattle.hall_sql.proofs.RoundWrites.{head_added}
+use Rattle.sqlite.specs.Held.{state}
+use Rattle.hall_sql.specs.Statements.{add_head_text}
+use Rattle.hall_sql.proofs.CauseLemmas.{fails_as}
+use Rattle.hall_sql.proofs.Written.{add_head_written}
+use Rattle.hall_sql.proofs.WriteCauseLemmas.{inside_cause}
+use Rattle.hall_sql.specs.RoundColumns.{head_params}
 use Rattle.hall_sql.proofs.round_writes.put_new.Goals as goal
 
 pub returns-clause-done : goal.returns-clause-done
 returns-clause-done g c clean inside =
     let it = c.in_ok-run_in.ensures in
     record { mode = it.mode clean inside; puts = λ held. head_added c.args.round.now c.in_range.ensures _ _ _ held (rw c.columns.ensures at (it.runs clean inside)) }
+
+pub returns-in_err-run_in-clause-cause : goal.returns-in_err-run_in-clause-cause
+returns-in_err-run_in-clause-cause g c clean goes =
+    fails_as c.from_residual.result _ _ c.from_residual.ensures.1 (λ failed.
+    inside_cause add_head_text (head_params c.args.round.now) (state g.S.Store c.args.tx.now.conn.now) (state g.S.Store c.run_in.new.tx.conn.now) (add_head_written c.args.round.now) goes
+    (rw c.columns.ensures at (c.in_err-run_in.ensures.cause clean goes.mode failed)))

@@ -7,16 +7,16 @@ use Rattle.hall_sql.proofs.LastLemmas.{survived}
 use Rattle.hall_sql.proofs.TransactionLemmas.{committed_wrote, refused_wrote}
 use Rattle.hall_sql.proofs.round_writes.put_round.Goals as goal
 
-pub returns-in-Ok : goal.returns-in-Ok
-returns-in-Ok g c =
+pub returns-in-Ok-clause-wrote : goal.returns-in-Ok-clause-wrote
+returns-in-Ok-clause-wrote g c =
     let it = rw c.transaction-tx.ensures.begun at c.in_ok-put_inside.ensures in
     let done : Wrote {R = Unit} {E = StoreFault} (PutRound c.args.row.now) (state g.S.Store c.args.conn.now) _ (Ok tt) =
     committed_wrote g.S.Store c.args.conn.now c.requires.hall (PutRound c.args.row.now) tt (state g.S.Store c.put_inside.new.tx.conn.now) _
     it.carries it.done (survived _ _ _ c.in-Ok.ensures.survives) c.in-Ok.ensures.ended c.in-Ok.ensures.ok in
     search rules
 
-pub returns-in-Err : goal.returns-in-Err
-returns-in-Err g c =
+pub returns-in-Err-clause-wrote : goal.returns-in-Err-clause-wrote
+returns-in-Err-clause-wrote g c =
     let it = rw c.transaction-tx.ensures.begun at c.in_ok-put_inside.ensures in
     let done : Wrote {R = Unit} (PutRound c.args.row.now) (state g.S.Store c.args.conn.now) _ (Err c.fault_of.result) =
     refused_wrote g.S.Store c.args.conn.now c.requires.hall (PutRound c.args.row.now) c.fault_of.result c.in-Err.error _ (state g.S.Store c.put_inside.new.tx.conn.now) _

@@ -2,9 +2,23 @@ use Rattle.sqlite.specs.Held.{state}
 use Rattle.hall_store.specs.declared.change.Change.TheVariants.{SetRoundFlag}
 use Rattle.hall_sql.proofs.RoundWrites.{head_flagged}
 use Rattle.hall_sql.proofs.WriteLemmas.{made_wrote}
+use Rattle.std.proofs.Common.{arith}
+use Rattle.sqlite.specs.State.{HasCleanDisk}
+use Rattle.hall_sql.specs.Statements.{replace_head_text}
+use Rattle.hall_sql.specs.RoundColumns.{head_params}
+use Rattle.hall_store.specs.Change.{flagged}
+use Rattle.hall_sql.proofs.Written.{replace_head_written}
+use Rattle.hall_sql.proofs.WriteCauseLemmas.{refused_cause}
 use Rattle.hall_sql.proofs.round_writes.set_flag.Goals as goal
 
-pub returns-in-Ok : goal.returns-in-Ok
-returns-in-Ok g c =
-    made_wrote (SetRoundFlag c.args.round.id c.args.flag) (state g.S.Store c.args.conn.now) (state g.S.Store c.run.new.conn) tt c.run.ensures.lasts
+pub returns-in-Ok-clause-wrote : goal.returns-in-Ok-clause-wrote
+returns-in-Ok-clause-wrote g c =
+    made_wrote (SetRoundFlag c.args.round.id c.args.flag) (state g.S.Store c.args.conn.now) (state g.S.Store c.run.new.conn) tt c.requires.hall c.run.ensures.lasts
     (λ was clean. head_flagged c.args.flag c.args.round (rw c.flagged-flagged.ensures at c.in_range.ensures) _ _ _ c.requires.hall was (c.requires.found was) (rw (c.columns.ensures, c.flagged-flagged.ensures) at (c.in-Ok.ensures.runs clean)))
+
+pub returns-clause-cause : goal.returns-clause-cause
+returns-clause-cause g c clean failed =
+    let put = flagged c.args.flag c.args.round in
+    let was : HasCleanDisk (state g.S.Store c.args.conn.now) = omega (arith, c.run.ensures.lasts.clean, clean) in
+    refused_cause replace_head_text (head_params put) (state g.S.Store c.args.conn.now) (state g.S.Store c.run.new.conn) (replace_head_written put) c.requires.hall was
+    (rw (c.columns.ensures, c.flagged-flagged.ensures) at (c.in-Err.ensures.runs clean failed))

@@ -1,22 +1,46 @@
-use Rattle.std.proofs.Common.{ap}
+use Rattle.std.proofs.Common.{ap, ◌≡◌, inr, Some, sym, ◌∙◌, subst}
 use Rattle.sqlite.specs.Held.{state}
 use Rattle.hall_store.specs.declared.change.Change.TheVariants.{SetRoundFlag}
 use Rattle.hall_sql.specs.Rows.{world_of}
-use Rattle.hall_store.specs.Change.{changed}
+use Rattle.hall_store.specs.Change.{changed, flagged}
 use Rattle.hall_sql.proofs.RoundWrites.{head_own, head_under}
 use Rattle.hall_sql.proofs.WriteLemmas.{rested_then, wrote_too}
+use Rattle.sqlite.specs.State.{HasCleanDisk}
+use Rattle.std.specs.FinMap.{get}
+use Rattle.sqlite.specs.Effect.{Database}
+use Rattle.std.proofs.lemmas.Result.{IfErr-weaker}
+use Rattle.hall_sql.specs.Statements.{replace_head_text}
+use Rattle.hall_sql.specs.RoundColumns.{head_params}
+use Rattle.hall_sql.proofs.WriteCauseLemmas.{run_served}
 use Rattle.hall_sql.proofs.round_writes.set_round_flag.Goals as goal
 
 pub set_flag-requires-clause-found : goal.set_flag-requires-clause-found
 set_flag-requires-clause-found g c clean =
     head_under c.args.id.now (state g.S.Store c.head.new.conn) c.in-Some.round (rw c.in-Some.is at (c.in_ok-round.ensures.alone clean))
 
-pub returns-in-Some : goal.returns-in-Some
-returns-in-Some g c =
+pub returns-in-Some-clause-wrote : goal.returns-in-Some-clause-wrote
+returns-in-Some-clause-wrote g c =
     let mid = state g.S.Store c.head.new.conn in
     let new = state g.S.Store c.set_flag.new.conn in
     rested_then (SetRoundFlag c.args.id.now c.args.flag) (state g.S.Store c.args.conn.now) mid new c.set_flag.result c.head.ensures.rested
     (λ clean. (c.in_ok-round.ensures.served clean).0)
     (wrote_too (SetRoundFlag c.in-Some.round.id c.args.flag) (SetRoundFlag c.args.id.now c.args.flag) mid new c.set_flag.result
     (λ clean. ap (λ id. changed (SetRoundFlag id c.args.flag) (world_of mid.now.trees)) (head_own c.args.id.now mid c.in-Some.round (rw c.in-Some.is at (c.in_ok-round.ensures.alone clean))))
-    c.set_flag.ensures)
+    c.set_flag.ensures.wrote)
+
+pub returns-in-Some-clause-cause : goal.returns-in-Some-clause-cause
+returns-in-Some-clause-cause g c clean =
+    let old = state g.S.Store c.args.conn.now in
+    let mid = state g.S.Store c.head.new.conn in
+    let was : HasCleanDisk mid = c.set_flag.ensures.wrote.makes.leads.honest clean in
+    let served = c.in_ok-round.ensures.served was in
+    let same = c.head.ensures.rested.same was served.0 in
+    let there : get (world_of mid.now.trees).rounds c.args.id.now ≡ Some c.in-Some.round = sym served.1 ∙ c.in-Some.is in
+    let found = subst (λ (d : Database). get (world_of d.trees).rounds c.args.id.now ≡ Some c.in-Some.round) same there in
+    IfErr-weaker c.set_flag.result _ _ (λ fault why failed.
+    inr (
+      c.in-Some.round,
+      found,
+      run_served replace_head_text (head_params (flagged c.args.flag c.in-Some.round)) old mid (state g.S.Store c.set_flag.new.conn)
+          c.head.ensures.rested.follows.lasts.counts served.0 same (why failed),
+    )) (c.set_flag.ensures.cause clean)

@@ -1,0 +1,217 @@
+-- Why a write to the tables answers that it failed.
+use Rattle.std.specs.Prelude.{◌≡◌, ◌≢◌, ◌⊎◌, ◌<◌, ◌+◌, ℕ, Bool, true, false, suc, zero, List, [], ◌∷◌, drop, take, length}
+use Rattle.std.specs.Prelude.{Option, Some, None, Result, Ok, Err, IsTrue}
+use Rattle.std.specs.FinMap.{get}
+use Rattle.sqlite_schema.specs.declared.command.Command.{Command}
+use Rattle.sqlite_schema.specs.declared.command.Command.TheVariants.{Insert, Update, Delete}
+use Rattle.sqlite_schema.specs.declared.schema.Keys.TheVariants.{Enforced}
+use Rattle.sqlite_trees.specs.declared.store.Store.{Ghosts}
+use Rattle.sqlite.proofs.Callers.{command_of, statement_of}
+use Rattle.sqlite.specs.declared.run.Mode.{Mode}
+use Rattle.sqlite.specs.declared.error.Error.{Error}
+use Rattle.sqlite.specs.declared.error.Error.TheVariants.{SqliteFailure}
+use Rattle.sqlite.specs.declared.error.ErrorCode.TheVariants.{OutOfMemory}
+use Rattle.sqlite.specs.declared.types.Value.TheVariants.{Text}
+use Rattle.sqlite.specs.Does.{Does}
+use Rattle.sqlite.specs.Effect.{Database}
+use Rattle.sqlite.specs.Given.{IsPlain}
+use Rattle.sqlite.specs.Held.{Held, state}
+use Rattle.sqlite.specs.Listing.{understood}
+use Rattle.sqlite.specs.Order.{Row}
+use Rattle.sqlite.specs.State.{State, HasCleanDisk, Executes, ExecutesInside, FailsToQuery, IsTooLate, Shown}
+use Rattle.hall_grid.specs.Text.{SpellsText}
+use Rattle.hall_policy.specs.declared.record.Entry.{Entry}
+use Rattle.hall_policy.specs.declared.record.Person.{Person}
+use Rattle.hall_policy.specs.declared.record.ProtestKey.{ProtestKey}
+use Rattle.hall_policy.specs.declared.record.PuzzleKey.{PuzzleKey}
+use Rattle.hall_policy.specs.declared.record.PuzzleRow.{PuzzleRow}
+use Rattle.hall_policy.specs.declared.record.PuzzleState.{PuzzleState}
+use Rattle.hall_policy.specs.declared.record.Round.{Round}
+use Rattle.hall_policy.specs.declared.record.RoundRow.{RoundRow}
+use Rattle.hall_policy.specs.declared.record.Ruling.{Ruling}
+use Rattle.hall_store.specs.Change.{changed, flagged}
+use Rattle.hall_store.specs.Store.{Fails}
+use Rattle.hall_store.specs.declared.change.Change.TheVariants.{Import}
+use Rattle.hall_store.specs.declared.change.RoundFlag.{RoundFlag}
+use Rattle.hall_store.specs.declared.fault.StoreFault.{StoreFault}
+use Rattle.hall_store.specs.declared.fault.StoreFault.TheVariants.{Failed}
+use Rattle.hall_sql.specs.Asked.{is_whole}
+use Rattle.hall_sql.specs.Cause.{IsStoreCause, IsAnyUnread, FindFails}
+use Rattle.hall_sql.specs.Columns.{person_params, puzzle_params, ruling_params, HasSoMany}
+use Rattle.hall_sql.specs.Inside.{IsHallData}
+use Rattle.hall_sql.specs.RoundColumns.{head_params, place_params, HasSoManyHeads}
+use Rattle.hall_sql.specs.RoundPuts.{PutsHead, DropsPlaces, PutsPlaces}
+use Rattle.hall_sql.specs.Rows.{world_of, person_in, puzzle_row_in, protest_in, round_in}
+use Rattle.hall_sql.specs.Statements.{add_person_text, person_text, add_puzzle_text, replace_puzzle_text, puzzle_text}
+use Rattle.hall_sql.specs.Statements.{add_head_text, replace_head_text, head_text, drop_places_text, add_place_text}
+use Rattle.hall_sql.specs.Statements.{rule_protest_text, protest_text}
+use Rattle.hall_sql.specs.Tables.{hall_schema}
+
+-- ---- one statement
+
+-- the command writes rows of one table
+abbrev pub IsEdit : Command → Type 0
+IsEdit (Insert at from) = Unit
+IsEdit (Update at q) = Unit
+IsEdit (Delete at q) = Unit
+IsEdit _ = ⊥
+
+-- over the hall's tables the text is one statement that writes rows, of these parameters
+pub record IsWritten (sql : List ℕ) (params : Row) : Type 0 where
+  pub plain : IsPlain (understood hall_schema sql)
+  pub whole : is_whole sql (length params) (understood hall_schema sql) ≡ true
+  pub edits : IsEdit (command_of (understood hall_schema sql))
+
+-- the keys between tables are to hold after each statement
+abbrev pub enforced : Mode
+enforced = record { keys = Enforced; in_doubt = false; may_wait = false }
+
+-- A rule of the tables refuses what the statement would make of them, or a row that it would make is too large to be kept.
+abbrev pub IsRefused : List ℕ → Row → Database → Type 0
+IsRefused sql params db =
+    (stop : Option Error)
+    × Does None enforced params db (statement_of sql (understood hall_schema sql)) None
+    (command_of (understood hall_schema sql)) (Err stop)
+
+-- Why a statement that writes rows fails: the cause lies in the store, or it is refused over the tables as they were.
+abbrev pub RunFails : List ℕ → Row → State → State → Type 0
+RunFails sql params old new = IsStoreCause old new ⊎ IsRefused sql params old.now
+
+-- the connection refused the statement, though not for want of memory
+abbrev pub Refuses : List ℕ → Row → State → State → Type 0
+Refuses sql params old new = (e : Error) × (e ≢ SqliteFailure OutOfMemory) × Executes sql params old new (Err e)
+
+-- it ran, or was refused so
+abbrev pub Ran : List ℕ → Row → State → State → Result ℕ StoreFault → Type 0
+Ran sql params old new (Ok count) = Executes sql params old new (Ok count)
+Ran sql params old new (Err fault) = fault ≡ Failed → Refuses sql params old new
+
+-- a statement inside a transaction was refused so
+abbrev pub RefusesInside : List ℕ → Row → State → State → Type 0
+RefusesInside sql params old new =
+    (e : Error) × (e ≢ SqliteFailure OutOfMemory) × ExecutesInside 0 sql params old new (Err e)
+
+-- and a query there
+abbrev pub RefusesToAsk : List ℕ → Row → State → State → Type 0
+RefusesToAsk sql params old new =
+    (e : Error) × (e ≢ SqliteFailure OutOfMemory)
+    × (FailsToQuery sql params old new e ⊎ IsTooLate sql params old new e)
+
+-- ---- puzzles
+
+-- the statement that puts a puzzle where so many rows stand under its key is refused, or there are more than one
+abbrev pub PuzzleIsRefused : PuzzleRow → ℕ → Database → Type 0
+PuzzleIsRefused row zero db =
+    (text : List ℕ) × SpellsText text row.puzzle × IsRefused add_puzzle_text (puzzle_params text row) db
+PuzzleIsRefused row (suc zero) db =
+    (text : List ℕ) × SpellsText text row.puzzle × IsRefused replace_puzzle_text (puzzle_params text row) db
+PuzzleIsRefused row (suc (suc more)) db = Unit
+
+-- why a put of a puzzle fails
+abbrev pub PutPuzzleFails : PuzzleRow → State → State → Type 0
+PutPuzzleFails row old new =
+    IsStoreCause old new ⊎ ((count : ℕ) × HasSoMany row.key old count × PuzzleIsRefused row count old.now)
+
+-- Why a puzzle's state isn't set: the puzzle can't be read, or it can't be put in that state.
+abbrev pub SetStateFails : PuzzleKey → PuzzleState → State → State → Type 0
+SetStateFails key known old new =
+    FindFails puzzle_row_in puzzle_text (Text key.author ∷ Text key.label ∷ []) old new
+    ⊎ ((row : PuzzleRow) × (get (world_of old.now.trees).puzzles key ≡ Some row)
+    × PutPuzzleFails (record row { state = known }) old new)
+
+-- ---- protests
+
+-- Why a ruling fails: the protest can't be read, or the statement that rules it is refused.
+abbrev pub RuleFails : ProtestKey → Ruling → State → State → Type 0
+RuleFails key ruling old new =
+    FindFails protest_in protest_text (Text key.entrant ∷ Text key.round ∷ Text key.token ∷ []) old new
+    ⊎ RunFails rule_protest_text (ruling_params key (Some ruling)) old new
+
+-- ---- rounds
+
+-- Why a flag isn't set: the round's head can't be read, or the statement that replaces it is refused.
+abbrev pub SetFlagFails : List ℕ → RoundFlag → State → State → Type 0
+SetFlagFails id flag old new =
+    FindFails round_in head_text (Text id ∷ []) old new
+    ⊎ ((round : Round) × (get (world_of old.now.trees).rounds id ≡ Some round)
+    × RunFails replace_head_text (head_params (flagged flag round)) old new)
+
+-- the statement that puts a head where so many rows stand under its id is refused, or there are more than one
+abbrev pub HeadIsRefused : Round → ℕ → Database → Type 0
+HeadIsRefused round zero db = IsRefused add_head_text (head_params round) db
+HeadIsRefused round (suc zero) db = IsRefused replace_head_text (head_params round) db
+HeadIsRefused round (suc (suc more)) db = Unit
+
+abbrev pub IsHeadRefused : Round → Database → Type 0
+IsHeadRefused round db = (count : ℕ) × HasSoManyHeads round.id db count × HeadIsRefused round count db
+
+-- the entries before one stand at their places, and the statement that puts it is refused there
+pub record PlaceIsRefused (id : List ℕ) (entries : List Entry) (old : Database) : Type 0 where
+  pub at : ℕ
+  pub entry : Entry
+  pub next : drop at entries ≡ entry ∷ drop (at + 1) entries
+  pub placed : Database
+  pub hall : IsHallData placed
+  pub puts : PutsPlaces id (take at entries) old placed
+  pub refused : IsRefused add_place_text (place_params id (at + 1) entry) placed
+
+-- the list before is taken out, and one of the new entries is refused
+pub record ListIsRefused (row : RoundRow) (old : Database) : Type 0 where
+  pub bare : Database
+  pub hall : IsHallData bare
+  pub drops : DropsPlaces row.round.id old bare
+  pub refused : PlaceIsRefused row.round.id row.puzzles bare
+
+-- the head is put, and then its list is refused
+pub record RestIsRefused (row : RoundRow) (old : Database) : Type 0 where
+  pub headed : Database
+  pub hall : IsHallData headed
+  pub puts : PutsHead row.round old headed
+  pub refused : IsRefused drop_places_text (Text row.round.id ∷ []) headed ⊎ ListIsRefused row headed
+
+-- why a put of a round fails
+abbrev pub PutRoundFails : RoundRow → State → State → Type 0
+PutRoundFails row old new =
+    IsStoreCause old new ⊎ (IsHeadRefused row.round old.now ⊎ RestIsRefused row old.now)
+
+-- ---- people
+
+-- the query for a person's name answers rows that are no one person
+abbrev pub IsUnfound : List ℕ → State → State → Type 0
+IsUnfound name old new =
+    (rows : List Row) × Shown person_text (Text name ∷ []) old new rows
+    × (IsAnyUnread person_in rows ⊎ (1 < length rows))
+
+-- so it does, or the statement that adds the person is refused
+abbrev pub PersonIsRefused : Person → State → State → Type 0
+PersonIsRefused person old new =
+    IsUnfound person.name old new ⊎ IsRefused add_person_text (person_params person) old.now
+
+-- Those before one person of the list are added, and that one is refused. What the rest makes of the world there, is
+-- what the whole list makes of the one before.
+pub record OneIsRefused {S : Type 0} (g : Ghosts S) (people : List Person) (old : Database) : Type 0 where
+  pub at : ℕ
+  pub person : Person
+  pub next : drop at people ≡ person ∷ drop (at + 1) people
+  pub mid : Held S
+  pub left : Held S
+  pub hall : IsHallData (state g mid).now
+  pub before : changed (Import (drop at people)) (world_of (state g mid).now.trees)
+      ≡ changed (Import people) (world_of old.trees)
+  pub refused : PersonIsRefused person (state g mid) (state g left)
+
+-- why an import fails
+abbrev pub ImportFails : {S : Type 0} → Ghosts S → List Person → State → State → Type 0
+ImportFails {S} g people old new = IsStoreCause old new ⊎ OneIsRefused g people old.now
+
+-- ---- inside a transaction
+
+-- a transaction is under way over the hall's tables
+pub record IsUnderWay (s : State) : Type 0 where
+  pub mode : IsTrue s.in_transaction
+  pub unlimited : s.step_limit ≡ None
+  pub hall : IsHallData s.now
+
+-- why a call inside it fails
+abbrev pub InsideFails : {R : Type 0} → State → State → Type 0 → Result R StoreFault → Type 0
+InsideFails old new Why result = HasCleanDisk new → IsUnderWay old → Fails Why result
