@@ -14,6 +14,9 @@ use Rattle.sqlite_catalog.specs.Listing.{IsSound}
 use Rattle.hall_policy.specs.World.{World}
 use Rattle.hall_store.specs.Store.{Content}
 use Rattle.hall_store.specs.Maps.{empty_world}
+use Rattle.hall_store.specs.declared.fault.StoreFault.{StoreFault}
+use Rattle.hall_store.specs.declared.fault.StoreFault.TheVariants.{Failed}
+use Rattle.hall_sql.specs.AdoptCause.{AdoptFails}
 use Rattle.hall_sql.specs.Tables.{no_schema, hall_schema}
 use Rattle.hall_sql.specs.Rows.{world_of}
 use Rattle.hall_sql.specs.Standing.{HasDeclined, content_of}
@@ -54,14 +57,17 @@ Starts image content = content.honest → content.serves × FindsWorld image con
 abbrev pub OpensAt : {F S : Type 0} → (F → List ℕ → Held S → F → Type 0) → F → List ℕ → F → Type 0
 OpensAt {F} {S} opens old path new = (was : Held S) × opens old path was new
 
--- asked for the database at the path alone, the files handed one out, which was refused, and took it back as it was left
+-- Asked for the database at the path alone, the files handed one out, newly opened, which was refused by this fault, and
+-- took it back as it was left.
 pub record IsHandedBack {F S : Type 0} (g : Ghosts S) (opens : F → List ℕ → Held S → F → Type 0)
-    (closes : F → Held S → F → Type 0) (old : F) (path : List ℕ) (new : F) : Type 0 where
+    (closes : F → Held S → F → Type 0) (old : F) (path : List ℕ) (new : F) (fault : StoreFault) : Type 0 where
   pub was : Held S
   pub left : Held S
   pub between : F
   pub opened : opens old path was between
+  pub fresh : HasCleanDisk (state g was) → Opens (state g was)
   pub declined : HasDeclined (state g was) (state g left)
+  pub cause : HasCleanDisk (state g left) → fault ≡ Failed → AdoptFails (state g was) (state g left)
   pub closed : closes between left new
 
 -- asked for the database at the path alone, the files refused by the error, or handed out one that was refused
@@ -69,7 +75,7 @@ abbrev pub IsCauseAt : {F S : Type 0} → Ghosts S → (F → List ℕ → Error
     → (F → List ℕ → Held S → F → Type 0) → (F → Held S → F → Type 0) → F → List ℕ → F → OpenFault → Type 0
 IsCauseAt g refuses opens closes old path new Missing = ⊥
 IsCauseAt g refuses opens closes old path new (Unopened error) = refuses old path error new
-IsCauseAt g refuses opens closes old path new (Refused fault) = IsHandedBack g opens closes old path new
+IsCauseAt g refuses opens closes old path new (Refused fault) = IsHandedBack g opens closes old path new fault
 
 -- the files told that there is a file at the path, and then handed out the database
 abbrev pub OpensThere : {F S : Type 0} → (F → List ℕ → Bool → F → Type 0) → (F → List ℕ → Held S → F → Type 0)

@@ -3,6 +3,7 @@ ghost use Rattle.std.specs.Prelude.{◌≡◌, IfOk, IfErr, OnOk};
 ghost use Rattle.sqlite.specs.Held.{state};
 ghost use Rattle.sqlite.specs.Steps.{over_memory};
 ghost use Rattle.hall_store.specs.Maps.{empty_world};
+ghost use Rattle.hall_store.specs.Store.{Fails};
 ghost use Rattle.hall_sql.specs.Standing.{content_of};
 ghost use Rattle.hall_sql.specs.Opened.{IsCauseAt, IsCauseThere, MemoryServes, OneWorldIsFound, OpensAt, OpensThere, Starts};
 
@@ -115,7 +116,8 @@ pub fn open_there<S: Alter + Drop, F: PathFiles<S>>(
 
 /// The hall's tables in memory, without a row.
 pub fn open_in_memory(alloc: Global) -> Result<SqlStore<MemStore>, StoreFault>
-    ensures { IfOk result (λ store. (content_of (state over_memory store)).world ≡ empty_world) }
+    ensures empty { IfOk result (λ store. (content_of (state over_memory store)).world ≡ empty_world) }
+    ensures cause { Fails ⊥ result }
 {
     let conn = Connection::open_in_memory(alloc)?;
     match SqlStore::over(conn) {
