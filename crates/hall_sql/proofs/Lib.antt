@@ -65,6 +65,5 @@ pub mod FeedListings
 pub mod Agrees
 pub mod EachLemmas
 pub mod OpenedLemmas
-pub mod AdoptCauseLemmas
 pub mod RecordParts
 pub mod UnreadLemmas

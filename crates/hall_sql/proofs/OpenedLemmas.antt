@@ -81,7 +81,7 @@ unfolding doubt
 memory_serves held = (refl, refl)
 
 -- a database without a table that was taken over holds an empty world
-pub hall_is_some : no_schema ≡ hall_schema → ⊥
+hall_is_some : no_schema ≡ hall_schema → ⊥
 hall_is_some same = let tables = ap (λ (s : Schema). length s.tables) same in cc
 
 pub from_empty : (old new : State) → old.now.schema ≡ no_schema → StoodOrEmpty old new

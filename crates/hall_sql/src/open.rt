@@ -83,7 +83,7 @@ pub fn open_at<S: Alter + Drop, F: PathFiles<S>>(
 ) -> Result<SqlStore<S>, OpenFault>
     ensures opened { OnOk result (OpensAt F.opens files.old path.now files.new) }
     ensures starts { IfOk result (λ store. Starts (F.image_at path.now) (content_of (state S.Store store))) }
-    ensures cause { IfErr result (IsCauseAt S.Store F.refuses F.opens F.closes files.old path.now files.new) }
+    ensures cause { IfErr result (IsCauseAt S.Store F.image_at F.refuses F.opens F.closes files.old path.now files.new) }
 {
     let conn = match files.open(path) {
         Ok(conn) => conn,
@@ -106,7 +106,7 @@ pub fn open_there<S: Alter + Drop, F: PathFiles<S>>(
     ensures opened { OnOk result (OpensThere F.tells F.opens files.old path.now files.new) }
     ensures starts { IfOk result (λ store. Starts (F.image_at path.now) (content_of (state S.Store store))) }
     ensures cause { IfErr result
-        (IsCauseThere S.Store F.tells F.refuses F.opens F.closes files.old path.now files.new) }
+        (IsCauseThere S.Store F.image_at F.tells F.refuses F.opens F.closes files.old path.now files.new) }
 {
     if files.is_missing(path) {
         return Err(OpenFault::Missing);
