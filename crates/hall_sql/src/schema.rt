@@ -12,20 +12,23 @@ use sqlite_value::keys::{Collation, Order};
 use sqlite_value::value::{Bytes, Value};
 
 fn is_name(found: &Bytes, wanted: &str) -> bool
-    ensures { IsTrue result → found.now ≡ wanted.now }
+    ensures is { IsTrue result → found.now ≡ wanted.now }
+    ensures only { found.now ≡ wanted.now → IsTrue result }
 {
     found.as_slice() == wanted.as_bytes()
 }
 
 fn are_places(found: &Items<usize>, wanted: &[usize]) -> bool
-    ensures { IsTrue result → found.now ≡ wanted.now }
+    ensures is { IsTrue result → found.now ≡ wanted.now }
+    ensures only { found.now ≡ wanted.now → IsTrue result }
 {
     found.as_slice() == wanted
 }
 
 /// The parent's columns have this name alone.
 fn is_one_name(found: &[Bytes], wanted: &str) -> bool
-    ensures { IsTrue result → found.now ≡ wanted.now ∷ [] }
+    ensures is { IsTrue result → found.now ≡ wanted.now ∷ [] }
+    ensures only { found.now ≡ wanted.now ∷ [] → IsTrue result }
 {
     let [name] = found else {
         return false;
@@ -34,7 +37,8 @@ fn is_one_name(found: &[Bytes], wanted: &str) -> bool
 }
 
 fn are_two_names(found: &[Bytes], first: &str, second: &str) -> bool
-    ensures { IsTrue result → found.now ≡ first.now ∷ second.now ∷ [] }
+    ensures is { IsTrue result → found.now ≡ first.now ∷ second.now ∷ [] }
+    ensures only { found.now ≡ first.now ∷ second.now ∷ [] → IsTrue result }
 {
     let [one, two] = found else {
         return false;
@@ -48,6 +52,8 @@ fn refers_to(reference: &Reference, parent: &str, action: Action) -> bool
     ensures on_delete { IsTrue result → reference.now.on_delete ≡ action }
     ensures on_update { IsTrue result → reference.now.on_update ≡ action }
     ensures at_once { IsTrue result → reference.now.is_deferred ≡ false }
+    ensures only { reference.now.parent ≡ parent.now → reference.now.on_delete ≡ action
+        → reference.now.on_update ≡ action → reference.now.is_deferred ≡ false → IsTrue result }
 {
     is_name(&reference.parent, parent)
         && reference.on_delete == action
@@ -63,7 +69,7 @@ fn is_link(
     parent_column: &str,
     action: Action,
 ) -> bool
-    ensures { IsTrue result → reference.now ≡ record {
+    ensures is { IsTrue result → reference.now ≡ record {
       columns = columns.now;
       parent = parent.now;
       parent_columns = parent_column.now ∷ [];
@@ -71,6 +77,14 @@ fn is_link(
       on_update = action;
       is_deferred = false;
     } }
+    ensures only { reference.now ≡ record {
+      columns = columns.now;
+      parent = parent.now;
+      parent_columns = parent_column.now ∷ [];
+      on_delete = action;
+      on_update = action;
+      is_deferred = false;
+    } → IsTrue result }
 {
     are_places(&reference.columns, columns)
         && is_one_name(reference.parent_columns.as_slice(), parent_column)
@@ -85,7 +99,7 @@ fn is_double_link(
     first: &str,
     second: &str,
 ) -> bool
-    ensures { IsTrue result → reference.now ≡ record {
+    ensures is { IsTrue result → reference.now ≡ record {
       columns = columns.now;
       parent = parent.now;
       parent_columns = first.now ∷ second.now ∷ [];
@@ -93,6 +107,14 @@ fn is_double_link(
       on_update = Action.Restrict;
       is_deferred = false;
     } }
+    ensures only { reference.now ≡ record {
+      columns = columns.now;
+      parent = parent.now;
+      parent_columns = first.now ∷ second.now ∷ [];
+      on_delete = Action.Restrict;
+      on_update = Action.Restrict;
+      is_deferred = false;
+    } → IsTrue result }
 {
     are_places(&reference.columns, columns)
         && are_two_names(reference.parent_columns.as_slice(), first, second)
@@ -100,7 +122,8 @@ fn is_double_link(
 }
 
 fn is_one_key(uniques: &[Items<usize>], key: &[usize]) -> bool
-    ensures { IsTrue result → uniques.now ≡ key.now ∷ [] }
+    ensures is { IsTrue result → uniques.now ≡ key.now ∷ [] }
+    ensures only { uniques.now ≡ key.now ∷ [] → IsTrue result }
 {
     let [unique] = uniques else {
         return false;
@@ -109,7 +132,8 @@ fn is_one_key(uniques: &[Items<usize>], key: &[usize]) -> bool
 }
 
 fn are_two_keys(uniques: &[Items<usize>], key: &[usize], other: &[usize]) -> bool
-    ensures { IsTrue result → uniques.now ≡ key.now ∷ other.now ∷ [] }
+    ensures is { IsTrue result → uniques.now ≡ key.now ∷ other.now ∷ [] }
+    ensures only { uniques.now ≡ key.now ∷ other.now ∷ [] → IsTrue result }
 {
     let [first, second] = uniques else {
         return false;
@@ -118,7 +142,8 @@ fn are_two_keys(uniques: &[Items<usize>], key: &[usize], other: &[usize]) -> boo
 }
 
 fn is_one_order(orders: &[Order]) -> bool
-    ensures { IsTrue result → orders.now ≡ plain ∷ [] }
+    ensures is { IsTrue result → orders.now ≡ plain ∷ [] }
+    ensures only { orders.now ≡ plain ∷ [] → IsTrue result }
 {
     let [order] = orders else {
         return false;
@@ -127,7 +152,8 @@ fn is_one_order(orders: &[Order]) -> bool
 }
 
 fn are_two_orders(orders: &[Order]) -> bool
-    ensures { IsTrue result → orders.now ≡ plain ∷ plain ∷ [] }
+    ensures is { IsTrue result → orders.now ≡ plain ∷ plain ∷ [] }
+    ensures only { orders.now ≡ plain ∷ plain ∷ [] → IsTrue result }
 {
     let [one, two] = orders else {
         return false;
@@ -140,6 +166,8 @@ fn has_key(table: &Table, key: &[usize]) -> bool
     ensures primary { IsTrue result → table.now.primary ≡ key.now }
     ensures uniques { IsTrue result → table.now.uniques ≡ key.now ∷ [] }
     ensures orders { IsTrue result → table.now.orders ≡ plain ∷ [] }
+    ensures only { table.now.primary ≡ key.now → table.now.uniques ≡ key.now ∷ []
+        → table.now.orders ≡ plain ∷ [] → IsTrue result }
 {
     are_places(&table.primary, key)
         && is_one_key(table.uniques.as_slice(), key)
@@ -151,6 +179,8 @@ fn has_two_keys(table: &Table, key: &[usize], other: &[usize]) -> bool
     ensures primary { IsTrue result → table.now.primary ≡ key.now }
     ensures uniques { IsTrue result → table.now.uniques ≡ key.now ∷ other.now ∷ [] }
     ensures orders { IsTrue result → table.now.orders ≡ plain ∷ plain ∷ [] }
+    ensures only { table.now.primary ≡ key.now → table.now.uniques ≡ key.now ∷ other.now ∷ []
+        → table.now.orders ≡ plain ∷ plain ∷ [] → IsTrue result }
 {
     are_places(&table.primary, key)
         && are_two_keys(table.uniques.as_slice(), key, other)
@@ -159,7 +189,7 @@ fn has_two_keys(table: &Table, key: &[usize], other: &[usize]) -> bool
 
 /// The index of a key.
 fn is_index(index: &Index, name: &str, tree: u32, table: u32, columns: &[usize]) -> bool
-    ensures { IsTrue result → index.now ≡ record {
+    ensures is { IsTrue result → index.now ≡ record {
       name = name.now;
       tree = tree;
       table = table;
@@ -167,6 +197,14 @@ fn is_index(index: &Index, name: &str, tree: u32, table: u32, columns: &[usize])
       order = plain;
       is_unique = true;
     } }
+    ensures only { index.now ≡ record {
+      name = name.now;
+      tree = tree;
+      table = table;
+      columns = columns.now;
+      order = plain;
+      is_unique = true;
+    } → IsTrue result }
 {
     is_name(&index.name, name)
         && index.tree == tree
@@ -178,7 +216,7 @@ fn is_index(index: &Index, name: &str, tree: u32, table: u32, columns: &[usize])
 
 /// The column has this name and type, is NOT NULL in a STRICT table, and has nothing else.
 fn is_column(column: &Column, name: &str, kind: Kind) -> bool
-    ensures { IsTrue result → column.now ≡ record {
+    ensures is { IsTrue result → column.now ≡ record {
       name = name.now;
       kind = kind;
       is_strict = true;
@@ -186,6 +224,14 @@ fn is_column(column: &Column, name: &str, kind: Kind) -> bool
       default = Null;
       collation = Binary;
     } }
+    ensures only { column.now ≡ record {
+      name = name.now;
+      kind = kind;
+      is_strict = true;
+      not_null = true;
+      default = Null;
+      collation = Binary;
+    } → IsTrue result }
 {
     let is_binary = matches!(column.collation, Collation::Binary);
     let has_no_default = matches!(column.default, Value::Null);
@@ -204,6 +250,9 @@ fn is_plain(table: &Table) -> bool
     ensures computed { IsTrue result → table.now.computed ≡ [] }
     ensures stamps { IsTrue result → table.now.stamps ≡ record { places = []; terms = []; formats = [] } }
     ensures counted { IsTrue result → table.now.is_counted ≡ false }
+    ensures only { table.now.key ≡ None → table.now.checks ≡ [] → table.now.computed ≡ []
+        → table.now.stamps ≡ record { places = []; terms = []; formats = [] } → table.now.is_counted ≡ false
+        → IsTrue result }
 {
     table.key.is_none()
         && table.checks.roots.is_empty()
@@ -215,7 +264,8 @@ fn is_plain(table: &Table) -> bool
 }
 
 fn has_people_columns(columns: &[Column]) -> bool
-    ensures { IsTrue result → columns.now ≡ people_table.columns }
+    ensures is { IsTrue result → columns.now ≡ people_table.columns }
+    ensures only { columns.now ≡ people_table.columns → IsTrue result }
 {
     let [name, pass, roles] = columns else {
         return false;
@@ -226,7 +276,8 @@ fn has_people_columns(columns: &[Column]) -> bool
 }
 
 fn is_people(table: &Table) -> bool
-    ensures { IsTrue result → table.now ≡ people_table }
+    ensures is { IsTrue result → table.now ≡ people_table }
+    ensures only { table.now ≡ people_table → IsTrue result }
 {
     is_name(&table.name, "people")
         && table.tree == 0
@@ -237,7 +288,8 @@ fn is_people(table: &Table) -> bool
 }
 
 fn has_puzzles_columns(columns: &[Column]) -> bool
-    ensures { IsTrue result → columns.now ≡ puzzles_table.columns }
+    ensures is { IsTrue result → columns.now ≡ puzzles_table.columns }
+    ensures only { columns.now ≡ puzzles_table.columns → IsTrue result }
 {
     let [author, label, body, state, solution] = columns else {
         return false;
@@ -250,7 +302,8 @@ fn has_puzzles_columns(columns: &[Column]) -> bool
 }
 
 fn has_puzzles_references(references: &[Reference]) -> bool
-    ensures { IsTrue result → references.now ≡ puzzles_table.references }
+    ensures is { IsTrue result → references.now ≡ puzzles_table.references }
+    ensures only { references.now ≡ puzzles_table.references → IsTrue result }
 {
     let [first] = references else {
         return false;
@@ -259,7 +312,8 @@ fn has_puzzles_references(references: &[Reference]) -> bool
 }
 
 fn is_puzzles(table: &Table) -> bool
-    ensures { IsTrue result → table.now ≡ record puzzles_table { tree = 3 } }
+    ensures is { IsTrue result → table.now ≡ record puzzles_table { tree = 3 } }
+    ensures only { table.now ≡ record puzzles_table { tree = 3 } → IsTrue result }
 {
     is_name(&table.name, "puzzles")
         && table.tree == 3
@@ -270,7 +324,8 @@ fn is_puzzles(table: &Table) -> bool
 }
 
 fn has_rounds_columns(columns: &[Column]) -> bool
-    ensures { IsTrue result → columns.now ≡ rounds_table.columns }
+    ensures is { IsTrue result → columns.now ≡ rounds_table.columns }
+    ensures only { columns.now ≡ rounds_table.columns → IsTrue result }
 {
     let [id, title, start, minutes, rest @ ..] = columns else {
         return false;
@@ -283,7 +338,8 @@ fn has_rounds_columns(columns: &[Column]) -> bool
 }
 
 fn are_rounds_columns_later(columns: &[Column]) -> bool
-    ensures { IsTrue result → columns.now ≡ drop 4 rounds_table.columns }
+    ensures is { IsTrue result → columns.now ≡ drop 4 rounds_table.columns }
+    ensures only { columns.now ≡ drop 4 rounds_table.columns → IsTrue result }
 {
     let [protest_minutes, mode, penalty, rest @ ..] = columns else {
         return false;
@@ -295,7 +351,8 @@ fn are_rounds_columns_later(columns: &[Column]) -> bool
 }
 
 fn are_rounds_columns_last(columns: &[Column]) -> bool
-    ensures { IsTrue result → columns.now ≡ drop 7 rounds_table.columns }
+    ensures is { IsTrue result → columns.now ≡ drop 7 rounds_table.columns }
+    ensures only { columns.now ≡ drop 7 rounds_table.columns → IsTrue result }
 {
     let [bonus, released, published] = columns else {
         return false;
@@ -306,7 +363,8 @@ fn are_rounds_columns_last(columns: &[Column]) -> bool
 }
 
 fn is_rounds(table: &Table) -> bool
-    ensures { IsTrue result → table.now ≡ record rounds_table { tree = 5 } }
+    ensures is { IsTrue result → table.now ≡ record rounds_table { tree = 5 } }
+    ensures only { table.now ≡ record rounds_table { tree = 5 } → IsTrue result }
 {
     is_name(&table.name, "rounds")
         && table.tree == 5
@@ -317,7 +375,8 @@ fn is_rounds(table: &Table) -> bool
 }
 
 fn has_round_puzzles_columns(columns: &[Column]) -> bool
-    ensures { IsTrue result → columns.now ≡ round_puzzles_table.columns }
+    ensures is { IsTrue result → columns.now ≡ round_puzzles_table.columns }
+    ensures only { columns.now ≡ round_puzzles_table.columns → IsTrue result }
 {
     let [round, number, author, label, points] = columns else {
         return false;
@@ -330,7 +389,8 @@ fn has_round_puzzles_columns(columns: &[Column]) -> bool
 }
 
 fn has_round_puzzles_references(references: &[Reference]) -> bool
-    ensures { IsTrue result → references.now ≡ round_puzzles_table.references }
+    ensures is { IsTrue result → references.now ≡ round_puzzles_table.references }
+    ensures only { references.now ≡ round_puzzles_table.references → IsTrue result }
 {
     let [first, second] = references else {
         return false;
@@ -340,7 +400,8 @@ fn has_round_puzzles_references(references: &[Reference]) -> bool
 }
 
 fn is_round_puzzles(table: &Table) -> bool
-    ensures { IsTrue result → table.now ≡ record round_puzzles_table { tree = 7 } }
+    ensures is { IsTrue result → table.now ≡ record round_puzzles_table { tree = 7 } }
+    ensures only { table.now ≡ record round_puzzles_table { tree = 7 } → IsTrue result }
 {
     is_name(&table.name, "round_puzzles")
         && table.tree == 7
@@ -351,7 +412,8 @@ fn is_round_puzzles(table: &Table) -> bool
 }
 
 fn has_answers_columns(columns: &[Column]) -> bool
-    ensures { IsTrue result → columns.now ≡ answers_table.columns }
+    ensures is { IsTrue result → columns.now ≡ answers_table.columns }
+    ensures only { columns.now ≡ answers_table.columns → IsTrue result }
 {
     let [entrant, round, number, rest @ ..] = columns else {
         return false;
@@ -363,7 +425,8 @@ fn has_answers_columns(columns: &[Column]) -> bool
 }
 
 fn are_answers_columns_later(columns: &[Column]) -> bool
-    ensures { IsTrue result → columns.now ≡ drop 3 answers_table.columns }
+    ensures is { IsTrue result → columns.now ≡ drop 3 answers_table.columns }
+    ensures only { columns.now ≡ drop 3 answers_table.columns → IsTrue result }
 {
     let [token, n, moment, rest @ ..] = columns else {
         return false;
@@ -375,7 +438,8 @@ fn are_answers_columns_later(columns: &[Column]) -> bool
 }
 
 fn are_answers_columns_last(columns: &[Column]) -> bool
-    ensures { IsTrue result → columns.now ≡ drop 6 answers_table.columns }
+    ensures is { IsTrue result → columns.now ≡ drop 6 answers_table.columns }
+    ensures only { columns.now ≡ drop 6 answers_table.columns → IsTrue result }
 {
     let [answer, verdict] = columns else {
         return false;
@@ -384,7 +448,8 @@ fn are_answers_columns_last(columns: &[Column]) -> bool
 }
 
 fn has_answers_references(references: &[Reference]) -> bool
-    ensures { IsTrue result → references.now ≡ answers_table.references }
+    ensures is { IsTrue result → references.now ≡ answers_table.references }
+    ensures only { references.now ≡ answers_table.references → IsTrue result }
 {
     let [first, second] = references else {
         return false;
@@ -394,7 +459,8 @@ fn has_answers_references(references: &[Reference]) -> bool
 }
 
 fn is_answers(table: &Table) -> bool
-    ensures { IsTrue result → table.now ≡ record answers_table { tree = 9 } }
+    ensures is { IsTrue result → table.now ≡ record answers_table { tree = 9 } }
+    ensures only { table.now ≡ record answers_table { tree = 9 } → IsTrue result }
 {
     is_name(&table.name, "answers")
         && table.tree == 9
@@ -405,7 +471,8 @@ fn is_answers(table: &Table) -> bool
 }
 
 fn has_protests_columns(columns: &[Column]) -> bool
-    ensures { IsTrue result → columns.now ≡ protests_table.columns }
+    ensures is { IsTrue result → columns.now ≡ protests_table.columns }
+    ensures only { columns.now ≡ protests_table.columns → IsTrue result }
 {
     let [entrant, round, token, number, rest @ ..] = columns else {
         return false;
@@ -418,7 +485,8 @@ fn has_protests_columns(columns: &[Column]) -> bool
 }
 
 fn are_protests_columns_later(columns: &[Column]) -> bool
-    ensures { IsTrue result → columns.now ≡ drop 4 protests_table.columns }
+    ensures is { IsTrue result → columns.now ≡ drop 4 protests_table.columns }
+    ensures only { columns.now ≡ drop 4 protests_table.columns → IsTrue result }
 {
     let [body, ruling, points] = columns else {
         return false;
@@ -429,7 +497,8 @@ fn are_protests_columns_later(columns: &[Column]) -> bool
 }
 
 fn has_protests_references(references: &[Reference]) -> bool
-    ensures { IsTrue result → references.now ≡ protests_table.references }
+    ensures is { IsTrue result → references.now ≡ protests_table.references }
+    ensures only { references.now ≡ protests_table.references → IsTrue result }
 {
     let [first, second] = references else {
         return false;
@@ -439,7 +508,8 @@ fn has_protests_references(references: &[Reference]) -> bool
 }
 
 fn is_protests(table: &Table) -> bool
-    ensures { IsTrue result → table.now ≡ record protests_table { tree = 12 } }
+    ensures is { IsTrue result → table.now ≡ record protests_table { tree = 12 } }
+    ensures only { table.now ≡ record protests_table { tree = 12 } → IsTrue result }
 {
     is_name(&table.name, "protests")
         && table.tree == 12
@@ -450,7 +520,8 @@ fn is_protests(table: &Table) -> bool
 }
 
 fn are_hall_tables(tables: &[Table]) -> bool
-    ensures { IsTrue result → tables.now ≡ hall_schema.tables }
+    ensures is { IsTrue result → tables.now ≡ hall_schema.tables }
+    ensures only { tables.now ≡ hall_schema.tables → IsTrue result }
 {
     let [people, puzzles, rounds, round_puzzles, answers, protests] = tables else {
         return false;
@@ -464,7 +535,8 @@ fn are_hall_tables(tables: &[Table]) -> bool
 }
 
 fn are_hall_indexes(indexes: &[Index]) -> bool
-    ensures { IsTrue result → indexes.now ≡ hall_indexes }
+    ensures is { IsTrue result → indexes.now ≡ hall_indexes }
+    ensures only { indexes.now ≡ hall_indexes → IsTrue result }
 {
     let [name, pass, rest @ ..] = indexes else {
         return false;
@@ -475,7 +547,8 @@ fn are_hall_indexes(indexes: &[Index]) -> bool
 }
 
 fn are_indexes_from_puzzles(indexes: &[Index]) -> bool
-    ensures { IsTrue result → indexes.now ≡ drop 2 hall_indexes }
+    ensures is { IsTrue result → indexes.now ≡ drop 2 hall_indexes }
+    ensures only { indexes.now ≡ drop 2 hall_indexes → IsTrue result }
 {
     let [puzzle, round, rest @ ..] = indexes else {
         return false;
@@ -486,7 +559,8 @@ fn are_indexes_from_puzzles(indexes: &[Index]) -> bool
 }
 
 fn are_indexes_from_places(indexes: &[Index]) -> bool
-    ensures { IsTrue result → indexes.now ≡ drop 4 hall_indexes }
+    ensures is { IsTrue result → indexes.now ≡ drop 4 hall_indexes }
+    ensures only { indexes.now ≡ drop 4 hall_indexes → IsTrue result }
 {
     let [place, answer, rest @ ..] = indexes else {
         return false;
@@ -497,7 +571,8 @@ fn are_indexes_from_places(indexes: &[Index]) -> bool
 }
 
 fn are_last_indexes(indexes: &[Index]) -> bool
-    ensures { IsTrue result → indexes.now ≡ drop 6 hall_indexes }
+    ensures is { IsTrue result → indexes.now ≡ drop 6 hall_indexes }
+    ensures only { indexes.now ≡ drop 6 hall_indexes → IsTrue result }
 {
     let [turn, protest] = indexes else {
         return false;
@@ -508,7 +583,8 @@ fn are_last_indexes(indexes: &[Index]) -> bool
 
 /// The database has the hall's six tables and their indexes, and nothing else.
 pub(crate) fn is_hall_schema(schema: &Schema) -> bool
-    ensures { IsTrue result → schema.now ≡ hall_schema }
+    ensures is { IsTrue result → schema.now ≡ hall_schema }
+    ensures only { schema.now ≡ hall_schema → IsTrue result }
 {
     are_hall_tables(schema.tables.as_slice())
         && are_hall_indexes(schema.indexes.as_slice())
