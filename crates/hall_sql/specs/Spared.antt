@@ -1,0 +1,47 @@
+-- Which rows of the tables a change may write; each other row stays as it is, also one that is no record.
+use Rattle.std.specs.Prelude.{◌≡◌, ◌==◌, ◌&&◌, ◌||◌, ℕ, Bool, false, not, List, Option, Some, None, is_some}
+use Rattle.std.specs.List.{AllByRecursion, filter}
+use Rattle.std.specs.declared.cmp.Ordering.{Ordering}
+use Rattle.std.specs.Ordering.{eq_by_cmp}
+use Rattle.sqlite.specs.Order.{Row}
+use Rattle.sqlite.specs.Table.{Table}
+use Rattle.sqlite.specs.Tree.{Trees}
+use Rattle.hall_policy.specs.World.{answer_cmp, protest_cmp}
+use Rattle.hall_store.specs.declared.change.Change.{Change}
+use Rattle.hall_store.specs.declared.change.Change.TheVariants.{Nothing, Import, PutPuzzle, SetState}
+use Rattle.hall_store.specs.declared.change.Change.TheVariants.{PutRound, SetRoundFlag, AddAnswer, AddProtest, RuleProtest}
+use Rattle.hall_sql.specs.Tables.{hall_schema}
+use Rattle.hall_sql.specs.Columns.{stands_under}
+use Rattle.hall_sql.specs.RoundColumns.{is_under}
+use Rattle.hall_sql.specs.Rows.{person_of, answer_of, protest_of}
+
+-- there is a record, and this is its key
+abbrev pub has_key : {K X : Type 0} → (R : K → K → Ordering) → (X → K) → K → Option X → Bool
+has_key R key k None = false
+has_key R key k (Some x) = eq_by_cmp R (key x) k
+
+-- the row is the head of the round, or stands in its list
+abbrev pub is_of_round : List ℕ → ℕ → Row → Bool
+is_of_round id tree row = (tree == 5 || tree == 7) && is_under id row
+
+-- Whether the change may write this row of the table in this tree. What is put takes the place of a row that stands under
+-- its key as SQL compares, be it a record or none; all else that is written is a record.
+abbrev pub may_write : Change → ℕ → Row → Bool
+may_write Nothing tree row = false
+may_write (Import people) tree row = tree == 0 && is_some (person_of row)
+may_write (PutPuzzle puzzle) tree row = tree == 3 && stands_under puzzle.key row
+may_write (SetState key state) tree row = tree == 3 && stands_under key row
+may_write (PutRound round) tree row = is_of_round round.round.id tree row
+may_write (SetRoundFlag id flag) tree row = tree == 5 && is_under id row
+may_write (AddAnswer answer) tree row = tree == 9 && has_key answer_cmp (λ x. x.key) answer.key (answer_of row)
+may_write (AddProtest protest) tree row = tree == 12 && has_key protest_cmp (λ x. x.key) protest.key (protest_of row)
+may_write (RuleProtest key ruling) tree row = tree == 12 && has_key protest_cmp (λ x. x.key) key (protest_of row)
+
+-- but for the rows that the test takes, the two tables have the same rows in the same order
+abbrev pub AreSpared : (Row → Bool) → List Row → List Row → Type 0
+AreSpared takes old new = filter (λ row. not (takes row)) new ≡ filter (λ row. not (takes row)) old
+
+-- in each table, the rows that the test doesn't take are as they were
+abbrev pub Spares : (ℕ → Row → Bool) → Trees → Trees → Type 0
+Spares takes old new =
+    AllByRecursion (λ (t : Table). AreSpared (takes t.tree) (old t.tree) (new t.tree)) hall_schema.tables
