@@ -75,6 +75,24 @@ module _ (takes : Row → Bool) where
       ap takes (keyed_same rows r one keyed h there tie) ∙ was) in
       added_spared (without_rowid id rows) out (made one) is it.free it.put ∙ cut_spared (λ r. not (has_rowid id r)) rows only
 
+  pub dropped_spared : (rows out : List Row) → out ≡ filter stays rows → AreSpared takes rows out
+  dropped_spared rows out left = ap (filter stays) left ∙ cut_spared stays rows (all_from (λ r. stays r ≡ false → takes r ≡ true) rows (λ r h. true_of_not _))
+
+-- what a narrower test leaves is spared
+wider_rows : (takes wider : Row → Bool) → ((r : Row) → takes r ≡ true → wider r ≡ true) → (old new : List Row) → AreSpared takes old new → AreSpared wider old new
+wider_rows takes wider more old new it =
+    let cut = λ (rows : List Row). cut_spared wider (λ r. not (takes r)) rows (all_from (λ r. not (takes r) ≡ false → wider r ≡ true) rows (λ r h gone. more r (true_of_not _ gone))) in
+    sym (cut new) ∙ ap (filter (λ r. not (wider r))) it ∙ cut old
+
+pub wider_spared : (takes wider : ℕ → Row → Bool) → ((tree : ℕ) (r : Row) → takes tree r ≡ true → wider tree r ≡ true) → (old new : Trees) → Spares takes old new
+    → Spares wider old new
+wider_spared takes wider more old new = go hall_schema.tables
+  where
+    go : (tables : List Table) → AllByRecursion (λ (t : Table). AreSpared (takes t.tree) (old t.tree) (new t.tree)) tables
+        → AllByRecursion (λ (t : Table). AreSpared (wider t.tree) (old t.tree) (new t.tree)) tables
+    go [] all = tt
+    go (t ∷ tables) all = (wider_rows (takes t.tree) (wider t.tree) (more t.tree) (old t.tree) (new t.tree) all.0, go tables all.1)
+
 -- where one table alone was written, all are spared if that one is
 module _ (takes : ℕ → Row → Bool) where
   pub alone_spared : (tree : ℕ) (old new : Trees) → AreSpared (takes tree) (old tree) (new tree)
