@@ -30,6 +30,7 @@ use Rattle.hall_sql.specs.Tables.{hall_schema}
 use Rattle.hall_sql.specs.Statements.{add_answer_text}
 use Rattle.hall_sql.specs.Columns.{answer_params}
 use Rattle.hall_sql.specs.Rows.{kept, person_of, puzzle_row_of, round_of, place_of, answer_of, protest_of, world_of}
+use Rattle.hall_sql.specs.Spared.{may_write}
 use Rattle.hall_sql.specs.Standing.{IsHall, HasMade}
 use Rattle.hall_sql.proofs.AnswerTexts.{added_terms, add_answer_is}
 use Rattle.hall_sql.proofs.AnswerLemmas.{answers_there}
@@ -37,6 +38,7 @@ use Rattle.hall_sql.proofs.CallLemmas.{executed_open}
 use Rattle.hall_sql.proofs.InsertLemmas.{inserts}
 use Rattle.hall_sql.proofs.KeyedLemmas.{keyed_after, added_keyed}
 use Rattle.hall_sql.proofs.MapLemmas.{put_new}
+use Rattle.hall_sql.proofs.SparedLemmas.{taken_record, added_spared, alone_spared}
 use Rattle.hall_sql.proofs.WriteLemmas.{writes_hall, same_worlds, cast_null, cast_number}
 
 pub is_within : (least most n : ℕ) → IsWithin least most n → nat_le least n && nat_le n most ≡ true
@@ -97,4 +99,7 @@ answer_added row is old new count hall clean fresh ran =
       serves = w.shown.is_open;
       world = answers_alone old.now.trees new.now.trees (insert (world_of old.now.trees).answers row.key row) it.others
           (put_new answer_total same_answer_keys (λ (x : AnswerRow). x.key) answer_of row (Int id ∷ params) (old.now.trees 9) (new.now.trees 9) it.put (answer_reads row is (Int id)) it.free (fresh was));
+      others = alone_spared (may_write (AddAnswer row)) 9 old.now.trees new.now.trees
+          (added_spared (may_write (AddAnswer row) 9) (old.now.trees 9) (new.now.trees 9) (Int id ∷ params)
+          (taken_record answer_total (λ (x : AnswerRow). x.key) row.key (answer_of (Int id ∷ params)) row (answer_reads row is (Int id)) refl) it.free it.put) it.others;
     }

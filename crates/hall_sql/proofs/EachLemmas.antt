@@ -1,17 +1,23 @@
 -- What calls for each item of a list leave inside a transaction.
-use Rattle.std.proofs.Common.{◌≡◌, ◌<◌, ◌+◌, ℕ, List, [], ◌∷◌, drop, get_or, length, sym, ap, subst, ◌∙◌}
+use Rattle.std.proofs.Common.{◌≡◌, ◌<◌, ◌+◌, ◌||◌, ℕ, zero, suc, List, [], ◌∷◌, Bool, true, false, IsTrue, drop, get_or, length, refl, sym, ap, subst, ◌∙◌, arith}
+use Rattle.std.proofs.lemmas.Bool.{and_parts, and_from}
+use Rattle.std.specs.List.{list_any}
 use Rattle.std.proofs.Math.Numerals.{add-one}
 use Rattle.std.proofs.Math.Seq.{drop-cons}
 use Rattle.sqlite.specs.Effect.{Database}
+use Rattle.sqlite.specs.Order.{Row}
 use Rattle.sqlite.specs.State.{State}
+use Rattle.hall_policy.specs.Text.{text_cmp}
 use Rattle.hall_policy.specs.declared.record.Person.{Person}
 use Rattle.hall_store.specs.Change.{changed}
 use Rattle.hall_store.specs.declared.change.Change.TheVariants.{Import}
 use Rattle.hall_sql.specs.declared.tables.HallTable.{HallTable}
 use Rattle.hall_sql.specs.Made.{Awaits, Grows, HasGrown, schema_before}
-use Rattle.hall_sql.specs.Rows.{world_of}
+use Rattle.hall_sql.specs.Rows.{person_of, world_of}
 use Rattle.hall_sql.specs.Inside.{Did, Changes}
+use Rattle.hall_sql.specs.Spared.{has_key, may_write, Spares}
 use Rattle.hall_sql.proofs.InsideLemmas.{did_then}
+use Rattle.hall_sql.proofs.SparedLemmas.{then_spared, wider_spared}
 
 -- an item of the list, and those after it
 pub next_item : {A : Type 0} (items : List A) (i : ℕ) (none : A) → i < length items → drop i items ≡ get_or items i none ∷ drop (i + 1) items
@@ -30,15 +36,37 @@ pub next_grows : (tables : List HallTable) (i : ℕ) (none : HallTable) (held : 
 next_grows tables i none held low awaits =
     let it = subst (λ l. Awaits l held) (next_item tables i none low) awaits in it.bare.is ∙ it.lacks.0
 
+-- what the list from a place on makes of the world is what the whole makes of the one before
+pub record HasImported (people : List Person) (i : ℕ) (before after : Database) : Type 0 where
+  pub world : changed (Import (drop i people)) (world_of after.trees) ≡ changed (Import people) (world_of before.trees)
+  pub others : Spares (may_write (Import people)) before.trees after.trees
+
+any_item : {A : Type 0} (test : A → Bool) (items : List A) (i : ℕ) (none : A) → i < length items → test (get_or items i none) ≡ true → list_any test items ≡ true
+any_item test [] i none low is = absurd (omega (arith, low))
+any_item test (x ∷ items) zero none low is = ap (λ b. b || list_any test items) is
+any_item test (x ∷ items) (suc i) none low is = ap (λ b. test x || b) (any_item test items i none (omega (arith, low)) is) ∙ or_true (test x)
+  where
+    or_true : (b : Bool) → b || true ≡ true
+    or_true true = refl
+    or_true false = refl
+
+or_false : (b : Bool) → b || false ≡ true → b ≡ true
+or_false true is = refl
+or_false false is = is
+
 -- the rest of the list is still to be imported
 pub more_imported : (people : List Person) (i : ℕ) (person : Person) (a b c : State) → i < length people → person ≡ get_or people i person
-    → Did (λ before after. changed (Import (drop i people)) (world_of after.trees) ≡ changed (Import people) (world_of before.trees)) a b
-    → Did (Changes (Import (person ∷ []))) b c
-    → Did (λ before after. changed (Import (drop (i + 1) people)) (world_of after.trees) ≡ changed (Import people) (world_of before.trees)) a c
+    → Did (HasImported people i) a b → Did (Changes (Import (person ∷ []))) b c → Did (HasImported people (i + 1)) a c
 more_imported people i person a b c low is =
-    did_then (λ before after. changed (Import (drop i people)) (world_of after.trees) ≡ changed (Import people) (world_of before.trees))
-    (Changes (Import (person ∷ [])))
-    (λ before after. changed (Import (drop (i + 1) people)) (world_of after.trees) ≡ changed (Import people) (world_of before.trees))
-    a b c
-    (λ one two. ap (changed (Import (drop (i + 1) people))) two
-    ∙ ap (λ l. changed (Import l) (world_of b.now.trees)) (ap (λ p. p ∷ drop (i + 1) people) is ∙ sym (next_item people i person low)) ∙ one)
+    did_then (HasImported people i) (Changes (Import (person ∷ []))) (HasImported people (i + 1)) a b c (λ one two. record {
+      world = ap (changed (Import (drop (i + 1) people))) two.world
+          ∙ ap (λ l. changed (Import l) (world_of b.now.trees)) (ap (λ p. p ∷ drop (i + 1) people) is ∙ sym (next_item people i person low)) ∙ one.world;
+      others = then_spared (may_write (Import people)) a.now.trees b.now.trees c.now.trees one.others
+          (wider_spared (may_write (Import (person ∷ []))) (may_write (Import people)) among b.now.trees c.now.trees two.others);
+    })
+  where
+    among : (tree : ℕ) (r : Row) → may_write (Import (person ∷ [])) tree r ≡ true → may_write (Import people) tree r ≡ true
+    among tree r taken =
+        let test = λ (x : Person). has_key text_cmp (λ (y : Person). y.name) x.name (person_of r) in
+        let parts = and_parts _ _ taken in
+        and_from _ _ parts.0 (any_item test people i person low (subst (λ x. test x ≡ true) is (or_false _ parts.1)))

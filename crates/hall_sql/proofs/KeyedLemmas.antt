@@ -97,10 +97,10 @@ keyed_put new rows int free same it = keyed_permuted (new ∷ rows) (put_row new
 
 -- ---- tables stay keyed
 
-same_tree : (m n : ℕ) → (m == n) ≡ true → m ≡ n
+pub same_tree : (m n : ℕ) → (m == n) ≡ true → m ≡ n
 same_tree m n e = grind (arith, nat_tests)
 
-other_tree : (m n : ℕ) → (m == n) ≡ false → m ≢ n
+pub other_tree : (m n : ℕ) → (m == n) ≡ false → m ≢ n
 other_tree m n e same = grind (arith, nat_tests)
 
 pub keyed_after : (tree : ℕ) (old new : Trees) (tables : List Table) → AreKeyed (new tree) → AllByRecursion (λ (t : Table). t.tree ≢ tree → new t.tree ≡ old t.tree) tables

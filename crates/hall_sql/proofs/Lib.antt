@@ -13,6 +13,7 @@ pub mod WriteLemmas
 pub mod UpdateLemmas
 pub mod QuietLemmas
 pub mod ReplaceLemmas
+pub mod SparedLemmas
 pub mod ContentLemmas
 pub mod KeyedLemmas
 pub mod ValueLemmas

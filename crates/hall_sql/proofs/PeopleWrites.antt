@@ -1,5 +1,5 @@
 -- What the statement that writes a person leaves.
-use Rattle.std.proofs.Common.{◌≡◌, ◌≢◌, ℕ, pos, [], ◌∷◌, Bool, true, false, flat_map, option_to_list, Some, Ok, refl, ap, arith}
+use Rattle.std.proofs.Common.{◌≡◌, ◌≢◌, ◌||◌, ℕ, pos, [], ◌∷◌, Bool, true, false, flat_map, option_to_list, Some, Ok, refl, ap, arith}
 use Rattle.std.specs.List.{AllByRecursion}
 use Rattle.std.specs.FinMap.{FinMap, from_entries, insert}
 use Rattle.sqlite.specs.declared.types.Value.{Value}
@@ -31,10 +31,13 @@ use Rattle.hall_sql.specs.Values.{roles_in}
 use Rattle.hall_sql.specs.Columns.{person_params, roles_code}
 use Rattle.hall_sql.specs.Rows.{kept, person_of, puzzle_row_of, round_of, place_of, answer_of, protest_of, world_of}
 use Rattle.hall_sql.specs.Inside.{IsHallData, AddsPerson}
+use Rattle.hall_sql.specs.Spared.{may_write, has_key}
+use Rattle.hall_store.specs.declared.change.Change.TheVariants.{Import}
 use Rattle.hall_sql.proofs.PeopleTexts.{added_terms, add_person_is}
 use Rattle.hall_sql.proofs.InsertLemmas.{inserts}
 use Rattle.hall_sql.proofs.KeyedLemmas.{keyed_after, added_keyed}
 use Rattle.hall_sql.proofs.MapLemmas.{put_new}
+use Rattle.hall_sql.proofs.SparedLemmas.{taken_record, added_spared, alone_spared}
 use Rattle.hall_sql.proofs.WriteLemmas.{same_worlds, cast_null, cast_number}
 
 abbrev made : Bool → Bool → Bool → Bool → Roles
@@ -103,8 +106,13 @@ person_added person is old new count ran it =
     let w = runs_as add_person_text params old new hall_schema it.schema (Insert 0 (Values added_terms 4)) add_person_is.0 add_person_is.1 count ran in
     let put = inserts hall_schema 0 people_there refl refl added_terms 4 params (Null ∷ params) params refl refl (person_casts person) quiet old new _ count it.schema w in
     let id = next_rowid (old.now.trees 0) in
-    let after = added_keyed id params (old.now.trees 0) (new.now.trees 0) put.put put.free it.keyed.0 in (
+    let after = added_keyed id params (old.now.trees 0) (new.now.trees 0) put.put put.free it.keyed.0 in
+    let own = taken_record text_total (λ (x : Person). x.name) person.name (person_of (Int id ∷ params)) person (person_reads person is (Int id)) refl in (
       record { schema = put.same; keyed = keyed_after 0 old.now.trees new.now.trees hall_schema.tables after put.others it.keyed },
-      λ unknown. people_alone old.now.trees new.now.trees (insert (world_of old.now.trees).people person.name person) put.others
-          (put_new text_total same_texts (λ (x : Person). x.name) person_of person (Int id ∷ params) (old.now.trees 0) (new.now.trees 0) put.put (person_reads person is (Int id)) put.free unknown),
+      record {
+        world = λ unknown. people_alone old.now.trees new.now.trees (insert (world_of old.now.trees).people person.name person) put.others
+            (put_new text_total same_texts (λ (x : Person). x.name) person_of person (Int id ∷ params) (old.now.trees 0) (new.now.trees 0) put.put (person_reads person is (Int id)) put.free unknown);
+        others = alone_spared (may_write (Import (person ∷ []))) 0 old.now.trees new.now.trees
+            (added_spared (may_write (Import (person ∷ [])) 0) (old.now.trees 0) (new.now.trees 0) (Int id ∷ params) (ap (λ b. b || false) own) put.free put.put) put.others;
+      },
     )

@@ -1,5 +1,5 @@
 -- What the statements that write the puzzles of a round leave.
-use Rattle.std.proofs.Common.{◌≡◌, ◌≢◌, ◌≤◌, ◌<◌, ◌+◌, ℕ, suc, List, [], ◌∷◌, ◌++◌, length, map, filter, flat_map, take, get_or, option_to_list, Bool, true, false, not, cond, Some, None, Ok, IsTrue, refl, sym, ap, subst, ◌∙◌, arith}
+use Rattle.std.proofs.Common.{◌≡◌, ◌≢◌, ◌≤◌, ◌<◌, ◌+◌, ◌||◌, ℕ, suc, List, [], ◌∷◌, ◌++◌, length, map, filter, flat_map, take, get_or, option_to_list, Bool, true, false, not, cond, Some, None, Ok, IsTrue, refl, sym, ap, subst, ◌∙◌, arith}
 use Rattle.std.proofs.lemmas.List.{take_more, length-take-le}
 use Rattle.std.specs.List.{AllByRecursion}
 use Rattle.std.specs.FinMap.{FinMap, from_entries, get, insert, get-insert, get-retain_keys, same_map}
@@ -42,6 +42,7 @@ use Rattle.hall_sql.specs.Statements.{drop_places_text, add_place_text}
 use Rattle.hall_sql.specs.Values.{name_in, within}
 use Rattle.hall_sql.specs.RoundColumns.{place_params, is_under}
 use Rattle.hall_sql.specs.Rows.{kept, person_of, puzzle_row_of, round_of, place_of, answer_of, protest_of, world_of}
+use Rattle.hall_sql.specs.Spared.{may_write, is_head_of, is_place_of, Spares}
 use Rattle.hall_sql.specs.Standing.{AreKeyed}
 use Rattle.hall_sql.proofs.MapLemmas.{equal_is}
 use Rattle.hall_sql.specs.Inside.{IsHallData, Did, Changes}
@@ -54,6 +55,7 @@ use Rattle.hall_sql.proofs.InsertLemmas.{inserts}
 use Rattle.hall_sql.proofs.InsideLemmas.{did_none, did_then}
 use Rattle.hall_sql.proofs.KeyedLemmas.{keyed_after, keyed_filter, added_keyed}
 use Rattle.hall_sql.proofs.PeopleTexts.{equals}
+use Rattle.hall_sql.proofs.SparedLemmas.{own_key, added_spared, dropped_spared, alone_spared, same_spared, then_spared, wider_spared}
 use Rattle.hall_sql.proofs.PlaceTexts.{places_there, places_apart, places_restricted, drop_places_is, added_terms, add_place_is}
 use Rattle.hall_sql.proofs.WriteLemmas.{same_worlds, cast_null, cast_number}
 use Rattle.hall_sql.proofs.RecordParts.{place_parts_of}
@@ -66,6 +68,10 @@ agrees id r place is =
     let round = kind_column 1 24 is_word_byte (column r 1) place.0.round
     (place_parts_of (name_in (column r 1)) (within 1 99 (column r 2)) (name_in (column r 3)) (name_in (column r 4)) (within 1 1000 (column r 5)) place is).round in
     and_true _ ∙ column_same (column r 1) place.0.round id round
+
+-- a text is itself
+same_itself : (id : List ℕ) → same_text id id ≡ true
+same_itself id = sym (is_eq-slice_cmp id id) ∙ own_key text_total id
 
 -- where the table of places alone was written, the places alone are changed
 places_alone : (old new : Trees) (places : FinMap place_cmp Entry)
@@ -100,9 +106,12 @@ module _ (id : List ℕ) (old new : State) (count : ℕ) (held : IsHallData old.
       let left : new.now.trees 7 ≡ filter (λ r. not (is_under id r)) rows = it.1.cut ∙ ap (without_all rows) ids ∙ cut_rows (is_under id) rows it.1.found keyed it.1.same in
       let after = subst AreKeyed (sym left) (keyed_filter (λ r. not (is_under id r)) rows keyed) in (
         record { schema = it.0; keyed = keyed_after 7 old.now.trees new.now.trees hall_schema.tables after it.2 held.keyed },
-        places_alone old.now.trees new.now.trees (without_list (world_of old.now.trees).places id) it.2
-            (ap (λ l. from_entries (flat_map (λ row. option_to_list (place_of row)) l)) left
-            ∙ cut_entries place_total same_place_keys place_of (λ k. same_text k.round id) (is_under id) (agrees id) rows),
+        record {
+          world = places_alone old.now.trees new.now.trees (without_list (world_of old.now.trees).places id) it.2
+              (ap (λ l. from_entries (flat_map (λ row. option_to_list (place_of row)) l)) left
+              ∙ cut_entries place_total same_place_keys place_of (λ k. same_text k.round id) (is_under id) (agrees id) rows);
+          others = alone_spared (is_place_of id) 7 old.now.trees new.now.trees (dropped_spared (is_place_of id 7) rows (new.now.trees 7) left) it.2;
+        },
       )
 
   -- the INSERT of an entry at its place
@@ -121,10 +130,15 @@ module _ (id : List ℕ) (old new : State) (count : ℕ) (held : IsHallData old.
         kind_holds 1 24 is_word_byte entry.puzzle.author is.puzzle.author,
         kind_holds 1 24 is_word_byte entry.puzzle.label is.puzzle.label,
         is_within 1 1000 entry.points is.points,
-      ) in (
+      ) in
+      let own : is_under id (Int at ∷ given) ≡ true = agrees id (Int at ∷ given) (place_key id number, entry) reads ∙ same_itself id in (
         record { schema = it.same; keyed = keyed_after 7 old.now.trees new.now.trees hall_schema.tables after it.others held.keyed },
-        λ none. places_alone old.now.trees new.now.trees (insert (world_of old.now.trees).places (place_key id number) entry) it.others
-            (put_entry place_total same_place_keys place_of (place_key id number) entry (Int at ∷ given) (old.now.trees 7) (new.now.trees 7) none reads it.free it.put),
+        record {
+          world = λ none. places_alone old.now.trees new.now.trees (insert (world_of old.now.trees).places (place_key id number) entry) it.others
+              (put_entry place_total same_place_keys place_of (place_key id number) entry (Int at ∷ given) (old.now.trees 7) (new.now.trees 7) none reads it.free it.put);
+          others = alone_spared (is_place_of id) 7 old.now.trees new.now.trees
+              (added_spared (is_place_of id 7) (old.now.trees 7) (new.now.trees 7) (Int at ∷ given) own it.free it.put) it.others;
+        },
       )
 
 -- ---- places one after another
@@ -172,40 +186,61 @@ module _ (places : FinMap place_cmp Entry) (id : List ℕ) where
 -- one more entry of the list
 pub more_places : (id : List ℕ) (entries : List Entry) (i : ℕ) (entry : Entry) (a b c : Database) → i < length entries → entry ≡ get_or entries i entry
     → PutsPlaces id (take i entries) a b → PutsPlace id (i + 1) entry b c → PutsPlaces id (take (i + 1) entries) a c
-more_places id entries i entry a b c low is so it free =
-    let places = (world_of a.trees).places in
-    let before = take i entries in
-    let long : length before ≡ i = length-take-le i entries (omega (arith, low)) in
-    let next : take (i + 1) entries ≡ before ++ entry ∷ [] = take_more entries i entry low ∙ ap (λ x. before ++ x ∷ []) (sym is) in
-    let was = so free in
-    let none : get (world_of b.trees).places (place_key id (i + 1)) ≡ None =
-    ap (λ (w : World). get w.places (place_key id (i + 1))) was ∙ above places id 1 before (i + 1) (omega (arith, long)) ∙ free (i + 1) in
-    let at : i + 1 ≡ 1 + length before = omega (arith, long) in
-    it none
-    ∙ ap (λ (w : World). record w { places = insert w.places (place_key id (i + 1)) entry }) was
-    ∙ ap (λ (m : FinMap place_cmp Entry). record (world_of a.trees) { places = m })
-    (ap (λ n. insert (with_list places id 1 before) (place_key id n) entry) at ∙ sym (with_last places id 1 before entry) ∙ ap (with_list places id 1) (sym next))
+more_places id entries i entry a b c low is so it = record {
+  world = world;
+  others = then_spared (is_place_of id) a.trees b.trees c.trees so.others it.others;
+}
+  where
+    world : HasNoPlaces id (world_of a.trees).places → world_of c.trees ≡ record (world_of a.trees) { places = with_list (world_of a.trees).places id 1 (take (i + 1) entries) }
+    world free =
+        let places = (world_of a.trees).places in
+        let before = take i entries in
+        let long : length before ≡ i = length-take-le i entries (omega (arith, low)) in
+        let next : take (i + 1) entries ≡ before ++ entry ∷ [] = take_more entries i entry low ∙ ap (λ x. before ++ x ∷ []) (sym is) in
+        let was = so.world free in
+        let none : get (world_of b.trees).places (place_key id (i + 1)) ≡ None =
+        ap (λ (w : World). get w.places (place_key id (i + 1))) was ∙ above places id 1 before (i + 1) (omega (arith, long)) ∙ free (i + 1) in
+        let at : i + 1 ≡ 1 + length before = omega (arith, long) in
+        it.world none
+        ∙ ap (λ (w : World). record w { places = insert w.places (place_key id (i + 1)) entry }) was
+        ∙ ap (λ (m : FinMap place_cmp Entry). record (world_of a.trees) { places = m })
+        (ap (λ n. insert (with_list places id 1 before) (place_key id n) entry) at ∙ sym (with_last places id 1 before entry) ∙ ap (with_list places id 1) (sym next))
 
 -- a round whose list is taken out has no places
 freed : (id : List ℕ) (places : FinMap place_cmp Entry) → HasNoPlaces id (without_list places id)
 freed id places number =
     get-retain_keys places (λ k. not (same_text k.round id)) (place_key id number) (λ x tied. ap (λ (k : PlaceKey). not (same_text k.round id)) (sym (same_place_keys (place_key id number) x tied)))
-    ∙ ap (λ b. cond (not b) (get places (place_key id number)) None) (sym (is_eq-slice_cmp id id) ∙ ap is_eq (tied_itself text_total id))
+    ∙ ap (λ b. cond (not b) (get places (place_key id number)) None) (same_itself id)
+
+either_first : (a b : Bool) → a ≡ true → a || b ≡ true
+either_first a b is = ap (λ c. c || b) is
+
+either_second : (a b : Bool) → b ≡ true → a || b ≡ true
+either_second true b is = refl
+either_second false b is = is
 
 -- the head, and then the list in the place of the one before
 round_put : (row : RoundRow) (a b c d : Database) → PutsHead row.round a b → DropsPlaces row.round.id b c → PutsPlaces row.round.id row.puzzles c d → Changes (PutRound row) a d
 round_put row a b c d head dropped put =
     let id = row.round.id in
     let world = world_of a.trees in
-    let none = subst (λ (w : World). HasNoPlaces id w.places) (sym dropped) (freed id (world_of b.trees).places) in
-    put none
-    ∙ ap (λ (w : World). record w { places = with_list w.places id 1 row.puzzles }) dropped
-    ∙ ap (λ (w : World). record w { places = with_list (without_list w.places id) id 1 row.puzzles }) head
+    let none = subst (λ (w : World). HasNoPlaces id w.places) (sym dropped.world) (freed id (world_of b.trees).places) in
+    let places = λ (old new : Trees) (it : Spares (is_place_of id) old new). wider_spared (is_place_of id) (may_write (PutRound row)) (λ tree r is. either_second _ _ is) old new it in
+    record {
+      world = put.world none
+          ∙ ap (λ (w : World). record w { places = with_list w.places id 1 row.puzzles }) dropped.world
+          ∙ ap (λ (w : World). record w { places = with_list (without_list w.places id) id 1 row.puzzles }) head.world;
+      others = then_spared (may_write (PutRound row)) a.trees c.trees d.trees
+          (then_spared (may_write (PutRound row)) a.trees b.trees c.trees
+          (wider_spared (is_head_of id) (may_write (PutRound row)) (λ tree r is. either_first _ _ is) a.trees b.trees head.others)
+          (places b.trees c.trees dropped.others))
+          (places c.trees d.trees put.others);
+    }
 
 -- ---- the same inside a transaction
 
 pub no_places_did : (id : List ℕ) (s : State) → IsTrue s.in_transaction → Did (PutsPlaces id []) s s
-no_places_did id s mode = did_none (PutsPlaces id []) s mode (λ free. refl)
+no_places_did id s mode = did_none (PutsPlaces id []) s mode (record { world = λ free. refl; others = same_spared (is_place_of id) s.now.trees })
 
 pub more_did : (id : List ℕ) (entries : List Entry) (i number : ℕ) (entry : Entry) (a b c : State) → number ≡ i → i < length entries → entry ≡ get_or entries i entry
     → Did (PutsPlaces id (take i entries)) a b → Did (PutsPlace id (number + 1) entry) b c → Did (PutsPlaces id (take (i + 1) entries)) a c

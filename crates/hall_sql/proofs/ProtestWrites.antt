@@ -38,6 +38,7 @@ use Rattle.hall_sql.specs.Statements.{add_protest_text, rule_protest_text}
 use Rattle.hall_sql.specs.Values.{ruling_in}
 use Rattle.hall_sql.specs.Columns.{protest_params, ruling_params, ruling_code, is_protest_under, IsAlone}
 use Rattle.hall_sql.specs.Rows.{kept, person_of, puzzle_row_of, round_of, place_of, answer_of, protest_of, world_of}
+use Rattle.hall_sql.specs.Spared.{may_write}
 use Rattle.hall_sql.specs.Standing.{IsHall, HasMade}
 use Rattle.hall_sql.proofs.AnswerWrites.{is_within}
 use Rattle.hall_sql.proofs.ProtestTexts.{protests_there, key_terms, added_terms, ruled_terms, apart, add_protest_is, rule_protest_is}
@@ -48,6 +49,7 @@ use Rattle.hall_sql.proofs.KeyedLemmas.{keyed_after, added_keyed}
 use Rattle.hall_sql.proofs.FoundLemmas.{one_found}
 use Rattle.hall_sql.proofs.MapLemmas.{put_new}
 use Rattle.hall_sql.proofs.ReplaceLemmas.{replaced_one}
+use Rattle.hall_sql.proofs.SparedLemmas.{taken_record, added_spared, replaced_spared, alone_spared}
 use Rattle.hall_sql.proofs.UniqueLemmas.{kept_keyed}
 use Rattle.hall_sql.proofs.UpdateLemmas.{update, updates, passes_with, made_with}
 use Rattle.hall_sql.proofs.WriteLemmas.{writes_hall, same_worlds, cast_null, cast_number, cast_int}
@@ -112,6 +114,9 @@ protest_added row is old new count hall clean fresh ran =
       serves = w.shown.is_open;
       world = protests_alone old.now.trees new.now.trees (insert (world_of old.now.trees).protests row.key row) it.others
           (put_new protest_total same_protest_keys (λ (x : ProtestRow). x.key) protest_of row (Int id ∷ params) (old.now.trees 12) (new.now.trees 12) it.put (protest_reads row is (Int id)) it.free (fresh was));
+      others = alone_spared (may_write (AddProtest row)) 12 old.now.trees new.now.trees
+          (added_spared (may_write (AddProtest row) 12) (old.now.trees 12) (new.now.trees 12) (Int id ∷ params)
+          (taken_record protest_total (λ (x : ProtestRow). x.key) row.key (protest_of (Int id ∷ params)) row (protest_reads row is (Int id)) refl) it.free it.put) it.others;
     }
 
 -- ---- the ruling of the protest that stands alone under a key
@@ -172,14 +177,19 @@ module _ (key : ProtestKey) (row : ProtestRow) (ruling : Ruling) (in_row : IsPro
         let there = ruled_there alone in
         let own : row.key ≡ key = kept_keyed protest_total same_protest_keys (λ (x : ProtestRow). x.key) protest_of (old.now.trees 12) key row there in
         let one : alone.one ≡ it.rows.one = head_is (sym alone.found ∙ it.rows.found) in
+        let reads : protest_of it.rows.one ≡ Some row = subst (λ r. protest_of r ≡ Some row) one alone.reads in
         record {
           hall = writes_hall old new _ _ _ count mode w it.same (keyed_after 12 old.now.trees new.now.trees hall_schema.tables it.keyed it.others keyed);
           was_open = was;
           serves = w.shown.is_open;
           world = protests_alone old.now.trees new.now.trees (insert (world_of old.now.trees).protests key ruled) it.others
               (replaced_one protest_total same_protest_keys (λ (x : ProtestRow). x.key) protest_of key has_key (agrees key) made (old.now.trees 12) (new.now.trees 12) ruled keyed.1.1.1.1.1.0 it.rows own
-              (ruled_reads it.rows.one (subst (λ r. protest_of r ≡ Some row) one alone.reads)))
+              (ruled_reads it.rows.one reads))
               ∙ ap (with_ruling (world_of old.now.trees) key ruling) (sym there);
+          others = alone_spared (may_write (RuleProtest key ruling)) 12 old.now.trees new.now.trees
+              (replaced_spared (may_write (RuleProtest key ruling) 12) has_key made (old.now.trees 12) (new.now.trees 12) keyed.1.1.1.1.1.0 it.rows
+              (taken_record protest_total (λ (x : ProtestRow). x.key) key (protest_of it.rows.one) row reads own)
+              (taken_record protest_total (λ (x : ProtestRow). x.key) key (protest_of (made it.rows.one)) ruled (ruled_reads it.rows.one reads) own)) it.others;
         }
       where
         head_is : {x y : Row} → ◌≡◌ {A = List Row} (x ∷ []) (y ∷ []) → x ≡ y

@@ -47,6 +47,7 @@ use Rattle.hall_sql.specs.Statements.{look_puzzle_text, add_puzzle_text, replace
 use Rattle.hall_sql.specs.Values.{state_in}
 use Rattle.hall_sql.specs.Columns.{puzzle_params, HasSoMany, state_code, solution_of}
 use Rattle.hall_sql.specs.Rows.{kept, person_of, puzzle_row_of, round_of, place_of, answer_of, protest_of, world_of}
+use Rattle.hall_sql.specs.Spared.{may_write}
 use Rattle.hall_sql.specs.Standing.{IsHall, HasMade}
 use Rattle.hall_sql.proofs.PuzzleTexts.{puzzles_there, key_terms, added_terms, replaced_terms, apart, look_puzzle_is, add_puzzle_is, replace_puzzle_is}
 use Rattle.hall_sql.proofs.PuzzleLemmas.{key_columns}
@@ -57,6 +58,7 @@ use Rattle.hall_sql.proofs.KeyedLemmas.{keyed_after, added_keyed}
 use Rattle.hall_sql.proofs.MapLemmas.{equal_is}
 use Rattle.hall_sql.proofs.QuietLemmas.{no_works, two_stay}
 use Rattle.hall_sql.proofs.ReplaceLemmas.{replaced_one, added_one}
+use Rattle.hall_sql.proofs.SparedLemmas.{own_key, added_spared, replaced_spared, alone_spared}
 use Rattle.hall_sql.proofs.UpdateLemmas.{update, updates, passes_with, made_with}
 use Rattle.hall_sql.proofs.WriteLemmas.{writes_hall, same_worlds, cast_null, cast_number}
 
@@ -135,6 +137,10 @@ module _ (text : List ℕ) (row : PuzzleRow) (spells : SpellsText text row.puzzl
       more_equal _ _ _ _ (column_equals (column r 1) x.key.author row.key.author columns.0)
       (last_equal _ _ (column_equals (column r 2) x.key.label row.key.label columns.1))
 
+  -- the row that is the puzzle stands under its key
+  own_row : (r : Row) → puzzle_row_of r ≡ Some row → has_key r ≡ true
+  own_row r is = agrees r row is ∙ own_key puzzle_total row.key
+
   quiet : (new : Row) → works hall_schema Enforced 0 3 [] (new ∷ []) ≡ []
   unfolding same_name joined
   quiet new = refl
@@ -182,6 +188,8 @@ module _ (text : List ℕ) (row : PuzzleRow) (spells : SpellsText text row.puzzl
           serves = w.shown.is_open;
           world = puzzles_alone old.now.trees new.now.trees (insert (world_of old.now.trees).puzzles row.key row) it.others
               (added_one puzzle_total same_puzzle_keys (λ (x : PuzzleRow). x.key) puzzle_row_of row.key has_key agrees (old.now.trees 3) (new.now.trees 3) (Int id ∷ params) row (no_rows _ (nobody was)) it.free it.put refl (puzzle_reads (Int id)));
+          others = alone_spared (may_write (PutPuzzle row)) 3 old.now.trees new.now.trees
+              (added_spared (may_write (PutPuzzle row) 3) (old.now.trees 3) (new.now.trees 3) (Int id ∷ params) (own_row (Int id ∷ params) (puzzle_reads (Int id))) it.free it.put) it.others;
         }
 
     -- the UPDATE of the puzzle under the key
@@ -201,15 +209,20 @@ module _ (text : List ℕ) (row : PuzzleRow) (spells : SpellsText text row.puzzl
           serves = w.shown.is_open;
           world = puzzles_alone old.now.trees new.now.trees (insert (world_of old.now.trees).puzzles row.key row) it.others
               (replaced_one puzzle_total same_puzzle_keys (λ (x : PuzzleRow). x.key) puzzle_row_of row.key has_key agrees made (old.now.trees 3) (new.now.trees 3) row keyed.1.0 it.rows refl (made_reads one there.1));
+          others = alone_spared (may_write (PutPuzzle row)) 3 old.now.trees new.now.trees
+              (replaced_spared (may_write (PutPuzzle row) 3) has_key made (old.now.trees 3) (new.now.trees 3) keyed.1.0 it.rows there.1 (own_row (made one) (made_reads one there.1))) it.others;
         }
 
 -- a puzzle stands under its own key, so to put it in a state is to set the state under the key
 pub put_sets : (key : PuzzleKey) (state : PuzzleState) (trees : Trees) (row : PuzzleRow) → Some row ≡ get (world_of trees).puzzles key
-    → changed (PutPuzzle (record row { state = state })) (world_of trees) ≡ changed (SetState key state) (world_of trees)
+    → (changed (PutPuzzle (record row { state = state })) (world_of trees) ≡ changed (SetState key state) (world_of trees))
+    × (may_write (PutPuzzle (record row { state = state })) ≡ may_write (SetState key state))
 put_sets key state trees row found =
-    let own : row.key ≡ key = kept_keyed puzzle_total same_puzzle_keys (λ (x : PuzzleRow). x.key) puzzle_row_of (trees 3) key row (sym found) in
-    subst (λ k. record (world_of trees) { puzzles = insert (world_of trees).puzzles k (record row { state = state }) } ≡ changed (SetState key state) (world_of trees)) (sym own)
-    (subst (λ o. with_state (world_of trees) key state (Some row) ≡ with_state (world_of trees) key state o) found refl)
+    let own : row.key ≡ key = kept_keyed puzzle_total same_puzzle_keys (λ (x : PuzzleRow). x.key) puzzle_row_of (trees 3) key row (sym found) in (
+      subst (λ k. record (world_of trees) { puzzles = insert (world_of trees).puzzles k (record row { state = state }) } ≡ changed (SetState key state) (world_of trees)) (sym own)
+          (subst (λ o. with_state (world_of trees) key state (Some row) ≡ with_state (world_of trees) key state o) found refl),
+      ap (λ k. may_write (SetState k state)) own,
+    )
 
 -- where no puzzle stands under the key, there is nothing to set
 pub sets_nothing : (key : PuzzleKey) (state : PuzzleState) (trees : Trees) → None ≡ get (world_of trees).puzzles key

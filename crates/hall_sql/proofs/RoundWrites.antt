@@ -46,6 +46,7 @@ use Rattle.hall_sql.specs.Inside.{IsHallData, Did}
 use Rattle.hall_sql.specs.RoundPuts.{CountsHeads, PutsHead, PutsHeadOver}
 use Rattle.hall_sql.specs.RoundColumns.{mode_code, flag_code, head_params, is_under, HasSoManyHeads, IsHead}
 use Rattle.hall_sql.specs.Rows.{kept, person_of, puzzle_row_of, round_in, round_of, place_of, answer_of, protest_of, world_of}
+use Rattle.hall_sql.specs.Spared.{is_head_of, Spares}
 use Rattle.hall_sql.specs.Standing.{IsHall, HasMade}
 use Rattle.hall_sql.proofs.AnswerWrites.{is_within}
 use Rattle.hall_sql.proofs.HeadTexts.{id_terms, rounds_there, head_is, look_head_is, added_terms, add_head_is, replaced_terms, apart, replace_head_is}
@@ -59,6 +60,7 @@ use Rattle.hall_sql.proofs.InsertLemmas.{inserts}
 use Rattle.hall_sql.proofs.KeyedLemmas.{keyed_after, added_keyed}
 use Rattle.hall_sql.proofs.QuietLemmas.{no_works, one_stays}
 use Rattle.hall_sql.proofs.ReplaceLemmas.{replaced_one, added_one}
+use Rattle.hall_sql.proofs.SparedLemmas.{own_key, added_spared, replaced_spared, alone_spared}
 use Rattle.hall_sql.proofs.UniqueLemmas.{kept_keyed}
 use Rattle.hall_sql.proofs.UpdateLemmas.{update, updates, made_with}
 use Rattle.hall_sql.proofs.PuzzleWrites.{text_is, no_rows}
@@ -171,6 +173,10 @@ module _ (round : Round) (is : IsRound round) where
     cast_int (flag_code round.published),
   )
 
+  -- the row that is the round stands under its id
+  own_row : (r : Row) → round_of r ≡ Some round → is_under round.id r ≡ true
+  own_row r is = agrees round.id r round is ∙ own_key text_total round.id
+
   quiet : (new : Row) → works hall_schema Enforced 0 5 [] (new ∷ []) ≡ []
   unfolding same_name joined
   quiet new = refl
@@ -209,8 +215,12 @@ module _ (round : Round) (is : IsRound round) where
         let one = it.rows.one in
         let there = has_filtered (is_under round.id) (old.now.trees 5) one (subst (λ l. Has l one) (sym it.rows.found) (inl refl)) in (
           record { schema = it.same; keyed = keyed_after 5 old.now.trees new.now.trees hall_schema.tables it.keyed it.others keyed },
-          rounds_alone old.now.trees new.now.trees (insert (world_of old.now.trees).rounds round.id round) it.others
-              (replaced_one text_total same_texts (λ (x : Round). x.id) round_of round.id (is_under round.id) (agrees round.id) made (old.now.trees 5) (new.now.trees 5) round keyed.1.1.0 it.rows refl (made_reads one there.1)),
+          record {
+            world = rounds_alone old.now.trees new.now.trees (insert (world_of old.now.trees).rounds round.id round) it.others
+                (replaced_one text_total same_texts (λ (x : Round). x.id) round_of round.id (is_under round.id) (agrees round.id) made (old.now.trees 5) (new.now.trees 5) round keyed.1.1.0 it.rows refl (made_reads one there.1));
+            others = alone_spared (is_head_of round.id) 5 old.now.trees new.now.trees
+                (replaced_spared (is_head_of round.id 5) (is_under round.id) made (old.now.trees 5) (new.now.trees 5) keyed.1.1.0 it.rows there.1 (own_row (made one) (made_reads one there.1))) it.others;
+          },
         )
 
     -- the INSERT of a head under a new id
@@ -222,8 +232,12 @@ module _ (round : Round) (is : IsRound round) where
         let id = next_rowid (old.now.trees 5) in
         let after = added_keyed id params (old.now.trees 5) (new.now.trees 5) it.put it.free keyed.1.1.0 in (
           record { schema = it.same; keyed = keyed_after 5 old.now.trees new.now.trees hall_schema.tables after it.others keyed },
-          rounds_alone old.now.trees new.now.trees (insert (world_of old.now.trees).rounds round.id round) it.others
-              (added_one text_total same_texts (λ (x : Round). x.id) round_of round.id (is_under round.id) (agrees round.id) (old.now.trees 5) (new.now.trees 5) (Int id ∷ params) round (no_rows _ nobody) it.free it.put refl (head_reads (Int id))),
+          record {
+            world = rounds_alone old.now.trees new.now.trees (insert (world_of old.now.trees).rounds round.id round) it.others
+                (added_one text_total same_texts (λ (x : Round). x.id) round_of round.id (is_under round.id) (agrees round.id) (old.now.trees 5) (new.now.trees 5) (Int id ∷ params) round (no_rows _ nobody) it.free it.put refl (head_reads (Int id)));
+            others = alone_spared (is_head_of round.id) 5 old.now.trees new.now.trees
+                (added_spared (is_head_of round.id 5) (old.now.trees 5) (new.now.trees 5) (Int id ∷ params) (own_row (Int id ∷ params) (head_reads (Int id))) it.free it.put) it.others;
+          },
         )
 
 -- ---- a flag
@@ -261,8 +275,9 @@ head_flagged flag round is old new count hall clean head ran =
       hall = writes_hall old new _ _ _ count mode w it.0.schema it.0.keyed;
       was_open = was;
       serves = w.shown.is_open;
-      world = it.1 ∙ ap (λ id. record world { rounds = insert world.rounds id put }) own
+      world = it.1.world ∙ ap (λ id. record world { rounds = insert world.rounds id put }) own
           ∙ subst (λ o. record world { rounds = insert world.rounds round.id put } ≡ with_flag world round.id flag o) (sym head.kept) refl;
+      others = subst (λ id. Spares (is_head_of id) old.now.trees new.now.trees) own it.1.others;
     }
 
 -- ---- inside a transaction

@@ -8,6 +8,7 @@ use Rattle.sqlite.specs.State.{State, HasCleanDisk, KeepsCounts, IsRolledBack, S
 use Rattle.sqlite.specs.Steps.{FailsToCommit}
 use Rattle.hall_store.specs.declared.change.Change.{Change}
 use Rattle.hall_sql.specs.Rows.{world_of}
+use Rattle.hall_sql.specs.Spared.{may_write, Spares}
 use Rattle.hall_sql.specs.Standing.{Lasts, AreAllKeyed, IsHall, Rested, Wrote, without_limit}
 use Rattle.hall_sql.specs.Inside.{IsHallData, Carries, Did, Changes}
 use Rattle.hall_sql.proofs.LastLemmas.{last_none, last_then, last_begun}
@@ -95,5 +96,6 @@ module _ {S : Type 0} (g : Ghosts S) (held : Held S) (hall : IsHall (state g hel
         hall = shown_hall mid end (it.steps.hall ours) ended shown;
         was_open = opened;
         serves = shown.is_open;
-        world = ap (λ (d : Database). world_of d.trees) shown.now_is ∙ it.does ours;
+        world = ap (λ (d : Database). world_of d.trees) shown.now_is ∙ (it.does ours).world;
+        others = subst (λ (d : Database). Spares (may_write change) base.now.trees d.trees) (sym shown.now_is) (it.does ours).others;
       })

@@ -1,5 +1,5 @@
 -- From what a statement that writes leaves to what the trait of stores says.
-use Rattle.std.proofs.Common.{◌≡◌, inl, ℕ, ℤ, pos, List, Bool, true, false, cond, if◌then◌else◌, IsTrue, Result, Ok, Err, OnErr, None, refl, sym, ap, ◌∙◌, arith}
+use Rattle.std.proofs.Common.{◌≡◌, inl, ℕ, ℤ, pos, List, Bool, true, false, cond, if◌then◌else◌, IsTrue, Result, Ok, Err, OnOk, OnErr, None, refl, sym, ap, subst, ◌∙◌, arith}
 use Rattle.sqlite.specs.declared.types.Value.{Value}
 use Rattle.sqlite.specs.declared.types.Value.TheVariants.{Null, Int}
 use Rattle.sqlite.specs.Cast.{cast}
@@ -15,9 +15,11 @@ use Rattle.hall_store.specs.Change.{changed}
 use Rattle.hall_store.specs.declared.change.Change.{Change}
 use Rattle.hall_sql.specs.Tables.{hall_schema}
 use Rattle.hall_sql.specs.Rows.{world_of}
+use Rattle.hall_sql.specs.Spared.{may_write, Spares}
 use Rattle.hall_sql.specs.Standing.{Lasts, AreAllKeyed, IsHall, Rested, HasMade, Wrote, without_limit, content_of}
 use Rattle.hall_store.proofs.Knowing.{leads_then}
 use Rattle.hall_sql.proofs.LastLemmas.{follows_leads}
+use Rattle.hall_sql.proofs.SparedLemmas.{same_spared}
 use Rattle.hall_sql.proofs.StoreLemmas.{rests_on}
 
 -- a write outside a transaction is committed
@@ -52,6 +54,7 @@ made_wrote change old new done hall lasts made =
         };
         made = λ clean. ((it clean).serves, (it clean).world);
       };
+      others = λ clean. (it clean).others;
       refused = tt;
     }
 
@@ -63,6 +66,7 @@ rested_wrote change old new fault rested = record {
     leads = follows_leads old new rested.follows;
     made = λ clean opens. ap (λ (d : Database). world_of d.trees) (rested.same clean opens);
   };
+  others = λ clean. tt;
   refused = rested;
 }
 
@@ -71,13 +75,15 @@ pub rested_then : {R E : Type 0} (change : Change) (old mid new : State) (result
     → (HasCleanDisk mid → IsTrue mid.is_open) → Wrote change mid new result → Wrote change old new result
 rested_then {R} {E} change old mid new result rested serves wrote =
     let before = wrote.makes.leads.honest in
-    let world = λ (clean : HasCleanDisk new). ap (λ (d : Database). world_of d.trees) (rested.same (before clean) (serves (before clean))) in
+    let same = λ (clean : HasCleanDisk new). rested.same (before clean) (serves (before clean)) in
+    let world = λ (clean : HasCleanDisk new). ap (λ (d : Database). world_of d.trees) (same clean) in
     record {
       hall = wrote.hall;
       makes = record {
         leads = leads_then (content_of old) (content_of mid) (content_of new) (follows_leads old mid rested.follows) wrote.makes.leads;
         made = by result wrote.makes.made world;
       };
+      others = λ clean. subst (λ (d : Database). OnOk result (Spares (may_write change) d.trees new.now.trees)) (same clean) (wrote.others clean);
       refused = left result wrote.refused;
     }
   where
@@ -100,22 +106,24 @@ rested_made change old new done rested serves nothing = record {
         let world = ap (λ (d : Database). world_of d.trees) (rested.same clean (serves clean)) in
         (serves clean, sym (nothing clean) ∙ ap (changed change) world);
   };
+  others = λ clean. subst (λ (d : Database). Spares (may_write change) d.trees new.now.trees) (rested.same clean (serves clean)) (same_spared (may_write change) new.now.trees);
   refused = tt;
 }
 
--- a write that made one change made another that is the same of its world
+-- a write that made one change made another that is the same of its world and may write the same rows
 pub wrote_too : {R E : Type 0} (change other : Change) (old new : State) (result : Result R E)
-    → (HasCleanDisk old → changed change (world_of old.now.trees) ≡ changed other (world_of old.now.trees))
+    → (HasCleanDisk old → (changed change (world_of old.now.trees) ≡ changed other (world_of old.now.trees)) × (may_write change ≡ may_write other))
     → Wrote change old new result → Wrote other old new result
 wrote_too {R} {E} change other old new result same wrote = record {
   hall = wrote.hall;
   makes = record { leads = wrote.makes.leads; made = by result wrote.makes.made wrote.makes.leads.honest };
+  others = λ clean. subst (λ takes. OnOk result (Spares takes old.now.trees new.now.trees)) (same (wrote.makes.leads.honest clean)).1 (wrote.others clean);
   refused = wrote.refused;
 }
   where
     by : (result : Result R E) → Made change (content_of old) (content_of new) result → (HasCleanDisk new → HasCleanDisk old)
         → Made other (content_of old) (content_of new) result
-    by (Ok done) made before = λ clean. let it = made clean in (it.0, it.1 ∙ same (before clean))
+    by (Ok done) made before = λ clean. let it = made clean in (it.0, it.1 ∙ (same (before clean)).0)
     by (Err fault) made before = made
 
 -- worlds are one where their maps are

@@ -1,5 +1,5 @@
 -- What calls inside a transaction leave.
-use Rattle.std.specs.Prelude.{◌≡◌, None, IsTrue}
+use Rattle.std.specs.Prelude.{◌≡◌, [], ◌∷◌, None, IsTrue}
 use Rattle.std.specs.FinMap.{get, insert}
 use Rattle.sqlite.specs.Effect.{Database}
 use Rattle.sqlite.specs.State.{State, HasCleanDisk, KeepsCommit}
@@ -7,8 +7,10 @@ use Rattle.hall_policy.specs.World.{World}
 use Rattle.hall_policy.specs.declared.record.Person.{Person}
 use Rattle.hall_store.specs.Change.{changed}
 use Rattle.hall_store.specs.declared.change.Change.{Change}
+use Rattle.hall_store.specs.declared.change.Change.TheVariants.{Import}
 use Rattle.hall_sql.specs.Tables.{hall_schema}
 use Rattle.hall_sql.specs.Rows.{world_of}
+use Rattle.hall_sql.specs.Spared.{may_write, Spares}
 use Rattle.hall_sql.specs.Standing.{AreAllKeyed, Lasts}
 
 -- the tables are the hall's, and no two rows of one have one rowid
@@ -32,18 +34,19 @@ pub record Did (Does : Database → Database → Type 0) (old new : State) : Typ
   pub steps : Steps old new
   pub does : IsHallData old.now → Does old.now new.now
 
--- the tables hold the changed world
-abbrev pub Changes : Change → Database → Database → Type 0
-Changes change old new = world_of new.trees ≡ changed change (world_of old.trees)
+-- the tables hold the changed world, and each row that the change may not write
+pub record Changes (change : Change) (old new : Database) : Type 0 where
+  pub world : world_of new.trees ≡ changed change (world_of old.trees)
+  pub others : Spares (may_write change) old.trees new.trees
 
 -- a query told what has this meaning, and left the tables
 pub record Tells (Means : World → Type 0) (old new : Database) : Type 0 where
   pub same : new ≡ old
   pub means : Means (world_of old.trees)
 
--- the person is added where the name is unknown
-abbrev pub AddsPerson : Person → Database → Database → Type 0
-AddsPerson person old new =
-    get (world_of old.trees).people person.name ≡ None
-    → world_of new.trees
-    ≡ record (world_of old.trees) { people = insert (world_of old.trees).people person.name person }
+-- the person is added where the name is unknown, and each other row stays
+pub record AddsPerson (person : Person) (old new : Database) : Type 0 where
+  pub world : get (world_of old.trees).people person.name ≡ None →
+      world_of new.trees
+      ≡ record (world_of old.trees) { people = insert (world_of old.trees).people person.name person }
+  pub others : Spares (may_write (Import (person ∷ []))) old.trees new.trees

@@ -1,6 +1,7 @@
 pub mod Tables
 pub mod Values
 pub mod Rows
+pub mod Spared
 pub mod Standing
 pub mod Statements
 pub mod Columns

@@ -1,5 +1,5 @@
 -- What the store keeps true of its connection, what a call leaves, and the content that a connection shows.
-use Rattle.std.specs.Prelude.{◌≡◌, ◌≢◌, ◌≤◌, ◌⊎◌, ℕ, Bool, false, List, [], ◌∷◌, map, IsTrue, Result, Ok, Err, OnErr, None}
+use Rattle.std.specs.Prelude.{◌≡◌, ◌≢◌, ◌≤◌, ◌⊎◌, ℕ, Bool, false, List, [], ◌∷◌, map, IsTrue, Result, Ok, Err, OnOk, OnErr, None}
 use Rattle.std.specs.List.{AllByRecursion, filter, list_all}
 use Rattle.std.specs.List.Sorted.{IsPermutation, IsSorted}
 use Rattle.std.specs.declared.cmp.Ordering.TheVariants.{Equal}
@@ -20,6 +20,7 @@ use Rattle.hall_store.specs.Change.{changed}
 use Rattle.hall_store.specs.declared.change.Change.{Change}
 use Rattle.hall_sql.specs.Tables.{no_schema, hall_schema}
 use Rattle.hall_sql.specs.Rows.{world_of}
+use Rattle.hall_sql.specs.Spared.{may_write, Spares}
 
 -- the rowids of the two rows differ
 abbrev pub Apart : Row → Row → Type 0
@@ -112,17 +113,20 @@ pub record HasReplaced (schema : Schema) (tree : ℕ) (keeps : Row → Bool) (ma
   pub keyed : AreKeyed (new.trees tree)
   pub others : AllByRecursion (λ table. table.tree ≢ tree → new.trees table.tree ≡ old.trees table.tree) schema.tables
 
--- a statement ran and made the change
+-- a statement ran and made the change, and of all else each row stayed
 pub record HasMade (change : Change) (old new : State) : Type 0 where
   pub hall : IsHall (without_limit new)
   pub was_open : IsTrue old.is_open
   pub serves : IsTrue new.is_open
   pub world : world_of new.now.trees ≡ changed change (world_of old.now.trees)
+  pub others : Spares (may_write change) old.now.trees new.now.trees
 
--- a call that writes: the hall stands, and it made the change, or was refused and left the tables
+-- A call that writes: the hall stands, and it made the change and spared each row that the change may not write, or it was
+-- refused and left the tables.
 pub record Wrote {R E : Type 0} (change : Change) (old new : State) (result : Result R E) : Type 0 where
   pub hall : IsHall new
   pub makes : Makes change (content_of old) (content_of new) result
+  pub others : HasCleanDisk new → OnOk result (Spares (may_write change) old.now.trees new.now.trees)
   pub refused : OnErr result (Rested old new)
 
 -- the database has this schema, and its tables no rows

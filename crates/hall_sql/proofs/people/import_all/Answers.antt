@@ -42,7 +42,7 @@ returns-in_err-import_one-clause-cause g c clean goes =
         mid = c.loop-person.tx.conn.now;
         left = c.import_one.new.tx.conn.now;
         hall = on.hall;
-        before = here.does goes.hall;
+        before = (here.does goes.hall).world;
         refused = refused;
       })
     ])

@@ -2,6 +2,7 @@ use Rattle.std.proofs.Common.{ap, ◌≡◌, inr, Some, sym, ◌∙◌, subst}
 use Rattle.sqlite.specs.Held.{state}
 use Rattle.hall_store.specs.declared.change.Change.TheVariants.{SetRoundFlag}
 use Rattle.hall_sql.specs.Rows.{world_of}
+use Rattle.hall_sql.specs.Spared.{may_write}
 use Rattle.hall_store.specs.Change.{changed, flagged}
 use Rattle.hall_sql.proofs.RoundWrites.{head_own, head_under}
 use Rattle.hall_sql.proofs.WriteLemmas.{rested_then, wrote_too}
@@ -25,7 +26,9 @@ returns-in-Some-clause-wrote g c =
     rested_then (SetRoundFlag c.args.id.now c.args.flag) (state g.S.Store c.args.conn.now) mid new c.set_flag.result c.head.ensures.rested
     (λ clean. (c.in_ok-round.ensures.served clean).0)
     (wrote_too (SetRoundFlag c.in-Some.round.id c.args.flag) (SetRoundFlag c.args.id.now c.args.flag) mid new c.set_flag.result
-    (λ clean. ap (λ id. changed (SetRoundFlag id c.args.flag) (world_of mid.now.trees)) (head_own c.args.id.now mid c.in-Some.round (rw c.in-Some.is at (c.in_ok-round.ensures.alone clean))))
+    (λ clean.
+    let own = head_own c.args.id.now mid c.in-Some.round (rw c.in-Some.is at (c.in_ok-round.ensures.alone clean)) in
+    (ap (λ id. changed (SetRoundFlag id c.args.flag) (world_of mid.now.trees)) own, ap (λ id. may_write (SetRoundFlag id c.args.flag)) own))
     c.set_flag.ensures.wrote)
 
 pub returns-in-Some-clause-cause : goal.returns-in-Some-clause-cause
