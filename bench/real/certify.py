@@ -6,7 +6,8 @@
 PROGRAM is built from the sources in bench/real/program; without it, it is built and left in bench/real/program/out.
 
 For each file NAME.txt of bench/real it prints how many boards the search certifies within the default budget of `hall solve`,
-the mean and greatest time of the search and of the SAT solver, and the mean and greatest count of visits. The search's time is
+the mean and greatest time of the search and of the SAT solver, the mean and greatest count of visits, and how many times the
+SAT solver's time the search takes on the board on which that is most. The search's time is
 the processor time of the search alone, the least of three runs. The SAT solver's is what its library took to find the solution
 and that there is no other, with and without the adding of clauses, which is called from Python, one literal at a time; what
 Python takes to find the clauses isn't counted. With `--instructions` it also counts what the program executes for the first
@@ -99,10 +100,11 @@ def measure(program, name, counts):
     visits = [count for _, _, count, _ in runs[0]]
     times = [min(spent for _, _, _, spent in rows) for rows in zip(*runs)]
     sat, solving = zip(*(sat_times(text, answer) for text, answer in boards))
+    most = max(mine / theirs for mine, theirs in zip(times, sat))
     print(
         f"{name:12} {certified:3} of {len(boards):3}  {mean(times):9.2f} {max(times):9.2f} ms"
         f"  SAT {mean(sat):8.1f} {max(sat):8.1f} ms, solving {mean(solving):7.1f} {max(solving):7.1f} ms"
-        f"  visits {mean(visits):8.1f} {max(visits):7}",
+        f"  visits {mean(visits):8.1f} {max(visits):7}  {most:5.2f} times SAT's on the worst board",
         flush=True,
     )
     if counts:
