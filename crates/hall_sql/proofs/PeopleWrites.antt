@@ -31,7 +31,7 @@ use Rattle.hall_sql.specs.Values.{roles_in}
 use Rattle.hall_sql.specs.Columns.{person_params, roles_code}
 use Rattle.hall_sql.specs.Rows.{kept, person_of, puzzle_row_of, round_of, place_of, answer_of, protest_of, world_of}
 use Rattle.hall_sql.specs.Inside.{IsHallData, AddsPerson}
-use Rattle.hall_sql.specs.Spared.{may_write, has_key}
+use Rattle.hall_sql.specs.Spared.{may_write}
 use Rattle.hall_store.specs.declared.change.Change.TheVariants.{Import}
 use Rattle.hall_sql.proofs.PeopleTexts.{added_terms, add_person_is}
 use Rattle.hall_sql.proofs.InsertLemmas.{inserts}

@@ -21,9 +21,16 @@ use Rattle.hall_sql.proofs.FoundLemmas.{unkept}
 use Rattle.hall_sql.proofs.MapLemmas.{equal_is, Lacks, filter_found, replaced}
 use Rattle.hall_sql.proofs.UpdateLemmas.{has_itself}
 
-true_of_not : (b : Bool) → not b ≡ false → b ≡ true
+pub true_of_not : (b : Bool) → not b ≡ false → b ≡ true
 true_of_not true h = refl
 true_of_not false h = absurd cc
+
+-- the row that goes with the rowid of a row is that row
+pub gone_is : (rows : List Row) (one r : Row) → AreKeyed rows → Has rows one → Has rows r → not (has_rowid (id_in (rowid one)) r) ≡ false → r ≡ one
+gone_is rows one r keyed there h gone =
+    let int = all_has _ rows one keyed.ints there in
+    let tie : value_cmp (rowid r) (rowid one) ≡ Equal = subst (λ v. value_cmp (rowid r) v ≡ Equal) (sym (int_is (rowid one) int)) (equal_is _ (true_of_not _ gone)) in
+    keyed_same rows r one keyed h there tie
 
 module _ {K X : Type 0} {R : K → K → Ordering} (total : IsTotalOrder R) (same : IsAntisymmetric R) (key : X → K) (read : Row → Option X) (k : K) (keeps : Row → Bool)
     (agrees : (r : Row) (p : X) → read r ≡ Some p → keeps r ≡ eq_by_cmp R (key p) k) where
@@ -53,8 +60,7 @@ module _ {K X : Type 0} {R : K → K → Ordering} (total : IsTotalOrder R) (sam
         | inr e ↦ unkept total same key read k keeps agrees r e
       ]) in
       let others = λ (q : K) (apart : eq_by_cmp R q (key x) ≡ false). filter_found total same key read q stays rows (all_from _ rows (λ r h gone.
-      let tie : value_cmp (rowid r) (rowid one) ≡ Equal = subst (λ v. value_cmp (rowid r) v ≡ Equal) (sym (int_is (rowid one) int)) (equal_is _ (true_of_not _ gone)) in
-      let is : r ≡ one = keyed_same rows r one keyed h there.0 tie in
+      let is : r ≡ one = gone_is rows one r keyed there.0 h gone in
       no_other r (subst (λ y. keeps y ≡ true) (sym is) there.1) q (ap (eq_by_cmp R q) (sym same_key) ∙ apart))) in
       replaced total same key read x (made one) (without_rowid id rows) rows out it.put reads it.free (subst (λ q. AllByRecursion (Lacks total same key read q) (without_rowid id rows)) (sym same_key) lacks) others
       ∙ ap (λ q. put_in (kept R key read rows) q x) same_key

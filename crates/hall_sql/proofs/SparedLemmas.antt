@@ -14,13 +14,12 @@ use Rattle.sqlite_value.specs.Order.{value_cmp}
 use Rattle.sqlite_trees.specs.Tree.{rowid, put_row, without_rowid, has_rowid}
 use Rattle.sqlite_rules.specs.Lists.{Has}
 use Rattle.sqlite_rules.specs.Edit.{id_in, is_taken}
-use Rattle.sqlite_rules.proofs.ListLemmas.{all_has, all_from, has_filtered}
-use Rattle.sqlite_rules.proofs.TableLemmas.{int_is}
+use Rattle.sqlite_rules.proofs.ListLemmas.{all_from, has_filtered}
 use Rattle.hall_sql.specs.Spared.{has_key, AreSpared, Spares}
 use Rattle.hall_sql.specs.Standing.{AreKeyed, IsReplaced}
 use Rattle.hall_sql.specs.Tables.{hall_schema}
-use Rattle.hall_sql.proofs.KeyedLemmas.{keyed_same, same_tree, other_tree}
-use Rattle.hall_sql.proofs.MapLemmas.{equal_is}
+use Rattle.hall_sql.proofs.KeyedLemmas.{same_tree, other_tree}
+use Rattle.hall_sql.proofs.ReplaceLemmas.{true_of_not, gone_is}
 
 -- a key is itself
 pub own_key : {K : Type 0} {R : K → K → Ordering} → IsTotalOrder R → (k : K) → eq_by_cmp R k k ≡ true
@@ -29,10 +28,6 @@ own_key total k = ap is_eq (tied_itself total k)
 -- a row that is a record under the key is taken
 pub taken_record : {K X : Type 0} {R : K → K → Ordering} → IsTotalOrder R → (key : X → K) (k : K) (o : Option X) (x : X) → o ≡ Some x → key x ≡ k → has_key R key k o ≡ true
 taken_record {R = R} total key k o x is own = ap (has_key R key k) is ∙ ap (λ q. eq_by_cmp R q k) own ∙ own_key total k
-
-true_of_not : (b : Bool) → not b ≡ false → b ≡ true
-true_of_not true h = refl
-true_of_not false h = absurd cc
 
 module _ (takes : Row → Bool) where
   abbrev stays : Row → Bool
@@ -69,10 +64,7 @@ module _ (takes : Row → Bool) where
       let one = it.one in
       let id = id_in (rowid one) in
       let there = (has_filtered keeps rows one (subst (λ l. Has l one) (sym it.found) (inl refl))).0 in
-      let int = all_has _ rows one keyed.ints there in
-      let only = all_from (λ r. not (has_rowid id r) ≡ false → takes r ≡ true) rows (λ r h gone.
-      let tie : value_cmp (rowid r) (rowid one) ≡ Equal = subst (λ v. value_cmp (rowid r) v ≡ Equal) (sym (int_is (rowid one) int)) (equal_is _ (true_of_not _ gone)) in
-      ap takes (keyed_same rows r one keyed h there tie) ∙ was) in
+      let only = all_from (λ r. not (has_rowid id r) ≡ false → takes r ≡ true) rows (λ r h gone. ap takes (gone_is rows one r keyed there h gone) ∙ was) in
       added_spared (without_rowid id rows) out (made one) is it.free it.put ∙ cut_spared (λ r. not (has_rowid id r)) rows only
 
   pub dropped_spared : (rows out : List Row) → out ≡ filter stays rows → AreSpared takes rows out

@@ -11,7 +11,8 @@ use Rattle.hall_policy.specs.Text.{text_cmp}
 use Rattle.hall_policy.specs.declared.record.Person.{Person}
 use Rattle.hall_store.specs.declared.change.Change.{Change}
 use Rattle.hall_store.specs.declared.change.Change.TheVariants.{Nothing, Import, PutPuzzle, SetState}
-use Rattle.hall_store.specs.declared.change.Change.TheVariants.{PutRound, SetRoundFlag, AddAnswer, AddProtest, RuleProtest}
+use Rattle.hall_store.specs.declared.change.Change.TheVariants.{PutRound, SetRoundFlag, AddAnswer}
+use Rattle.hall_store.specs.declared.change.Change.TheVariants.{AddProtest, RuleProtest}
 use Rattle.hall_sql.specs.Tables.{hall_schema}
 use Rattle.hall_sql.specs.Columns.{stands_under}
 use Rattle.hall_sql.specs.RoundColumns.{is_under}
@@ -27,16 +28,16 @@ abbrev pub is_one_of : List Person → ℕ → Row → Bool
 is_one_of people tree row =
     tree == 0 && list_any (λ (person : Person). has_key text_cmp (λ x. x.name) person.name (person_of row)) people
 
--- it stands under the id of the round
+-- it is a row of the table of rounds under this id
 abbrev pub is_head_of : List ℕ → ℕ → Row → Bool
 is_head_of id tree row = tree == 5 && is_under id row
 
--- it stands in the round's list
+-- it is a row of the table of their places under the round's id
 abbrev pub is_place_of : List ℕ → ℕ → Row → Bool
 is_place_of id tree row = tree == 7 && is_under id row
 
--- Whether the change may write this row of the table in this tree. What is put takes the place of a row that stands under
--- its key as SQL compares, be it a record or none; all else that is written is a record.
+-- Whether the change may write this row of the table in this tree. A puzzle or a round takes the place of what stands
+-- under its key, as SQL compares, be it a record or none; all else that is written is a record.
 abbrev pub may_write : Change → ℕ → Row → Bool
 may_write Nothing tree row = false
 may_write (Import people) tree row = is_one_of people tree row

@@ -113,7 +113,7 @@ pub record HasReplaced (schema : Schema) (tree : ℕ) (keeps : Row → Bool) (ma
   pub keyed : AreKeyed (new.trees tree)
   pub others : AllByRecursion (λ table. table.tree ≢ tree → new.trees table.tree ≡ old.trees table.tree) schema.tables
 
--- a statement ran and made the change, and of all else each row stayed
+-- a statement ran, made the change, and left each row that the change may not write
 pub record HasMade (change : Change) (old new : State) : Type 0 where
   pub hall : IsHall (without_limit new)
   pub was_open : IsTrue old.is_open
@@ -121,8 +121,8 @@ pub record HasMade (change : Change) (old new : State) : Type 0 where
   pub world : world_of new.now.trees ≡ changed change (world_of old.now.trees)
   pub others : Spares (may_write change) old.now.trees new.now.trees
 
--- A call that writes: the hall stands, and it made the change and spared each row that the change may not write, or it was
--- refused and left the tables.
+-- A call that writes: the hall stands, and it made the change and left each row that the change may not write, or it
+-- was refused and left the tables.
 pub record Wrote {R E : Type 0} (change : Change) (old new : State) (result : Result R E) : Type 0 where
   pub hall : IsHall new
   pub makes : Makes change (content_of old) (content_of new) result
