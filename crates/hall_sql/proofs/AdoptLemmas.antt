@@ -33,7 +33,7 @@ all_bare_keyed trees all = (
 )
 
 -- with no table at all, all six are to be made
-awaits_all : (held : Database) → held.schema ≡ no_schema → Awaits all_tables held
+pub awaits_all : (held : Database) → held.schema ≡ no_schema → Awaits all_tables held
 awaits_all held is = record {
   schema = no_schema;
   bare = record { is = is; empty = tt };
@@ -100,7 +100,7 @@ scanned_adopted old new alone settled has lasts scanned =
 
 module _ {S : Type 0} (g : Ghosts S) (held : Held S) (settled : IsTrue (state g held).is_open → (state g held).now ≡ (state g held).committed) where
   -- where the transaction began
-  abbrev base : State
+  abbrev pub base : State
   base = state g (record held { in_transaction = true })
 
   -- rolled back, the tables are as they were

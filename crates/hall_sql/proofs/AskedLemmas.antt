@@ -14,6 +14,7 @@ use Rattle.sqlite.specs.declared.error.Error.{Error}
 use Rattle.sqlite.specs.declared.error.Error.TheVariants.{SqliteFailure}
 use Rattle.sqlite.specs.Order.{Row}
 use Rattle.sqlite.specs.Term.{Term, Env}
+use Rattle.sqlite.specs.Schema.{Schema}
 use Rattle.sqlite.specs.Tree.{Trees}
 use Rattle.sqlite.specs.Effect.{Database, RefusesToRead}
 use Rattle.sqlite.specs.Listing.{understood, reads_listing, IsSourceOf}
@@ -58,14 +59,14 @@ store_cause old new TooBig e other Full is has = inl (inl (more_faults old.fault
 store_cause old new TooBig e other Broken is has = inl (inr has)
 store_cause old new TooBig e other Unstorable is has = inr has
 
--- the text is a statement
-is_statement : (sql : List ℕ) (params : Row) (s : State) (e : Error) → s.now.schema ≡ hall_schema → IsPlain (understood hall_schema sql)
-    → is_whole sql (length params) (understood hall_schema sql) ≡ true → ¬ (IsNoStatement s sql params e)
-is_statement sql params s e has plain whole (inl h) =
-    let known : understood hall_schema sql ≡ Err h.0 = sym (ap (λ x. understood x sql) has) ∙ h.1 in
+-- the text is a statement over this schema
+is_statement : (schema : Schema) (sql : List ℕ) (params : Row) (s : State) (e : Error) → s.now.schema ≡ schema → IsPlain (understood schema sql)
+    → is_whole sql (length params) (understood schema sql) ≡ true → ¬ (IsNoStatement s sql params e)
+is_statement schema sql params s e has plain whole (inl h) =
+    let known : understood schema sql ≡ Err h.0 = sym (ap (λ x. understood x sql) has) ∙ h.1 in
     subst IsPlain known plain
-is_statement sql params s e has plain whole (inr h) =
-    let known : understood hall_schema sql ≡ Ok h.0 = sym (ap (λ x. understood x sql) has) ∙ h.1 in
+is_statement schema sql params s e has plain whole (inr h) =
+    let known : understood schema sql ≡ Ok h.0 = sym (ap (λ x. understood x sql) has) ∙ h.1 in
     let (long, given) = and_parts _ _ (subst (λ r. is_whole sql (length params) r ≡ true) known whole) in
     elim h.2 [
       | inl more ↦ more.0 (leb-true _ _ long)
@@ -83,13 +84,13 @@ limited (Select q names) db params e limit has safe (inr (inl h)) = absurd (safe
 limited (Select q names) db params e limit has safe (inr (inr h)) = h.1
 limited _ db params e limit has safe h = absurd safe
 
--- a text that was not run, where the store was open, and so the tables were the hall's
-pub not_run : (sql : List ℕ) (params : Row) (old new : State) (e : Error) → IsPlain (understood hall_schema sql)
-    → is_whole sql (length params) (understood hall_schema sql) ≡ true → e ≢ SqliteFailure code.OutOfMemory
-    → old.now.schema ≡ hall_schema → IsNotRun old new sql params e → IsStoreCause old new
+-- a text that was not run, over this schema
+pub not_run : (schema : Schema) (sql : List ℕ) (params : Row) (old new : State) (e : Error) → IsPlain (understood schema sql)
+    → is_whole sql (length params) (understood schema sql) ≡ true → e ≢ SqliteFailure code.OutOfMemory
+    → old.now.schema ≡ schema → IsNotRun old new sql params e → IsStoreCause old new
 unfolding IsNotRun
-not_run sql params old new e plain whole other has (inl h) = absurd (is_statement sql params old e has plain whole h.0)
-not_run sql params old new e plain whole other has (inr h) = elim (store_cause old new ⊥ e other h.0 h.1 h.2) [
+not_run schema sql params old new e plain whole other has (inl h) = absurd (is_statement schema sql params old e has plain whole h.0)
+not_run schema sql params old new e plain whole other has (inr h) = elim (store_cause old new ⊥ e other h.0 h.1 h.2) [
   | inl cause ↦ cause
   | inr none ↦ absurd none
 ]
@@ -97,7 +98,7 @@ not_run sql params old new e plain whole other has (inr h) = elim (store_cause o
 pub open_cause : (sql : List ℕ) (params : Row) (old new : State) (e : Error) → IsAsked sql params → old.step_limit ≡ None
     → e ≢ SqliteFailure code.OutOfMemory → old.now.schema ≡ hall_schema → FailsToQuery sql params old new e → IsStoreCause old new
 unfolding FailsToQuery
-open_cause sql params old new e asks free other has (inl h) = not_run sql params old new e asks.plain asks.whole other has h
+open_cause sql params old new e asks free other has (inl h) = not_run hall_schema sql params old new e asks.plain asks.whole other has h
 open_cause sql params old new e asks free other has (inr h) =
     let known : understood hall_schema sql ≡ Ok h.0 = sym (ap (λ x. understood x sql) has) ∙ h.1.is in
     let bare = subst IsPlain {x = understood hall_schema sql} known asks.plain in

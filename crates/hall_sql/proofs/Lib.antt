@@ -54,8 +54,10 @@ pub mod PlaceListings
 pub mod RoundRows
 pub mod SchemaLemmas
 pub mod ScanLemmas
+pub mod ScanCauseLemmas
 pub mod TableTexts
 pub mod MakeLemmas
+pub mod MakeCauseLemmas
 pub mod AdoptLemmas
 pub mod FeedLemmas
 pub mod SelectedLemmas

@@ -20,7 +20,7 @@ use Rattle.sqlite.specs.Effect.{Database}
 use Rattle.sqlite.specs.State.{State, mode_of, Writes}
 use Rattle.hall_sql.proofs.InsertLemmas.{went, same_value}
 
-same_table : (text : List ℕ) (made table : Table) → table_defined_by text ≡ Ok made → table_defined_by text ≡ Ok table → made ≡ table
+pub same_table : (text : List ℕ) (made table : Table) → table_defined_by text ≡ Ok made → table_defined_by text ≡ Ok table → made ≡ table
 same_table text made table p q = let both : ◌≡◌ {A = Result Table CompileError} (Ok made) (Ok table) = sym p ∙ q in same_value both
 
 record HasCreated (schema : Schema) (table : Table) (old new : Database) : Type 0 where

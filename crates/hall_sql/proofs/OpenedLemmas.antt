@@ -1,5 +1,5 @@
 -- What an opened store shows of the files.
-use Rattle.std.proofs.Common.{◌≡◌, inl, inr, List, [], ◌∷◌, length, sym, ap, subst, refl, ◌∙◌, arith}
+use Rattle.std.proofs.Common.{◌≡◌, inl, inr, false, true, None, IsSome, List, [], ◌∷◌, length, sym, ap, subst, refl, ◌∙◌, arith}
 use Rattle.std.proofs.Math.Logic.{∥∥₁_elim}
 use Rattle.std.specs.List.{AllZip}
 use Rattle.sqlite_trees.specs.declared.memory.MemStore.{MemStore}
@@ -16,6 +16,7 @@ use Rattle.sqlite.specs.Tree.{Trees}
 use Rattle.sqlite_catalog.specs.Listing.{IsSound}
 use Rattle.hall_policy.specs.World.{World}
 use Rattle.hall_store.specs.Maps.{empty_world}
+use Rattle.hall_sql.specs.AdoptCause.{AdoptFails}
 use Rattle.hall_sql.specs.Tables.{no_schema, hall_schema}
 use Rattle.hall_sql.specs.Rows.{world_of}
 use Rattle.hall_sql.specs.Standing.{StoodOrEmpty, HasAdopted, content_of}
@@ -93,3 +94,13 @@ pub empty_in_memory : (conn store : Held MemStore) → IsEmpty (state over_memor
     → HasAdopted (state over_memory conn) (state over_memory store) → (content_of (state over_memory store)).world ≡ empty_world
 empty_in_memory conn store empty adopted =
     from_empty (state over_memory conn) (state over_memory store) empty.2 (adopted.stood (memory_serves store).0)
+
+-- and no connection is refused
+pub refused_in_memory : (conn left : Held MemStore) → IsEmpty (state over_memory conn) → conn.step_limit ≡ None
+    → ¬ (AdoptFails (state over_memory conn) (state over_memory left))
+refused_in_memory conn left empty free (inl inside) = let no : false ≡ true = sym empty.0.autocommit ∙ inside in cc
+refused_in_memory conn left empty free (inr (inl (inl (inl more)))) = omega (arith, more)
+refused_in_memory conn left empty free (inr (inl (inl (inr top)))) = omega (arith, top)
+refused_in_memory conn left empty free (inr (inl (inr shut))) = let no : false ≡ true = sym shut ∙ empty.0.is_open in cc
+refused_in_memory conn left empty free (inr (inr (inl limit))) = let no : false ≡ true = subst IsSome free limit in cc
+refused_in_memory conn left empty free (inr (inr (inr foreign))) = foreign.0 empty.2

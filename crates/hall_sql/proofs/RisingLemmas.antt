@@ -20,7 +20,7 @@ use Rattle.hall_sql.specs.Rows.{entry, kept}
 
 -- ---- a list that rises has one order
 module _ {X : Type 0} (cmp : X → X → Ordering) (total : IsTotalOrder cmp) where
-  abbrev AtMost : X → X → Type 0
+  abbrev pub AtMost : X → X → Type 0
   AtMost a b = is_gt (cmp a b) ≡ false
 
   turned : (o : Ordering) → is_lt o ≡ false → is_gt (ordering_reverse o) ≡ false
@@ -34,7 +34,7 @@ module _ {X : Type 0} (cmp : X → X → Ordering) (total : IsTotalOrder cmp) wh
       let first : AtMost x y = ap is_gt (total.antisymm x y) ∙ turned _ (sorted 0 x (omega arith) (omega arith)) in
       (first, all_weaker _ (AtMost x) (λ z. upto total x y z first) ys up.0)
 
-  ascending : (xs : List X) → IsSorted cmp xs → IsAscending AtMost xs
+  pub ascending : (xs : List X) → IsSorted cmp xs → IsAscending AtMost xs
   ascending [] sorted = tt
   ascending (x ∷ xs) sorted =
       let tail : IsSorted cmp xs = λ k d p q. rw add-one (rw add-one at (sorted (suc k) d (omega arith) (omega arith))) in

@@ -1,10 +1,11 @@
 -- A scan of rowids that goes on, and what it tells at its end.
-use Rattle.std.proofs.Common.{◌≡◌, ◌⊎◌, inl, inr, ℕ, ℤ, List, [], ◌∷◌, ◌++◌, map, Option, Some, None, refl, sym, ap, subst, ◌∙◌}
-use Rattle.std.proofs.lemmas.List.{map-append}
+use Rattle.std.proofs.Common.{◌≡◌, ◌⊎◌, ◌<◌, ◌+◌, inl, inr, ℕ, ℤ, length, take, get_or, List, [], ◌∷◌, ◌++◌, map, Option, Some, None, refl, sym, ap, subst, ◌∙◌}
+use Rattle.std.proofs.lemmas.List.{map-append, take_more}
 use Rattle.std.proofs.lemmas.Cmp.{int_cmp_total}
 use Rattle.std.specs.List.{AllByRecursion}
 use Rattle.std.specs.Ordering.{int_cmp}
 use Rattle.std.specs.declared.cmp.Ordering.TheVariants.{Less, Equal}
+use Rattle.sqlite_rules.specs.Lists.{Has}
 use Rattle.sqlite_trees.specs.declared.store.Store.{Ghosts}
 use Rattle.sqlite_value.specs.Order.{column}
 use Rattle.sqlite.specs.declared.types.Value.TheVariants.{Int}
@@ -64,6 +65,10 @@ last_more : (ids : List ℤ) (id : ℤ) → AllByRecursion (λ j. int_cmp j id �
 last_more [] id below = (inl refl, tt)
 last_more (i ∷ ids) id below = (inr below.0, last_more ids id below.1)
 
+last_met : (ids : List ℤ) (id : ℤ) → Has (ids ++ id ∷ []) id
+last_met [] id = inl refl
+last_met (i ∷ ids) id = inr (last_met ids id)
+
 -- one rowid more
 pub scanned_more : {S : Type 0} (g : Ghosts S) (sql : List ℕ) (old new : Held S) (last : Option ℤ) (id : ℤ) → ((i j k : ℤ) → int_cmp i j ≡ Less → int_cmp j k ≡ Less → int_cmp i k ≡ Less) → HasScanned g sql old last → Scanned g old new last (Some id)
     → HasScanned g sql new (Some id)
@@ -76,9 +81,10 @@ scanned_more g sql old new last id chain so it =
       read = map-append (λ r. column r 0) so.given (it.1 ∷ []) ∙ ap (λ l. l ++ column it.1 0 ∷ []) so.read ∙ ap (λ v. map Int so.ids ++ v ∷ []) it.3 ∙ sym (map-append Int so.ids (id ∷ []));
       rises = rises_more so.ids id so.rises below;
       top = last_more so.ids id below;
+      met = last_met so.ids id;
     }
 
-abbrev by_rowid : List (Term × Key)
+abbrev pub by_rowid : List (Term × Key)
 by_rowid = (col 1 0, record { collation = Binary; descending = false }) ∷ []
 
 -- what the texts of the scans ask for
@@ -97,7 +103,7 @@ rowids_are Answers = (refl, refl, (refl, refl))
 rowids_are Protests = (refl, refl, (refl, refl))
 
 -- the statement sees the table's own rows
-apart : (db : Trees) (table : HallTable) → overlay db [] (tree_of table) ≡ db (tree_of table)
+pub apart : (db : Trees) (table : HallTable) → overlay db [] (tree_of table) ≡ db (tree_of table)
 apart db People = refl
 apart db Puzzles = refl
 apart db Rounds = refl
@@ -105,7 +111,7 @@ apart db Places = refl
 apart db Answers = refl
 apart db Protests = refl
 
-all_pass : (rows : List Row) → filter (λ r. true) rows ≡ rows
+pub all_pass : (rows : List Row) → filter (λ r. true) rows ≡ rows
 all_pass [] = refl
 all_pass (r ∷ rows) = ap (λ l. r ∷ l) (all_pass rows)
 
@@ -150,7 +156,7 @@ pub scan_begun : {S : Type 0} (g : Ghosts S) (table : HallTable) (old new : Held
     → IsUnchanged (state g old) (state g new) × HasScanned g (rowids_text table) new None
 scan_begun g table old new has begun =
     let it = begun_plain g (rowids_text table) [] old new (subst (λ s. IsPlain (understood s (rowids_text table))) (sym has) (rowids_are table).2) begun in
-    (it.1, record { given = []; ids = []; has = it.0; read = refl; rises = tt; top = refl })
+    (it.1, record { given = []; ids = []; has = it.0; read = refl; rises = tt; top = refl; met = tt })
 
 pub ints_chain : (i j k : ℤ) → int_cmp i j ≡ Less → int_cmp j k ≡ Less → int_cmp i k ≡ Less
 ints_chain = int_cmp_total.trans
@@ -216,3 +222,9 @@ scanned_one_more tables table a b c some same one = record {
     go : (ts : List HallTable) → AllByRecursion (IsTableKeyed a) ts → AllByRecursion (IsTableKeyed a) (ts ++ table ∷ [])
     go [] all = (here, tt)
     go (t ∷ ts) all = (all.0, go ts all.1)
+
+-- the next of a list
+pub scanned_next : (tables : List HallTable) (i : ℕ) (none : HallTable) (a b c : State) → i < length tables → AreScanned (take i tables) a b
+    → IsUnchanged b c → IsTableKeyed b (get_or tables i none) → AreScanned (take (i + 1) tables) a c
+scanned_next tables i none a b c low some same one =
+    subst (λ l. AreScanned l a c) (sym (take_more tables i none low)) (scanned_one_more (take i tables) (get_or tables i none) a b c some same one)

@@ -1,5 +1,5 @@
 -- Why a write fails, from what the connection refused.
-use Rattle.std.proofs.Common.{◌≡◌, ◌≢◌, ◌⊎◌, inl, inr, ℕ, zero, suc, ◌+◌, ◌<◌, ◌≤◌, List, [], ◌∷◌, length, drop, get_or, Bool, true, false, ◌||◌, ◌&&◌, append-nil, Option, Some, None, Ok, Err, IsTrue, IsSome, is_some, refl, sym, ap, subst, ◌∙◌, arith}
+use Rattle.std.proofs.Common.{◌≡◌, ◌≢◌, ◌⊎◌, inl, inr, ℕ, zero, suc, ◌+◌, ◌<◌, ◌≤◌, List, ◌∷◌, length, drop, get_or, true, false, ◌||◌, ◌&&◌, append-nil, Option, Some, None, Ok, Err, IsTrue, IsSome, is_some, refl, sym, ap, subst, ◌∙◌, arith}
 use Rattle.std.proofs.lemmas.Bool.{cases_Bool}
 use Rattle.sqlite_schema.specs.declared.command.Returning.{Returning}
 use Rattle.sqlite_schema.specs.declared.command.Command.{Command}
@@ -94,7 +94,7 @@ module _ (sql : List ℕ) (params : Row) (old new : State) (e : Error) (other : 
 
   executed_cause : IsWritten sql params → old.now.schema ≡ hall_schema → Executes sql params old new (Err e) → RunFails sql params old new
   unfolding ExecutesIn
-  executed_cause it has (inl h) = inl (not_run sql params old new e it.plain it.whole other has h)
+  executed_cause it has (inl h) = inl (not_run hall_schema sql params old new e it.plain it.whole other has h)
   executed_cause it has (inr h) =
       let known : understood hall_schema sql ≡ Ok h.0 = sym (ap (λ x. understood x sql) has) ∙ h.1.is in
       let bare = subst IsPlain {x = understood hall_schema sql} known it.plain in

@@ -17,3 +17,4 @@ pub mod Whole
 pub mod Asked
 pub mod Cause
 pub mod WriteCause
+pub mod AdoptCause

@@ -14,6 +14,9 @@ use Rattle.sqlite_catalog.specs.Listing.{IsSound}
 use Rattle.hall_policy.specs.World.{World}
 use Rattle.hall_store.specs.Store.{Content}
 use Rattle.hall_store.specs.Maps.{empty_world}
+use Rattle.hall_store.specs.declared.fault.StoreFault.{StoreFault}
+use Rattle.hall_store.specs.declared.fault.StoreFault.TheVariants.{Failed}
+use Rattle.hall_sql.specs.AdoptCause.{AdoptFails}
 use Rattle.hall_sql.specs.Tables.{no_schema, hall_schema}
 use Rattle.hall_sql.specs.Rows.{world_of}
 use Rattle.hall_sql.specs.Standing.{HasDeclined, content_of}
@@ -54,22 +57,26 @@ Starts image content = content.honest → content.serves × FindsWorld image con
 abbrev pub OpensAt : {F S : Type 0} → (F → List ℕ → Held S → F → Type 0) → F → List ℕ → F → Type 0
 OpensAt {F} {S} opens old path new = (was : Held S) × opens old path was new
 
--- asked for the database at the path alone, the files handed one out, which was refused, and took it back as it was left
-pub record IsHandedBack {F S : Type 0} (g : Ghosts S) (opens : F → List ℕ → Held S → F → Type 0)
-    (closes : F → Held S → F → Type 0) (old : F) (path : List ℕ) (new : F) : Type 0 where
+-- Asked for the database at the path alone, the files handed out the one that they held, which was refused by this fault,
+-- and took it back as it was left.
+pub record IsHandedBack {F S : Type 0} (g : Ghosts S) (image_at : List ℕ → Image) (opens : F → List ℕ → Held S → F → Type 0)
+    (closes : F → Held S → F → Type 0) (old : F) (path : List ℕ) (new : F) (fault : StoreFault) : Type 0 where
   pub was : Held S
   pub left : Held S
   pub between : F
   pub opened : opens old path was between
+  pub found : IsFound (image_at path) (state g was)
   pub declined : HasDeclined (state g was) (state g left)
+  pub cause : HasCleanDisk (state g left) → fault ≡ Failed → AdoptFails (state g was) (state g left)
   pub closed : closes between left new
 
 -- asked for the database at the path alone, the files refused by the error, or handed out one that was refused
-abbrev pub IsCauseAt : {F S : Type 0} → Ghosts S → (F → List ℕ → Error → F → Type 0)
+abbrev pub IsCauseAt : {F S : Type 0} → Ghosts S → (List ℕ → Image) → (F → List ℕ → Error → F → Type 0)
     → (F → List ℕ → Held S → F → Type 0) → (F → Held S → F → Type 0) → F → List ℕ → F → OpenFault → Type 0
-IsCauseAt g refuses opens closes old path new Missing = ⊥
-IsCauseAt g refuses opens closes old path new (Unopened error) = refuses old path error new
-IsCauseAt g refuses opens closes old path new (Refused fault) = IsHandedBack g opens closes old path new
+IsCauseAt g image_at refuses opens closes old path new Missing = ⊥
+IsCauseAt g image_at refuses opens closes old path new (Unopened error) = refuses old path error new
+IsCauseAt g image_at refuses opens closes old path new (Refused fault) =
+    IsHandedBack g image_at opens closes old path new fault
 
 -- the files told that there is a file at the path, and then handed out the database
 abbrev pub OpensThere : {F S : Type 0} → (F → List ℕ → Bool → F → Type 0) → (F → List ℕ → Held S → F → Type 0)
@@ -78,12 +85,12 @@ OpensThere {F} tells opens old path new = (there : F) × tells old path false th
 
 -- the files told that there is no file at the path, and were asked nothing more; or that there is one, and the cause is
 -- that of its database
-abbrev pub IsCauseThere : {F S : Type 0} → Ghosts S → (F → List ℕ → Bool → F → Type 0)
+abbrev pub IsCauseThere : {F S : Type 0} → Ghosts S → (List ℕ → Image) → (F → List ℕ → Bool → F → Type 0)
     → (F → List ℕ → Error → F → Type 0) → (F → List ℕ → Held S → F → Type 0) → (F → Held S → F → Type 0)
     → F → List ℕ → F → OpenFault → Type 0
-IsCauseThere g tells refuses opens closes old path new Missing = tells old path true new
-IsCauseThere {F} g tells refuses opens closes old path new cause =
-    (there : F) × tells old path false there × IsCauseAt g refuses opens closes there path new cause
+IsCauseThere g image_at tells refuses opens closes old path new Missing = tells old path true new
+IsCauseThere {F} g image_at tells refuses opens closes old path new cause =
+    (there : F) × tells old path false there × IsCauseAt g image_at refuses opens closes there path new cause
 
 -- ---- what the definitions give
 

@@ -1,8 +1,9 @@
 -- A scan of the rowids of a table, one row at a time.
-use Rattle.std.specs.Prelude.{◌≡◌, ◌⊎◌, ℕ, ℤ, IsTrue, List, [], ◌∷◌, map, Option, Some, None}
+use Rattle.std.specs.Prelude.{◌≡◌, ◌⊎◌, ℕ, ℤ, IsTrue, List, [], ◌∷◌, map, Option, Some, None, IfSome}
 use Rattle.std.specs.List.{AllByRecursion}
 use Rattle.std.specs.Ordering.{int_cmp}
 use Rattle.std.specs.declared.cmp.Ordering.TheVariants.{Less}
+use Rattle.sqlite_rules.specs.Lists.{Has}
 use Rattle.sqlite_trees.specs.declared.store.Store.{Ghosts}
 use Rattle.sqlite_value.specs.Order.{column}
 use Rattle.sqlite.specs.declared.types.Value.TheVariants.{Int}
@@ -53,6 +54,7 @@ pub record HasScanned {S : Type 0} (g : Ghosts S) (sql : List ℕ) (held : Held 
   pub read : map (λ shown. column shown 0) given ≡ map Int ids
   pub rises : Rises ids
   pub top : IsLastOf ids last
+  pub met : IfSome last (Has ids)
 
 -- all that a connection shows is as it was
 pub record IsLeft (old new : State) : Type 0 where

@@ -1,8 +1,11 @@
 //! Taking over an open connection.
 ghost use Rattle.std.specs.Prelude.{◌≡◌, IsTrue, []};
 ghost use Rattle.sqlite.specs.Held.{state};
+ghost use Rattle.sqlite.specs.State.{HasCleanDisk};
+ghost use Rattle.hall_store.specs.Store.{Fails};
 ghost use Rattle.hall_sql.specs.Tables.{no_schema};
 ghost use Rattle.hall_sql.specs.Standing.{Adopts, Readies};
+ghost use Rattle.hall_sql.specs.AdoptCause.{AdoptFails};
 
 use crate::make::make;
 use crate::scan::check_all_rowids;
@@ -22,7 +25,9 @@ fn has_nothing(schema: &Schema) -> bool
 
 /// Makes the hall's tables where there is none, and looks through them where they stand.
 fn ready<S: Alter>(conn: &mut Connection<S>) -> Result<(), StoreFault>
-    ensures { Readies (state S.Store conn.old) (state S.Store conn.new) result }
+    ensures readies { Readies (state S.Store conn.old) (state S.Store conn.new) result }
+    ensures cause { HasCleanDisk (state S.Store conn.new)
+        → Fails (AdoptFails (state S.Store conn.old) (state S.Store conn.new)) result }
 {
     if !conn.is_autocommit() {
         return Err(StoreFault::Failed);
@@ -40,7 +45,9 @@ fn ready<S: Alter>(conn: &mut Connection<S>) -> Result<(), StoreFault>
 /// and so is an open transaction; a refused connection has the tables that it had. One that is taken over has no limit
 /// on the steps of a query any more.
 pub fn adopt<S: Alter>(conn: &mut Connection<S>) -> Result<(), StoreFault>
-    ensures { Adopts (state S.Store conn.old) (state S.Store conn.new) result }
+    ensures adopts { Adopts (state S.Store conn.old) (state S.Store conn.new) result }
+    ensures cause { HasCleanDisk (state S.Store conn.new)
+        → Fails (AdoptFails (state S.Store conn.old) (state S.Store conn.new)) result }
 {
     match ready(conn) {
         Ok(()) => {

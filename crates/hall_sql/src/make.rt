@@ -5,7 +5,9 @@ ghost use Rattle.sqlite.specs.State.{HasCleanDisk};
 ghost use Rattle.hall_sql.specs.Inside.{Carries};
 ghost use Rattle.hall_sql.specs.Tables.{no_schema};
 ghost use Rattle.hall_sql.specs.Standing.{Readies};
-ghost use Rattle.hall_sql.specs.Made.{Grows, HasGrown};
+ghost use Rattle.hall_sql.specs.Made.{Awaits, Grows, HasGrown, schema_before};
+ghost use Rattle.hall_sql.specs.Cause.{IsStoreCause};
+ghost use Rattle.hall_store.specs.Store.{Fails};
 
 use crate::calls::{fault_of, run_in};
 use crate::tables::{ALL, HallTable, table_text};
@@ -18,6 +20,9 @@ fn make_table<S: Alter>(tx: &mut Transaction<'_, S>, table: HallTable) -> Result
     ensures carries { Carries (state S.Store tx.old.conn.now) (state S.Store tx.new.conn.now) }
     ensures done { HasCleanDisk (state S.Store tx.new.conn.now) → IsTrue (state S.Store tx.old.conn.now).in_transaction
         → OnOk result (Grows table (state S.Store tx.old.conn.now) (state S.Store tx.new.conn.now)) }
+    ensures cause { HasCleanDisk (state S.Store tx.new.conn.now) → IsTrue (state S.Store tx.old.conn.now).in_transaction
+        → tx.old.conn.now.schema ≡ schema_before table
+        → Fails (IsStoreCause (state S.Store tx.old.conn.now) (state S.Store tx.new.conn.now)) result }
 {
     run_in(tx, table_text(table), &[])?;
     Ok(())
@@ -32,6 +37,9 @@ fn make_tables<S: Alter>(
     ensures carries { Carries (state S.Store tx.old.conn.now) (state S.Store tx.new.conn.now) }
     ensures done { HasCleanDisk (state S.Store tx.new.conn.now) → IsTrue (state S.Store tx.old.conn.now).in_transaction
         → OnOk result (HasGrown tables.now [] (state S.Store tx.old.conn.now) (state S.Store tx.new.conn.now)) }
+    ensures cause { HasCleanDisk (state S.Store tx.new.conn.now) → IsTrue (state S.Store tx.old.conn.now).in_transaction
+        → Awaits tables.now (state S.Store tx.old.conn.now).now
+        → Fails (IsStoreCause (state S.Store tx.old.conn.now) (state S.Store tx.new.conn.now)) result }
 {
     for table in tables {
         make_table(tx, *table)?;
@@ -45,7 +53,9 @@ pub(crate) fn make<S: Alter>(conn: &mut Connection<S>) -> Result<(), StoreFault>
     requires settled { IsTrue (state S.Store conn.old).is_open
         → (state S.Store conn.old).now ≡ (state S.Store conn.old).committed }
     requires bare { conn.old.schema ≡ no_schema }
-    ensures { Readies (state S.Store conn.old) (state S.Store conn.new) result }
+    ensures readies { Readies (state S.Store conn.old) (state S.Store conn.new) result }
+    ensures cause { HasCleanDisk (state S.Store conn.new)
+        → Fails (IsStoreCause (state S.Store conn.old) (state S.Store conn.new)) result }
 {
     let mut tx = conn.transaction();
     make_tables(&mut tx, &ALL)?;

@@ -3,6 +3,7 @@ ghost use Rattle.std.specs.Prelude.{◌≡◌, IfOk, IfErr, OnOk};
 ghost use Rattle.sqlite.specs.Held.{state};
 ghost use Rattle.sqlite.specs.Steps.{over_memory};
 ghost use Rattle.hall_store.specs.Maps.{empty_world};
+ghost use Rattle.hall_store.specs.Store.{Fails};
 ghost use Rattle.hall_sql.specs.Standing.{content_of};
 ghost use Rattle.hall_sql.specs.Opened.{IsCauseAt, IsCauseThere, MemoryServes, OneWorldIsFound, OpensAt, OpensThere, Starts};
 
@@ -82,7 +83,7 @@ pub fn open_at<S: Alter + Drop, F: PathFiles<S>>(
 ) -> Result<SqlStore<S>, OpenFault>
     ensures opened { OnOk result (OpensAt F.opens files.old path.now files.new) }
     ensures starts { IfOk result (λ store. Starts (F.image_at path.now) (content_of (state S.Store store))) }
-    ensures cause { IfErr result (IsCauseAt S.Store F.refuses F.opens F.closes files.old path.now files.new) }
+    ensures cause { IfErr result (IsCauseAt S.Store F.image_at F.refuses F.opens F.closes files.old path.now files.new) }
 {
     let conn = match files.open(path) {
         Ok(conn) => conn,
@@ -105,7 +106,7 @@ pub fn open_there<S: Alter + Drop, F: PathFiles<S>>(
     ensures opened { OnOk result (OpensThere F.tells F.opens files.old path.now files.new) }
     ensures starts { IfOk result (λ store. Starts (F.image_at path.now) (content_of (state S.Store store))) }
     ensures cause { IfErr result
-        (IsCauseThere S.Store F.tells F.refuses F.opens F.closes files.old path.now files.new) }
+        (IsCauseThere S.Store F.image_at F.tells F.refuses F.opens F.closes files.old path.now files.new) }
 {
     if files.is_missing(path) {
         return Err(OpenFault::Missing);
@@ -115,7 +116,8 @@ pub fn open_there<S: Alter + Drop, F: PathFiles<S>>(
 
 /// The hall's tables in memory, without a row.
 pub fn open_in_memory(alloc: Global) -> Result<SqlStore<MemStore>, StoreFault>
-    ensures { IfOk result (λ store. (content_of (state over_memory store)).world ≡ empty_world) }
+    ensures empty { IfOk result (λ store. (content_of (state over_memory store)).world ≡ empty_world) }
+    ensures cause { Fails ⊥ result }
 {
     let conn = Connection::open_in_memory(alloc)?;
     match SqlStore::over(conn) {

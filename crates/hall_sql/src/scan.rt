@@ -1,10 +1,12 @@
 //! Whether the rowids of a table are integers, of which none stands twice.
-ghost use Rattle.std.specs.Prelude.{◌≡◌, IsTrue, IfOk, OnOk, OnErr};
+ghost use Rattle.std.specs.Prelude.{◌≡◌, IsTrue, IfOk, OnOk, OnErr, [], ◌∷◌};
 ghost use Rattle.sqlite.specs.Held.{state};
 ghost use Rattle.sqlite.specs.State.{HasCleanDisk, IsUnchanged};
 ghost use Rattle.hall_sql.specs.Tables.{hall_schema};
 ghost use Rattle.hall_sql.specs.Standing.{Rests, Lasts};
 ghost use Rattle.hall_sql.specs.Scan.{IsAbove, Scanned, IsTableKeyed, AreScanned};
+ghost use Rattle.hall_sql.specs.AdoptCause.{NextFails, ScanFails};
+ghost use Rattle.hall_store.specs.Store.{Fails};
 
 use crate::calls::fault_of;
 use crate::tables::{HallTable, rowids_text};
@@ -12,7 +14,8 @@ use hall_store::StoreFault;
 use sqlite::{Alter, Connection, Rows};
 
 fn is_above(last: Option<i64>, id: i64) -> bool
-    ensures { IsTrue result → IsAbove last id }
+    ensures is { IsTrue result → IsAbove last id }
+    ensures only { IsAbove last id → IsTrue result }
 {
     match last {
         None => true,
@@ -28,6 +31,8 @@ fn next_id<S: Alter>(rows: &mut Rows<'_, S>, last: Option<i64>) -> Result<Option
         → Rests (state S.Store rows.old.conn.now) (state S.Store rows.new.conn.now) }
     ensures scanned { HasCleanDisk (state S.Store rows.new.conn.now)
         → IfOk result (Scanned S.Store rows.old.conn.now rows.new.conn.now last) }
+    ensures cause { HasCleanDisk (state S.Store rows.new.conn.now)
+        → Fails (NextFails S.Store rows.old.conn.now rows.new.conn.now last) result }
 {
     if let Err(error) = rows.advance() {
         return Err(fault_of(&error));
@@ -35,8 +40,9 @@ fn next_id<S: Alter>(rows: &mut Rows<'_, S>, last: Option<i64>) -> Result<Option
     let Some(row) = rows.get() else {
         return Ok(None);
     };
-    let Ok(id) = row.get::<i64>(0) else {
-        return Err(StoreFault::Failed);
+    let id = match row.get::<i64>(0) {
+        Ok(id) => id,
+        Err(error) => return Err(fault_of(&error)),
     };
     if is_above(last, id) {
         Ok(Some(id))
@@ -54,6 +60,8 @@ fn check_rowids<S: Alter>(conn: &mut Connection<S>, table: HallTable) -> Result<
     ensures scanned { HasCleanDisk (state S.Store conn.new)
         → OnOk result (IsUnchanged (state S.Store conn.old) (state S.Store conn.new)
         × IsTableKeyed (state S.Store conn.old) table) }
+    ensures cause { HasCleanDisk (state S.Store conn.new)
+        → Fails (ScanFails (table ∷ []) (state S.Store conn.old) (state S.Store conn.new)) result }
 {
     let mut rows = match conn.query(rowids_text(table), &[]) {
         Ok(rows) => rows,
@@ -66,7 +74,8 @@ fn check_rowids<S: Alter>(conn: &mut Connection<S>, table: HallTable) -> Result<
         };
         last = Some(id);
     }
-    Err(StoreFault::Failed)
+    // As many rows as the loop has rounds have no room anywhere.
+    Err(StoreFault::Memory)
 }
 
 /// So of each of the tables.
@@ -80,6 +89,8 @@ pub(crate) fn check_all_rowids<S: Alter>(
         → OnErr result (Rests (state S.Store conn.old) (state S.Store conn.new)) }
     ensures scanned { HasCleanDisk (state S.Store conn.new)
         → OnOk result (AreScanned tables.now (state S.Store conn.old) (state S.Store conn.new)) }
+    ensures cause { HasCleanDisk (state S.Store conn.new)
+        → Fails (ScanFails tables.now (state S.Store conn.old) (state S.Store conn.new)) result }
 {
     for table in tables {
         check_rowids(conn, *table)?;

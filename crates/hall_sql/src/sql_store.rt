@@ -1,6 +1,9 @@
 //! The store over SQL tables.
 ghost use Rattle.std.specs.Prelude.{◌≡◌, IfOk, IfErr};
 ghost use Rattle.sqlite.specs.Held.{state};
+ghost use Rattle.sqlite.specs.State.{HasCleanDisk};
+ghost use Rattle.hall_store.specs.declared.fault.StoreFault.TheVariants.{Failed};
+ghost use Rattle.hall_sql.specs.AdoptCause.{AdoptFails};
 ghost use Rattle.hall_sql.specs.Standing.{HasAdopted, HasDeclined, IsHall};
 
 use crate::adoption::adopt;
@@ -57,6 +60,8 @@ impl<S: Alter + Drop> SqlStore<S> {
     pub fn over(mut conn: Connection<S>) -> Result<SqlStore<S>, Declined<S>>
         ensures adopted { IfOk result (λ store. HasAdopted (state S.Store conn) (state S.Store store)) }
         ensures declined { IfErr result (λ declined. HasDeclined (state S.Store conn) (state S.Store declined.conn)) }
+        ensures cause { IfErr result (λ declined. HasCleanDisk (state S.Store declined.conn) → declined.fault ≡ Failed
+            → AdoptFails (state S.Store conn) (state S.Store declined.conn)) }
     {
         match adopt(&mut conn) {
             Ok(()) => Ok(SqlStore { conn }),

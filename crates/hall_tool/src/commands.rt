@@ -61,8 +61,8 @@ pub fn task_at<S: Alter + Drop, F: PathFiles<S>, N, K: Task<N>, R: Read, W: Writ
     reader: &mut Counted<R>,
     writer: &mut Counted<W>,
 ) -> Result<u8, CommandFault>
-    ensures { IsTaskAt F.image_at (OpensThere F.tells F.opens) (IsCauseThere S.Store F.tells F.refuses F.opens F.closes)
-        F.closes (λ s. content_of (state S.Store s))
+    ensures { IsTaskAt F.image_at (OpensThere F.tells F.opens)
+        (IsCauseThere S.Store F.image_at F.tells F.refuses F.opens F.closes) F.closes (λ s. content_of (state S.Store s))
         (K.does (Held S) R W (λ s. content_of (state S.Store s)) TablesCanFail R.remaining W.contents task.now)
         db.now files.old files.new host.old host.new reader.old reader.new writer.old writer.new result }
 {
@@ -83,8 +83,8 @@ pub fn init_at<S: Alter + Drop, F: PathFiles<S>, N, R: Read, W: Write>(
     reader: &mut Counted<R>,
     writer: &mut Counted<W>,
 ) -> Result<u8, CommandFault>
-    ensures { IsInitAt F.image_at F.gives F.withholds (OpensAt F.opens) (IsCauseAt S.Store F.refuses F.opens F.closes)
-        F.closes (λ s. content_of (state S.Store s)) W.contents db.now people.now files.old files.new
+    ensures { IsInitAt F.image_at F.gives F.withholds (OpensAt F.opens)
+        (IsCauseAt S.Store F.image_at F.refuses F.opens F.closes) F.closes (λ s. content_of (state S.Store s)) W.contents db.now people.now files.old files.new
         host.old host.new reader.old reader.new writer.old writer.new result }
 {
     let list = match files.read(people) {

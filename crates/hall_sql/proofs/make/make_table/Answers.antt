@@ -1,5 +1,7 @@
 use Rattle.sqlite.specs.Held.{state}
+use Rattle.hall_sql.proofs.CauseLemmas.{fails_as}
 use Rattle.hall_sql.proofs.MakeLemmas.{made_next}
+use Rattle.hall_sql.proofs.MakeCauseLemmas.{making_cause}
 use Rattle.hall_sql.proofs.make.make_table.Goals as goal
 
 pub returns-clause-done : goal.returns-clause-done
@@ -9,3 +11,9 @@ returns-clause-done g c clean inside =
       mode = it.mode clean inside;
       made = made_next c.args.table (state g.S.Store c.args.tx.now.conn.now) (state g.S.Store c.run_in.new.tx.conn.now) _ (rw c.table_text.ensures at it.runs clean inside);
     }
+
+pub returns-in_err-run_in-clause-cause : goal.returns-in_err-run_in-clause-cause
+returns-in_err-run_in-clause-cause g c clean inside has =
+    fails_as c.from_residual.result _ _ c.from_residual.ensures.1 (λ failed.
+    let it = rw c.table_text.ensures at c.in_err-run_in.ensures.cause clean inside failed in
+    making_cause c.args.table (state g.S.Store c.args.tx.now.conn.now) (state g.S.Store c.run_in.new.tx.conn.now) it.0 it.1 has it.2)

@@ -4,7 +4,6 @@ use Rattle.sqlite.specs.Held.{state}
 use Rattle.hall_sql.proofs.PeopleTexts.{person_is, person_asked}
 use Rattle.hall_sql.proofs.PeopleLemmas.{person_found}
 use Rattle.hall_sql.proofs.InsideLemmas.{shown_did}
-use Rattle.sqlite.specs.State.{HasCleanDisk}
 use Rattle.sqlite.specs.declared.types.Value.TheVariants.{Text}
 use Rattle.hall_sql.specs.Statements.{person_text}
 use Rattle.hall_sql.proofs.CauseLemmas.{fails_as}

@@ -1,4 +1,4 @@
-use Rattle.std.proofs.Common.{rules, arith, ◌≡◌, ◌∙◌, Some, None, refl, sym, ap, subst}
+use Rattle.std.proofs.Common.{rules, arith, [], ◌∷◌, ◌≡◌, ◌∙◌, Some, None, refl, sym, ap, subst}
 use Rattle.sqlite.specs.Effect.{Database}
 use Rattle.sqlite.specs.Held.{state}
 use Rattle.sqlite.specs.State.{HasCleanDisk, IsUnchanged}
@@ -7,9 +7,12 @@ use Rattle.hall_sql.specs.Tables.{hall_schema}
 use Rattle.hall_sql.specs.Standing.{AreKeyed}
 use Rattle.hall_sql.specs.Statements.{rowids_text}
 use Rattle.hall_sql.specs.Scan.{tree_of, Scanned}
-use Rattle.hall_sql.proofs.LastLemmas.{survived, last_then}
+use Rattle.hall_sql.proofs.LastLemmas.{last_none, survived, last_then}
 use Rattle.hall_sql.proofs.CallLemmas.{query_refused}
 use Rattle.hall_sql.proofs.ScanLemmas.{scan_begun, scanned_end, scanned_more, ints_chain}
+use Rattle.hall_sql.specs.AdoptCause.{ScanFails}
+use Rattle.hall_sql.proofs.CauseLemmas.{fails_as}
+use Rattle.hall_sql.proofs.ScanCauseLemmas.{asks_cause, next_cause}
 use Rattle.hall_sql.proofs.scan.check_rowids.Goals as goal
 
 pub returns-in-Err-clause-rests : goal.returns-in-Err-clause-rests
@@ -61,3 +64,29 @@ scan-preserved g c =
           let here = scanned_more g.S.Store (rowids_text c.args.table) c.scan.rows.conn.now c.next_id.new.rows.conn.now c.scan.last c.in-Some.id ints_chain so.1 it in
           (unchanged_then old before after so.0 it.0, search rules),
     )
+
+pub returns-in-Err-clause-cause : goal.returns-in-Err-clause-cause
+returns-in-Err-clause-cause g c clean failed =
+    let old = state g.S.Store c.args.conn.now in
+    let new = state g.S.Store c.query.follows.lender-at-none in
+    let held = c.query.follows.holds-at-none in
+    let refused = rw c.in-Err.is at held in
+    let was : HasCleanDisk old = omega (arith, refused.survives.clean, clean) in
+    asks_cause c.args.table old old new c.in-Err.error (last_none old) was (survived old new _ refused.survives) (c.requires.schema was)
+    (c.fault_of.ensures failed) (rw c.rowids_text.ensures at refused.err clean)
+
+pub returns-in_err-id-clause-cause : goal.returns-in_err-id-clause-cause
+returns-in_err-id-clause-cause g c clean =
+    let old = state g.S.Store c.args.conn.now in
+    let before = state g.S.Store c.scan.rows.conn.now in
+    let after = state g.S.Store c.next_id.new.rows.conn.now in
+    let same : c.conn-in_err-id-1.given.0 ≡ c.next_id.new.rows.conn.now = search rules in
+    let late : HasCleanDisk after = subst (λ h. HasCleanDisk (state g.S.Store h)) same clean in
+    let mid : HasCleanDisk before = omega (arith, c.next_id.ensures.lasts.clean, late) in
+    let was : HasCleanDisk old = omega (arith, c.scan.invariant.1.clean, mid) in
+    let so = c.scan.invariant.2 mid in
+    let has : c.scan.rows.conn.now.schema ≡ hall_schema = ap (λ (d : Database). d.schema) so.0.0.now_is ∙ c.requires.schema was in
+    fails_as c.from_residual.result _ _ c.from_residual.ensures.1 (λ failed.
+    subst (λ h. ScanFails (c.args.table ∷ []) old (state g.S.Store h)) (sym same)
+    (next_cause g.S.Store c.args.table old c.scan.rows.conn.now c.next_id.new.rows.conn.now c.scan.last c.scan.invariant.1 mid c.next_id.ensures.lasts
+    so.0 has so.1 (c.in_err-id.ensures.cause late failed)))
