@@ -84,8 +84,8 @@ pub fn init_at<S: Alter + Drop, F: PathFiles<S>, N, R: Read, W: Write>(
     writer: &mut Counted<W>,
 ) -> Result<u8, CommandFault>
     ensures { IsInitAt F.image_at F.gives F.withholds (OpensAt F.opens)
-        (IsCauseAt S.Store F.image_at F.refuses F.opens F.closes) F.closes (λ s. content_of (state S.Store s)) W.contents db.now people.now files.old files.new
-        host.old host.new reader.old reader.new writer.old writer.new result }
+        (IsCauseAt S.Store F.image_at F.refuses F.opens F.closes) F.closes (λ s. content_of (state S.Store s)) W.contents
+        db.now people.now files.old files.new host.old host.new reader.old reader.new writer.old writer.new result }
 {
     let list = match files.read(people) {
         Ok(list) => list,
