@@ -4,9 +4,10 @@ use Rattle.hall_solve.specs.declared.visit.Visited.{Visited}
 use Rattle.hall_solve.specs.declared.visit.Visited.TheVariants.{Open}
 use Rattle.hall_solve.specs.Visit.{IsVisit}
 use Rattle.hall_solve.proofs.Boards.{same_twice}
-use Rattle.hall_solve.proofs.Underway.{IsEnded, AreMade-grows, answer_of, opened_after, turned_among, turning_after, outcome_all, gave_up}
+use Rattle.hall_solve.proofs.Underway.{IsEnded, IsTurning, AreMade-grows, answer_of, opened_after, turned_among, turning_after, outcome_all, gave_up}
 use Rattle.hall_solve.proofs.explore.search.Goals as goal
-use Rattle.hall_solve.proofs.explore.search.Goals.{in-Open+in_ok-descend-in-Open+else-not-is_refused, in-Closed, in-Whole+in-None, in-None-found, in-Some-found}
+use Rattle.hall_solve.proofs.explore.search.Given.{Over}
+use Rattle.hall_solve.proofs.explore.search.Goals.{After-turn, in-Open+in_ok-descend-in-Open+else-not-is_refused, in-Closed, in-Whole+in-None, in-None-found, in-Some-found}
 
 pub descend-requires-clause-made : goal.descend-requires-clause-made
 descend-requires-clause-made g c =
@@ -67,8 +68,10 @@ turn-requires g c =
     let turning = turning_after q r s c.args.start.now.places c.visiting.board c.visit.new.partial c.visiting.stack.items (g.R.Rules.visits c.visiting.rules) visits c.in_ok-place.field-0 c.visiting.found m rest found c.visiting.invariant.same same c.visiting.invariant.under_way c.in_ok-place.ensures.visit c.visit.ensures.counted ended in
     record { partial = record { size = turning.partial.size ∙ sym same.cells; in_range = λ i v at. rw same.values (turning.partial.in_range i v at) }; made = turning.made }
 
-pub returns-then-not-turn-clause-outcome : goal.returns-then-not-turn-clause-outcome
-returns-then-not-turn-clause-outcome g c =
+-- after a visit below which nothing is left
+turning : (g : Over) (c : After-turn g)
+    → IsTurning (g.R.Rules.question c.args.rules.now) c.args.start.now.places c.match-branch-4.board c.match-branch-4.stack.items c.match-branch-4.found (g.R.Rules.visits c.visit.new.rules)
+turning g c =
     let q = g.R.Rules.question c.args.rules.now in
     let r = g.R.Rules.question c.visiting.rules in
     let s = g.R.Rules.question c.visit.new.rules in
@@ -94,13 +97,24 @@ returns-then-not-turn-clause-outcome g c =
         w.found-is,
       )
     ] in
-    let turning = turning_after q r s c.args.start.now.places c.visiting.board c.visit.new.partial c.visiting.stack.items (g.R.Rules.visits c.visiting.rules) visits c.in_ok-place.field-0 c.visiting.found m rest found c.visiting.invariant.same same c.visiting.invariant.under_way c.in_ok-place.ensures.visit c.visit.ensures.counted ended in
+    turning_after q r s c.args.start.now.places c.visiting.board c.visit.new.partial c.visiting.stack.items (g.R.Rules.visits c.visiting.rules) visits c.in_ok-place.field-0 c.visiting.found m rest found c.visiting.invariant.same same c.visiting.invariant.under_way c.in_ok-place.ensures.visit c.visit.ensures.counted ended
+
+pub returns-then-not-turn-clause-outcome : goal.returns-then-not-turn-clause-outcome
+returns-then-not-turn-clause-outcome g c =
+    let q = g.R.Rules.question c.args.rules.now in
+    let s = g.R.Rules.question c.visit.new.rules in
+    let visits = g.R.Rules.visits c.visit.new.rules in
+    let m = c.match-branch-4.board in
+    let rest = c.match-branch-4.stack.items in
+    let found = c.match-branch-4.found in
+    let same = same_twice q (g.R.Rules.question c.visiting.rules) s c.visiting.invariant.same c.visit.ensures.same in
+    let ended = turning g (goal.at.returns-then-not-turn-clause-outcome g c).After-turn in
     let told : c.match-found-5.result ≡ answer_of found = elim c.match-found-5.branch [
       | in-None-found w ↦ rw w.in-None-found.is w.result-is
       | in-Some-found w ↦ rw w.in-Some-found.is w.result-is
     ] in
     let off : c.turn.result ≡ false = cc in
-    outcome_all q s c.args.start.now.places m rest visits c.args.budget found c.match-found-5.result same turning (c.turn.ensures.over off) told (omega (arith, c.visit.ensures.counted, c.visiting-test.true, c.visits.ensures))
+    outcome_all q s c.args.start.now.places m rest visits c.args.budget found c.match-found-5.result same ended (c.turn.ensures.over off) told (omega (arith, c.visit.ensures.counted, c.visiting-test.true, c.visits.ensures))
 
 pub returns-then-not-turn-clause-frugal : goal.returns-then-not-turn-clause-frugal
 returns-then-not-turn-clause-frugal g c =
@@ -111,38 +125,20 @@ returns-then-not-turn-clause-frugal g c =
 pub visiting-preserved : goal.visiting-preserved
 visiting-preserved g c =
     let q = g.R.Rules.question c.args.rules.now in
-    let r = g.R.Rules.question c.visiting.rules in
     let s = g.R.Rules.question c.visit.new.rules in
     let visits = g.R.Rules.visits c.visit.new.rules in
     let m = c.match-branch-4.board in
     let rest = c.match-branch-4.stack.items in
     let found = c.match-branch-4.found in
-    let same = same_twice q r s c.visiting.invariant.same c.visit.ensures.same in
-    let ended : IsEnded s c.visit.new.partial c.visiting.stack.items c.visiting.found m rest found c.in_ok-place.field-0 = elim c.match-branch-4.branch [
-      | in-Closed w ↦ inl (inl (w.in-Closed.is, w.found-is), w.board-is, rw w.stack-is refl)
-      | in-Whole+in-None w ↦ inl (inr (w.in-Whole.filling, w.in-Whole.is, w.in-None.ensures.value, w.found-is), w.board-is, rw w.stack-is refl)
-      | in-Open+in_ok-descend-in-Open+else-not-is_refused w ↦ inr (
-        rw (w.board-is, w.stack-is) (let after = w.in_ok-descend-in-Open.ensures in record {
-          place = w.in-Open.place;
-          is = w.in-Open.is;
-          places = w.descend.ensures.places;
-          made = after.made;
-          trailed = after.trailed;
-          ahead = after.ahead;
-          paid = after.paid;
-          hopeless = w.is_refused.ensures.hopeless cc;
-        }),
-        w.found-is,
-      )
-    ] in
-    let turning = turning_after q r s c.args.start.now.places c.visiting.board c.visit.new.partial c.visiting.stack.items (g.R.Rules.visits c.visiting.rules) visits c.in_ok-place.field-0 c.visiting.found m rest found c.visiting.invariant.same same c.visiting.invariant.under_way c.in_ok-place.ensures.visit c.visit.ensures.counted ended in
+    let same = same_twice q (g.R.Rules.question c.visiting.rules) s c.visiting.invariant.same c.visit.ensures.same in
+    let ended = turning g (goal.at.visiting-preserved g c).After-turn in
     let on : IsTrue c.turn.result = cc in
     let after = c.turn.ensures in
     record {
       same = same;
       at_visits = c.visit.ensures.at_visits;
       within = omega (arith, c.visit.ensures.counted, c.visiting-test.true, c.visits.ensures);
-      under_way = turned_among q s c.args.start.now.places m rest visits found c.turn.new.board c.turn.new.stack.items same turning (after.partial on) (after.made on) (after.trailed on) (after.ahead on) (after.waited on) (after.paid on);
+      under_way = turned_among q s c.args.start.now.places m rest visits found c.turn.new.board c.turn.new.stack.items same ended (after.partial on) (after.made on) (after.trailed on) (after.ahead on) (after.waited on) (after.paid on);
     }
 
 pub returns-clause-outcome : goal.returns-clause-outcome
