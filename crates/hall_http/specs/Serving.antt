@@ -16,13 +16,13 @@ abbrev pub AnswersAt : World → Option ℕ → List ℕ → List ℕ → World 
 AnswersAt world (Some moment) request reply after = Answers world moment request reply after
 AnswersAt world None request reply after = BytesOf NotServed reply × (after ≡ world)
 
--- the same over a store, which stays as it is where the request asks nothing of it
+-- the same over a store, which stays as it is where the request asks nothing of it, or the clock told no moment
 pub record IsAnswered {H : Type 0} (content : H → Content) (old : H) (moment : Option ℕ) (request reply : List ℕ)
     (new : H) : Type 0 where
   pub leads : Leads (content old) (content new)
   pub answers : (content new).honest →
       Over (λ before after. AnswersAt before moment request reply after) (content old) (content new)
-  pub untouched : AsksNothing request → new ≡ old
+  pub untouched : AsksNothing request ⊎ (moment ≡ None) → new ≡ old
 
 -- the requests are answered over a store at the moments that a clock gives, one after another, each over the store that
 -- the one before it left: where a fault has shut it, by 503, or by what no store decides

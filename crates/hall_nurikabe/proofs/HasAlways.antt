@@ -1,8 +1,9 @@
 -- What regions of a partial filling say of its solutions.
-use Rattle.std.proofs.Common.{◌≡◌, ℕ, ◌<◌, List, Option, Some, None, length, get_or, sym, ◌∙◌, subst, inl, inr, arith}
+use Rattle.std.proofs.Common.{◌≡◌, ℕ, ◌<◌, List, Option, Some, None, length, get_or, refl, sym, ◌∙◌, subst, inl, inr, arith}
 use Rattle.std.specs.Prelude.{slice_get}
 use Rattle.std.proofs.lemmas.Bool.{cases_eq}
 use Rattle.hall_grid.specs.declared.board.Clue.TheVariants.{Number}
+use Rattle.hall_grid.specs.declared.board.Size.{Size}
 use Rattle.hall_grid.specs.declared.rule.Rule.TheVariants.{N3, N5, N6}
 use Rattle.hall_grid.specs.Board.{Board, cells, Touch}
 use Rattle.hall_grid.specs.Walk.{Walk, on}
@@ -11,7 +12,7 @@ use Rattle.hall_grid.specs.Component.{IsLabelled, AreComponents, LabelsDiffer}
 use Rattle.hall_grid.specs.RegionLaws.{Touch-turn}
 use Rattle.hall_grid.proofs.Labelling.{one_label, labelled_below}
 use Rattle.hall_grid.proofs.Walks.{Walk-map, Walk-join, Walk-start, Walk-end}
-use Rattle.hall_grid.proofs.AreComponents.{walk_from_label}
+use Rattle.hall_grid.proofs.AreComponents.{labelled_member, walk_from_label}
 use Rattle.hall_solve.specs.Question.{IsPartial, IsHopeless, Solves}
 use Rattle.hall_solve.specs.Deduction.{HasAlways}
 use Rattle.hall_nurikabe.specs.Counts.{HasCount}
@@ -21,6 +22,18 @@ use Rattle.hall_nurikabe.specs.Forced.{IsSetTo, IsOpenTo, AreRegions, AreOwners,
 use Rattle.hall_nurikabe.proofs.Marks.{numbered_below}
 use Rattle.hall_nurikabe.proofs.HasCount.{HasCount-within, HasCount-lacks, not_uncounted}
 use Rattle.hall_nurikabe.proofs.Solves.{set_wall, set_white, white_or_wall, wall_or_white, number_is_white, no_rule_broken}
+
+-- an open cell is in no group
+pub unlabelled : (size : Size) (p labels : List (Option ℕ)) → AreComponents (cells size) (Touch size) (IsSetTo p 0) labels → (cell : ℕ)
+    → get_or p cell None ≡ None → get_or labels cell None ≡ None
+unlabelled size p labels a cell bare = decide (get_or labels cell None) refl
+  where
+    decide : (o : Option ℕ) → get_or labels cell None ≡ o → get_or labels cell None ≡ None
+    decide None e = e
+    decide (Some label) e =
+        let white : get_or p cell None ≡ Some 0 = labelled_member (cells size) (Touch size) (IsSetTo p 0) labels a cell label e in
+        let clash : ◌≡◌ {A = Option ℕ} None (Some 0) = sym bare ∙ white in
+        absurd (cc)
 
 module _ (board : Board) (kind : board.kind ≡ Nurikabe) (p : List (Option ℕ)) (part : IsPartial (question_of Nurikabe board) p) where
   -- what is white in a solution isn't set to wall, and the other way round

@@ -13,6 +13,7 @@ ghost use Rattle.hall_nurikabe.specs.Steps.{AreStepsLeft};
 use crate::blocks::Blocks;
 use crate::exits::{exits_of, force_exits, growing_groups, roots};
 use crate::forced::{Forced, force_label, force_walls_beside};
+use crate::island::count_by_label;
 use crate::judge::{WALL, WHITE};
 use crate::position::Position;
 use crate::region::{Regions, is_between, keep_labels, owners, places_open_to, places_set_to};
@@ -21,10 +22,12 @@ use hall_grid::{Clue, Puzzle, labels_differ, regions};
 use hall_solve::{Deduce, Partial, Pass, sweep};
 use std::alloc::{AllocError, Global};
 
-/// All deductions, the cheap ones first.
+/// All deductions, the cheap ones first. Nothing followed before the trail was `settled` long, so that blocks are looked
+/// at only where something was set since. No promise rests on it.
 #[derive(Drop)]
 pub(crate) struct Deductions<'a> {
     pub(crate) puzzle: &'a Puzzle,
+    pub(crate) settled: usize,
     pub(crate) ghost kind: { puzzle.now.kind ≡ Nurikabe },
 }
 
@@ -32,13 +35,13 @@ impl Deduce for Deductions<'_> {
     ghost question = { λ deductions. question_of Nurikabe deductions.puzzle.now };
 
     fn pass(&self, alloc: Global, partial: &mut Partial) -> Result<Pass, AllocError> {
-        match sweep(
-            alloc,
-            &Blocks {
-                puzzle: self.puzzle,
-            },
-            partial,
-        )? {
+        let news = partial.trail().len().saturating_sub(self.settled);
+        let blocks = Blocks {
+            puzzle: self.puzzle,
+            first: self.settled,
+            count: news.saturating_mul(4),
+        };
+        match sweep(alloc, &blocks, partial)? {
             Pass::Settled => {}
             pass => return Ok(pass),
         }
@@ -65,7 +68,19 @@ fn sweep_forced(
     sweep(alloc, &Forced { puzzle, values }, partial)
 }
 
+/// Whether a value of the list isn't set yet. No promise rests on it: what is dear is looked at only where this says no.
+fn has_news(partial: &Partial, values: &[Option<u8>]) -> bool {
+    for (place, value) in partial.as_slice().iter().zip(values) {
+        if value.is_some() && place != value {
+            return true;
+        }
+    }
+    false
+}
+
 /// The values that follow from regions of cells, none at all where there is no solution.
+///
+/// What costs less is looked at first, and what costs more only where that says nothing new.
 fn forced_by_regions(
     alloc: Global,
     puzzle: &Puzzle,
@@ -78,13 +93,19 @@ fn forced_by_regions(
 {
     let mut forced = vec![in alloc; None; puzzle.cells()]?;
     let position = Position { puzzle, partial };
-    if are_walls_apart(alloc, &position)? {
-        return Ok(None);
-    }
     if look_at_groups(alloc, &position, &mut forced)? {
         return Ok(None);
     }
+    if has_news(partial, &forced) {
+        return Ok(Some(forced));
+    }
     if look_at_walls(alloc, &position, &mut forced)? {
+        return Ok(None);
+    }
+    if has_news(partial, &forced) {
+        return Ok(Some(forced));
+    }
+    if are_walls_apart(alloc, &position)? {
         return Ok(None);
     }
     if look_at_reaches(alloc, &position, &mut forced)? {
@@ -143,11 +164,16 @@ fn force_groups(
         return Ok(true);
     }
     force_walls_beside(position, labels, sizes, &owners, forced);
-    let left = steps_left(alloc, position, labels, sizes, &owners)?;
-    wall_far_cells(position, labels, sizes, &owners, &left, forced);
     let exits = exits_of(alloc, position, labels)?;
     let growing = growing_groups(alloc, position.puzzle, labels, sizes, &owners)?;
-    Ok(force_exits(position, labels, &exits, WHITE, &growing, forced))
+    if force_exits(position, labels, &exits, WHITE, &growing, forced) {
+        return Ok(true);
+    }
+    if !has_news(position.partial, forced) {
+        let left = steps_left(alloc, position, labels, sizes, &owners)?;
+        wall_far_cells(position, labels, sizes, &owners, &left, forced);
+    }
+    Ok(false)
 }
 
 /// Forces what walls need to be joined; tells whether they leave no solution.
@@ -184,7 +210,9 @@ fn look_at_reaches(
 {
     let open = places_open_to(alloc, position.partial, WALL)?;
     let reaches = Regions::new(alloc, position.puzzle.size(), &open)?;
-    Ok(fill_reaches(position, &reaches.labels, &reaches.sizes, forced))
+    let white = places_set_to(alloc, position.partial, WHITE)?;
+    let filled = count_by_label(alloc, &reaches.labels, &white)?;
+    Ok(fill_reaches(position, &reaches.labels, &reaches.sizes, &filled, forced))
 }
 
 /// Forces walls where no number comes.
@@ -226,7 +254,7 @@ fn part_groups(
 {
     let size = position.puzzle.size();
     for cell in 0..position.puzzle.cells() {
-        if is_between(size, labels, owners, cell) {
+        if position.partial.get(cell).is_none() && is_between(size, labels, owners, cell) {
             forced[cell] = Some(WALL);
         }
     }
@@ -251,15 +279,18 @@ fn is_group_large(position: &Position, labels: &[Option<usize>], sizes: &[usize]
     false
 }
 
-/// Forces white cells where a number has no more room than it needs; tells whether one has too little.
+/// Forces white cells where a number has no more room than it needs and not all of it is white; tells whether one has
+/// too little.
 fn fill_reaches(
     position: &Position,
     labels: &[Option<usize>],
     sizes: &[usize],
+    filled: &[usize],
     forced: &mut [Option<u8>],
 ) -> bool
     requires reaches { AreRegions position.now.puzzle.now.size (IsOpenTo position.now.partial.now.places 1)
         labels.now sizes.now }
+    requires filled { length filled.now ≡ cells position.now.puzzle.now.size }
     requires forced { AreForced position.now.puzzle.now position.now.partial.now.places forced.old }
     ensures dead { IsTrue result
         → IsHopeless (question_of Nurikabe position.now.puzzle.now) position.now.partial.now.places }
@@ -272,7 +303,7 @@ fn fill_reaches(
                 if size < usize::from(given) {
                     return true;
                 }
-                if size == usize::from(given) {
+                if size == usize::from(given) && filled[label] < size {
                     force_label(position, labels, label, WHITE, forced);
                 }
             }

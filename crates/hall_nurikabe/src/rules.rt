@@ -12,11 +12,13 @@ use std::marker::Model;
 /// Up to how many visits a search makes no trials.
 const PLAIN_VISITS: u64 = 50;
 
-/// The rules of one puzzle, the cell to try next, and counts of what a search asked.
+/// The rules of one puzzle, the cell to try next, how long the trail was when the deductions left nothing to find, and
+/// counts of what a search asked.
 #[derive(Drop)]
 pub struct NurikabeRules<'a> {
     puzzle: &'a Puzzle,
     next: Option<usize>,
+    settled: usize,
     visits: u64,
     asked: u64,
 }
@@ -45,6 +47,7 @@ impl<'a> NurikabeRules<'a> {
         NurikabeRules {
             puzzle,
             next: None,
+            settled: 0,
             visits: 0,
             asked: 0,
         }
@@ -81,11 +84,14 @@ impl<'a> Rules for NurikabeRules<'a> {
         self.visits += 1;
         let deductions = DeductionsAndTrials {
             puzzle: self.puzzle,
+            // A search sets one place between two visits, and takes back what it set since a visit that left nothing to find.
+            settled: self.settled.min(partial.trail().len().saturating_sub(1)),
             tries: self.visits > PLAIN_VISITS,
         };
         match settle(alloc, &deductions, partial)? {
             Step::Dead => Ok(Step::Dead),
             Step::Live => {
+                self.settled = partial.trail().len();
                 self.next = next_cell(alloc, self.puzzle, partial)?;
                 Ok(Step::Live)
             }

@@ -13,32 +13,32 @@ use hall_grid::{Puzzle, neighbours};
 use hall_solve::{Deduce, Finding, Look, Partial, Pass, Step, settle, sweep};
 use std::alloc::{AllocError, Global};
 
-/// Tries both values at open cells.
+/// Tries both values at open cells, where nothing follows before the trail is `settled` long.
 #[derive(Drop)]
 struct Trials<'a> {
     puzzle: &'a Puzzle,
+    settled: usize,
     ghost kind: { puzzle.now.kind ≡ Nurikabe },
 }
 
 /// Sets the open cell to the value, and what follows; the partial filling stays as it was.
 fn try_value(
     alloc: Global,
-    puzzle: &Puzzle,
+    deductions: &Deductions,
     partial: &mut Partial,
     cell: usize,
     value: u8,
 ) -> Result<Step, AllocError>
-    requires kind { puzzle.now.kind ≡ Nurikabe }
-    requires partial { IsPartial (question_of Nurikabe puzzle.now) partial.old.places }
+    requires partial { IsPartial (question_of Nurikabe deductions.now.puzzle.now) partial.old.places }
     requires cell { IsOpen partial.old.places cell }
     requires value { value < 2 }
     ensures dead { IfOk result (λ step. step ≡ Step.Dead
-        → IsHopeless (question_of Nurikabe puzzle.now) (slice_set partial.old.places cell (Some value))) }
+        → IsHopeless (question_of Nurikabe deductions.now.puzzle.now) (slice_set partial.old.places cell (Some value))) }
     ensures kept { partial.new ≡ partial.old }
 {
     let mark = partial.mark();
     partial.set(cell, value);
-    let step = settle(alloc, &Deductions { puzzle }, partial);
+    let step = settle(alloc, deductions, partial);
     partial.undo_to(mark);
     step
 }
@@ -80,10 +80,14 @@ impl Look for Trials<'_> {
         if !is_worth_trying(self.puzzle, partial, spot) {
             return Ok(Finding::Nothing);
         }
-        if let Step::Dead = try_value(alloc, self.puzzle, partial, spot, WHITE)? {
+        let deductions = Deductions {
+            puzzle: self.puzzle,
+            settled: self.settled,
+        };
+        if let Step::Dead = try_value(alloc, &deductions, partial, spot, WHITE)? {
             return Ok(Finding::Must(spot, WALL));
         }
-        if let Step::Dead = try_value(alloc, self.puzzle, partial, spot, WALL)? {
+        if let Step::Dead = try_value(alloc, &deductions, partial, spot, WALL)? {
             return Ok(Finding::Must(spot, WHITE));
         }
         Ok(Finding::Nothing)
@@ -94,6 +98,7 @@ impl Look for Trials<'_> {
 #[derive(Drop)]
 pub(crate) struct DeductionsAndTrials<'a> {
     pub(crate) puzzle: &'a Puzzle,
+    pub(crate) settled: usize,
     pub(crate) tries: bool,
     pub(crate) ghost kind: { puzzle.now.kind ≡ Nurikabe },
 }
@@ -104,6 +109,7 @@ impl Deduce for DeductionsAndTrials<'_> {
     fn pass(&self, alloc: Global, partial: &mut Partial) -> Result<Pass, AllocError> {
         let plain = Deductions {
             puzzle: self.puzzle,
+            settled: self.settled,
         };
         match plain.pass(alloc, partial)? {
             Pass::Settled if self.tries => sweep_trials(alloc, self.puzzle, partial),
@@ -120,5 +126,6 @@ fn sweep_trials(alloc: Global, puzzle: &Puzzle, partial: &mut Partial) -> Result
     ensures err { OnErr result (Narrows (question_of Nurikabe puzzle.now) partial.old.places partial.new.places) }
     ensures grows { Grows partial.old partial.new }
 {
-    sweep(alloc, &Trials { puzzle }, partial)
+    let settled = partial.trail().len();
+    sweep(alloc, &Trials { puzzle, settled }, partial)
 }

@@ -72,7 +72,7 @@ rested old new hall lasts h =
     let same = λ (clean : HasCleanDisk new) (opens : IsTrue new.is_open). rest_same old new (it clean) (held clean opens).0 opens in
     record {
       hall = record {
-        unlimited = lasts.unlimited hall.unlimited;
+        unlimited = lasts.limit ∙ hall.unlimited;
         autocommit = λ clean. ends_mode old new (it clean) (hall.autocommit (before clean));
         keyed = λ clean opens. subst (λ (d : Database). AreAllKeyed d.trees) (sym (same clean opens).0) (hall.keyed (before clean) (was_open old new (it clean) opens));
         settled = λ clean opens. ((same clean opens).0 ∙ (held clean opens).0 ∙ sym (same clean opens).1, ap (λ (d : Database). d.schema) (same clean opens).0 ∙ (held clean opens).1);

@@ -1,6 +1,7 @@
 -- What calls for each item of a list leave inside a transaction.
-use Rattle.std.proofs.Common.{◌≡◌, ◌<◌, ◌+◌, ◌||◌, ℕ, zero, suc, List, [], ◌∷◌, Bool, true, false, drop, get_or, length, refl, sym, ap, subst, ◌∙◌, arith}
+use Rattle.std.proofs.Common.{◌≡◌, ◌<◌, ◌+◌, ◌||◌, ◌++◌, ℕ, zero, suc, List, [], ◌∷◌, Bool, true, false, drop, take, get_or, length, refl, sym, ap, subst, ◌∙◌, arith}
 use Rattle.std.proofs.lemmas.Bool.{and_parts, and_from}
+use Rattle.std.proofs.lemmas.List.{take_more}
 use Rattle.std.specs.List.{list_any}
 use Rattle.std.proofs.Math.Numerals.{add-one}
 use Rattle.std.proofs.Math.Seq.{drop-cons}
@@ -16,7 +17,8 @@ use Rattle.hall_sql.specs.Made.{Awaits, Grows, HasGrown, schema_before}
 use Rattle.hall_sql.specs.Rows.{person_of, world_of}
 use Rattle.hall_sql.specs.Inside.{Did, Changes}
 use Rattle.hall_sql.specs.Spared.{has_key, may_write, Spares}
-use Rattle.hall_sql.proofs.InsideLemmas.{did_then}
+use Rattle.hall_sql.specs.WriteCause.{ImportsOne, ImportsEach}
+use Rattle.hall_sql.proofs.InsideLemmas.{did_then, did_both}
 use Rattle.hall_sql.proofs.SparedLemmas.{then_spared, wider_spared}
 
 -- an item of the list, and those after it
@@ -36,10 +38,12 @@ pub next_grows : (tables : List HallTable) (i : ℕ) (none : HallTable) (held : 
 next_grows tables i none held low awaits =
     let it = subst (λ l. Awaits l held) (next_item tables i none low) awaits in it.bare.is ∙ it.lacks.0
 
--- what the list from a place on makes of the world is what the whole makes of the one before
+-- What the list from a place on makes of the world is what the whole makes of the one before. Those up to there are
+-- imported, one after another.
 pub record HasImported (people : List Person) (i : ℕ) (before after : Database) : Type 0 where
   pub world : changed (Import (drop i people)) (world_of after.trees) ≡ changed (Import people) (world_of before.trees)
   pub others : Spares (may_write (Import people)) before.trees after.trees
+  pub rows : ImportsEach (take i people) before after
 
 any_item : {A : Type 0} (test : A → Bool) (items : List A) (i : ℕ) (none : A) → i < length items → test (get_or items i none) ≡ true → list_any test items ≡ true
 any_item test [] i none low is = absurd (omega (arith, low))
@@ -54,16 +58,27 @@ or_false : (b : Bool) → b || false ≡ true → b ≡ true
 or_false true is = refl
 or_false false is = is
 
+-- one more is imported after the others
+one_more : (people : List Person) (person : Person) (a b c : Database) → ImportsEach people a b → ImportsOne person b c
+    → ImportsEach (people ++ person ∷ []) a c
+one_more [] person a b c same one = (c, subst (λ d. ImportsOne person d c) same one, refl)
+one_more (p ∷ people) person a b c more one = (more.0, more.1, one_more people person more.0 b c more.2 one)
+
 -- the rest of the list is still to be imported
 pub more_imported : (people : List Person) (i : ℕ) (person : Person) (a b c : State) → i < length people → person ≡ get_or people i person
-    → Did (HasImported people i) a b → Did (Changes (Import (person ∷ []))) b c → Did (HasImported people (i + 1)) a c
-more_imported people i person a b c low is =
-    did_then (HasImported people i) (Changes (Import (person ∷ []))) (HasImported people (i + 1)) a b c (λ one two. record {
+    → Did (HasImported people i) a b → Did (Changes (Import (person ∷ []))) b c → Did (ImportsOne person) b c → Did (HasImported people (i + 1)) a c
+more_imported people i person a b c low is so made rows =
+    did_then (HasImported people i) (λ x y. Changes (Import (person ∷ [])) x y × ImportsOne person x y) (HasImported people (i + 1)) a b c (λ one both.
+    let two = both.0 in
+    record {
       world = ap (changed (Import (drop (i + 1) people))) two.world
           ∙ ap (λ l. changed (Import l) (world_of b.now.trees)) (ap (λ p. p ∷ drop (i + 1) people) is ∙ sym (next_item people i person low)) ∙ one.world;
       others = then_spared (may_write (Import people)) a.now.trees b.now.trees c.now.trees one.others
           (wider_spared (may_write (Import (person ∷ []))) (may_write (Import people)) among b.now.trees c.now.trees two.others);
-    })
+      rows = subst (λ l. ImportsEach l a.now c.now)
+          (ap (λ x. take i people ++ x ∷ []) is ∙ sym (take_more people i person low))
+          (one_more (take i people) person a.now b.now c.now one.rows both.1);
+    }) so (did_both (Changes (Import (person ∷ []))) (ImportsOne person) b c made rows)
   where
     among : (tree : ℕ) (r : Row) → may_write (Import (person ∷ [])) tree r ≡ true → may_write (Import people) tree r ≡ true
     among tree r taken =

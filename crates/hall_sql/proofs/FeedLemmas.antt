@@ -43,7 +43,7 @@ rests_then a b c p (inr q) = inr (record {
 })
 
 -- what a query answers of a connection that was left, it answers of it as it was
-shown_since : (sql : List ℕ) (params : Row) (first old new : State) (rows : List Row) → IsPlain (understood first.now.schema sql)
+pub shown_since : (sql : List ℕ) (params : Row) (first old new : State) (rows : List Row) → IsPlain (understood first.now.schema sql)
     → IsUnchanged first old → Shown sql params old new rows → Shown sql params first new rows
 unfolding Shown
 shown_since sql params first old new rows plain same h =

@@ -40,6 +40,10 @@ did_none Does s mode nothing = record { steps = record { mode = mode; hall = λ 
 pub did : (Does : Database → Database → Type 0) (old new : State) → new.in_transaction ≡ true → (IsHallData old.now → IsHallData new.now × Does old.now new.now) → Did Does old new
 did Does old new mode it = record { steps = record { mode = mode; hall = λ h. (it h).0 }; does = λ h. (it h).1 }
 
+-- one call did both
+pub did_both : (One Two : Database → Database → Type 0) (a b : State) → Did One a b → Did Two a b → Did (λ x y. One x y × Two x y) a b
+did_both One Two a b one two = record { steps = one.steps; does = λ h. (one.does h, two.does h) }
+
 -- one call after another
 pub did_then : (First Then Both : Database → Database → Type 0) (a b c : State) → (First a.now b.now → Then b.now c.now → Both a.now c.now) → Did First a b → Did Then b c → Did Both a c
 did_then First Then Both a b c joins one two = record {

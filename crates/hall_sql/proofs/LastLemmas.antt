@@ -24,11 +24,11 @@ survived old new Commits it = record {
     | inl left ↦ inl left
     | inr more ↦ inr (more_faults old.faults new.faults more)
   ];
-  unlimited = λ none. it.limit ∙ none;
+  limit = it.limit;
 }
 
 pub last_none : (s : State) → Lasts s s
-last_none s = record { clean = omega arith; counts = omega arith; closes = λ clean opens. inl opens; unlimited = λ none. none }
+last_none s = record { clean = omega arith; counts = omega arith; closes = λ clean opens. inl opens; limit = refl }
 
 pub last_then : (a b c : State) → Lasts a b → Lasts b c → Lasts a c
 last_then a b c first second = record {
@@ -37,16 +37,16 @@ last_then a b c first second = record {
   closes = λ clean.
       let mid : HasCleanDisk b = omega (arith, second.clean, clean) in
       lasts_then (content_of a) (content_of b) (content_of c) first.counts second.counts (first.closes mid) (second.closes clean);
-  unlimited = λ none. second.unlimited (first.unlimited none);
+  limit = second.limit ∙ first.limit;
 }
 
 -- a transaction that begins leaves what a connection shows, but for its mode
 pub last_begun : {S : Type 0} (g : Ghosts S) (held : Held S) (mid : State) → Lasts (state g (record held { in_transaction = true })) mid → Lasts (state g held) mid
-last_begun g held mid it = record { clean = it.clean; counts = it.counts; closes = it.closes; unlimited = it.unlimited }
+last_begun g held mid it = record { clean = it.clean; counts = it.counts; closes = it.closes; limit = it.limit }
 
--- so is one whose limit is lifted
-pub last_lifted : (old new : State) → Lasts old new → Lasts old (without_limit new)
-last_lifted old new it = record { clean = it.clean; counts = it.counts; closes = it.closes; unlimited = λ none. refl }
+-- so does one whose limit is lifted
+pub last_lifted : (old new : State) → Lasts old new → Lasts (without_limit old) (without_limit new)
+last_lifted old new it = record { clean = it.clean; counts = it.counts; closes = it.closes; limit = refl }
 
 -- what follows leads on
 pub follows_leads : (old new : State) → Follows old new → Leads (content_of old) (content_of new)

@@ -53,6 +53,7 @@ pub mod PlaceWrites
 pub mod RoundQueries
 pub mod PlaceListings
 pub mod RoundRows
+pub mod ReadCauseLemmas
 pub mod SchemaLemmas
 pub mod ScanLemmas
 pub mod ScanCauseLemmas

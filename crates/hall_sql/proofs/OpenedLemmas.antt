@@ -19,7 +19,7 @@ use Rattle.hall_store.specs.Maps.{empty_world}
 use Rattle.hall_sql.specs.AdoptCause.{AdoptFails}
 use Rattle.hall_sql.specs.Tables.{no_schema, hall_schema}
 use Rattle.hall_sql.specs.Rows.{world_of}
-use Rattle.hall_sql.specs.Standing.{StoodOrEmpty, HasAdopted, content_of}
+use Rattle.hall_sql.specs.Standing.{IsBare, StoodOrEmpty, HasAdopted, content_of}
 use Rattle.hall_sql.specs.Opened.{StandsFor, IsFound, Starts, MemoryServes, OneWorldIsFound}
 use Rattle.hall_sql.proofs.AdoptLemmas.{bare_world}
 
@@ -94,6 +94,18 @@ pub empty_in_memory : (conn store : Held MemStore) → IsEmpty (state over_memor
     → HasAdopted (state over_memory conn) (state over_memory store) → (content_of (state over_memory store)).world ≡ empty_world
 empty_in_memory conn store empty adopted =
     from_empty (state over_memory conn) (state over_memory store) empty.2 (adopted.stood (memory_serves store).0)
+
+no_hall : no_schema ≡ hall_schema → ⊥
+no_hall same = let tables = ap (λ (s : Schema). length s.tables) same in cc
+
+made_bare : (old new : State) → old.now.schema ≡ no_schema → StoodOrEmpty old new → IsBare hall_schema new.now
+made_bare old new none (inl same) = absurd (no_hall (sym none ∙ same.0))
+made_bare old new none (inr made) = made.1
+
+pub bare_in_memory : (conn store : Held MemStore) → IsEmpty (state over_memory conn)
+    → HasAdopted (state over_memory conn) (state over_memory store) → IsBare hall_schema (state over_memory store).now
+bare_in_memory conn store empty adopted =
+    made_bare (state over_memory conn) (state over_memory store) empty.2 (adopted.stood (memory_serves store).0)
 
 -- and no connection is refused
 pub refused_in_memory : (conn left : Held MemStore) → IsEmpty (state over_memory conn) → conn.step_limit ≡ None

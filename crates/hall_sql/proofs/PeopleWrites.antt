@@ -110,6 +110,7 @@ person_added person is old new count ran it =
     let own = taken_record text_total (λ (x : Person). x.name) person.name (person_of (Int id ∷ params)) person (person_reads person is (Int id)) refl in (
       record { schema = put.same; keyed = keyed_after 0 old.now.trees new.now.trees hall_schema.tables after put.others it.keyed },
       record {
+        row = put;
         world = λ unknown. people_alone old.now.trees new.now.trees (insert (world_of old.now.trees).people person.name person) put.others
             (put_new text_total same_texts (λ (x : Person). x.name) person_of person (Int id ∷ params) (old.now.trees 0) (new.now.trees 0) put.put (person_reads person is (Int id)) put.free unknown);
         others = alone_spared (may_write (Import (person ∷ []))) 0 old.now.trees new.now.trees

@@ -1,13 +1,16 @@
 -- What the queries on places say of the world.
-use Rattle.std.proofs.Common.{◌≡◌, ◌&&◌, ℕ, pos, List, [], ◌∷◌, ◌++◌, map, filter, flat_map, Bool, true, false, cond, IsTrue, Option, Some, None, option_map, option_to_list, slice_get, Contains, refl, sym, ap, ap₂, subst, ◌∙◌, ◌+◌, ◌<◌, length, arith}
+use Rattle.std.proofs.Common.{◌≡◌, ◌&&◌, ℕ, pos, List, [], ◌∷◌, ◌++◌, map, filter, flat_map, Bool, true, false, cond, IsTrue, Option, Some, None, option_map, option_to_list, slice_get, Contains, refl, sym, ap, ap₂, subst, ◌∙◌, ◌+◌, ◌<◌, length, get_or, arith}
 use Rattle.std.proofs.lemmas.List.Sorted.{IsPermutation-sym, Contains-permutation}
 use Rattle.std.proofs.lemmas.List.{get_or-map, length-map}
 use Rattle.std.proofs.lemmas.List.Kept.{Contains-dedup, Contains-from_dedup, IsStrictlySortedBy-dedup}
-use Rattle.std.proofs.lemmas.Option.{slice_get-map}
+use Rattle.std.proofs.lemmas.Cmp.{tied_itself}
+use Rattle.std.proofs.lemmas.List.Elements.{recursion_from_All}
+use Rattle.std.proofs.lemmas.Option.{slice_get-map, slice_get-get_or}
 use Rattle.std.specs.Cmp.Lexicographic.{nat_list_eq_equiv, texts_ties}
 use Rattle.std.specs.List.{list_all, AllByRecursion, dedup}
 use Rattle.std.specs.List.Sorted.{IsPermutation, IsSorted, IsStrictlySortedBy}
-use Rattle.std.specs.Ordering.{eq_by_cmp, is_lt, nat_cmp}
+use Rattle.std.specs.Ordering.{eq_by_cmp, is_lt, nat_cmp, ordering_then}
+use Rattle.std.specs.declared.cmp.Ordering.TheVariants.{Less}
 use Rattle.std.specs.FinMap.{FinMap, find as find_key, get, values, get-from_entries}
 use Rattle.sqlite.specs.declared.types.Value.TheVariants.{Int, Text}
 use Rattle.sqlite.specs.Effect.{IsDatabase}
@@ -19,6 +22,8 @@ use Rattle.sqlite.specs.Tree.{Trees}
 use Rattle.sqlite_schema.specs.declared.schema.Constraint.TheVariants.{Unique}
 use Rattle.sqlite_schema.specs.Rules.{agree, passes}
 use Rattle.sqlite_rules.proofs.ListLemmas.{all_has}
+use Rattle.sqlite_trees.proofs.ListLemmas.{all_both, ascending-filter}
+use Rattle.sqlite_trees.specs.Tree.{IsAscending}
 use Rattle.sqlite_value.specs.Keys.{plain, first_key}
 use Rattle.sqlite_value.specs.Order.{column}
 use Rattle.sqlite_value.proofs.OrderLemmas.{then-Equal, value_cmp-Int, value_cmp-Text}
@@ -44,6 +49,7 @@ use Rattle.hall_sql.proofs.ColumnLemmas.{int_as_nat, kind_column, number_column,
 use Rattle.hall_sql.proofs.ListedLemmas.{by_order, records_asked, records_sorted}
 use Rattle.hall_sql.proofs.MapLemmas.{found, get_kept}
 use Rattle.hall_sql.proofs.RoundQueries.{place_columns, puzzle_terms, first_terms, number_order, round_order, places_with_is, places_of_is}
+use Rattle.hall_sql.proofs.RisingLemmas.{rows_listed, values_rise}
 use Rattle.hall_sql.proofs.UniqueLemmas.{equal_texts, equal_numbers, first_not, kept_keyed, records_listed}
 use Rattle.hall_sql.proofs.RecordParts.{place_parts_of}
 
@@ -151,6 +157,40 @@ are_places db test out same place = (there, back)
         is_among test (values (placed (db 7))) out same place
         (subst (Contains (values (placed (db 7)))) is (value_of_get (placed (db 7)) place.0 it.0 it.1)) h.1
 
+-- ---- places of one round, in the order of their numbers
+
+by_number : (id : List ℕ) (a b : Place) → a.0.round ≡ id → b.0.round ≡ id → place_cmp a.0 b.0 ≡ number_cmp a b
+by_number id a b p q =
+    ap₂ (λ x y. ordering_then (text_cmp x y) (number_cmp a b)) p q
+    ∙ ap (λ o. ordering_then o (number_cmp a b)) (tied_itself text_total id)
+
+rising : (id : List ℕ) (places : List Place) → AllByRecursion (λ (p : Place). p.0.round ≡ id) places
+    → IsAscending (λ (a b : Place). place_cmp a.0 b.0 ≡ Less) places → IsStrictlySortedBy number_cmp places
+unfolding IsStrictlySortedBy
+rising id [] all up = tt
+rising id (p ∷ ps) all up = (
+  all_both (λ (b : Place). b.0.round ≡ id) (λ b. place_cmp p.0 b.0 ≡ Less) (λ b. number_cmp p b ≡ Less)
+      (λ b q h. sym (by_number id p b all.0 q) ∙ h) ps all.1 up.0,
+  rising id ps all.1 up.1,
+)
+
+-- each of them stands there once
+numbers_rise : (db : Trees) (id : List ℕ) (out : List Place) → IsPermutation (filter (is_in_round id) (values (placed (db 7)))) out
+    → IsSorted number_cmp out → IsStrictlySortedBy number_cmp out
+numbers_rise db id out same sorted =
+    let are = are_places db (is_in_round id) out same in
+    let inside : (k : ℕ) (d : Place) → k < length out → (get_or out k d).0.round ≡ id = λ k d low.
+    let there = contained out (get_or out k d) k (slice_get-get_or out k d low) in
+    (text_decides (get_or out k d).0.round id).0 ((are (get_or out k d)).0 there).1 in
+    let by_place : IsSorted (λ (a b : Place). place_cmp a.0 b.0) out = λ k d low high.
+    ap is_lt (by_number id (get_or out (k + 1) d) (get_or out k d) (inside (k + 1) d high) (inside k d (omega (arith, high))))
+    ∙ sorted k d low high in
+    let listed = rows_listed place_total same_place_keys key_of place_of (db 7) (is_in_round id) out same by_place in
+    let up = ascending-filter (λ (a b : Place). place_cmp a.0 b.0 ≡ Less) (is_in_round id) _
+    (values_rise place_total same_place_keys key_of place_of (db 7)) in
+    rising id out (recursion_from_All (λ (p : Place). p.0.round ≡ id) out inside)
+    (subst (IsAscending (λ (a b : Place). place_cmp a.0 b.0 ≡ Less)) (sym listed) up)
+
 -- what a query gives of the places
 module _ (old new : State) (has : old.now.schema ≡ hall_schema) (keyed : AreKeyed (old.now.trees 7)) (sound : IsDatabase old.now)
     (rows : List Row) (out : List Place) (is : map place_in rows ≡ map Some out) where
@@ -207,16 +247,17 @@ module _ (old new : State) (has : old.now.schema ≡ hall_schema) (keyed : AreKe
       )
 
   pub places_of_told : (id : List ℕ) → Shown places_of_text (Text id ∷ []) old new rows → AreListed (world_of old.now.trees) id out
-  places_of_told id shown = record {
-    whole = are_places old.now.trees (is_in_round id) out
-        (records_asked place_in 5 places_of_text (Text id ∷ []) 7 first_terms place_columns number_order _ places_of_is.0
-        places_of_is.1 places_of_is.2 (λ db. refl) (λ r. refl) (is_in_round id) (in_agrees id) old new rows out has shown
-        is _ whole);
-    in_order =
-        records_sorted place_in 5 places_of_text (Text id ∷ []) 7 first_terms place_columns number_order _ places_of_is.0
-        places_of_is.1 places_of_is.2 (λ db. refl) (λ r. refl) (is_in_round id) (in_agrees id) old new rows out has shown
-        is number_cmp (same_order id);
-  }
+  places_of_told id shown =
+      let same = records_asked place_in 5 places_of_text (Text id ∷ []) 7 first_terms place_columns number_order _ places_of_is.0
+      places_of_is.1 places_of_is.2 (λ db. refl) (λ r. refl) (is_in_round id) (in_agrees id) old new rows out has shown
+      is _ whole in
+      let sorted = records_sorted place_in 5 places_of_text (Text id ∷ []) 7 first_terms place_columns number_order _ places_of_is.0
+      places_of_is.1 places_of_is.2 (λ db. refl) (λ r. refl) (is_in_round id) (in_agrees id) old new rows out has shown
+      is number_cmp (same_order id) in
+      record {
+        whole = are_places old.now.trees (is_in_round id) out same;
+        in_order = numbers_rise old.now.trees id out same sorted;
+      }
 
 -- ---- the rounds of places
 

@@ -1,6 +1,8 @@
 -- What the statements that write the puzzles of a round leave.
 use Rattle.std.proofs.Common.{◌≡◌, ◌≢◌, ◌≤◌, ◌<◌, ◌+◌, ◌||◌, ℕ, suc, List, [], ◌∷◌, ◌++◌, length, map, filter, flat_map, take, get_or, option_to_list, Bool, true, false, not, cond, Some, None, Ok, IsTrue, refl, sym, ap, subst, ◌∙◌, arith}
 use Rattle.std.proofs.lemmas.List.{take_more, length-take-le}
+use Rattle.std.proofs.lemmas.Result.{on_ok_weaker}
+use Rattle.std.specs.Prelude.{OnOk, Result}
 use Rattle.std.specs.List.{AllByRecursion}
 use Rattle.std.specs.FinMap.{FinMap, from_entries, get, insert, get-insert, get-retain_keys, same_map}
 use Rattle.std.specs.Ordering.{eq_by_cmp}
@@ -23,7 +25,7 @@ use Rattle.sqlite.specs.Tree.{Trees}
 use Rattle.sqlite.specs.Effect.{Database}
 use Rattle.sqlite.specs.Source.TheVariants.{Values}
 use Rattle.sqlite.specs.Command.TheVariants.{Insert}
-use Rattle.sqlite.specs.State.{State, Executes}
+use Rattle.sqlite.specs.State.{HasCleanDisk, State, Executes}
 use Rattle.sqlite.proofs.Callers.{runs_as}
 use Rattle.hall_policy.specs.Text.{text_cmp, is_word_byte}
 use Rattle.hall_policy.specs.World.{World, puzzle_cmp, place_cmp, answer_cmp, protest_cmp, same_text}
@@ -42,10 +44,10 @@ use Rattle.hall_sql.specs.Values.{name_in, within}
 use Rattle.hall_sql.specs.RoundColumns.{place_params, is_under}
 use Rattle.hall_sql.specs.Rows.{kept, person_of, puzzle_row_of, round_of, place_of, answer_of, protest_of, world_of}
 use Rattle.hall_sql.specs.Spared.{may_write, is_head_of, is_place_of, Spares}
-use Rattle.hall_sql.specs.Standing.{AreKeyed}
+use Rattle.hall_sql.specs.Standing.{Lasts, AreKeyed}
 use Rattle.hall_sql.proofs.MapLemmas.{equal_is}
 use Rattle.hall_sql.specs.Inside.{IsHallData, Did, Changes}
-use Rattle.hall_sql.specs.RoundPuts.{PutsHead, DropsPlaces, place_key, PutsPlace, HasNoPlaces, PutsPlaces}
+use Rattle.hall_sql.specs.RoundPuts.{PutsHead, DropsPlaces, place_key, with_place, with_places, PutsPlace, HasNoPlaces, PutsPlaces, PutsRows}
 use Rattle.hall_sql.proofs.AnswerWrites.{is_within}
 use Rattle.hall_sql.proofs.ColumnLemmas.{kind_column, column_same, and_true}
 use Rattle.hall_sql.proofs.DeleteLemmas.{deletes}
@@ -109,6 +111,7 @@ module _ (id : List ℕ) (old new : State) (count : ℕ) (held : IsHallData old.
           world = places_alone old.now.trees new.now.trees (without_list (world_of old.now.trees).places id) it.2
               (ap (λ l. from_entries (flat_map (λ row. option_to_list (place_of row)) l)) left
               ∙ cut_entries place_total same_place_keys place_of (λ k. same_text k.round id) (is_under id) (agrees id) rows);
+          rows = left;
           others = alone_spared (is_place_of id) 7 old.now.trees new.now.trees (dropped_spared (is_place_of id 7) rows (new.now.trees 7) left) it.2;
         },
       )
@@ -135,6 +138,7 @@ module _ (id : List ℕ) (old new : State) (count : ℕ) (held : IsHallData old.
         record {
           world = λ none. places_alone old.now.trees new.now.trees (insert (world_of old.now.trees).places (place_key id number) entry) it.others
               (put_entry place_total same_place_keys place_of (place_key id number) entry (Int at ∷ given) (old.now.trees 7) (new.now.trees 7) none reads it.free it.put);
+          rows = it.put;
           others = alone_spared (is_place_of id) 7 old.now.trees new.now.trees
               (added_spared (is_place_of id 7) (old.now.trees 7) (new.now.trees 7) (Int at ∷ given) own it.free it.put) it.others;
         },
@@ -182,28 +186,42 @@ module _ (places : FinMap place_cmp Entry) (id : List ℕ) where
       (number_differs high number (λ same. omega (arith, low, same)))
       ∙ above (number + 1) entries high (omega (arith, low))
 
+-- the row of the last entry is put after those of the others
+rows_with_last : (id : List ℕ) (number : ℕ) (entries : List Entry) (last : Entry) (rows : List Row)
+    → with_places id number (entries ++ last ∷ []) rows ≡ with_place id (number + length entries) last (with_places id number entries rows)
+rows_with_last id number [] last rows = ap (λ n. with_place id n last rows) (omega arith)
+rows_with_last id number (entry ∷ entries) last rows =
+    let at : number + 1 + length entries ≡ number + suc (length entries) = omega arith in
+    let before = with_place id number entry rows in
+    rows_with_last id (number + 1) entries last before ∙ ap (λ n. with_place id n last (with_places id (number + 1) entries before)) at
+
 -- one more entry of the list
 pub more_places : (id : List ℕ) (entries : List Entry) (i : ℕ) (entry : Entry) (a b c : Database) → i < length entries → entry ≡ get_or entries i entry
     → PutsPlaces id (take i entries) a b → PutsPlace id (i + 1) entry b c → PutsPlaces id (take (i + 1) entries) a c
-more_places id entries i entry a b c low is so it = record {
-  world = world;
-  others = then_spared (is_place_of id) a.trees b.trees c.trees so.others it.others;
-}
+more_places id entries i entry a b c low is so it =
+    let next : take (i + 1) entries ≡ before ++ entry ∷ [] = take_more entries i entry low ∙ ap (λ x. before ++ x ∷ []) (sym is) in
+    let long : length before ≡ i = length-take-le i entries (omega (arith, low)) in
+    let at : i + 1 ≡ 1 + length before = omega (arith, long) in
+    record {
+      world = λ free.
+          let places = (world_of a.trees).places in
+          let was = so.world free in
+          let none : get (world_of b.trees).places (place_key id (i + 1)) ≡ None =
+          ap (λ (w : World). get w.places (place_key id (i + 1))) was ∙ above places id 1 before (i + 1) (omega (arith, at)) ∙ free (i + 1) in
+          it.world none
+          ∙ ap (λ (w : World). record w { places = insert w.places (place_key id (i + 1)) entry }) was
+          ∙ ap (λ (m : FinMap place_cmp Entry). record (world_of a.trees) { places = m })
+          (ap (λ n. insert (with_list places id 1 before) (place_key id n) entry) at ∙ sym (with_last places id 1 before entry) ∙ ap (with_list places id 1) (sym next));
+      rows = it.rows
+          ∙ ap (with_place id (i + 1) entry) so.rows
+          ∙ ap (λ n. with_place id n entry (with_places id 1 before (a.trees 7))) at
+          ∙ sym (rows_with_last id 1 before entry (a.trees 7))
+          ∙ ap (λ l. with_places id 1 l (a.trees 7)) (sym next);
+      others = then_spared (is_place_of id) a.trees b.trees c.trees so.others it.others;
+    }
   where
-    world : HasNoPlaces id (world_of a.trees).places → world_of c.trees ≡ record (world_of a.trees) { places = with_list (world_of a.trees).places id 1 (take (i + 1) entries) }
-    world free =
-        let places = (world_of a.trees).places in
-        let before = take i entries in
-        let long : length before ≡ i = length-take-le i entries (omega (arith, low)) in
-        let next : take (i + 1) entries ≡ before ++ entry ∷ [] = take_more entries i entry low ∙ ap (λ x. before ++ x ∷ []) (sym is) in
-        let was = so.world free in
-        let none : get (world_of b.trees).places (place_key id (i + 1)) ≡ None =
-        ap (λ (w : World). get w.places (place_key id (i + 1))) was ∙ above places id 1 before (i + 1) (omega (arith, long)) ∙ free (i + 1) in
-        let at : i + 1 ≡ 1 + length before = omega (arith, long) in
-        it.world none
-        ∙ ap (λ (w : World). record w { places = insert w.places (place_key id (i + 1)) entry }) was
-        ∙ ap (λ (m : FinMap place_cmp Entry). record (world_of a.trees) { places = m })
-        (ap (λ n. insert (with_list places id 1 before) (place_key id n) entry) at ∙ sym (with_last places id 1 before entry) ∙ ap (with_list places id 1) (sym next))
+    before : List Entry
+    before = take i entries
 
 -- a round whose list is taken out has no places
 freed : (id : List ℕ) (places : FinMap place_cmp Entry) → HasNoPlaces id (without_list places id)
@@ -236,10 +254,30 @@ round_put row a b c d head dropped put =
           (places c.trees d.trees put.others);
     }
 
+passing_all : (rows : List Row) → filter (λ r. true) rows ≡ rows
+passing_all [] = refl
+passing_all (r ∷ rows) = ap (λ l. r ∷ l) (passing_all rows)
+
+-- a table of which no row may be written is as it was
+table_left : (old new : List Row) → filter (λ r. true) new ≡ filter (λ r. true) old → new ≡ old
+table_left old new it = sym (passing_all new) ∙ it ∙ passing_all old
+
+-- and no other row stands under the id
+rows_put : (row : RoundRow) (a b c d : Database) → PutsHead row.round a b → DropsPlaces row.round.id b c → PutsPlaces row.round.id row.puzzles c d → PutsRows row a d
+rows_put row a b c d head dropped put =
+    let id = row.round.id in
+    let places : b.trees 7 ≡ a.trees 7 = table_left (a.trees 7) (b.trees 7) head.others.1.1.1.0 in
+    let dropped_heads : c.trees 5 ≡ b.trees 5 = table_left (b.trees 5) (c.trees 5) dropped.others.1.1.0 in
+    let heads : d.trees 5 ≡ c.trees 5 = table_left (c.trees 5) (d.trees 5) put.others.1.1.0 in
+    record {
+      head = record { rowid = head.row.rowid; alone = ap (filter (is_under id)) (heads ∙ dropped_heads) ∙ head.row.alone };
+      places = put.rows ∙ ap (with_places id 1 row.puzzles) (dropped.rows ∙ ap (filter (λ r. not (is_under id r))) places);
+    }
+
 -- ---- the same inside a transaction
 
 pub no_places_did : (id : List ℕ) (s : State) → IsTrue s.in_transaction → Did (PutsPlaces id []) s s
-no_places_did id s mode = did_none (PutsPlaces id []) s mode (record { world = λ free. refl; others = same_spared (is_place_of id) s.now.trees })
+no_places_did id s mode = did_none (PutsPlaces id []) s mode (record { world = λ free. refl; rows = refl; others = same_spared (is_place_of id) s.now.trees })
 
 pub more_did : (id : List ℕ) (entries : List Entry) (i number : ℕ) (entry : Entry) (a b c : State) → number ≡ i → i < length entries → entry ≡ get_or entries i entry
     → Did (PutsPlaces id (take i entries)) a b → Did (PutsPlace id (number + 1) entry) b c → Did (PutsPlaces id (take (i + 1) entries)) a c
@@ -247,9 +285,32 @@ more_did id entries i number entry a b c at low is so it =
     did_then (PutsPlaces id (take i entries)) (PutsPlace id (number + 1) entry) (PutsPlaces id (take (i + 1) entries)) a b c
     (λ one two. more_places id entries i entry a.now b.now c.now low is one (subst (λ n. PutsPlace id (n + 1) entry b.now c.now) at two)) so it
 
-pub round_did : (row : RoundRow) (a b c d : State) → Did (PutsHead row.round) a b → Did (DropsPlaces row.round.id) b c → Did (PutsPlaces row.round.id row.puzzles) c d
-    → Did (Changes (PutRound row)) a d
-round_did row a b c d one two three =
-    did_then (PutsHead row.round) (λ old new. PutsHead row.round a.now old → Changes (PutRound row) a.now new) (Changes (PutRound row)) a b d (λ first rest. rest first) one
-    (did_then (DropsPlaces row.round.id) (PutsPlaces row.round.id row.puzzles) (λ old new. PutsHead row.round a.now old → Changes (PutRound row) a.now new) b c d
-    (λ second third first. round_put row a.now b.now c.now d.now first second third) two three)
+-- the three calls after each other
+module _ (row : RoundRow) (a b c d : State) where
+  joined_did : (Does : Database → Database → Type 0)
+      → (PutsHead row.round a.now b.now → DropsPlaces row.round.id b.now c.now → PutsPlaces row.round.id row.puzzles c.now d.now → Does a.now d.now)
+      → Did (PutsHead row.round) a b → Did (DropsPlaces row.round.id) b c → Did (PutsPlaces row.round.id row.puzzles) c d → Did Does a d
+  joined_did Does joins one two three =
+      did_then (PutsHead row.round) (λ old new. PutsHead row.round a.now old → Does a.now new) Does a b d (λ first rest. rest first) one
+      (did_then (DropsPlaces row.round.id) (PutsPlaces row.round.id row.puzzles) (λ old new. PutsHead row.round a.now old → Does a.now new) b c d
+      (λ second third first. joins first second third) two three)
+
+  pub round_did : Did (PutsHead row.round) a b → Did (DropsPlaces row.round.id) b c → Did (PutsPlaces row.round.id row.puzzles) c d → Did (Changes (PutRound row)) a d
+  round_did = joined_did (Changes (PutRound row)) (round_put row a.now b.now c.now d.now)
+
+  pub rows_did : Did (PutsHead row.round) a b → Did (DropsPlaces row.round.id) b c → Did (PutsPlaces row.round.id row.puzzles) c d → Did (PutsRows row) a d
+  rows_did = joined_did (PutsRows row) (rows_put row a.now b.now c.now d.now)
+
+  pub all_did : {A E : Type 0} (Does : Database → Database → Type 0) (result : Result A E) (puzzles : List Entry)
+      → (Did (PutsHead row.round) a b → Did (DropsPlaces row.round.id) b c → Did (PutsPlaces row.round.id row.puzzles) c d → Did Does a d)
+      → puzzles ≡ row.puzzles → Lasts b c → Lasts c d
+      → (HasCleanDisk b → IsTrue a.in_transaction → Did (PutsHead row.round) a b)
+      → (HasCleanDisk c → IsTrue b.in_transaction → Did (DropsPlaces row.round.id) b c)
+      → (HasCleanDisk d → IsTrue c.in_transaction → OnOk result (Did (PutsPlaces row.round.id puzzles) c d))
+      → HasCleanDisk d → IsTrue a.in_transaction → OnOk result (Did Does a d)
+  all_did Does result puzzles joins same to_c to_d heads drops puts clean inside =
+      let clean_c : HasCleanDisk c = omega (arith, to_d.clean, clean) in
+      let clean_b : HasCleanDisk b = omega (arith, to_c.clean, clean_c) in
+      let one = heads clean_b inside in
+      let two = drops clean_c one.steps.mode in
+      on_ok_weaker result (λ three. joins one two (subst (λ l. Did (PutsPlaces row.round.id l) c d) same three)) (puts clean two.steps.mode)

@@ -59,7 +59,7 @@ use Rattle.hall_sql.proofs.FoundLemmas.{length_read, asked_found}
 use Rattle.hall_sql.proofs.InsertLemmas.{inserts}
 use Rattle.hall_sql.proofs.KeyedLemmas.{keyed_after, added_keyed}
 use Rattle.hall_sql.proofs.QuietLemmas.{no_works, one_stays}
-use Rattle.hall_sql.proofs.ReplaceLemmas.{replaced_one, added_one}
+use Rattle.hall_sql.proofs.ReplaceLemmas.{replaced_one, added_one, put_alone, replaced_alone}
 use Rattle.hall_sql.proofs.SparedLemmas.{own_key, added_spared, replaced_spared, alone_spared}
 use Rattle.hall_sql.proofs.UniqueLemmas.{kept_keyed}
 use Rattle.hall_sql.proofs.UpdateLemmas.{update, updates, made_with}
@@ -185,8 +185,9 @@ module _ (round : Round) (is : IsRound round) where
     id_is : column r 1 ≡ Text round.id
     id_is = text_is (column r 1) round.id (and_parts _ _ taken).0
 
-    made_reads : round_of (made r) ≡ Some round
-    made_reads = rw (
+    -- the row keeps its rowid, and has the columns
+    made_is : made r ≡ column (made r) 0 ∷ params
+    made_is = rw (
       id_is,
       cast_number round.start,
       cast_number round.minutes,
@@ -196,7 +197,10 @@ module _ (round : Round) (is : IsRound round) where
       cast_number round.bonus,
       cast_int (flag_code round.released),
       cast_int (flag_code round.published),
-    ) (head_reads Null)
+    ) refl
+
+    made_reads : round_of (made r) ≡ Some round
+    made_reads = ap round_of made_is ∙ head_reads (column (made r) 0)
 
     -- the id stays, so no foreign key acts
     made_quiet : works hall_schema Enforced 0 5 (r ∷ []) (made r ∷ []) ≡ []
@@ -218,6 +222,10 @@ module _ (round : Round) (is : IsRound round) where
           record {
             world = rounds_alone old.now.trees new.now.trees (insert (world_of old.now.trees).rounds round.id round) it.others
                 (replaced_one text_total same_texts (λ (x : Round). x.id) round_of round.id (is_under round.id) (agrees round.id) made (old.now.trees 5) (new.now.trees 5) round keyed.1.1.0 it.rows refl (made_reads one there.1));
+            row = record {
+              rowid = column (made one) 0;
+              alone = replaced_alone (is_under round.id) made (old.now.trees 5) (new.now.trees 5) keyed.1.1.0 it.rows (own_row (made one) (made_reads one there.1)) ∙ ap (λ r. r ∷ []) (made_is one there.1);
+            };
             others = alone_spared (is_head_of round.id) 5 old.now.trees new.now.trees
                 (replaced_spared (is_head_of round.id 5) (is_under round.id) made (old.now.trees 5) (new.now.trees 5) keyed.1.1.0 it.rows there.1 (own_row (made one) (made_reads one there.1))) it.others;
           },
@@ -235,6 +243,10 @@ module _ (round : Round) (is : IsRound round) where
           record {
             world = rounds_alone old.now.trees new.now.trees (insert (world_of old.now.trees).rounds round.id round) it.others
                 (added_one text_total same_texts (λ (x : Round). x.id) round_of round.id (is_under round.id) (agrees round.id) (old.now.trees 5) (new.now.trees 5) (Int id ∷ params) round (no_rows _ nobody) it.free it.put refl (head_reads (Int id)));
+            row = record {
+              rowid = Int id;
+              alone = put_alone (is_under round.id) (old.now.trees 5) (new.now.trees 5) (Int id ∷ params) (own_row (Int id ∷ params) (head_reads (Int id))) (no_rows _ nobody) it.free it.put;
+            };
             others = alone_spared (is_head_of round.id) 5 old.now.trees new.now.trees
                 (added_spared (is_head_of round.id 5) (old.now.trees 5) (new.now.trees 5) (Int id ∷ params) (own_row (Int id ∷ params) (head_reads (Int id))) it.free it.put) it.others;
           },

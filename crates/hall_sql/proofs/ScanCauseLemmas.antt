@@ -183,7 +183,7 @@ asks_cause table old mid new e before clean after has other fails = go old.step_
     go : (limit : Option ℕ) → old.step_limit ≡ limit → ScanFails (table ∷ []) old new
     go (Some steps) is = inr (inl (subst IsSome (sym is) refl))
     go None is =
-        inl (cause_over old mid new before clean after (open_cause (rowids_text table) [] mid new e (rowids_asked table) (before.unlimited is) other has fails))
+        inl (cause_over old mid new before clean after (open_cause (rowids_text table) [] mid new e (rowids_asked table) (before.limit ∙ is) other has fails))
 
 pub next_cause : {S : Type 0} (g : Ghosts S) (table : HallTable) (old : State) (h next : Held S) (last : Option ℤ) → Lasts old (state g h)
     → HasCleanDisk (state g h) → Lasts (state g h) (state g next) → IsUnchanged old (state g h) → h.schema ≡ hall_schema
@@ -202,7 +202,7 @@ scan_cause tables done i none old mid new low before clean after some (inr (inl 
   where
     go : (steps : Option ℕ) → old.step_limit ≡ steps → ScanFails tables old new
     go (Some count) is = inr (inl (subst IsSome (sym is) refl))
-    go None is = absurd (let no : false ≡ true = subst IsSome (before.unlimited is) limit in cc)
+    go None is = absurd (let no : false ≡ true = subst IsSome (before.limit ∙ is) limit in cc)
 scan_cause tables done i none old mid new low before clean after some (inr (inr strange)) =
     inr (inr (λ all. strange (
       subst (λ (d : Database). AreKeyed (d.trees (tree_of (get_or tables i none)))) (sym some.left.now_is) (All-from_recursion (IsTableKeyed old) tables all i none low),

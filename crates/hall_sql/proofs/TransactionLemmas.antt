@@ -55,7 +55,7 @@ module _ {S : Type 0} (g : Ghosts S) (held : Held S) (hall : IsHall (state g hel
       λ clean opens. ((rolled clean).undone opens).0 ∙ (keeps clean).committed (opens_mid clean opens) ∙ sym (settled clean opens).0 in
       record {
         hall = record {
-          unlimited = lasts.unlimited (carries.lasts.unlimited hall.unlimited);
+          unlimited = lasts.limit ∙ carries.lasts.limit ∙ hall.unlimited;
           autocommit = λ clean. ended;
           settled = λ clean opens. (((rolled clean).undone opens).0 ∙ sym ((rolled clean).undone opens).1, ap (λ (d : Database). d.schema) (same clean opens) ∙ (settled clean opens).1);
           keyed = λ clean opens. subst (λ (d : Database). AreAllKeyed d.trees) (sym (same clean opens)) (hall.keyed (before clean) (opens_old clean opens));
@@ -99,3 +99,17 @@ module _ {S : Type 0} (g : Ghosts S) (held : Held S) (hall : IsHall (state g hel
         world = ap (λ (d : Database). world_of d.trees) shown.now_is ∙ (it.does ours).world;
         others = subst (λ (d : Database). Spares (may_write change) base.now.trees d.trees) (sym shown.now_is) (it.does ours).others;
       })
+
+  -- and the tables are as the calls before it left them
+  pub committed_did : (Does : Database → Database → Type 0) (mid end : State)
+      → Carries base mid → (HasCleanDisk mid → IsTrue base.in_transaction → Did Does base mid)
+      → Lasts mid end
+      → (HasCleanDisk end → IsTrue mid.in_transaction × Shows mid end mid.now mid.now false × KeepsCounts mid end × (end.marks ≡ []))
+      → HasCleanDisk end → Does (state g held).now end.now
+  committed_did Does mid end carries did lasts ok clean =
+      let clean_mid : HasCleanDisk mid = omega (arith, lasts.clean, clean) in
+      let was : HasCleanDisk base = omega (arith, carries.lasts.clean, clean_mid) in
+      let shown = (ok clean).1 in
+      let opened = (carries.kept clean_mid refl).was_open shown.was_open in
+      let ours : IsHallData base.now = record { schema = (hall.settled was opened).1; keyed = hall.keyed was opened } in
+      subst (Does base.now) (sym shown.now_is) ((did clean_mid refl).does ours)

@@ -24,7 +24,7 @@ use Rattle.hall_sql.specs.Asked.{IsAsked, is_whole}
 use Rattle.hall_sql.specs.Cause.{IsStoreCause}
 use Rattle.std.specs.List.{filter}
 use Rattle.sqlite.specs.Effect.{Database, is_query}
-use Rattle.hall_grid.specs.Text.{SpellsText}
+use Rattle.hall_grid.specs.Canonical.{CanonicalText}
 use Rattle.hall_policy.specs.declared.record.PuzzleRow.{PuzzleRow}
 use Rattle.hall_policy.specs.declared.record.Round.{Round}
 use Rattle.hall_sql.specs.Columns.{HasSoMany, puzzle_params, stands_under}
@@ -182,7 +182,7 @@ run_served sql params a b c before opens same (inr refused) = inr (subst (IsRefu
 -- a transaction goes on over the hall's tables
 pub goes_on : (a b : State) → IsUnderWay a → Lasts a b → Steps a b → IsUnderWay b
 goes_on a b goes lasts steps =
-    record { mode = steps.mode; unlimited = lasts.unlimited goes.unlimited; hall = steps.hall goes.hall }
+    record { mode = steps.mode; unlimited = lasts.limit ∙ goes.unlimited; hall = steps.hall goes.hall }
 
 -- a commit that is refused has its cause in the store
 pub commit_cause : (old new : State) (e : Error) → IsTrue old.in_transaction → e ≢ SqliteFailure code.OutOfMemory → FailsToCommit old new e
@@ -200,15 +200,15 @@ next_is items i item low is = next_item items i item low ∙ ap (λ x. x ∷ dro
 
 -- ---- puzzles
 
-pub new_refused : (row : PuzzleRow) (text : List ℕ) (count : ℕ) (a b : State) → SpellsText text row.puzzle → count ≡ 0
+pub new_refused : (row : PuzzleRow) (text : List ℕ) (count : ℕ) (a b : State) → CanonicalText text row.puzzle → count ≡ 0
     → RunFails add_puzzle_text (puzzle_params text row) a b → IsStoreCause a b ⊎ PuzzleIsRefused row count a.now
-new_refused row text count a b spells none (inl cause) = inl cause
-new_refused row text count a b spells none (inr refused) = inr (subst (λ n. PuzzleIsRefused row n a.now) (sym none) (text, spells, refused))
+new_refused row text count a b is none (inl cause) = inl cause
+new_refused row text count a b is none (inr refused) = inr (subst (λ n. PuzzleIsRefused row n a.now) (sym none) (text, is, refused))
 
-pub over_refused : (row : PuzzleRow) (text : List ℕ) (count : ℕ) (a b : State) → SpellsText text row.puzzle → count ≡ 1
+pub over_refused : (row : PuzzleRow) (text : List ℕ) (count : ℕ) (a b : State) → CanonicalText text row.puzzle → count ≡ 1
     → RunFails replace_puzzle_text (puzzle_params text row) a b → IsStoreCause a b ⊎ PuzzleIsRefused row count a.now
-over_refused row text count a b spells one (inl cause) = inl cause
-over_refused row text count a b spells one (inr refused) = inr (subst (λ n. PuzzleIsRefused row n a.now) (sym one) (text, spells, refused))
+over_refused row text count a b is one (inl cause) = inl cause
+over_refused row text count a b is one (inr refused) = inr (subst (λ n. PuzzleIsRefused row n a.now) (sym one) (text, is, refused))
 
 pub many_refused : (row : PuzzleRow) (count : ℕ) (db : Database) → ¬ (count ≡ 0) → ¬ (count ≡ 1) → PuzzleIsRefused row count db
 many_refused row zero db some more = absurd (some refl)

@@ -40,7 +40,7 @@ made_wrote change old new done hall lasts made =
     let it = λ (clean : HasCleanDisk new). made (before clean) clean in
     record {
       hall = record {
-        unlimited = lasts.unlimited hall.unlimited;
+        unlimited = lasts.limit ∙ hall.unlimited;
         autocommit = λ clean. (it clean).hall.autocommit clean;
         settled = λ clean opens. (it clean).hall.settled clean opens;
         keyed = λ clean opens. (it clean).hall.keyed clean opens;

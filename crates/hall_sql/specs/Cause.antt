@@ -1,20 +1,19 @@
 -- Why a read of the tables answers that it failed.
-use Rattle.std.specs.Prelude.{◌≡◌, ◌≢◌, ◌⊎◌, ◌<◌, ◌≤◌, ◌∷◌, ℕ, false, List, [], length, map, slice_get}
+use Rattle.std.specs.Prelude.{◌≡◌, ◌≢◌, ◌⊎◌, ◌<◌, ◌≤◌, ◌∷◌, ◌++◌, ℕ, false, List, [], length, map, slice_get}
 use Rattle.std.specs.Prelude.{Contains, IsTrue, Option, Some, None}
-use Rattle.std.specs.FinMap.{get}
 use Rattle.sqlite.specs.declared.types.Value.TheVariants.{Text}
-use Rattle.sqlite_trees.specs.declared.store.Store.{Ghosts}
-use Rattle.sqlite.specs.Held.{Held, state}
 use Rattle.sqlite.specs.Order.{Row}
-use Rattle.sqlite.specs.State.{State, Shown}
+use Rattle.sqlite.specs.State.{State, Begins, Shown}
 use Rattle.hall_policy.specs.Lists.{AreEntries}
+use Rattle.hall_policy.specs.Ranges.{HasWholeList}
+use Rattle.hall_policy.specs.Sink.{HasTaken}
 use Rattle.hall_policy.specs.World.{World}
 use Rattle.hall_policy.specs.declared.record.Entry.{Entry}
 use Rattle.hall_policy.specs.declared.record.PlaceKey.{PlaceKey}
 use Rattle.hall_policy.specs.declared.record.Round.{Round}
-use Rattle.hall_store.specs.Store.{MoreFaults}
-use Rattle.hall_sql.specs.Feed.{AreAll}
-use Rattle.hall_sql.specs.Places.{AreListed, AreNumbered}
+use Rattle.hall_store.specs.Store.{MoreFaults, IsRoundKept}
+use Rattle.hall_sql.specs.Feed.{AreAll, IsTurnedAway}
+use Rattle.hall_sql.specs.Places.{AreNumbered}
 use Rattle.hall_sql.specs.Rows.{place_in, round_in, world_of}
 use Rattle.hall_sql.specs.Statements.{head_text, places_of_text}
 
@@ -43,16 +42,33 @@ abbrev pub AreNoRound : Option Round → List (PlaceKey × Entry) → Type 0
 AreNoRound None places = places ≢ []
 AreNoRound (Some round) places = ¬ (AreNumbered places × AreEntries (map (λ place. place.1) places))
 
--- what is kept under the id is no round with its list
+-- what is kept under the id is neither nothing nor a round with a list, so that no answer is right
 abbrev pub HasNoRound : World → List ℕ → Type 0
-HasNoRound world id = (places : List (PlaceKey × Entry)) × AreListed world id places × AreNoRound (get world.rounds id) places
+HasNoRound world id = (¬ IsRoundKept world id None) × (¬ HasWholeList world id)
 
--- Why a read of a round fails: that of its head does, or then that of its places, or what is kept is no round.
-abbrev pub RoundFails : {S : Type 0} → Ghosts S → List ℕ → State → State → Type 0
-RoundFails {S} g id old new =
+-- Why a read of a round fails: that of its head does, or that of its places, or no answer is right.
+abbrev pub RoundFails : List ℕ → State → State → Type 0
+RoundFails id old new =
     FindFails round_in head_text (Text id ∷ []) old new
-    ⊎ (((mid : Held S) × ReadFails place_in places_of_text (Text id ∷ []) (state g mid) new)
-    ⊎ HasNoRound (world_of new.now.trees) id)
+    ⊎ (ReadFails place_in places_of_text (Text id ∷ []) old new ⊎ HasNoRound (world_of old.now.trees) id)
+
+-- The sink has taken the records of the first rows that the query answers over the tables as they were, and the next
+-- row is no record, or the sink refuses it.
+pub record StopsAtRow {K X : Type 0} (read : Row → Option X) (Takes : K → X → K → Type 0) (Refuses : K → X → Type 0)
+    (sql : List ℕ) (params : Row) (old : State) (before after : K) : Type 0 where
+  pub taken : List X
+  pub took : HasTaken Takes before taken after
+  pub rows : List Row
+  pub reads : map read rows ≡ map Some taken
+  pub row : Row
+  pub begun : Begins sql params old (rows ++ row ∷ [])
+  pub stops : IsTurnedAway read Refuses after row
+
+-- Why a sink is not given all rows: the cause lies in the store, or it stops at a row.
+abbrev pub FeedFails : {K X : Type 0} → (Row → Option X) → (K → X → K → Type 0) → (K → X → Type 0) → List ℕ → Row →
+    State → State → K → K → Type 0
+FeedFails read Takes Refuses sql params old new before after =
+    IsStoreCause old new ⊎ StopsAtRow read Takes Refuses sql params old before after
 
 -- ---- what a read hands over
 

@@ -1,10 +1,13 @@
 -- Rows that are given to a sink one after another.
-use Rattle.std.specs.Prelude.{◌≡◌, ◌⊎◌, ℕ, Bool, true, false, List, [], map, Option, Some, None}
+use Rattle.std.specs.Prelude.{◌≡◌, ◌≢◌, ◌⊎◌, ℕ, Bool, true, false, List, [], map, Option, Some, None}
 use Rattle.std.specs.Prelude.{Result, Ok, Err, IsTrue}
 use Rattle.sqlite_trees.specs.declared.store.Store.{Ghosts}
+use Rattle.sqlite.specs.declared.error.Error.{Error}
+use Rattle.sqlite.specs.declared.error.Error.TheVariants.{SqliteFailure}
+use Rattle.sqlite.specs.declared.error.ErrorCode.TheVariants.{OutOfMemory}
 use Rattle.sqlite.specs.Order.{Row}
 use Rattle.sqlite.specs.Held.{Held, state}
-use Rattle.sqlite.specs.Given.{Advances, HasGiven}
+use Rattle.sqlite.specs.Given.{Advances, FailsToAdvance, HasGiven}
 use Rattle.sqlite.specs.State.{State, HasCleanDisk, IsUnchanged, Begins, Shown}
 use Rattle.hall_policy.specs.Sink.{HasTaken}
 
@@ -18,6 +21,17 @@ Steps {S} {K} {X} g read Takes old new before after true =
 Steps g read Takes old new before after false =
     (after ≡ before)
     × (HasCleanDisk (state g new) → IsUnchanged (state g old) (state g new) × Advances g old new None)
+
+-- the row is no record, or the sink refuses its record
+abbrev pub IsTurnedAway : {K X : Type 0} → (Row → Option X) → (K → X → Type 0) → K → Row → Type 0
+IsTurnedAway {K} {X} read Refuses sink row = (read row ≡ None) ⊎ ((x : X) × (read row ≡ Some x) × Refuses sink x)
+
+-- Why no row more is given: the query fails, though not for want of memory, or its next row is turned away.
+abbrev pub StepFails : {S K X : Type 0} → Ghosts S → (Row → Option X) → (K → X → Type 0) → Held S → Held S → K → Type 0
+StepFails g read Refuses old new sink =
+    ((e : Error) × (e ≢ SqliteFailure OutOfMemory) × FailsToAdvance g old new e)
+    ⊎ (IsUnchanged (state g old) (state g new) × (row : Row) × Advances g old new (Some row)
+    × IsTurnedAway read Refuses sink row)
 
 -- the connection runs the query, and has given rows that read as these records
 pub record HasRead {S X : Type 0} (g : Ghosts S) (read : Row → Option X) (sql : List ℕ) (params : Row) (first : State)

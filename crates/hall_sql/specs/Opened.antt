@@ -19,7 +19,7 @@ use Rattle.hall_store.specs.declared.fault.StoreFault.TheVariants.{Failed}
 use Rattle.hall_sql.specs.AdoptCause.{AdoptFails}
 use Rattle.hall_sql.specs.Tables.{no_schema, hall_schema}
 use Rattle.hall_sql.specs.Rows.{world_of}
-use Rattle.hall_sql.specs.Standing.{HasDeclined, content_of}
+use Rattle.hall_sql.specs.Standing.{HasAdopted, HasDeclined, content_of}
 use Rattle.hall_sql.specs.declared.open.OpenFault.{OpenFault}
 use Rattle.hall_sql.specs.declared.open.OpenFault.TheVariants.{Missing, Unopened, Refused}
 
@@ -53,9 +53,14 @@ pub record FindsWorld (image : Image) (world : World) : Type 0 where
 abbrev pub Starts : Image → Content → Type 0
 Starts image content = content.honest → content.serves × FindsWorld image content.world
 
--- asked for the database at the path alone, the files handed one out
-abbrev pub OpensAt : {F S : Type 0} → (F → List ℕ → Held S → F → Type 0) → F → List ℕ → F → Type 0
-OpensAt {F} {S} opens old path new = (was : Held S) × opens old path was new
+-- Asked for the database at the path alone, the files handed out the one that they held, and this became of it when a
+-- store took it over.
+pub record OpensAt {F S : Type 0} (g : Ghosts S) (image_at : List ℕ → Image) (opens : F → List ℕ → Held S → F → Type 0)
+    (old : F) (path : List ℕ) (held : Held S) (new : F) : Type 0 where
+  pub was : Held S
+  pub opened : opens old path was new
+  pub found : IsFound (image_at path) (state g was)
+  pub adopted : HasAdopted (state g was) (state g held)
 
 -- Asked for the database at the path alone, the files handed out the one that they held, which was refused by this fault,
 -- and took it back as it was left.
@@ -78,10 +83,11 @@ IsCauseAt g image_at refuses opens closes old path new (Unopened error) = refuse
 IsCauseAt g image_at refuses opens closes old path new (Refused fault) =
     IsHandedBack g image_at opens closes old path new fault
 
--- the files told that there is a file at the path, and then handed out the database
-abbrev pub OpensThere : {F S : Type 0} → (F → List ℕ → Bool → F → Type 0) → (F → List ℕ → Held S → F → Type 0)
-    → F → List ℕ → F → Type 0
-OpensThere {F} tells opens old path new = (there : F) × tells old path false there × OpensAt opens there path new
+-- the files told that there is a file at the path, and then handed out the database, of which this became
+abbrev pub OpensThere : {F S : Type 0} → Ghosts S → (List ℕ → Image) → (F → List ℕ → Bool → F → Type 0)
+    → (F → List ℕ → Held S → F → Type 0) → F → List ℕ → Held S → F → Type 0
+OpensThere {F} g image_at tells opens old path held new =
+    (there : F) × tells old path false there × OpensAt g image_at opens there path held new
 
 -- the files told that there is no file at the path, and were asked nothing more; or that there is one, and the cause is
 -- that of its database

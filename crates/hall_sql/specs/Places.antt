@@ -2,7 +2,7 @@
 use Rattle.std.specs.Prelude.{◌≡◌, ◌↔◌, ◌&&◌, ℕ, suc, Bool, List, Some, IsTrue, Contains, slice_get}
 use Rattle.std.specs.declared.cmp.Ordering.{Ordering}
 use Rattle.std.specs.Ordering.{nat_cmp}
-use Rattle.std.specs.List.Sorted.{IsSorted}
+use Rattle.std.specs.List.Sorted.{IsSorted, IsStrictlySortedBy}
 use Rattle.std.specs.FinMap.{get}
 use Rattle.hall_policy.specs.Text.{text_cmp}
 use Rattle.hall_policy.specs.World.{World, same_text}
@@ -28,10 +28,10 @@ is_in_round id place = same_text place.0.round id
 abbrev pub number_cmp : PlaceKey × Entry → PlaceKey × Entry → Ordering
 number_cmp a b = nat_cmp a.0.number b.0.number
 
--- all places of the round, in the order of their numbers
+-- all places of the round, each once, in the order of their numbers
 pub record AreListed (world : World) (id : List ℕ) (places : List (PlaceKey × Entry)) : Type 0 where
   pub whole : ArePlaces world (is_in_round id) places
-  pub in_order : IsSorted number_cmp places
+  pub in_order : IsStrictlySortedBy number_cmp places
 
 -- the places are numbered from 1 on
 abbrev pub AreNumbered : List (PlaceKey × Entry) → Type 0

@@ -52,12 +52,12 @@ pub record IsHall (s : State) : Type 0 where
 abbrev pub without_limit : State → State
 without_limit s = record s { step_limit = None }
 
--- no fault is forgotten, only a fault that is counted shuts the store, and no limit is set on the steps of a query
+-- no fault is forgotten, only a fault that is counted shuts the store, and the limit on the steps of a query stays
 pub record Lasts (old new : State) : Type 0 where
   pub clean : doubt old.is_clean ≤ doubt new.is_clean
   pub counts : old.faults ≤ new.faults
   pub closes : HasCleanDisk new → IsTrue old.is_open → IsTrue new.is_open ⊎ MoreFaults old.faults new.faults
-  pub unlimited : old.step_limit ≡ None → new.step_limit ≡ None
+  pub limit : new.step_limit ≡ old.step_limit
 
 -- so it was left, and a store that is shut stays so
 pub record Follows (old new : State) : Type 0 where
@@ -140,16 +140,16 @@ StoodOrEmpty old new =
     ((old.now.schema ≡ hall_schema) × (new.now ≡ old.now))
     ⊎ ((old.now.schema ≡ no_schema) × IsBare hall_schema new.now)
 
--- a connection on which no transaction was open became a hall's
+-- a connection on which no transaction was open became a hall's, with no limit on the steps of a query any more
 pub record HasAdopted (old new : State) : Type 0 where
   pub alone : old.in_transaction ≡ false
   pub hall : IsHall new
-  pub follows : Follows old new
+  pub follows : Follows (without_limit old) new
   pub serves : HasCleanDisk new → IsTrue new.is_open
   pub stood : HasCleanDisk new → StoodOrEmpty old new
 
--- A connection was refused. Whether a transaction is open is as it was, and so are the savepoints of an open one; while
--- the store serves, so are the tables and what is committed of them.
+-- A connection was refused. Its limit on the steps of a query is as it was, and so is whether a transaction is open, with
+-- the savepoints of an open one; while the store serves, so are the tables and what is committed of them.
 pub record HasDeclined (old new : State) : Type 0 where
   pub follows : Follows old new
   pub mode : HasCleanDisk new → new.in_transaction ≡ old.in_transaction

@@ -19,19 +19,19 @@ use Rattle.sqlite.specs.Held.{Held, state}
 use Rattle.sqlite.specs.Listing.{understood}
 use Rattle.sqlite.specs.Order.{Row}
 use Rattle.sqlite.specs.State.{State, HasCleanDisk, Executes, ExecutesInside, FailsToQuery, IsTooLate, Shown}
-use Rattle.hall_grid.specs.Text.{SpellsText}
+use Rattle.hall_grid.specs.Canonical.{CanonicalText}
 use Rattle.hall_policy.specs.declared.record.Entry.{Entry}
 use Rattle.hall_policy.specs.declared.record.Person.{Person}
 use Rattle.hall_policy.specs.declared.record.ProtestKey.{ProtestKey}
+use Rattle.hall_policy.specs.declared.record.ProtestRow.{ProtestRow}
 use Rattle.hall_policy.specs.declared.record.PuzzleKey.{PuzzleKey}
 use Rattle.hall_policy.specs.declared.record.PuzzleRow.{PuzzleRow}
 use Rattle.hall_policy.specs.declared.record.PuzzleState.{PuzzleState}
 use Rattle.hall_policy.specs.declared.record.Round.{Round}
 use Rattle.hall_policy.specs.declared.record.RoundRow.{RoundRow}
 use Rattle.hall_policy.specs.declared.record.Ruling.{Ruling}
-use Rattle.hall_store.specs.Change.{changed, flagged}
+use Rattle.hall_store.specs.Change.{flagged}
 use Rattle.hall_store.specs.Store.{Fails}
-use Rattle.hall_store.specs.declared.change.Change.TheVariants.{Import}
 use Rattle.hall_store.specs.declared.change.RoundFlag.{RoundFlag}
 use Rattle.hall_store.specs.declared.fault.StoreFault.{StoreFault}
 use Rattle.hall_store.specs.declared.fault.StoreFault.TheVariants.{Failed}
@@ -44,6 +44,7 @@ use Rattle.hall_sql.specs.RoundPuts.{PutsHead, DropsPlaces, PutsPlaces}
 use Rattle.hall_sql.specs.Rows.{world_of, person_in, puzzle_row_in, protest_in, round_in}
 use Rattle.hall_sql.specs.Statements.{add_person_text, person_text, add_puzzle_text, replace_puzzle_text, puzzle_text}
 use Rattle.hall_sql.specs.Statements.{add_head_text, replace_head_text, head_text, drop_places_text, add_place_text}
+use Rattle.hall_sql.specs.Standing.{HasAdded}
 use Rattle.hall_sql.specs.Statements.{rule_protest_text, protest_text}
 use Rattle.hall_sql.specs.Tables.{hall_schema}
 
@@ -66,7 +67,8 @@ pub record IsWritten (sql : List ℕ) (params : Row) : Type 0 where
 abbrev pub enforced : Mode
 enforced = record { keys = Enforced; in_doubt = false; may_wait = false }
 
--- A rule of the tables refuses what the statement would make of them, or a row that it would make is too large to be kept.
+-- A rule of the tables refuses what the statement would make of them, or a row that it would make is too large to be kept,
+-- or no rowid is left for it.
 abbrev pub IsRefused : List ℕ → Row → Database → Type 0
 IsRefused sql params db =
     (stop : Option Error)
@@ -99,12 +101,13 @@ RefusesToAsk sql params old new =
 
 -- ---- puzzles
 
--- the statement that puts a puzzle where so many rows stand under its key is refused, or there are more than one
+-- the statement that puts a puzzle, as its canonical text, where so many rows stand under its key is refused, or there
+-- are more than one
 abbrev pub PuzzleIsRefused : PuzzleRow → ℕ → Database → Type 0
 PuzzleIsRefused row zero db =
-    (text : List ℕ) × SpellsText text row.puzzle × IsRefused add_puzzle_text (puzzle_params text row) db
+    (text : List ℕ) × CanonicalText text row.puzzle × IsRefused add_puzzle_text (puzzle_params text row) db
 PuzzleIsRefused row (suc zero) db =
-    (text : List ℕ) × SpellsText text row.puzzle × IsRefused replace_puzzle_text (puzzle_params text row) db
+    (text : List ℕ) × CanonicalText text row.puzzle × IsRefused replace_puzzle_text (puzzle_params text row) db
 PuzzleIsRefused row (suc (suc more)) db = Unit
 
 -- why a put of a puzzle fails
@@ -121,11 +124,12 @@ SetStateFails key known old new =
 
 -- ---- protests
 
--- Why a ruling fails: the protest can't be read, or the statement that rules it is refused.
+-- Why a ruling fails: the protest can't be read, or there is one, and the statement that rules it is refused.
 abbrev pub RuleFails : ProtestKey → Ruling → State → State → Type 0
 RuleFails key ruling old new =
     FindFails protest_in protest_text (Text key.entrant ∷ Text key.round ∷ Text key.token ∷ []) old new
-    ⊎ RunFails rule_protest_text (ruling_params key (Some ruling)) old new
+    ⊎ ((row : ProtestRow) × (get (world_of old.now.trees).protests key ≡ Some row)
+    × RunFails rule_protest_text (ruling_params key (Some ruling)) old new)
 
 -- ---- rounds
 
@@ -182,13 +186,28 @@ IsUnfound name old new =
     (rows : List Row) × Shown person_text (Text name ∷ []) old new rows
     × (IsAnyUnread person_in rows ⊎ (1 < length rows))
 
--- so it does, or the statement that adds the person is refused
+-- nobody of that name is known
+abbrev pub IsUnknown : List ℕ → Database → Type 0
+IsUnknown name held = get (world_of held.trees).people name ≡ None
+
+-- so it does, or the name is unknown, and the statement that adds the person is refused
 abbrev pub PersonIsRefused : Person → State → State → Type 0
 PersonIsRefused person old new =
-    IsUnfound person.name old new ⊎ IsRefused add_person_text (person_params person) old.now
+    IsUnfound person.name old new
+    ⊎ (IsUnknown person.name old.now × IsRefused add_person_text (person_params person) old.now)
 
--- Those before one person of the list are added, and that one is refused. What the rest makes of the world there, is
--- what the whole list makes of the one before.
+-- where the name is unknown, the person's row is added, and else nothing
+abbrev pub ImportsOne : Person → Database → Database → Type 0
+ImportsOne person old new =
+    (IsUnknown person.name old × HasAdded hall_schema 0 (person_params person) old new)
+    ⊎ ((¬ IsUnknown person.name old) × (new ≡ old))
+
+-- so for each of the people, one after another
+abbrev pub ImportsEach : List Person → Database → Database → Type 0
+ImportsEach [] old new = new ≡ old
+ImportsEach (person ∷ rest) old new = (next : Database) × ImportsOne person old next × ImportsEach rest next new
+
+-- those before one person of the list are imported, and that one is refused
 pub record OneIsRefused {S : Type 0} (g : Ghosts S) (people : List Person) (old : Database) : Type 0 where
   pub at : ℕ
   pub person : Person
@@ -196,8 +215,7 @@ pub record OneIsRefused {S : Type 0} (g : Ghosts S) (people : List Person) (old 
   pub mid : Held S
   pub left : Held S
   pub hall : IsHallData (state g mid).now
-  pub before : changed (Import (drop at people)) (world_of (state g mid).now.trees)
-      ≡ changed (Import people) (world_of old.trees)
+  pub before : ImportsEach (take at people) old (state g mid).now
   pub refused : PersonIsRefused person (state g mid) (state g left)
 
 -- why an import fails

@@ -3,13 +3,12 @@ ghost use Rattle.std.specs.Prelude.{◌≡◌, IfOk, OnOk, OnErr, [], ◌∷◌}
 ghost use Rattle.sqlite.specs.declared.types.Value.TheVariants.{Text};
 ghost use Rattle.sqlite.specs.Values.{bound};
 ghost use Rattle.sqlite.specs.Held.{state};
-ghost use Rattle.sqlite.specs.Given.{IsPlain};
-ghost use Rattle.sqlite.specs.Listing.{understood};
 ghost use Rattle.sqlite.specs.State.{HasCleanDisk};
-ghost use Rattle.hall_store.specs.Store.{Fed, IsListing, is_in, protests_in};
-ghost use Rattle.hall_sql.specs.Tables.{hall_schema};
+ghost use Rattle.hall_store.specs.Store.{Fails, Fed, IsListing, is_in, protests_in};
+ghost use Rattle.hall_sql.specs.Asked.{IsAsked};
+ghost use Rattle.hall_sql.specs.Cause.{FeedFails};
 ghost use Rattle.hall_sql.specs.Standing.{IsHall, Rests, Rested, content_of, Lasts};
-ghost use Rattle.hall_sql.specs.Feed.{Steps, FedRows};
+ghost use Rattle.hall_sql.specs.Feed.{Steps, StepFails, FedRows};
 ghost use Rattle.hall_sql.specs.Rows.{answer_in, protest_in};
 ghost use Rattle.hall_sql.specs.Statements.{answers_in_text, protests_in_text};
 ghost use Rattle.hall_sql.specs.Whole.{AreRecords};
@@ -29,14 +28,20 @@ pub(crate) trait GivenTo<K>: Record {
     // The sink before, the record, the sink after.
     ghost takes: { K → Self → K → Type 0 };
 
+    // The sink, and a record that it refuses.
+    ghost refuses: { K → Self → Type 0 };
+
     /// Gives it to the sink. Refused, the sink stays as it was.
     fn give_to(&self, sink: &mut K) -> Result<(), StoreFault>
         ensures took { OnOk result (takes sink.old self.now sink.new) }
-        ensures same { OnErr result (sink.new ≡ sink.old) };
+        ensures same { OnErr result (sink.new ≡ sink.old) }
+        ensures refused { Fails (refuses sink.old self.now) result };
 }
 
 impl<K: AnswerSink> GivenTo<K> for AnswerRow {
     ghost takes = { K.AnswerSink.takes };
+
+    ghost refuses = { K.AnswerSink.refuses };
 
     fn give_to(&self, sink: &mut K) -> Result<(), StoreFault> {
         Ok(sink.take(self)?)
@@ -45,6 +50,8 @@ impl<K: AnswerSink> GivenTo<K> for AnswerRow {
 
 impl<K: ProtestSink> GivenTo<K> for ProtestRow {
     ghost takes = { K.ProtestSink.takes };
+
+    ghost refuses = { K.ProtestSink.refuses };
 
     fn give_to(&self, sink: &mut K) -> Result<(), StoreFault> {
         Ok(sink.take(self)?)
@@ -64,6 +71,8 @@ fn step<S: Alter, K, T: GivenTo<K> + Drop>(
     ensures stepped { IfOk result
         (Steps S.Store T.read T.takes rows.old.conn.now rows.new.conn.now sink.old sink.new) }
     ensures same { OnErr result (sink.new ≡ sink.old) }
+    ensures cause { HasCleanDisk (state S.Store rows.new.conn.now) → Fails
+        (StepFails S.Store T.read T.refuses rows.old.conn.now rows.new.conn.now sink.old) result }
 {
     if let Err(error) = rows.advance() {
         return Err(fault_of(&error));
@@ -83,11 +92,13 @@ fn feed<S: Alter, K, T: GivenTo<K> + Drop>(
     params: &[ValueRef<'_>],
     sink: &mut K,
 ) -> Result<(), StoreFault>
-    requires plain { IsPlain (understood hall_schema sql.now) }
+    requires asks { IsAsked sql.now (bound params.now) }
     requires hall { IsHall (state S.Store conn.old) }
     ensures rested { Rested (state S.Store conn.old) (state S.Store conn.new) }
     ensures fed { FedRows S.Store T.read T.takes sql.now (bound params.now)
         (state S.Store conn.old) (state S.Store conn.new) sink.old result sink.new }
+    ensures cause { HasCleanDisk (state S.Store conn.new) → Fails (FeedFails T.read T.takes T.refuses sql.now
+        (bound params.now) (state S.Store conn.old) (state S.Store conn.new) sink.old sink.new) result }
 {
     let mut rows = match conn.query(sql, params) {
         Ok(rows) => rows,
@@ -98,7 +109,8 @@ fn feed<S: Alter, K, T: GivenTo<K> + Drop>(
             return Ok(());
         }
     }
-    Err(StoreFault::Failed)
+    // As many rows as the loop has rounds have no room anywhere.
+    Err(StoreFault::Memory)
 }
 
 /// Gives the sink the answers of the round, by entrant, number, then n. Where it refuses one, it has taken those
@@ -115,6 +127,9 @@ pub(crate) fn feed_answers<S: Alter, K: AnswerSink>(
         (content_of (state S.Store conn.old)) (content_of (state S.Store conn.new)) sink.old result sink.new }
     ensures whole { HasCleanDisk (state S.Store conn.new) → IfOk result (λ _.
         AreRecords answer_in answers_in_text (Text round.now ∷ []) (state S.Store conn.old) (state S.Store conn.new)) }
+    ensures cause { HasCleanDisk (state S.Store conn.new) → Fails
+        (FeedFails answer_in K.takes K.refuses answers_in_text (Text round.now ∷ []) (state S.Store conn.old)
+        (state S.Store conn.new) sink.old sink.new) result }
 {
     let _schema = conn.schema();
     feed::<S, K, AnswerRow>(conn, alloc, ANSWERS_IN, params![round.as_str()], sink)
@@ -133,6 +148,9 @@ pub(crate) fn feed_protests<S: Alter, K: ProtestSink>(
         (content_of (state S.Store conn.old)) (content_of (state S.Store conn.new)) sink.old result sink.new }
     ensures whole { HasCleanDisk (state S.Store conn.new) → IfOk result (λ _.
         AreRecords protest_in protests_in_text (Text round.now ∷ []) (state S.Store conn.old) (state S.Store conn.new)) }
+    ensures cause { HasCleanDisk (state S.Store conn.new) → Fails
+        (FeedFails protest_in K.takes K.refuses protests_in_text (Text round.now ∷ []) (state S.Store conn.old)
+        (state S.Store conn.new) sink.old sink.new) result }
 {
     let _schema = conn.schema();
     feed::<S, K, ProtestRow>(conn, alloc, PROTESTS_IN, params![round.as_str()], sink)

@@ -1,11 +1,13 @@
 //! The hall's tables in the files at a path, and in memory.
-ghost use Rattle.std.specs.Prelude.{◌≡◌, IfOk, IfErr, OnOk};
+ghost use Rattle.std.specs.Prelude.{◌≡◌, IfOk, IfErr};
 ghost use Rattle.sqlite.specs.Held.{state};
 ghost use Rattle.sqlite.specs.Steps.{over_memory};
 ghost use Rattle.hall_store.specs.Maps.{empty_world};
 ghost use Rattle.hall_store.specs.Store.{Fails};
-ghost use Rattle.hall_sql.specs.Standing.{content_of};
-ghost use Rattle.hall_sql.specs.Opened.{IsCauseAt, IsCauseThere, MemoryServes, OneWorldIsFound, OpensAt, OpensThere, Starts};
+ghost use Rattle.hall_sql.specs.Tables.{hall_schema};
+ghost use Rattle.hall_sql.specs.Standing.{IsBare, content_of};
+ghost use Rattle.hall_sql.specs.Opened.{IsCauseAt, IsCauseThere, OpensAt, OpensThere, Starts};
+ghost use Rattle.hall_sql.specs.Opened.{MemoryServes, OneWorldIsFound};
 
 use crate::sql_store::{Declined, SqlStore};
 use hall_store::StoreFault;
@@ -82,7 +84,8 @@ pub fn open_at<S: Alter + Drop, F: PathFiles<S>>(
     files: &mut F,
     path: &str,
 ) -> Result<SqlStore<S>, OpenFault>
-    ensures opened { OnOk result (OpensAt F.opens files.old path.now files.new) }
+    ensures opened { IfOk result (λ store.
+        OpensAt S.Store F.image_at F.opens files.old path.now store files.new) }
     ensures starts { IfOk result (λ store. Starts (F.image_at path.now) (content_of (state S.Store store))) }
     ensures cause { IfErr result (IsCauseAt S.Store F.image_at F.refuses F.opens F.closes files.old path.now files.new) }
 {
@@ -104,7 +107,8 @@ pub fn open_there<S: Alter + Drop, F: PathFiles<S>>(
     files: &mut F,
     path: &str,
 ) -> Result<SqlStore<S>, OpenFault>
-    ensures opened { OnOk result (OpensThere F.tells F.opens files.old path.now files.new) }
+    ensures opened { IfOk result (λ store.
+        OpensThere S.Store F.image_at F.tells F.opens files.old path.now store files.new) }
     ensures starts { IfOk result (λ store. Starts (F.image_at path.now) (content_of (state S.Store store))) }
     ensures cause { IfErr result
         (IsCauseThere S.Store F.image_at F.tells F.refuses F.opens F.closes files.old path.now files.new) }
@@ -118,6 +122,7 @@ pub fn open_there<S: Alter + Drop, F: PathFiles<S>>(
 /// The hall's tables in memory, without a row.
 pub fn open_in_memory(alloc: Global) -> Result<SqlStore<MemStore>, StoreFault>
     ensures empty { IfOk result (λ store. (content_of (state over_memory store)).world ≡ empty_world) }
+    ensures bare { IfOk result (λ store. IsBare hall_schema (state over_memory store).now) }
     ensures cause { Fails ⊥ result }
 {
     let conn = Connection::open_in_memory(alloc)?;

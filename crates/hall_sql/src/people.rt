@@ -14,7 +14,8 @@ ghost use Rattle.hall_sql.specs.Statements.{add_person_text, person_by_key_text,
 ghost use Rattle.hall_sql.specs.Rows.{person_in};
 ghost use Rattle.hall_sql.specs.Whole.{AreRecords};
 ghost use Rattle.hall_sql.specs.Cause.{IsStoreCause, FindFails};
-ghost use Rattle.hall_sql.specs.WriteCause.{RunFails, IsUnfound, PersonIsRefused, ImportFails, InsideFails};
+ghost use Rattle.hall_sql.specs.WriteCause.{RunFails, IsUnfound, ImportsOne, PersonIsRefused, ImportFails};
+ghost use Rattle.hall_sql.specs.WriteCause.{InsideFails};
 
 use crate::calls::{ask_in, fault_of, run_in};
 use crate::reads::find;
@@ -134,6 +135,9 @@ fn import_one<S: Alter>(
     ensures carries { Carries (state S.Store tx.old.conn.now) (state S.Store tx.new.conn.now) }
     ensures done { HasCleanDisk (state S.Store tx.new.conn.now) → IsTrue (state S.Store tx.old.conn.now).in_transaction
         → OnOk result (Did (Changes (Import (person.now ∷ [])))
+        (state S.Store tx.old.conn.now) (state S.Store tx.new.conn.now)) }
+    ensures row { HasCleanDisk (state S.Store tx.new.conn.now) → IsTrue (state S.Store tx.old.conn.now).in_transaction
+        → OnOk result (Did (ImportsOne person.now)
         (state S.Store tx.old.conn.now) (state S.Store tx.new.conn.now)) }
     ensures cause { InsideFails (state S.Store tx.old.conn.now) (state S.Store tx.new.conn.now)
         (IsStoreCause (state S.Store tx.old.conn.now) (state S.Store tx.new.conn.now)

@@ -6,6 +6,7 @@ ghost use Rattle.hall_store.specs.Store.{Served, Fails, puzzles_of};
 ghost use Rattle.hall_policy.specs.Rules.{puzzles_put};
 ghost use Rattle.sqlite.specs.State.{HasCleanDisk};
 ghost use Rattle.hall_grid.specs.Text.{SpellsText};
+ghost use Rattle.hall_grid.specs.Canonical.{CanonicalText};
 ghost use Rattle.hall_policy.specs.Ranges.{IsPuzzleKey, IsState};
 ghost use Rattle.hall_store.specs.declared.change.Change.TheVariants.{PutPuzzle, SetState};
 ghost use Rattle.hall_sql.specs.Columns.{puzzle_params, HasSoMany, state_code, solution_of};
@@ -242,7 +243,7 @@ fn put_over<S: Alter>(
     }
 }
 
-/// Stores the puzzle that the text spells, under whose key so many rows stand.
+/// Stores the puzzle, whose text this is, under whose key so many rows stand.
 fn put_found<S: Alter>(
     conn: &mut Connection<S>,
     row: &PuzzleRow,
@@ -251,6 +252,7 @@ fn put_found<S: Alter>(
 ) -> Result<(), StoreFault>
     requires hall { IsHall (state S.Store conn.old) }
     requires spells { SpellsText text.now row.now.puzzle }
+    requires canonical { CanonicalText text.now row.now.puzzle }
     requires found { HasCleanDisk (state S.Store conn.old) → HasSoMany row.now.key (state S.Store conn.old) count }
     ensures wrote { Wrote (PutPuzzle row.now) (state S.Store conn.old) (state S.Store conn.new) result }
     ensures cause { HasCleanDisk (state S.Store conn.new) → Fails (IsStoreCause (state S.Store conn.old)

@@ -11,6 +11,7 @@ ghost use Rattle.hall_store.specs.declared.change.Change.TheVariants.{PutRound, 
 ghost use Rattle.hall_sql.specs.Inside.{Carries, Did, Changes};
 ghost use Rattle.hall_sql.specs.RoundColumns.{mode_code, head_params, place_params, IsHead};
 ghost use Rattle.hall_sql.specs.RoundPuts.{CountsHeads, PutsHead, PutsHeadOver, DropsPlaces, PutsPlace, PutsPlaces};
+ghost use Rattle.hall_sql.specs.RoundPuts.{PutsRows};
 ghost use Rattle.hall_sql.specs.Standing.{IsHall, Rested, Wrote, content_of};
 ghost use Rattle.sqlite.specs.declared.types.Value.TheVariants.{Text};
 ghost use Rattle.hall_store.specs.Store.{Fails};
@@ -282,6 +283,9 @@ fn put_inside<S: Alter>(tx: &mut Transaction<'_, S>, row: &RoundRow) -> Result<(
     ensures done { HasCleanDisk (state S.Store tx.new.conn.now) → IsTrue (state S.Store tx.old.conn.now).in_transaction
         → OnOk result (Did (Changes (PutRound row.now)) (state S.Store tx.old.conn.now)
         (state S.Store tx.new.conn.now)) }
+    ensures rows { HasCleanDisk (state S.Store tx.new.conn.now) → IsTrue (state S.Store tx.old.conn.now).in_transaction
+        → OnOk result (Did (PutsRows row.now) (state S.Store tx.old.conn.now)
+        (state S.Store tx.new.conn.now)) }
     ensures cause { InsideFails (state S.Store tx.old.conn.now) (state S.Store tx.new.conn.now)
         (PutRoundFails row.now (state S.Store tx.old.conn.now) (state S.Store tx.new.conn.now)) result }
 {
@@ -297,6 +301,8 @@ pub(crate) fn put_round<S: Alter>(
 ) -> Result<(), StoreFault>
     requires hall { IsHall (state S.Store conn.old) }
     ensures wrote { Wrote (PutRound row.now) (state S.Store conn.old) (state S.Store conn.new) result }
+    ensures rows { HasCleanDisk (state S.Store conn.new) → OnOk result
+        (PutsRows row.now (state S.Store conn.old).now (state S.Store conn.new).now) }
     ensures cause { HasCleanDisk (state S.Store conn.new) → Fails (PutRoundFails row.now
         (state S.Store conn.old) (state S.Store conn.new)) result }
 {

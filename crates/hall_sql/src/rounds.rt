@@ -233,7 +233,7 @@ pub(crate) fn round<S: Alter>(
         × AreRecords round_in head_text (Text id.now ∷ []) (state S.Store conn.old) (state S.Store mid)
         × AreRecords place_in places_of_text (Text id.now ∷ []) (state S.Store mid) (state S.Store conn.new)) }
     ensures cause { HasCleanDisk (state S.Store conn.new) → Fails
-        (RoundFails S.Store id.now (state S.Store conn.old) (state S.Store conn.new)) result }
+        (RoundFails id.now (state S.Store conn.old) (state S.Store conn.new)) result }
 {
     let head = head(conn, alloc, id)?;
     let places = places_of(conn, alloc, id)?;

@@ -79,7 +79,7 @@ impl<S: Alter + Drop> SqlStore<S> {
 }
 
 impl<S: Alter + Drop> Store for SqlStore<S> {
-    ghost use Rattle.std.specs.Prelude.{◌≡◌, ◌↔◌, ◌⊎◌, IsTrue, IfOk, IfErr, [], ◌∷◌, pos};
+    ghost use Rattle.std.specs.Prelude.{◌≡◌, ◌↔◌, ◌⊎◌, IsTrue, IfOk, IfErr, OnOk, [], ◌∷◌, pos};
     ghost use Rattle.std.specs.FinMap.{get, values};
     ghost use Rattle.sqlite.specs.declared.types.Value.TheVariants.{Text, Int};
     ghost use Rattle.sqlite.specs.Held.{Held, state};
@@ -101,11 +101,12 @@ impl<S: Alter + Drop> Store for SqlStore<S> {
     ghost use Rattle.hall_sql.specs.Statements.{answers_of_text, answers_in_text, protest_text, protests_of_text};
     ghost use Rattle.hall_sql.specs.Statements.{protests_in_text};
     ghost use Rattle.hall_sql.specs.Whole.{AreRecords};
-    ghost use Rattle.hall_sql.specs.Cause.{ReadFails, FindFails, RoundFails};
+    ghost use Rattle.hall_sql.specs.Cause.{ReadFails, FeedFails, FindFails, RoundFails};
     ghost use Rattle.hall_sql.specs.Columns.{answer_params, protest_params};
     ghost use Rattle.hall_sql.specs.Statements.{add_answer_text, add_protest_text};
     ghost use Rattle.hall_sql.specs.WriteCause.{ImportFails, PutPuzzleFails, PutRoundFails, RuleFails, RunFails};
     ghost use Rattle.hall_sql.specs.WriteCause.{SetFlagFails, SetStateFails};
+    ghost use Rattle.hall_sql.specs.RoundPuts.{PutsRows};
     ghost use Rattle.hall_sql.specs.Standing.{Rested, Wrote, content_of};
 
     ghost content = { λ s. content_of (state S.Store s) };
@@ -247,7 +248,7 @@ impl<S: Alter + Drop> Store for SqlStore<S> {
             × AreRecords round_in head_text (Text id.now ∷ []) (state S.Store self.old) (state S.Store mid)
             × AreRecords place_in places_of_text (Text id.now ∷ []) (state S.Store mid) (state S.Store self.new)) }
         ensures cause { HasCleanDisk (state S.Store self.new) → Fails
-            (RoundFails S.Store id.now (state S.Store self.old) (state S.Store self.new)) result }
+            (RoundFails id.now (state S.Store self.old) (state S.Store self.new)) result }
     {
         round(&mut self.conn, alloc, id)
     }
@@ -269,6 +270,8 @@ impl<S: Alter + Drop> Store for SqlStore<S> {
 
     fn put_round(&mut self, _alloc: Global, row: RoundRow) -> Result<(), StoreFault>
         ensures wrote { Wrote (PutRound row) (state S.Store self.old) (state S.Store self.new) result }
+        ensures rows { HasCleanDisk (state S.Store self.new) → OnOk result
+            (PutsRows row (state S.Store self.old).now (state S.Store self.new).now) }
         ensures cause { HasCleanDisk (state S.Store self.new) → Fails
             (PutRoundFails row (state S.Store self.old) (state S.Store self.new)) result }
     {
@@ -433,6 +436,9 @@ impl<S: Alter + Drop> Store for SqlStore<S> {
         ensures whole { HasCleanDisk (state S.Store self.new) → IfOk result (λ _.
             AreRecords answer_in answers_in_text (Text round.now ∷ []) (state S.Store self.old)
             (state S.Store self.new)) }
+        ensures cause { HasCleanDisk (state S.Store self.new) → Fails
+            (FeedFails answer_in K.takes K.refuses answers_in_text (Text round.now ∷ []) (state S.Store self.old)
+            (state S.Store self.new) sink.old sink.new) result }
     {
         feed_answers(&mut self.conn, alloc, round, sink)
     }
@@ -587,6 +593,9 @@ impl<S: Alter + Drop> Store for SqlStore<S> {
         ensures whole { HasCleanDisk (state S.Store self.new) → IfOk result (λ _.
             AreRecords protest_in protests_in_text (Text round.now ∷ []) (state S.Store self.old)
             (state S.Store self.new)) }
+        ensures cause { HasCleanDisk (state S.Store self.new) → Fails
+            (FeedFails protest_in K.takes K.refuses protests_in_text (Text round.now ∷ []) (state S.Store self.old)
+            (state S.Store self.new) sink.old sink.new) result }
     {
         feed_protests(&mut self.conn, alloc, round, sink)
     }

@@ -91,8 +91,8 @@ pub(crate) fn candidates<const CELLS: usize>(
     Some(candidates)
 }
 
-/// How much is known at a cell that may have one of the values: 1 where it is open, and 5 where it has two values left.
-fn tie(candidates: &[Values], partial: &Partial, values: Values, cell: usize) -> u32
+/// How much is known at a cell that may have one of the values: 1 where it is open, and more where it has two left.
+fn tie(units: &Units, candidates: &[Values], partial: &Partial, values: Values, cell: usize) -> u32
     requires cell { cell < length partial.now.places }
     requires room { cell < length candidates.now }
 {
@@ -100,7 +100,13 @@ fn tie(candidates: &[Values], partial: &Partial, values: Values, cell: usize) ->
     if partial.get(cell).is_some() || left.and(values).is_empty() {
         return 0;
     }
-    if left.count() == 2 { 5 } else { 1 }
+    if left.count() != 2 {
+        1
+    } else if units.side() > 16 {
+        8
+    } else {
+        5
+    }
 }
 
 /// How much is known round a cell: at the other cells of its units.
@@ -115,11 +121,11 @@ fn ties(units: &Units, candidates: &[Values], partial: &Partial, cell: usize) ->
     for line in 0..usize::from(units.side()) {
         if line != column {
             let beside = units.at(row, line);
-            ties = ties.saturating_add(tie(candidates, partial, values, beside));
+            ties = ties.saturating_add(tie(units, candidates, partial, values, beside));
         }
         if line != row {
             let below = units.at(line, column);
-            ties = ties.saturating_add(tie(candidates, partial, values, below));
+            ties = ties.saturating_add(tie(units, candidates, partial, values, below));
             if units.box_number(below) == units.box_number(cell) {
                 ties = ties.saturating_add(ties_across(units, candidates, partial, cell, line));
             }
@@ -145,7 +151,7 @@ fn ties_across(
     for column in 0..usize::from(units.side()) {
         let other = units.at(row, column);
         if column != units.column(cell) && units.box_number(other) == units.box_number(cell) {
-            ties = ties.saturating_add(tie(candidates, partial, candidates[cell], other));
+            ties = ties.saturating_add(tie(units, candidates, partial, candidates[cell], other));
         }
     }
     ties

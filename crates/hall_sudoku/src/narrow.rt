@@ -12,7 +12,7 @@ use crate::values::Values;
 use hall_solve::Partial;
 
 /// Takes values out that the cells have in no solution.
-fn take_out(units: &Units, partial: &Partial, out: &[Values], candidates: &mut [Values])
+pub(crate) fn take_out(units: &Units, partial: &Partial, out: &[Values], candidates: &mut [Values])
     requires room { cells units.now ≤ length candidates.old }
     requires out_room { cells units.now ≤ length out.now }
     requires out { AreOut units.now partial.now.places out.now }
@@ -25,7 +25,7 @@ fn take_out(units: &Units, partial: &Partial, out: &[Values], candidates: &mut [
 }
 
 /// Whether each cell has a candidate left.
-fn all_filled(units: &Units, partial: &Partial, candidates: &[Values]) -> bool
+pub(crate) fn all_filled(units: &Units, partial: &Partial, candidates: &[Values]) -> bool
     requires room { cells units.now ≤ length candidates.now }
     requires candidates { AreCandidates units.now partial.now.places candidates.now }
     ensures filled { IsTrue result → AreFilled units.now candidates.now }

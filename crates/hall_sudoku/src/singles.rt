@@ -12,6 +12,7 @@ ghost use Rattle.hall_sudoku.specs.Candidates.{IsSole, HasNoSole, HaveNoSole};
 
 use crate::candidates::candidates;
 use crate::narrow::narrow;
+use crate::pairs::leave_pairs;
 use crate::units::{MOST_UNITS, Room, Units};
 use crate::values::Values;
 use hall_solve::{Deduce, Partial, Pass};
@@ -166,6 +167,35 @@ fn soles(units: &Units, candidates: &[Values], partial: &mut Partial) -> Pass
     }
 }
 
+/// The same; where nothing follows, also with the candidates that pairs leave. Up to side 9 these cost more than they
+/// bring.
+fn narrowed_soles<const CELLS: usize>(
+    units: &Units,
+    candidates: &mut [Values],
+    partial: &mut Partial,
+) -> Pass
+    requires fits { cells units.now ≤ CELLS }
+    requires few { CELLS ≤ 625 }
+    requires room { cells units.now ≤ length candidates.old }
+    requires partial { IsPartial (units_question units.now) partial.old.places }
+    requires candidates { AreCandidates units.now partial.old.places candidates.old }
+    requires filled { AreFilled units.now candidates.old }
+    requires apart { HaveNoClash units.now partial.old.places }
+    ensures deduced { IsDeduced (units_question units.now) partial.old.places partial.new.places result }
+    ensures grows { Grows partial.old partial.new }
+    ensures settled { result ≡ Pass.Settled → IsSettled units.now partial.new.places }
+{
+    match soles(units, candidates, partial) {
+        Pass::Settled if units.side() > 9 => {}
+        pass => return pass,
+    }
+    if leave_pairs::<CELLS>(units, partial, candidates) {
+        soles(units, candidates, partial)
+    } else {
+        Pass::Dead
+    }
+}
+
 /// A pass over a board of at most so many cells.
 fn pass_in<const CELLS: usize>(units: &Units, partial: &mut Partial) -> Pass
     requires fits { cells units.now ≤ CELLS }
@@ -183,7 +213,7 @@ fn pass_in<const CELLS: usize>(units: &Units, partial: &mut Partial) -> Pass
         pass => return pass,
     }
     if narrow::<CELLS>(units, partial, &mut candidates) {
-        soles(units, &candidates, partial)
+        narrowed_soles::<CELLS>(units, &mut candidates, partial)
     } else {
         Pass::Dead
     }

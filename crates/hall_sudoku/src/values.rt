@@ -115,6 +115,13 @@ impl Values {
         }
     }
 
+    /// Whether there are two values.
+    pub(crate) fn has_two(self) -> bool
+        ensures { IsTrue result → HasTwo self }
+    {
+        !self.is_empty() && self.only().is_none()
+    }
+
     /// How many values there are.
     pub(crate) fn count(self) -> u32 {
         self.bits.count_ones()

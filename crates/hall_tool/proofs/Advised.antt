@@ -13,13 +13,14 @@ use Rattle.sqlite.specs.declared.error.ErrorCode.TheVariants as code
 use Rattle.hall_sql.specs.declared.open.OpenFault.{OpenFault}
 use Rattle.hall_sql.specs.declared.open.OpenFault.TheVariants as database
 use Rattle.hall_store.specs.declared.fault.StoreFault.TheVariants as store
-use Rattle.hall_tool.specs.Advice.{AreFaultsTold, IsFaultText, code_lines, database_lines, fault_lines, list_lines, open_lines}
+use Rattle.hall_tool.specs.Advice.{AreFaultsTold, IsErrorText, IsFaultText, code_lines, database_lines, fault_lines, list_lines, open_lines}
 use Rattle.hall_tool.specs.declared.fault.CommandFault.{CommandFault}
 use Rattle.hall_tool.specs.declared.fault.CommandFault.TheVariants as command
 use Rattle.hall_tool.specs.declared.fault.ToolFault.TheVariants as tool
 use Rattle.hall_tool.specs.declared.advice.TheConstants.{NO_MEMORY, NO_DEVICE, NO_STORE, NO_LIST, NO_FILE, IN_USE}
 use Rattle.hall_tool.specs.declared.advice.TheConstants.{NO_DATABASE, OTHER_TABLES, FULL, UNREADABLE}
 use Rattle.hall_tool.specs.declared.advice.TheConstants.{NO_PORT, NO_CLIENT}
+use Rattle.hall_tool.specs.declared.program.TheConstants.{NO_TEXT}
 
 -- the text after its first line, less the byte at its end
 abbrev line_in : List ℕ → List ℕ
@@ -40,6 +41,11 @@ is_told : (text : List ℕ) → text ≡ codes "fault\n" ++ (line_in text ++ cod
     → list_all (λ b. not (b == 10)) (line_in text) ≡ true → IsFaultText text
 is_told text whole some one =
     (line_in text, whole, (λ none. true≢false (sym (ap (λ line. length line == 0) none) ∙ some)), lacks 10 (line_in text) one)
+
+no_text_told : IsErrorText NO_TEXT.now
+no_text_told =
+    let line : List ℕ = take 17 (drop 7 NO_TEXT.now) in
+    (line, refl, (λ none. true≢false (sym (ap (λ line. length line == 0) none) ∙ refl)), lacks 10 line refl)
 
 no_memory_told : IsFaultText NO_MEMORY.now
 no_memory_told = is_told NO_MEMORY.now refl refl refl
@@ -93,6 +99,7 @@ pub are_faults_told : AreFaultsTold
 unfolding IsDistinct
 are_faults_told = record {
   lines = told;
+  line = no_text_told;
   apart = search;
   memory = has_words 26 NO_MEMORY.now (codes "memory") refl;
   device = has_words 6 NO_DEVICE.now (codes "the input or the output") refl;
@@ -106,4 +113,5 @@ are_faults_told = record {
   unreadable = has_words 24 UNREADABLE.now (codes "can't be opened") refl;
   port = has_words 6 NO_PORT.now (codes "the port") refl;
   client = has_words 6 NO_CLIENT.now (codes "no more connections") refl;
+  word = has_words 7 NO_TEXT.now (codes "a word is no text") refl;
 }

@@ -19,6 +19,7 @@ use Rattle.hall_tool.specs.declared.fault.ToolFault.TheVariants as tool
 use Rattle.hall_tool.specs.declared.advice.TheConstants.{NO_MEMORY, NO_DEVICE, NO_STORE, NO_LIST, NO_FILE, IN_USE}
 use Rattle.hall_tool.specs.declared.advice.TheConstants.{NO_DATABASE, OTHER_TABLES, FULL, UNREADABLE}
 use Rattle.hall_tool.specs.declared.advice.TheConstants.{NO_PORT, NO_CLIENT}
+use Rattle.hall_tool.specs.declared.program.TheConstants.{NO_TEXT}
 
 -- of an entry list that can't be read
 abbrev pub list_lines : ErrorKind → List ℕ
@@ -61,15 +62,22 @@ abbrev pub IsFaultText : List ℕ → Type 0
 IsFaultText text =
     (line : List ℕ) × (text ≡ codes "fault\n" ++ (line ++ codes "\n")) × (line ≢ []) × LacksByte 10 line
 
--- all of the texts
+-- the text is one line, which says an error
+abbrev pub IsErrorText : List ℕ → Type 0
+IsErrorText text =
+    (line : List ℕ) × (text ≡ codes "error: " ++ (line ++ codes "\n")) × (line ≢ []) × LacksByte 10 line
+
+-- all of the texts, of the faults and of a word that is no text
 abbrev pub fault_texts : List (List ℕ)
 fault_texts =
     NO_MEMORY.now ∷ NO_DEVICE.now ∷ NO_STORE.now ∷ NO_LIST.now ∷ NO_FILE.now ∷ IN_USE.now ∷ NO_DATABASE.now
-    ∷ OTHER_TABLES.now ∷ FULL.now ∷ UNREADABLE.now ∷ NO_PORT.now ∷ NO_CLIENT.now ∷ []
+    ∷ OTHER_TABLES.now ∷ FULL.now ∷ UNREADABLE.now ∷ NO_PORT.now ∷ NO_CLIENT.now ∷ NO_TEXT.now ∷ []
 
--- each fault is told on two lines; no two of the texts are the same; and each has the words for what failed
+-- each fault is told on two lines, and a word that is no text on one; no two of the texts are the same; and each has
+-- the words for what failed
 pub record AreFaultsTold : Type 0 where
   pub lines : (fault : CommandFault) → IsFaultText (fault_lines fault)
+  pub line : IsErrorText NO_TEXT.now
   pub apart : IsDistinct bytes_eq fault_texts
   pub memory : HasSubslice NO_MEMORY.now (codes "memory")
   pub device : HasSubslice NO_DEVICE.now (codes "the input or the output")
@@ -83,3 +91,4 @@ pub record AreFaultsTold : Type 0 where
   pub unreadable : HasSubslice UNREADABLE.now (codes "can't be opened")
   pub port : HasSubslice NO_PORT.now (codes "the port")
   pub client : HasSubslice NO_CLIENT.now (codes "no more connections")
+  pub word : HasSubslice NO_TEXT.now (codes "a word is no text")

@@ -1,10 +1,11 @@
 -- What each command does with files, a host, an input and an output, and how it ends.
 use Rattle.std.specs.Prelude.{◌≡◌, ℕ, List, Option, Result}
 use Rattle.std.specs.declared.io.Error.{Error}
-use Rattle.sqlite.specs.Held.{Held}
+use Rattle.sqlite_trees.specs.declared.store.Store.{Ghosts}
+use Rattle.sqlite.specs.Held.{Held, state}
 use Rattle.sqlite.specs.Recovery.{Image}
 use Rattle.hall_grid.specs.Device.{Tally}
-use Rattle.hall_store.specs.Store.{Content}
+use Rattle.hall_sql.specs.Standing.{content_of}
 use Rattle.hall_sql.specs.declared.open.OpenFault.{OpenFault}
 use Rattle.hall_tool.specs.Commands.{IsInitAt, IsReplayInMemory, IsTaskAt, TablesCanFail}
 use Rattle.hall_tool.specs.Help.{help_text, version_text}
@@ -22,40 +23,39 @@ use Rattle.hall_tool.specs.declared.words.Command.TheVariants.{Help, Version}
 abbrev pub EndsAs : (Result ℕ ToolFault → Type 0) → Result ℕ CommandFault → Type 0
 EndsAs Done result = (ended : Result ℕ ToolFault) × Done ended × (result ≡ command_end ended)
 
--- The command was run, over files that give lists and hand out databases so, made or there, stores with this content,
--- what it is to serve so many connections on a machine's port, a reader and a writer. One that asks for no file leaves
--- the files as they were, and each but serving the machine.
-abbrev pub IsCommandRun : {F N S R W : Type 0} → (List ℕ → Image) → (F → List ℕ → List ℕ → F → Type 0)
-    → (F → List ℕ → Error → F → Type 0) → (F → List ℕ → F → Type 0) → (F → List ℕ → F → OpenFault → Type 0)
-    → (F → List ℕ → F → Type 0) → (F → List ℕ → F → OpenFault → Type 0) → (F → Held S → F → Type 0)
-    → (Held S → Content)
+-- The command was run, over files that give lists and hand out databases so, made or there, what it is to serve so many
+-- connections on a machine's port, a reader and a writer. One that asks for no file leaves the files as they were, and
+-- each but serving the machine.
+abbrev pub IsCommandRun : {F N S R W : Type 0} → Ghosts S → (List ℕ → Image) → (F → List ℕ → List ℕ → F → Type 0)
+    → (F → List ℕ → Error → F → Type 0) → (F → List ℕ → Held S → F → Type 0) → (F → List ℕ → F → OpenFault → Type 0)
+    → (F → List ℕ → Held S → F → Type 0) → (F → List ℕ → F → OpenFault → Type 0) → (F → Held S → F → Type 0)
     → (ℕ → ℕ → N → N → Held S → Held S → Tally R → Tally R → Tally W → Tally W → Result ℕ CommandFault → Type 0)
-    → (R → Option (List ℕ)) → (W → Option (List ℕ)) → Command → F → F → N → N → Tally R → Tally R → Tally W → Tally W
-    → Result ℕ CommandFault → Type 0
-IsCommandRun image_at gives withholds opened refused found missed closes content serves remaining contents
+    → (R → Option (List ℕ)) → (W → Option (List ℕ)) → Command → F → F → N → N
+    → Tally R → Tally R → Tally W → Tally W → Result ℕ CommandFault → Type 0
+IsCommandRun g image_at gives withholds opened refused found missed closes serves remaining contents
     Judge old new host asked reader read writer written result =
     EndsAs (IsJudgeRun remaining contents reader read writer written) result × (new ≡ old) × (asked ≡ host)
-IsCommandRun image_at gives withholds opened refused found missed closes content serves remaining contents
+IsCommandRun g image_at gives withholds opened refused found missed closes serves remaining contents
     (Solve budget) old new host asked reader read writer written result =
     EndsAs (IsSolveRun budget remaining contents reader read writer written) result × (new ≡ old) × (asked ≡ host)
-IsCommandRun image_at gives withholds opened refused found missed closes content serves remaining contents
+IsCommandRun g image_at gives withholds opened refused found missed closes serves remaining contents
     (Init db people) old new host asked reader read writer written result =
-    IsInitAt image_at gives withholds opened refused closes content contents db people old new host asked
+    IsInitAt g image_at gives withholds opened refused closes contents db people old new host asked
     reader read writer written result
-IsCommandRun image_at gives withholds opened refused found missed closes content serves remaining contents
+IsCommandRun g image_at gives withholds opened refused found missed closes serves remaining contents
     (Serve db port connections) old new host asked reader read writer written result =
-    IsTaskAt image_at found missed closes content (serves port connections) db old new host asked
+    IsTaskAt g image_at found missed closes (serves port connections) db old new host asked
     reader read writer written result
-IsCommandRun image_at gives withholds opened refused found missed closes content serves remaining contents
+IsCommandRun g image_at gives withholds opened refused found missed closes serves remaining contents
     (Replay people) old new host asked reader read writer written result =
     IsReplayInMemory gives withholds remaining contents people old new host asked reader read writer written result
-IsCommandRun image_at gives withholds opened refused found missed closes content serves remaining contents
+IsCommandRun g image_at gives withholds opened refused found missed closes serves remaining contents
     (Table db round) old new host asked reader read writer written result =
-    IsTaskAt image_at found missed closes content (DoesTable content TablesCanFail contents round) db old new host asked
-    reader read writer written result
-IsCommandRun image_at gives withholds opened refused found missed closes content serves remaining contents
+    IsTaskAt g image_at found missed closes (DoesTable (λ s. content_of (state g s)) TablesCanFail contents round) db
+    old new host asked reader read writer written result
+IsCommandRun g image_at gives withholds opened refused found missed closes serves remaining contents
     (Help page) old new host asked reader read writer written result =
     EndsAs (IsShown contents (help_text page) writer written) result × (new ≡ old) × (asked ≡ host) × (read ≡ reader)
-IsCommandRun image_at gives withholds opened refused found missed closes content serves remaining contents
+IsCommandRun g image_at gives withholds opened refused found missed closes serves remaining contents
     Version old new host asked reader read writer written result =
     EndsAs (IsShown contents version_text writer written) result × (new ≡ old) × (asked ≡ host) × (read ≡ reader)

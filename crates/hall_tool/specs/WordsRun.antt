@@ -16,10 +16,10 @@ use Rattle.hall_tool.specs.declared.fault.ToolFault.TheVariants.{Memory}
 use Rattle.hall_tool.specs.declared.program.TheConstants.{NO_TEXT}
 use Rattle.hall_tool.specs.declared.words.Command.{Command}
 
--- the text was written; at a device's fault, a first part of it
+-- the text was written, and no write failed; or one write failed, and a first part of it was written
 abbrev pub IsTold : {E : Type 0} → (E → Option (List ℕ)) → List ℕ → Tally E → Tally E → Type 0
 IsTold contents text old new =
-    Appends (contents old.device) (contents new.device) text
+    ((new.failures ≡ old.failures) × Appends (contents old.device) (contents new.device) text)
     ⊎ (Rises old.failures new.failures × WritesPart (contents old.device) (contents new.device) text)
 
 -- of a fault it was told that there is one, and what to do; of any other end nothing

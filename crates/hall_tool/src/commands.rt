@@ -2,7 +2,7 @@
 //! the command.
 ghost use Rattle.sqlite.specs.Held.{Held, state};
 ghost use Rattle.hall_sql.specs.Opened.{IsCauseAt, IsCauseThere, OpensAt, OpensThere};
-ghost use Rattle.hall_sql.specs.Standing.{content_of};
+ghost use Rattle.hall_sql.specs.Standing.{IsHall, content_of};
 ghost use Rattle.hall_tool.specs.Commands.{IsInitAt, IsReplayInMemory, IsTaskAt, TablesCanFail};
 
 use crate::fault::{CommandFault, ToolFault};
@@ -42,7 +42,7 @@ fn task_in<S: Alter + Drop, F: PathFiles<S>, N, K: Task<N>, R: Read, W: Write>(
     reader: &mut Counted<R>,
     writer: &mut Counted<W>,
 ) -> Result<u8, CommandFault>
-    ensures { (last : Held S) × F.closes files.old last files.new
+    ensures { (last : Held S) × F.closes files.old last files.new × IsHall (state S.Store last)
         × K.does (Held S) R W (λ s. content_of (state S.Store s)) TablesCanFail R.remaining W.contents task.now
         host.old host.new store last reader.old reader.new writer.old writer.new result }
 {
@@ -61,8 +61,8 @@ pub fn task_at<S: Alter + Drop, F: PathFiles<S>, N, K: Task<N>, R: Read, W: Writ
     reader: &mut Counted<R>,
     writer: &mut Counted<W>,
 ) -> Result<u8, CommandFault>
-    ensures { IsTaskAt F.image_at (OpensThere F.tells F.opens)
-        (IsCauseThere S.Store F.image_at F.tells F.refuses F.opens F.closes) F.closes (λ s. content_of (state S.Store s))
+    ensures { IsTaskAt S.Store F.image_at (OpensThere S.Store F.image_at F.tells F.opens)
+        (IsCauseThere S.Store F.image_at F.tells F.refuses F.opens F.closes) F.closes
         (K.does (Held S) R W (λ s. content_of (state S.Store s)) TablesCanFail R.remaining W.contents task.now)
         db.now files.old files.new host.old host.new reader.old reader.new writer.old writer.new result }
 {
@@ -83,8 +83,8 @@ pub fn init_at<S: Alter + Drop, F: PathFiles<S>, N, R: Read, W: Write>(
     reader: &mut Counted<R>,
     writer: &mut Counted<W>,
 ) -> Result<u8, CommandFault>
-    ensures { IsInitAt F.image_at F.gives F.withholds (OpensAt F.opens)
-        (IsCauseAt S.Store F.image_at F.refuses F.opens F.closes) F.closes (λ s. content_of (state S.Store s)) W.contents
+    ensures { IsInitAt S.Store F.image_at F.gives F.withholds (OpensAt S.Store F.image_at F.opens)
+        (IsCauseAt S.Store F.image_at F.refuses F.opens F.closes) F.closes W.contents
         db.now people.now files.old files.new host.old host.new reader.old reader.new writer.old writer.new result }
 {
     let list = match files.read(people) {

@@ -8,7 +8,8 @@ pub fn law_words()
     ensures one { SpellOneCommand }
 {}
 
-/// Each fault is told on two lines, of which the second is its own and has the words for what failed.
+/// Each fault is told on two lines, of which the second is its own and has the words for what failed; and a word that
+/// is no text on one line, unlike these.
 pub fn law_advice()
     ensures { AreFaultsTold }
 {}

@@ -43,9 +43,10 @@ pub fn run_words<S: Alter + Drop, F: PathFiles<S>, H: Host, R: Read, W: Write, E
     output: &mut Counted<W>,
     error: &mut Counted<E>,
 ) -> u8
-    ensures { AreWordsRun (λ command ended. IsCommandRun F.image_at F.gives F.withholds (OpensAt F.opens)
-        (IsCauseAt S.Store F.image_at F.refuses F.opens F.closes) (OpensThere F.tells F.opens)
-        (IsCauseThere S.Store F.image_at F.tells F.refuses F.opens F.closes) F.closes (λ s. content_of (state S.Store s))
+    ensures { AreWordsRun (λ command ended. IsCommandRun S.Store F.image_at F.gives F.withholds
+        (OpensAt S.Store F.image_at F.opens) (IsCauseAt S.Store F.image_at F.refuses F.opens F.closes)
+        (OpensThere S.Store F.image_at F.tells F.opens)
+        (IsCauseThere S.Store F.image_at F.tells F.refuses F.opens F.closes) F.closes
         (DoesServe H.listens H.refuses H.shows
         (AreServed H.Listener.accepts H.Listener.lets_go H.Listener.Line.hands_out H.Listener.Line.refuses
         H.Listener.Line.hears H.Listener.Line.Reader.remaining H.Listener.Line.Writer.contents

@@ -31,10 +31,11 @@ pub fn run_command<S: Alter + Drop, F: PathFiles<S>, H: Host, R: Read, W: Write>
     input: &mut Counted<R>,
     output: &mut Counted<W>,
 ) -> Result<u8, CommandFault>
-    ensures { IsCommandRun F.image_at F.gives F.withholds (OpensAt F.opens)
-        (IsCauseAt S.Store F.image_at F.refuses F.opens F.closes) (OpensThere F.tells F.opens)
+    ensures { IsCommandRun S.Store F.image_at F.gives F.withholds
+        (OpensAt S.Store F.image_at F.opens) (IsCauseAt S.Store F.image_at F.refuses F.opens F.closes)
+        (OpensThere S.Store F.image_at F.tells F.opens)
         (IsCauseThere S.Store F.image_at F.tells F.refuses F.opens F.closes) F.closes
-        (λ s. content_of (state S.Store s)) (DoesServe H.listens H.refuses H.shows
+        (DoesServe H.listens H.refuses H.shows
         (AreServed H.Listener.accepts H.Listener.lets_go H.Listener.Line.hands_out H.Listener.Line.refuses
         H.Listener.Line.hears H.Listener.Line.Reader.remaining H.Listener.Line.Writer.contents
         (λ s. content_of (state S.Store s)) H.Clock.now_gives)) R.remaining W.contents command.now

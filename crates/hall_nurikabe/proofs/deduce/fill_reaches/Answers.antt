@@ -26,3 +26,17 @@ offset_bounds-sizes-label c =
     let whole = c.requires.reaches.components.exact in
     let same = c.requires.reaches.exact in
     omega arith
+
+pub bounds-filled-label : goal.bounds-filled-label
+bounds-filled-label c =
+    let low = AreCells-from_regions _ c.args.position.now.puzzle.now.size _ _ c.requires.reaches.components c.loop-cell.cell c.in-Some.label c.in-Some.is in
+    let whole = c.requires.reaches.components.exact in
+    let same = c.requires.filled in
+    omega arith
+
+pub offset_bounds-filled-label : goal.offset_bounds-filled-label
+offset_bounds-filled-label c =
+    let low = AreCells-from_regions _ c.args.position.now.puzzle.now.size _ _ c.requires.reaches.components c.loop-cell.cell c.in-Some.label c.in-Some.is in
+    let whole = c.requires.reaches.components.exact in
+    let same = c.requires.filled in
+    omega arith

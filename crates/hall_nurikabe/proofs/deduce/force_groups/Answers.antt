@@ -21,8 +21,8 @@ exits_of-requires-clause-labels c = AreCells-from_regions _ c.args.position.now.
 pub force_exits-requires-clause-growing : goal.force_exits-requires-clause-growing
 force_exits-requires-clause-growing c =
     let o = (rw c.in-Some.is at c.in_ok-owners.ensures) in
-    let g = (rw c.deref-6.ensures.value at c.in_ok-growing.ensures) in
-    rw c.deref-8.ensures.value
+    let g = (rw c.deref-3.ensures.value at c.in_ok-growing.ensures) in
+    rw c.deref-5.ensures.value
     (λ label h. let k = g.marked label h in
     group_grows c.args.position.now.puzzle.now c.args.position.now.kind c.args.position.now.partial.now.places c.args.position.now.fits
     c.args.position.now.clues c.args.labels.now c.args.sizes.now c.in-Some.owners.items c.requires.groups o label k.0 k.1)

@@ -14,15 +14,15 @@ loop-reach-preserved c =
     let board = c.args.position.now.puzzle.now in
     let free = c.in_ok-left.field-0.free.items in
     let old = c.loop-reach.left.items in
-    let new = c.raise_next.new.left in
+    let new = c.raise_next-reach.new.left in
     let raised : Raises (c.loop-reach.reach - 1) old new = search rules in
     let falls : FallsByOne board.size (IsMarked free) new (c.loop-reach.reach - 1) = search rules in
     let back : take c.loop-reach.left.len (new ++ drop (length new) old) ≡ new = written c.loop-reach.left.len new (drop (length new) old) (omega (arith, raised.exact, c.deref_mut.ensures.len)) in
-    let none : (i : ℕ) → get_or new i 0 ≤ c.loop-reach.reach - 1 → get_or new i 0 ≤ c.greatest_within-reach.result = search rules in
+    let none : (i : ℕ) → get_or new i 0 ≤ c.loop-reach.reach - 1 → get_or new i 0 ≤ c.raise_next-reach.result = search rules in
     rw back (record {
       sources = AreSources-raised board c.args.labels.now c.args.sizes.now c.args.owners.now c.args.position.now.partial.now.places (IsMarked free) (c.loop-reach.reach - 1) old new
           c.loop-reach.invariant.sources raised;
-      falls = falls_below board.size (IsMarked free) new (c.loop-reach.reach - 1) c.greatest_within-reach.result falls none;
+      falls = falls_below board.size (IsMarked free) new (c.loop-reach.reach - 1) c.raise_next-reach.result falls none;
     })
 
 pub returns : goal.returns

@@ -1,12 +1,16 @@
-use Rattle.std.proofs.Common.{rules, arith, ◌≡◌, ◌∙◌, ◌++◌, inr, true, false, refl, sym, subst, IsTrue, [], ◌∷◌}
+use Rattle.std.proofs.Common.{rules, arith, ◌≡◌, ◌∙◌, ◌++◌, inl, inr, true, false, refl, sym, subst, IsTrue, [], ◌∷◌}
 use Rattle.sqlite.specs.Values.{bound}
 use Rattle.sqlite.specs.Held.{state}
 use Rattle.sqlite.specs.State.{HasCleanDisk}
 use Rattle.hall_policy.specs.Sink.{HasTaken}
+use Rattle.hall_sql.specs.Cause.{FeedFails}
 use Rattle.hall_sql.specs.Feed.{Steps, AreAll}
+use Rattle.hall_sql.proofs.AskedLemmas.{asked_cause}
+use Rattle.hall_sql.proofs.CauseLemmas.{fails_as}
 use Rattle.hall_sql.proofs.LastLemmas.{survived, last_then}
 use Rattle.hall_sql.proofs.CallLemmas.{rested, query_refused}
 use Rattle.hall_sql.proofs.FeedLemmas.{taken_more, read_none, read_more, read_all, read_first, fed_first}
+use Rattle.hall_sql.proofs.ReadCauseLemmas.{feed_cause}
 use Rattle.hall_sql.proofs.feed.feed.Goals as goal
 
 pub returns-in-Err-clause-rested : goal.returns-in-Err-clause-rested
@@ -29,7 +33,7 @@ feed-init g c =
         λ clean.
             let was : HasCleanDisk (state g.S.Store c.args.conn.now) = omega (arith, it.survives.clean, clean) in
             read_none g.S.Store g.T.Record.read c.args.sql.now (bound c.args.params.now) c.args.conn.now c.in-Ok.rows.conn.now
-            c.requires.plain c.requires.hall was (it.begun clean),
+            c.requires.asks.plain c.requires.hall was (it.begun clean),
       ),
     )
 
@@ -74,7 +78,7 @@ returns-then-not-branch-clause-fed g c =
             subst (λ h. IsTrue (state g.S.Store h).is_open) (sym same) last.0.0.is_open,
             subst (λ h. AreAll g.T.Record.read c.args.sql.now (bound c.args.params.now) old (state g.S.Store h) so.0) (sym same)
                 (read_all g.S.Store g.T.Record.read c.args.sql.now (bound c.args.params.now) old before after so.0
-                (so.2 mid) c.requires.plain c.requires.hall was last.1),
+                (so.2 mid) c.requires.asks.plain c.requires.hall was last.1),
           ),
     )
 
@@ -103,3 +107,33 @@ returns-in_err-step-clause-fed g c =
     let late : HasCleanDisk (state g.S.Store after) = subst (λ h. HasCleanDisk (state g.S.Store h)) same clean in
     let mid : HasCleanDisk (state g.S.Store before) = omega (arith, c.step.ensures.lasts.clean, late) in
     read_first g.S.Store g.T.Record.read c.args.sql.now (bound c.args.params.now) (state g.S.Store c.args.conn.now) before before so.0 (so.2 mid))
+
+pub returns-in-Err-clause-cause : goal.returns-in-Err-clause-cause
+returns-in-Err-clause-cause g c clean failed =
+    let old = state g.S.Store c.args.conn.now in
+    let new = state g.S.Store c.query.follows.lender-at-none in
+    let held = c.query.follows.holds-at-none in
+    let refused = rw c.in-Err.is at held in
+    let was : HasCleanDisk old = omega (arith, refused.survives.clean, clean) in
+    inl (asked_cause c.args.sql.now (bound c.args.params.now) old new c.in-Err.error c.requires.asks c.requires.hall was
+    (c.fault_of.ensures failed) (refused.err clean))
+
+pub returns-in_err-step-clause-cause : goal.returns-in_err-step-clause-cause
+returns-in_err-step-clause-cause g c clean =
+    let old = state g.S.Store c.args.conn.now in
+    let before = c.feed.rows.conn.now in
+    let after = c.step.new.rows.conn.now in
+    let so = c.feed.invariant.2 in
+    let same : c.conn-in_err-step-1.given.0 ≡ after = search rules in
+    let late : HasCleanDisk (state g.S.Store after) = subst (λ h. HasCleanDisk (state g.S.Store h)) same clean in
+    let mid : HasCleanDisk (state g.S.Store before) = omega (arith, c.step.ensures.lasts.clean, late) in
+    let sql = c.args.sql.now in
+    let params = bound c.args.params.now in
+    fails_as c.from_residual.result _ _ c.from_residual.ensures.1 (λ failed.
+    subst (λ h. FeedFails g.T.Record.read g.T.GivenTo.takes g.T.GivenTo.refuses sql params old (state g.S.Store h) c.args.sink.now c.step.new.sink)
+    (sym same)
+    (subst (FeedFails g.T.Record.read g.T.GivenTo.takes g.T.GivenTo.refuses sql params old (state g.S.Store after) c.args.sink.now)
+    (sym c.in_err-step.ensures.same)
+    (feed_cause g.S.Store g.T.Record.read g.T.GivenTo.takes g.T.GivenTo.refuses sql params c.requires.asks old c.requires.hall before after
+    c.args.sink.now c.feed.sink c.feed.invariant.1 mid c.step.ensures.lasts so.0 so.1 (so.2 mid)
+    (c.in_err-step.ensures.cause late failed))))

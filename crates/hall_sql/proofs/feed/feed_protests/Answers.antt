@@ -4,14 +4,14 @@ use Rattle.sqlite.specs.Held.{state}
 use Rattle.hall_store.specs.Store.{protests_in}
 use Rattle.hall_sql.specs.Rows.{protest_in}
 use Rattle.hall_sql.specs.Statements.{protests_in_text}
-use Rattle.hall_sql.proofs.ProtestTexts.{key_order, protest_columns, protests_in_is}
+use Rattle.hall_sql.proofs.ProtestTexts.{key_order, protest_columns, protests_in_is, protests_in_asked}
 use Rattle.hall_sql.proofs.PeopleTexts.{equals}
 use Rattle.hall_sql.proofs.FeedLemmas.{fed_rows, fed_whole}
 use Rattle.hall_sql.proofs.FeedListings.{protests_in_selected}
 use Rattle.hall_sql.proofs.feed.feed_protests.Goals as goal
 
-pub feed-requires-clause-plain : goal.feed-requires-clause-plain
-feed-requires-clause-plain g c = protests_in_is.2
+pub feed-requires-clause-asks : goal.feed-requires-clause-asks
+feed-requires-clause-asks g c = rw (c.params-to_sql.ensures, c.as_str.ensures.text) (protests_in_asked c.args.round.now)
 
 pub returns-clause-fed : goal.returns-clause-fed
 returns-clause-fed g c =
@@ -28,3 +28,6 @@ returns-clause-whole g c clean =
     fed_whole g.S.Store protest_in g.K.ProtestSink.takes protests_in_text (Text c.args.round.now ∷ []) (state g.S.Store c.args.conn.now)
     (state g.S.Store c.feed.new.conn) c.args.sink.now c.feed.new.sink c.feed.result clean
     (rw (c.params-to_sql.ensures, c.as_str.ensures.text) at c.feed.ensures.fed)
+
+pub returns-clause-cause : goal.returns-clause-cause
+returns-clause-cause g c = rw (c.params-to_sql.ensures, c.as_str.ensures.text) at c.feed.ensures.cause

@@ -19,7 +19,7 @@ loop-person-preserved g c =
       carries_then base s after so.1 goes it.carries,
       λ clean mode.
           let was : HasCleanDisk s = omega (arith, it.carries.lasts.clean, clean) in
-          more_imported c.args.people.now c.loop-person.person-index c.person-item.result base s after c.loop-person-test.true c.person-item.is (so.2 was mode) (it.done clean (goes was mode)),
+          more_imported c.args.people.now c.loop-person.person-index c.person-item.result base s after c.loop-person-test.true c.person-item.is (so.2 was mode) (it.done clean (goes was mode)) (it.row clean (goes was mode)),
     )
 
 pub returns-in_err-import_one-clause-cause : goal.returns-in_err-import_one-clause-cause
@@ -42,7 +42,7 @@ returns-in_err-import_one-clause-cause g c clean goes =
         mid = c.loop-person.tx.conn.now;
         left = c.import_one.new.tx.conn.now;
         hall = on.hall;
-        before = (here.does goes.hall).world;
+        before = (here.does goes.hall).rows;
         refused = refused;
       })
     ])

@@ -1,4 +1,4 @@
-use Rattle.std.proofs.Common.{◌≡◌, ◌⊎◌, inl, inr, IfErr, arith}
+use Rattle.std.proofs.Common.{◌≡◌, ◌⊎◌, ◌∙◌, inl, inr, sym, IfErr, arith}
 use Rattle.hall_store.specs.declared.fault.StoreFault.TheVariants.{Failed}
 use Rattle.hall_sql.specs.Cause.{IsStoreCause}
 use Rattle.hall_sql.specs.WriteCause.{PersonIsRefused}
@@ -37,7 +37,7 @@ returns-clause-cause g c clean goes = elim c.match-branch-2.branch [
       IfErr-weaker w.add_person.result _ _ (λ fault one failed.
       elim (run_over add_person_text (person_params c.args.person.now) old mid new to_mid was to_new (it.does goes.hall).same (one failed)) [
         | inl cause ↦ inl cause
-        | inr refused ↦ inr (inr refused)
+        | inr refused ↦ inr (inr (sym (it.does goes.hall).means ∙ w.in-None.is, refused))
       ]) why in
       rw (w.tx-is, w.result-is) all
 ]

@@ -1,10 +1,11 @@
 use Rattle.std.proofs.Common.{arith, subst, inl, inr}
-use Rattle.std.proofs.lemmas.Result.{on_ok_weaker, IfErr-weaker}
+use Rattle.std.proofs.lemmas.Result.{IfErr-weaker}
 use Rattle.sqlite.specs.Held.{state}
 use Rattle.sqlite.specs.State.{HasCleanDisk}
-use Rattle.hall_sql.specs.Inside.{Did}
-use Rattle.hall_sql.specs.RoundPuts.{PutsPlaces}
-use Rattle.hall_sql.proofs.PlaceWrites.{round_did}
+use Rattle.hall_store.specs.declared.change.Change.TheVariants.{PutRound}
+use Rattle.hall_sql.specs.Inside.{Changes}
+use Rattle.hall_sql.specs.RoundPuts.{PutsRows}
+use Rattle.hall_sql.proofs.PlaceWrites.{all_did, round_did, rows_did}
 use Rattle.hall_sql.proofs.CauseLemmas.{fails_as}
 use Rattle.hall_sql.specs.WriteCause.{PlaceIsRefused}
 use Rattle.hall_sql.proofs.WriteCauseLemmas.{goes_on, cause_over}
@@ -12,17 +13,18 @@ use Rattle.hall_sql.proofs.LastLemmas.{last_then}
 use Rattle.hall_sql.proofs.round_writes.put_inside.Goals as goal
 
 pub returns-clause-done : goal.returns-clause-done
-returns-clause-done g c clean inside =
-    let a = state g.S.Store c.args.tx.now.conn.now in
-    let b = state g.S.Store c.put_head.new.tx.conn.now in
-    let m = state g.S.Store c.drop_places.new.tx.conn.now in
-    let d = state g.S.Store c.put_places.new.tx.conn.now in
+returns-clause-done g c =
     let row = c.args.row.now in
-    let clean_m : HasCleanDisk m = omega (arith, c.put_places.ensures.carries.lasts.clean, clean) in
-    let clean_b : HasCleanDisk b = omega (arith, c.drop_places.ensures.carries.lasts.clean, clean_m) in
-    let one = c.in_ok-put_head.ensures.done clean_b inside in
-    let two = c.in_ok-drop_places.ensures.done clean_m one.steps.mode in
-    on_ok_weaker c.put_places.result (λ three. round_did row a b m d one two (subst (λ l. Did (PutsPlaces row.round.id l) m d) c.as_slice.ensures.value three)) (c.put_places.ensures.done clean two.steps.mode)
+    all_did row _ _ _ _ (Changes (PutRound row)) c.put_places.result _ (round_did row _ _ _ _) c.as_slice.ensures.value
+    c.drop_places.ensures.carries.lasts c.put_places.ensures.carries.lasts
+    c.in_ok-put_head.ensures.done c.in_ok-drop_places.ensures.done c.put_places.ensures.done
+
+pub returns-clause-rows : goal.returns-clause-rows
+returns-clause-rows g c =
+    let row = c.args.row.now in
+    all_did row _ _ _ _ (PutsRows row) c.put_places.result _ (rows_did row _ _ _ _) c.as_slice.ensures.value
+    c.drop_places.ensures.carries.lasts c.put_places.ensures.carries.lasts
+    c.in_ok-put_head.ensures.done c.in_ok-drop_places.ensures.done c.put_places.ensures.done
 
 pub returns-in_err-put_head-clause-cause : goal.returns-in_err-put_head-clause-cause
 returns-in_err-put_head-clause-cause g c clean goes =

@@ -1,10 +1,12 @@
 use Rattle.std.proofs.Common.{rules, Ok, Err}
 use Rattle.sqlite.specs.Held.{state}
+use Rattle.sqlite.specs.State.{HasCleanDisk}
 use Rattle.hall_store.specs.declared.change.Change.TheVariants.{PutRound}
 use Rattle.hall_store.specs.declared.fault.StoreFault.{StoreFault}
+use Rattle.hall_sql.specs.RoundPuts.{PutsRows}
 use Rattle.hall_sql.specs.Standing.{Wrote}
 use Rattle.hall_sql.proofs.LastLemmas.{survived}
-use Rattle.hall_sql.proofs.TransactionLemmas.{committed_wrote, refused_wrote}
+use Rattle.hall_sql.proofs.TransactionLemmas.{committed_did, committed_wrote, refused_wrote}
 use Rattle.hall_sql.proofs.round_writes.put_round.Goals as goal
 
 pub returns-in-Ok-clause-wrote : goal.returns-in-Ok-clause-wrote
@@ -13,6 +15,16 @@ returns-in-Ok-clause-wrote g c =
     let done : Wrote {R = Unit} {E = StoreFault} (PutRound c.args.row.now) (state g.S.Store c.args.conn.now) _ (Ok tt) =
     committed_wrote g.S.Store c.args.conn.now c.requires.hall (PutRound c.args.row.now) tt (state g.S.Store c.put_inside.new.tx.conn.now) _
     it.carries it.done (survived _ _ _ c.in-Ok.ensures.survives) c.in-Ok.ensures.ended c.in-Ok.ensures.ok in
+    search rules
+
+pub returns-in-Ok-clause-rows : goal.returns-in-Ok-clause-rows
+returns-in-Ok-clause-rows g c =
+    let it = rw c.transaction-tx.ensures.begun at c.in_ok-put_inside.ensures in
+    let row = c.args.row.now in
+    let end = state g.S.Store c.commit.new.self.0 in
+    let done : HasCleanDisk end → PutsRows row (state g.S.Store c.args.conn.now).now end.now =
+    committed_did g.S.Store c.args.conn.now c.requires.hall (PutsRows row) (state g.S.Store c.put_inside.new.tx.conn.now) end
+    it.carries it.rows (survived _ _ _ c.in-Ok.ensures.survives) c.in-Ok.ensures.ok in
     search rules
 
 pub returns-in-Err-clause-wrote : goal.returns-in-Err-clause-wrote

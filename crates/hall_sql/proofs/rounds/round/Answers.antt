@@ -1,12 +1,18 @@
-use Rattle.std.proofs.Common.{◌∙◌, inl, inr, arith, sym, ap, subst}
+use Rattle.std.proofs.Common.{◌≡◌, ◌∙◌, inl, inr, [], ◌∷◌, arith, sym, ap, subst}
 use Rattle.std.proofs.lemmas.Result.{IfErr-weaker}
 use Rattle.std.specs.FinMap.{get}
+use Rattle.sqlite.specs.declared.types.Value.TheVariants.{Text}
 use Rattle.sqlite.specs.Effect.{Database}
 use Rattle.sqlite.specs.Held.{state}
 use Rattle.sqlite.specs.State.{HasCleanDisk}
-use Rattle.hall_sql.specs.Rows.{world_of}
-use Rattle.hall_sql.specs.Cause.{AreNoRound}
+use Rattle.hall_sql.specs.Rows.{place_in, world_of}
+use Rattle.hall_sql.specs.Cause.{HasNoRound}
+use Rattle.hall_sql.specs.Statements.{head_text, places_of_text}
 use Rattle.hall_sql.proofs.CauseLemmas.{fails_as}
+use Rattle.hall_sql.proofs.HeadTexts.{head_asked}
+use Rattle.hall_sql.proofs.ReadCauseLemmas.{after_shown}
+use Rattle.hall_sql.proofs.RoundQueries.{places_of_asked}
+use Rattle.hall_sql.proofs.RoundRows.{none_right}
 use Rattle.hall_sql.proofs.StoreLemmas.{always, served_so}
 use Rattle.hall_sql.proofs.rounds.round.Goals as goal
 
@@ -33,15 +39,33 @@ returns-in_err-head-clause-cause g c clean =
 
 pub returns-in_err-places-clause-cause : goal.returns-in_err-places-clause-cause
 returns-in_err-places-clause-cause g c clean =
-    fails_as c.from_residual-in_err-places.result _ _ c.from_residual-in_err-places.ensures.1
-    (λ failed. inr (inl (c.head.new.conn, c.in_err-places.ensures.cause clean failed)))
+    let old = state g.S.Store c.args.conn.now in
+    let mid = state g.S.Store c.head.new.conn in
+    let id = c.args.id.now in
+    let rested = c.head.ensures.rested in
+    let late : HasCleanDisk mid = omega (arith, c.places_of.ensures.rested.follows.lasts.clean, clean) in
+    let was : HasCleanDisk old = omega (arith, rested.follows.lasts.clean, late) in
+    let opens = rested.follows.opened late (c.in_ok-head.ensures.served late).0 in
+    let whole = c.in_ok-head.ensures.whole late in
+    fails_as c.from_residual-in_err-places.result _ _ c.from_residual-in_err-places.ensures.1 (λ failed.
+    inr (inl (after_shown place_in head_text (Text id ∷ []) places_of_text (Text id ∷ []) old mid (state g.S.Store c.places_of.new.conn)
+    (c.requires.hall.settled was opens).1 (head_asked id).plain (places_of_asked id).plain rested.follows.lasts.counts whole.rows whole.shown
+    (c.in_err-places.ensures.cause clean failed))))
 
 pub returns-clause-cause : goal.returns-clause-cause
 returns-clause-cause g c clean =
+    let old = state g.S.Store c.args.conn.now in
+    let mid = state g.S.Store c.head.new.conn in
+    let new = state g.S.Store c.places_of.new.conn in
+    let id = c.args.id.now in
     let rested = c.places_of.ensures.rested in
     let places = c.in_ok-places.ensures.served clean in
-    let was : HasCleanDisk (state g.S.Store c.head.new.conn) = omega (arith, rested.follows.lasts.clean, clean) in
-    let head = (c.in_ok-head.ensures.served was).1 ∙ ap (λ (d : Database). get (world_of d.trees).rounds c.args.id.now) (sym (rested.same clean places.0)) in
+    let was : HasCleanDisk mid = omega (arith, rested.follows.lasts.clean, clean) in
+    let served = c.in_ok-head.ensures.served was in
+    let same : new.now ≡ mid.now = rested.same clean places.0 in
+    let first : new.now ≡ old.now = same ∙ c.head.ensures.rested.same was served.0 in
+    let head = served.1 ∙ ap (λ (d : Database). get (world_of d.trees).rounds id) (sym same) in
     IfErr-weaker c.row_of.result _ _ (λ fault none failed.
-    inr (inr (c.in_ok-places.places.items, places.1, subst (λ found. AreNoRound found c.in_ok-places.places.items) head (none failed))))
+    inr (inr (subst (λ (d : Database). HasNoRound (world_of d.trees) id) first
+    (none_right (world_of new.now.trees) id c.in_ok-places.places.items places.1 _ (sym head) (none failed)))))
     c.row_of.ensures.none

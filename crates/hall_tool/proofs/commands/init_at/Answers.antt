@@ -12,6 +12,7 @@ returns-in-Ok-open_at g c = let done = rw c.as_slice.ensures.value at c.task_in.
       c.in-Ok.ensures.given,
       c.in-Ok-open_at.ensures.opened,
       done.1,
-      c.in-Ok-open_at.ensures.starts,
       done.2,
+      c.in-Ok-open_at.ensures.starts,
+      done.3,
     )

@@ -9,5 +9,6 @@ returns-in-Ok-open_in_memory g c = let done = rw c.as_slice.ensures.value at c.t
       c.task_over-left.result.0,
       c.in-Ok.ensures.given,
       c.in-Ok-open_in_memory.ensures.empty,
+      c.in-Ok-open_in_memory.ensures.bare,
       done,
     )

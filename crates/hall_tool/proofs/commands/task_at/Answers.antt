@@ -8,6 +8,7 @@ returns-in-Ok g c = inl (
   c.open_there.new.files,
   c.in-Ok.ensures.opened,
   c.task_in.ensures.1,
-  c.in-Ok.ensures.starts,
   c.task_in.ensures.2,
+  c.in-Ok.ensures.starts,
+  c.task_in.ensures.3,
 )
