@@ -252,7 +252,7 @@ class Beside:
         """Waits until these crates are proved, and returns whether they are."""
         while True:
             ended, said = self.has_ended(), self.said()
-            if all(f"\nrt: {it} proved\n" in said or f"\nrt: {it} is kept" in said for it in names):
+            if all(re.search(rf"^rt: {it} (proved$|is kept: )", said, re.M) for it in names):
                 return True
             if ended:
                 return False
