@@ -39,7 +39,7 @@ use Rattle.hall_desk.specs.declared.reply.ShownRound.{ShownRound}
 use Rattle.hall_policy.proofs.Texts.{text_decides}
 use Rattle.hall_policy.proofs.Deciding.{decisions_agree}
 use Rattle.hall_desk.proofs.VerdictOnce.{one_verdict_on}
-use Rattle.hall_desk.proofs.Shows.{one_row, one_round_row, same_shown, same_solutions}
+use Rattle.hall_desk.proofs.Shows.{one_row, tested_by, one_round_row, shows_tested, totals_tested, same_shown, same_solutions}
 use Rattle.hall_desk.proofs.Listings.{same_listing}
 use Rattle.hall_desk.proofs.TableOnce.{one_table}
 
@@ -126,7 +126,7 @@ module _ (world : World) (typed : IsWorld world) where
 
   one_solutions : (id : List ℕ) (given other : Reply) → AreSolutionsTold world id given → AreSolutionsTold world id other → given ≡ other
   one_solutions id given other (row, texts, at, solved, told) (same, others, there, solves, says) =
-      let rows : row ≡ same = one_round_row world world id row same refl refl at there in
+      let rows : row ≡ tested_by same row.testers = one_round_row world world id row same refl refl at there in
       let texts_same : texts ≡ others =
       same_solutions world world typed same.puzzles texts others (λ k entry here. refl) (subst (λ (r : RoundRow). AreSolutions world r.puzzles texts) rows solved) solves in
       told ∙ ap reply.SolutionList texts_same ∙ sym says
@@ -140,16 +140,16 @@ module _ (world : World) (typed : IsWorld world) where
 
   one_table_read : (id : List ℕ) (given other : Reply) → IsTableRead world id given → IsTableRead world id other → given ≡ other
   one_table_read id given other (row, totals, text, at, are, written, told) (same, others, script, there, also, writes, says) =
-      let rows : row ≡ same = one_round_row world world id row same refl refl at there in
+      let rows : row ≡ tested_by same row.testers = one_round_row world world id row same refl refl at there in
       let texts : text ≡ script =
-      one_table world world id same totals others text script (λ entrant. refl) (λ entrant. refl) (subst (λ (r : RoundRow). AreTotals world id r totals) rows are) also written writes in
+      one_table world world id same totals others text script (λ entrant. refl) (λ entrant. refl) (totals_tested world id same row.testers totals (subst (λ (r : RoundRow). AreTotals world id r totals) rows are)) also written writes in
       told ∙ ap reply.Table texts ∙ sym says
 
   one_shown : (id : List ℕ) (given other : Reply) → (row : RoundRow) → (shown : ShownRound) → IsRoundAt world id row → ShowsRound world row shown → given ≡ reply.RoundRead shown →
       (same : RoundRow) → (screen : ShownRound) → IsRoundAt world id same → ShowsRound world same screen → other ≡ reply.RoundRead screen → given ≡ other
   one_shown id given other row shown at shows told same screen there showing says =
-      let rows : row ≡ same = one_round_row world world id row same refl refl at there in
-      let both : shown ≡ screen = same_shown world world typed same shown screen (λ k entry here. refl) (subst (λ (r : RoundRow). ShowsRound world r shown) rows shows) showing in
+      let rows : row ≡ tested_by same row.testers = one_round_row world world id row same refl refl at there in
+      let both : shown ≡ screen = same_shown world world typed same shown screen (λ k entry here. refl) (shows_tested world same row.testers shown (subst (λ (r : RoundRow). ShowsRound world r shown) rows shows)) showing in
       told ∙ ap reply.RoundRead both ∙ sym says
 
   -- ---- what is allowed

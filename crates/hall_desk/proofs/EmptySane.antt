@@ -12,7 +12,7 @@ use Rattle.hall_policy.specs.declared.record.AnswerRow.{AnswerRow}
 use Rattle.hall_policy.specs.declared.record.ProtestRow.{ProtestRow}
 use Rattle.hall_policy.specs.declared.record.Round.{Round}
 use Rattle.hall_policy.specs.declared.record.Entry.{Entry}
-use Rattle.hall_policy.proofs.Orders.{text_total, puzzle_total, place_total, answer_total, protest_total, same_puzzle_keys, same_answer_keys, same_protest_keys}
+use Rattle.hall_policy.proofs.Orders.{text_total, puzzle_total, place_total, tester_total, answer_total, protest_total, same_puzzle_keys, same_answer_keys, same_protest_keys}
 use Rattle.hall_store.specs.Maps.{empty_world}
 use Rattle.hall_desk.specs.Sane.{Sane}
 use Rattle.hall_store.proofs.MapWorlds.{get_found, entries_made}
@@ -38,6 +38,7 @@ empty_sane = record {
       places = λ key entry found. absurd (nowhere place_total Entry key entry found);
       answers = λ key row found. absurd (nowhere answer_total AnswerRow key row found);
       protests = λ key row found. absurd (nowhere protest_total ProtestRow key row found);
+      testers = λ key found. absurd (nowhere tester_total (Unit {0}) key tt found);
     };
     people = λ name row found. absurd (nowhere text_total Person name row found);
     puzzles = λ key row found. absurd (nowhere puzzle_total PuzzleRow key row found);
@@ -47,10 +48,12 @@ empty_sane = record {
     keys_differ = λ a b p q found. absurd (nowhere text_total Person a p found);
     lists = λ id round found. absurd (nowhere text_total Round id round found);
     homes = λ key entry found. absurd (nowhere place_total Entry key entry found);
+    tester_homes = λ key found. absurd (nowhere tester_total (Unit {0}) key tt found);
   };
   refers = record {
     authors = λ key row found. absurd (nowhere puzzle_total PuzzleRow key row found);
     entries = λ key entry found. absurd (nowhere place_total Entry key entry found);
+    testers = λ round name found. absurd (nowhere tester_total (Unit {0}) (record { round = round; name = name }) tt found);
     entrants = λ key row found. absurd (nowhere answer_total AnswerRow key row found);
     answered = λ key row found. absurd (nowhere answer_total AnswerRow key row found);
     protesters = λ key row found. absurd (nowhere protest_total ProtestRow key row found);

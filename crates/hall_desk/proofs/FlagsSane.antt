@@ -1,8 +1,8 @@
 -- A round whose flags change, and nothing else of it, keeps the world sane.
-use Rattle.std.proofs.Common.{◌≡◌, ◌≢◌, ◌⊎◌, inl, inr, ℕ, Bool, List, Some, None, IsTrue, sym, ap, ◌∙◌, subst}
+use Rattle.std.proofs.Common.{◌≡◌, ◌≢◌, ◌⊎◌, ◌↔◌, inl, inr, ℕ, Bool, List, Some, None, IsTrue, Contains, sym, ap, ◌∙◌, subst}
 use Rattle.std.specs.FinMap.{FinMap, get, insert}
 use Rattle.hall_policy.specs.Text.{text_cmp}
-use Rattle.hall_policy.specs.World.{World}
+use Rattle.hall_policy.specs.World.{World, IsTesterOf}
 use Rattle.hall_policy.specs.Ranges.{IsRound, AreRowsInRange, HasWholeList, IsWorld}
 use Rattle.hall_policy.specs.Rules.{Lists, StandsReleased, IsCertified}
 use Rattle.hall_policy.specs.declared.record.PuzzleKey.{PuzzleKey}
@@ -54,10 +54,12 @@ module _ (world : World) (id : List ℕ) (round : Round) (released published : B
           record {
             head = inserted_there text_total same_texts world.rounds id flagged q h.0;
             list = λ number. ap (λ (x : List ℕ). get world.places (record { round = x; number = number })) h.0 ∙ l.1.list number;
+            testers = λ name. subst (λ (x : List ℕ). IsTesterOf world x name ↔ Contains old.testers name) (sym h.0) (l.1.testers name);
           },
           l.2,
+          l.3,
         )
-    | inr h ↦ let l = sane.typed.lists q r h.1 in (l.0, record { head = others_stay text_total same_texts world.rounds id flagged q l.0.round h.0 l.1.head; list = l.1.list }, l.2)
+    | inr h ↦ let l = sane.typed.lists q r h.1 in (l.0, record { head = others_stay text_total same_texts world.rounds id flagged q l.0.round h.0 l.1.head; list = l.1.list; testers = l.1.testers }, l.2, l.3)
   ]
 
   -- no flag has a range
@@ -85,6 +87,7 @@ module _ (world : World) (id : List ℕ) (round : Round) (released published : B
     places = sane.typed.in_range.places;
     answers = sane.typed.in_range.answers;
     protests = sane.typed.in_range.protests;
+    testers = sane.typed.in_range.testers;
   }
 
   flags_typed : IsWorld after
@@ -101,12 +104,14 @@ module _ (world : World) (id : List ℕ) (round : Round) (released published : B
     keys_differ = sane.typed.keys_differ;
     lists = lists_then;
     homes = λ key entry found. still_there text_total same_texts world.rounds id flagged key.round (sane.typed.homes key entry found);
+    tester_homes = λ key found. still_there text_total same_texts world.rounds id flagged key.round (sane.typed.tester_homes key found);
   }
 
   flags_refers : RefersToRows after
   flags_refers = record {
     authors = sane.refers.authors;
     entries = sane.refers.entries;
+    testers = sane.refers.testers;
     entrants = sane.refers.entrants;
     answered = sane.refers.answered;
     protesters = sane.refers.protesters;

@@ -37,6 +37,7 @@ module _ (world : World) (person : Person) (sane : Sane world) where
   person_refers = record {
     authors = λ key row found. stays key.author (sane.refers.authors key row found);
     entries = sane.refers.entries;
+    testers = λ round name found. stays name (sane.refers.testers round name found);
     entrants = λ key row found. stays key.entrant (sane.refers.entrants key row found);
     answered = sane.refers.answered;
     protesters = λ key row found. stays key.entrant (sane.refers.protesters key row found);
@@ -55,6 +56,7 @@ module _ (world : World) (person : Person) (sane : Sane world) where
       places = sane.typed.in_range.places;
       answers = sane.typed.in_range.answers;
       protests = sane.typed.in_range.protests;
+      testers = sane.typed.in_range.testers;
     }
 
     person_typed : IsWorld (record world { people = new_people })
@@ -78,16 +80,17 @@ module _ (world : World) (person : Person) (sane : Sane world) where
           | inr k ↦ sane.typed.keys_differ a b p q h.1 k.1 same
         ]
       ];
-      lists = λ id round found. let l = sane.typed.lists id round found in (l.0, record { head = l.1.head; list = l.1.list }, l.2);
+      lists = λ id round found. let l = sane.typed.lists id round found in (l.0, record { head = l.1.head; list = l.1.list; testers = l.1.testers }, l.2, l.3);
       homes = sane.typed.homes;
+      tester_homes = sane.typed.tester_homes;
     }
 
 -- who may take part in a round still may
 still_takes_part : (world : World) (person : Person) → get world.people person.name ≡ None → (name round : List ℕ) → MayTakePart world name round →
     MayTakePart (record world { people = insert world.people person.name person }) name round
-still_takes_part world person fresh name round (other, there, entrant, no_author) =
+still_takes_part world person fresh name round (other, there, entrant, no_author, no_tester) =
     let differ : name ≢ person.name = λ same. let no : None ≡ Some other = sym fresh ∙ ap (get world.people) (sym same) ∙ there in cc in
-    (other, others_stay text_total same_texts world.people person.name person name other differ there, entrant, no_author)
+    (other, others_stay text_total same_texts world.people person.name person name other differ there, entrant, no_author, no_tester)
 
 -- a person with a key of the own who is not director and entrant may be added
 pub person_sane : (world : World) (person : Person) → Sane world → IsPerson person → get world.people person.name ≡ None → ((name : List ℕ) (other : Person) → get world.people name ≡ Some other → other.key ≢ person.key) →

@@ -90,6 +90,7 @@ fewer hidden ex Kept Less world other less alike = record {
   puzzles = alike.puzzles;
   rounds = alike.rounds;
   places = alike.places;
+  testers = alike.testers;
   answers = λ key k. alike.answers key (less key.entrant key.round k);
   protests = λ key k. alike.protests key (less key.entrant key.round k);
 }
@@ -122,6 +123,25 @@ module _ (last : World) (e : Person) (settled : IsWorld last) (there : get last.
       let own : same_text e.name e.name ≡ true = (text_decides e.name e.name).1 refl in
       ap (is_other_person e) there ∙ ap (λ b. is_entrant_alone e && not b) own ∙ and_false (is_entrant_alone e)
 
+  someone : (found : Option Person) → is_other_person e found ≡ true → (person : Person) × (found ≡ Some person)
+  someone None h = absurd (false≢true h)
+  someone (Some person) h = (person, refl)
+
+  -- another person's request isn't e's
+  pub not_own : (key : Option (List ℕ)) → is_other_person e (caller_of last key) ≡ true → has_key e.key key ≡ false
+  not_own key is_other = elim (has_key e.key key) as (λ b. has_key e.key key ≡ b → b ≡ false) [
+    | false ↦ λ h. refl
+    | true ↦ λ h.
+        let (person, found) = someone (caller_of last key) is_other in
+        let by = found_by last settled key person found in
+        let both : Some person.key ≡ Some e.key = sym by.key ∙ asks_as e.key key h in
+        let same_key : person.key ≡ e.key = cc in
+        let same_name : person.name ≡ e.name = settled.keys_differ person.name e.name person e by.under there same_key in
+        let other : is_other_person e (Some person) ≡ true = ap (is_other_person e) (sym found) ∙ is_other in
+        let differ : same_text person.name e.name ≡ false = true_not (same_text person.name e.name) (and_second _ _ other) in
+        absurd (false≢true (sym differ ∙ (text_decides person.name e.name).1 same_name))
+  ] refl
+
   -- who has the key at the list's end has it, or nobody does, in a world before
   module _ (world : World) (remains : Remains world last) (key : Option (List ℕ)) where
     later_caller : (person : Person) → caller_of world key ≡ Some person → caller_of last key ≡ Some person
@@ -146,19 +166,6 @@ module _ (last : World) (e : Person) (settled : IsWorld last) (there : get last.
           inl (sym by.under ∙ ap (get last.people) same_name ∙ there)
     ] refl
 
-    -- another person's request isn't e's
-    not_e : (person : Person) → caller_of last key ≡ Some person → is_other_person e (Some person) ≡ true → has_key e.key key ≡ false
-    not_e person is other = elim (has_key e.key key) as (λ b. has_key e.key key ≡ b → b ≡ false) [
-      | false ↦ λ h. refl
-      | true ↦ λ h.
-          let by = found_by last settled key person is in
-          let both : Some person.key ≡ Some e.key = sym by.key ∙ asks_as e.key key h in
-          let same_key : person.key ≡ e.key = cc in
-          let same_name : person.name ≡ e.name = settled.keys_differ person.name e.name person e by.under there same_key in
-          let differ : same_text person.name e.name ≡ false = true_not (same_text person.name e.name) (and_second _ _ other) in
-          absurd (false≢true (sym differ ∙ (text_decides person.name e.name).1 same_name))
-    ] refl
-
   -- ---- what e sees
   looks_alike : (world other : World) (t : ℕ) → IsWorld world → IsWorld other → Alike world other → LooksAlike as_is nothing e t world other
   looks_alike world other t typed retyped alike = record {
@@ -172,6 +179,7 @@ module _ (last : World) (e : Person) (settled : IsWorld last) (there : get last.
         (alike.answers key (inr (round, ap (get world.rounds) own ∙ kept, published)));
     protests = λ id round kept published key own. alike.protests key (inr (round, ap (get world.rounds) own ∙ kept, published));
     puzzles = λ key started. ap (λ m. get m key) alike.puzzles;
+    tested = λ key tests. ap (λ m. get m key) alike.puzzles;
   }
 
   -- ---- a request that is left out
@@ -206,6 +214,7 @@ module _ (last : World) (e : Person) (settled : IsWorld last) (there : get last.
       puzzles = its_rest.puzzles ∙ alike.puzzles;
       rounds = its_rest.rounds ∙ alike.rounds;
       places = its_rest.places ∙ alike.places;
+      testers = its_rest.testers ∙ alike.testers;
       answers = λ key k.
           let kept = stayed key.entrant key.round k in
           elim (changes.answers key) [
@@ -287,6 +296,7 @@ module _ (last : World) (e : Person) (settled : IsWorld last) (there : get last.
           puzzles = here.rest.puzzles ∙ alike.puzzles ∙ sym also.rest.puzzles;
           rounds = here.rest.rounds ∙ alike.rounds ∙ sym also.rest.rounds;
           places = here.rest.places ∙ alike.places ∙ sym also.rest.places;
+          testers = here.rest.testers ∙ alike.testers ∙ sym also.rest.testers;
           answers = λ key k.
               ap (λ (m : FinMap answer_cmp AnswerRow). option_map (seen as_is nothing) (get m key)) here.answers
               ∙ alike.answers key (stays_before key.entrant key.round k)
@@ -325,10 +335,6 @@ module _ (last : World) (e : Person) (settled : IsWorld last) (there : get last.
   refused_leaves world caller t id Allow found given new none (round, at, told, made) = absurd (none id told)
 
   -- ---- lists
-  someone : (found : Option Person) → is_other_person e found ≡ true → (person : Person) × (found ≡ Some person)
-  someone None h = absurd (false≢true h)
-  someone (Some person) h = (person, refl)
-
   -- the first request
   module _ (q : Asked) (rest : List Asked) (world other : World) (given : Reply) (replies : List Reply) (sane : Sane world) (also : Sane other) (alike : Alike world other)
       (typed : All IsTimed (map timed (q ∷ rest))) (never : All GrantsNoPublication (given ∷ replies)) (run : AnsweredRun world (q ∷ rest) (given ∷ replies) last) where
@@ -378,10 +384,8 @@ module _ (last : World) (e : Person) (settled : IsWorld last) (there : get last.
       AnsweredRun world (q ∷ rest) (given ∷ replies) last → is_other_person e (caller_of last q.request.key) ≡ true → AnsweredRun other (left_in last e rest) others end →
       replies_to e.key (map timed (q ∷ rest)) (given ∷ replies) ≡ replies_to e.key (map timed (left_in last e rest)) others
   leave_out q rest world other end given replies others claim sane also alike typed never none run is_other left =
-      let some = someone (caller_of last q.request.key) is_other in
-      let is_so : is_other_person e (Some some.0) ≡ true = ap (is_other_person e) (sym some.1) ∙ is_other in
       let tail : List Reply = replies_to e.key (map timed rest) replies in
-      ap (λ (b : Bool). if b then given ∷ tail else tail) (not_e world (remains q rest world other given replies sane also alike typed never run) q.request.key some.0 some.1 is_so)
+      ap (λ (b : Bool). if b then given ∷ tail else tail) (not_own q.request.key is_other)
       ∙ claim run.0 other end replies others (still_sane q rest world other given replies sane also alike typed never run) also
       (alike_without q rest world other given replies sane also alike typed never run is_other)
       (All-tail IsTimed (timed q) (map timed rest) typed) (All-tail GrantsNoPublication given replies never) none run.2 left
@@ -404,7 +408,7 @@ module _ (last : World) (e : Person) (settled : IsWorld last) (there : get last.
       (All-tail IsTimed (timed q) (map timed rest) typed) (All-tail GrantsNoPublication given replies never) (All-tail GrantsNoPublication answered others none) run.2 left.2 in
       elim (has_key e.key q.request.key) as (λ b. has_key e.key q.request.key ≡ b → (if b then given ∷ ours else ours) ≡ (if b then answered ∷ theirs else theirs)) [
         | true ↦ λ own.
-            let same : given ≡ answered = plain_answers nothing world other alike.people alike.rounds alike.places sane.typed also.typed e alone q q refl refl
+            let same : given ≡ answered = plain_answers nothing world other alike.people alike.rounds alike.places alike.testers sane.typed also.typed e alone q q refl refl
             (looks_alike world other q.moment sane.typed also.typed alike)
             (e_calls world (remains q rest world other given replies sane also alike typed never run) q.request.key (asks_as e.key q.request.key own)) given answered next after run.1 left.1 in
             ap (λ (g : Reply). g ∷ ours) same ∙ ap (λ (gs : List Reply). answered ∷ gs) tail
@@ -423,7 +427,7 @@ module _ (last : World) (e : Person) (settled : IsWorld last) (there : get last.
       ] refl left
 
 pub alike_itself : (hidden : List ℕ → Bool) (Kept : List ℕ → List ℕ → Type 0) (world : World) → AlikeFor as_is hidden Kept world world
-alike_itself hidden Kept world = record { people = refl; puzzles = refl; rounds = refl; places = refl; answers = λ key k. refl; protests = λ key k. refl }
+alike_itself hidden Kept world = record { people = refl; puzzles = refl; rounds = refl; places = refl; testers = refl; answers = λ key k. refl; protests = λ key k. refl }
 
 -- the law
 pub others_hidden : OthersHiddenInAnswers

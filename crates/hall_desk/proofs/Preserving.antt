@@ -57,13 +57,14 @@ module _ (ex : List ℕ → List ℕ → List ℕ) (hidden : List ℕ → Bool) 
     }
 
     -- what changes beside answers and protests changes alike
-    others_change : (new : World) (changed : World) → new.people ≡ changed.people → new.puzzles ≡ changed.puzzles → new.rounds ≡ changed.rounds → new.places ≡ changed.places →
+    others_change : (new : World) (changed : World) → new.people ≡ changed.people → new.puzzles ≡ changed.puzzles → new.rounds ≡ changed.rounds → new.places ≡ changed.places → new.testers ≡ changed.testers →
         new.answers ≡ world.answers → changed.answers ≡ answers → new.protests ≡ world.protests → changed.protests ≡ protests → AlikeFor ex hidden Kept new changed
-    others_change new changed people puzzles rounds places a b p q = record {
+    others_change new changed people puzzles rounds places testers a b p q = record {
       people = people;
       puzzles = puzzles;
       rounds = rounds;
       places = places;
+      testers = testers;
       answers = λ key k.
           ap (λ (m : FinMap answer_cmp AnswerRow). option_map (seen ex hidden) (get m key)) a ∙ alike.answers key k
           ∙ sym (ap (λ (m : FinMap answer_cmp AnswerRow). option_map (seen as_is hidden) (get m key)) b);
@@ -80,12 +81,12 @@ module _ (ex : List ℕ → List ℕ → List ℕ) (hidden : List ℕ → Bool) 
     puzzles_change : (new changed : World) (m n : FinMap puzzle_cmp PuzzleRow) → m ≡ n → new ≡ record world { puzzles = m } → changed ≡ record beside { puzzles = n } → AlikeFor ex hidden Kept new changed
     puzzles_change new changed m n same first second =
         told_change new changed (record world { puzzles = m }) (record beside { puzzles = n }) first second
-        (others_change (record world { puzzles = m }) (record beside { puzzles = n }) refl same refl refl refl refl refl refl)
+        (others_change (record world { puzzles = m }) (record beside { puzzles = n }) refl same refl refl refl refl refl refl refl)
 
     rounds_change : (new changed : World) (m n : FinMap text_cmp Round) → m ≡ n → new ≡ record world { rounds = m } → changed ≡ record beside { rounds = n } → AlikeFor ex hidden Kept new changed
     rounds_change new changed m n same first second =
         told_change new changed (record world { rounds = m }) (record beside { rounds = n }) first second
-        (others_change (record world { rounds = m }) (record beside { rounds = n }) refl refl same refl refl refl refl refl)
+        (others_change (record world { rounds = m }) (record beside { rounds = n }) refl refl same refl refl refl refl refl refl)
 
     put_alike : (key : PuzzleKey) (puzzle : Board) (found : PuzzleState) (given answered : Reply) (new changed : World) →
         Allowed world caller (action.PutPuzzle key puzzle) t found given new → Allowed beside caller (action.PutPuzzle key puzzle) t found answered changed → AlikeFor ex hidden Kept new changed
@@ -115,6 +116,7 @@ module _ (ex : List ℕ → List ℕ → List ℕ) (hidden : List ℕ → Bool) 
           puzzles = refl;
           rounds = refl;
           places = refl;
+          testers = refl;
           answers = λ q k. elim (keys_apart answer_total same_answer_keys q key) [
             | inl own ↦
                 ap (option_map (seen ex hidden)) (inserted_there answer_total same_answer_keys world.answers key row q own) ∙ ap Some same
@@ -134,6 +136,7 @@ module _ (ex : List ℕ → List ℕ → List ℕ) (hidden : List ℕ → Bool) 
           puzzles = refl;
           rounds = refl;
           places = refl;
+          testers = refl;
           answers = alike.answers;
           protests = λ q k. elim (keys_apart protest_total same_protest_keys q key) [
             | inl own ↦ inserted_there protest_total same_protest_keys world.protests key row q own ∙ sym (inserted_there protest_total same_protest_keys protests key row q own)
@@ -194,13 +197,13 @@ module _ (ex : List ℕ → List ℕ → List ℕ) (hidden : List ℕ → Bool) 
     allowed_alike : (a : Action) → Agrees world beside a → (found : PuzzleState) (given answered : Reply) (new changed : World) →
         Allowed world caller a t found given new → Allowed beside caller (exchanged ex a) t found answered changed → AlikeFor ex hidden Kept new changed
     allowed_alike (action.Import people) h found given answered new changed (told, made) (told', made') =
-        told_change new changed _ _ made made' (others_change _ _ refl refl refl refl refl refl refl refl)
+        told_change new changed _ _ made made' (others_change _ _ refl refl refl refl refl refl refl refl refl)
     allowed_alike (action.PutPuzzle key puzzle) h found given answered new changed p q = put_alike key puzzle found given answered new changed p q
     allowed_alike (action.ReadPuzzle key) h found given answered new changed p q = unchanged new changed p.1 q.1
     allowed_alike action.ListPuzzles h found given answered new changed p q = unchanged new changed p.2.1 q.2.1
     allowed_alike (action.Certify key budget) h found given answered new changed p q = certify_alike key budget found given answered new changed p q
     allowed_alike (action.PutRound id sheet) h found given answered new changed (told, made) (told', made') =
-        told_change new changed _ _ made made' (others_change _ _ refl refl refl refl refl refl refl refl)
+        told_change new changed _ _ made made' (others_change _ _ refl refl refl refl refl refl refl refl refl)
     allowed_alike (action.Release id) h found given answered new changed (round, at, told, made) (round', at', told', made') =
         let one : round ≡ round' = one_row (get world.rounds id) round round' at at' in
         rounds_change new changed _ _ (ap (λ (r : Round). insert world.rounds id (record r { released = true })) one) made made'
@@ -239,11 +242,13 @@ alike_world ex hidden Kept world other alike =
     let puzzles : world.puzzles ≡ other.puzzles = alike.puzzles in
     let rounds : world.rounds ≡ other.rounds = alike.rounds in
     let places : world.places ≡ other.places = alike.places in
+    let testers : world.testers ≡ other.testers = alike.testers in
     λ i. record {
       people = people i;
       puzzles = puzzles i;
       rounds = rounds i;
       places = places i;
+      testers = testers i;
       answers = other.answers;
       protests = other.protests;
     }

@@ -2,7 +2,7 @@
 use Rattle.std.proofs.Common.{◌≡◌, ◌≢◌, ◌⊎◌, ◌≤◌, inl, inr, ℕ, true, false, List, Option, Some, None, refl, sym, ap, ◌∙◌, subst, arith, lit<}
 use Rattle.std.proofs.Math.Bool.{and-false}
 use Rattle.std.specs.FinMap.{get}
-use Rattle.hall_policy.specs.World.{World, place_of, protest_of}
+use Rattle.hall_policy.specs.World.{World, place_of, protest_of, IsTesterOf}
 use Rattle.hall_policy.specs.Actions.{number_of}
 use Rattle.hall_policy.specs.First.{First, NoneBelow, Forbids, Repeated}
 use Rattle.hall_policy.specs.declared.rule.Rule.{Rule}
@@ -119,26 +119,41 @@ module _ (world later : World) (remains : Remains world later) (caller : Option 
       let no : true ≡ false = sym (still_released world later id was_released.0 round_stays was_released.2) ∙ (missing round_stays.after round_stays.found).0 in
       absurd (cc)
   forbade rule.Missing few (asked, inr gone) = inr (refl, gone)
-  forbade rule.OwnPuzzle few (asked, (person, is, (entrant, (q, r, entry, named, at, (place, lists), own)))) =
-      let one : id ≡ q = cc in inl (
-        asked,
+  forbade rule.OwnPuzzle few (asked, (free, (person, is, (entrant, hand)))) = inl (
+    asked,
+    (
+      free,
+      (
+        person,
+        is,
         (
-          person,
-          is,
-          (
-            entrant,
-            (
-              q,
-              was_released.0,
-              entry,
-              named,
-              subst (λ (x : List ℕ). get world.rounds x ≡ Some was_released.0) one was_released.1,
-              (place, subst (λ (x : List ℕ). place_of world x place ≡ Some entry) one (sym (round_stays.places place) ∙ subst (λ (x : List ℕ). place_of later x place ≡ Some entry) (sym one) lists)),
-              own,
-            ),
-          ),
+          entrant,
+          elim hand [
+            | inl (q, r, entry, named, at, (place, lists), own) ↦
+                let one : id ≡ q = cc in
+                inl (
+                  q,
+                  was_released.0,
+                  entry,
+                  named,
+                  subst (λ (x : List ℕ). get world.rounds x ≡ Some was_released.0) one was_released.1,
+                  (place, subst (λ (x : List ℕ). place_of world x place ≡ Some entry) one (sym (round_stays.places place) ∙ subst (λ (x : List ℕ). place_of later x place ≡ Some entry) (sym one) lists)),
+                  own,
+                )
+            | inr (q, r, named, at, tests) ↦
+                let one : id ≡ q = cc in
+                inr (
+                  q,
+                  was_released.0,
+                  named,
+                  subst (λ (x : List ℕ). get world.rounds x ≡ Some was_released.0) one was_released.1,
+                  subst (λ (x : List ℕ). IsTesterOf world x person.name) one ((round_stays.testers person.name).0 (subst (λ (x : List ℕ). IsTesterOf later x person.name) (sym one) tests)),
+                )
+          ],
         ),
-      )
+      ),
+    ),
+  )
   forbade _ few h = absurd (omega arith)
 
   -- so a rule before the token's forbids the retry only where its number is missing

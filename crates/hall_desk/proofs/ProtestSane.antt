@@ -71,6 +71,7 @@ module _ (world : World) (key : ProtestKey) (row : ProtestRow) where
         | inl h ↦ subst IsProtestRow (sym h.1) in_range
         | inr h ↦ sane.typed.in_range.protests q r h.1
       ];
+      testers = sane.typed.in_range.testers;
     }
 
     protest_typed : IsWorld (record world { protests = new_protests })
@@ -85,14 +86,16 @@ module _ (world : World) (key : ProtestKey) (row : ProtestRow) where
         | inr h ↦ sane.typed.protests q r h.1
       ];
       keys_differ = sane.typed.keys_differ;
-      lists = λ id round found. let l = sane.typed.lists id round found in (l.0, record { head = l.1.head; list = l.1.list }, l.2);
+      lists = λ id round found. let l = sane.typed.lists id round found in (l.0, record { head = l.1.head; list = l.1.list; testers = l.1.testers }, l.2, l.3);
       homes = sane.typed.homes;
+      tester_homes = sane.typed.tester_homes;
     }
 
     protest_refers : RefersToRows (record world { protests = new_protests })
     protest_refers = record {
       authors = sane.refers.authors;
       entries = sane.refers.entries;
+      testers = sane.refers.testers;
       entrants = sane.refers.entrants;
       answered = sane.refers.answered;
       protesters = λ q r found. elim (after_protest q r found) [
@@ -169,7 +172,7 @@ protest_step world caller id token number text t found given new sane there aske
     released
     (takes_part world caller (action.Protest id token number text) person id is (there person is) refl refl released
     (λ lacks. (none rule.NoRole (lit< tt)).0 ((1, lit< tt, refl), lacks))
-    (λ own. (none rule.OwnPuzzle (lit< tt)).0 ((3, lit< tt, refl), own)))
+    (λ reads. reads) (λ own. (none rule.OwnPuzzle (lit< tt)).0 ((3, lit< tt, refl), own)))
     (has_place world id number (λ gone. (none rule.Missing (lit< tt)).0 ((2, lit< tt, refl), inr gone)))
     (λ round kept published _. (none rule.Published (lit< tt)).0 ((7, lit< tt, refl), (id, round, refl, kept, published)))
     (λ _. lt_of_not-le (λ many. (none rule.LimitReached (lit< tt)).0 ((8, lit< tt, refl), (person, is, many)))))

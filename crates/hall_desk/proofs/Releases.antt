@@ -1,11 +1,11 @@
 -- Released rounds: that one is found, and which have a puzzle.
-use Rattle.std.proofs.Common.{◌≡◌, ◌≢◌, ◌↔◌, ℕ, zero, suc, Bool, true, false, not, ◌&&◌, List, ◌<◌, ◌≤◌, length, slice_get, Option, Some, None, Contains, refl, sym, ap, ◌∙◌, subst, arith}
+use Rattle.std.proofs.Common.{◌≡◌, ◌≢◌, ◌↔◌, ℕ, zero, suc, Bool, true, false, not, ◌&&◌, List, ◌<◌, ◌≤◌, length, slice_get, Option, Some, None, Contains, inl, inr, refl, sym, ap, ◌∙◌, subst, arith}
 use Rattle.std.specs.List.{filter}
 use Rattle.std.specs.FinMap.{get}
 use Rattle.std.proofs.lemmas.Option.{slice_get-get_or, slice_get_within, get_or_from_slice_get}
 use Rattle.hall_policy.specs.World.{World, IsRoundAt, entry_at, same_text}
 use Rattle.hall_policy.specs.Actions.{finds_drafts, may, round_named}
-use Rattle.hall_policy.specs.Rules.{Lists, StandsReleased, RoundIsMissing, LacksRole, IsOwnPuzzle, is_director}
+use Rattle.hall_policy.specs.Rules.{Lists, StandsReleased, RoundIsMissing, LacksRole, ReadsAsTester, IsOwnPuzzle, is_director}
 use Rattle.hall_policy.specs.declared.record.Person.{Person}
 use Rattle.hall_policy.specs.declared.record.Round.{Round}
 use Rattle.hall_policy.specs.declared.request.Action.{Action}
@@ -36,16 +36,21 @@ released_found world caller asked id no_drafts there = elim (get world.rounds id
   ] refl
 ] refl
 
--- an entrant's action that neither the rule on roles nor that on own puzzles forbids: its caller may take part in the released round that it names
+-- an entrant's action, not a tester's reading, that neither the rule on roles nor that on own puzzles forbids: its caller may take part in the released round that it names
 pub takes_part : (world : World) (caller : Option Person) (asked : Action) (person : Person) (id : List ℕ) → caller ≡ Some person → get world.people person.name ≡ Some person →
-    may person.roles asked ≡ person.roles.entrant → round_named asked ≡ Some id → IsReleasedRound world id → ¬ (LacksRole caller asked) → ¬ (IsOwnPuzzle world caller asked) →
+    may person.roles asked ≡ person.roles.entrant → round_named asked ≡ Some id → IsReleasedRound world id → ¬ (LacksRole caller asked) → ¬ (ReadsAsTester world caller asked) → ¬ (IsOwnPuzzle world caller asked) →
     MayTakePart world person.name id
-takes_part world caller asked person id is there entrants named released may_ask not_own =
+takes_part world caller asked person id is there entrants named released may_ask not_reading not_own =
     let entrant : person.roles.entrant ≡ true = elim person.roles.entrant as (λ b. person.roles.entrant ≡ b → b ≡ true) [
       | true ↦ λ e. refl
       | false ↦ λ e. absurd (may_ask (person, is, entrants ∙ e))
-    ] refl in
-    (person, there, entrant, λ entry lists own. not_own (person, is, (entrant, (id, released.0, entry, named, released.1, lists, own))))
+    ] refl in (
+      person,
+      there,
+      entrant,
+      (λ entry lists own. not_own (not_reading, (person, is, (entrant, inl (id, released.0, entry, named, released.1, lists, own))))),
+      (λ tests. not_own (not_reading, (person, is, (entrant, inr (id, released.0, named, released.1, tests))))),
+    )
 
 -- a round that has the puzzle and is released
 pub released_using : (world : World) (key : PuzzleKey) (ids : List (List ℕ)) → AreUsing world key ids →

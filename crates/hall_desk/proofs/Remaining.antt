@@ -1,6 +1,6 @@
 -- What no event of a hall's life takes away: who has a key, the answers and protests that stand, their rulings, and the
 -- released rounds with their puzzles.
-use Rattle.std.proofs.Common.{◌≡◌, ◌≢◌, ◌⊎◌, inl, inr, if◌then◌else◌, ℕ, suc, Bool, true, false, cond, List, [], ◌∷◌, Option, Some, None, Contains, IsTrue, refl, sym, ap, ◌∙◌, subst, arith, lit<}
+use Rattle.std.proofs.Common.{◌≡◌, ◌≢◌, ◌⊎◌, ◌↔◌, inl, inr, if◌then◌else◌, ℕ, suc, Bool, true, false, cond, List, [], ◌∷◌, Option, Some, None, Contains, IsTrue, refl, sym, ap, ◌∙◌, subst, arith, lit<}
 use Rattle.std.specs.Prelude.{find, is_some}
 use Rattle.std.specs.FinMap.{FinMap, get, insert, entries, values, put, get-entries, entries-insert}
 use Rattle.std.specs.FinMap.{find as by_key}
@@ -10,7 +10,7 @@ use Rattle.std.specs.Ordering.{is_eq}
 use Rattle.std.specs.declared.cmp.Ordering.{Ordering}
 use Rattle.std.specs.declared.cmp.Ordering.TheVariants.{Less, Equal, Greater}
 use Rattle.hall_policy.specs.Text.{text_cmp}
-use Rattle.hall_policy.specs.World.{World, protest_of, same_text, puzzle_cmp, place_cmp}
+use Rattle.hall_policy.specs.World.{World, protest_of, same_text, puzzle_cmp, place_cmp, tester_cmp}
 use Rattle.hall_policy.specs.Rules.{Conflicts, StandsReleased}
 use Rattle.hall_policy.specs.First.{NoneBelow}
 use Rattle.hall_policy.specs.declared.rule.Rule.TheVariants as rule
@@ -32,7 +32,7 @@ use Rattle.hall_policy.specs.declared.request.Request.{Request}
 use Rattle.hall_grid.specs.Board.{Board}
 use Rattle.hall_policy.proofs.Orders.{text_total, same_texts, puzzle_total, same_puzzle_keys, answer_total, same_answer_keys, protest_total, same_protest_keys}
 use Rattle.hall_store.specs.Caller.{with_key, caller_of}
-use Rattle.hall_store.specs.Change.{with_person, with_people, relisted}
+use Rattle.hall_store.specs.Change.{with_person, with_people, relisted, retested}
 use Rattle.hall_desk.specs.Found.{IsReleasedRound}
 use Rattle.hall_desk.specs.Step.{Step, Seed, Allowed, IsSearched, IsFound, is_open, new_row, draft_of, answer_row, open_protest}
 use Rattle.hall_desk.specs.History.{Event, requested, seeded, Happens}
@@ -43,7 +43,7 @@ use Rattle.hall_store.proofs.Inserts.{keys_apart, others_stay, inserted_there}
 use Rattle.hall_store.proofs.Tests.{not_true}
 use Rattle.hall_policy.proofs.Texts.{text_decides}
 use Rattle.hall_desk.proofs.Answering.{find-value}
-use Rattle.hall_desk.proofs.DraftSane.{puts_no_released, relisted_other}
+use Rattle.hall_desk.proofs.DraftSane.{puts_no_released, relisted_other, retested_other}
 use Rattle.hall_desk.proofs.Tokens.{token_decides}
 use Rattle.hall_desk.proofs.ProtestTokens.{token_decides as protest_token_decides}
 use Rattle.hall_desk.proofs.Rulings.{ruling_decides}
@@ -52,14 +52,19 @@ use Rattle.hall_desk.proofs.Rulings.{ruling_decides}
 pub still_released : (world later : World) (id : List ℕ) (round : Round) → (stays : StaysReleased world later id round) → round.released ≡ true → stays.after.released ≡ true
 still_released world later id round stays is = ap (λ (r : Round). r.released) stays.same ∙ is
 
--- a round that is found with its places is as it was
-stays_as_found : (world later : World) (id : List ℕ) (round : Round) → get later.rounds id ≡ Some round → round.released ≡ true → later.places ≡ world.places → StaysReleased world later id round
-stays_as_found world later id round at is places = record {
+-- what is found alike is there alike
+as_kept : {a b : Option (Unit {0})} → a ≡ b → (a ≡ Some tt) ↔ (b ≡ Some tt)
+as_kept same = (λ found. sym same ∙ found, λ found. same ∙ found)
+
+-- a round that is found with its places and its testers is as it was
+stays_as_found : (world later : World) (id : List ℕ) (round : Round) → get later.rounds id ≡ Some round → round.released ≡ true → later.places ≡ world.places → later.testers ≡ world.testers → StaysReleased world later id round
+stays_as_found world later id round at is places testers = record {
   after = round;
   found = at;
   same = refl;
   risen = λ published. published;
   places = λ number. ap (λ (m : FinMap place_cmp Entry). get m (record { round = id; number = number })) places;
+  testers = λ name. as_kept (ap (λ (m : FinMap tester_cmp (Unit {0})). get m (record { round = id; name = name })) testers);
 }
 
 -- a protest that is found as it was
@@ -97,7 +102,7 @@ callers_stay world later same (Some key) person is = ap (λ (people : FinMap tex
 
 -- a world keeps what it has
 remains_itself : (world : World) → Remains world world
-remains_itself world = record { people = λ name person at. at; callers = λ key person is. is; answers = λ key row at. at; protests = protest_as_found world; rounds = λ id round at is. stays_as_found world world id round at is refl; puzzles = puzzles_as_found world world refl }
+remains_itself world = record { people = λ name person at. at; callers = λ key person is. is; answers = λ key row at. at; protests = protest_as_found world; rounds = λ id round at is. stays_as_found world world id round at is refl refl; puzzles = puzzles_as_found world world refl }
 
 -- so does one that is the same
 remains_same : (world new : World) → new ≡ world → Remains world new
@@ -127,6 +132,7 @@ remains_on world mid later first second = record {
         same = b.same ∙ ap (λ (r : Round). let now : Round = record r { published = b.after.published } in now) a.same;
         risen = λ published. b.risen (a.risen published);
         places = λ number. b.places number ∙ a.places number;
+        testers = λ name. (λ tests. (a.testers name).0 ((b.testers name).0 tests), λ tests. (b.testers name).1 ((a.testers name).1 tests));
       };
   puzzles = λ id key row stands at.
       let a = first.puzzles id key row stands at in
@@ -153,7 +159,7 @@ puzzles_change world new puzzles listed made =
       callers = callers_stay world after refl;
       answers = λ key row at. at;
       protests = protest_as_found after;
-      rounds = λ id round at is. stays_as_found world after id round at is refl;
+      rounds = λ id round at is. stays_as_found world after id round at is refl refl;
       puzzles = listed;
     })
 
@@ -253,7 +259,7 @@ people_join world people new fits made =
       callers = still_callers world people fits;
       answers = λ key row at. at;
       protests = protest_as_found after;
-      rounds = λ id round at is. stays_as_found world after id round at is refl;
+      rounds = λ id round at is. stays_as_found world after id round at is refl refl;
       puzzles = puzzles_as_found world after refl;
     })
 
@@ -275,7 +281,7 @@ put_round_remains : (world : World) (caller : Option Person) (id : List ℕ) (sh
     NoneBelow 21 world caller (action.PutRound id sheet) t → Allowed world caller (action.PutRound id sheet) t found given new → Remains world new
 put_round_remains world caller id sheet t found given new none (told, made) =
     let draft : Round = draft_of id sheet in
-    let after : World = record world { rounds = insert world.rounds id draft; places = relisted world.places id sheet.puzzles } in
+    let after : World = record world { rounds = insert world.rounds id draft; places = relisted world.places id sheet.puzzles; testers = retested world.testers id sheet.testers } in
     subst (λ (w : World). Remains world w) (sym made) (record {
       people = λ name person at. at;
       callers = callers_stay world after refl;
@@ -289,6 +295,7 @@ put_round_remains world caller id sheet t found given new none (told, made) =
             same = refl;
             risen = λ published. published;
             places = λ number. relisted_other world.places id sheet.puzzles (record { round = q; number = number }) other;
+            testers = λ name. as_kept (retested_other world.testers id sheet.testers (record { round = q; name = name }) other);
           };
       puzzles = puzzles_as_found world after refl;
     })
@@ -313,8 +320,9 @@ round_changes world new id round now kept same risen made =
               same = same (ap (λ (x : Round). x.released) one ∙ is) ∙ ap (λ (x : Round). let risen_one : Round = record x { published = now.published } in risen_one) one;
               risen = λ published. risen (ap (λ (x : Round). x.published) one ∙ published);
               places = λ number. refl;
+              testers = λ name. as_kept refl;
             }
-        | inr other ↦ stays_as_found world after q r (others_stay text_total same_texts world.rounds id now q r other at) is refl
+        | inr other ↦ stays_as_found world after q r (others_stay text_total same_texts world.rounds id now q r other at) is refl refl
       ];
       puzzles = puzzles_as_found world after refl;
     })
@@ -331,7 +339,7 @@ submit_remains world caller id number token answer t found given new none (perso
       answers = λ key old at. others_stay answer_total same_answer_keys world.answers row.key row key old
           (λ own. token_decides world caller t person id number token answer old is (ap (get world.answers) (sym own) ∙ at) 21 none (lit< tt)) at;
       protests = protest_as_found after;
-      rounds = λ q r at is. stays_as_found world after q r at is refl;
+      rounds = λ q r at is. stays_as_found world after q r at is refl refl;
       puzzles = puzzles_as_found world after refl;
     })
 
@@ -347,7 +355,7 @@ protest_remains world caller id token number text t found given new none (person
       answers = λ key old at. at;
       protests = λ key old at. protest_as_found after key old (others_stay protest_total same_protest_keys world.protests row.key row key old
           (λ own. protest_token_decides world caller t person id token number text old is (ap (get world.protests) (sym own) ∙ at) 21 none (lit< tt)) at);
-      rounds = λ q r at is. stays_as_found world after q r at is refl;
+      rounds = λ q r at is. stays_as_found world after q r at is refl refl;
       puzzles = puzzles_as_found world after refl;
     })
 
@@ -375,7 +383,7 @@ rule_remains world caller id entrant token ruling t found given new none (row, k
             }
         | inr other ↦ protest_as_found after key old (others_stay protest_total same_protest_keys world.protests own_key now key old other at)
       ];
-      rounds = λ q r at is. stays_as_found world after q r at is refl;
+      rounds = λ q r at is. stays_as_found world after q r at is refl refl;
       puzzles = puzzles_as_found world after refl;
     })
 

@@ -5,10 +5,10 @@ use Rattle.std.specs.Option.{option_map}
 use Rattle.std.specs.FinMap.{FinMap, get, values}
 use Rattle.std.proofs.lemmas.Bool.{cases_order, false≢true}
 use Rattle.std.proofs.lemmas.Bool.Decides.{nat_tests}
-use Rattle.hall_policy.specs.World.{World, puzzle_cmp, answer_cmp, protest_cmp, IsRoundAt, answer_of, end_of, same_text}
+use Rattle.hall_policy.specs.World.{World, puzzle_cmp, answer_cmp, protest_cmp, IsRoundAt, IsTesterOf, answer_of, end_of, same_text}
 use Rattle.hall_policy.specs.Ranges.{IsWorld}
 use Rattle.hall_policy.specs.Actions.{rules_asked, may}
-use Rattle.hall_policy.specs.Rules.{RoundIsMissing, answers_given}
+use Rattle.hall_policy.specs.Rules.{RoundIsMissing, ReadsAsTester, answers_given}
 use Rattle.hall_policy.specs.First.{First, NoneBelow}
 use Rattle.hall_policy.specs.declared.record.Person.{Person}
 use Rattle.hall_policy.specs.declared.record.PuzzleRow.{PuzzleRow}
@@ -41,7 +41,7 @@ use Rattle.hall_desk.specs.declared.reply.Reply.TheVariants as reply
 use Rattle.hall_policy.proofs.Texts.{text_decides, and_first, and_second}
 use Rattle.hall_policy.proofs.DecidingAlike.{one_caller, answer_there, given_alike, same_decision}
 use Rattle.hall_desk.proofs.VerdictOnce.{one_verdict_on}
-use Rattle.hall_desk.proofs.Shows.{one_row, one_round_row, same_shown, same_solutions, IsKeptAlike}
+use Rattle.hall_desk.proofs.Shows.{one_row, tested_by, one_round_row, shows_tested, totals_tested, same_shown, same_solutions, IsKeptAlike}
 use Rattle.hall_policy.proofs.Viewed.{left_alike, left_same}
 use Rattle.hall_desk.proofs.Listings.{same_listing}
 use Rattle.hall_desk.proofs.TableOnce.{one_table}
@@ -98,6 +98,25 @@ module _ (ex : List ℕ → List ℕ → List ℕ) (hidden : List ℕ → Bool) 
     kept_alike id row at released started k entry here =
         look.puzzles entry.puzzle (id, row.round, entry, at.head, released, started, (suc k, at.list (suc k) ∙ here), refl)
 
+    -- so are those of a round that e reads: it has started, or e is its tester
+    read_alike : (id : List ℕ) (row : RoundRow) → IsRoundAt world id row → row.round.released ≡ true → NoneBelow 21 world (Some e) (action.ReadRound id) t →
+        (k : ℕ) (entry : Entry) → slice_get row.puzzles k ≡ Some entry → IsKeptAlike world later typed entry
+    read_alike id row at released none k entry here =
+        let tester : List ℕ → Option (Unit {0}) = λ round. get world.testers (record { round = round; name = name }) in
+        elim (tester id) as (λ (o : Option (Unit {0})). tester id ≡ o → IsKeptAlike world later typed entry) [
+          | Some _ ↦ λ tests. look.tested entry.puzzle (id, entry, tests, (suc k, at.list (suc k) ∙ here), refl)
+          | None ↦ λ other.
+              let no_reading : ¬ (ReadsAsTester world (Some e) (action.ReadRound id)) = λ reads.
+              let one : id ≡ reads.2.0 = let both : Some id ≡ Some reads.2.0 = reads.2.2 in cc in
+              let own : reads.0.name ≡ name = ap (λ (p : Person). p.name) (is_e reads.0 reads.1) in
+              let tests : tester id ≡ Some tt = subst (λ (r : List ℕ). tester r ≡ Some tt) (sym one) (subst (λ (n : List ℕ). IsTesterOf world reads.2.0 n) own reads.2.4) in
+              let no : None ≡ Some tt = sym other ∙ tests in
+              absurd (cc) in
+              kept_alike id row at released
+              (le_unless row.round.start t (λ early. (none rule.NotStarted (lit< tt)).0 ((4, lit< tt, refl), (refl, no_reading, (id, row.round, refl, at.head, early)))))
+              k entry here
+        ] refl
+
     -- ---- what is told of an answer
     told_alike : (id : List ℕ) (round : Round) (m n : ℕ) → get world.rounds id ≡ Some round → (hidden id ≡ false → m ≡ n) → told_verdict round m ≡ told_verdict round n
     told_alike id round m n kept same = elim (hidden id) as (λ b. hidden id ≡ b → told_verdict round m ≡ told_verdict round n) [
@@ -114,7 +133,7 @@ module _ (ex : List ℕ → List ℕ → List ℕ) (hidden : List ℕ → Bool) 
         (person', is', (round', entry', puzzle', verdict', kept', place', grid', judged', (told', made'))) =
         let a : Action = action.Submit id number token answer in
         let released = is_released a id round (λ missing. (none rule.Missing (lit< tt)).0 ((2, lit< tt, refl), inl missing)) kept in
-        let started : round.start ≤ t = le_unless round.start t (λ early. (none rule.NotStarted (lit< tt)).0 ((5, lit< tt, refl), (refl, (id, round, refl, kept, early)))) in
+        let started : round.start ≤ t = le_unless round.start t (λ early. (none rule.NotStarted (lit< tt)).0 ((5, lit< tt, refl), (refl, (λ reads. reads), (id, round, refl, kept, early)))) in
         let same_round : round' ≡ round = one_row (get world.rounds id) round' round kept' kept in
         let same_entry : entry' ≡ entry = one_row (get world.places (record { round = id; number = number })) entry' entry place' place in
         let alike : get world.puzzles entry.puzzle ≡ get puzzles entry.puzzle = look.puzzles entry.puzzle (id, round, entry, kept, released, started, (number, place), refl) in
@@ -232,9 +251,8 @@ module _ (ex : List ℕ → List ℕ → List ℕ) (hidden : List ℕ → Bool) 
     read id found again given answered new changed none (row, shown, at, shows, told, same) (row', shown', at', shows', told', same') =
         let a : Action = action.ReadRound id in
         let released = is_released a id row.round (λ missing. (none rule.Missing (lit< tt)).0 ((2, lit< tt, refl), missing)) at.head in
-        let started : row.round.start ≤ t = le_unless row.round.start t (λ early. (none rule.NotStarted (lit< tt)).0 ((4, lit< tt, refl), (refl, (id, row.round, refl, at.head, early)))) in
-        let one : row' ≡ row = sym (one_round_row world later id row row' refl refl at at') in
-        let shown_same = same_shown world later typed row shown shown' (kept_alike id row at released started) shows (subst (λ (r : RoundRow). ShowsRound later r shown') one shows') in
+        let one : row' ≡ tested_by row row'.testers = one_round_row later world id row' row refl refl at' at in
+        let shown_same = same_shown world later typed row shown shown' (read_alike id row at released none) shows (shows_tested later row row'.testers shown' (subst (λ (r : RoundRow). ShowsRound later r shown') one shows')) in
         told' ∙ ap reply.RoundRead (sym shown_same) ∙ sym told
 
     solved : (id : List ℕ) (found again : PuzzleState) (given answered : Reply) (new changed : World) → NoneBelow 21 world (Some e) (action.Solutions id) t →
@@ -244,7 +262,7 @@ module _ (ex : List ℕ → List ℕ → List ℕ) (hidden : List ℕ → Bool) 
         let released = is_released a id row.round (λ missing. (none rule.Missing (lit< tt)).0 ((2, lit< tt, refl), missing)) at.head in
         let over : end_of row.round ≤ t = le_unless (end_of row.round) t (λ early. (none rule.NotEnded (lit< tt)).0 ((3, lit< tt, refl), (id, row.round, refl, at.head, early))) in
         let started : row.round.start ≤ t = omega (arith, over) in
-        let one : row' ≡ row = sym (one_round_row world later id row row' refl refl at at') in
+        let one : row' ≡ tested_by row row'.testers = one_round_row later world id row' row refl refl at' at in
         let texts_same = same_solutions world later typed row.puzzles texts texts' (kept_alike id row at released started) are (subst (λ (r : RoundRow). AreSolutions later r.puzzles texts') one are') in
         told' ∙ ap reply.SolutionList (sym texts_same) ∙ sym told
 
@@ -273,7 +291,7 @@ module _ (ex : List ℕ → List ℕ → List ℕ) (hidden : List ℕ → Bool) 
     pub table_read : (caller : Option Person) (id : List ℕ) (found again : PuzzleState) (given answered : Reply) (new changed : World) → NoneBelow 21 world caller (action.Table id) t →
         Allowed world caller (action.Table id) t found given new → Allowed later caller (action.Table id) t again answered changed → answered ≡ given
     table_read caller id found again given answered new changed none ((row, totals, text, at, are, is, told), same) ((row', totals', text', at', are', is', told'), same') =
-        let one : row' ≡ row = sym (one_round_row world later id row row' refl refl at at') in
+        let one : row' ≡ tested_by row row'.testers = one_round_row later world id row' row refl refl at' at in
         let published : row.round.published ≡ true = true_unless row.round.published (λ no. (none rule.Published (lit< tt)).0 ((1, lit< tt, refl), (id, row.round, refl, at.head, no))) in
         let by_answers : (entrant : List ℕ) → answers_by world id entrant ≡ answers_by later id entrant = λ entrant.
         left_same answer_total same_answer_keys (λ k. same_text k.round id && same_text k.entrant entrant) (is_of entrant id) world.answers answers
@@ -285,7 +303,7 @@ module _ (ex : List ℕ → List ℕ → List ℕ) (hidden : List ℕ → Bool) 
         (λ k r here. ap (λ (x : ProtestKey). same_text x.round id && same_text x.entrant entrant) (typed.protests k r here))
         (λ k r here. ap (λ (x : ProtestKey). same_text x.round id && same_text x.entrant entrant) (retyped.protests k r here))
         (λ k passes. look.protests id row.round at.head published k ((text_decides k.round id).0 (and_first _ _ passes))) in
-        let text_same : text ≡ text' = one_table world later id row totals totals' text text' by_answers by_protests are (subst (λ (r : RoundRow). AreTotals later id r totals') one are') is is' in
+        let text_same : text ≡ text' = one_table world later id row totals totals' text text' by_answers by_protests are (totals_tested later id row row'.testers totals' (subst (λ (r : RoundRow). AreTotals later id r totals') one are')) is is' in
         told' ∙ ap reply.Table (sym text_same) ∙ sym told
 
     -- ---- what is decided alike is answered alike
@@ -394,19 +412,19 @@ module _ (ex : List ℕ → List ℕ → List ℕ) (hidden : List ℕ → Bool) 
 
 -- two worlds that look alike to a person who holds the role entrant alone answer the person's requests alike
 pub entrant_answers : (ex : List ℕ → List ℕ → List ℕ) (hidden : List ℕ → Bool) → ((id a b : List ℕ) → ex id a ≡ ex id b → a ≡ b) → ((id : List ℕ) → hidden id ≡ false → (a : List ℕ) → ex id a ≡ a) →
-    (world other : World) → world.people ≡ other.people → world.rounds ≡ other.rounds → world.places ≡ other.places → IsWorld world → IsWorld other →
+    (world other : World) → world.people ≡ other.people → world.rounds ≡ other.rounds → world.places ≡ other.places → world.testers ≡ other.testers → IsWorld world → IsWorld other →
     (person : Person) → is_entrant_alone person ≡ true → (t : ℕ) → LooksAlike ex hidden person t world other → (caller also : Option Person) → caller ≡ Some person → also ≡ Some person →
     (a : Action) (d f : Decision) (found again : PuzzleState) (given answered : Reply) (new changed : World) →
     First world caller a t d → Decided d world caller a t found given new →
     First other also (exchanged ex a) t f → Decided f other also (exchanged ex a) t again answered changed → answered ≡ exchanged_reply ex a given
-entrant_answers ex hidden apart plain world other people rounds places typed retyped person alone t look caller also is same a d f found again given answered new changed =
+entrant_answers ex hidden apart plain world other people rounds places testers typed retyped person alone t look caller also is same a d f found again given answered new changed =
     let Claim : World → Person → Option Person → Option Person → Type 0 = λ w p c b.
     IsWorld w → LooksAlike ex hidden p t world w → First world c a t d → Decided d world c a t found given new →
     First w b (exchanged ex a) t f → Decided f w b (exchanged ex a) t again answered changed → answered ≡ exchanged_reply ex a given in
     let one : Person = lone person.name person.key in
     let base : Claim (record world { puzzles = other.puzzles; answers = other.answers; protests = other.protests }) one (Some one) (Some one) = λ right alike.
     lone_answers ex hidden apart plain world other.puzzles other.answers other.protests typed right person.name person.key t alike a d f found again given answered new changed in
-    let moved : Claim other one (Some one) (Some one) = subst (λ (w : World). Claim w one (Some one) (Some one)) (same_world world other people rounds places) base in
+    let moved : Claim other one (Some one) (Some one) = subst (λ (w : World). Claim w one (Some one) (Some one)) (same_world world other people rounds places testers) base in
     let of_person : Claim other person (Some person) (Some person) = subst (λ (p : Person). Claim other p (Some p) (Some p)) (sym (is_lone person alone)) moved in
     let of_caller : Claim other person caller (Some person) = subst (λ (c : Option Person). Claim other person c (Some person)) (sym is) of_person in
     let of_both : Claim other person caller also = subst (λ (c : Option Person). Claim other person caller c) (sym same) of_caller in
@@ -414,19 +432,19 @@ entrant_answers ex hidden apart plain world other people rounds places typed ret
 
 -- so do they where the key is unknown
 pub unknown_answers : (ex : List ℕ → List ℕ → List ℕ) (hidden : List ℕ → Bool) → ((id a b : List ℕ) → ex id a ≡ ex id b → a ≡ b) → ((id : List ℕ) → hidden id ≡ false → (a : List ℕ) → ex id a ≡ a) →
-    (world other : World) → world.people ≡ other.people → world.rounds ≡ other.rounds → world.places ≡ other.places → IsWorld world → IsWorld other →
+    (world other : World) → world.people ≡ other.people → world.rounds ≡ other.rounds → world.places ≡ other.places → world.testers ≡ other.testers → IsWorld world → IsWorld other →
     (person : Person) → is_entrant_alone person ≡ true → (t : ℕ) → LooksAlike ex hidden person t world other → (caller also : Option Person) → caller ≡ None → also ≡ None →
     (a : Action) (d f : Decision) (found again : PuzzleState) (given answered : Reply) (new changed : World) →
     First world caller a t d → Decided d world caller a t found given new →
     First other also (exchanged ex a) t f → Decided f other also (exchanged ex a) t again answered changed → answered ≡ exchanged_reply ex a given
-unknown_answers ex hidden apart plain world other people rounds places typed retyped person alone t look caller also is same a d f found again given answered new changed =
+unknown_answers ex hidden apart plain world other people rounds places testers typed retyped person alone t look caller also is same a d f found again given answered new changed =
     let Claim : World → Person → Option Person → Option Person → Type 0 = λ w p c b.
     IsWorld w → LooksAlike ex hidden p t world w → First world c a t d → Decided d world c a t found given new →
     First w b (exchanged ex a) t f → Decided f w b (exchanged ex a) t again answered changed → answered ≡ exchanged_reply ex a given in
     let one : Person = lone person.name person.key in
     let base : Claim (record world { puzzles = other.puzzles; answers = other.answers; protests = other.protests }) one None None = λ right alike.
     stranger_answers ex hidden apart plain world other.puzzles other.answers other.protests typed right person.name person.key t alike a d f found again given answered new changed in
-    let moved : Claim other one None None = subst (λ (w : World). Claim w one None None) (same_world world other people rounds places) base in
+    let moved : Claim other one None None = subst (λ (w : World). Claim w one None None) (same_world world other people rounds places testers) base in
     let of_person : Claim other person None None = subst (λ (p : Person). Claim other p None None) (sym (is_lone person alone)) moved in
     let of_caller : Claim other person caller None = subst (λ (c : Option Person). Claim other person c None) (sym is) of_person in
     let of_both : Claim other person caller also = subst (λ (c : Option Person). Claim other person caller c) (sym same) of_caller in
@@ -437,13 +455,13 @@ abbrev pub IsAtMost : Option Person → Person → Type 0
 IsAtMost caller person = (caller ≡ Some person) ⊎ (caller ≡ None)
 
 pub either_answers : (ex : List ℕ → List ℕ → List ℕ) (hidden : List ℕ → Bool) → ((id a b : List ℕ) → ex id a ≡ ex id b → a ≡ b) → ((id : List ℕ) → hidden id ≡ false → (a : List ℕ) → ex id a ≡ a) →
-    (world other : World) → world.people ≡ other.people → world.rounds ≡ other.rounds → world.places ≡ other.places → IsWorld world → IsWorld other →
+    (world other : World) → world.people ≡ other.people → world.rounds ≡ other.rounds → world.places ≡ other.places → world.testers ≡ other.testers → IsWorld world → IsWorld other →
     (person : Person) → is_entrant_alone person ≡ true → (t : ℕ) → LooksAlike ex hidden person t world other → (caller also : Option Person) → also ≡ caller → IsAtMost caller person →
     (a : Action) (d f : Decision) (found again : PuzzleState) (given answered : Reply) (new changed : World) →
     First world caller a t d → Decided d world caller a t found given new →
     First other also (exchanged ex a) t f → Decided f other also (exchanged ex a) t again answered changed → answered ≡ exchanged_reply ex a given
-either_answers ex hidden apart plain world other people rounds places typed retyped person alone t look caller also same (inl is) = entrant_answers ex hidden apart plain world other people rounds places typed retyped person alone t look caller also is (same ∙ is)
-either_answers ex hidden apart plain world other people rounds places typed retyped person alone t look caller also same (inr is) = unknown_answers ex hidden apart plain world other people rounds places typed retyped person alone t look caller also is (same ∙ is)
+either_answers ex hidden apart plain world other people rounds places testers typed retyped person alone t look caller also same (inl is) = entrant_answers ex hidden apart plain world other people rounds places testers typed retyped person alone t look caller also is (same ∙ is)
+either_answers ex hidden apart plain world other people rounds places testers typed retyped person alone t look caller also same (inr is) = unknown_answers ex hidden apart plain world other people rounds places testers typed retyped person alone t look caller also is (same ∙ is)
 
 -- ---- where no text is exchanged
 lines_stand : (lines : List AnswerLine) (id : List ℕ) → map (exchanged_line (as_is id)) lines ≡ lines

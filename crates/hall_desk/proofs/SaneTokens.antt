@@ -1,8 +1,8 @@
 -- In a sane world no rule before the token's denies the retry of an answer that stands, and of a protest none but that on its number.
 use Rattle.std.proofs.Common.{◌≡◌, ◌≢◌, inl, inr, ℕ, true, false, List, Option, Some, None, sym, ap, ◌∙◌, subst}
 use Rattle.std.specs.FinMap.{get}
-use Rattle.hall_policy.specs.World.{World, place_of}
-use Rattle.hall_policy.specs.Rules.{Lists, RoundIsMissing}
+use Rattle.hall_policy.specs.World.{World, IsTesterOf, place_of}
+use Rattle.hall_policy.specs.Rules.{Lists, HasHandIn, RoundIsMissing}
 use Rattle.hall_policy.specs.declared.record.Person.{Person}
 use Rattle.hall_policy.specs.declared.record.Entry.{Entry}
 use Rattle.hall_policy.specs.declared.request.Action.{Action}
@@ -31,11 +31,15 @@ module _ (world : World) (person : Person) (id : List ℕ) (there : get world.pe
       cc
 
   -- nor that on own puzzles
-  is_no_author : (other : Person) (named : List ℕ) (entry : Entry) → Some person ≡ Some other → Some id ≡ Some named → Lists world named entry → entry.puzzle.author ≢ other.name
-  is_no_author other named entry also asked lists own =
+  has_no_hand : (other : Person) → Some person ≡ Some other → HasHandIn world (Some id) other.name → ⊥
+  has_no_hand other also (inl (named, round, entry, asked, kept, lists, own)) =
       let one : person ≡ other = cc in
       let here : id ≡ named = cc in
       part.3 entry (subst (λ (x : List ℕ). Lists world x entry) (sym here) lists) (own ∙ ap (λ (p : Person). p.name) (sym one))
+  has_no_hand other also (inr (named, round, asked, kept, tests)) =
+      let one : person ≡ other = cc in
+      let here : id ≡ named = cc in
+      part.4 (subst (λ (p : Person). IsTesterOf world id p.name) (sym one) (subst (λ (x : List ℕ). IsTesterOf world x other.name) (sym here) tests))
 
 -- a released round isn't missing for an action that finds no drafts
 not_missing : (world : World) (caller : Option Person) (asked : Action) (id : List ℕ) → IsReleasedRound world id → RoundIsMissing world caller asked id → ⊥
@@ -65,7 +69,7 @@ sane_tokens_act_once world t key person id number token answer row given new san
           let place = sane.refers.answered (record { entrant = person.name; round = id; number = number; token = token }) row stands in
           let no : Some place.0 ≡ None = sym place.1 ∙ gone in
           cc
-      undenied (inr (inr (told, (other, also, (role, (named, round, entry, asked, kept, lists, own)))))) = is_no_author world person id there part other named entry also asked lists own
+      undenied (inr (inr (told, (free, (other, also, (role, hand)))))) = has_no_hand world person id there part other also hand
 
 -- a token of a protest acts once
 pub sane_protest_tokens_act_once : SaneProtestTokensActOnce
@@ -88,5 +92,4 @@ sane_protest_tokens_act_once world t key person id token number text row given n
       denied (inr (inl (told, inl missing))) =
           absurd (not_missing world (Some person) (action.Protest id token number text) id (sane.protests_released (record { entrant = person.name; round = id; token = token }) row stands) missing)
       denied (inr (inl (told, inr gone))) = (told, gone)
-      denied (inr (inr (told, (other, also, (role, (named, round, entry, asked, kept, lists, own)))))) =
-          absurd (is_no_author world person id there part other named entry also asked lists own)
+      denied (inr (inr (told, (free, (other, also, (role, hand)))))) = absurd (has_no_hand world person id there part other also hand)

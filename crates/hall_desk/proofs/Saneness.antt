@@ -72,6 +72,7 @@ module _ (world : World) (key : PuzzleKey) (row : PuzzleRow) where
       places = sane.typed.in_range.places;
       answers = sane.typed.in_range.answers;
       protests = sane.typed.in_range.protests;
+      testers = sane.typed.in_range.testers;
     }
 
     put_typed : IsWorld (record world { puzzles = new_puzzles })
@@ -86,8 +87,9 @@ module _ (world : World) (key : PuzzleKey) (row : PuzzleRow) where
       answers = sane.typed.answers;
       protests = sane.typed.protests;
       keys_differ = sane.typed.keys_differ;
-      lists = λ id round found. let l = sane.typed.lists id round found in (l.0, record { head = l.1.head; list = l.1.list }, l.2);
+      lists = λ id round found. let l = sane.typed.lists id round found in (l.0, record { head = l.1.head; list = l.1.list; testers = l.1.testers }, l.2, l.3);
       homes = sane.typed.homes;
+      tester_homes = sane.typed.tester_homes;
     }
 
     put_refers : RefersToRows (record world { puzzles = new_puzzles })
@@ -97,6 +99,7 @@ module _ (world : World) (key : PuzzleKey) (row : PuzzleRow) where
         | inr h ↦ sane.refers.authors q r h.1
       ];
       entries = λ place entry found. still_there puzzle_total same_puzzle_keys world.puzzles key row entry.puzzle (sane.refers.entries place entry found);
+      testers = sane.refers.testers;
       entrants = sane.refers.entrants;
       answered = sane.refers.answered;
       protesters = sane.refers.protesters;
@@ -192,6 +195,7 @@ module _ (world : World) (row : AnswerRow) where
         | inr h ↦ sane.typed.in_range.answers q r h.1
       ];
       protests = sane.typed.in_range.protests;
+      testers = sane.typed.in_range.testers;
     }
 
     submit_typed : IsWorld (record world { answers = new_answers })
@@ -206,14 +210,16 @@ module _ (world : World) (row : AnswerRow) where
       ];
       protests = sane.typed.protests;
       keys_differ = sane.typed.keys_differ;
-      lists = λ id round found. let l = sane.typed.lists id round found in (l.0, record { head = l.1.head; list = l.1.list }, l.2);
+      lists = λ id round found. let l = sane.typed.lists id round found in (l.0, record { head = l.1.head; list = l.1.list; testers = l.1.testers }, l.2, l.3);
       homes = sane.typed.homes;
+      tester_homes = sane.typed.tester_homes;
     }
 
     submit_refers : RefersToRows (record world { answers = new_answers })
     submit_refers = record {
       authors = sane.refers.authors;
       entries = sane.refers.entries;
+      testers = sane.refers.testers;
       entrants = λ q r found. elim (after_submit q r found) [
         | inl h ↦ λ none. entrant (ap (λ (k : AnswerKey). get world.people k.entrant) (sym h.0) ∙ none)
         | inr h ↦ sane.refers.entrants q r h.1

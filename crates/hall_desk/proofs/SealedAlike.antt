@@ -144,6 +144,7 @@ module _ (last : World) (e : Person) (settled : IsWorld last) (there : get last.
       ] refl;
       protests = λ id rd at published key own. alike.protests key tt;
       puzzles = λ key started. ap (λ m. get m key) alike.puzzles;
+      tested = λ key tests. ap (λ m. get m key) alike.puzzles;
     }
 
   agrees : (world other : World) → Alike world other → (act : Action) → Agrees world other act
@@ -239,7 +240,7 @@ module _ (last : World) (e : Person) (settled : IsWorld last) (there : get last.
       (if t then answered ∷ theirs else theirs) ≡ (if t then exchanged_reply ex q.request.action given ∷ ours else ours)) [
         | true ↦ λ own.
             let told : answered ≡ exchanged_reply ex q.request.action given =
-            exchanged_answers ex (in_round r) (swapped_apart r a b) (swapped_plain r a b) world other alike.people alike.rounds alike.places sane.typed too.typed e alone q (exchanged_asked ex q) refl refl refl
+            exchanged_answers ex (in_round r) (swapped_apart r a b) (swapped_plain r a b) world other alike.people alike.rounds alike.places alike.testers sane.typed too.typed e alone q (exchanged_asked ex q) refl refl refl
             (looks_alike world other sane.typed too.typed alike kept none also q.moment (early q later world other given replies sane too alike kept none also typed before run))
             (e_calls last e settled there alone world remains q.request.key (asks_as e.key q.request.key own)) given answered next after run.1 swaps.1 in
             λ i. told i ∷ tail i
@@ -271,7 +272,7 @@ rows_at_first r a b world typed none key = elim (get world.answers key) as (λ (
 
 -- so it is alike to itself, with the texts exchanged
 pub alike_at_first : (r a b : List ℕ) (world : World) → IsWorld world → ((key : AnswerKey) → key.round ≡ r → get world.answers key ≡ None) → AlikeFor (swapped r a b) (in_round r) All_rows world world
-alike_at_first r a b world typed none = record { people = refl; puzzles = refl; rounds = refl; places = refl; answers = λ key k. rows_at_first r a b world typed none key; protests = λ key k. refl }
+alike_at_first r a b world typed none = record { people = refl; puzzles = refl; rounds = refl; places = refl; testers = refl; answers = λ key k. rows_at_first r a b world typed none key; protests = λ key k. refl }
 
 -- the law
 pub sealed_answers : SealedAnswers

@@ -1,5 +1,5 @@
 -- One step in two worlds that differ in puzzles before their start, or in hidden verdicts.
-use Rattle.std.proofs.Common.{◌≡◌, ◌≢◌, ◌&&◌, inl, inr, if◌then◌else◌, ℕ, Bool, true, false, not, nat_lt, List, [], Option, Some, None, refl, sym, ap, ◌∙◌, subst}
+use Rattle.std.proofs.Common.{◌≡◌, ◌≢◌, ◌≤◌, ◌&&◌, inl, inr, if◌then◌else◌, ℕ, Bool, true, false, not, nat_lt, List, [], Option, Some, None, arith, refl, sym, ap, ◌∙◌, subst}
 use Rattle.std.specs.Option.{option_map}
 use Rattle.std.specs.FinMap.{FinMap, get}
 use Rattle.std.proofs.lemmas.Bool.{false≢true}
@@ -9,6 +9,7 @@ use Rattle.hall_policy.specs.World.{World, answer_cmp, protest_cmp, end_of}
 use Rattle.hall_policy.specs.Ranges.{IsWorld}
 use Rattle.hall_policy.specs.First.{First}
 use Rattle.hall_policy.specs.declared.record.Person.{Person}
+use Rattle.hall_policy.specs.declared.record.PuzzleKey.{PuzzleKey}
 use Rattle.hall_policy.specs.declared.record.AnswerKey.{AnswerKey}
 use Rattle.hall_policy.specs.declared.record.AnswerRow.{AnswerRow}
 use Rattle.hall_policy.specs.declared.record.ProtestRow.{ProtestRow}
@@ -21,7 +22,7 @@ use Rattle.hall_desk.specs.Step.{Asked, IsAnswered, Step, Decided}
 use Rattle.hall_policy.specs.OwnAlike.{is_entrant_alone, seen, as_is, exchanged}
 use Rattle.hall_desk.specs.Alike.{LooksAlike}
 use Rattle.hall_desk.specs.Exchanged.{exchanged_reply}
-use Rattle.hall_desk.specs.Secrecy.{IsEntrantOrStranger, BeforeStart, hides_round, hides, SealedVerdicts}
+use Rattle.hall_desk.specs.Secrecy.{IsEntrantOrStranger, TestsPuzzle, TestsNothingElse, BeforeStart, hides_round, hides, SealedVerdicts}
 use Rattle.hall_desk.specs.declared.reply.Reply.{Reply}
 use Rattle.hall_desk.specs.declared.reply.Reply.TheVariants as reply
 use Rattle.hall_policy.proofs.Texts.{and_first, and_second}
@@ -39,11 +40,11 @@ never id = false
 
 -- the answers to one request, and to the exchanged one
 pub exchanged_answers : (ex : List ℕ → List ℕ → List ℕ) (hidden : List ℕ → Bool) → ((id a b : List ℕ) → ex id a ≡ ex id b → a ≡ b) → ((id : List ℕ) → hidden id ≡ false → (a : List ℕ) → ex id a ≡ a) →
-    (world other : World) → world.people ≡ other.people → world.rounds ≡ other.rounds → world.places ≡ other.places → IsWorld world → IsWorld other →
+    (world other : World) → world.people ≡ other.people → world.rounds ≡ other.rounds → world.places ≡ other.places → world.testers ≡ other.testers → IsWorld world → IsWorld other →
     (person : Person) → is_entrant_alone person ≡ true → (asked again : Asked) → again.moment ≡ asked.moment → again.request.key ≡ asked.request.key → again.request.action ≡ exchanged ex asked.request.action →
     LooksAlike ex hidden person asked.moment world other → IsAtMost (caller_of world asked.request.key) person →
     (given answered : Reply) (new changed : World) → IsAnswered world asked given new → IsAnswered other again answered changed → answered ≡ exchanged_reply ex asked.request.action given
-exchanged_answers ex hidden apart plain world other people rounds places typed retyped person alone asked again at key action look is given answered new changed (d, first, p) (f, second, q) =
+exchanged_answers ex hidden apart plain world other people rounds places testers typed retyped person alone asked again at key action look is given answered new changed (d, first, p) (f, second, q) =
     let t : ℕ = asked.moment in
     let a : Action = asked.request.action in
     let c : Option Person = caller_of other again.request.key in
@@ -51,15 +52,15 @@ exchanged_answers ex hidden apart plain world other people rounds places typed r
     let there : First other c (exchanged ex a) t f = subst (λ (m : ℕ). First other c (exchanged ex a) m f) at (subst (λ (x : Action). First other c x again.moment f) action second) in
     let done : Decided f other c (exchanged ex a) t again.found answered changed =
     subst (λ (m : ℕ). Decided f other c (exchanged ex a) m again.found answered changed) at (subst (λ (x : Action). Decided f other c x again.moment again.found answered changed) action q) in
-    either_answers ex hidden apart plain world other people rounds places typed retyped person alone t look
+    either_answers ex hidden apart plain world other people rounds places testers typed retyped person alone t look
     (caller_of world asked.request.key) c caller is a d f asked.found again.found given answered new changed first p there done
 
 -- the answers to one request, the same in both lists
-pub plain_answers : (hidden : List ℕ → Bool) (world other : World) → world.people ≡ other.people → world.rounds ≡ other.rounds → world.places ≡ other.places → IsWorld world → IsWorld other →
+pub plain_answers : (hidden : List ℕ → Bool) (world other : World) → world.people ≡ other.people → world.rounds ≡ other.rounds → world.places ≡ other.places → world.testers ≡ other.testers → IsWorld world → IsWorld other →
     (person : Person) → is_entrant_alone person ≡ true → (asked again : Asked) → again.moment ≡ asked.moment → again.request ≡ asked.request → LooksAlike as_is hidden person asked.moment world other → IsAtMost (caller_of world asked.request.key) person →
     (given answered : Reply) (new changed : World) → IsAnswered world asked given new → IsAnswered other again answered changed → given ≡ answered
-plain_answers hidden world other people rounds places typed retyped person alone asked again at same look is given answered new changed first second =
-    sym (exchanged_answers as_is hidden (λ id x y e. e) (λ id h x. refl) world other people rounds places typed retyped person alone asked again at
+plain_answers hidden world other people rounds places testers typed retyped person alone asked again at same look is given answered new changed first second =
+    sym (exchanged_answers as_is hidden (λ id x y e. e) (λ id h x. refl) world other people rounds places testers typed retyped person alone asked again at
     (ap (λ (r : Request). r.key) same) (ap (λ (r : Request). r.action) same ∙ sym (as_it_stands asked.request.action)) look is given answered new changed first second
     ∙ reply_stands asked.request.action given)
 
@@ -74,13 +75,20 @@ entrant_for : (caller : Option Person) → IsEntrantOrStranger caller → (e : P
 entrant_for None stranger = (lone [] [], refl, inr refl)
 entrant_for (Some e) alone = (e, alone, inl refl)
 
+-- who is nobody is no tester, and the person is one of no round with a puzzle that differs
+tests_alike : (world other : World) (caller : Option Person) (is : IsEntrantOrStranger caller) → IsWorld world → TestsNothingElse world other caller →
+    (key : PuzzleKey) → TestsPuzzle world (entrant_for caller is).0.name key → get world.puzzles key ≡ get other.puzzles key
+unfolding entrant_for
+tests_alike world other None stranger typed tests key (id, entry, is_tester, lists, own) = absurd (let none : 1 ≤ 0 = (typed.in_range.testers (record { round = id; name = [] }) is_tester).long_enough in omega (arith, none))
+tests_alike world other (Some e) alone typed tests key h = tests key h
+
 -- ---- before the start
 pub before_start : BeforeStart
-before_start world other new changed t request given answered typed retyped differ caller step also serves serves_too =
+before_start world other new changed t request given answered typed retyped differ caller tests step also serves serves_too =
     let who = entrant_for (caller_of world request.key) caller in
     let first = served world new t request given step serves in
     let second = served other changed t request answered also serves_too in
-    plain_answers (λ id. false) world other differ.people differ.rounds differ.places typed retyped who.0 who.1
+    plain_answers (λ id. false) world other differ.people differ.rounds differ.places differ.testers typed retyped who.0 who.1
     (record { moment = t; request = request; found = first.0 }) (record { moment = t; request = request; found = second.0 }) refl refl
     (record {
       own = record {
@@ -91,6 +99,7 @@ before_start world other new changed t request given answered typed retyped diff
       answers = λ id round kept published key own. ap (λ (m : FinMap answer_cmp AnswerRow). get m key) differ.answers;
       protests = λ id round kept published key own. ap (λ (m : FinMap protest_cmp ProtestRow). get m key) differ.protests;
       puzzles = differ.started;
+      tested = tests_alike world other (caller_of world request.key) caller typed tests;
     }) who.2 given answered new changed first.1 second.1
 
 -- ---- hidden verdicts
@@ -121,7 +130,7 @@ sealed_verdicts world other new changed t request given answered typed retyped d
     let first = served world new t request given step serves in
     let second = served other changed t request answered also serves_too in
     let hidden : List ℕ → Bool = hides world t in
-    plain_answers hidden world other differ.people differ.rounds differ.places typed retyped who.0 who.1
+    plain_answers hidden world other differ.people differ.rounds differ.places differ.testers typed retyped who.0 who.1
     (record { moment = t; request = request; found = first.0 }) (record { moment = t; request = request; found = second.0 }) refl refl
     (record {
       own = record {
@@ -139,4 +148,5 @@ sealed_verdicts world other new changed t request given answered typed retyped d
           (differ.answers key);
       protests = λ id round kept published key own. ap (λ (m : FinMap protest_cmp ProtestRow). get m key) differ.protests;
       puzzles = λ key started. ap (λ m. get m key) differ.puzzles;
+      tested = λ key tests. ap (λ m. get m key) differ.puzzles;
     }) who.2 given answered new changed first.1 second.1

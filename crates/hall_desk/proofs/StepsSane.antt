@@ -91,7 +91,7 @@ submit_step world caller id number token answer t found given new sane there tim
     released
     (takes_part world caller (action.Submit id number token answer) person id is (there person is) refl refl released
     (λ lacks. (none rule.NoRole (lit< tt)).0 ((1, lit< tt, refl), lacks))
-    (λ own. (none rule.OwnPuzzle (lit< tt)).0 ((3, lit< tt, refl), own)))
+    (λ reads. reads) (λ own. (none rule.OwnPuzzle (lit< tt)).0 ((3, lit< tt, refl), own)))
     (entry, puzzle, place, grid, judged) refl room)
 
 allowed_sane : (world : World) (caller : Option Person) (asked : Action) (t : ℕ) (found : PuzzleState) (given : Reply) (new : World) → Sane world →

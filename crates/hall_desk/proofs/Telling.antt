@@ -4,7 +4,7 @@ use Rattle.std.specs.FinMap.{get}
 use Rattle.hall_grid.specs.Board.{Board}
 use Rattle.hall_policy.specs.World.{World}
 use Rattle.hall_policy.specs.Facts.{TrueUpTo, IsRoundFound}
-use Rattle.hall_policy.specs.Rules.{Lists, StandsReleased, Conflicts, IsInvolved, puzzles_put, answers_given, protests_made}
+use Rattle.hall_policy.specs.Rules.{SheetLacks, Lists, StandsReleased, Conflicts, IsInvolved, puzzles_put, answers_given, protests_made}
 use Rattle.hall_policy.specs.declared.record.Person.{Person}
 use Rattle.hall_policy.specs.declared.record.PuzzleKey.{PuzzleKey}
 use Rattle.hall_policy.specs.declared.record.Entry.{Entry}
@@ -82,9 +82,9 @@ module _ (world : World) (facts : Facts) (action : Action) where
   pub import_told : (people : List Person) → action ≡ Import people → (IsTrue facts.conflict ↔ ((person : Person) × Contains people person × Conflicts world person)) → TrueUpTo 20 facts world action
   import_told people is conflict = subst (λ (a : Action). TrueUpTo 20 facts world a) (sym is) (tt, (tt, (conflict, tt)))
 
-  -- a round that is put: its sheet's puzzles, then itself
+  -- a round that is put: what its sheet names, then itself
   module _ (id : List ℕ) (sheet : Sheet) (is : action ≡ PutRound id sheet)
-      (lacks : IsTrue facts.sheet_lacks ↔ ((entry : Entry) × Contains sheet.puzzles entry × (get world.puzzles entry.puzzle ≡ None))) where
+      (lacks : IsTrue facts.sheet_lacks ↔ SheetLacks world sheet) where
     pub sheet_told : TrueUpTo 4 facts world action
     sheet_told = subst (λ (a : Action). TrueUpTo 4 facts world a) (sym is) (tt, (tt, (lacks, (tt, tt))))
 

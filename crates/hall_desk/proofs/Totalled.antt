@@ -308,8 +308,8 @@ module _ (world : World) (id : List ℕ) (row : RoundRow) (answers : List Answer
 
 -- ---- over a store
 -- a copy in each part is a copy
-pub same_rows : (a b : RoundRow) → (a.round ≡ b.round) × (a.puzzles ≡ b.puzzles) → a ≡ b
-same_rows a b same = λ i. record { round = same.0 i; puzzles = same.1 i }
+pub same_rows : (a b : RoundRow) → (a.round ≡ b.round) × ((a.puzzles ≡ b.puzzles) × (a.testers ≡ b.testers)) → a ≡ b
+same_rows a b (round, (puzzles, testers)) = λ i. record { round = round i; puzzles = puzzles i; testers = testers i }
 
 -- a call fails as what it called did
 pub fails_as : {R : Type 0} (result : Result R StoreFault) (Why : Type 0) (fault : StoreFault) → IsErrAnd result (λ e. e ≡ fault) → (fault ≡ Failed → Why) → IfErr result (λ e. e ≡ Failed → Why)

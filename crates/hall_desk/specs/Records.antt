@@ -1,7 +1,7 @@
 -- The records that nothing in a hall's life takes away.
-use Rattle.std.specs.Prelude.{◌≡◌, ◌⊎◌, ℕ, true, List, Option, Some, IsTrue}
+use Rattle.std.specs.Prelude.{◌↔◌, ◌≡◌, ◌⊎◌, ℕ, true, List, Option, Some, IsTrue}
 use Rattle.std.specs.FinMap.{get}
-use Rattle.hall_policy.specs.World.{World, place_of}
+use Rattle.hall_policy.specs.World.{World, place_of, IsTesterOf}
 use Rattle.hall_policy.specs.Rules.{StandsReleased}
 use Rattle.hall_policy.specs.declared.record.AnswerKey.{AnswerKey}
 use Rattle.hall_policy.specs.declared.record.AnswerRow.{AnswerRow}
@@ -31,6 +31,7 @@ pub record StaysReleased (world later : World) (id : List ℕ) (round : Round) :
   pub same : after ≡ record round { published = after.published }
   pub risen : IsTrue round.published → IsTrue after.published
   pub places : (number : ℕ) → place_of later id number ≡ place_of world id number
+  pub testers : (name : List ℕ) → IsTesterOf later id name ↔ IsTesterOf world id name
 
 -- a puzzle of a released round as it stays: its whole row but for the state, which a search may set, and only where none
 -- came to an end yet

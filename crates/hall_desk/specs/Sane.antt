@@ -4,7 +4,7 @@ use Rattle.std.specs.FinMap.{get}
 use Rattle.hall_grid.specs.Board.{Board}
 use Rattle.hall_grid.specs.Answer.{AnswerText, IsFilling, Verdict}
 use Rattle.hall_solve.specs.Puzzle.{IsRight}
-use Rattle.hall_policy.specs.World.{World}
+use Rattle.hall_policy.specs.World.{World, IsTesterOf}
 use Rattle.hall_policy.specs.Ranges.{IsWorld}
 use Rattle.hall_policy.specs.Rules.{Lists, StandsReleased, IsCertified, answers_given, protests_made, puzzles_put}
 use Rattle.hall_desk.specs.Found.{IsReleasedRound}
@@ -49,6 +49,8 @@ pub record RefersToRows (world : World) : Type 0 where
   -- a round's puzzles are there, a draft's too
   pub entries : (key : PlaceKey) (entry : Entry) → get world.places key ≡ Some entry →
       get world.puzzles entry.puzzle ≢ None
+  -- a round's testers are there
+  pub testers : (round name : List ℕ) → IsTesterOf world round name → get world.people name ≢ None
   -- an entrant is there, and the place of an answer or protest
   pub entrants : (key : AnswerKey) (row : AnswerRow) → get world.answers key ≡ Some row →
       get world.people key.entrant ≢ None
@@ -65,11 +67,11 @@ IsVerdictAt world round number row =
     (entry : Entry) × (puzzle : PuzzleRow) × (get world.places (record { round = round; number = number }) ≡ Some entry)
     × (get world.puzzles entry.puzzle ≡ Some puzzle) × Verdict puzzle.puzzle row.answer row.verdict
 
--- a person of the name is an entrant, and author of none of the round's puzzles
+-- a person of the name is an entrant, author of none of the round's puzzles and no tester of the round
 abbrev pub MayTakePart : World → List ℕ → List ℕ → Type 0
 MayTakePart world name round =
     (person : Person) × (get world.people name ≡ Some person) × IsTrue person.roles.entrant
-    × ((entry : Entry) → Lists world round entry → entry.puzzle.author ≢ name)
+    × ((entry : Entry) → Lists world round entry → entry.puzzle.author ≢ name) × ¬ (IsTesterOf world round name)
 
 -- a sane world: what every step of the hall keeps
 pub record Sane (world : World) : Type 0 where

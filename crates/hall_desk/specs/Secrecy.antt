@@ -2,7 +2,7 @@
 use Rattle.std.specs.Prelude.{◌≡◌, ◌≢◌, ◌≤◌, ◌&&◌, not, ℕ, Bool, false, List, All, Option, Some, None, IsTrue, nat_lt}
 use Rattle.std.specs.Option.{option_map}
 use Rattle.std.specs.FinMap.{get}
-use Rattle.hall_policy.specs.World.{World, end_of}
+use Rattle.hall_policy.specs.World.{World, IsTesterOf, end_of}
 use Rattle.hall_policy.specs.Ranges.{IsWorld, IsAnswer}
 use Rattle.hall_policy.specs.Rules.{Lists}
 use Rattle.hall_policy.specs.OwnAlike.{is_entrant_alone, seen, as_is}
@@ -59,6 +59,17 @@ HasStarted world t key =
     (id : List ℕ) × (round : Round) × (entry : Entry) × (get world.rounds id ≡ Some round) × IsTrue round.released
     × (round.start ≤ t) × Lists world id entry × (entry.puzzle ≡ key)
 
+-- the person of that name is a tester of a round that has the puzzle
+abbrev pub TestsPuzzle : World → List ℕ → PuzzleKey → Type 0
+TestsPuzzle world name key =
+    (id : List ℕ) × (entry : Entry) × IsTesterOf world id name × Lists world id entry × (entry.puzzle ≡ key)
+
+-- the caller, whoever it is, is a tester of no round with a puzzle that differs
+abbrev pub TestsNothingElse : World → World → Option Person → Type 0
+TestsNothingElse world other None = Unit {0}
+TestsNothingElse world other (Some person) =
+    (key : PuzzleKey) → TestsPuzzle world person.name key → get world.puzzles key ≡ get other.puzzles key
+
 -- what is kept of the puzzle in both worlds is the same, but for its text, its solution and its state
 abbrev pub IsSamePuzzle : Option PuzzleRow → Option PuzzleRow → Type 0
 IsSamePuzzle None None = Unit {0}
@@ -72,6 +83,7 @@ pub record DifferInPuzzles (world other : World) (t : ℕ) : Type 0 where
   pub people : world.people ≡ other.people
   pub rounds : world.rounds ≡ other.rounds
   pub places : world.places ≡ other.places
+  pub testers : world.testers ≡ other.testers
   pub answers : world.answers ≡ other.answers
   pub protests : world.protests ≡ other.protests
   pub puzzles : (key : PuzzleKey) → IsSamePuzzle (get world.puzzles key) (get other.puzzles key)
@@ -83,12 +95,13 @@ IsEntrantOrStranger None = Unit {0}
 IsEntrantOrStranger (Some person) = IsTrue (is_entrant_alone person)
 
 -- what two worlds, sane or not, answer to a request of a person who holds the role entrant alone, or of a stranger, is
--- the same where they differ only in puzzles that no started round has, and none of the two is Unavailable
+-- the same where they differ only in puzzles that no started round has, and no round of which the person is a tester,
+-- and none of the two is Unavailable
 abbrev pub BeforeStart : Type 0
 BeforeStart =
     (world other new changed : World) (t : ℕ) (request : Request) (given answered : Reply) →
     IsWorld world → IsWorld other → DifferInPuzzles world other t →
-    IsEntrantOrStranger (caller_of world request.key) →
+    IsEntrantOrStranger (caller_of world request.key) → TestsNothingElse world other (caller_of world request.key) →
     Step world t request given new → Step other t request answered changed →
     given ≢ reply.Unavailable → answered ≢ reply.Unavailable → given ≡ answered
 
@@ -109,6 +122,7 @@ pub record DifferInVerdicts (world other : World) (t : ℕ) : Type 0 where
   pub puzzles : world.puzzles ≡ other.puzzles
   pub rounds : world.rounds ≡ other.rounds
   pub places : world.places ≡ other.places
+  pub testers : world.testers ≡ other.testers
   pub protests : world.protests ≡ other.protests
   pub answers : (key : AnswerKey) → option_map (seen as_is (hides world t)) (get world.answers key)
       ≡ option_map (seen as_is (hides world t)) (get other.answers key)

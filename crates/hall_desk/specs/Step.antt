@@ -30,7 +30,7 @@ use Rattle.hall_policy.specs.declared.request.Request.{Request}
 use Rattle.hall_policy.specs.declared.rule.Decision.{Decision}
 use Rattle.hall_policy.specs.declared.rule.Decision.TheVariants.{Allow, Repeat, Deny}
 use Rattle.hall_store.specs.Caller.{caller_of}
-use Rattle.hall_store.specs.Change.{with_people, relisted}
+use Rattle.hall_store.specs.Change.{with_people, relisted, retested}
 use Rattle.hall_store.specs.Store.{IsListing}
 use Rattle.hall_score.specs.Table.{IsTable}
 use Rattle.hall_desk.specs.Totals.{AreTotals}
@@ -132,12 +132,14 @@ draft_of id sheet = record {
   published = false;
 }
 
--- the draft of the sheet stands under the id, with the sheet's puzzles as its list; what stood there before is gone
+-- the draft of the sheet stands under the id, with the sheet's puzzles as its list and the sheet's testers as its own;
+-- what stood there before is gone
 abbrev pub IsRoundPut : World → List ℕ → Sheet → Reply → World → Type 0
 IsRoundPut world id sheet given new =
     (given ≡ reply.RoundPut id) × (new ≡ record world {
       rounds = insert world.rounds id (draft_of id sheet);
       places = relisted world.places id sheet.puzzles;
+      testers = retested world.testers id sheet.testers;
     })
 
 -- the reply lists all rounds that the caller sees, by id, and no other

@@ -13,7 +13,7 @@ use hall_policy::{
     Action, AnswerRow, AnswerSink, Decision, Facts, Mode, Moment, Name, Person, Round, RoundId,
     SinkFault, decide,
 };
-use hall_store::{Store, StoreFault};
+use hall_store::{ReadStore, StoreFault};
 use std::alloc::{AllocError, Global};
 
 /// What is listed: the answers of the round of this id.
@@ -27,7 +27,7 @@ impl<'a> Handler for Listing<'a> {
 
     ghost action_of = { list_action };
 
-    fn decision<S: Store>(
+    fn decision<S: ReadStore>(
         &self,
         alloc: Global,
         store: &mut S,
@@ -44,7 +44,7 @@ impl<'a> Handler for Listing<'a> {
     }
 
     /// The rows that the caller sees.
-    fn plan<S: Store>(
+    fn plan<S: ReadStore>(
         &self,
         alloc: Global,
         store: &mut S,
@@ -112,7 +112,7 @@ impl AnswerSink for Lines {
 }
 
 /// The answers of the round as they are listed: all of them, or those of the entrant.
-fn list_answers<S: Store>(
+fn list_answers<S: ReadStore>(
     alloc: Global,
     store: &mut S,
     round: &RoundId,
@@ -133,7 +133,7 @@ fn list_answers<S: Store>(
 }
 
 /// All answers of the round as they are listed. Each row is let go once its line is made.
-fn list_all<S: Store>(
+fn list_all<S: ReadStore>(
     alloc: Global,
     store: &mut S,
     round: &RoundId,
@@ -154,7 +154,7 @@ fn list_all<S: Store>(
 }
 
 /// The entrant's answers in the round as they are listed.
-fn list_own<S: Store>(
+fn list_own<S: ReadStore>(
     alloc: Global,
     store: &mut S,
     round: &RoundId,

@@ -18,7 +18,7 @@ use hall_policy::{
     Action, AnswerText, Budget, Decision, Facts, Moment, PuzzleKey, PuzzleState, decide,
 };
 use hall_solve::{Outcome, Visits};
-use hall_store::{Change, Store, StoreFault};
+use hall_store::{Change, ReadStore, StoreFault};
 use std::alloc::{AllocError, Global};
 
 /// What is certified: the puzzle under the key, by a search of at most so many visits.
@@ -42,7 +42,7 @@ impl<'a> Handler for Certifying<'a> {
 
     ghost action_of = { certify_action };
 
-    fn decision<S: Store>(
+    fn decision<S: ReadStore>(
         &self,
         alloc: Global,
         store: &mut S,
@@ -59,7 +59,7 @@ impl<'a> Handler for Certifying<'a> {
     }
 
     /// The puzzle is searched where no search of it came to an end yet.
-    fn plan<S: Store>(
+    fn plan<S: ReadStore>(
         &self,
         alloc: Global,
         _store: &mut S,

@@ -16,16 +16,16 @@ use crate::reply::Reply;
 use crate::seed::seed;
 use crate::step::{commit, run, step};
 use hall_policy::{Moment, People, Request};
-use hall_store::{Store, StoreFault};
+use hall_store::{ReadStore, Store, StoreFault};
 use std::alloc::{AllocError, Global};
 
 /// What answers requests to the hall, one after another, over the world of its store.
 #[derive(Drop)]
-pub struct Desk<S: Store> {
+pub struct Desk<S: ReadStore> {
     pub(crate) store: S,
 }
 
-impl<S: Store> Desk<S> {
+impl<S: ReadStore> Desk<S> {
     /// A desk over the store.
     pub fn new(store: S) -> Desk<S>
         ensures { kept_by result ≡ store }
@@ -57,7 +57,9 @@ impl<S: Store> Desk<S> {
         request.in_range();
         make_plan(alloc, &mut self.store, t, request)
     }
+}
 
+impl<S: Store> Desk<S> {
     /// Makes the plan's change, and answers its reply. Refused, it has consumed the plan and, while the store serves,
     /// left the world; a plan without a change is never refused.
     pub fn commit(&mut self, alloc: Global, plan: Plan) -> Result<Reply, StoreFault>

@@ -8,7 +8,7 @@ ghost use Rattle.hall_desk.specs.Found.{HasFault, HasFaultyEntry};
 
 use crate::found::any_released;
 use hall_policy::{Entry, PuzzleKey, PuzzleState, RoundId, RoundRow};
-use hall_store::{Store, StoreFault};
+use hall_store::{ReadStore, StoreFault};
 use std::alloc::Global;
 
 /// What may be wrong with an entry of a round that is to be released.
@@ -21,7 +21,7 @@ pub(crate) enum EntryFault {
 }
 
 /// Whether an entry of the round has the fault. `round` is what the store keeps of it.
-pub(crate) fn find_fault<S: Store>(
+pub(crate) fn find_fault<S: ReadStore>(
     alloc: Global,
     store: &mut S,
     id: &RoundId,
@@ -41,7 +41,7 @@ pub(crate) fn find_fault<S: Store>(
 }
 
 /// Whether one of the entries has the fault.
-fn any_faulty<S: Store>(
+fn any_faulty<S: ReadStore>(
     alloc: Global,
     store: &mut S,
     id: &RoundId,
@@ -63,7 +63,7 @@ fn any_faulty<S: Store>(
 }
 
 /// Whether the entry has the fault.
-fn has_fault<S: Store>(
+fn has_fault<S: ReadStore>(
     alloc: Global,
     store: &mut S,
     id: &RoundId,
@@ -82,7 +82,7 @@ fn has_fault<S: Store>(
 }
 
 /// Whether the puzzle stands in a released round other than this one.
-fn is_shared<S: Store>(
+fn is_shared<S: ReadStore>(
     alloc: Global,
     store: &mut S,
     id: &RoundId,
@@ -106,7 +106,7 @@ fn leave_out(ids: &mut Vec<RoundId>, id: &RoundId)
 }
 
 /// Whether the puzzle isn't kept in state one.
-fn is_uncertified<S: Store>(
+fn is_uncertified<S: ReadStore>(
     alloc: Global,
     store: &mut S,
     key: &PuzzleKey,

@@ -5,11 +5,11 @@ ghost use Rattle.hall_store.specs.Store.{Kept, Told, Fails};
 ghost use Rattle.hall_desk.specs.Found.{HasAuthor, IsReleasedRound};
 
 use hall_policy::{Name, PuzzleKey, RoundId};
-use hall_store::{Store, StoreFault};
+use hall_store::{ReadStore, StoreFault};
 use std::alloc::Global;
 
 /// Whether a person of the name with the role author is there.
-pub(crate) fn find_author<S: Store>(
+pub(crate) fn find_author<S: ReadStore>(
     alloc: Global,
     store: &mut S,
     name: &Name,
@@ -26,7 +26,7 @@ pub(crate) fn find_author<S: Store>(
 }
 
 /// Whether the puzzle stands in a released round.
-pub(crate) fn find_release<S: Store>(
+pub(crate) fn find_release<S: ReadStore>(
     alloc: Global,
     store: &mut S,
     key: &PuzzleKey,
@@ -41,7 +41,7 @@ pub(crate) fn find_release<S: Store>(
 }
 
 /// Whether one of the rounds is there and released.
-pub(crate) fn any_released<S: Store>(
+pub(crate) fn any_released<S: ReadStore>(
     alloc: Global,
     store: &mut S,
     ids: &[RoundId],
@@ -60,7 +60,7 @@ pub(crate) fn any_released<S: Store>(
 }
 
 /// Whether the round is there and released.
-fn is_released<S: Store>(alloc: Global, store: &mut S, id: &RoundId) -> Result<bool, StoreFault>
+fn is_released<S: ReadStore>(alloc: Global, store: &mut S, id: &RoundId) -> Result<bool, StoreFault>
     ensures kept { Kept (S.content store.old) (S.content store.new) }
     ensures fault { Fails S.can_fail result }
     ensures told { Told (S.content store.old) (S.content store.new) result

@@ -2,7 +2,7 @@
 use crate::planned::Plan;
 use crate::reply::Reply;
 use hall_policy::{Action, Decision, Facts, Moment};
-use hall_store::{Store, StoreFault};
+use hall_store::{ReadStore, StoreFault};
 use std::alloc::{AllocError, Global};
 
 /// An action with what it names: what its rules read, and what it answers and changes where it is allowed.
@@ -24,7 +24,7 @@ pub(crate) trait Handler {
 
     /// What is decided of the action, which the rules on the caller let pass. Facts are looked up one after another,
     /// and none behind a rule that decides.
-    fn decision<S: Store>(
+    fn decision<S: ReadStore>(
         &self,
         alloc: Global,
         store: &mut S,
@@ -50,7 +50,7 @@ pub(crate) trait Handler {
         ensures none { IfOk result (λ found. IfNone found (¬ (IsRepetition facts.now (action_of self.now)))) };
 
     /// The plan of the action, which is allowed.
-    fn plan<S: Store>(
+    fn plan<S: ReadStore>(
         &self,
         alloc: Global,
         store: &mut S,

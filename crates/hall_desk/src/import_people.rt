@@ -10,7 +10,7 @@ use crate::handler::Handler;
 use crate::planned::Plan;
 use crate::reply::Reply;
 use hall_policy::{Action, Decision, Facts, Moment, People, Person, decide};
-use hall_store::{Change, Store, StoreFault};
+use hall_store::{Change, ReadStore, StoreFault};
 use std::alloc::{AllocError, Global};
 
 /// What is imported: a list of people.
@@ -24,7 +24,7 @@ impl<'a> Handler for Importing<'a> {
 
     ghost action_of = { import_action };
 
-    fn decision<S: Store>(
+    fn decision<S: ReadStore>(
         &self,
         alloc: Global,
         store: &mut S,
@@ -40,7 +40,7 @@ impl<'a> Handler for Importing<'a> {
         Ok(None)
     }
 
-    fn plan<S: Store>(
+    fn plan<S: ReadStore>(
         &self,
         alloc: Global,
         store: &mut S,
@@ -52,7 +52,7 @@ impl<'a> Handler for Importing<'a> {
 }
 
 /// The plan that counts and adds the people whose names are unknown.
-pub(crate) fn plan_import<S: Store>(
+pub(crate) fn plan_import<S: ReadStore>(
     alloc: Global,
     store: &mut S,
     people: &People,
@@ -73,7 +73,7 @@ pub(crate) fn plan_import<S: Store>(
 }
 
 /// Whether one of the people contradicts what is known.
-pub(crate) fn any_conflict<S: Store>(
+pub(crate) fn any_conflict<S: ReadStore>(
     alloc: Global,
     store: &mut S,
     people: &[Person],
@@ -94,7 +94,11 @@ pub(crate) fn any_conflict<S: Store>(
 
 /// Whether the person has a known name with another key or other roles, has the key of another person, or is director
 /// and entrant.
-fn conflicts<S: Store>(alloc: Global, store: &mut S, person: &Person) -> Result<bool, StoreFault>
+fn conflicts<S: ReadStore>(
+    alloc: Global,
+    store: &mut S,
+    person: &Person,
+) -> Result<bool, StoreFault>
     ensures kept { Kept (S.content store.old) (S.content store.new) }
     ensures fault { Fails S.can_fail result }
     ensures served { Served (S.content store.new) result (λ world found. IsTrue found ↔ Conflicts world person.now) }
@@ -110,7 +114,11 @@ fn conflicts<S: Store>(alloc: Global, store: &mut S, person: &Person) -> Result<
 }
 
 /// Whether the name is known, with another key or other roles.
-fn is_changed<S: Store>(alloc: Global, store: &mut S, person: &Person) -> Result<bool, StoreFault>
+fn is_changed<S: ReadStore>(
+    alloc: Global,
+    store: &mut S,
+    person: &Person,
+) -> Result<bool, StoreFault>
     ensures kept { Kept (S.content store.old) (S.content store.new) }
     ensures fault { Fails S.can_fail result }
     ensures served { Served (S.content store.new) result
@@ -131,7 +139,7 @@ fn differs(known: &Person, person: &Person) -> bool
 }
 
 /// Whether somebody of another name has the key.
-fn has_key_of_another<S: Store>(
+fn has_key_of_another<S: ReadStore>(
     alloc: Global,
     store: &mut S,
     person: &Person,
@@ -149,7 +157,7 @@ fn has_key_of_another<S: Store>(
 }
 
 /// How many of the people have a name that is unknown.
-fn count_unknown<S: Store>(
+fn count_unknown<S: ReadStore>(
     alloc: Global,
     store: &mut S,
     people: &[Person],

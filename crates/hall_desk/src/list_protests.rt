@@ -10,7 +10,7 @@ use crate::planned::Plan;
 use crate::reply::{ProtestLine, Reply};
 use crate::rows::{Rows, push};
 use hall_policy::{Action, Decision, Facts, Moment, Person, ProtestRow, RoundId, decide};
-use hall_store::{Store, StoreFault};
+use hall_store::{ReadStore, StoreFault};
 use std::alloc::{AllocError, Global};
 
 /// What is listed: the protests of the round of this id.
@@ -24,7 +24,7 @@ impl<'a> Handler for ListingProtests<'a> {
 
     ghost action_of = { protests_list_action };
 
-    fn decision<S: Store>(
+    fn decision<S: ReadStore>(
         &self,
         alloc: Global,
         store: &mut S,
@@ -41,7 +41,7 @@ impl<'a> Handler for ListingProtests<'a> {
     }
 
     /// The rows that the caller sees.
-    fn plan<S: Store>(
+    fn plan<S: ReadStore>(
         &self,
         alloc: Global,
         store: &mut S,
@@ -58,7 +58,7 @@ impl<'a> Handler for ListingProtests<'a> {
 }
 
 /// The protests of the round that the person sees: all of them, or the own ones.
-fn find_protests<S: Store>(
+fn find_protests<S: ReadStore>(
     alloc: Global,
     store: &mut S,
     person: &Person,

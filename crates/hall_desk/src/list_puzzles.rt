@@ -11,7 +11,7 @@ use crate::put_puzzle::state_name;
 use crate::reply::{PuzzleLine, Reply};
 use crate::rows::{Rows, push};
 use hall_policy::{Action, Decision, Facts, Moment, Person, PuzzleRow, decide};
-use hall_store::{Store, StoreFault};
+use hall_store::{ReadStore, StoreFault};
 use std::alloc::{AllocError, Global};
 
 /// What is listed: puzzles.
@@ -24,7 +24,7 @@ impl Handler for ListingPuzzles {
     ghost action_of = { puzzles_list_action };
 
     /// The rules read the caller alone.
-    fn decision<S: Store>(
+    fn decision<S: ReadStore>(
         &self,
         _alloc: Global,
         _store: &mut S,
@@ -40,7 +40,7 @@ impl Handler for ListingPuzzles {
     }
 
     /// The puzzles that the caller sees.
-    fn plan<S: Store>(
+    fn plan<S: ReadStore>(
         &self,
         alloc: Global,
         store: &mut S,
@@ -57,7 +57,7 @@ impl Handler for ListingPuzzles {
 }
 
 /// The puzzles that the person sees: all of them, or the own ones.
-fn find_puzzles<S: Store>(
+fn find_puzzles<S: ReadStore>(
     alloc: Global,
     store: &mut S,
     person: &Person,

@@ -8,7 +8,7 @@ use crate::planned::Plan;
 use crate::reply::{Reply, RoundLine};
 use crate::rows::{Rows, push};
 use hall_policy::{Action, Decision, Facts, Moment, Person, Round, decide};
-use hall_store::{Store, StoreFault};
+use hall_store::{ReadStore, StoreFault};
 use std::alloc::{AllocError, Global};
 
 /// What is listed: rounds.
@@ -21,7 +21,7 @@ impl Handler for ListingRounds {
     ghost action_of = { rounds_list_action };
 
     /// The rules read the caller alone.
-    fn decision<S: Store>(
+    fn decision<S: ReadStore>(
         &self,
         _alloc: Global,
         _store: &mut S,
@@ -37,7 +37,7 @@ impl Handler for ListingRounds {
     }
 
     /// The rounds that the caller sees.
-    fn plan<S: Store>(
+    fn plan<S: ReadStore>(
         &self,
         alloc: Global,
         store: &mut S,

@@ -29,7 +29,7 @@ use crate::rule_protest::RulingOn;
 use crate::submit::Handed;
 use crate::tell_solutions::TellingSolutions;
 use hall_policy::{Action, Decision, Facts, Moment, Request, Rule, decide_up_to};
-use hall_store::{Store, StoreFault};
+use hall_store::{ReadStore, StoreFault};
 use std::alloc::Global;
 
 /// A request that is being answered: at which moment, and by which allocator.
@@ -42,7 +42,7 @@ pub(crate) struct Turn<'a> {
 
 /// What the request will be answered, and what it will change. Reads only, and for a denial nothing that a later rule
 /// asks.
-pub(crate) fn make_plan<S: Store>(
+pub(crate) fn make_plan<S: ReadStore>(
     alloc: Global,
     store: &mut S,
     t: Moment,
@@ -82,7 +82,11 @@ fn no_facts() -> Facts
 }
 
 /// The plan, with the facts that it rests on.
-fn plan_with<S: Store>(turn: &Turn, store: &mut S, facts: &mut Facts) -> Result<Plan, StoreFault>
+fn plan_with<S: ReadStore>(
+    turn: &Turn,
+    store: &mut S,
+    facts: &mut Facts,
+) -> Result<Plan, StoreFault>
     requires { facts.old.caller ≡ None }
     ensures kept { Kept (S.content store.old) (S.content store.new) }
     ensures untouched { IsNobodys turn.now.request.now → store.new ≡ store.old }
@@ -100,7 +104,7 @@ fn plan_with<S: Store>(turn: &Turn, store: &mut S, facts: &mut Facts) -> Result<
 }
 
 /// The plan for a request without a key: a denial, which asks nothing of the store, or a table.
-fn plan_without_key<S: Store>(
+fn plan_without_key<S: ReadStore>(
     turn: &Turn,
     store: &mut S,
     facts: &mut Facts,
@@ -137,7 +141,7 @@ fn caller_rule(facts: &Facts, action: &Action, t: Moment) -> Option<u8>
 }
 
 /// The plan where the caller was looked up. The rules on the caller are asked before anything else is read.
-fn plan_for_caller<S: Store>(
+fn plan_for_caller<S: ReadStore>(
     turn: &Turn,
     store: &mut S,
     facts: &mut Facts,
@@ -155,7 +159,7 @@ fn plan_for_caller<S: Store>(
 }
 
 /// The plan of the request's action, by its handler.
-fn dispatch<S: Store>(turn: &Turn, store: &mut S, facts: &mut Facts) -> Result<Plan, StoreFault>
+fn dispatch<S: ReadStore>(turn: &Turn, store: &mut S, facts: &mut Facts) -> Result<Plan, StoreFault>
     requires caller { Asks (S.content store.old) (λ world. IsCaller world turn.now.request.now.key facts.old.caller) }
     requires passed { PassesUpTo 3 facts.old turn.now.request.now.action turn.now.t }
     ensures kept { Kept (S.content store.old) (S.content store.new) }
@@ -201,7 +205,7 @@ fn dispatch<S: Store>(turn: &Turn, store: &mut S, facts: &mut Facts) -> Result<P
 
 impl<'a> Turn<'a> {
     /// The plan by the action's handler: as it decides.
-    fn handle<H: Handler, S: Store>(
+    fn handle<H: Handler, S: ReadStore>(
         &self,
         store: &mut S,
         handler: &H,

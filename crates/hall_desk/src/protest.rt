@@ -12,7 +12,7 @@ use hall_policy::{
     Action, Decision, Facts, Moment, Person, ProtestKey, ProtestRow, ProtestText, PuzzleNumber,
     RoundId, Rule, Token, decide, decide_up_to,
 };
-use hall_store::{Change, Store, StoreFault};
+use hall_store::{Change, ReadStore, StoreFault};
 use std::alloc::{AllocError, Global};
 
 /// What is protested: about the round's puzzle of that number, under a token.
@@ -50,7 +50,7 @@ impl<'a> Handler for Protesting<'a> {
 
     /// The token is looked up where the round lets the request pass, and protests are counted where nothing else
     /// forbids it.
-    fn decision<S: Store>(
+    fn decision<S: ReadStore>(
         &self,
         alloc: Global,
         store: &mut S,
@@ -77,7 +77,7 @@ impl<'a> Handler for Protesting<'a> {
         }
     }
 
-    fn plan<S: Store>(
+    fn plan<S: ReadStore>(
         &self,
         _alloc: Global,
         _store: &mut S,
@@ -92,7 +92,7 @@ impl<'a> Handler for Protesting<'a> {
 }
 
 /// The caller's protest under the token.
-fn find_protest<S: Store>(
+fn find_protest<S: ReadStore>(
     alloc: Global,
     store: &mut S,
     facts: &Facts,
@@ -113,7 +113,7 @@ fn find_protest<S: Store>(
 }
 
 /// How many protests in the round the caller made.
-fn count_protests<S: Store>(
+fn count_protests<S: ReadStore>(
     alloc: Global,
     store: &mut S,
     facts: &Facts,

@@ -8,7 +8,7 @@ use crate::handler::Handler;
 use crate::planned::Plan;
 use crate::reply::Reply;
 use hall_policy::{Action, Decision, Facts, Moment, RoundId, Rule, decide, decide_up_to};
-use hall_store::{Change, RoundFlag, Store, StoreFault};
+use hall_store::{Change, ReadStore, RoundFlag, StoreFault};
 use std::alloc::{AllocError, Global};
 
 /// What is published: the round of this id.
@@ -23,7 +23,7 @@ impl<'a> Handler for Publishing<'a> {
     ghost action_of = { publish_action };
 
     /// Protests are looked through where nothing else forbids it.
-    fn decision<S: Store>(
+    fn decision<S: ReadStore>(
         &self,
         alloc: Global,
         store: &mut S,
@@ -43,7 +43,7 @@ impl<'a> Handler for Publishing<'a> {
         Ok(None)
     }
 
-    fn plan<S: Store>(
+    fn plan<S: ReadStore>(
         &self,
         _alloc: Global,
         _store: &mut S,

@@ -17,7 +17,7 @@ use hall_policy::{
     Action, Decision, Facts, Moment, Name, PuzzleKey, PuzzleRow, PuzzleState, PuzzleText, Rule,
     decide, decide_up_to,
 };
-use hall_store::{Change, Store, StoreFault};
+use hall_store::{Change, ReadStore, StoreFault};
 use std::alloc::{AllocError, Global};
 
 /// What is put: a puzzle under its author and label.
@@ -34,7 +34,7 @@ impl<'a> Handler for Putting<'a> {
 
     /// The author is looked for, then the rounds that have the puzzle, then the puzzle; puzzles are counted where it
     /// is a new one.
-    fn decision<S: Store>(
+    fn decision<S: ReadStore>(
         &self,
         alloc: Global,
         store: &mut S,
@@ -60,7 +60,7 @@ impl<'a> Handler for Putting<'a> {
     }
 
     /// The same puzzle again changes nothing, another one is stored as new.
-    fn plan<S: Store>(
+    fn plan<S: ReadStore>(
         &self,
         alloc: Global,
         _store: &mut S,
@@ -72,7 +72,7 @@ impl<'a> Handler for Putting<'a> {
 }
 
 /// How many puzzles of the author are kept, where none is found under the key.
-fn count_puzzles<S: Store>(
+fn count_puzzles<S: ReadStore>(
     alloc: Global,
     store: &mut S,
     author: &Name,

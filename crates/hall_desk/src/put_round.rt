@@ -1,6 +1,6 @@
 //! PutRound: a draft is stored, or replaced.
-ghost use Rattle.std.specs.Prelude.{◌≡◌, ◌↔◌, IsTrue, IfOk, None, Contains};
-ghost use Rattle.std.specs.FinMap.{get};
+ghost use Rattle.std.specs.Prelude.{◌≡◌, ◌↔◌, IsTrue, IfOk};
+ghost use Rattle.hall_policy.specs.Rules.{SheetLacks, LacksPuzzle, LacksTester, may_test};
 ghost use Rattle.hall_store.specs.Store.{Kept, Told, Fails};
 ghost use Rattle.hall_desk.specs.Step.{draft_of};
 
@@ -8,10 +8,10 @@ use crate::handler::Handler;
 use crate::planned::Plan;
 use crate::reply::Reply;
 use hall_policy::{
-    Action, Decision, Entry, Facts, Moment, Round, RoundId, RoundRow, Rule, Sheet, decide,
-    decide_up_to,
+    Action, Decision, Entry, Facts, Moment, Name, Person, Round, RoundId, RoundRow, Rule, Sheet,
+    decide, decide_up_to,
 };
-use hall_store::{Change, Store, StoreFault};
+use hall_store::{Change, ReadStore, StoreFault};
 use std::alloc::{AllocError, Global};
 
 /// What is drafted: the round of this id, by a sheet.
@@ -26,8 +26,8 @@ impl<'a> Handler for Drafting<'a> {
 
     ghost action_of = { draft_action };
 
-    /// The sheet's puzzles are looked for, then the round.
-    fn decision<S: Store>(
+    /// The sheet's puzzles are looked for, then its testers, then the round.
+    fn decision<S: ReadStore>(
         &self,
         alloc: Global,
         store: &mut S,
@@ -35,7 +35,7 @@ impl<'a> Handler for Drafting<'a> {
         action: &Action,
         facts: &mut Facts,
     ) -> Result<Decision, StoreFault> {
-        facts.sheet_lacks = any_lacking(alloc, store, self.sheet.puzzles.as_slice())?;
+        facts.sheet_lacks = any_lacking(alloc, store, self.sheet)?;
         if let Some(decision) = decide_up_to(facts, action, t, Rule::Missing) {
             return Ok(decision);
         }
@@ -47,7 +47,7 @@ impl<'a> Handler for Drafting<'a> {
         Ok(None)
     }
 
-    fn plan<S: Store>(
+    fn plan<S: ReadStore>(
         &self,
         _alloc: Global,
         _store: &mut S,
@@ -64,13 +64,15 @@ impl<'a> Handler for Drafting<'a> {
     }
 }
 
-/// The draft that the sheet describes, with the sheet's puzzles.
+/// The draft that the sheet describes, with the sheet's puzzles and testers.
 fn draft_row(id: &RoundId, sheet: &Sheet) -> Result<RoundRow, AllocError>
-    ensures { IfOk result (λ row. row ≡ record { round = draft_of id.now sheet.now; puzzles = sheet.now.puzzles }) }
+    ensures { IfOk result (λ row. row ≡
+        record { round = draft_of id.now sheet.now; puzzles = sheet.now.puzzles; testers = sheet.now.testers }) }
 {
     Ok(RoundRow {
         round: draft_of(id, sheet)?,
         puzzles: sheet.puzzles.clone()?,
+        testers: sheet.testers.clone()?,
     })
 }
 
@@ -92,8 +94,25 @@ fn draft_of(id: &RoundId, sheet: &Sheet) -> Result<Round, AllocError>
     })
 }
 
+/// Whether a puzzle of the sheet isn't kept, or a tester is nobody who may test.
+fn any_lacking<S: ReadStore>(
+    alloc: Global,
+    store: &mut S,
+    sheet: &Sheet,
+) -> Result<bool, StoreFault>
+    ensures kept { Kept (S.content store.old) (S.content store.new) }
+    ensures fault { Fails S.can_fail result }
+    ensures told { Told (S.content store.old) (S.content store.new) result
+        (λ world found. IsTrue found ↔ SheetLacks world sheet.now) }
+{
+    if lacks_puzzle(alloc, store, sheet.puzzles.as_slice())? {
+        return Ok(true);
+    }
+    lacks_tester(alloc, store, sheet.testers.as_slice())
+}
+
 /// Whether one of the entries is of a puzzle that isn't kept.
-fn any_lacking<S: Store>(
+fn lacks_puzzle<S: ReadStore>(
     alloc: Global,
     store: &mut S,
     entries: &[Entry],
@@ -101,8 +120,7 @@ fn any_lacking<S: Store>(
     ensures kept { Kept (S.content store.old) (S.content store.new) }
     ensures fault { Fails S.can_fail result }
     ensures told { Told (S.content store.old) (S.content store.new) result
-        (λ world found. IsTrue found
-        ↔ ((entry : Entry) × Contains entries.now entry × (get world.puzzles entry.puzzle ≡ None))) }
+        (λ world found. IsTrue found ↔ LacksPuzzle world entries.now) }
 {
     for entry in entries {
         if store.puzzle(alloc, &entry.puzzle)?.is_none() {
@@ -110,4 +128,33 @@ fn any_lacking<S: Store>(
         }
     }
     Ok(false)
+}
+
+/// Whether one of the names is of nobody who may test.
+fn lacks_tester<S: ReadStore>(
+    alloc: Global,
+    store: &mut S,
+    names: &[Name],
+) -> Result<bool, StoreFault>
+    ensures kept { Kept (S.content store.old) (S.content store.new) }
+    ensures fault { Fails S.can_fail result }
+    ensures told { Told (S.content store.old) (S.content store.new) result
+        (λ world found. IsTrue found ↔ LacksTester world names.now) }
+{
+    for name in names {
+        if !may_test(&store.person(alloc, name)?) {
+            return Ok(true);
+        }
+    }
+    Ok(false)
+}
+
+/// Whether the person is there and has the role entrant or referee.
+fn may_test(person: &Option<Person>) -> bool
+    ensures { result ≡ may_test person.now }
+{
+    match person {
+        Some(person) => person.roles.get().entrant || person.roles.get().referee,
+        None => false,
+    }
 }

@@ -9,7 +9,7 @@ use crate::planned::Plan;
 use crate::put_puzzle::{state_name, text_of};
 use crate::reply::Reply;
 use hall_policy::{Action, Decision, Facts, Moment, PuzzleKey, decide};
-use hall_store::{Store, StoreFault};
+use hall_store::{ReadStore, StoreFault};
 use std::alloc::{AllocError, Global};
 
 /// What is read: the puzzle under this key.
@@ -23,7 +23,7 @@ impl<'a> Handler for ReadingPuzzle<'a> {
 
     ghost action_of = { puzzle_read_action };
 
-    fn decision<S: Store>(
+    fn decision<S: ReadStore>(
         &self,
         alloc: Global,
         store: &mut S,
@@ -40,7 +40,7 @@ impl<'a> Handler for ReadingPuzzle<'a> {
     }
 
     /// The puzzle's state and its text.
-    fn plan<S: Store>(
+    fn plan<S: ReadStore>(
         &self,
         alloc: Global,
         _store: &mut S,

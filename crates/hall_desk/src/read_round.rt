@@ -14,7 +14,7 @@ use crate::rows::{Rows, push};
 use hall_policy::{
     Action, Decision, Entry, Facts, Moment, PuzzleNumber, RoundId, RoundRow, decide,
 };
-use hall_store::{Change, Store, StoreFault};
+use hall_store::{Change, ReadStore, StoreFault};
 use std::alloc::{AllocError, Global};
 
 /// What is read: the round of this id.
@@ -28,7 +28,7 @@ impl<'a> Handler for Reading<'a> {
 
     ghost action_of = { read_action };
 
-    fn decision<S: Store>(
+    fn decision<S: ReadStore>(
         &self,
         alloc: Global,
         store: &mut S,
@@ -45,7 +45,7 @@ impl<'a> Handler for Reading<'a> {
     }
 
     /// The round with its puzzles' texts.
-    fn plan<S: Store>(
+    fn plan<S: ReadStore>(
         &self,
         alloc: Global,
         store: &mut S,
@@ -61,7 +61,7 @@ impl<'a> Handler for Reading<'a> {
 }
 
 /// The round as it is read.
-fn show_round<S: Store>(
+fn show_round<S: ReadStore>(
     alloc: Global,
     store: &mut S,
     row: &RoundRow,
@@ -89,7 +89,7 @@ fn show_round<S: Store>(
 }
 
 /// The puzzles of a round as they are read, numbered from 1.
-fn show_puzzles<S: Store>(
+fn show_puzzles<S: ReadStore>(
     alloc: Global,
     store: &mut S,
     entries: &[Entry],
@@ -110,7 +110,7 @@ fn show_puzzles<S: Store>(
 }
 
 /// The puzzle at a place, counted from 0, as it is read.
-fn show_puzzle<S: Store>(
+fn show_puzzle<S: ReadStore>(
     alloc: Global,
     store: &mut S,
     place: usize,

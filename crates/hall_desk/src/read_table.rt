@@ -11,11 +11,11 @@ use crate::planned::Plan;
 use crate::reply::{Reply, TableText};
 use hall_policy::{Decision, Facts, Name, RoundId, RoundRow, decide};
 use hall_score::{Tally, table_text};
-use hall_store::{Store, StoreFault};
+use hall_store::{ReadStore, StoreFault};
 use std::alloc::Global;
 
 /// The plan for the round's table, which is anyone's, with a key or without.
-pub(crate) fn plan_table<S: Store>(
+pub(crate) fn plan_table<S: ReadStore>(
     turn: &Turn,
     store: &mut S,
     round: &RoundId,
@@ -43,7 +43,7 @@ pub(crate) fn plan_table<S: Store>(
 }
 
 /// The table of the round.
-fn make_table<S: Store>(
+fn make_table<S: ReadStore>(
     alloc: Global,
     store: &mut S,
     round: &RoundId,
@@ -58,7 +58,7 @@ fn make_table<S: Store>(
 }
 
 /// The totals of the round's entrants, from its rows, which are given one at a time.
-fn find_totals<S: Store>(
+fn find_totals<S: ReadStore>(
     alloc: Global,
     store: &mut S,
     round: &RoundId,

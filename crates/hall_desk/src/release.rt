@@ -9,7 +9,7 @@ use crate::handler::Handler;
 use crate::planned::Plan;
 use crate::reply::Reply;
 use hall_policy::{Action, Decision, Facts, Moment, RoundId, Rule, decide, decide_up_to};
-use hall_store::{Change, RoundFlag, Store, StoreFault};
+use hall_store::{Change, ReadStore, RoundFlag, StoreFault};
 use std::alloc::{AllocError, Global};
 
 /// What is released: the round of this id.
@@ -24,7 +24,7 @@ impl<'a> Handler for Releasing<'a> {
     ghost action_of = { release_action };
 
     /// Each entry of the round is looked at for one fault, then for the other.
-    fn decision<S: Store>(
+    fn decision<S: ReadStore>(
         &self,
         alloc: Global,
         store: &mut S,
@@ -54,7 +54,7 @@ impl<'a> Handler for Releasing<'a> {
         Ok(None)
     }
 
-    fn plan<S: Store>(
+    fn plan<S: ReadStore>(
         &self,
         _alloc: Global,
         _store: &mut S,

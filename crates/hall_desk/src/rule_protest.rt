@@ -13,7 +13,7 @@ use hall_policy::{
     Action, Decision, Facts, Moment, Name, ProtestKey, RoundId, Rule, Ruling, Token, decide,
     decide_up_to,
 };
-use hall_store::{Change, Store, StoreFault};
+use hall_store::{Change, ReadStore, StoreFault};
 use std::alloc::{AllocError, Global};
 
 /// What is ruled, and how: the entrant's protest in the round under the token.
@@ -50,7 +50,7 @@ impl<'a> Handler for RulingOn<'a> {
     ghost action_of = { rule_action };
 
     /// The referee's answers are looked up where the round and the protest are there.
-    fn decision<S: Store>(
+    fn decision<S: ReadStore>(
         &self,
         alloc: Global,
         store: &mut S,
@@ -78,7 +78,7 @@ impl<'a> Handler for RulingOn<'a> {
         }
     }
 
-    fn plan<S: Store>(
+    fn plan<S: ReadStore>(
         &self,
         _alloc: Global,
         _store: &mut S,
@@ -90,7 +90,7 @@ impl<'a> Handler for RulingOn<'a> {
 }
 
 /// Whether the caller made the protest or has an answer in the round.
-fn is_involved<S: Store>(
+fn is_involved<S: ReadStore>(
     alloc: Global,
     store: &mut S,
     facts: &Facts,

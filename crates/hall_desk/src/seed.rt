@@ -11,7 +11,7 @@ use crate::planned::Plan;
 use crate::reply::Reply;
 use crate::step::commit;
 use hall_policy::{People, Rule};
-use hall_store::{Store, StoreFault};
+use hall_store::{ReadStore, Store, StoreFault};
 use std::alloc::Global;
 
 /// Imports the people, whom the rule on lists alone may forbid.
@@ -47,7 +47,11 @@ fn make_seed<S: Store>(alloc: Global, store: &mut S, people: &People) -> Result<
 }
 
 /// The plan of the people: a denial where one of them contradicts what is known, which a look-up told.
-fn plan_seed<S: Store>(alloc: Global, store: &mut S, people: &People) -> Result<Plan, StoreFault>
+fn plan_seed<S: ReadStore>(
+    alloc: Global,
+    store: &mut S,
+    people: &People,
+) -> Result<Plan, StoreFault>
     ensures kept { Kept (S.content store.old) (S.content store.new) }
     ensures fault { Fails S.can_fail result }
     ensures answered { IfOk result (λ plan. IsSeedReply plan.reply) }

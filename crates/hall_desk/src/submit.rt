@@ -22,7 +22,7 @@ use hall_policy::{
     Person, PuzzleNumber, PuzzleRow, PuzzleState, Round, RoundId, RoundRow, Rule, Token, decide,
     decide_up_to,
 };
-use hall_store::{Change, Store, StoreFault};
+use hall_store::{Change, ReadStore, StoreFault};
 use std::alloc::{AllocError, Global};
 
 /// What is handed in: an answer to the round's puzzle of that number, under a token.
@@ -60,7 +60,7 @@ impl<'a> Handler for Handed<'a> {
 
     /// The token is looked up where the round lets the request pass, and answers are counted where nothing else
     /// forbids it.
-    fn decision<S: Store>(
+    fn decision<S: ReadStore>(
         &self,
         alloc: Global,
         store: &mut S,
@@ -88,7 +88,7 @@ impl<'a> Handler for Handed<'a> {
     }
 
     /// The answer is judged, and its row is to be stored. The world isn't sane where its number is taken.
-    fn plan<S: Store>(
+    fn plan<S: ReadStore>(
         &self,
         alloc: Global,
         store: &mut S,
@@ -108,7 +108,7 @@ impl<'a> Handler for Handed<'a> {
 }
 
 /// The caller's answer under the token.
-fn find_answer<S: Store>(
+fn find_answer<S: ReadStore>(
     alloc: Global,
     store: &mut S,
     facts: &Facts,
@@ -129,7 +129,7 @@ fn find_answer<S: Store>(
 }
 
 /// How many answers to the puzzle the caller gave.
-fn count_answers<S: Store>(
+fn count_answers<S: ReadStore>(
     alloc: Global,
     store: &mut S,
     facts: &Facts,
@@ -210,7 +210,7 @@ fn received(round: &Round, n: AnswerNumber, verdict: Broken) -> Reply
 }
 
 /// The verdict on an answer to the round's puzzle of that number. The world isn't sane where the puzzle isn't kept.
-fn judge_at<S: Store>(
+fn judge_at<S: ReadStore>(
     alloc: Global,
     store: &mut S,
     row: &RoundRow,

@@ -12,7 +12,7 @@ use crate::rows::{Rows, push};
 use hall_policy::{
     Action, AnswerText, Decision, Entry, Facts, Moment, PuzzleRow, PuzzleState, RoundId, decide,
 };
-use hall_store::{Store, StoreFault};
+use hall_store::{ReadStore, StoreFault};
 use std::alloc::{AllocError, Global};
 
 /// What is told: the solutions of the round of this id.
@@ -26,7 +26,7 @@ impl<'a> Handler for TellingSolutions<'a> {
 
     ghost action_of = { solutions_action };
 
-    fn decision<S: Store>(
+    fn decision<S: ReadStore>(
         &self,
         alloc: Global,
         store: &mut S,
@@ -43,7 +43,7 @@ impl<'a> Handler for TellingSolutions<'a> {
     }
 
     /// The stored solutions of the round's puzzles.
-    fn plan<S: Store>(
+    fn plan<S: ReadStore>(
         &self,
         alloc: Global,
         store: &mut S,
@@ -59,7 +59,7 @@ impl<'a> Handler for TellingSolutions<'a> {
 }
 
 /// The stored solutions of the puzzles, in their order.
-fn find_solutions<S: Store>(
+fn find_solutions<S: ReadStore>(
     alloc: Global,
     store: &mut S,
     entries: &[Entry],
@@ -79,7 +79,7 @@ fn find_solutions<S: Store>(
 }
 
 /// The stored solution of the puzzle, which is in state one in a sane world.
-fn find_solution<S: Store>(
+fn find_solution<S: ReadStore>(
     alloc: Global,
     store: &mut S,
     entry: &Entry,

@@ -1,5 +1,5 @@
 -- On lists in which no item is like a later one.
-use Rattle.std.proofs.Common.{◌≡◌, ◌⊎◌, ◌↔◌, ℕ, ◌+◌, ◌<◌, ◌≤◌, Bool, true, false, not, ◌||◌, IsTrue, List, length, take, slice_get, slice_index_or, Some, Any, AllPairs, arith, refl, sym, ◌∙◌, ap, subst, inl, inr, below_more, length-take}
+use Rattle.std.proofs.Common.{◌≡◌, ◌⊎◌, ◌↔◌, ℕ, ◌+◌, ◌<◌, ◌≤◌, Bool, true, false, not, ◌||◌, IsTrue, List, length, take, slice_get, slice_index_or, Some, Any, Contains, AllPairs, arith, refl, sym, ◌∙◌, ap, subst, inl, inr, below_more, length-take}
 use Rattle.std.proofs.lemmas.List.{get_or-take, get_or_default}
 use Rattle.std.proofs.lemmas.Option.{slice_get-get_or, get_or_from_slice_get}
 use Rattle.std.proofs.lemmas.Bool.{false≢true}
@@ -11,6 +11,13 @@ use Rattle.std.specs.BTreeSet.{BTreeSet, contains}
 use Rattle.hall_policy.specs.Text.{text_cmp}
 use Rattle.hall_policy.specs.Lists.{IsSeenToo}
 use Rattle.hall_policy.proofs.Orders.{text_total, same_texts}
+
+-- a list contains an item where one of its items is it
+pub any_contained : {X : Type 0} (xs : List X) (x : X) → Contains xs x → Any (λ y. y ≡ x) xs
+any_contained xs x h = (h.0, x, h.1, h.2, refl)
+
+pub contained_any : {X : Type 0} (xs : List X) (x : X) → Any (λ y. y ≡ x) xs → Contains xs x
+contained_any xs x h = subst (Contains xs) h.4 (h.0, h.2, h.3)
 
 -- an item that clashes with an earlier one
 pub clash_found : {X : Type 0} (C : X → X → Type 0) (xs : List X) (i : ℕ) (x : X) → i < length xs → x ≡ slice_index_or xs i x → Any (λ y. C y x) (take i xs) → AllPairs (λ a b. ¬ (C a b)) xs → ⊥

@@ -123,16 +123,17 @@ module _ (ex : List ℕ → List ℕ → List ℕ) (hidden : List ℕ → Bool) 
           ∙ sym (no_role later e (exchanged ex a) t f (may_as_before ex name key a ∙ h) (asks_for_role name key (exchanged ex a) (may_as_before ex name key a ∙ h)) second)
     ] refl
 
--- a world with the rows of another one, where people, rounds and lists are the same
-pub same_world : (world other : World) → world.people ≡ other.people → world.rounds ≡ other.rounds → world.places ≡ other.places →
+-- a world with the rows of another one, where people, rounds, lists and testers are the same
+pub same_world : (world other : World) → world.people ≡ other.people → world.rounds ≡ other.rounds → world.places ≡ other.places → world.testers ≡ other.testers →
     record world { puzzles = other.puzzles; answers = other.answers; protests = other.protests } ≡ other
-same_world world other people rounds places = λ i. record {
+same_world world other people rounds places testers = λ i. record {
   people = people i;
   puzzles = other.puzzles;
   rounds = rounds i;
   places = places i;
   answers = other.answers;
   protests = other.protests;
+  testers = testers i;
 }
 
 -- where no text is exchanged, the action stays
@@ -148,7 +149,7 @@ own_alike person world other own = record {
 }
 
 pub entrants_decided_alike : EntrantsDecidedAlike
-entrants_decided_alike world other person t a d f typed retyped people rounds places alone own first second =
+entrants_decided_alike world other person t a d f typed retyped people rounds places testers alone own first second =
     let Claim : World → Person → Type 0 = λ w p.
     IsWorld w → OwnAlike as_is (λ id. false) p world w → First world (Some p) a t d → First w (Some p) a t f → d ≡ f in
     let one : Person = lone person.name person.key in
@@ -156,6 +157,6 @@ entrants_decided_alike world other person t a d f typed retyped people rounds pl
     let base : Claim beside one = λ right alike here there.
     lone_decisions as_is (λ id. false) (λ id x y e. e) world other.puzzles other.answers other.protests typed right person.name person.key t alike a d f here
     (subst (λ (x : Action). First beside (Some one) x t f) (sym (as_it_stands a)) there) in
-    let moved : Claim other one = subst (λ (w : World). Claim w one) (same_world world other people rounds places) base in
+    let moved : Claim other one = subst (λ (w : World). Claim w one) (same_world world other people rounds places testers) base in
     let of_person : Claim other person = subst (λ (p : Person). Claim other p) (sym (is_lone person alone)) moved in
     of_person retyped (own_alike person world other own) first second

@@ -8,7 +8,7 @@ use Rattle.std.specs.declared.cmp.Ordering.TheVariants.{Less, Equal, Greater}
 use Rattle.std.specs.FinMap.{IsAntisymmetric, nat_cmp-IsAntisymmetric, slice_cmp-IsAntisymmetric}
 use Rattle.std.proofs.lemmas.Cmp.{then_total, on_total, nat_cmp_total}
 use Rattle.hall_policy.specs.Text.{text_cmp}
-use Rattle.hall_policy.specs.World.{puzzle_cmp, place_cmp, answer_cmp, protest_cmp}
+use Rattle.hall_policy.specs.World.{puzzle_cmp, place_cmp, tester_cmp, answer_cmp, protest_cmp}
 
 pub text_total : IsTotalOrder text_cmp
 text_total = nat_list_cmp_total
@@ -18,6 +18,9 @@ puzzle_total = then_total (on_total (λ k. k.author) text_total) (on_total (λ k
 
 pub place_total : IsTotalOrder place_cmp
 place_total = then_total (on_total (λ k. k.round) text_total) (on_total (λ k. k.number) nat_cmp_total)
+
+pub tester_total : IsTotalOrder tester_cmp
+tester_total = then_total (on_total (λ k. k.round) text_total) (on_total (λ k. k.name) text_total)
 
 pub answer_total : IsTotalOrder answer_cmp
 answer_total =
@@ -51,6 +54,13 @@ same_place_keys a b e =
     let round : a.round ≡ b.round = same_texts a.round b.round t.0 in
     let number : a.number ≡ b.number = nat_cmp-IsAntisymmetric a.number b.number t.1 in
     λ i. record { round = round i; number = number i }
+
+pub same_tester_keys : IsAntisymmetric tester_cmp
+same_tester_keys a b e =
+    let t = tied_then (text_cmp a.round b.round) (text_cmp a.name b.name) e in
+    let round : a.round ≡ b.round = same_texts a.round b.round t.0 in
+    let name : a.name ≡ b.name = same_texts a.name b.name t.1 in
+    λ i. record { round = round i; name = name i }
 
 pub same_answer_keys : IsAntisymmetric answer_cmp
 same_answer_keys a b e =

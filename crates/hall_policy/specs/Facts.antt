@@ -4,13 +4,14 @@ use Rattle.std.specs.FinMap.{get}
 use Rattle.std.specs.List.{AllByRecursion}
 use Rattle.hall_policy.specs.World.{World, IsRoundAt, entry_at, answer_of, protest_of}
 use Rattle.hall_policy.specs.Actions.{number_of, rules_asked, round_named, finds_drafts}
-use Rattle.hall_policy.specs.Rules.{is_director, ListsAuthor, IsInReleasedRound, IsUncertified, HasOpenProtest}
+use Rattle.hall_policy.specs.Rules.{TheCaller, is_director, SheetLacks, ListsAuthor, ListsTester, ReadsAsTester}
+use Rattle.hall_policy.specs.Rules.{HasHandIn, IsInReleasedRound, IsUncertified, HasOpenProtest}
 use Rattle.hall_policy.specs.Rules.{IsInvolved, HasConflict, answers_given, protests_made, puzzles_put}
 use Rattle.hall_policy.specs.declared.record.Person.{Person}
 use Rattle.hall_policy.specs.declared.record.Entry.{Entry}
 use Rattle.hall_policy.specs.declared.record.RoundRow.{RoundRow}
 use Rattle.hall_policy.specs.declared.request.Action.{Action}
-use Rattle.hall_policy.specs.declared.request.Action.TheVariants.{PutPuzzle, ReadPuzzle, Certify, PutRound}
+use Rattle.hall_policy.specs.declared.request.Action.TheVariants.{PutPuzzle, ReadPuzzle, Certify, PutRound, ReadRound}
 use Rattle.hall_policy.specs.declared.request.Action.TheVariants.{Submit, Protest, Rule}
 use Rattle.hall_policy.specs.declared.rule.Rule as rule
 use Rattle.hall_policy.specs.declared.rule.Rule.TheVariants.{UnknownKey, NoRole, OtherAuthor, Missing, OwnPuzzle}
@@ -49,9 +50,7 @@ IsObjectFound facts world (PutPuzzle key puzzle) =
     ↔ ((person : Person) × (get world.people key.author ≡ Some person) × IsTrue person.roles.author)
 IsObjectFound facts world (ReadPuzzle key) = facts.puzzle ≡ get world.puzzles key
 IsObjectFound facts world (Certify key budget) = facts.puzzle ≡ get world.puzzles key
-IsObjectFound facts world (PutRound round sheet) =
-    IsTrue facts.sheet_lacks
-    ↔ ((entry : Entry) × Contains sheet.puzzles entry × (get world.puzzles entry.puzzle ≡ None))
+IsObjectFound facts world (PutRound round sheet) = IsTrue facts.sheet_lacks ↔ SheetLacks world sheet
 IsObjectFound facts world (Rule round entrant token ruling) =
     IsRoundFound world (Some round) facts.round × (facts.protest ≡ protest_of world entrant round token)
 IsObjectFound facts world action = IsRoundFound world (round_named action) facts.round
@@ -126,3 +125,33 @@ abbrev pub TellsAuthor : Facts → List ℕ → Bool → Type 0
 TellsAuthor facts author test =
     (world : World) (named : Option (List ℕ)) → IsRoundFound world named facts.round →
     (IsTrue test ↔ ListsAuthor world named author)
+
+-- the round that was found has the tester
+abbrev pub RoundHasTester : Facts → List ℕ → Type 0
+RoundHasTester facts name = (row : RoundRow) × (facts.round ≡ Some row) × Contains row.testers name
+
+-- the test tells whether the round that is named has the tester,
+-- in each world that has the round as it was found
+abbrev pub TellsTester : Facts → List ℕ → Bool → Type 0
+TellsTester facts name test =
+    (world : World) (named : Option (List ℕ)) → IsRoundFound world named facts.round →
+    (IsTrue test ↔ ListsTester world named name)
+
+-- the caller is a tester of the round that was found, and reads it
+abbrev pub ReadsFoundAsTester : Facts → Action → Type 0
+ReadsFoundAsTester facts (ReadRound round) = TheCaller facts.caller (λ person. RoundHasTester facts person.name)
+ReadsFoundAsTester facts _ = ⊥
+
+-- the test tells whether the caller is a tester of the round that is named, and reads it,
+-- in each world that has the round as it was found
+abbrev pub TellsReading : Facts → Action → Bool → Type 0
+TellsReading facts action test =
+    (world : World) → IsRoundFound world (round_named action) facts.round →
+    (IsTrue test ↔ ReadsAsTester world facts.caller action)
+
+-- the test tells whether the person has a hand in the round that is named,
+-- in each world that has the round as it was found
+abbrev pub TellsHand : Facts → List ℕ → Bool → Type 0
+TellsHand facts name test =
+    (world : World) (named : Option (List ℕ)) → IsRoundFound world named facts.round →
+    (IsTrue test ↔ HasHandIn world named name)

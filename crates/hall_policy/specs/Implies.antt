@@ -3,7 +3,7 @@ use Rattle.std.specs.Prelude.{◌≡◌, ◌⊎◌, ◌<◌, ◌||◌, ◌&&◌,
 use Rattle.hall_policy.specs.World.{entry_at}
 use Rattle.hall_policy.specs.Actions.{number_of, rules_asked, may, finds_drafts, puzzle_named}
 use Rattle.hall_policy.specs.Rules.{TheCaller, LacksRole, is_director}
-use Rattle.hall_policy.specs.Facts.{HasEntryBy}
+use Rattle.hall_policy.specs.Facts.{HasEntryBy, RoundHasTester, ReadsFoundAsTester}
 use Rattle.hall_policy.specs.declared.record.Person.{Person}
 use Rattle.hall_policy.specs.declared.record.PuzzleKey.{PuzzleKey}
 use Rattle.hall_policy.specs.declared.record.PuzzleRow.{PuzzleRow}
@@ -61,7 +61,8 @@ pub record ProtestIsThere (facts : Facts) (action : Action) : Type 0 where
   pub row : ProtestRow
   pub found : facts.protest ≡ Some row
 
--- The object is there: the author, the puzzle, each puzzle of the sheet, the round, the puzzle's number, the protest.
+-- The object is there: the author, the puzzle, each puzzle and tester of the sheet, the round, the puzzle's number,
+-- the protest.
 abbrev pub ObjectIsThere : Facts → Action → Type 0
 ObjectIsThere facts (Import people) = Unit {0}
 ObjectIsThere facts (PutPuzzle key puzzle) = IsTrue facts.author_is_there
@@ -85,16 +86,22 @@ ObjectIsThere facts (Table round) = RoundIsThere facts (Table round)
 abbrev pub RoundHasNoneBy : Facts → List ℕ → Type 0
 RoundHasNoneBy facts author = (row : RoundRow) → facts.round ≡ Some row → ¬ (HasEntryBy row.puzzles author)
 
--- the caller is no entrant, or author of no puzzle of the round that was found
-abbrev pub RoundIsByOthers : Facts → Type 0
-RoundIsByOthers facts =
-    (person : Person) → facts.caller ≡ Some person → IsTrue person.roles.entrant → RoundHasNoneBy facts person.name
+-- the person has no hand in the round that was found: is neither author of a puzzle nor a tester
+abbrev pub HasNoHandIn : Facts → List ℕ → Type 0
+HasNoHandIn facts name = RoundHasNoneBy facts name × ¬ (RoundHasTester facts name)
 
--- What an entrant reads, answers or protests about is by others.
+-- the caller is no entrant, or has no hand in the round that was found, or is a tester who reads it
+abbrev pub RoundIsByOthers : Facts → Action → Type 0
+RoundIsByOthers facts action =
+    (person : Person) → facts.caller ≡ Some person → IsTrue person.roles.entrant →
+    HasNoHandIn facts person.name ⊎ ReadsFoundAsTester facts action
+
+-- What an entrant answers or protests about is by others, and tested by others; so is what an entrant reads who is no
+-- tester of it.
 abbrev pub IsByOthers : Facts → Action → Type 0
-IsByOthers facts (ReadRound round) = RoundIsByOthers facts
-IsByOthers facts (Submit round number token answer) = RoundIsByOthers facts
-IsByOthers facts (Protest round token number text) = RoundIsByOthers facts
+IsByOthers facts (ReadRound round) = RoundIsByOthers facts (ReadRound round)
+IsByOthers facts (Submit round number token answer) = RoundIsByOthers facts (Submit round number token answer)
+IsByOthers facts (Protest round token number text) = RoundIsByOthers facts (Protest round token number text)
 IsByOthers facts _ = Unit {0}
 
 -- The puzzle that is put stands in no released round; a puzzle of the round that is released stands in no other one.
@@ -220,7 +227,7 @@ PassImplies UnknownKey facts action = IsSome facts.caller
 PassImplies NoRole facts action = ¬ (LacksRole facts.caller action)
 PassImplies OtherAuthor facts action = NamesOwnPuzzle facts action
 PassImplies Missing facts action = ObjectIsThere facts action
-PassImplies OwnPuzzle facts action = RoundIsByOthers facts
+PassImplies OwnPuzzle facts action = RoundIsByOthers facts action
 PassImplies TokenTaken facts action = IsSome facts.caller → TokenIsNew facts action
 PassImplies InReleasedRound facts action = facts.in_released ≡ false
 PassImplies NotCertified facts action = facts.uncertified ≡ false

@@ -14,11 +14,13 @@ DecisionsAgree =
     (world : World) (caller : Option Person) (a : Action) (t : ℕ) (d f : Decision) →
     First world caller a t d → First world caller a t f → d ≡ f
 
--- what decides a request of a caller who holds the role entrant alone: the people, the rounds and their lists, and the
--- caller's own answers and protests; the puzzles, with their texts and states, and what others handed in may differ
+-- what decides a request of a caller who holds the role entrant alone: the people, the rounds, their lists and testers,
+-- and the caller's own answers and protests; the puzzles, with their texts and states, and what others handed in may
+-- differ
 abbrev pub EntrantsDecidedAlike : Type 0
 EntrantsDecidedAlike =
     (world other : World) (person : Person) (t : ℕ) (a : Action) (d f : Decision) → IsWorld world → IsWorld other →
     world.people ≡ other.people → world.rounds ≡ other.rounds → world.places ≡ other.places →
+    world.testers ≡ other.testers →
     IsTrue (is_entrant_alone person) → OwnRowsAgree person world other →
     First world (Some person) a t d → First other (Some person) a t f → d ≡ f

@@ -21,6 +21,11 @@ pub record AreEntries (entries : List Entry) : Type 0 where
   pub few : length entries ≤ 40
   pub different : AllPairs (λ a b. ¬ (a.puzzle ≡ b.puzzle)) entries
 
+-- at most 20 names, none twice
+pub record AreTesters (testers : List (List ℕ)) : Type 0 where
+  pub few : length testers ≤ 20
+  pub different : AllPairs (λ a b. ¬ (a ≡ b)) testers
+
 -- the text is seen too
 abbrev pub IsSeenToo : BTreeSet (List ℕ) → BTreeSet (List ℕ) → List ℕ → Type 0
 IsSeenToo before after text =

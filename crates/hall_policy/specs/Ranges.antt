@@ -4,7 +4,7 @@ use Rattle.std.specs.FinMap.{get}
 use Rattle.hall_grid.specs.Board.{IsBoard}
 use Rattle.hall_policy.specs.Text.{IsOfKind, is_word_byte, is_key_byte, is_printable}
 use Rattle.hall_policy.specs.HasRole.{HasRole}
-use Rattle.hall_policy.specs.Lists.{ArePeople, AreEntries}
+use Rattle.hall_policy.specs.Lists.{ArePeople, AreEntries, AreTesters}
 use Rattle.hall_policy.specs.World.{World, IsRoundAt}
 use Rattle.hall_policy.specs.declared.record.Person.{Person}
 use Rattle.hall_policy.specs.declared.record.PuzzleKey.{PuzzleKey}
@@ -15,6 +15,7 @@ use Rattle.hall_policy.specs.declared.record.Round.{Round}
 use Rattle.hall_policy.specs.declared.record.Entry.{Entry}
 use Rattle.hall_policy.specs.declared.record.RoundRow.{RoundRow}
 use Rattle.hall_policy.specs.declared.record.PlaceKey.{PlaceKey}
+use Rattle.hall_policy.specs.declared.record.TesterKey.{TesterKey}
 use Rattle.hall_policy.specs.declared.record.AnswerKey.{AnswerKey}
 use Rattle.hall_policy.specs.declared.record.AnswerRow.{AnswerRow}
 use Rattle.hall_policy.specs.declared.record.ProtestKey.{ProtestKey}
@@ -116,10 +117,16 @@ pub record IsEntryList (entries : List Entry) : Type 0 where
   pub list : AreEntries entries
   pub each : All IsEntry entries
 
--- a round with its list, whole
+-- a round's testers
+pub record IsTesterList (testers : List (List ℕ)) : Type 0 where
+  pub list : AreTesters testers
+  pub each : All IsName testers
+
+-- a round with its list, whole, and its testers
 pub record IsRoundRow (row : RoundRow) : Type 0 where
   pub round : IsRound row.round
   pub puzzles : IsEntryList row.puzzles
+  pub testers : IsTesterList row.testers
 
 -- where an answer is kept
 pub record IsAnswerKey (key : AnswerKey) : Type 0 where
@@ -157,10 +164,11 @@ pub record AreRowsInRange (world : World) : Type 0 where
   pub places : (key : PlaceKey) (entry : Entry) → get world.places key ≡ Some entry → IsEntry entry
   pub answers : (key : AnswerKey) (row : AnswerRow) → get world.answers key ≡ Some row → IsAnswerRow row
   pub protests : (key : ProtestKey) (row : ProtestRow) → get world.protests key ≡ Some row → IsProtestRow row
+  pub testers : (key : TesterKey) → get world.testers key ≡ Some tt → IsName key.name
 
--- the round's list is whole
+-- the round's list is whole, and so is that of its testers
 abbrev pub HasWholeList : World → List ℕ → Type 0
-HasWholeList world id = (row : RoundRow) × IsRoundAt world id row × AreEntries row.puzzles
+HasWholeList world id = (row : RoundRow) × IsRoundAt world id row × AreEntries row.puzzles × AreTesters row.testers
 
 -- a world of the types' values
 pub record IsWorld (world : World) : Type 0 where
@@ -174,9 +182,10 @@ pub record IsWorld (world : World) : Type 0 where
   -- keys of people differ
   pub keys_differ : (a b : List ℕ) (p q : Person) → get world.people a ≡ Some p → get world.people b ≡ Some q →
       p.key ≡ q.key → a ≡ b
-  -- a round has 1 to 40 puzzles, numbered from 1, and a place belongs to a round
+  -- a round has 1 to 40 puzzles, numbered from 1, and at most 20 testers; a place and a tester belong to a round
   pub lists : (id : List ℕ) (round : Round) → get world.rounds id ≡ Some round → HasWholeList world id
   pub homes : (key : PlaceKey) (entry : Entry) → get world.places key ≡ Some entry → get world.rounds key.round ≢ None
+  pub tester_homes : (key : TesterKey) → get world.testers key ≡ Some tt → get world.rounds key.round ≢ None
 
 -- a sheet of the types' values
 pub record IsSheet (sheet : Sheet) : Type 0 where
@@ -187,6 +196,7 @@ pub record IsSheet (sheet : Sheet) : Type 0 where
   pub penalty : IsWithin 0 1000 sheet.penalty
   pub bonus : IsWithin 0 1000 sheet.bonus
   pub puzzles : IsEntryList sheet.puzzles
+  pub testers : IsTesterList sheet.testers
 
 -- an action of the types' values
 abbrev pub IsAction : Action → Type 0

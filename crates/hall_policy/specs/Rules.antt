@@ -1,8 +1,8 @@
 -- The twenty rules of the policy, each a sentence over whole maps.
-use Rattle.std.specs.Prelude.{◌≡◌, ◌≢◌, ◌==◌, ◌≤◌, ◌<◌, ◌&&◌, ◌⊎◌, ℕ, Bool, false, List, Option}
+use Rattle.std.specs.Prelude.{◌≡◌, ◌≢◌, ◌==◌, ◌≤◌, ◌<◌, ◌&&◌, ◌||◌, ◌⊎◌, ℕ, Bool, false, List, Option}
 use Rattle.std.specs.Prelude.{Some, None, IsTrue, Contains, count_by}
 use Rattle.std.specs.FinMap.{get, values}
-use Rattle.hall_policy.specs.World.{World, place_of, answer_of, protest_of, end_of, close_of, same_text}
+use Rattle.hall_policy.specs.World.{World, place_of, IsTesterOf, answer_of, protest_of, end_of, close_of, same_text}
 use Rattle.hall_policy.specs.Actions.{may, puzzle_named, round_named, finds_drafts}
 use Rattle.hall_policy.specs.declared.record.Person.{Person}
 use Rattle.hall_policy.specs.declared.record.PuzzleKey.{PuzzleKey}
@@ -13,6 +13,7 @@ use Rattle.hall_policy.specs.declared.record.Entry.{Entry}
 use Rattle.hall_policy.specs.declared.record.AnswerRow.{AnswerRow}
 use Rattle.hall_policy.specs.declared.record.ProtestKey.{ProtestKey}
 use Rattle.hall_policy.specs.declared.record.ProtestRow.{ProtestRow}
+use Rattle.hall_policy.specs.declared.request.Sheet.{Sheet}
 use Rattle.hall_policy.specs.declared.request.Action.{Action}
 use Rattle.hall_policy.specs.declared.request.Action.TheVariants.{Import, PutPuzzle, ReadPuzzle, ListPuzzles, Certify}
 use Rattle.hall_policy.specs.declared.request.Action.TheVariants.{PutRound, Release, ListRounds, ReadRound, Submit}
@@ -68,16 +69,34 @@ RoundIsMissing world caller action id =
     (round : Round) → get world.rounds id ≡ Some round → (round.released ≡ false)
     × ((is_director caller && finds_drafts action) ≡ false)
 
+-- whether a person is there who may test: with the role entrant or referee
+abbrev pub may_test : Option Person → Bool
+may_test None = false
+may_test (Some person) = person.roles.entrant || person.roles.referee
+
+-- one of the puzzles isn't kept
+abbrev pub LacksPuzzle : World → List Entry → Type 0
+LacksPuzzle world entries =
+    (entry : Entry) × Contains entries entry × (get world.puzzles entry.puzzle ≡ None)
+
+-- one of the names is of nobody who may test
+abbrev pub LacksTester : World → List (List ℕ) → Type 0
+LacksTester world names =
+    (name : List ℕ) × Contains names name × (may_test (get world.people name) ≡ false)
+
+-- what the sheet names isn't there: a puzzle, or a tester
+abbrev pub SheetLacks : World → Sheet → Type 0
+SheetLacks world sheet = LacksPuzzle world sheet.puzzles ⊎ LacksTester world sheet.testers
+
 -- 4. The object isn't there: the puzzle; the round; the puzzle's number in the round; the protest. PutPuzzle
--- asks only for a person of the author's name with the role author,
--- PutRound only for each puzzle of the sheet.
+-- asks only for a person of the author's name with the role author, PutRound only for each puzzle of the sheet,
+-- and for each of its testers as a person with the role entrant or referee.
 abbrev pub IsMissing : World → Option Person → Action → Type 0
 IsMissing world caller (PutPuzzle key puzzle) =
     (person : Person) → get world.people key.author ≡ Some person → person.roles.author ≡ false
 IsMissing world caller (ReadPuzzle key) = get world.puzzles key ≡ None
 IsMissing world caller (Certify key budget) = get world.puzzles key ≡ None
-IsMissing world caller (PutRound round sheet) =
-    (entry : Entry) × Contains sheet.puzzles entry × (get world.puzzles entry.puzzle ≡ None)
+IsMissing world caller (PutRound round sheet) = SheetLacks world sheet
 IsMissing world caller (Release round) = RoundIsMissing world caller (Release round) round
 IsMissing world caller (ReadRound round) = RoundIsMissing world caller (ReadRound round) round
 IsMissing world caller (Submit round number token answer) =
@@ -102,10 +121,26 @@ ListsAuthor world named author =
     (id : List ℕ) × (round : Round) × (entry : Entry) × (named ≡ Some id) × (get world.rounds id ≡ Some round)
     × Lists world id entry × (entry.puzzle.author ≡ author)
 
--- 5. The caller is an entrant and author of a puzzle of the round.
+-- the person of that name is a tester of the round that is named
+abbrev pub ListsTester : World → Option (List ℕ) → List ℕ → Type 0
+ListsTester world named name =
+    (id : List ℕ) × (round : Round) × (named ≡ Some id) × (get world.rounds id ≡ Some round) × IsTesterOf world id name
+
+-- the caller is a tester of the round, and reads it
+abbrev pub ReadsAsTester : World → Option Person → Action → Type 0
+ReadsAsTester world caller (ReadRound round) = TheCaller caller (λ person. ListsTester world (Some round) person.name)
+ReadsAsTester world caller _ = ⊥
+
+-- the person of that name has a hand in the round that is named: as author of a puzzle, or as tester
+abbrev pub HasHandIn : World → Option (List ℕ) → List ℕ → Type 0
+HasHandIn world named name = ListsAuthor world named name ⊎ ListsTester world named name
+
+-- 5. The caller is an entrant, and author of a puzzle of the round or its tester.
+-- Not asked of a tester who reads the round.
 abbrev pub IsOwnPuzzle : World → Option Person → Action → Type 0
 IsOwnPuzzle world caller action =
-    TheCaller caller (λ person. IsTrue person.roles.entrant × ListsAuthor world (round_named action) person.name)
+    ¬ (ReadsAsTester world caller action)
+    × TheCaller caller (λ person. IsTrue person.roles.entrant × HasHandIn world (round_named action) person.name)
 
 -- 6. The token of the caller stands; it belongs to the round and, for answers, to the puzzle's number.
 abbrev pub TokenStands : World → Option Person → Action → Type 0
@@ -125,9 +160,11 @@ SameContent world caller (Protest round token number text) =
     × (row.number ≡ number) × (row.text ≡ text))
 SameContent world caller _ = ⊥
 
--- 7. Before the start of the round that is named. Not asked of a director.
+-- 7. Before the start of the round that is named. Not asked of a director, nor of a tester who reads the round.
 abbrev pub IsBeforeStart : World → Option Person → Action → ℕ → Type 0
-IsBeforeStart world caller action t = (is_director caller ≡ false) × TheRound world action (λ round. t < round.start)
+IsBeforeStart world caller action t =
+    (is_director caller ≡ false) × ¬ (ReadsAsTester world caller action)
+    × TheRound world action (λ round. t < round.start)
 
 -- 8. At or after the end.
 abbrev pub IsAfterEnd : World → Action → ℕ → Type 0

@@ -1,5 +1,6 @@
 -- What the hall keeps: finite maps from keys to rows, the keys' orders, and what a round's row says.
-use Rattle.std.specs.Prelude.{nat_eq, ◌≡◌, ◌+◌, ◌*◌, ℕ, ℤ, pos, zero, suc, Bool, List, Option, Some, None, slice_get}
+use Rattle.std.specs.Prelude.{nat_eq, ◌≡◌, ◌↔◌, ◌+◌, ◌*◌, ℕ, ℤ, pos, zero, suc, Bool, List}
+use Rattle.std.specs.Prelude.{Option, Some, None, slice_get, Contains}
 use Rattle.std.specs.declared.cmp.Ordering.{Ordering}
 use Rattle.std.specs.Ordering.{nat_cmp, ordering_then}
 use Rattle.std.specs.Cmp.Lexicographic.{pointwise}
@@ -12,6 +13,7 @@ use Rattle.hall_policy.specs.declared.record.Round.{Round}
 use Rattle.hall_policy.specs.declared.record.Entry.{Entry}
 use Rattle.hall_policy.specs.declared.record.RoundRow.{RoundRow}
 use Rattle.hall_policy.specs.declared.record.PlaceKey.{PlaceKey}
+use Rattle.hall_policy.specs.declared.record.TesterKey.{TesterKey}
 use Rattle.hall_policy.specs.declared.record.AnswerKey.{AnswerKey}
 use Rattle.hall_policy.specs.declared.record.AnswerRow.{AnswerRow}
 use Rattle.hall_policy.specs.declared.record.ProtestKey.{ProtestKey}
@@ -26,6 +28,10 @@ puzzle_cmp a b = ordering_then (text_cmp a.author b.author) (text_cmp a.label b.
 -- the order of places: by round, then number
 abbrev pub place_cmp : PlaceKey → PlaceKey → Ordering
 place_cmp a b = ordering_then (text_cmp a.round b.round) (nat_cmp a.number b.number)
+
+-- the order of testers' keys: by round, then name
+abbrev pub tester_cmp : TesterKey → TesterKey → Ordering
+tester_cmp a b = ordering_then (text_cmp a.round b.round) (text_cmp a.name b.name)
 
 -- the order of answers' keys: by entrant, round, number, then token
 abbrev pub answer_cmp : AnswerKey → AnswerKey → Ordering
@@ -42,7 +48,8 @@ protest_cmp a b =
 
 -- the whole content of the hall: people by name, puzzles by author and label, rounds by id,
 -- the puzzles of rounds by round and number,
--- answers by entrant, round, number and token, protests by entrant, round and token
+-- answers by entrant, round, number and token, protests by entrant, round and token,
+-- the testers of rounds by round and name
 pub record World : Type 0 where
   pub people : FinMap text_cmp Person
   pub puzzles : FinMap puzzle_cmp PuzzleRow
@@ -50,10 +57,15 @@ pub record World : Type 0 where
   pub places : FinMap place_cmp Entry
   pub answers : FinMap answer_cmp AnswerRow
   pub protests : FinMap protest_cmp ProtestRow
+  pub testers : FinMap tester_cmp (Unit {0})
 
 -- the round's entry of that number
 abbrev pub place_of : World → List ℕ → ℕ → Option Entry
 place_of world round number = get world.places (record { round = round; number = number })
+
+-- the person of that name is a tester of the round
+abbrev pub IsTesterOf : World → List ℕ → List ℕ → Type 0
+IsTesterOf world round name = get world.testers (record { round = round; name = name }) ≡ Some tt
 
 -- the entrant's answer under the token
 abbrev pub answer_of : World → List ℕ → List ℕ → ℕ → List ℕ → Option AnswerRow
@@ -87,7 +99,8 @@ abbrev pub entry_at : List Entry → ℕ → Option Entry
 entry_at entries zero = None
 entry_at entries (suc before) = slice_get entries before
 
--- the row is what the world keeps of the round: its head, and its whole list
+-- the row is what the world keeps of the round: its head, its whole list, and its testers
 pub record IsRoundAt (world : World) (id : List ℕ) (row : RoundRow) : Type 0 where
   pub head : get world.rounds id ≡ Some row.round
   pub list : (number : ℕ) → place_of world id number ≡ entry_at row.puzzles number
+  pub testers : (name : List ℕ) → IsTesterOf world id name ↔ Contains row.testers name

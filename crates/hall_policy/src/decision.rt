@@ -3,15 +3,18 @@ ghost use Rattle.std.specs.Prelude.{◌≤◌, ◌≡◌, ◌↔◌, ◌<◌, �
 ghost use Rattle.hall_policy.specs.World.{entry_at};
 ghost use Rattle.hall_policy.specs.Actions.{number_of};
 ghost use Rattle.hall_policy.specs.Rules.{LacksRole, NamesOtherAuthor, is_director};
-ghost use Rattle.hall_policy.specs.Facts.{HidesRound, LacksNumber, HasEntryBy, TellsAuthor, deciding};
+ghost use Rattle.hall_policy.specs.Facts.{HidesRound, LacksNumber, HasEntryBy, RoundHasTester, ReadsFoundAsTester};
+ghost use Rattle.hall_policy.specs.Facts.{TellsAuthor, TellsTester, TellsReading, TellsHand, deciding};
 ghost use Rattle.hall_policy.specs.Finding.{IsTestOf, IsFindingOf, FindingImplies, finding_of, standing};
 ghost use Rattle.hall_policy.specs.Implies.{Implies, ObjectIsThere, RoundIsThere, EntryIsThere, RoundIsDraft};
-ghost use Rattle.hall_policy.specs.Implies.{NamesOwnPuzzle, RoundHasNoneBy, RoundIsByOthers, PublishedPasses, IsBelowLimit};
+ghost use Rattle.hall_policy.specs.Implies.{NamesOwnPuzzle, RoundHasNoneBy, HasNoHandIn, RoundIsByOthers};
+ghost use Rattle.hall_policy.specs.Implies.{PublishedPasses, IsBelowLimit};
 ghost use Rattle.hall_policy.specs.Decided.{IsDecidedUpTo, PassesUpTo};
 ghost use Rattle.hall_policy.specs.declared.record.RoundRow.{RoundRow};
 
 use crate::asked::{finds_drafts, may, puzzle_named, rules_asked};
 use crate::facts::Facts;
+use crate::list::is_named;
 use crate::number::{Moment, PuzzleNumber};
 use crate::record::Entry;
 use crate::request::Action;
@@ -52,7 +55,11 @@ fn is_before_start(facts: &Facts, action: &Action, t: Moment) -> bool
     ensures { IsTestOf Rule.NotStarted facts.now action.now t result }
 {
     match &facts.round {
-        Some(row) => !is_director(facts) && t.get() < row.round.start.get(),
+        Some(row) => {
+            !is_director(facts)
+                && !reads_as_tester(facts, action)
+                && t.get() < row.round.start.get()
+        }
         None => false,
     }
 }
@@ -161,10 +168,44 @@ fn is_missing(facts: &Facts, action: &Action) -> bool
 
 fn is_own_puzzle(facts: &Facts, action: &Action) -> bool
     ensures tells { IsTestOf Rule.OwnPuzzle facts.now action.now 0 result }
-    ensures others { result ≡ false → RoundIsByOthers facts.now }
+    ensures others { result ≡ false → RoundIsByOthers facts.now action.now }
 {
     match &facts.caller {
-        Some(person) => person.roles.get().entrant && lists_author_of(facts, &person.name),
+        Some(person) => {
+            !reads_as_tester(facts, action)
+                && person.roles.get().entrant
+                && has_hand_in(facts, &person.name)
+        }
+        None => false,
+    }
+}
+
+/// Whether the caller is a tester of the round that was found, and reads it.
+fn reads_as_tester(facts: &Facts, action: &Action) -> bool
+    ensures tells { TellsReading facts.now action.now result }
+    ensures found { IsTrue result ↔ ReadsFoundAsTester facts.now action.now }
+{
+    match (&facts.caller, action) {
+        (Some(person), Action::ReadRound { .. }) => lists_tester_of(facts, &person.name),
+        _ => false,
+    }
+}
+
+/// Whether the person has a hand in the round that was found: as author of a puzzle, or as tester.
+fn has_hand_in(facts: &Facts, name: &Name) -> bool
+    ensures tells { TellsHand facts.now name.now result }
+    ensures none { result ≡ false → HasNoHandIn facts.now name.now }
+{
+    lists_author_of(facts, name) || lists_tester_of(facts, name)
+}
+
+/// Whether the round that was found has the tester.
+fn lists_tester_of(facts: &Facts, name: &Name) -> bool
+    ensures tells { TellsTester facts.now name.now result }
+    ensures found { IsTrue result ↔ RoundHasTester facts.now name.now }
+{
+    match &facts.round {
+        Some(row) => is_named(row.testers.as_slice(), name),
         None => false,
     }
 }

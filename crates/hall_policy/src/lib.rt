@@ -18,14 +18,14 @@ mod text;
 pub use decision::{decide, decide_up_to};
 pub use facts::Facts;
 pub use law::law_decisions;
-pub use list::{Entries, People, is_new};
+pub use list::{Entries, People, Testers, is_new};
 pub use number::{
     AnswerNumber, Bonus, Budget, Minutes, Moment, Penalty, Points, ProtestMinutes, PuzzleNumber,
     RulingPoints, Within,
 };
 pub use record::{
     AnswerKey, AnswerRow, Entry, Mode, Person, PlaceKey, ProtestKey, ProtestRow, PuzzleKey,
-    PuzzleRow, PuzzleState, Roles, Round, RoundRow, Ruling, ruling_points,
+    PuzzleRow, PuzzleState, Roles, Round, RoundRow, Ruling, TesterKey, ruling_points,
 };
 pub use request::{Action, Request, Sheet};
 pub use roles::SomeRoles;

@@ -1,11 +1,12 @@
-//! Lists in which no two items are alike: a round's puzzles, and people.
-ghost use Rattle.std.specs.Prelude.{◌≡◌, ◌↔◌, ◌≤◌, not, length, IsTrue, IfSome, IfNone, IfOk, OnErr, AllPairs, Any};
+//! Lists in which no two items are alike: a round's puzzles, its testers, and people.
+ghost use Rattle.std.specs.Prelude.{◌≡◌, ◌↔◌, ◌≤◌, not, [], length, IsTrue, IfSome, IfNone, IfOk, OnErr, AllPairs};
+ghost use Rattle.std.specs.Prelude.{Any, Contains};
 ghost use Rattle.std.specs.BTreeSet.{contains, IsUnchanged};
 ghost use Rattle.hall_policy.specs.Text.{text_cmp};
-ghost use Rattle.hall_policy.specs.Lists.{AreEntries, ArePeople, ArePeopleDifferent, IsSeenToo};
+ghost use Rattle.hall_policy.specs.Lists.{AreEntries, AreTesters, ArePeople, ArePeopleDifferent, IsSeenToo};
 
 use crate::record::{Entry, Person};
-use crate::text::{Checked, TextKind};
+use crate::text::{Checked, Name, TextKind};
 use std::alloc::{AllocError, Global};
 use std::collections::BTreeSet;
 use std::marker::Model;
@@ -29,6 +30,25 @@ fn is_listed(entries: &[Entry], later: &Entry) -> bool
     entries
         .iter()
         .any(|entry| entry.puzzle.is_same(&later.puzzle))
+}
+
+/// Whether no name is listed again.
+fn testers_differ(names: &[Name]) -> bool
+    ensures { IsTrue result ↔ AllPairs (λ a b. ¬ (a ≡ b)) names.now }
+{
+    for (i, later) in names.iter().enumerate() {
+        if is_named(&names[..i], later) {
+            return false;
+        }
+    }
+    true
+}
+
+/// Whether one of the names is the same.
+pub(crate) fn is_named(names: &[Name], later: &Name) -> bool
+    ensures { IsTrue result ↔ Contains names.now later.now }
+{
+    names.iter().any(|name| name.is_same(later))
 }
 
 /// Adds the text to those seen, and tells whether it is new. An error is want of memory, and the set stays as it was.
@@ -127,6 +147,65 @@ impl Clone for Entries {
     fn clone(&self) -> Result<Entries, AllocError> {
         Ok(Entries {
             list: self.list.clone()?,
+        })
+    }
+}
+
+/// Who tests a round, at most 20 names, none twice.
+#[derive(Drop)]
+pub struct Testers {
+    names: Vec<Name>,
+}
+
+impl Model for Testers {
+    ghost use Rattle.std.specs.Prelude.{ℕ, List};
+    ghost use Rattle.hall_policy.specs.Lists.{AreTesters};
+
+    ghost Value = { List (List ℕ) };
+
+    ghost view = { λ p. p.names.items };
+
+    ghost invariant = { λ p. AreTesters p.names.items };
+}
+
+impl Testers {
+    /// Nobody.
+    pub fn none(alloc: Global) -> Testers
+        ensures { result ≡ [] }
+    {
+        Testers {
+            names: Vec::new(alloc),
+        }
+    }
+
+    /// The list, where it has at most 20 names and none twice.
+    pub fn new(names: Vec<Name>) -> Option<Testers>
+        ensures some { IfSome result (λ testers. (testers ≡ names.items) × AreTesters testers) }
+        ensures none { IfNone result (¬ (AreTesters names.items)) }
+    {
+        if names.len() > 20 || !testers_differ(names.as_slice()) {
+            return None;
+        }
+        Some(Testers { names })
+    }
+
+    /// The names in the list's order.
+    pub fn as_slice(&self) -> &[Name]
+        ensures value { result.now ≡ self.now }
+        ensures valid { AreTesters self.now }
+    {
+        self.names.as_slice()
+    }
+}
+
+impl Clone for Testers {
+    ghost use Rattle.std.specs.Prelude.{◌≡◌};
+
+    ghost is_clone = { λ x y. y ≡ x };
+
+    fn clone(&self) -> Result<Testers, AllocError> {
+        Ok(Testers {
+            names: self.names.clone()?,
         })
     }
 }

@@ -1,12 +1,13 @@
 //! That a request, a person or a round lies in the ranges of its types: what is read tells what its type keeps.
 ghost use Rattle.std.specs.Prelude.{All};
 ghost use Rattle.hall_policy.specs.Lists.{ArePeople};
-ghost use Rattle.hall_policy.specs.Ranges.{IsPerson, IsPuzzleKey, IsEntry, IsEntryList, IsRound, IsRoundRow};
+ghost use Rattle.hall_policy.specs.Ranges.{IsName, IsPerson, IsPuzzleKey, IsEntry, IsEntryList, IsTesterList};
+ghost use Rattle.hall_policy.specs.Ranges.{IsRound, IsRoundRow};
 ghost use Rattle.hall_policy.specs.Ranges.{IsSheet, IsRuling, IsAction, IsRequest};
 ghost use Rattle.hall_policy.specs.declared.request.Action.TheVariants.{PutPuzzle, Certify, PutRound, Submit};
 ghost use Rattle.hall_policy.specs.declared.request.Action.TheVariants.{Protest, Rule};
 
-use crate::list::{Entries, People};
+use crate::list::{Entries, People, Testers};
 use crate::number::{Budget, PuzzleNumber};
 use crate::record::{Entry, Person, PuzzleKey, Round, RoundRow, Ruling};
 use crate::request::{Action, Request, Sheet};
@@ -70,6 +71,20 @@ fn read_entries(entries: &Entries)
     read_all_entries(entries.as_slice());
 }
 
+fn read_names(names: &[Name])
+    ensures { All IsName names.now }
+{
+    for name in names {
+        let _name = name.as_str();
+    }
+}
+
+fn read_testers(testers: &Testers)
+    ensures { IsTesterList testers.now }
+{
+    read_names(testers.as_slice());
+}
+
 fn read_round(round: &Round)
     ensures { IsRound round.now }
 {
@@ -83,12 +98,13 @@ fn read_round(round: &Round)
 }
 
 impl RoundRow {
-    /// Tells a proof that the round and its list lie in the ranges of their types.
+    /// Tells a proof that the round and its lists lie in the ranges of their types.
     pub fn in_range(&self)
         ensures { IsRoundRow self.now }
     {
         read_round(&self.round);
         read_entries(&self.puzzles);
+        read_testers(&self.testers);
     }
 }
 
@@ -102,6 +118,7 @@ fn read_sheet(sheet: &Sheet)
     let _penalty = sheet.penalty.get();
     let _bonus = sheet.bonus.get();
     read_entries(&sheet.puzzles);
+    read_testers(&sheet.testers);
 }
 
 fn read_ruling(ruling: Ruling)

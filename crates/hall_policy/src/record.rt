@@ -2,7 +2,7 @@
 ghost use Rattle.std.specs.Prelude.{◌≡◌, ◌↔◌, ◌+◌, ◌*◌, ◌≤◌, ◌≤ℤ◌, pos, negsuc, IsTrue};
 ghost use Rattle.hall_policy.specs.World.{end_of, close_of, ruling_points};
 
-use crate::list::Entries;
+use crate::list::{Entries, Testers};
 use crate::number::{
     AnswerNumber, Bonus, Minutes, Moment, Penalty, Points, ProtestMinutes, PuzzleNumber,
     RulingPoints,
@@ -140,11 +140,12 @@ pub struct Entry {
     pub points: Points,
 }
 
-/// A round with the list of its puzzles.
+/// A round with the list of its puzzles, and its testers.
 #[derive(Clone, Drop)]
 pub struct RoundRow {
     pub round: Round,
     pub puzzles: Entries,
+    pub testers: Testers,
 }
 
 /// Where a round's puzzle is kept.
@@ -152,6 +153,13 @@ pub struct RoundRow {
 pub struct PlaceKey {
     pub round: RoundId,
     pub number: PuzzleNumber,
+}
+
+/// Where it is kept that a person tests a round.
+#[derive(Drop)]
+pub struct TesterKey {
+    pub round: RoundId,
+    pub name: Name,
 }
 
 /// Where an answer is kept.

@@ -1,5 +1,5 @@
 //! What a caller may ask.
-use crate::list::{Entries, People};
+use crate::list::{Entries, People, Testers};
 use crate::number::{Bonus, Budget, Minutes, Moment, Penalty, ProtestMinutes, PuzzleNumber};
 use crate::record::{Mode, PuzzleKey, Ruling};
 use crate::text::{AnswerText, Key, Name, ProtestText, RoundId, Title, Token};
@@ -16,6 +16,7 @@ pub struct Sheet {
     pub penalty: Penalty,
     pub bonus: Bonus,
     pub puzzles: Entries,
+    pub testers: Testers,
 }
 
 /// One of the seventeen things that may be asked of the hall.

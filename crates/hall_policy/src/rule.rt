@@ -11,13 +11,15 @@ pub enum Rule {
     NoRole,
     /// A caller who is no director names another author.
     OtherAuthor,
-    /// The object isn't there.
+    /// The object isn't there; for PutRound a puzzle of the sheet, or one of its testers as a person with the role
+    /// entrant or referee.
     Missing,
-    /// The caller is an entrant and author of a puzzle of the round.
+    /// The caller is an entrant, and author of a puzzle of the round or its tester; not asked of a tester who reads
+    /// the round.
     OwnPuzzle,
     /// The token stands with other content.
     TokenTaken,
-    /// Before the start; not asked of a director.
+    /// Before the start; not asked of a director, nor of a tester who reads the round.
     NotStarted,
     /// At or after the end.
     Ended,

@@ -18,6 +18,7 @@ abbrev round : Mode → RoundRow
 round mode = record {
   round = record { id = []; title = []; start = 1777712400; minutes = 60; protest_minutes = 30; mode = mode; penalty = 5; bonus = 2; released = true; published = true };
   puzzles = (record { puzzle = record { author = []; label = [] }; points = 40 }) ∷ [];
+  testers = [];
 }
 
 abbrev answer : ℕ → ℕ → ℕ → AnswerRow

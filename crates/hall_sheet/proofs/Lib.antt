@@ -12,4 +12,5 @@ pub mod Moments
 pub mod Zones
 pub mod Documents
 pub mod Entries
+pub mod Testers
 pub mod Listing

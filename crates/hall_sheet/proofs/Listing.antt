@@ -1,17 +1,11 @@
 -- The listed keys of a sheet.
-use Rattle.std.proofs.Common.{◌≡◌, ◌∙◌, ap, refl, Bool, true, ◌&&◌, List, [], ◌∷◌, map, Option, Some, None, Ok}
+use Rattle.std.proofs.Common.{◌≡◌, ◌∙◌, ap, refl, Bool, true, ◌&&◌, List, [], ◌∷◌, map, Ok}
 use Rattle.std.specs.List.{list_all}
 use Rattle.toml.specs.Data.{Members}
-use Rattle.hall_policy.specs.Reading.{or_fault}
 use Rattle.hall_sheet.specs.declared.fault.Field.TheVariants as field
-use Rattle.hall_sheet.specs.declared.fault.Refusal.{Refusal}
-use Rattle.hall_sheet.specs.Table.{has_only, tables_at, tables_in}
+use Rattle.hall_sheet.specs.Table.{has_only, tables_in}
 use Rattle.hall_sheet.specs.Version.{version_or_first, sheet_fields}
 use Rattle.hall_sheet.specs.Sheet.{entry_fields, are_listed}
-
-was_given : {X : Type 0} (r : Refusal) (o : Option X) (x : X) → or_fault r o ≡ Ok x → o ≡ Some x
-was_given r None x e = cc
-was_given r (Some y) x e = let same : y ≡ x = cc in ap Some same
 
 all_seen : {X Y : Type 0} (seen : X → Y) (test : Y → Bool) (xs : List X)
     → list_all (λ x. test (seen x)) xs ≡ list_all test (map seen xs)
@@ -23,5 +17,4 @@ pub listed_by : {X : Type 0} (seen : X → Members) (ms : Members) (tables : Lis
     → has_only (sheet_fields (version_or_first ms)) ms ≡ true → tables_in field.Puzzle ms ≡ Ok (map seen tables)
     → b ≡ list_all (λ t. has_only entry_fields (seen t)) tables → b ≡ are_listed ms
 listed_by seen ms tables b top found all =
-    rw (top, was_given _ (tables_at field.Puzzle ms) (map seen tables) found)
-    (all ∙ all_seen seen (has_only entry_fields) tables)
+    rw (top, found) (all ∙ all_seen seen (has_only entry_fields) tables)

@@ -1,11 +1,12 @@
 -- The round sheet that bytes spell, or the first thing that is wrong with them.
 use Rattle.std.specs.Prelude.{ℕ, nat_le, Bool, not, ◌&&◌, if◌then◌else◌, List, [], ◌∷◌, ◌++◌, length}
 use Rattle.std.specs.Prelude.{codes, unwrap_or, Result, Ok, Err}
+use Rattle.std.specs.Result.{result_ok}
 use Rattle.std.specs.List.{list_any, list_all}
 use Rattle.std.specs.Str.{bytes_eq, is_utf8}
 use Rattle.toml.specs.Data.{Members}
 use Rattle.toml.specs.Parse.{parse_document}
-use Rattle.hall_policy.specs.Text.{is_word_byte, is_printable}
+use Rattle.hall_policy.specs.Text.{is_kind, is_word_byte, is_printable}
 use Rattle.hall_policy.specs.Reading.{◌>>=◌, or_fault, unless}
 use Rattle.hall_policy.specs.declared.record.Entry.{Entry}
 use Rattle.hall_policy.specs.declared.record.Mode.{Mode}
@@ -16,8 +17,9 @@ use Rattle.hall_sheet.specs.declared.fault.Field.TheVariants as field
 use Rattle.hall_sheet.specs.declared.fault.Refusal.{Refusal}
 use Rattle.hall_sheet.specs.declared.fault.Refusal.TheVariants as refusal
 use Rattle.hall_sheet.specs.declared.version.Version.{Version}
-use Rattle.hall_sheet.specs.declared.version.Version.TheVariants.{First, Second}
-use Rattle.hall_sheet.specs.Table.{has_only, text_at, text_in, number_in, tables_at, tables_in}
+use Rattle.hall_sheet.specs.declared.version.Version.TheVariants.{First, Second, Third}
+use Rattle.hall_sheet.specs.Table.{has_only, text_at, text_in, number_in, tables_in, texts_in}
+use Rattle.hall_sheet.specs.People.{are_distinct}
 use Rattle.hall_sheet.specs.Version.{version_in, version_or_first, sheet_fields}
 use Rattle.hall_sheet.specs.Start.{civil_in, start_in}
 use Rattle.hall_sheet.specs.Zone.{moment_in}
@@ -34,7 +36,7 @@ document_in bytes = unless refusal.Syntax (is_utf8 bytes) >>= (λ _. or_fault re
 abbrev pub are_listed : Members → Bool
 are_listed ms =
     has_only (sheet_fields (version_or_first ms)) ms
-    && list_all (has_only entry_fields) (unwrap_or (tables_at field.Puzzle ms) [])
+    && list_all (has_only entry_fields) (unwrap_or (result_ok (tables_in field.Puzzle ms)) [])
 
 -- the moment at which the clocks of the sheet's zone show its start
 abbrev pub zoned_start_in : Members → Result ℕ Refusal
@@ -48,6 +50,7 @@ zoned_start_in ms = do
 abbrev pub starts_in : Version → Members → Result ℕ Refusal
 starts_in First ms = text_at field.Start ms >>= start_in
 starts_in Second ms = zoned_start_in ms
+starts_in Third ms = zoned_start_in ms
 
 -- the mode of this name
 abbrev pub mode_of : List ℕ → Result Mode Refusal
@@ -59,6 +62,25 @@ mode_of text =
 -- how answers count
 abbrev pub mode_in : Members → Result Mode Refusal
 mode_in ms = text_at field.Mode ms >>= mode_of
+
+-- the texts, where each of them is a name
+abbrev pub names_in : List (List ℕ) → Result (List (List ℕ)) Refusal
+names_in texts = unless (refusal.Range field.Testers) (list_all (is_kind 1 24 is_word_byte) texts) >>= (λ _. Ok texts)
+
+-- those whom the sheet names as testers: at most twenty names, none twice
+unfoldable pub named_testers_in : Members → Result (List (List ℕ)) Refusal
+named_testers_in ms = do
+  texts ← texts_in field.Testers ms
+  _ ← unless (refusal.Range field.Testers) (nat_le (length texts) 20)
+  names ← names_in texts
+  _ ← unless refusal.Repeated (are_distinct names)
+  Ok names
+
+-- those who test the round: nobody in a version that names none
+abbrev pub testers_in : Version → Members → Result (List (List ℕ)) Refusal
+testers_in First ms = Ok []
+testers_in Second ms = Ok []
+testers_in Third ms = named_testers_in ms
 
 -- a puzzle of the round, and the points for it
 unfoldable pub entry_in : Members → Result Entry Refusal
@@ -99,6 +121,7 @@ fields_in ms = do
   mode ← mode_in ms
   penalty ← number_in field.Penalty 0 1000 ms
   bonus ← number_in field.Bonus 0 1000 ms
+  testers ← testers_in version ms
   puzzles ← list_in ms
   Ok (record {
     title = title;
@@ -109,6 +132,7 @@ fields_in ms = do
     penalty = penalty;
     bonus = bonus;
     puzzles = puzzles;
+    testers = testers;
   })
 
 -- the sheet that the bytes spell: a document of TOML in which every key is listed, and then its fields

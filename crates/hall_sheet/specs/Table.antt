@@ -41,15 +41,19 @@ number_in f least most ms = integer_at f ms >>= in_range f least most
 abbrev pub text_in : Field → ℕ → ℕ → (ℕ → Bool) → Members → Result (List ℕ) Refusal
 text_in f least most allows ms = text_at f ms >>= of_kind (refusal.Range f) least most allows
 
--- the items, where each of them is a table
-abbrev pub tables_of : Items → Option (List Members)
-tables_of no_items = Some []
-tables_of (item d ds) = option_and_then (λ ms. option_map (λ more. ms ∷ more) (tables_of ds)) (as_table d)
+-- the items of the array that a field is
+abbrev pub items_at : Field → Members → Result Items Refusal
+items_at f ms = or_fault (refusal.Missing f) (option_and_then as_array (value_at f ms))
 
--- the tables that a field is, where it is an array of tables
-abbrev pub tables_at : Field → Members → Option (List Members)
-tables_at f ms = option_and_then tables_of (option_and_then as_array (value_at f ms))
+-- the items as what each of them is, where all of them are of one type
+abbrev pub each_as : {X : Type 0} → (Data → Option X) → Items → Option (List X)
+each_as seen no_items = Some []
+each_as seen (item d ds) = option_and_then (λ x. option_map (λ more. x ∷ more) (each_as seen ds)) (seen d)
 
 -- a field that is an array of tables
 abbrev pub tables_in : Field → Members → Result (List Members) Refusal
-tables_in f ms = or_fault (refusal.Missing f) (tables_at f ms)
+tables_in f ms = items_at f ms >>= (λ items. or_fault (refusal.Missing f) (each_as as_table items))
+
+-- a field that is an array of texts
+abbrev pub texts_in : Field → Members → Result (List (List ℕ)) Refusal
+texts_in f ms = items_at f ms >>= (λ items. or_fault (refusal.Missing f) (each_as as_str items))

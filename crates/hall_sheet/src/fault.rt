@@ -22,6 +22,7 @@ pub enum Field {
     Mode,
     Penalty,
     Bonus,
+    Testers,
     Puzzle,
     Author,
     Label,
@@ -47,6 +48,7 @@ impl Field {
             Field::Mode => "mode",
             Field::Penalty => "penalty",
             Field::Bonus => "bonus",
+            Field::Testers => "testers",
             Field::Puzzle => "puzzle",
             Field::Author => "author",
             Field::Label => "label",
@@ -64,7 +66,7 @@ pub enum Refusal {
     Missing(Field),
     /// A value is out of its range or has a strange byte: F3.
     Range(Field),
-    /// A name or key twice in a list, or a puzzle twice in a sheet: F4.
+    /// A name or key twice in a list, or a puzzle or a tester twice in a sheet: F4.
     Repeated,
     /// The start is a text, but not of the form that the version wants: F5.
     Start,

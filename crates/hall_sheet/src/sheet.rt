@@ -4,14 +4,16 @@ ghost use Rattle.std.specs.List.{list_any};
 ghost use Rattle.toml.specs.View.{table_view};
 ghost use Rattle.hall_sheet.specs.Given.{Gives};
 ghost use Rattle.hall_sheet.specs.Sheet.{document_in, are_listed, zoned_start_in, starts_in, mode_in, entry_in};
-ghost use Rattle.hall_sheet.specs.Sheet.{is_repeated, entries_in, list_in, fields_in, sheet_in};
+ghost use Rattle.hall_sheet.specs.Sheet.{names_in, named_testers_in, testers_in, is_repeated, entries_in, list_in};
+ghost use Rattle.hall_sheet.specs.Sheet.{fields_in, sheet_in};
 
 use crate::fault::{Field, Refusal, SheetFault};
 use crate::start::{read_civil, read_moment};
-use crate::table::{has_only, push, read_number, read_tables, read_text, text_at};
+use crate::table::{has_only, push, read_number, read_tables, read_text, read_texts, text_at};
 use crate::version::{Version, read_version, version_or_first};
+use crate::words::checked;
 use crate::zone::{ZoneText, moment_in};
-use hall_policy::{Checked, Entries, Entry, Mode, Moment, PuzzleKey, Sheet};
+use hall_policy::{Checked, Entries, Entry, Mode, Moment, Name, PuzzleKey, Sheet, Testers};
 use std::alloc::{AllocError, Global};
 use toml::Table;
 
@@ -21,6 +23,9 @@ const ENTRY_FIELDS: [Field; 3] = [Field::Author, Field::Label, Field::Points];
 
 /// The most puzzles of a round.
 const MOST_PUZZLES: usize = 40;
+
+/// The most testers of a round.
+const MOST_TESTERS: usize = 20;
 
 /// The table that the bytes write in TOML.
 fn read_document(alloc: Global, bytes: &[u8]) -> Result<Table, SheetFault>
@@ -65,7 +70,7 @@ fn read_start(alloc: Global, table: &Table, version: Version) -> Result<Moment, 
 {
     match version {
         Version::First => read_moment(text_at(table, Field::Start)?.as_bytes()),
-        Version::Second => read_zoned_start(alloc, table),
+        Version::Second | Version::Third => read_zoned_start(alloc, table),
     }
 }
 
@@ -77,6 +82,44 @@ fn read_mode(table: &Table) -> Result<Mode, SheetFault>
         "instant" => Ok(Mode::Instant),
         "sealed" => Ok(Mode::Sealed),
         _ => Err(SheetFault::Refused(Refusal::Range(Field::Mode))),
+    }
+}
+
+/// The names that texts are, where each of them is one.
+fn read_names(alloc: Global, texts: &[&str]) -> Result<Vec<Name>, SheetFault>
+    ensures { Gives (λ names. names.items) result (names_in (map (λ t. t.now) texts.now)) }
+{
+    let mut names = Vec::with_capacity(alloc, texts.len())?;
+    for text in texts {
+        let name = checked(alloc, text, Refusal::Range(Field::Testers))?;
+        push(&mut names, name)?;
+    }
+    Ok(names)
+}
+
+/// Those whom the sheet names as testers.
+#[tactic(auto, unfolding(crate::specs::Sheet::named_testers_in))]
+fn read_named_testers(alloc: Global, document: &Table) -> Result<Testers, SheetFault>
+    ensures { Gives (λ t. t) result (named_testers_in (table_view document.now)) }
+{
+    let texts = read_texts(alloc, document, Field::Testers)?;
+    if texts.len() > MOST_TESTERS {
+        return Err(SheetFault::Refused(Refusal::Range(Field::Testers)));
+    }
+    let names = read_names(alloc, texts.as_slice())?;
+    match Testers::new(names) {
+        Some(testers) => Ok(testers),
+        None => Err(SheetFault::Refused(Refusal::Repeated)),
+    }
+}
+
+/// Those who test the round.
+fn read_testers(alloc: Global, document: &Table, version: Version) -> Result<Testers, SheetFault>
+    ensures { Gives (λ t. t) result (testers_in version (table_view document.now)) }
+{
+    match version {
+        Version::First | Version::Second => Ok(Testers::none(alloc)),
+        Version::Third => read_named_testers(alloc, document),
     }
 }
 
@@ -150,6 +193,7 @@ fn read_fields(alloc: Global, document: &Table) -> Result<Sheet, SheetFault>
         mode: read_mode(document)?,
         penalty: read_number(document, Field::Penalty)?,
         bonus: read_number(document, Field::Bonus)?,
+        testers: read_testers(alloc, document, version)?,
         puzzles: read_list(alloc, document)?,
     })
 }

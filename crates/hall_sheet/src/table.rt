@@ -2,13 +2,14 @@
 ghost use Rattle.std.specs.Prelude.{◌≡◌, option_map, option_and_then, map, OnOk, [], ◌∷◌, ◌++◌};
 ghost use Rattle.std.specs.List.{list_any};
 ghost use Rattle.std.specs.Str.{bytes_eq};
+ghost use Rattle.toml.specs.Data.{as_str, as_table};
 ghost use Rattle.toml.specs.View.{view, items_view, table_view};
 ghost use Rattle.hall_policy.specs.Reading.{or_fault};
 ghost use Rattle.hall_sheet.specs.Fault.{name_of};
 ghost use Rattle.hall_sheet.specs.Given.{Gives};
 ghost use Rattle.hall_sheet.specs.declared.fault.Refusal.TheVariants.{Missing};
 ghost use Rattle.hall_sheet.specs.Table.{has_only, value_at, text_at, integer_at, in_range, number_in};
-ghost use Rattle.hall_sheet.specs.Table.{text_in, tables_of, tables_in};
+ghost use Rattle.hall_sheet.specs.Table.{text_in, items_at, each_as, tables_in, texts_in};
 
 use crate::fault::{Field, Refusal, SheetFault};
 use crate::words::checked;
@@ -102,10 +103,24 @@ pub(crate) fn push<T: Drop>(items: &mut Vec<T>, item: T) -> Result<(), AllocErro
     Ok(())
 }
 
+/// The values of the array that a field is.
+fn values_at(table: &Table, field: Field) -> Result<&[Value], SheetFault>
+    ensures { Gives (λ values. items_view values.now) result (items_at field (table_view table.now)) }
+{
+    let missing = SheetFault::Refused(Refusal::Missing(field));
+    match value_at(table, field) {
+        Some(value) => match value.as_array() {
+            Some(values) => Ok(values.as_slice()),
+            None => Err(missing),
+        },
+        None => Err(missing),
+    }
+}
+
 /// The tables that the values of a field are, where each of them is one.
 fn tables_of(alloc: Global, values: &[Value], field: Field) -> Result<Vec<&Table>, SheetFault>
     ensures { Gives (λ tables. map (λ t. table_view t.now) tables.items) result
-        (or_fault (Missing field) (tables_of (items_view values.now))) }
+        (or_fault (Missing field) (each_as as_table (items_view values.now))) }
 {
     let mut tables = Vec::with_capacity(alloc, values.len())?;
     for value in values {
@@ -126,12 +141,32 @@ pub(crate) fn read_tables(
     ensures { Gives (λ tables. map (λ t. table_view t.now) tables.items) result
         (tables_in field (table_view table.now)) }
 {
-    let missing = SheetFault::Refused(Refusal::Missing(field));
-    match value_at(table, field) {
-        Some(value) => match value.as_array() {
-            Some(values) => tables_of(alloc, values.as_slice(), field),
-            None => Err(missing),
-        },
-        None => Err(missing),
+    tables_of(alloc, values_at(table, field)?, field)
+}
+
+/// The texts that the values of a field are, where each of them is one.
+fn texts_of(alloc: Global, values: &[Value], field: Field) -> Result<Vec<&str>, SheetFault>
+    ensures { Gives (λ texts. map (λ t. t.now) texts.items) result
+        (or_fault (Missing field) (each_as as_str (items_view values.now))) }
+{
+    let mut texts = Vec::with_capacity(alloc, values.len())?;
+    for value in values {
+        let Some(text) = value.as_str() else {
+            return Err(SheetFault::Refused(Refusal::Missing(field)));
+        };
+        push(&mut texts, text)?;
     }
+    Ok(texts)
+}
+
+/// The texts that a field is, where it is an array of texts.
+pub(crate) fn read_texts(
+    alloc: Global,
+    table: &Table,
+    field: Field,
+) -> Result<Vec<&str>, SheetFault>
+    ensures { Gives (λ texts. map (λ t. t.now) texts.items) result
+        (texts_in field (table_view table.now)) }
+{
+    texts_of(alloc, values_at(table, field)?, field)
 }

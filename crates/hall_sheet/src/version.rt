@@ -18,6 +18,8 @@ pub(crate) enum Version {
     First,
     /// The start is a civil time in the zone that a field of its own names.
     Second,
+    /// The same, and the sheet names who tests the round.
+    Third,
 }
 
 const FIRST_FIELDS: [Field; 9] = [
@@ -45,6 +47,20 @@ const SECOND_FIELDS: [Field; 10] = [
     Field::Puzzle,
 ];
 
+const THIRD_FIELDS: [Field; 11] = [
+    Field::Version,
+    Field::Title,
+    Field::Start,
+    Field::Zone,
+    Field::Minutes,
+    Field::ProtestMinutes,
+    Field::Mode,
+    Field::Penalty,
+    Field::Bonus,
+    Field::Testers,
+    Field::Puzzle,
+];
+
 impl Version {
     /// Whether each key of the document is the name of one of the version's fields.
     pub(crate) fn has_keys(self, document: &Table) -> bool
@@ -53,6 +69,7 @@ impl Version {
         match self {
             Version::First => has_only(document, &FIRST_FIELDS),
             Version::Second => has_only(document, &SECOND_FIELDS),
+            Version::Third => has_only(document, &THIRD_FIELDS),
         }
     }
 }
@@ -61,10 +78,11 @@ impl Version {
 pub(crate) fn read_version(document: &Table) -> Result<Version, SheetFault>
     ensures { Gives (λ v. v) result (version_in (table_view document.now)) }
 {
-    let number: Within<1, 2> = read_number(document, Field::Version)?;
+    let number: Within<1, 3> = read_number(document, Field::Version)?;
     match number.get() {
         1 => Ok(Version::First),
-        _ => Ok(Version::Second),
+        2 => Ok(Version::Second),
+        _ => Ok(Version::Third),
     }
 }
 

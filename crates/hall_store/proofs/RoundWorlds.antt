@@ -1,27 +1,26 @@
--- What an insertion of a round's row makes of the world's rounds and places.
-use Rattle.std.proofs.Common.{◌≡◌, ◌≢◌, ℕ, List, [], ◌∷◌, Bool, true, false, Option, Some, cond, ap, sym, ◌∙◌, refl, subst, map}
-use Rattle.std.specs.Cmp.{tied_itself}
-use Rattle.std.specs.Option.{option_map}
+-- What an insertion of a round's row makes of the world's rounds, places and testers.
+use Rattle.std.proofs.Common.{◌≡◌, ◌≢◌, ℕ, List, [], ◌∷◌, Bool, true, false, Option, Some, cond, if◌then◌else◌, ap, sym, ◌∙◌, refl, subst, map}
+use Rattle.std.specs.Cmp.{IsTotalOrder, tied_itself}
+use Rattle.std.specs.Option.{option_map, option_and_then}
 use Rattle.std.specs.Ordering.{is_eq}
+use Rattle.std.specs.declared.cmp.Ordering.{Ordering}
 use Rattle.std.specs.List.{flat_map}
 use Rattle.std.specs.List.Sorted.{IsStrictlySortedBy}
 use Rattle.std.specs.Map.{lookup, keys_of, values_of}
 use Rattle.std.specs.BTreeMap.{is_at}
-use Rattle.std.specs.FinMap.{FinMap, get, insert, values, from_entries, same_map}
+use Rattle.std.specs.FinMap.{FinMap, IsAntisymmetric, get, insert, values, from_entries, same_map}
 use Rattle.hall_policy.specs.Text.{text_cmp}
-use Rattle.hall_policy.specs.World.{place_cmp, same_text, entry_at}
+use Rattle.hall_policy.specs.World.{place_cmp, tester_cmp, same_text, entry_at}
 use Rattle.hall_policy.specs.declared.record.Entry.{Entry}
-use Rattle.hall_policy.specs.declared.record.PlaceKey.{PlaceKey}
 use Rattle.hall_policy.specs.declared.record.Round.{Round}
 use Rattle.hall_policy.specs.declared.record.RoundRow.{RoundRow}
-use Rattle.hall_policy.proofs.Orders.{text_total, same_texts, place_total, same_place_keys}
-use Rattle.hall_store.specs.Change.{relisted}
-use Rattle.hall_store.specs.Maps.{head_of, places_in}
-use Rattle.hall_store.proofs.Changes.{get-relisted}
-use Rattle.hall_store.proofs.MapWorlds.{get_found, entries_made, inserted, head_found, place_found, place_of}
+use Rattle.hall_policy.proofs.Orders.{text_total, same_texts, place_total, same_place_keys, tester_total, same_tester_keys}
+use Rattle.hall_store.specs.Change.{relisted, retested}
+use Rattle.hall_store.specs.Maps.{head_of, places_in, testers_in}
+use Rattle.hall_store.proofs.Changes.{own_or_other, get-relisted, if_named, get-retested}
+use Rattle.hall_store.proofs.MapWorlds.{AreOfRounds, entries_made, inserted, head_found, get_part, places_of_rounds, testers_of_rounds}
 use Rattle.hall_store.proofs.Ranges.{equal_from_test}
-use Rattle.hall_store.proofs.Tests.{not_true, true_not_false}
-use Rattle.hall_policy.proofs.Texts.{text_decides}
+use Rattle.hall_store.proofs.Tests.{not_true}
 
 abbrev heads : List (List ℕ × RoundRow) → FinMap text_cmp Round
 heads es = from_entries (map head_of es)
@@ -29,13 +28,12 @@ heads es = from_entries (map head_of es)
 abbrev places : List (List ℕ × RoundRow) → FinMap place_cmp Entry
 places es = from_entries (flat_map places_in es)
 
+abbrev testers : List (List ℕ × RoundRow) → FinMap tester_cmp (Unit {0})
+testers es = from_entries (flat_map testers_in es)
+
 head_chosen : (b : Bool) (row : RoundRow) (o : Option RoundRow) → option_map (λ (r : RoundRow). r.round) (cond b (Some row) o) ≡ cond b (Some row.round) (option_map (λ (r : RoundRow). r.round) o)
 head_chosen true row o = refl
 head_chosen false row o = refl
-
--- what the places have at a key is the entry of its number in its round's row
-place_at : (es : List (List ℕ × RoundRow)) → IsStrictlySortedBy text_cmp (keys_of es) → (key : PlaceKey) → get (places es) key ≡ place_of (lookup (is_at (text_cmp key.round)) es) key.number
-place_at es sorted key = get_found place_total (flat_map places_in es) key ∙ place_found es sorted key.round key.number
 
 -- the ids of the heads are those of the rows
 same_ids : (es : List (List ℕ × RoundRow)) → keys_of (map head_of es) ≡ keys_of es
@@ -65,39 +63,50 @@ module _ (es fs : List (List ℕ × RoundRow)) (k : List ℕ) (row : RoundRow)
       ∙ head_chosen (is_at (text_cmp k) q) row (lookup (is_at (text_cmp q)) es)
       ∙ ap (cond (is_at (text_cmp k) q) (Some row.round)) (sym (head_found (is_at (text_cmp q)) es)))
 
-  -- the round's places are its entries
-  pub places_own : (number : ℕ) → get (places fs) (record { round = k; number = number }) ≡ entry_at row.puzzles number
-  places_own number =
-      place_at fs after (record { round = k; number = number })
-      ∙ ap (λ (o : Option RoundRow). place_of o number) (updates k ∙ ap (λ b. cond b (Some row) (lookup (is_at (text_cmp k)) es)) (ap is_eq (tied_itself text_total k)))
+  -- what stands in the rows of rounds
+  module _ {K X : Type 0} {R : K → K → Ordering} {parts : List ℕ × RoundRow → List (K × X)} {round_of : K → List ℕ} {has_at : K → RoundRow → Option X}
+      (are : AreOfRounds R parts round_of has_at) (o : IsTotalOrder R) where
+    abbrev of_rows : List (List ℕ × RoundRow) → FinMap R X
+    of_rows rows = from_entries (flat_map parts rows)
 
-  -- those of other rounds stay
-  pub places_other : (key : PlaceKey) → key.round ≢ k → get (places fs) key ≡ get (places es) key
-  places_other key other =
-      place_at fs after key
-      ∙ ap (λ (o : Option RoundRow). place_of o key.number) (updates key.round ∙ ap (λ b. cond b (Some row) (lookup (is_at (text_cmp key.round)) es)) (untied k key.round other))
-      ∙ sym (place_at es before key)
+    -- is in this row at the round's own keys
+    part_own : (key : K) → round_of key ≡ k → get (of_rows fs) key ≡ has_at key row
+    part_own key own =
+        get_part are o fs after key
+        ∙ ap (option_and_then (has_at key))
+        (updates (round_of key) ∙ ap (λ b. cond b (Some row) (lookup (is_at (text_cmp (round_of key))) es)) (ap (is_at (text_cmp k)) own ∙ ap is_eq (tied_itself text_total k)))
+
+    -- and stays at those of others
+    part_other : (key : K) → round_of key ≢ k → get (of_rows fs) key ≡ get (of_rows es) key
+    part_other key other =
+        get_part are o fs after key
+        ∙ ap (option_and_then (has_at key))
+        (updates (round_of key) ∙ ap (λ b. cond b (Some row) (lookup (is_at (text_cmp (round_of key))) es)) (untied k (round_of key) other))
+        ∙ sym (get_part are o es before key)
+
+    part_put : (key : K) → get (of_rows fs) key ≡ (if same_text (round_of key) k then has_at key row else get (of_rows es) key)
+    part_put key = own_or_other (round_of key) k (get (of_rows fs) key) (has_at key row) (get (of_rows es) key) (part_own key) (part_other key)
+
+    -- where the row stands for one that has the same, all stays
+    part_same : IsAntisymmetric R → (old : RoundRow) → lookup (is_at (text_cmp k)) es ≡ Some old → ((key : K) → has_at key row ≡ has_at key old) → of_rows fs ≡ of_rows es
+    part_same exact old found same = same_map o exact _ _ (λ key.
+        part_put key
+        ∙ sym (own_or_other (round_of key) k (get (of_rows es) key) (has_at key row) (get (of_rows es) key)
+        (λ own. get_part are o es before key ∙ ap (option_and_then (has_at key)) (ap (λ (id : List ℕ). lookup (is_at (text_cmp id)) es) own ∙ found) ∙ sym (same key))
+        (λ _. refl)))
 
   -- the places are those before, the round's being its entries
   pub places_relisted : places fs ≡ relisted (places es) k row.puzzles
-  places_relisted = same_map place_total same_place_keys _ _ (λ key.
-      elim (same_text key.round k) as (λ b. same_text key.round k ≡ b → get (places fs) key ≡ cond b (entry_at row.puzzles key.number) (get (places es) key)) [
-        | true ↦ λ e. ap (λ (id : List ℕ). get (places fs) (record { round = id; number = key.number })) ((text_decides key.round k).0 e) ∙ places_own key.number
-        | false ↦ λ e. places_other key (λ same. true_not_false (same_text key.round k) ((text_decides key.round k).1 same) e)
-      ] refl
-      ∙ sym (get-relisted (places es) k row.puzzles key))
+  places_relisted = same_map place_total same_place_keys _ _ (λ key. part_put places_of_rounds place_total key ∙ sym (get-relisted (places es) k row.puzzles key))
 
   -- where the row stands for one with the same entries, all places stay
   pub places_same : (old : RoundRow) → lookup (is_at (text_cmp k)) es ≡ Some old → row.puzzles ≡ old.puzzles → places fs ≡ places es
-  places_same old found same = same_map place_total same_place_keys _ _ (λ key.
-      elim (is_at (text_cmp k) key.round) as (λ b. is_at (text_cmp k) key.round ≡ b → get (places fs) key ≡ get (places es) key) [
-        | true ↦ λ e.
-            let own : k ≡ key.round = same_texts k key.round (equal_from_test (text_cmp k key.round) e) in
-            place_at fs after key
-            ∙ ap (λ (o : Option RoundRow). place_of o key.number) (updates key.round ∙ ap (λ b. cond b (Some row) (lookup (is_at (text_cmp key.round)) es)) e)
-            ∙ ap (λ (entries : List Entry). entry_at entries key.number) same
-            ∙ ap (λ (o : Option RoundRow). place_of o key.number) (sym (subst (λ (id : List ℕ). lookup (is_at (text_cmp id)) es ≡ Some old) own found))
-            ∙ sym (place_at es before key)
-        | false ↦ λ e. places_other key (λ same_id.
-            let no : true ≡ false = sym (ap is_eq (tied_itself text_total k)) ∙ ap (is_at (text_cmp k)) (sym same_id) ∙ e in cc)
-      ] refl)
+  places_same old found same = part_same places_of_rounds place_total same_place_keys old found (λ key. ap (λ (entries : List Entry). entry_at entries key.number) same)
+
+  -- the testers are those before, the round's being the row's
+  pub testers_retested : testers fs ≡ retested (testers es) k row.testers
+  testers_retested = same_map tester_total same_tester_keys _ _ (λ key. part_put testers_of_rounds tester_total key ∙ sym (get-retested (testers es) k row.testers key))
+
+  -- where the row stands for one with the same testers, all testers stay
+  pub testers_same : (old : RoundRow) → lookup (is_at (text_cmp k)) es ≡ Some old → row.testers ≡ old.testers → testers fs ≡ testers es
+  testers_same old found same = part_same testers_of_rounds tester_total same_tester_keys old found (λ key. ap (λ (names : List (List ℕ)). if_named names key.name) same)

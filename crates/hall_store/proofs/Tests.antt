@@ -50,6 +50,10 @@ contained xs x j e = (j, slice_get_within xs j x e, get_or_from_slice_get xs j x
 pub placed : {X : Type 0} (xs : List X) (x : X) → Contains xs x → (j : ℕ) × (slice_get xs j ≡ Some x)
 placed xs x h = (h.0, slice_get-get_or xs h.0 x h.1 ∙ ap Some h.2)
 
+-- what is in the rest of a list is in the list
+pub later : {X : Type 0} (x : X) (xs : List X) (y : X) → Contains xs y → Contains (x ∷ xs) y
+later x xs y among = let at = placed xs y among in contained (x ∷ xs) y (suc at.0) at.1
+
 -- what passes a test and is in a list is in what the test leaves
 pub Contains-filter : {X : Type 0} (q : X → Bool) (xs : List X) (x : X) → Contains xs x → q x ≡ true → Contains (filter q xs) x
 Contains-filter q [] x (i, l, e) h = absurd (omega arith)

@@ -2,7 +2,7 @@
 use Rattle.std.specs.Prelude.{◌≡◌, ◌≢◌, ◌+◌, ℕ, true, not, List, [], ◌∷◌, Option, Some, None, Contains, if◌then◌else◌}
 use Rattle.std.specs.FinMap.{FinMap, get, contains_key, insert, retain_keys}
 use Rattle.hall_policy.specs.Text.{text_cmp}
-use Rattle.hall_policy.specs.World.{World, place_cmp, same_text}
+use Rattle.hall_policy.specs.World.{World, place_cmp, tester_cmp, same_text}
 use Rattle.hall_policy.specs.Rules.{Conflicts}
 use Rattle.hall_policy.specs.declared.record.Person.{Person}
 use Rattle.hall_policy.specs.declared.record.Entry.{Entry}
@@ -50,6 +50,20 @@ with_list places id number (entry ∷ entries) =
 abbrev pub relisted : FinMap place_cmp Entry → List ℕ → List Entry → FinMap place_cmp Entry
 relisted places id entries = with_list (without_list places id) id 1 entries
 
+-- the testers of all rounds but this one
+abbrev pub without_testers : FinMap tester_cmp (Unit {0}) → List ℕ → FinMap tester_cmp (Unit {0})
+without_testers testers id = retain_keys testers (λ key. not (same_text key.round id))
+
+-- the testers, and those of these names in the round
+abbrev pub with_testers : FinMap tester_cmp (Unit {0}) → List ℕ → List (List ℕ) → FinMap tester_cmp (Unit {0})
+with_testers testers id [] = testers
+with_testers testers id (name ∷ names) =
+    insert (with_testers testers id names) (record { round = id; name = name }) tt
+
+-- the testers, those of the round being the ones of these names
+abbrev pub retested : FinMap tester_cmp (Unit {0}) → List ℕ → List (List ℕ) → FinMap tester_cmp (Unit {0})
+retested testers id names = with_testers (without_testers testers id) id names
+
 -- the round with the flag set
 abbrev pub flagged : RoundFlag → Round → Round
 flagged Released round = record round { released = true }
@@ -75,6 +89,7 @@ changed (SetState key state) world = with_state world key state (get world.puzzl
 changed (PutRound row) world = record world {
   rounds = insert world.rounds row.round.id row.round;
   places = relisted world.places row.round.id row.puzzles;
+  testers = retested world.testers row.round.id row.testers;
 }
 changed (SetRoundFlag id flag) world = with_flag world id flag (get world.rounds id)
 changed (AddAnswer row) world = record world { answers = insert world.answers row.key row }
@@ -93,9 +108,10 @@ CanPutPuzzle world row = (person : Person) × (get world.people row.key.author �
 abbrev pub CanSetState : World → PuzzleKey → Type 0
 CanSetState world key = (row : PuzzleRow) × (get world.puzzles key ≡ Some row)
 
--- the puzzles of the round's list are there
-abbrev pub CanPutRound : World → RoundRow → Type 0
-CanPutRound world row = (entry : Entry) → Contains row.puzzles entry → get world.puzzles entry.puzzle ≢ None
+-- the puzzles of the round's list are there, and so are the people who test it
+pub record CanPutRound (world : World) (row : RoundRow) : Type 0 where
+  pub puzzles : (entry : Entry) → Contains row.puzzles entry → get world.puzzles entry.puzzle ≢ None
+  pub testers : (name : List ℕ) → Contains row.testers name → get world.people name ≢ None
 
 -- the round is there
 abbrev pub CanSetFlag : World → List ℕ → Type 0

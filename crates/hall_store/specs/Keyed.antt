@@ -117,6 +117,11 @@ abbrev pub has_puzzle_at : PuzzleKey → Option RoundRow → Bool
 has_puzzle_at key None = false
 has_puzzle_at key (Some row) = has_puzzle row.puzzles key
 
+-- the testers of the round that was found
+abbrev pub testers_at : Option RoundRow → List (List ℕ)
+testers_at None = []
+testers_at (Some row) = row.testers
+
 -- the round of the use has the puzzle that the use is of
 abbrev pub is_use_true : List (List ℕ × RoundRow) → PuzzleKey → UseKey × Unit {0} → Bool
 is_use_true rounds key used = has_puzzle_at key (lookup (is_at (text_cmp used.0.round)) rounds)

@@ -7,11 +7,12 @@ use Rattle.hall_policy.specs.declared.record.Round.{Round}
 use Rattle.hall_policy.specs.declared.record.Entry.{Entry}
 use Rattle.hall_policy.specs.declared.record.PlaceKey.{PlaceKey}
 use Rattle.hall_policy.specs.declared.record.RoundRow.{RoundRow}
+use Rattle.hall_policy.specs.declared.record.TesterKey.{TesterKey}
 use Rattle.hall_store.specs.Keyed.{answer_in}
 use Rattle.hall_store.specs.Store.{Content}
 use Rattle.hall_store.specs.declared.map_store.MapStore.{MapStore}
 
--- a round without its puzzles, under its id
+-- a round without its puzzles and testers, under its id
 abbrev pub head_of : List ℕ × RoundRow → List ℕ × Round
 head_of entry = (entry.0, entry.1.round)
 
@@ -25,7 +26,11 @@ places_from id number (entry ∷ entries) =
 abbrev pub places_in : List ℕ × RoundRow → List (PlaceKey × Entry)
 places_in entry = places_from entry.0 1 entry.1.puzzles
 
--- each map holds the entries of its ordered map; the lists of puzzles stand in their rounds
+-- the keys of a round's testers
+abbrev pub testers_in : List ℕ × RoundRow → List (TesterKey × Unit {0})
+testers_in entry = map (λ name. (record { round = entry.0; name = name }, tt)) entry.1.testers
+
+-- each map holds the entries of its ordered map; the puzzles and the testers of rounds stand in their rounds
 abbrev pub world_of : MapStore → World
 world_of store = record {
   people = from_entries store.people.entries;
@@ -34,6 +39,7 @@ world_of store = record {
   places = from_entries (flat_map places_in store.rounds.entries);
   answers = from_entries (map answer_in store.answers.entries);
   protests = from_entries store.protests.entries;
+  testers = from_entries (flat_map testers_in store.rounds.entries);
 }
 
 -- ordered maps have no device that could lie or fail, so no fault is counted
@@ -49,4 +55,5 @@ empty_world = record {
   places = empty;
   answers = empty;
   protests = empty;
+  testers = empty;
 }

@@ -1,12 +1,12 @@
 -- What the calls of a store say, where its device was honest and the store still serves.
-use Rattle.std.specs.Prelude.{◌≡◌, ◌↔◌, ◌⊎◌, ◌&&◌, ◌++◌, ℕ, ◌<◌, ◌≤◌, Bool, List, [], ◌∷◌, Result, Ok, Err, IfErr, Option, Some, None, Contains}
+use Rattle.std.specs.Prelude.{◌≡◌, ◌↔◌, ◌⊎◌, ◌&&◌, ◌++◌, ℕ, ◌<◌, ◌≤◌, Bool, List, [], ◌∷◌, Result, Ok, Err, IfErr, Option, Some, None, Contains, AllPairs}
 use Rattle.std.specs.List.{filter}
 use Rattle.std.specs.List.Sorted.{IsSorted, IsStrictlySortedBy, IsPermutation}
 use Rattle.std.specs.Ordering.{nat_cmp, ordering_then}
 use Rattle.std.specs.declared.cmp.Ordering.{Ordering}
 use Rattle.std.specs.FinMap.{get, values}
 use Rattle.hall_policy.specs.Text.{text_cmp}
-use Rattle.hall_policy.specs.World.{World, answer_of, same_text}
+use Rattle.hall_policy.specs.World.{World, IsTesterOf, answer_of, same_text}
 use Rattle.hall_policy.specs.Rules.{Lists}
 use Rattle.hall_policy.specs.Facts.{IsRoundFound}
 use Rattle.hall_policy.specs.Sink.{HasTaken}
@@ -91,10 +91,15 @@ Over Relates old new =
     (((world : World) → Relates world world) × (new.serves → new.world ≡ old.world))
     ⊎ (old.serves × new.serves × Relates old.world new.world)
 
--- what is kept of the round: its head and its whole list, or neither
+-- what is kept of the round: its head with its whole list and its testers, or neither head nor list
 pub record IsRoundKept (world : World) (id : List ℕ) (found : Option RoundRow) : Type 0 where
   pub row : IsRoundFound world (Some id) found
   pub empty : found ≡ None → (entry : Entry) → ¬ (Lists world id entry)
+
+-- the names of those who test the round, none twice; no order is promised
+pub record AreTestersOf (world : World) (round : List ℕ) (names : List (List ℕ)) : Type 0 where
+  pub whole : (name : List ℕ) → Contains names name ↔ IsTesterOf world round name
+  pub different : AllPairs (λ a b. ¬ (a ≡ b)) names
 
 -- the order of listings of answers: by entrant, number, n, then token
 abbrev pub listing_cmp : AnswerRow → AnswerRow → Ordering

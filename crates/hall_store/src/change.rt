@@ -21,7 +21,7 @@ pub enum Change {
     PutPuzzle(PuzzleRow),
     /// Sets the state of the puzzle under the key.
     SetState { key: PuzzleKey, state: PuzzleState },
-    /// Stores the round with its list, in the place of the one under its id.
+    /// Stores the round with its list and its testers, in the place of the one under its id.
     PutRound(RoundRow),
     /// Sets a flag of the round.
     SetRoundFlag { round: RoundId, flag: RoundFlag },

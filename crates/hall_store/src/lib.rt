@@ -1,4 +1,4 @@
-//! What keeps the hall's world: a trait, and ordered maps.
+//! What keeps the hall's world: a trait of its reads, a trait of the whole, and ordered maps.
 #![tactic(auto)]
 
 mod answer_reads;
@@ -16,4 +16,4 @@ mod writes;
 pub use change::{Change, RoundFlag};
 pub use fault::StoreFault;
 pub use map_store::MapStore;
-pub use store::Store;
+pub use store::{ReadStore, Store};

@@ -11,7 +11,7 @@ use crate::fault::StoreFault;
 use crate::map_adds::{index_people, index_round, put_round, with_people};
 use crate::map_reads::{
     all_puzzle_rows, count_puzzles, first_label, first_use, heads, holder, ids_using, own_key,
-    person_at, puzzle_at, puzzle_rows, round_at,
+    person_at, puzzle_at, puzzle_rows, round_at, testers_at,
 };
 use crate::map_store::MapStore;
 use crate::protest_reads::{
@@ -19,7 +19,7 @@ use crate::protest_reads::{
     protest_rows, protest_rows_in,
 };
 use crate::slot::Part;
-use crate::store::Store;
+use crate::store::{ReadStore, Store};
 use crate::writes::put;
 use hall_policy::{
     AnswerKey, AnswerNumber, AnswerRow, AnswerSink, Key, Name, People, Person, ProtestKey,
@@ -28,7 +28,7 @@ use hall_policy::{
 };
 use std::alloc::Global;
 
-impl Store for MapStore {
+impl ReadStore for MapStore {
     ghost use Rattle.hall_store.specs.Maps.{content_of};
 
     ghost content = { content_of };
@@ -41,15 +41,6 @@ impl Store for MapStore {
 
     fn person(&mut self, _alloc: Global, name: &Name) -> Result<Option<Person>, StoreFault> {
         Ok(person_at(&self.people, name)?)
-    }
-
-    fn import(&mut self, _alloc: Global, people: &People) -> Result<(), StoreFault> {
-        // A copy takes the place of the people at the end, so that a refusal leaves them.
-        let list = people.as_slice();
-        let people = with_people(&self.people, list)?;
-        index_people(&mut self.keys, list)?;
-        self.people = people;
-        Ok(())
     }
 
     fn puzzle(&mut self, _alloc: Global, key: &PuzzleKey) -> Result<Option<PuzzleRow>, StoreFault> {
@@ -70,54 +61,16 @@ impl Store for MapStore {
         Ok(count_puzzles(&self.puzzles, &first))
     }
 
-    fn put_puzzle(&mut self, _alloc: Global, row: PuzzleRow) -> Result<(), StoreFault> {
-        let key = own_key(&row)?;
-        put(&mut self.puzzles, key, row)?;
-        Ok(())
-    }
-
-    fn set_state(
-        &mut self,
-        _alloc: Global,
-        key: &PuzzleKey,
-        state: PuzzleState,
-    ) -> Result<(), StoreFault> {
-        match self.puzzles.get_mut(key) {
-            Some(row) => {
-                row.state = state;
-                Ok(())
-            }
-            None => unreachable!(),
-        }
-    }
-
     fn round(&mut self, _alloc: Global, id: &RoundId) -> Result<Option<RoundRow>, StoreFault> {
         Ok(round_at(&self.rounds, id)?)
     }
 
+    fn testers_of(&mut self, alloc: Global, round: &RoundId) -> Result<Vec<Name>, StoreFault> {
+        Ok(testers_at(alloc, &self.rounds, round)?)
+    }
+
     fn rounds(&mut self, alloc: Global) -> Result<Vec<Round>, StoreFault> {
         Ok(heads(alloc, &self.rounds)?)
-    }
-
-    fn put_round(&mut self, _alloc: Global, row: RoundRow) -> Result<(), StoreFault> {
-        index_round(&mut self.uses, &row)?;
-        put_round(&mut self.rounds, row)?;
-        Ok(())
-    }
-
-    fn set_round_flag(
-        &mut self,
-        _alloc: Global,
-        id: &RoundId,
-        flag: RoundFlag,
-    ) -> Result<(), StoreFault> {
-        match self.rounds.get_mut(id) {
-            Some(row) => {
-                set_flag(&mut row.round, flag);
-                Ok(())
-            }
-            None => unreachable!(),
-        }
     }
 
     fn rounds_using(&mut self, alloc: Global, key: &PuzzleKey) -> Result<Vec<RoundId>, StoreFault> {
@@ -166,12 +119,6 @@ impl Store for MapStore {
     fn answers_in(&mut self, alloc: Global, round: &RoundId) -> Result<Vec<AnswerRow>, StoreFault> {
         let first = first_in(alloc, round)?;
         Ok(answer_rows(alloc, &self.answers, Part::Round, &first)?)
-    }
-
-    fn add_answer(&mut self, _alloc: Global, row: AnswerRow) -> Result<(), StoreFault> {
-        let slot = own_slot(&row)?;
-        put(&mut self.answers, slot, row)?;
-        Ok(())
     }
 
     fn feed_answers<K: AnswerSink>(
@@ -234,6 +181,74 @@ impl Store for MapStore {
         Ok(protest_rows_in(alloc, &self.protests, round)?)
     }
 
+    fn feed_protests<K: ProtestSink>(
+        &mut self,
+        _alloc: Global,
+        round: &RoundId,
+        sink: &mut K,
+    ) -> Result<(), StoreFault> {
+        Ok(feed_protests(&self.protests, round, sink)?)
+    }
+}
+
+impl Store for MapStore {
+    fn import(&mut self, _alloc: Global, people: &People) -> Result<(), StoreFault> {
+        // A copy takes the place of the people at the end, so that a refusal leaves them.
+        let list = people.as_slice();
+        let people = with_people(&self.people, list)?;
+        index_people(&mut self.keys, list)?;
+        self.people = people;
+        Ok(())
+    }
+
+    fn put_puzzle(&mut self, _alloc: Global, row: PuzzleRow) -> Result<(), StoreFault> {
+        let key = own_key(&row)?;
+        put(&mut self.puzzles, key, row)?;
+        Ok(())
+    }
+
+    fn set_state(
+        &mut self,
+        _alloc: Global,
+        key: &PuzzleKey,
+        state: PuzzleState,
+    ) -> Result<(), StoreFault> {
+        match self.puzzles.get_mut(key) {
+            Some(row) => {
+                row.state = state;
+                Ok(())
+            }
+            None => unreachable!(),
+        }
+    }
+
+    fn put_round(&mut self, _alloc: Global, row: RoundRow) -> Result<(), StoreFault> {
+        index_round(&mut self.uses, &row)?;
+        put_round(&mut self.rounds, row)?;
+        Ok(())
+    }
+
+    fn set_round_flag(
+        &mut self,
+        _alloc: Global,
+        id: &RoundId,
+        flag: RoundFlag,
+    ) -> Result<(), StoreFault> {
+        match self.rounds.get_mut(id) {
+            Some(row) => {
+                set_flag(&mut row.round, flag);
+                Ok(())
+            }
+            None => unreachable!(),
+        }
+    }
+
+    fn add_answer(&mut self, _alloc: Global, row: AnswerRow) -> Result<(), StoreFault> {
+        let slot = own_slot(&row)?;
+        put(&mut self.answers, slot, row)?;
+        Ok(())
+    }
+
     fn add_protest(&mut self, _alloc: Global, row: ProtestRow) -> Result<(), StoreFault> {
         let key = own_protest_key(&row)?;
         put(&mut self.protests, key, row)?;
@@ -253,15 +268,6 @@ impl Store for MapStore {
             }
             None => unreachable!(),
         }
-    }
-
-    fn feed_protests<K: ProtestSink>(
-        &mut self,
-        _alloc: Global,
-        round: &RoundId,
-        sink: &mut K,
-    ) -> Result<(), StoreFault> {
-        Ok(feed_protests(&self.protests, round, sink)?)
     }
 }
 

@@ -1,11 +1,12 @@
 //! What the maps of people, puzzles and rounds answer.
-ghost use Rattle.std.specs.Prelude.{◌≡◌, ◌++◌, ◌∷◌, [], IfOk, OnOk, cond, map, count_by, option_copied};
+ghost use Rattle.std.specs.Prelude.{◌≡◌, ◌++◌, ◌∷◌, [], IfOk, OnOk, cond, map, count_by, option_copied, AllPairs};
 ghost use Rattle.std.specs.List.{filter};
 ghost use Rattle.std.specs.BTreeMap as tree;
 ghost use Rattle.hall_policy.specs.Text.{text_cmp};
 ghost use Rattle.hall_policy.specs.World.{same_text, puzzle_cmp};
 ghost use Rattle.hall_store.specs.Keyed.{Each, IsPuzzleKept, IsUseKept, holder_of, first_label, least_word};
 ghost use Rattle.hall_store.specs.Keyed.{use_of, use_cmp, is_use_of, is_use_true, has_puzzle, has_puzzle_at, ids_using};
+ghost use Rattle.hall_store.specs.Keyed.{testers_at};
 
 use crate::slot::UseKey;
 use crate::writes::push;
@@ -87,7 +88,25 @@ pub(crate) fn round_at(
     }
 }
 
-/// Copies of all rounds without their puzzles, in the order of their ids.
+/// Copies of the names of those who test the round under the id.
+pub(crate) fn testers_at(
+    alloc: Global,
+    rounds: &BTreeMap<RoundId, RoundRow>,
+    id: &RoundId,
+) -> Result<Vec<Name>, AllocError>
+    ensures names { IfOk result (λ names. names.items ≡ testers_at (tree.get text_cmp rounds.now id.now)) }
+    ensures different { IfOk result (λ names. AllPairs (λ a b. ¬ (a ≡ b)) names.items) }
+    ensures ordered { tree.IsOrdered text_cmp rounds.now }
+{
+    // The map's order is told by any call, and is needed where nothing is found too.
+    let _count = rounds.len();
+    match rounds.get(id) {
+        Some(row) => row.testers.as_slice().to_vec(alloc),
+        None => Ok(Vec::new(alloc)),
+    }
+}
+
+/// Copies of all rounds without their puzzles and testers, in the order of their ids.
 pub(crate) fn heads(
     alloc: Global,
     rounds: &BTreeMap<RoundId, RoundRow>,

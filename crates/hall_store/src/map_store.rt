@@ -11,7 +11,7 @@ use hall_policy::{
 };
 use std::collections::BTreeMap;
 
-/// The world in ordered maps. The puzzles of a round stand in its row.
+/// The world in ordered maps. The puzzles and the testers of a round stand in its row.
 ///
 /// An index is written before the row that it leads to, so it may lead to a row that isn't there; the row decides.
 #[derive(Drop)]

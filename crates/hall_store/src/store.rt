@@ -8,24 +8,20 @@ use hall_policy::{
 };
 use std::alloc::Global;
 
-/// The hall's world, however it is kept.
+/// The hall's world, however it is kept, as those see it who only read: who plans what a request does gets no more.
 ///
 /// A read may change what keeps the world, as a connection is, and leaves the world. What a call says of its answer and
 /// of what it leaves holds where the device was honest, and, where the call is refused, while the store still serves: a
 /// store that a fault of its device has shut answers nothing more.
 /// A call is refused for want of memory, or as failed: by a store that can fail, or, where rows are fed, by the sink.
-pub trait Store: Drop {
+pub trait ReadStore: Drop {
     ghost use Rattle.std.specs.Prelude.{◌≡◌, ◌↔◌, ◌⊎◌, IsTrue, IfErr};
     ghost use Rattle.std.specs.FinMap.{get, values};
     ghost use Rattle.hall_policy.specs.Rules.{answers_given, protests_made, puzzles_put};
-    ghost use Rattle.hall_store.specs.Store.{Content, Kept, Served, Fails, Asks, Makes, puzzles_of, IsRoundKept};
+    ghost use Rattle.hall_store.specs.Store.{Content, Kept, Served, Fails, puzzles_of, IsRoundKept, AreTestersOf};
     ghost use Rattle.hall_store.specs.Store.{AreUsing, IsNumberTaken, IsListing, is_of, is_in};
     ghost use Rattle.hall_store.specs.Store.{HasSubmitted, IsProtestOpen, protests_of, protests_in, Fed, IsRefusedNext};
     ghost use Rattle.hall_store.specs.Caller.{IsKeyHolder};
-    ghost use Rattle.hall_store.specs.Change.{CanImport, CanPutPuzzle, CanSetState, CanPutRound, CanSetFlag, CanAddAnswer};
-    ghost use Rattle.hall_store.specs.Change.{CanAddProtest, CanRuleProtest};
-    ghost use Rattle.hall_store.specs.declared.change.Change.TheVariants.{Import, PutPuzzle, SetState, PutRound};
-    ghost use Rattle.hall_store.specs.declared.change.Change.TheVariants.{SetRoundFlag, AddAnswer, AddProtest, RuleProtest};
     ghost use Rattle.hall_store.specs.declared.fault.StoreFault.TheVariants.{Failed};
 
     // The world, and while it can be told.
@@ -44,12 +40,6 @@ pub trait Store: Drop {
     fn person(&mut self, alloc: Global, name: &Name) -> Result<Option<Person>, StoreFault>
         ensures kept { Kept (content self.old) (content self.new) }
         ensures served { Served (content self.new) result (λ world found. found ≡ get world.people name.now) }
-        ensures fault { Fails can_fail result };
-
-    /// Adds the people of the list whose names are unknown.
-    fn import(&mut self, alloc: Global, people: &People) -> Result<(), StoreFault>
-        requires { Asks (content self.old) (λ world. CanImport world people.now) }
-        ensures makes { Makes (Import people.now) (content self.old) (content self.new) result }
         ensures fault { Fails can_fail result };
 
     /// The puzzle under the key.
@@ -76,50 +66,22 @@ pub trait Store: Drop {
         ensures served { Served (content self.new) result (λ world count. count ≡ puzzles_put world author.now) }
         ensures fault { Fails can_fail result };
 
-    /// Stores the puzzle, in the place of the one under its key.
-    fn put_puzzle(&mut self, alloc: Global, row: PuzzleRow) -> Result<(), StoreFault>
-        requires { Asks (content self.old) (λ world. CanPutPuzzle world row) }
-        ensures makes { Makes (PutPuzzle row) (content self.old) (content self.new) result }
-        ensures fault { Fails can_fail result };
-
-    /// Sets the state of the puzzle under the key.
-    fn set_state(
-        &mut self,
-        alloc: Global,
-        key: &PuzzleKey,
-        state: PuzzleState,
-    ) -> Result<(), StoreFault>
-        requires { Asks (content self.old) (λ world. CanSetState world key.now) }
-        ensures makes { Makes (SetState key.now state) (content self.old) (content self.new) result }
-        ensures fault { Fails can_fail result };
-
-    /// The round with its list of puzzles; none where neither is kept.
+    /// The round with its list of puzzles and its testers; none where neither head nor list is kept.
     fn round(&mut self, alloc: Global, id: &RoundId) -> Result<Option<RoundRow>, StoreFault>
         ensures kept { Kept (content self.old) (content self.new) }
         ensures served { Served (content self.new) result (λ world found. IsRoundKept world id.now found) }
         ensures fault { Fails can_fail result };
 
-    /// All rounds without their puzzles, in the order of their ids.
+    /// The names of those who test the round, none twice, in any order.
+    fn testers_of(&mut self, alloc: Global, round: &RoundId) -> Result<Vec<Name>, StoreFault>
+        ensures kept { Kept (content self.old) (content self.new) }
+        ensures served { Served (content self.new) result (λ world names. AreTestersOf world round.now names.items) }
+        ensures fault { Fails can_fail result };
+
+    /// All rounds without their puzzles and testers, in the order of their ids.
     fn rounds(&mut self, alloc: Global) -> Result<Vec<Round>, StoreFault>
         ensures kept { Kept (content self.old) (content self.new) }
         ensures served { Served (content self.new) result (λ world rounds. rounds.items ≡ values world.rounds) }
-        ensures fault { Fails can_fail result };
-
-    /// Stores the round with its list, in the place of the one under its id.
-    fn put_round(&mut self, alloc: Global, row: RoundRow) -> Result<(), StoreFault>
-        requires { Asks (content self.old) (λ world. CanPutRound world row) }
-        ensures makes { Makes (PutRound row) (content self.old) (content self.new) result }
-        ensures fault { Fails can_fail result };
-
-    /// Sets a flag of the round.
-    fn set_round_flag(
-        &mut self,
-        alloc: Global,
-        id: &RoundId,
-        flag: RoundFlag,
-    ) -> Result<(), StoreFault>
-        requires { Asks (content self.old) (λ world. CanSetFlag world id.now) }
-        ensures makes { Makes (SetRoundFlag id.now flag) (content self.old) (content self.new) result }
         ensures fault { Fails can_fail result };
 
     /// The ids of the rounds that have the puzzle, each once, in their order.
@@ -177,12 +139,6 @@ pub trait Store: Drop {
     fn answers_in(&mut self, alloc: Global, round: &RoundId) -> Result<Vec<AnswerRow>, StoreFault>
         ensures kept { Kept (content self.old) (content self.new) }
         ensures served { Served (content self.new) result (λ world rows. IsListing world (is_in round.now) rows.items) }
-        ensures fault { Fails can_fail result };
-
-    /// Stores one more answer.
-    fn add_answer(&mut self, alloc: Global, row: AnswerRow) -> Result<(), StoreFault>
-        requires { Asks (content self.old) (λ world. CanAddAnswer world row) }
-        ensures makes { Makes (AddAnswer row) (content self.old) (content self.new) result }
         ensures fault { Fails can_fail result };
 
     /// Gives the sink the answers of the round, one after another, by entrant, number, then n. It fails where the sink
@@ -255,23 +211,6 @@ pub trait Store: Drop {
         ensures served { Served (content self.new) result (λ world rows. rows.items ≡ protests_in world round.now) }
         ensures fault { Fails can_fail result };
 
-    /// Stores one more protest.
-    fn add_protest(&mut self, alloc: Global, row: ProtestRow) -> Result<(), StoreFault>
-        requires { Asks (content self.old) (λ world. CanAddProtest world row) }
-        ensures makes { Makes (AddProtest row) (content self.old) (content self.new) result }
-        ensures fault { Fails can_fail result };
-
-    /// Rules the protest under the key.
-    fn rule_protest(
-        &mut self,
-        alloc: Global,
-        key: &ProtestKey,
-        ruling: Ruling,
-    ) -> Result<(), StoreFault>
-        requires { Asks (content self.old) (λ world. CanRuleProtest world key.now) }
-        ensures makes { Makes (RuleProtest key.now ruling) (content self.old) (content self.new) result }
-        ensures fault { Fails can_fail result };
-
     /// Gives the sink the protests of the round, one after another, by entrant, then token. It fails where the sink
     /// refuses one, and has then taken those before.
     fn feed_protests<K: ProtestSink>(
@@ -286,4 +225,79 @@ pub trait Store: Drop {
         ensures fault { IfErr result (λ fault. fault ≡ Failed → can_fail ⊎ IsRefusedNext K.takes K.refuses
             (λ world rows. rows ≡ protests_in world round.now) (content self.old) (content self.new)
             sink.old sink.new) };
+}
+
+/// The hall's world, however it is kept, as those see it who also write: who makes a planned change gets this.
+///
+/// A write makes its change, or is refused, and has then left the world. When that holds, and why a call is refused,
+/// is as of a `ReadStore`.
+pub trait Store: ReadStore {
+    ghost use Rattle.hall_store.specs.Store.{Fails, Asks, Makes};
+    ghost use Rattle.hall_store.specs.Change.{CanImport, CanPutPuzzle, CanSetState, CanPutRound, CanSetFlag, CanAddAnswer};
+    ghost use Rattle.hall_store.specs.Change.{CanAddProtest, CanRuleProtest};
+    ghost use Rattle.hall_store.specs.declared.change.Change.TheVariants.{Import, PutPuzzle, SetState, PutRound};
+    ghost use Rattle.hall_store.specs.declared.change.Change.TheVariants.{SetRoundFlag, AddAnswer, AddProtest, RuleProtest};
+
+    /// Adds the people of the list whose names are unknown.
+    fn import(&mut self, alloc: Global, people: &People) -> Result<(), StoreFault>
+        requires { Asks (Self.content self.old) (λ world. CanImport world people.now) }
+        ensures makes { Makes (Import people.now) (Self.content self.old) (Self.content self.new) result }
+        ensures fault { Fails Self.can_fail result };
+
+    /// Stores the puzzle, in the place of the one under its key.
+    fn put_puzzle(&mut self, alloc: Global, row: PuzzleRow) -> Result<(), StoreFault>
+        requires { Asks (Self.content self.old) (λ world. CanPutPuzzle world row) }
+        ensures makes { Makes (PutPuzzle row) (Self.content self.old) (Self.content self.new) result }
+        ensures fault { Fails Self.can_fail result };
+
+    /// Sets the state of the puzzle under the key.
+    fn set_state(
+        &mut self,
+        alloc: Global,
+        key: &PuzzleKey,
+        state: PuzzleState,
+    ) -> Result<(), StoreFault>
+        requires { Asks (Self.content self.old) (λ world. CanSetState world key.now) }
+        ensures makes { Makes (SetState key.now state) (Self.content self.old) (Self.content self.new) result }
+        ensures fault { Fails Self.can_fail result };
+
+    /// Stores the round with its list and its testers, in the place of the one under its id.
+    fn put_round(&mut self, alloc: Global, row: RoundRow) -> Result<(), StoreFault>
+        requires { Asks (Self.content self.old) (λ world. CanPutRound world row) }
+        ensures makes { Makes (PutRound row) (Self.content self.old) (Self.content self.new) result }
+        ensures fault { Fails Self.can_fail result };
+
+    /// Sets a flag of the round.
+    fn set_round_flag(
+        &mut self,
+        alloc: Global,
+        id: &RoundId,
+        flag: RoundFlag,
+    ) -> Result<(), StoreFault>
+        requires { Asks (Self.content self.old) (λ world. CanSetFlag world id.now) }
+        ensures makes { Makes (SetRoundFlag id.now flag) (Self.content self.old) (Self.content self.new) result }
+        ensures fault { Fails Self.can_fail result };
+
+    /// Stores one more answer.
+    fn add_answer(&mut self, alloc: Global, row: AnswerRow) -> Result<(), StoreFault>
+        requires { Asks (Self.content self.old) (λ world. CanAddAnswer world row) }
+        ensures makes { Makes (AddAnswer row) (Self.content self.old) (Self.content self.new) result }
+        ensures fault { Fails Self.can_fail result };
+
+    /// Stores one more protest.
+    fn add_protest(&mut self, alloc: Global, row: ProtestRow) -> Result<(), StoreFault>
+        requires { Asks (Self.content self.old) (λ world. CanAddProtest world row) }
+        ensures makes { Makes (AddProtest row) (Self.content self.old) (Self.content self.new) result }
+        ensures fault { Fails Self.can_fail result };
+
+    /// Rules the protest under the key.
+    fn rule_protest(
+        &mut self,
+        alloc: Global,
+        key: &ProtestKey,
+        ruling: Ruling,
+    ) -> Result<(), StoreFault>
+        requires { Asks (Self.content self.old) (λ world. CanRuleProtest world key.now) }
+        ensures makes { Makes (RuleProtest key.now ruling) (Self.content self.old) (Self.content self.new) result }
+        ensures fault { Fails Self.can_fail result };
 }

@@ -7,7 +7,7 @@ use crate::words::{Fault, checked, named, number_of, push_word, signed_of, withi
 use hall_grid::parse_puzzle;
 use hall_policy::{
     Action, Decision, Facts, Mode, Moment, People, Person, ProtestRow, Roles, Rule, Ruling, Sheet,
-    decide, decide_up_to,
+    Testers, decide, decide_up_to,
 };
 use std::alloc::{AllocError, Global};
 
@@ -247,6 +247,7 @@ fn sheet(alloc: Global) -> Result<Sheet, Fault> {
         bonus: within(0)?,
         title: checked(alloc, "Morning")?,
         puzzles: one_entry(alloc)?,
+        testers: Testers::none(alloc),
     })
 }
 

@@ -6,7 +6,7 @@ use hall_policy::{
     RoundRow,
 };
 use hall_score::Tally;
-use hall_store::{MapStore, RoundFlag, Store, StoreFault};
+use hall_store::{MapStore, ReadStore, RoundFlag, Store, StoreFault};
 use std::alloc::{AllocError, Global};
 
 /// Which call is made.

@@ -3,7 +3,7 @@ use crate::words::{Fault, checked, within};
 use hall_grid::{Broken, Rule, parse_puzzle};
 use hall_policy::{
     AnswerKey, AnswerRow, Entries, Entry, Mode, Person, ProtestKey, ProtestRow, PuzzleKey,
-    PuzzleRow, PuzzleState, Roles, Round, RoundRow, Ruling, RulingPoints, SomeRoles,
+    PuzzleRow, PuzzleState, Roles, Round, RoundRow, Ruling, RulingPoints, SomeRoles, Testers,
 };
 use std::alloc::Global;
 
@@ -95,6 +95,7 @@ pub(crate) fn round_row(alloc: Global, mode: Mode, progress: Progress) -> Result
     Ok(RoundRow {
         round: round(alloc, mode, progress)?,
         puzzles: one_entry(alloc)?,
+        testers: Testers::none(alloc),
     })
 }
 

@@ -7,8 +7,8 @@ use Rattle.hall_desk.proofs.entry_fault.any_faulty.Given as goal
 -- the world is the one before, and none of the entries so far has the fault
 abbrev pub invariant-loop-entry : goal.invariant-loop-entry
 invariant-loop-entry g l =
-    let old = g.S.Store.content l.fn.store in
-    let new = g.S.Store.content l.store in
+    let old = g.S.ReadStore.content l.fn.store in
+    let new = g.S.ReadStore.content l.store in
     record {
       kept : Kept old new;
       opened : new.honest → old.serves → new.serves;

@@ -12,8 +12,8 @@ use Rattle.hall_desk.proofs.entry_fault.find_fault.Goals as goal
 
 pub returns-in-Some-clause-told : goal.returns-in-Some-clause-told
 returns-in-Some-clause-told g c =
-    let old = g.S.Store.content c.args.store.now in
-    let new = g.S.Store.content c.any_faulty.new.store in
+    let old = g.S.ReadStore.content c.args.store.now in
+    let new = g.S.ReadStore.content c.any_faulty.new.store in
     let id = c.args.id.now in
     let row = c.in-Some.row in
     let fault = c.args.fault in

@@ -6,8 +6,8 @@ use Rattle.hall_desk.proofs.found.any_released.Given as goal
 -- the world is the one before, and none of the rounds so far is released
 abbrev pub invariant-loop-id : goal.invariant-loop-id
 invariant-loop-id g l =
-    let old = g.S.Store.content l.fn.store in
-    let new = g.S.Store.content l.store in
+    let old = g.S.ReadStore.content l.fn.store in
+    let new = g.S.ReadStore.content l.store in
     record {
       kept : Kept old new;
       opened : new.honest → old.serves → new.serves;

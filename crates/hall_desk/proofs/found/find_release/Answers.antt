@@ -9,13 +9,13 @@ use Rattle.hall_desk.proofs.found.find_release.Goals as goal
 pub returns-clause-told : goal.returns-clause-told
 returns-clause-told g c =
     let read = c.in_ok-ids.ensures in
-    let asked = g.S.Store.content c.rounds_using.new.self in
-    let new = g.S.Store.content c.any_released.new.store in
+    let asked = g.S.ReadStore.content c.rounds_using.new.self in
+    let new = g.S.ReadStore.content c.any_released.new.store in
     let key = c.args.key.now in
     told_through c.any_released.result
     (λ world found. IsTrue found ↔ ((id : List ℕ) × Contains c.as_slice.result.now id × IsReleasedRound world id))
     (λ world found. IsTrue found ↔ ((id : List ℕ) × StandsReleased world key id))
-    (g.S.Store.content c.args.store.now) asked new c.any_released.ensures.kept (λ h s. (read.served h).0)
+    (g.S.ReadStore.content c.args.store.now) asked new c.any_released.ensures.kept (λ h s. (read.served h).0)
     (λ found h s told.
     through told (released_using new.world key c.as_slice.result.now
     (subst (AreUsing new.world key) (sym c.as_slice.ensures.value)

@@ -6,8 +6,8 @@ use Rattle.hall_desk.proofs.import_people.count_unknown.Given as goal
 -- the world is the one before, and the count counts the people so far whose names are unknown
 abbrev pub invariant-loop-person : goal.invariant-loop-person
 invariant-loop-person g l =
-    let old = g.S.Store.content l.fn.store in
-    let new = g.S.Store.content l.store in
+    let old = g.S.ReadStore.content l.fn.store in
+    let new = g.S.ReadStore.content l.store in
     record {
       kept : Kept old new;
       opened : new.honest → old.serves → new.serves;

@@ -6,7 +6,7 @@ use Rattle.hall_desk.proofs.import_people.is_changed.Goals as goal
 pub returns-in-Some-clause-served : goal.returns-in-Some-clause-served
 returns-in-Some-clause-served g c =
     let read = c.in_ok-known.ensures in
-    let world = (g.S.Store.content c.person.new.self).world in
+    let world = (g.S.ReadStore.content c.person.new.self).world in
     let person = c.args.person.now in
     let known = c.in-Some.known in
     λ h. (

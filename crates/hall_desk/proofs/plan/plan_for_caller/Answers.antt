@@ -13,7 +13,7 @@ pub returns-in-Some-clause-told : goal.returns-in-Some-clause-told
 returns-in-Some-clause-told g c =
     let facts = c.args.facts.now in
     let request = c.args.turn.now.request.now in
-    let world = (g.S.Store.content c.args.store.now).world in (
+    let world = (g.S.ReadStore.content c.args.store.now).world in (
       (λ h s. s),
       (λ h s. subst (λ (plan : Plan). IsPlanFor world c.args.turn.now.t request plan) (sym c.of.ensures)
           (planned facts world c.args.turn.now.t request (Deny c.in-Some.rule) (reply.Denied c.in-Some.rule) change.Nothing None (c.requires h s)

@@ -35,8 +35,8 @@ unreachable-requires g c =
 
 pub plan_table-requires-clause-caller : goal.plan_table-requires-clause-caller
 plan_table-requires-clause-caller g c = λ h s. record {
-  found = c.requires.caller ∙ sym (ap (caller_of (g.S.Store.content c.args.store.now).world) c.requires.key);
-  there = subst (λ (who : Option Person). IsThere (g.S.Store.content c.args.store.now).world who) (sym c.requires.caller) tt;
+  found = c.requires.caller ∙ sym (ap (caller_of (g.S.ReadStore.content c.args.store.now).world) c.requires.key);
+  there = subst (λ (who : Option Person). IsThere (g.S.ReadStore.content c.args.store.now).world who) (sym c.requires.caller) tt;
 }
 
 pub returns-in-Table-clause-untouched : goal.returns-in-Table-clause-untouched
@@ -47,4 +47,4 @@ returns-in-Table-clause-keyless g c = λ nobody. absurd (nobody.1 _ c.in-Table.i
 
 pub returns-in-Table-clause-planned : goal.returns-in-Table-clause-planned
 returns-in-Table-clause-planned g c =
-    served_plan c.plan_table.result (g.S.Store.content c.plan_table.new.store) c.args.turn.now.t c.args.turn.now.request.now c.plan_table.ensures.served
+    served_plan c.plan_table.result (g.S.ReadStore.content c.plan_table.new.store) c.args.turn.now.t c.args.turn.now.request.now c.plan_table.ensures.served

@@ -9,17 +9,17 @@ use Rattle.hall_desk.proofs.read_round.show_puzzles.Goals as goal
 
 pub loop-place-preserved : goal.loop-place-preserved
 loop-place-preserved g c =
-    let before = g.S.Store.content c.loop-place.store in
+    let before = g.S.ReadStore.content c.loop-place.store in
     let old = c.loop-place.invariant in
     let step = c.in_ok-line.ensures in
     let entries = c.args.entries.now in
     let place = c.loop-place.place in
     let entry = c.index-entries-place.result in
-    let new = g.S.Store.content c.show_puzzle.new.store in
+    let new = g.S.ReadStore.content c.show_puzzle.new.store in
     let more : take (place + 1) entries ≡ take place entries ++ entry ∷ [] = take_more entries place entry c.loop-place-test.true ∙ (let here = sym c.index-entries-place.is in λ i. take place entries ++ here i ∷ []) in
     let at : place + 1 ≡ 1 + length (take place entries) = omega (arith, length-take place entries) in
     record {
-      kept = kept_then (g.S.Store.content c.args.store.now) before new old.kept step.kept;
+      kept = kept_then (g.S.ReadStore.content c.args.store.now) before new old.kept step.kept;
       opened = λ h s. step.told.0 h (old.opened (step.kept.honest h) s);
       lines = λ h s.
           subst (λ (list : List Entry). ShowsPuzzles new.world 1 list c.push.new.items.items) (sym more)

@@ -5,14 +5,14 @@ pub returns-clause-seeds : goal.returns-clause-seeds
 returns-clause-seeds g c =
     let made = c.commit.ensures in
     let plan = c.in_ok-plan.ensures in
-    seed_made g.S.Store.content (g.S.Store.content c.args.store.now) c.plan_seed.new.store c.commit.new.store c.args.people.now c.in_ok-plan.plan plan.kept made.leads
+    seed_made g.S.ReadStore.content (g.S.ReadStore.content c.args.store.now) c.plan_seed.new.store c.commit.new.store c.args.people.now c.in_ok-plan.plan plan.kept made.leads
     c.commit.result plan.asked plan.told.1 made.nothing made.made made.reply
 
 pub returns-clause-kept : goal.returns-clause-kept
 returns-clause-kept g c =
     let made = c.commit.ensures in
     let plan = c.in_ok-plan.ensures in
-    seed_refused g.S.Store.content (g.S.Store.content c.args.store.now) c.plan_seed.new.store c.commit.new.store c.args.people.now c.in_ok-plan.plan plan.kept made.leads
+    seed_refused g.S.ReadStore.content (g.S.ReadStore.content c.args.store.now) c.plan_seed.new.store c.commit.new.store c.args.people.now c.in_ok-plan.plan plan.kept made.leads
     c.commit.result (λ none. (made.nothing none).0) made.made
 
 pub returns-clause-answered : goal.returns-clause-answered

@@ -12,9 +12,9 @@ pub returns-clause-told : goal.returns-clause-told
 returns-clause-told g c =
     let conflict = c.in_ok-any_conflict.ensures in
     let people = c.args.people.now in
-    let old = g.S.Store.content c.args.store.now in
-    let mid = g.S.Store.content c.any_conflict.new.store in
-    let new = g.S.Store.content c.plan_import.new.store in
+    let old = g.S.ReadStore.content c.args.store.now in
+    let mid = g.S.ReadStore.content c.any_conflict.new.store in
+    let new = g.S.ReadStore.content c.plan_import.new.store in
     let conflicting : List Person → World → Type 0 = λ list w. IsTrue c.in_ok-any_conflict.field-0 ↔ ((person : Person) × Contains list person × Conflicts w person) in
     told_through c.plan_import.result (λ w plan. IsImportPlan w people plan) (λ w plan. IsSeedPlan w people plan) old mid new c.plan_import.ensures.kept conflict.told.0
     (λ plan h s is. seed_plan new.world people plan

@@ -5,6 +5,6 @@ use Rattle.hall_desk.proofs.step.make_step.Goals as goal
 pub returns-in-Ok-commit-clause-steps : goal.returns-in-Ok-commit-clause-steps
 returns-in-Ok-commit-clause-steps g c =
     let made = c.in-Ok-commit.ensures in
-    planned_steps c.args.t c.args.request.now StoreFault (g.S.Store.content c.args.store.now) (g.S.Store.content c.make_plan.new.store) (g.S.Store.content c.commit.new.store)
+    planned_steps c.args.t c.args.request.now StoreFault (g.S.ReadStore.content c.args.store.now) (g.S.ReadStore.content c.make_plan.new.store) (g.S.ReadStore.content c.commit.new.store)
     c.in-Ok.plan c.in-Ok-commit.reply c.in-Ok.ensures.kept c.in-Ok.ensures.planned made.leads made.reply
-    (committed StoreFault g.S.Store.content c.make_plan.new.store c.commit.new.store c.in-Ok.plan.change c.in-Ok-commit.reply (λ none. (made.nothing none).1) made.made)
+    (committed StoreFault g.S.ReadStore.content c.make_plan.new.store c.commit.new.store c.in-Ok.plan.change c.in-Ok-commit.reply (λ none. (made.nothing none).1) made.made)

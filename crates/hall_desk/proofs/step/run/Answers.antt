@@ -10,12 +10,12 @@ use Rattle.hall_desk.proofs.step.run.Goals as goal
 
 pub loop-asked-init : goal.loop-asked-init
 loop-asked-init g c =
-    let world = (g.S.Store.content c.args.store.now).world in
+    let world = (g.S.ReadStore.content c.args.store.now).world in
     let made = c.in_ok-replies.ensures in
     record {
       count = made.len;
       room = made.capacity;
-      leads = leads_same (g.S.Store.content c.args.store.now);
+      leads = leads_same (g.S.ReadStore.content c.args.store.now);
       runs = λ h. (world, subst (λ (replies : List Reply). Run world [] replies world) (sym made.items) refl, λ s. refl);
       answered = subst (λ (replies : List Reply). NobodysAreAnswered [] replies) (sym made.items) tt;
       untouched = λ nobodys. refl;
@@ -27,9 +27,9 @@ loop-asked-preserved g c =
     let old = c.loop-asked.invariant in
     let step = c.step-reply.ensures in
     let kept = c.keep.ensures in
-    let first = g.S.Store.content c.args.store.now in
-    let before = g.S.Store.content c.loop-asked.store in
-    let new = g.S.Store.content c.step-reply.new.store in
+    let first = g.S.ReadStore.content c.args.store.now in
+    let before = g.S.ReadStore.content c.loop-asked.store in
+    let new = g.S.ReadStore.content c.step-reply.new.store in
     let requests = c.args.requests.now in
     let index = c.loop-asked.asked-index in
     let asked = c.asked-item.result in
@@ -56,7 +56,7 @@ loop-asked-preserved g c =
 pub returns-clause-runs : goal.returns-clause-runs
 returns-clause-runs g c =
     let whole : take c.loop-asked.asked-index c.args.requests.now ≡ c.args.requests.now = take_all c.args.requests.now c.loop-asked.asked-index c.loop-asked-test.false in
-    λ h. subst (λ (list : List (ℕ × Request)). Runs (g.S.Store.content c.args.store.now) list c.loop-asked.replies.items (g.S.Store.content c.loop-asked.store)) whole (c.loop-asked.invariant.runs h)
+    λ h. subst (λ (list : List (ℕ × Request)). Runs (g.S.ReadStore.content c.args.store.now) list c.loop-asked.replies.items (g.S.ReadStore.content c.loop-asked.store)) whole (c.loop-asked.invariant.runs h)
 
 pub returns-clause-answered : goal.returns-clause-answered
 returns-clause-answered g c =

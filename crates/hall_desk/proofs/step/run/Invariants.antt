@@ -8,8 +8,8 @@ use Rattle.hall_desk.proofs.step.run.Given as goal
 -- there is room for all replies, those so far are a run over the requests so far, and the world is sane where it was
 abbrev pub invariant-loop-asked : goal.invariant-loop-asked
 invariant-loop-asked g l =
-    let old = g.S.Store.content l.fn.store in
-    let new = g.S.Store.content l.store in
+    let old = g.S.ReadStore.content l.fn.store in
+    let new = g.S.ReadStore.content l.store in
     record {
       count : vec_len l.replies ≡ l.asked-index;
       room : length l.requests ≤ vec_capacity l.replies;

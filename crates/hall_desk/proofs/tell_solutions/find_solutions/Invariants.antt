@@ -6,8 +6,8 @@ use Rattle.hall_desk.proofs.tell_solutions.find_solutions.Given as goal
 -- the world is the one before, and the texts so far are the solutions of the puzzles so far
 abbrev pub invariant-loop-entry : goal.invariant-loop-entry
 invariant-loop-entry g l =
-    let old = g.S.Store.content l.fn.store in
-    let new = g.S.Store.content l.store in
+    let old = g.S.ReadStore.content l.fn.store in
+    let new = g.S.ReadStore.content l.store in
     record {
       kept : Kept old new;
       opened : new.honest → old.serves → new.serves;

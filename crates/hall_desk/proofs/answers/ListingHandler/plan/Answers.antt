@@ -8,8 +8,8 @@ pub returns-clause-told : goal.returns-clause-told
 returns-clause-told g c =
     let facts = c.args.facts.now in
     let id = c.args.self.now.round.now in
-    let old = g.S.Store.content c.args.store.now in
-    let new = g.S.Store.content c.list_answers.new.store in
+    let old = g.S.ReadStore.content c.args.store.now in
+    let new = g.S.ReadStore.content c.list_answers.new.store in
     let read = c.in_ok-lines.ensures in (
       (λ h s. (read.served h).0),
       (λ h s. listing_plan new.world facts id c.args.t c.in-Some.person c.in-Some-round.row c.sees_all-all.result c.shows_verdict-shows.result c.in_ok-lines.lines c.of.result

@@ -10,8 +10,8 @@ returns-clause-told g c =
     let facts = c.args._facts.now in
     let imported = c.args.self.now in
     let people = imported.people.now in
-    let old = g.S.Store.content c.args.store.now in
-    let new = g.S.Store.content c.plan_import.new.store in
+    let old = g.S.ReadStore.content c.args.store.now in
+    let new = g.S.ReadStore.content c.plan_import.new.store in
     told_turn c.plan_import.result (λ w plan. IsImportPlan w people plan) (λ w plan. IsMadePlan w facts.caller (import_action imported) c.args._t plan) old new
     (λ plan h s is. import_plan new.world facts c.args._t people plan
     (carried (λ w. TrueUpTo 20 facts w (import_action imported)) old new c.plan_import.ensures.kept c.requires.told h s) c.requires.allowed.no_conflict is)

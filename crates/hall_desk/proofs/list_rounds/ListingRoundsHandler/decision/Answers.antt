@@ -3,5 +3,5 @@ use Rattle.hall_desk.proofs.list_rounds.ListingRoundsHandler.decision.Goals as g
 
 pub returns-clause-told : goal.returns-clause-told
 returns-clause-told g c =
-    let world = (g.S.Store.content c.args._store.now).world in
+    let world = (g.S.ReadStore.content c.args._store.now).world in
     ((λ h s. s), (λ h s. c.decide.ensures.decided world (rounds_list_told world _ c.args.action.now c.requires.same)))

@@ -18,9 +18,9 @@ returns-in-Allow-clause-told g c =
     let facts = c.decision.new.facts in
     let request = c.args.self.now.request.now in
     let action = g.H.Handler.action_of c.args.handler.now in
-    let old = g.S.Store.content c.args.store.now in
-    let mid = g.S.Store.content c.decision.new.store in
-    let new = g.S.Store.content c.plan.new.store in
+    let old = g.S.ReadStore.content c.args.store.now in
+    let mid = g.S.ReadStore.content c.decision.new.store in
+    let new = g.S.ReadStore.content c.plan.new.store in
     let decided = c.in_ok-decision.ensures in
     let kept : Kept old new = kept_then old mid new decided.kept c.plan.ensures.kept in
     told_through c.plan.result (λ w plan. IsMadePlan w facts.caller action c.args.self.now.t plan) (λ w plan. IsPlanFor w c.args.self.now.t request plan) old mid new c.plan.ensures.kept decided.told.0

@@ -10,7 +10,7 @@ use Rattle.hall_desk.proofs.put_puzzle.PuttingHandler.decision.Goals as goal
 pub returns-in-Some-clause-told : goal.returns-in-Some-clause-told
 returns-in-Some-clause-told g c =
     let author = c.in_ok-facts.ensures in
-    let world = (g.S.Store.content c.find_author.new.store).world in
+    let world = (g.S.ReadStore.content c.find_author.new.store).world in
     let put = c.args.self.now in (
       (λ h s. author.told.0 h s),
       (λ h s. c.in-Some.ensures.some world (author_told world _ c.args.action.now put.key.now put.puzzle.now c.requires.same (author.told.1 h s))),
@@ -20,8 +20,8 @@ pub returns-in-Some-decide_up_to-clause-told : goal.returns-in-Some-decide_up_to
 returns-in-Some-decide_up_to-clause-told g c =
     let author = c.in_ok-facts.ensures in
     let release = c.in_ok-facts-2.ensures in
-    let first = g.S.Store.content c.find_author.new.store in
-    let last = g.S.Store.content c.find_release.new.store in
+    let first = g.S.ReadStore.content c.find_author.new.store in
+    let last = g.S.ReadStore.content c.find_release.new.store in
     let world = last.world in
     let put = c.args.self.now in (
       (λ h s. release.told.0 h (author.told.0 (release.kept.honest h) s)),
@@ -35,10 +35,10 @@ returns-clause-told g c =
     let release = c.in_ok-facts-2.ensures in
     let read = c.in_ok-facts-3.ensures in
     let count = c.in_ok-facts-4.ensures in
-    let first = g.S.Store.content c.find_author.new.store in
-    let second = g.S.Store.content c.find_release.new.store in
-    let third = g.S.Store.content c.puzzle.new.self in
-    let last = g.S.Store.content c.count_puzzles.new.store in
+    let first = g.S.ReadStore.content c.find_author.new.store in
+    let second = g.S.ReadStore.content c.find_release.new.store in
+    let third = g.S.ReadStore.content c.puzzle.new.self in
+    let last = g.S.ReadStore.content c.count_puzzles.new.store in
     let world = last.world in
     let put = c.args.self.now in
     let from_second : Kept second last = kept_then second third last read.kept count.kept in

@@ -11,8 +11,8 @@ pub returns-in-Some-clause-told : goal.returns-in-Some-clause-told
 returns-in-Some-clause-told g c =
     let read = c.in_ok-facts.ensures in
     let standing = c.in_ok-facts-2.ensures in
-    let first = g.S.Store.content c.round.new.self in
-    let last = g.S.Store.content c.protest.new.self in
+    let first = g.S.ReadStore.content c.round.new.self in
+    let last = g.S.ReadStore.content c.protest.new.self in
     let asked = c.args.self.now in (
       (λ h s. (standing.served h).0),
       (λ h s. c.in-Some.ensures.some last.world
@@ -26,9 +26,9 @@ returns-clause-told g c =
     let read = c.in_ok-facts.ensures in
     let standing = c.in_ok-facts-2.ensures in
     let looked = c.in_ok-facts-3.ensures in
-    let first = g.S.Store.content c.round.new.self in
-    let second = g.S.Store.content c.protest.new.self in
-    let last = g.S.Store.content c.is_involved.new.store in
+    let first = g.S.ReadStore.content c.round.new.self in
+    let second = g.S.ReadStore.content c.protest.new.self in
+    let last = g.S.ReadStore.content c.is_involved.new.store in
     let asked = c.args.self.now in
     let from_first : Kept first last = kept_then first second last standing.kept looked.kept in (
       (λ h s. looked.told.0 h (standing.served (looked.kept.honest h)).0),

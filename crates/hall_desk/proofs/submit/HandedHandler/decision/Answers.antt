@@ -9,7 +9,7 @@ use Rattle.hall_desk.proofs.submit.HandedHandler.decision.Goals as goal
 pub returns-in-Some-clause-told : goal.returns-in-Some-clause-told
 returns-in-Some-clause-told g c =
     let read = c.in_ok-facts.ensures in
-    let world = (g.S.Store.content c.round.new.self).world in
+    let world = (g.S.ReadStore.content c.round.new.self).world in
     let handed = c.args.self.now in (
       (λ h s. (read.served h).0),
       (λ h s. c.in-Some.ensures.some world
@@ -20,8 +20,8 @@ pub returns-in-Some-decide_up_to-clause-told : goal.returns-in-Some-decide_up_to
 returns-in-Some-decide_up_to-clause-told g c =
     let read = c.in_ok-facts.ensures in
     let standing = c.in_ok-facts-2.ensures in
-    let first = g.S.Store.content c.round.new.self in
-    let last = g.S.Store.content c.find_answer.new.store in
+    let first = g.S.ReadStore.content c.round.new.self in
+    let last = g.S.ReadStore.content c.find_answer.new.store in
     let handed = c.args.self.now in (
       (λ h s. standing.told.0 h (read.served (standing.kept.honest h)).0),
       (λ h s. c.in-Some-decide_up_to.ensures.some last.world
@@ -34,9 +34,9 @@ returns-clause-told g c =
     let read = c.in_ok-facts.ensures in
     let standing = c.in_ok-facts-2.ensures in
     let given = c.in_ok-facts-3.ensures in
-    let first = g.S.Store.content c.round.new.self in
-    let second = g.S.Store.content c.find_answer.new.store in
-    let last = g.S.Store.content c.count_answers.new.store in
+    let first = g.S.ReadStore.content c.round.new.self in
+    let second = g.S.ReadStore.content c.find_answer.new.store in
+    let last = g.S.ReadStore.content c.count_answers.new.store in
     let handed = c.args.self.now in
     let from_first : Kept first last = kept_then first second last standing.kept given.kept in (
       (λ h s. given.told.0 h (standing.told.0 (given.kept.honest h) (read.served (from_first.honest h)).0)),

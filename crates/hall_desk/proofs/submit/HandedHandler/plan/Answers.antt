@@ -13,7 +13,7 @@ use Rattle.hall_desk.proofs.submit.HandedHandler.plan.Goals as goal
 
 pub judge_at-requires-clause-listed : goal.judge_at-requires-clause-listed
 judge_at-requires-clause-listed g c = λ h s.
-    let world = (g.S.Store.content c.args.store.now).world in
+    let world = (g.S.ReadStore.content c.args.store.now).world in
     let id = c.args.self.now.round.now in
     listed_kept world id c.in-Some-Some.row (subst (λ (found : Option RoundRow). IsRoundFound world (Some id) found) c.in-Some-Some.is-1 (c.requires.told h s).1.1.0)
 
@@ -21,9 +21,9 @@ pub returns-then-branch-clause-fault : goal.returns-then-branch-clause-fault
 returns-then-branch-clause-fault g c =
     let handed = c.args.self.now in
     let facts = c.args.facts.now in
-    let old = g.S.Store.content c.args.store.now in
-    let mid = g.S.Store.content c.judge_at.new.store in
-    let new = g.S.Store.content c.is_number_taken.new.self in
+    let old = g.S.ReadStore.content c.args.store.now in
+    let mid = g.S.ReadStore.content c.judge_at.new.store in
+    let new = g.S.ReadStore.content c.is_number_taken.new.self in
     let kept : Kept old new = kept_then old mid new c.in_ok-verdict.ensures.kept c.in_ok-is_number_taken.ensures.kept in
     λ _. inr (λ h.
     let read = c.in_ok-is_number_taken.ensures.served h in
@@ -39,9 +39,9 @@ returns-clause-told g c =
     let verdict = c.in_ok-verdict.verdict in
     let judged = c.in_ok-verdict.ensures in
     let read = c.in_ok-is_number_taken.ensures in
-    let old = g.S.Store.content c.args.store.now in
-    let mid = g.S.Store.content c.judge_at.new.store in
-    let new = g.S.Store.content c.is_number_taken.new.self in
+    let old = g.S.ReadStore.content c.args.store.now in
+    let mid = g.S.ReadStore.content c.judge_at.new.store in
+    let new = g.S.ReadStore.content c.is_number_taken.new.self in
     let kept : Kept old new = kept_then old mid new judged.kept read.kept in (
       (λ h s. (read.served h).0),
       (λ h s. submitted new.world facts handed person c.number_after-n.result c.in-Some-Some.is-0

@@ -8,7 +8,7 @@ use Rattle.hall_desk.proofs.tell_solutions.TellingSolutionsHandler.plan.Goals as
 
 pub find_solutions-requires : goal.find_solutions-requires
 find_solutions-requires g c = λ h s sane.
-    let world = (g.S.Store.content c.args.store.now).world in
+    let world = (g.S.ReadStore.content c.args.store.now).world in
     let id = c.args.self.now.round.now in
     let row = c.in-Some.row in
     subst (λ (entries : List Entry). AreInStateOne world entries) (sym c.as_slice.ensures.value)

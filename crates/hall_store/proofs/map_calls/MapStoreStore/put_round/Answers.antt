@@ -4,7 +4,7 @@ use Rattle.hall_store.specs.Keyed.{IsRoundIndexed}
 use Rattle.hall_store.specs.Maps.{world_of}
 use Rattle.hall_store.proofs.Adding.{indexed_stays}
 use Rattle.hall_store.proofs.Ranges.{each_after}
-use Rattle.hall_store.proofs.RoundWorlds.{heads_inserted, places_relisted}
+use Rattle.hall_store.proofs.RoundWorlds.{heads_inserted, places_relisted, testers_retested}
 use Rattle.hall_store.proofs.map_calls.MapStoreStore.put_round.Goals as goal
 
 pub returns-clause-makes : goal.returns-clause-makes
@@ -16,9 +16,10 @@ returns-clause-makes c =
     let put = c.in_ok-put_round.ensures in
     let heads = heads_inserted es fs row.round.id row put.ok.0 put.was_ordered put.ordered in
     let places = places_relisted es fs row.round.id row put.ok.0 put.was_ordered put.ordered in
+    let testers = testers_retested es fs row.round.id row put.ok.0 put.was_ordered put.ordered in
     record {
       leads = record { honest = λ h. h; serves = λ h s. s; counts = omega arith; lasts = λ h s. inl s };
-      made = λ _. (tt, λ i. record (world_of old) { rounds = heads i; places = places i });
+      made = λ _. (tt, λ i. record (world_of old) { rounds = heads i; places = places i; testers = testers i });
     }
 
 pub invariant_of-self-2 : goal.invariant_of-self-2

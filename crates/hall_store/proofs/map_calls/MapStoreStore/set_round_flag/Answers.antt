@@ -5,16 +5,16 @@ use Rattle.std.specs.Map.{lookup}
 use Rattle.std.specs.BTreeMap.{is_at}
 use Rattle.std.specs.FinMap.{get, from_entries, insert}
 use Rattle.hall_policy.specs.Text.{text_cmp}
-use Rattle.hall_policy.specs.World.{place_cmp}
+use Rattle.hall_policy.specs.World.{place_cmp, tester_cmp}
 use Rattle.hall_policy.specs.declared.record.Round.{Round}
 use Rattle.hall_policy.specs.declared.record.RoundRow.{RoundRow}
 use Rattle.hall_policy.proofs.Orders.{text_total, same_texts}
 use Rattle.hall_store.specs.Change.{with_flag, flagged}
-use Rattle.hall_store.specs.Maps.{world_of, head_of, places_in}
+use Rattle.hall_store.specs.Maps.{world_of, head_of, places_in, testers_in}
 use Rattle.hall_store.specs.Keyed.{IsRoundIndexed}
 use Rattle.hall_store.proofs.Ranges.{each_put}
 use Rattle.hall_store.proofs.MapWorlds.{get_found, head_found}
-use Rattle.hall_store.proofs.RoundWorlds.{heads_inserted, places_same}
+use Rattle.hall_store.proofs.RoundWorlds.{heads_inserted, places_same, testers_same}
 use Rattle.hall_store.proofs.map_calls.MapStoreStore.set_round_flag.Goals as goal
 
 pub unreachable-requires : goal.unreachable-requires
@@ -33,7 +33,7 @@ returns-clause-makes c =
     let es = old.rounds.entries in
     let id = c.args.id.now in
     let row = c.in-Some.row.now in
-    let new : RoundRow = record { round = c.set_flag.new.round; puzzles = row.puzzles } in
+    let new : RoundRow = record { round = c.set_flag.new.round; puzzles = row.puzzles; testers = row.testers } in
     let fs = (c.get_mut.follows.lender new).entries in
     let holds = c.get_mut.follows.holds new in
     let seen : lookup (is_at (text_cmp id)) es ≡ Some row = sym c.get_mut.ensures.value ∙ ap option_copied_mut c.in-Some.is in
@@ -43,9 +43,10 @@ returns-clause-makes c =
     let heads : from_entries {R = text_cmp} (map head_of fs) ≡ insert (from_entries (map head_of es)) id (flagged c.args.flag row.round) =
     heads_inserted es fs id new updates before holds.4 ∙ ap (λ (r : Round). insert (from_entries {R = text_cmp} (map head_of es)) id r) c.set_flag.ensures in
     let places : from_entries {R = place_cmp} (flat_map places_in fs) ≡ from_entries (flat_map places_in es) = places_same es fs id new updates before holds.4 row seen refl in
+    let testers : from_entries {R = tester_cmp} (flat_map testers_in fs) ≡ from_entries (flat_map testers_in es) = testers_same es fs id new updates before holds.4 row seen refl in
     record {
       leads = record { honest = λ h. h; serves = λ h s. s; counts = omega arith; lasts = λ h s. inl s };
-      made = λ _. (tt, (λ i. record (world_of old) { rounds = heads i; places = places i }) ∙ ap (with_flag (world_of old) id c.args.flag) (sym kept));
+      made = λ _. (tt, (λ i. record (world_of old) { rounds = heads i; places = places i; testers = testers i }) ∙ ap (with_flag (world_of old) id c.args.flag) (sym kept));
     }
 
 pub invariant_of-self : goal.invariant_of-self
@@ -53,7 +54,7 @@ invariant_of-self c =
     let es = c.args.self.now.rounds.entries in
     let id = c.args.id.now in
     let row = c.in-Some.row.now in
-    let new : RoundRow = record { round = c.set_flag.new.round; puzzles = row.puzzles } in
+    let new : RoundRow = record { round = c.set_flag.new.round; puzzles = row.puzzles; testers = row.testers } in
     let seen : lookup (is_at (text_cmp id)) es ≡ Some row = sym c.get_mut.ensures.value ∙ ap option_copied_mut c.in-Some.is in
     record {
       people_indexed = c.args.self.now.people_indexed;
