@@ -21,7 +21,7 @@ use Rattle.hall_sql.proofs.TransactionLemmas.{commit_refused}
 -- tables with no rows hold nobody and nothing
 pub bare_world : (held : Database) → IsBare hall_schema held → world_of held.trees ≡ empty_world
 bare_world held bare =
-    let all = bare.empty in rw (all.0, all.1.0, all.1.1.0, all.1.1.1.0, all.1.1.1.1.0, all.1.1.1.1.1.0)
+    let all = bare.empty in rw (all.0, all.1.0, all.1.1.0, all.1.1.1.0, all.1.1.1.1.0, all.1.1.1.1.1.0, all.1.1.1.1.1.1.0)
 
 bare_keyed : (rows : _) → rows ≡ [] → AreKeyed rows
 bare_keyed rows none = subst AreKeyed (sym none) (record { ints = tt; distinct = tt })
@@ -29,16 +29,16 @@ bare_keyed rows none = subst AreKeyed (sym none) (record { ints = tt; distinct =
 all_bare_keyed : (trees : Trees) → AllByRecursion (λ table. trees table.tree ≡ []) hall_schema.tables → AreAllKeyed trees
 all_bare_keyed trees all = (
   bare_keyed _ all.0,
-  (bare_keyed _ all.1.0, (bare_keyed _ all.1.1.0, (bare_keyed _ all.1.1.1.0, (bare_keyed _ all.1.1.1.1.0, (bare_keyed _ all.1.1.1.1.1.0, tt))))),
+  (bare_keyed _ all.1.0, (bare_keyed _ all.1.1.0, (bare_keyed _ all.1.1.1.0, (bare_keyed _ all.1.1.1.1.0, (bare_keyed _ all.1.1.1.1.1.0, (bare_keyed _ all.1.1.1.1.1.1.0, tt)))))),
 )
 
--- with no table at all, all six are to be made
+-- with no table at all, all seven are to be made
 pub awaits_all : (held : Database) → held.schema ≡ no_schema → Awaits all_tables held
 awaits_all held is = record {
   schema = no_schema;
   bare = record { is = is; empty = tt };
   uncounted = tt;
-  lacks = (refl, (refl, (refl, (refl, (refl, (refl, refl))))));
+  lacks = (refl, (refl, (refl, (refl, (refl, (refl, (refl, refl)))))));
 }
 
 bare_hall : (held : Database) → Awaits [] held → IsBare hall_schema held

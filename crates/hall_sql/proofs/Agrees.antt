@@ -1,11 +1,11 @@
 -- A cache agrees with its store after each call.
-use Rattle.std.proofs.Common.{◌≡◌, ◌⊎◌, inl, inr, List, [], Option, Some, None, Result, Ok, Err, IfOk, OnOk, OnErr, refl, sym, ap, subst, ◌∙◌, ℕ}
+use Rattle.std.proofs.Common.{◌≡◌, ◌↔◌, ◌⊎◌, Contains, inl, inr, List, [], Option, Some, None, Result, Ok, Err, IfOk, OnOk, OnErr, refl, sym, ap, subst, ◌∙◌, ℕ}
 use Rattle.std.specs.declared.cmp.Ordering.{Ordering}
 use Rattle.std.specs.FinMap.{FinMap, IsAntisymmetric, get}
 use Rattle.std.specs.Map.{lookup}
 use Rattle.std.specs.BTreeMap as tree
 use Rattle.hall_policy.specs.Text.{text_cmp}
-use Rattle.hall_policy.specs.World.{World, puzzle_cmp, place_cmp, entry_at}
+use Rattle.hall_policy.specs.World.{World, puzzle_cmp, place_cmp, tester_cmp, entry_at}
 use Rattle.hall_policy.specs.declared.record.Person.{Person}
 use Rattle.hall_policy.specs.declared.record.Entry.{Entry}
 use Rattle.hall_policy.specs.declared.record.Round.{Round}
@@ -31,6 +31,7 @@ pub record IsAlike (v w : World) : Type 0 where
   pub rounds : w.rounds ≡ v.rounds
   pub places : w.places ≡ v.places
   pub puzzles : w.puzzles ≡ v.puzzles
+  pub testers : w.testers ≡ v.testers
 
 same_alike : (v w : World) → w ≡ v → IsAlike v w
 same_alike v w same = record {
@@ -38,6 +39,7 @@ same_alike v w same = record {
   rounds = λ i. (same i).rounds;
   places = λ i. (same i).places;
   puzzles = λ i. (same i).puzzles;
+  testers = λ i. (same i).testers;
 }
 
 holder_alike : (v w : World) → w.people ≡ v.people → (key : List ℕ) (found : Option Person) → IsKeyHolder v key found → IsKeyHolder w key found
@@ -50,11 +52,12 @@ holder_alike v w same key found holds =
     }) in
     record { found = at.found; there = at.there; alone = at.alone; own = at.own }
 
-round_alike : (v w : World) → w.rounds ≡ v.rounds → w.places ≡ v.places → (id : List ℕ) (row : RoundRow) → IsRoundKept v id (Some row) → IsRoundKept w id (Some row)
-round_alike v w rounds places id row kept = record {
+round_alike : (v w : World) → w.rounds ≡ v.rounds → w.places ≡ v.places → w.testers ≡ v.testers → (id : List ℕ) (row : RoundRow) → IsRoundKept v id (Some row) → IsRoundKept w id (Some row)
+round_alike v w rounds places testers id row kept = record {
   row = record {
     head = subst (λ (heads : FinMap text_cmp Round). get heads id ≡ Some row.round) (sym rounds) kept.row.head;
     list = λ number. subst (λ (list : FinMap place_cmp Entry). get list (record { round = id; number = number }) ≡ entry_at row.puzzles number) (sym places) (kept.row.list number);
+    testers = λ name. subst (λ (of : FinMap tester_cmp (Unit {0})). (get of (record { round = id; name = name }) ≡ Some tt) ↔ Contains row.testers name) (sym testers) (kept.row.testers name);
   };
   empty = λ none. absurd (let no : Some row ≡ None = none in cc);
 }
@@ -71,7 +74,7 @@ agrees_on old new cache honest goes agrees = record {
   people = λ key person found. stands_on old new (λ world. IsKeyHolder world key (Some person)) honest
       (λ h s. ((goes h s).0, holder_alike old.world new.world (goes h s).1.people key (Some person))) (agrees.people key person found);
   rounds = λ id row found. stands_on old new (λ world. IsRoundKept world id (Some row)) honest
-      (λ h s. ((goes h s).0, round_alike old.world new.world (goes h s).1.rounds (goes h s).1.places id row)) (agrees.rounds id row found);
+      (λ h s. ((goes h s).0, round_alike old.world new.world (goes h s).1.rounds (goes h s).1.places (goes h s).1.testers id row)) (agrees.rounds id row found);
   puzzles = λ key row found. stands_on old new (λ world. get world.puzzles key ≡ Some row) honest
       (λ h s. ((goes h s).0, λ was. ap (λ (m : FinMap puzzle_cmp PuzzleRow). get m key) (goes h s).1.puzzles ∙ was)) (agrees.puzzles key row found);
 }
@@ -140,15 +143,15 @@ write_agrees result change old new before after spares agrees makes same forgot 
     settled result old new before after agrees same forgot (goes_made result change old new spares makes)
 
 pub answers_spare : (row : _) → Spares (Change.AddAnswer row)
-answers_spare row world = record { people = refl; rounds = refl; places = refl; puzzles = refl }
+answers_spare row world = record { people = refl; rounds = refl; places = refl; puzzles = refl; testers = refl }
 
 pub protests_spare : (row : _) → Spares (Change.AddProtest row)
-protests_spare row world = record { people = refl; rounds = refl; places = refl; puzzles = refl }
+protests_spare row world = record { people = refl; rounds = refl; places = refl; puzzles = refl; testers = refl }
 
 pub rulings_spare : (key : ProtestKey) (ruling : Ruling) → Spares (RuleProtest key ruling)
 rulings_spare key ruling world = elim (get world.protests key) as (λ found. IsAlike world (with_ruling world key ruling found)) [
-  | None ↦ record { people = refl; rounds = refl; places = refl; puzzles = refl }
-  | Some row ↦ record { people = refl; rounds = refl; places = refl; puzzles = refl }
+  | None ↦ record { people = refl; rounds = refl; places = refl; puzzles = refl; testers = refl }
+  | Some row ↦ record { people = refl; rounds = refl; places = refl; puzzles = refl; testers = refl }
 ]
 
 -- what the store told of a row that it found

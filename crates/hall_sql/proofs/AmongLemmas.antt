@@ -1,6 +1,7 @@
 -- The values of a table's map, what a query leaves of them, and whether it leaves any.
-use Rattle.std.proofs.Common.{◌≡◌, ◌≤◌, ◌↔◌, ◌==◌, not, ℕ, zero, suc, length, List, [], ◌∷◌, filter, find, Bool, true, false, cond, IsTrue, Option, Some, Contains, slice_get, refl, sym, ap, subst, ◌∙◌, arith}
+use Rattle.std.proofs.Common.{◌≡◌, ◌≤◌, ◌↔◌, ◌==◌, not, ℕ, zero, suc, length, List, [], ◌∷◌, map, filter, find, Bool, true, false, cond, IsTrue, Option, Some, None, option_map, Contains, slice_get, refl, sym, ap, subst, ◌∙◌, arith}
 use Rattle.std.proofs.lemmas.Bool.Decides.{nat_tests}
+use Rattle.std.proofs.lemmas.Option.{slice_get-map}
 use Rattle.std.specs.Cmp.{IsTotalOrder}
 use Rattle.std.specs.declared.cmp.Ordering.{Ordering}
 use Rattle.std.specs.List.{count_by}
@@ -91,3 +92,20 @@ any_is zero empty P is there back = (
 any_is (suc n) empty P is there back =
     let some : (suc n == 0) ≡ false = grind (arith, nat_tests) in
     ((λ _. there (omega arith)), (λ _. ap not (is ∙ some)))
+
+-- what is made of an item is in the list of what is made, and nothing else is
+pub mapped : {X Y : Type 0} (f : X → Y) (xs : List X) (x : X) → Contains xs x → Contains (map f xs) (f x)
+mapped f xs x among =
+    let at = placed xs x among in
+    contained (map f xs) (f x) at.0 (slice_get-map f xs at.0 ∙ ap (option_map f) at.1)
+
+pub mapped_from : {X Y : Type 0} (f : X → Y) (xs : List X) (y : Y) → Contains (map f xs) y
+    → (x : X) × Contains xs x × (f x ≡ y)
+mapped_from f xs y among =
+    let at = placed (map f xs) y among in
+    go (slice_get xs at.0) refl (sym (slice_get-map f xs at.0) ∙ at.1)
+  where
+    go : (o : Option _) → slice_get xs (placed (map f xs) y among).0 ≡ o → option_map f o ≡ Some y
+        → (x : _) × Contains xs x × (f x ≡ y)
+    go None e h = absurd cc
+    go (Some x) e h = (x, contained xs x (placed (map f xs) y among).0 e, cc)

@@ -1,5 +1,5 @@
 -- How many answers an entrant gave to a puzzle, whether one of them is the n-th, and whether a round has any.
-use Rattle.std.proofs.Common.{◌≡◌, ◌==◌, ◌↔◌, ◌&&◌, ℕ, pos, List, [], ◌∷◌, length, map, flat_map, option_to_list, Bool, true, not, IsTrue, Some, Contains, refl, ap, ap₂, subst, ◌∙◌, arith}
+use Rattle.std.proofs.Common.{◌≡◌, ◌==◌, ◌↔◌, ◌&&◌, inr, ℕ, pos, List, [], ◌∷◌, length, map, flat_map, option_to_list, Bool, true, not, IsTrue, Some, Contains, refl, ap, ap₂, subst, ◌∙◌, arith}
 use Rattle.std.proofs.lemmas.Bool.Decides.{nat_tests}
 use Rattle.std.specs.List.{list_all}
 use Rattle.std.specs.List.Sorted.{IsPermutation}
@@ -134,7 +134,7 @@ module _ (old new : State) (has : old.now.schema ≡ hall_schema) (keyed : AreKe
   whole : IsPermutation (flat_map (λ r. option_to_list (answer_of r)) (old.now.trees 9)) (values (world_of old.now.trees).answers)
   whole =
       let db = old.now.trees in
-      answers_listed db keyed (subst (λ s. IsDatabase (record { schema = s; trees = db })) has sound)
+      answers_listed (inr refl) db keyed (subst (λ s. IsDatabase (record { schema = s; trees = db })) has sound)
 
   to_agrees : (entrant round : List ℕ) (number : ℕ) (r : Row) (x : AnswerRow) → answer_of r ≡ Some x
       → list_all (holds ((Text entrant ∷ Text round ∷ Int (pos number) ∷ []) ∷ r ∷ [])) place_terms ≡ is_to entrant round number x

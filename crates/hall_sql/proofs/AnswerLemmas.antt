@@ -1,5 +1,5 @@
 -- What the statements on answers say of the world.
-use Rattle.std.proofs.Common.{◌&&◌, flat_map, option_to_list, Bool, true, sym, subst, ◌∙◌, ◌≡◌, ◌≤◌, ℕ, pos, List, [], ◌∷◌, length, map, slice_get, Some, refl, ap}
+use Rattle.std.proofs.Common.{◌&&◌, inr, flat_map, option_to_list, Bool, true, sym, subst, ◌∙◌, ◌≡◌, ◌≤◌, ℕ, pos, List, [], ◌∷◌, length, map, slice_get, Some, refl, ap}
 use Rattle.std.specs.List.{list_all}
 use Rattle.std.specs.Ordering.{eq_by_cmp}
 use Rattle.std.specs.FinMap.{get}
@@ -13,14 +13,12 @@ use Rattle.hall_policy.specs.World.{answer_cmp}
 use Rattle.std.specs.Ordering.{nat_cmp}
 use Rattle.std.specs.declared.cmp.Ordering.{Ordering}
 use Rattle.std.specs.Cmp.Lexicographic.{slice_cmp}
-use Rattle.std.specs.List.{AllByRecursion}
 use Rattle.std.specs.List.Sorted.{IsPermutation}
 use Rattle.std.specs.FinMap.{values}
 use Rattle.sqlite_value.proofs.OrderLemmas.{then-Equal}
 use Rattle.sqlite_value.specs.Keys.{plain, first_key}
 use Rattle.sqlite_value.proofs.OrderLemmas.{value_cmp-Text, value_cmp-Int}
-use Rattle.sqlite_schema.specs.declared.schema.Constraint.TheVariants.{Unique}
-use Rattle.sqlite_schema.specs.Rules.{agree, passes}
+use Rattle.sqlite_schema.specs.Rules.{agree}
 use Rattle.sqlite_rules.proofs.ListLemmas.{all_has}
 use Rattle.sqlite.specs.Effect.{IsDatabase}
 use Rattle.sqlite.specs.Query.{output, output_cmp}
@@ -30,25 +28,30 @@ use Rattle.sqlite.specs.Tree.{Trees}
 use Rattle.hall_store.specs.Store.{IsListing, listing_cmp, is_in, is_of}
 use Rattle.hall_sql.specs.Tables.{answers_table}
 use Rattle.hall_sql.specs.Rows.{columns_from}
-use Rattle.hall_sql.specs.Standing.{AreKeyed, IsSelection}
+use Rattle.hall_sql.specs.Standing.{AreKeyed, AreKeyedIn, IsSelection}
 use Rattle.hall_sql.specs.Statements.{plain_query, answers_in_text, answers_of_text}
 use Rattle.hall_sql.proofs.AnswerTexts.{listing_order, answers_in_is, answers_of_is}
 use Rattle.hall_sql.proofs.CallLemmas.{answers_selection}
 use Rattle.hall_sql.proofs.ColumnLemmas.{int_as_nat, and_true, column_same}
 use Rattle.hall_sql.proofs.PeopleTexts.{equals}
 use Rattle.hall_sql.proofs.SortedLemmas.{sorted_records, selection_of_values}
-use Rattle.hall_sql.proofs.UniqueLemmas.{equal_texts, equal_numbers, first_not, records_listed}
+use Rattle.hall_sql.proofs.UniqueLemmas.{equal_texts, equal_numbers, records_listed}
 use Rattle.hall_policy.proofs.Orders.{answer_total, same_answer_keys}
 use Rattle.hall_policy.specs.declared.record.AnswerKey.{AnswerKey}
 use Rattle.hall_policy.specs.declared.record.AnswerRow.{AnswerRow}
 use Rattle.hall_sql.specs.Tables.{hall_schema}
-use Rattle.hall_sql.specs.Statements.{answer_text}
+use Rattle.hall_sql.specs.Statements.{all_answers_text, answer_text}
 use Rattle.hall_sql.specs.Values.{name_in, token_in, within, kind_in}
 use Rattle.hall_sql.specs.Rows.{answer_in, answer_of, world_of}
-use Rattle.hall_sql.proofs.AnswerTexts.{key_terms, answer_columns, answer_is}
+use Rattle.hall_sql.proofs.AnswerTexts.{all_answers_are, key_order, key_terms, answer_columns, answer_is}
 use Rattle.hall_sql.proofs.ColumnLemmas.{kind_column, number_column, column_equals, column_is, last_equal, more_equal}
 use Rattle.hall_sql.proofs.FoundLemmas.{asked_found}
 use Rattle.hall_sql.proofs.RecordParts.{answer_parts_of}
+use Rattle.hall_sql.specs.Versions.{IsVersion}
+use Rattle.sqlite.specs.Schema.{Schema}
+use Rattle.hall_sql.specs.declared.tables.HallTable.TheVariants.{Answers}
+use Rattle.hall_sql.proofs.Versions.{all_listed, keyed_in, unique_in}
+use Rattle.hall_sql.proofs.ListedLemmas.{by_order as ordered_by}
 
 -- the columns of an answer that listings are ordered by
 pub record HasColumns (r : Row) (row : AnswerRow) : Type 0 where
@@ -118,12 +121,12 @@ abbrev pub answers_there : Table
 answers_there = record answers_table { tree = 9 }
 
 -- the table's records are the world's answers, each once
-pub answers_listed : (db : Trees) → AreKeyed (db 9) → IsDatabase (record { schema = hall_schema; trees = db })
+pub answers_listed : {schema : Schema} → IsVersion schema → (db : Trees) → AreKeyed (db 9) → IsDatabase (record { schema = schema; trees = db })
     → IsPermutation (flat_map (λ r. option_to_list (answer_of r)) (db 9)) (values (world_of db).answers)
-answers_listed db keyed sound =
-    let rule : AllByRecursion (λ row. passes Unique hall_schema db answers_there row ≡ true) (db 9) = (sound.obeys.rules Unique).1.1.1.1.0 in
+answers_listed {schema} version db keyed sound =
+    let rule = unique_in schema Answers db version sound in
     records_listed answer_total same_answer_keys (λ (row : AnswerRow). row.key) answer_of (1 ∷ 2 ∷ 3 ∷ 4 ∷ []) (db 9) keyed agreeing
-    (λ r h. first_not _ _ (all_has _ (db 9) r rule h))
+    (λ r h. all_has _ (db 9) r rule h)
 
 -- ORDER BY entrant, number, n, token
 abbrev pub by_order : Row → List Term → Row → Row → Ordering
@@ -155,6 +158,38 @@ same_order params terms a b x y p q =
       then-Equal (slice_cmp nat_cmp x.key.token y.key.token),
     )
 
+-- ORDER BY entrant, round, number, token is the order of keys
+by_key : (a b : Row) (x y : AnswerRow) → answer_of a ≡ Some x → answer_of b ≡ Some y
+    → ordered_by 9 [] answer_columns key_order [] a b ≡ answer_cmp x.key y.key
+by_key a b x y p q =
+    let one = has_columns a x p in
+    let two = has_columns b y q in
+    rw (
+      one.entrant,
+      one.round,
+      one.number,
+      one.token,
+      two.entrant,
+      two.round,
+      two.number,
+      two.token,
+      value_cmp-Text x.key.entrant y.key.entrant,
+      value_cmp-Text x.key.round y.key.round,
+      value_cmp-Int (pos x.key.number) (pos y.key.number),
+      value_cmp-Text x.key.token y.key.token,
+      int_as_nat x.key.number y.key.number,
+      then-Equal (slice_cmp nat_cmp x.key.token y.key.token),
+    )
+
+pub all_answers_listed : (schema : Schema) → IsVersion schema → (old new : State) → old.now.schema ≡ schema → AreKeyedIn schema old.now.trees
+    → IsDatabase old.now → (rows : List Row) (out : List AnswerRow) → map answer_in rows ≡ map Some out → Shown all_answers_text [] old new rows
+    → out ≡ values (world_of old.now.trees).answers
+all_answers_listed schema version old new has keyed sound =
+    let db = old.now.trees in
+    let whole = answers_listed version db (keyed_in schema Answers db version keyed) (subst (λ s. IsDatabase (record { schema = s; trees = db })) has sound) in
+    all_listed (all_answers_are schema version) answer_total same_answer_keys (λ (row : AnswerRow). row.key) answer_in 8 (λ db. refl) (λ r. refl)
+    by_key old new has whole
+
 -- what a query in the order of listings gives of the world's answers
 module _ (old new : State) (has : old.now.schema ≡ hall_schema) (keyed : AreKeyed (old.now.trees 9)) (sound : IsDatabase old.now)
     (rows : List Row) (out : List AnswerRow) (is : map answer_in rows ≡ map Some out) where
@@ -164,7 +199,7 @@ module _ (old new : State) (has : old.now.schema ≡ hall_schema) (keyed : AreKe
   listed_by params terms test agrees sel =
       let shown : map answer_in (map (columns_from 1 8) sel.found) ≡ map Some out = subst (λ l. map answer_in l ≡ map Some out) sel.shown is in
       let db = old.now.trees in
-      let whole = answers_listed db keyed (subst (λ s. IsDatabase (record { schema = s; trees = db })) has sound) in
+      let whole = answers_listed (inr refl) db keyed (subst (λ s. IsDatabase (record { schema = s; trees = db })) has sound) in
       record {
         whole = selection_of_values answer_in (columns_from 1 8) (λ r. list_all (holds (params ∷ r ∷ [])) terms) test agrees (db 9) sel.found out (values (world_of db).answers) sel.same shown whole;
         in_order = sorted_records answer_of (by_order params terms) listing_cmp (same_order params terms) sel.found out (read_through sel.found ∙ shown) sel.sorted;

@@ -10,10 +10,13 @@ use Rattle.sqlite.specs.Command.TheVariants.{Select, Insert}
 use Rattle.sqlite.proofs.Callers.{IsPlain, command_of}
 use Rattle.hall_sql.specs.Tables.{hall_schema}
 use Rattle.hall_sql.specs.Statements.{plain_query, answer_text, answers_in_text, answers_of_text, add_answer_text}
-use Rattle.hall_sql.specs.Statements.{answers_given_text, number_taken_text}
+use Rattle.hall_sql.specs.Statements.{answers_given_text, number_taken_text, all_answers_text}
 use Rattle.hall_sql.proofs.PeopleTexts.{equals, rising}
 use Rattle.hall_sql.specs.Asked.{IsAsked, is_whole}
 use Rattle.hall_sql.proofs.AskedLemmas.{asked}
+use Rattle.hall_sql.specs.Versions.{IsVersion}
+use Rattle.sqlite.specs.Schema.{Schema}
+use Rattle.hall_sql.proofs.Versions.{AsksAll, by_version}
 
 abbrev pub answer_columns : List Term
 answer_columns =
@@ -103,3 +106,14 @@ pub add_answer_is : (command_of (understood hall_schema add_answer_text) ≡ Ins
     × IsPlain (understood hall_schema add_answer_text)
 unfolding understood everything
 add_answer_is = (refl, (refl, refl))
+
+-- the order of keys: entrant, round, number, token
+abbrev pub key_order : List (Term × Key)
+key_order = (col 1 1, rising) ∷ (col 1 2, rising) ∷ (col 1 3, rising) ∷ (col 1 4, rising) ∷ []
+
+pub all_answers_are : (schema : Schema) → IsVersion schema → AsksAll all_answers_text 9 answer_columns key_order answer_names schema
+unfolding understood everything
+all_answers_are =
+    by_version (AsksAll all_answers_text 9 answer_columns key_order answer_names)
+    (record { is = refl; unlisted = refl; plain = (refl, refl); whole = refl; typed = refl })
+    (record { is = refl; unlisted = refl; plain = (refl, refl); whole = refl; typed = refl })

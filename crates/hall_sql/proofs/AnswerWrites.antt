@@ -17,8 +17,9 @@ use Rattle.sqlite.specs.Table.{Table}
 use Rattle.sqlite.specs.Tree.{Trees}
 use Rattle.sqlite.specs.Source.TheVariants.{Values}
 use Rattle.sqlite.specs.Command.TheVariants.{Insert}
-use Rattle.sqlite.specs.State.{State, HasCleanDisk, Executes}
-use Rattle.sqlite.proofs.Callers.{runs_as}
+use Rattle.sqlite.specs.State.{State, HasCleanDisk, Executes, Writes}
+use Rattle.sqlite.specs.Listing.{understood}
+use Rattle.sqlite.proofs.Callers.{runs_as, statement_of}
 use Rattle.hall_policy.specs.Text.{text_cmp, is_word_byte, is_printable}
 use Rattle.hall_policy.specs.World.{puzzle_cmp, answer_cmp, protest_cmp}
 use Rattle.hall_policy.specs.Ranges.{IsAnswerRow, IsWithin}
@@ -29,14 +30,16 @@ use Rattle.hall_store.specs.declared.change.Change.TheVariants.{AddAnswer}
 use Rattle.hall_sql.specs.Tables.{hall_schema}
 use Rattle.hall_sql.specs.Statements.{add_answer_text}
 use Rattle.hall_sql.specs.Columns.{answer_params}
-use Rattle.hall_sql.specs.Rows.{kept, person_of, puzzle_row_of, round_of, place_of, answer_of, protest_of, world_of}
+use Rattle.hall_sql.specs.Rows.{kept, person_of, puzzle_row_of, round_of, place_of, answer_of, protest_of, tester_of, world_of}
 use Rattle.hall_sql.specs.Spared.{may_write}
-use Rattle.hall_sql.specs.Standing.{IsHall, HasMade}
+use Rattle.hall_sql.specs.Standing.{HasAdded, IsHall, HasMade}
+use Rattle.hall_sql.specs.Fill.{WithAnswer}
+use Rattle.hall_sql.specs.Inside.{IsHallData, Worlds}
 use Rattle.hall_sql.proofs.AnswerTexts.{added_terms, add_answer_is}
 use Rattle.hall_sql.proofs.AnswerLemmas.{answers_there}
 use Rattle.hall_sql.proofs.CallLemmas.{executed_open}
 use Rattle.hall_sql.proofs.InsertLemmas.{inserts}
-use Rattle.hall_sql.proofs.KeyedLemmas.{keyed_after, added_keyed}
+use Rattle.hall_sql.proofs.KeyedLemmas.{data_added}
 use Rattle.hall_sql.proofs.MapLemmas.{put_new}
 use Rattle.hall_sql.proofs.SparedLemmas.{taken_record, added_spared, alone_spared}
 use Rattle.hall_sql.proofs.WriteLemmas.{writes_hall, same_worlds, cast_null, cast_number}
@@ -78,8 +81,32 @@ answers_alone old new answers others is =
     (ap (λ rows. from_entries (flat_map (λ row. option_to_list (place_of row)) rows)) (others.1.1.1.0 (λ same. absurd (omega (arith, same)))))
     is
     (ap (kept protest_cmp (λ row. row.key) protest_of) (others.1.1.1.1.1.0 (λ same. absurd (omega (arith, same)))))
+    (ap (λ rows. from_entries (flat_map (λ row. option_to_list (tester_of row)) rows)) (others.1.1.1.1.1.1.0 (λ same. absurd (omega (arith, same)))))
 
--- the INSERT of an answer under a new key
+-- what the INSERT of an answer adds
+module _ (row : AnswerRow) (is : IsAnswerRow row) (old new : State) (count : ℕ) (has : old.now.schema ≡ hall_schema)
+    (ran : Executes add_answer_text (answer_params row) old new (Ok count)) where
+  writes : Writes old new None (Insert 4 (Values added_terms 9)) (statement_of add_answer_text (understood hall_schema add_answer_text)) (answer_params row) count
+  writes = runs_as add_answer_text (answer_params row) old new hall_schema has (Insert 4 (Values added_terms 9)) add_answer_is.0 add_answer_is.1 count ran
+
+  adds : HasAdded hall_schema 9 (answer_params row) old.now new.now
+  adds =
+      let params = answer_params row in
+      inserts hall_schema 4 answers_there refl refl added_terms 9 params (Null ∷ params) params refl refl (answer_casts row) quiet old new _ count has writes
+
+  with_answer : WithAnswer (world_of old.now.trees) row (world_of new.now.trees)
+  with_answer fresh =
+      let id = Int (next_rowid (old.now.trees 9)) in
+      answers_alone old.now.trees new.now.trees (insert (world_of old.now.trees).answers row.key row) adds.others
+      (put_new answer_total same_answer_keys (λ (x : AnswerRow). x.key) answer_of row (id ∷ answer_params row) (old.now.trees 9) (new.now.trees 9) adds.put (answer_reads row is id) adds.free fresh)
+
+-- the INSERT of an answer inside a transaction
+pub answer_put : (row : AnswerRow) → IsAnswerRow row → (old new : State) (count : ℕ) → Executes add_answer_text (answer_params row) old new (Ok count)
+    → IsHallData old.now → IsHallData new.now × Worlds (λ a b. WithAnswer a row b) old.now new.now
+answer_put row is old new count ran held =
+    (data_added 9 (answer_params row) old.now new.now (adds row is old new count held.schema ran) held held.keyed.1.1.1.1.0, with_answer row is old new count held.schema ran)
+
+-- and outside of one, under a new key
 pub answer_added : (row : AnswerRow) → IsAnswerRow row → (old new : State) (count : ℕ) → IsHall old → HasCleanDisk old
     → (IsTrue old.is_open → get (world_of old.now.trees).answers row.key ≡ None)
     → Executes add_answer_text (answer_params row) old new (Ok count) → HasMade (AddAnswer row) old new
@@ -87,19 +114,17 @@ answer_added row is old new count hall clean fresh ran =
     let params = answer_params row in
     let mode = hall.autocommit clean in
     let was = executed_open old new add_answer_text params count mode ran in
-    let has = (hall.settled clean was).1 in
-    let keyed = hall.keyed clean was in
-    let w = runs_as add_answer_text params old new hall_schema has (Insert 4 (Values added_terms 9)) add_answer_is.0 add_answer_is.1 count ran in
-    let it = inserts hall_schema 4 answers_there refl refl added_terms 9 params (Null ∷ params) params refl refl (answer_casts row) quiet old new _ count has w in
-    let id = next_rowid (old.now.trees 9) in
-    let after = added_keyed id params (old.now.trees 9) (new.now.trees 9) it.put it.free keyed.1.1.1.1.0 in
+    let held : IsHallData old.now = record { schema = (hall.settled clean was).1; keyed = hall.keyed clean was } in
+    let w = writes row is old new count held.schema ran in
+    let it = adds row is old new count held.schema ran in
+    let put = answer_put row is old new count ran held in
+    let id = Int (next_rowid (old.now.trees 9)) in
     record {
-      hall = writes_hall old new _ _ _ count mode w it.same (keyed_after 9 old.now.trees new.now.trees hall_schema.tables after it.others keyed);
+      hall = writes_hall old new _ _ _ count mode w put.0.schema put.0.keyed;
       was_open = was;
       serves = w.shown.is_open;
-      world = answers_alone old.now.trees new.now.trees (insert (world_of old.now.trees).answers row.key row) it.others
-          (put_new answer_total same_answer_keys (λ (x : AnswerRow). x.key) answer_of row (Int id ∷ params) (old.now.trees 9) (new.now.trees 9) it.put (answer_reads row is (Int id)) it.free (fresh was));
+      world = put.1 (fresh was);
       others = alone_spared (may_write (AddAnswer row)) 9 old.now.trees new.now.trees
-          (added_spared (may_write (AddAnswer row) 9) (old.now.trees 9) (new.now.trees 9) (Int id ∷ params)
-          (taken_record answer_total (λ (x : AnswerRow). x.key) row.key (answer_of (Int id ∷ params)) row (answer_reads row is (Int id)) refl) it.free it.put) it.others;
+          (added_spared (may_write (AddAnswer row) 9) (old.now.trees 9) (new.now.trees 9) (id ∷ params)
+          (taken_record answer_total (λ (x : AnswerRow). x.key) row.key (answer_of (id ∷ params)) row (answer_reads row is id) refl) it.free it.put) it.others;
     }

@@ -20,10 +20,9 @@ use Rattle.sqlite.specs.Effect.{Database, RefusesToRead}
 use Rattle.sqlite.specs.Listing.{understood, reads_listing, IsSourceOf}
 use Rattle.sqlite.specs.State.{State, HasCleanDisk, HasCause, IsNoStatement, IsNotRun, FailsToShow, FailsToQuery, store_error}
 use Rattle.sqlite.proofs.Callers.{IsPlain, command_of}
-use Rattle.hall_sql.specs.Tables.{hall_schema}
-use Rattle.hall_sql.specs.Standing.{IsHall}
+use Rattle.hall_sql.specs.Standing.{IsTabled}
 use Rattle.hall_sql.specs.Statements.{plain_query}
-use Rattle.hall_sql.specs.Asked.{IsAsked, IsSafe, is_whole}
+use Rattle.hall_sql.specs.Asked.{IsAskedIn, IsSafe, is_whole}
 use Rattle.hall_sql.specs.Cause.{IsStoreCause}
 use Rattle.hall_sql.proofs.LastLemmas.{more_faults}
 
@@ -37,16 +36,16 @@ never_overflows tree terms project order params db (inl h) = h
 never_overflows tree terms project order params db (inr h) = sums_nothing (overlay db []) tree (params ∷ []) h
 
 -- what is computed of a text makes it a query that is asked
-pub asked : (sql : List ℕ) (params : Row) (tree : ℕ) (terms project : List Term) (order : List (Term × Key)) (names : List (List ℕ))
-    → command_of (understood hall_schema sql) ≡ Select (record { lets = []; body = plain_query tree terms project order }) names
-    → reads_listing hall_schema sql ≡ false → IsPlain (understood hall_schema sql)
-    → is_whole sql (length params) (understood hall_schema sql) ≡ true
-    → accepts_program hall_schema [] (plain_query tree terms project order) params ≡ true → IsAsked sql params
-asked sql params tree terms project order names is unlisted plain whole typed = record {
+pub asked : {schema : Schema} (sql : List ℕ) (params : Row) (tree : ℕ) (terms project : List Term) (order : List (Term × Key)) (names : List (List ℕ))
+    → command_of (understood schema sql) ≡ Select (record { lets = []; body = plain_query tree terms project order }) names
+    → reads_listing schema sql ≡ false → IsPlain (understood schema sql)
+    → is_whole sql (length params) (understood schema sql) ≡ true
+    → accepts_program schema [] (plain_query tree terms project order) params ≡ true → IsAskedIn sql params schema
+asked {schema} sql params tree terms project order names is unlisted plain whole typed = record {
   plain = plain;
   unlisted = unlisted;
   whole = whole;
-  safe = subst (λ (k : Command). IsSafe k params) (sym is) (typed, never_overflows tree terms project order params);
+  safe = subst (λ (k : Command). IsSafe schema k params) (sym is) (typed, never_overflows tree terms project order params);
 }
 
 -- an error of the store that is no want of memory
@@ -77,12 +76,12 @@ is_statement schema sql params s e has plain whole (inr h) =
     ]
 
 -- what is left is the limit on its steps
-limited : (command : Command) (db : Database) (params : Row) (e : Error) (limit : Option ℕ) → db.schema ≡ hall_schema
-    → IsSafe command params → RefusesToRead limit command db params e → IsSome limit
-limited (Select q names) db params e limit has safe (inl h) = absurd (let no = rw has at h.1 in let yes = safe.0 in cc)
-limited (Select q names) db params e limit has safe (inr (inl h)) = absurd (safe.1 db.trees h.1)
-limited (Select q names) db params e limit has safe (inr (inr h)) = h.1
-limited _ db params e limit has safe h = absurd safe
+limited : (schema : Schema) (command : Command) (db : Database) (params : Row) (e : Error) (limit : Option ℕ) → db.schema ≡ schema
+    → IsSafe schema command params → RefusesToRead limit command db params e → IsSome limit
+limited schema (Select q names) db params e limit has safe (inl h) = absurd (let no = rw has at h.1 in let yes = safe.0 in cc)
+limited schema (Select q names) db params e limit has safe (inr (inl h)) = absurd (safe.1 db.trees h.1)
+limited schema (Select q names) db params e limit has safe (inr (inr h)) = h.1
+limited schema _ db params e limit has safe h = absurd safe
 
 -- a text that was not run, over this schema
 pub not_run : (schema : Schema) (sql : List ℕ) (params : Row) (old new : State) (e : Error) → IsPlain (understood schema sql)
@@ -95,21 +94,21 @@ not_run schema sql params old new e plain whole other has (inr h) = elim (store_
   | inr none ↦ absurd none
 ]
 
-pub open_cause : (sql : List ℕ) (params : Row) (old new : State) (e : Error) → IsAsked sql params → old.step_limit ≡ None
-    → e ≢ SqliteFailure code.OutOfMemory → old.now.schema ≡ hall_schema → FailsToQuery sql params old new e → IsStoreCause old new
+pub open_cause : {schema : Schema} (sql : List ℕ) (params : Row) (old new : State) (e : Error) → IsAskedIn sql params schema → old.step_limit ≡ None
+    → e ≢ SqliteFailure code.OutOfMemory → old.now.schema ≡ schema → FailsToQuery sql params old new e → IsStoreCause old new
 unfolding FailsToQuery
-open_cause sql params old new e asks free other has (inl h) = not_run hall_schema sql params old new e asks.plain asks.whole other has h
-open_cause sql params old new e asks free other has (inr h) =
-    let known : understood hall_schema sql ≡ Ok h.0 = sym (ap (λ x. understood x sql) has) ∙ h.1.is in
-    let bare = subst IsPlain {x = understood hall_schema sql} known asks.plain in
-    let safe : IsSafe h.0.command params = subst (λ r. IsSafe (command_of r) params) known asks.safe in
+open_cause {schema} sql params old new e asks free other has (inl h) = not_run schema sql params old new e asks.plain asks.whole other has h
+open_cause {schema} sql params old new e asks free other has (inr h) =
+    let known : understood schema sql ≡ Ok h.0 = sym (ap (λ x. understood x sql) has) ∙ h.1.is in
+    let bare = subst IsPlain {x = understood schema sql} known asks.plain in
+    let safe : IsSafe schema h.0.command params = subst (λ r. IsSafe schema (command_of r) params) known asks.safe in
     let it : FailsToShow old new sql h.0 params e None = rw (bare.0, bare.1, append-nil params) at h.2 in
     let db : it.0 ≡ old.now = subst (λ b. IsSourceOf b old.now it.0) (ap (λ s. reads_listing s sql) has ∙ asks.unlisted) it.1 in
     let refuses : RefusesToRead old.step_limit h.0.command old.now params e =
     subst (λ (d : Database). RefusesToRead old.step_limit h.0.command d params e) {x = it.0} db it.2 in
-    absurd (let no : false ≡ true = subst IsSome free (limited h.0.command old.now params e old.step_limit has safe refuses) in cc)
+    absurd (let no : false ≡ true = subst IsSome free (limited schema h.0.command old.now params e old.step_limit has safe refuses) in cc)
 
-pub asked_cause : (sql : List ℕ) (params : Row) (old new : State) (e : Error) → IsAsked sql params → IsHall old → HasCleanDisk old
+pub asked_cause : {schema : Schema} (sql : List ℕ) (params : Row) (old new : State) (e : Error) → IsAskedIn sql params schema → IsTabled schema old → HasCleanDisk old
     → e ≢ SqliteFailure code.OutOfMemory → FailsToQuery sql params old new e → IsStoreCause old new
 asked_cause sql params old new e asks hall clean other fails = elim (cases_Bool old.is_open) [
   | inl opens ↦ open_cause sql params old new e asks hall.unlimited other (hall.settled clean opens).1 fails

@@ -17,9 +17,9 @@ use Rattle.sqlite.specs.Listing.{understood, reads_listing}
 use Rattle.sqlite.specs.Clock.{timed}
 use Rattle.sqlite.specs.State.{State, HasCleanDisk, IsUnchanged, Fails, IsNotRun, FailsToQuery, FailsToShow, RunsCommand, Executes, ExecutesIn, Shown, ShowsRows, shows_rows, Runs, ReleasesAt}
 use Rattle.sqlite.proofs.Callers.{IsPlain, command_of, reads_as}
-use Rattle.hall_sql.specs.Tables.{hall_schema}
+use Rattle.sqlite.specs.Schema.{Schema}
 use Rattle.hall_sql.specs.Statements.{plain_query}
-use Rattle.hall_sql.specs.Standing.{Lasts, IsHall, AreAllKeyed, Rests, Rested, IsSelection}
+use Rattle.hall_sql.specs.Standing.{Lasts, IsTabled, AreKeyedIn, Rests, RestedIn, IsSelection}
 use Rattle.hall_sql.proofs.Selections.{selected}
 
 failed : (old new : State) (U : Type 0) (e : Error) → Fails old new U e → Rests old new
@@ -64,17 +64,17 @@ ends_mode old new (inl h) mode = h.0.mode ∙ mode
 ends_mode old new (inr h) mode = h.autocommit
 
 -- a call that rests leaves the content as it was
-pub rested : (old new : State) → IsHall old → Lasts old new → (HasCleanDisk old → HasCleanDisk new → Rests old new) → Rested old new
-rested old new hall lasts h =
+pub rested : {schema : Schema} (old new : State) → IsTabled schema old → Lasts old new → (HasCleanDisk old → HasCleanDisk new → Rests old new) → RestedIn schema old new
+rested {schema} old new hall lasts h =
     let before = λ (clean : HasCleanDisk new). let was : HasCleanDisk old = omega (arith, lasts.clean, clean) in was in
     let it = λ (clean : HasCleanDisk new). h (before clean) clean in
     let held = λ (clean : HasCleanDisk new) (opens : IsTrue new.is_open). hall.settled (before clean) (was_open old new (it clean) opens) in
     let same = λ (clean : HasCleanDisk new) (opens : IsTrue new.is_open). rest_same old new (it clean) (held clean opens).0 opens in
     record {
-      hall = record {
+      tabled = record {
         unlimited = lasts.limit ∙ hall.unlimited;
         autocommit = λ clean. ends_mode old new (it clean) (hall.autocommit (before clean));
-        keyed = λ clean opens. subst (λ (d : Database). AreAllKeyed d.trees) (sym (same clean opens).0) (hall.keyed (before clean) (was_open old new (it clean) opens));
+        keyed = λ clean opens. subst (λ (d : Database). AreKeyedIn schema d.trees) (sym (same clean opens).0) (hall.keyed (before clean) (was_open old new (it clean) opens));
         settled = λ clean opens. ((same clean opens).0 ∙ (held clean opens).0 ∙ sym (same clean opens).1, ap (λ (d : Database). d.schema) (same clean opens).0 ∙ (held clean opens).1);
       };
       follows = record { lasts = lasts; opened = λ clean opens. was_open old new (it clean) opens };
@@ -90,14 +90,14 @@ module _ (sql : List ℕ) (params : Row) (old new : State) (rows : List Row) (pl
       let full = timed params h.0.formats h.1.now in
       (subst (ShowsRows old new sql h.0 full rows) none h.2).3
 
-module _ (sql : List ℕ) (params : Row) (old new : State) (tree : ℕ) (terms project : List Term) (order : List (Term × Key)) (names : List (List ℕ))
-    (is : command_of (understood hall_schema sql) ≡ Select (record { lets = []; body = plain_query tree terms project order }) names)
-    (unlisted : reads_listing hall_schema sql ≡ false) (plain : IsPlain (understood hall_schema sql))
+module _ {schema : Schema} (sql : List ℕ) (params : Row) (old new : State) (tree : ℕ) (terms project : List Term) (order : List (Term × Key)) (names : List (List ℕ))
+    (is : command_of (understood schema sql) ≡ Select (record { lets = []; body = plain_query tree terms project order }) names)
+    (unlisted : reads_listing schema sql ≡ false) (plain : IsPlain (understood schema sql))
     (apart : overlay old.now.trees [] tree ≡ old.now.trees tree)
-    (has : old.now.schema ≡ hall_schema) where
+    (has : old.now.schema ≡ schema) where
   pub answers_selection : (rows : List Row) → Shown sql params old new rows → IsSelection (plain_query tree terms project order) (old.now.trees tree) params rows
   answers_selection rows h =
-      let read = reads_as sql params old new hall_schema has _ is plain unlisted rows h in
+      let read = reads_as sql params old new schema has _ is plain unlisted rows h in
       let a : IsAnswer (plain_query tree terms project order) (overlay old.now.trees []) params rows = read.answer Null in
       subst (λ table. IsSelection (plain_query tree terms project order) table params rows) apart (selected tree terms project order (overlay old.now.trees []) params rows a)
 
@@ -110,7 +110,7 @@ shown_was_open sql params old new rows h = at_returning h.0.returning h.2
     at_returning (Some what) it = it.1.shown.was_open
 
 -- a plain query leaves the content as it was
-pub query_rests : (sql : List ℕ) (params : Row) (old new : State) (rows : List Row) → IsPlain (understood hall_schema sql) → IsHall old → HasCleanDisk old → Shown sql params old new rows → IsUnchanged old new
+pub query_rests : {schema : Schema} (sql : List ℕ) (params : Row) (old new : State) (rows : List Row) → IsPlain (understood schema sql) → IsTabled schema old → HasCleanDisk old → Shown sql params old new rows → IsUnchanged old new
 query_rests sql params old new rows plain hall clean h =
     let opened = shown_was_open sql params old new rows h in
     let has = (hall.settled clean opened).1 in

@@ -1,5 +1,6 @@
 -- Rows that read as entries of a map, a key beside a value.
-use Rattle.std.proofs.Common.{◌≡◌, inl, inr, ℤ, List, [], ◌∷◌, ◌++◌, filter, flat_map, Bool, true, false, not, cond, ◌||◌, Option, Some, None, option_map, option_to_list, refl, sym, ap, subst, ◌∙◌}
+use lib.Dec.{T}
+use Rattle.std.proofs.Common.{◌≡◌, inl, inr, ℤ, List, [], ◌∷◌, ◌++◌, map, filter, flat_map, Bool, true, false, not, cond, ◌||◌, ◌&&◌, ap₂, Option, Some, None, option_map, option_to_list, refl, sym, ap, subst, ◌∙◌}
 use Rattle.std.proofs.lemmas.Bool.{cases_Bool}
 use Rattle.std.proofs.lemmas.List.Sorted.{IsPermutation-sym}
 use Rattle.std.specs.List.{AllByRecursion, list_any}
@@ -7,8 +8,9 @@ use Rattle.std.specs.List.Sorted.{IsPermutation}
 use Rattle.std.specs.Cmp.{IsTotalOrder}
 use Rattle.std.specs.declared.cmp.Ordering.{Ordering}
 use Rattle.std.specs.declared.cmp.Ordering.TheVariants.{Equal}
-use Rattle.std.specs.Ordering.{eq_by_cmp}
-use Rattle.std.specs.FinMap.{FinMap, IsAntisymmetric, find as find_key, get, insert as put_in, retain_keys, from_entries, get-from_entries, get-insert, get-retain_keys, same_map}
+use Rattle.std.specs.Ordering.{eq_by_cmp, is_lt}
+use Rattle.std.specs.FinMap.{FinMap, IsAntisymmetric, find as find_key, is_sorted, entries, values, get, insert as put_in, retain_keys, from_entries, from_sorted, entries_sorted, entries-from_sorted, get-entries, get-from_entries, get-from_sorted, get-insert, get-retain_keys, same_map}
+use Rattle.std.specs.FinMap.Entries.{below_all}
 use Rattle.sqlite.specs.Order.{Row}
 use Rattle.sqlite.specs.declared.types.Value.TheVariants.{Int}
 use Rattle.sqlite_value.specs.Order.{value_cmp}
@@ -21,8 +23,9 @@ use Rattle.sqlite_rules.proofs.ListLemmas.{all_has, all_from, has_filtered, has_
 use Rattle.sqlite_rules.proofs.ProbeLemmas.{has_mapped, mapped_has}
 use Rattle.sqlite_rules.proofs.TableLemmas.{int_is}
 use Rattle.hall_sql.specs.Standing.{AreKeyed}
-use Rattle.hall_sql.specs.Rows.{entry}
-use Rattle.hall_sql.proofs.MapLemmas.{equal_is, Lacks, found, put_found, filter_found}
+use Rattle.hall_sql.specs.Rows.{entry, kept}
+use Rattle.hall_sql.proofs.MapLemmas.{equal_is, Lacks, found, get_kept, put_found, filter_found}
+use Rattle.hall_sql.proofs.RisingLemmas.{AreOwn, kept_own}
 use Rattle.hall_sql.proofs.KeyedLemmas.{keyed_same}
 use Rattle.hall_sql.proofs.UpdateLemmas.{has_itself}
 
@@ -48,6 +51,43 @@ module _ {K X : Type 0} {R : K → K → Ordering} (total : IsTotalOrder R) (sam
 
   pub get_entry : (q : K) (rows : List Row) → get (map_of rows) q ≡ option_map (λ e. e.1) (found total same key_in read q rows)
   get_entry q rows = get-from_entries total _ q ∙ found_value q rows
+
+  -- ---- as entries
+
+  abbrev beside : K × (K × X) → K × X
+  beside e = (e.0, e.1.1)
+
+  find_beside : (q : K) (es : List (K × (K × X))) → find_key R q (map beside es) ≡ option_map (λ e. e.1) (find_key R q es)
+  find_beside q [] = refl
+  find_beside q (e ∷ es) = go (eq_by_cmp R q e.0) (find_beside q es)
+    where
+      go : (b : Bool) → find_key R q (map beside es) ≡ option_map (λ e. e.1) (find_key R q es)
+          → cond b (Some e.1.1) (find_key R q (map beside es)) ≡ option_map (λ e. e.1) (cond b (Some e.1) (find_key R q es))
+      go true more = refl
+      go false more = more
+
+  below_beside : (k : K) (es : List (K × (K × X))) → below_all R k (map beside es) ≡ below_all R k es
+  below_beside k [] = refl
+  below_beside k (e ∷ es) = ap (λ b. is_lt (R k e.0) && b) (below_beside k es)
+
+  sorted_beside : (es : List (K × (K × X))) → is_sorted R (map beside es) ≡ is_sorted R es
+  sorted_beside [] = refl
+  sorted_beside (e ∷ es) = ap₂ ◌&&◌ (below_beside e.0 es) (sorted_beside es)
+
+  own_beside : (es : List (K × (K × X))) → AreOwn total same key_in es → map beside es ≡ map (λ e. e.1) es
+  own_beside [] own = refl
+  own_beside (e ∷ es) own = λ i. (own.0 i, e.1.1) ∷ own_beside es own.1 i
+
+  -- the map's entries are the rows' records, in the order of their keys
+  pub entries_kept : (rows : List Row) → values (kept R key_in read rows) ≡ entries (map_of rows)
+  entries_kept rows =
+      let m = kept R key_in read rows in
+      let es = entries m in
+      let up : T (is_sorted R (map beside es)) = subst T (sym (sorted_beside es)) (entries_sorted m) in
+      let is : map_of rows ≡ from_sorted (map beside es) = same_map total same _ _ (λ q.
+      get_entry q rows ∙ ap (option_map (λ e. e.1)) (sym (get_kept total same key_in read q rows) ∙ get-entries m q)
+      ∙ sym (find_beside q es) ∙ sym (get-from_sorted R (map beside es) q up)) in
+      sym (ap entries is ∙ entries-from_sorted R (map beside es) up ∙ own_beside es (kept_own total same key_in read rows))
 
   no_value : (o : Option (K × X)) → option_map (λ e. e.1) o ≡ None → o ≡ None
   no_value None h = refl
@@ -131,6 +171,23 @@ module _ {K X : Type 0} {R : K → K → Ordering} (total : IsTotalOrder R) (sam
         at_key q false is =
             ap (option_map (λ e. e.1)) (filter_found total same key_in read q (λ r. not (keeps r)) rows (all_from _ rows (λ r h gone. lacks_if q r true (not_false _ gone) (λ k e. differ_if q k true is e))))
             ∙ sym (get_entry q rows) ∙ ap (λ b. cond (not b) (get (map_of rows) q) None) (sym is)
+
+-- two insertions change turns, where they put one value if their keys are one
+swapped : {X : Type 0} (a b : Bool) (x y z : X) → (a ≡ true → b ≡ true → x ≡ y) → cond a x (cond b y z) ≡ cond b y (cond a x z)
+swapped true true x y z one = one refl refl
+swapped true false x y z one = refl
+swapped false b x y z one = refl
+
+pub inserts_swapped : {K X : Type 0} {R : K → K → Ordering} (total : IsTotalOrder R) (same : IsAntisymmetric R) (m : FinMap R X) (a b : K) (x y : X) → (a ≡ b → x ≡ y)
+    → put_in (put_in m a x) b y ≡ put_in (put_in m b y) a x
+inserts_swapped {R = R} total same m a b x y one =
+    same_map total same _ _ (λ q.
+    get-insert total (put_in m a x) b y q
+    ∙ ap (cond (eq_by_cmp R q b) (Some y)) (get-insert total m a x q)
+    ∙ swapped (eq_by_cmp R q b) (eq_by_cmp R q a) (Some y) (Some x) (get m q)
+    (λ tie_b tie_a. ap Some (sym (one (sym (same q a (equal_is _ tie_a)) ∙ same q b (equal_is _ tie_b)))))
+    ∙ ap (cond (eq_by_cmp R q a) (Some x)) (sym (get-insert total m b y q))
+    ∙ sym (get-insert total (put_in m b y) a x q))
 
 -- ---- the rows that a DELETE takes out
 

@@ -1,5 +1,6 @@
 -- What a call inside a transaction leaves, and several after each other.
-use Rattle.std.proofs.Common.{◌≡◌, ◌⊎◌, inl, inr, ℕ, List, true, if◌then◌else◌, IsTrue, Option, Some, None, refl, sym, ap, subst, ◌∙◌, arith}
+use Rattle.std.proofs.Common.{◌≡◌, ◌⊎◌, inl, inr, ℕ, List, true, if◌then◌else◌, IsTrue, Option, Some, None, Result, OnOk, refl, sym, ap, subst, ◌∙◌, arith}
+use Rattle.std.proofs.lemmas.Result.{on_ok_weaker}
 use Rattle.sqlite_schema.specs.declared.command.Returning.{Returning}
 use Rattle.sqlite.specs.declared.error.Error.{Error}
 use Rattle.sqlite.specs.Effect.{Database}
@@ -11,7 +12,7 @@ use Rattle.sqlite.proofs.Callers.{IsPlain}
 use Rattle.hall_policy.specs.World.{World}
 use Rattle.hall_sql.specs.Tables.{hall_schema}
 use Rattle.hall_sql.specs.Rows.{world_of}
-use Rattle.hall_sql.specs.Standing.{Rests}
+use Rattle.hall_sql.specs.Standing.{Lasts, Rests}
 use Rattle.hall_sql.specs.Inside.{IsHallData, Carries, Steps, Did, Tells}
 use Rattle.hall_sql.proofs.LastLemmas.{last_none, last_then}
 use Rattle.hall_sql.proofs.CallLemmas.{query_refused, shown_unchanged}
@@ -50,6 +51,31 @@ did_then First Then Both a b c joins one two = record {
   steps = steps_then a b c one.steps two.steps;
   does = λ h. joins (one.does h) (two.does (one.steps.hall h));
 }
+
+-- and so do two calls, the latter of which may be refused
+pub two_did : {A E : Type 0} (First Then Both : Database → Database → Type 0) (result : Result A E) (a b c : State)
+    → (First a.now b.now → Then b.now c.now → Both a.now c.now) → Lasts b c
+    → (HasCleanDisk b → IsTrue a.in_transaction → Did First a b)
+    → (HasCleanDisk c → IsTrue b.in_transaction → OnOk result (Did Then b c))
+    → HasCleanDisk c → IsTrue a.in_transaction → OnOk result (Did Both a c)
+two_did First Then Both result a b c joins to_c one two clean inside =
+    let before : HasCleanDisk b = omega (arith, to_c.clean, clean) in
+    let first = one before inside in
+    on_ok_weaker result (did_then First Then Both a b c joins first) (two clean first.steps.mode)
+
+-- and three
+pub three_did : {A E : Type 0} (First Second Third All : Database → Database → Type 0) (result : Result A E) (a b c d : State)
+    → ((m : Database) → First a.now m → Second m c.now → Third c.now d.now → All a.now d.now) → Lasts b c → Lasts c d
+    → (HasCleanDisk b → IsTrue a.in_transaction → Did First a b)
+    → (HasCleanDisk c → IsTrue b.in_transaction → Did Second b c)
+    → (HasCleanDisk d → IsTrue c.in_transaction → OnOk result (Did Third c d))
+    → HasCleanDisk d → IsTrue a.in_transaction → OnOk result (Did All a d)
+three_did First Second Third All result a b c d joins to_c to_d first second third =
+    two_did (λ x y. (m : Database) × First x m × Second m y) Third All result a c d (λ it. joins it.0 it.1 it.2) to_d
+    (λ clean inside.
+    let before : HasCleanDisk b = omega (arith, to_c.clean, clean) in
+    let one = first before inside in
+    did_then First Second (λ x y. (m : Database) × First x m × Second m y) a b c (λ p q. (b.now, p, q)) one (second clean one.steps.mode)) third
 
 rests_keep : (old new : State) → Rests old new → KeepsCommit old new
 rests_keep old new (inl h) = record { was_open = λ opens. h.0.was_open; committed = λ opens. h.0.committed_is }

@@ -24,7 +24,11 @@ use Rattle.sqlite_trees.proofs.ListLemmas.{along_permutation, all-permutation}
 use Rattle.sqlite_rules.specs.Lists.{Has}
 use Rattle.sqlite_rules.specs.Edit.{is_taken}
 use Rattle.sqlite_rules.proofs.ListLemmas.{all_has}
-use Rattle.hall_sql.specs.Standing.{Apart, AreDistinct, AreKeyed}
+use Rattle.sqlite.specs.Effect.{Database}
+use Rattle.sqlite_rules.specs.Edit.{next_rowid}
+use Rattle.hall_sql.specs.Inside.{IsHallData}
+use Rattle.hall_sql.specs.Standing.{Apart, AreDistinct, AreKeyed, HasAdded}
+use Rattle.hall_sql.specs.Tables.{hall_schema}
 
 apart_back : (r y : Row) → Apart r y → Apart y r
 apart_back r y h e = h (value_cmp_total.antisymm (rowid r) (rowid y) ∙ ap ordering_reverse e)
@@ -117,3 +121,10 @@ keyed_after tree old new (t ∷ tables) here others keyed = (
 pub added_keyed : (id : ℤ) (values : Row) (rows out : List Row) → out ≡ put_row (Int id ∷ values) rows → is_taken rows (Int id ∷ values) ≡ false → AreKeyed rows → AreKeyed out
 added_keyed id values rows out put free keyed =
     subst AreKeyed (sym put) (keyed_put (Int id ∷ values) rows refl free (put_permutes (Int id ∷ values) rows free) keyed)
+
+-- one row more leaves the hall's tables
+pub data_added : (tree : ℕ) (values : Row) (old new : Database) → HasAdded hall_schema tree values old new → IsHallData old → AreKeyed (old.trees tree)
+    → IsHallData new
+data_added tree values old new it held keyed =
+    let after = added_keyed (next_rowid (old.trees tree)) values (old.trees tree) (new.trees tree) it.put it.free keyed in
+    record { schema = it.same; keyed = keyed_after tree old.trees new.trees hall_schema.tables after it.others held.keyed }

@@ -26,6 +26,7 @@ pub mod PeopleTexts
 pub mod PeopleLemmas
 pub mod PeopleKeys
 pub mod StoreLemmas
+pub mod Versions
 pub mod PuzzleTexts
 pub mod PuzzleLemmas
 pub mod PuzzleListings
@@ -44,14 +45,19 @@ pub mod HeadTexts
 pub mod RestrictLemmas
 pub mod DeleteLemmas
 pub mod PlaceTexts
+pub mod TesterTexts
 pub mod EntryLemmas
+pub mod EntryListings
 pub mod RoundWrites
 pub mod TransactionLemmas
 pub mod InsideLemmas
 pub mod PeopleWrites
 pub mod PlaceWrites
+pub mod TesterWrites
+pub mod RoundPutLemmas
 pub mod RoundQueries
 pub mod PlaceListings
+pub mod TesterListings
 pub mod RoundRows
 pub mod ReadCauseLemmas
 pub mod SchemaLemmas
@@ -62,6 +68,7 @@ pub mod MakeLemmas
 pub mod MakeCauseLemmas
 pub mod AdoptLemmas
 pub mod FeedLemmas
+pub mod FillLemmas
 pub mod SelectedLemmas
 pub mod FeedListings
 pub mod Agrees
@@ -69,3 +76,7 @@ pub mod EachLemmas
 pub mod OpenedLemmas
 pub mod RecordParts
 pub mod UnreadLemmas
+pub mod WholeRows
+pub mod RowReads
+pub mod MigrationLemmas
+pub mod FilledWorlds

@@ -16,7 +16,7 @@ use Rattle.sqlite.specs.Command.TheVariants.{Select}
 use Rattle.sqlite.specs.State.{State, Shown}
 use Rattle.sqlite.proofs.Callers.{IsPlain, command_of}
 use Rattle.sqlite_trees.proofs.ListLemmas.{map-map}
-use Rattle.hall_sql.specs.Tables.{hall_schema}
+use Rattle.sqlite.specs.Schema.{Schema}
 use Rattle.hall_sql.specs.Rows.{columns_from, kept}
 use Rattle.hall_sql.specs.Standing.{IsSelection}
 use Rattle.hall_sql.specs.Statements.{plain_query}
@@ -31,16 +31,16 @@ by_order tree terms project order params a b =
     output_cmp q (output q (params ∷ a ∷ [])) (output q (params ∷ b ∷ []))
 
 -- What is asked of the text of a query is computed for each statement.
-module _ {X : Type 0} (read : Row → Option X) (count : ℕ) (text : List ℕ) (params : Row) (tree : ℕ)
+module _ {schema : Schema} {X : Type 0} (read : Row → Option X) (count : ℕ) (text : List ℕ) (params : Row) (tree : ℕ)
     (terms project : List Term) (order : List (Term × Key)) (names : List (List ℕ))
-    (is : command_of (understood hall_schema text)
+    (is : command_of (understood schema text)
     ≡ Select (record { lets = []; body = plain_query tree terms project order }) names)
-    (unlisted : reads_listing hall_schema text ≡ false) (plain : IsPlain (understood hall_schema text))
+    (unlisted : reads_listing schema text ≡ false) (plain : IsPlain (understood schema text))
     (apart : (db : Trees) → overlay db [] tree ≡ db tree)
     (shows : (r : Row) → eval_all project (params ∷ r ∷ []) ≡ columns_from 1 count r) (test : X → Bool)
     (agrees : (r : Row) (x : X) → read (columns_from 1 count r) ≡ Some x
     → list_all (holds (params ∷ r ∷ [])) terms ≡ test x) where
-  module _ (old new : State) (rows : List Row) (out : List X) (has : old.now.schema ≡ hall_schema)
+  module _ (old new : State) (rows : List Row) (out : List X) (has : old.now.schema ≡ schema)
       (shown : Shown text params old new rows) (reads : map read rows ≡ map Some out) where
     selection : IsSelection (plain_query tree terms project order) (old.now.trees tree) params rows
     selection = answers_selection text params old new tree terms project order names is unlisted plain

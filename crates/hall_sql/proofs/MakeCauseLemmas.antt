@@ -1,5 +1,5 @@
 -- A CREATE TABLE of the hall's, on the schema that awaits it, fails for the store's causes alone.
-use Rattle.std.proofs.Common.{◌≡◌, ◌≢◌, inl, inr, ℕ, ◌+◌, ◌*◌, ◌^◌, ◌≤◌, ◌<◌, nat_lt, List, [], ◌∷◌, length, codes, Bool, true, false, not, ◌&&◌, ◌||◌, is_some, Option, Some, None, Ok, Err, IsTrue, IsUtf8, refl, sym, ap, subst, ◌∙◌, arith}
+use Rattle.std.proofs.Common.{◌≡◌, ◌≢◌, inl, inr, ℕ, ◌+◌, ◌*◌, ◌^◌, ◌≤◌, ◌<◌, nat_lt, List, [], ◌∷◌, length, codes, Bool, true, false, not, Option, Some, None, Ok, Err, IsUtf8, refl, sym, ap, subst, ◌∙◌, arith}
 use Rattle.std.proofs.lemmas.Bool.{and_parts, ltb-true}
 use Rattle.std.proofs.lemmas.Str.{IsUtf8-from_is_utf8}
 use Rattle.std.specs.Char.{encode_utf8}
@@ -29,14 +29,14 @@ use Rattle.sqlite.specs.declared.types.Value.TheVariants.{Text}
 use Rattle.sqlite.specs.Change.{created, next_tree}
 use Rattle.sqlite.specs.Compile.{table_defined_by}
 use Rattle.sqlite.specs.Does.{Does, MakesTable, lacks_sequence}
-use Rattle.sqlite.specs.Effect.{Database, is_query}
+use Rattle.sqlite.specs.Effect.{Database}
 use Rattle.sqlite.specs.Listing.{understood}
 use Rattle.sqlite.specs.Schema.{Schema}
-use Rattle.sqlite.specs.State.{State, IsMisplaced, Escapes, EndsScope, ExecutesIn, ExecutesInside, RunsCommand, is_pragma, mode_of, shows_rows, text_of}
+use Rattle.sqlite.specs.State.{State, IsMisplaced, Escapes, EndsScope, ExecutesIn, ExecutesInside, RunsCommand, mode_of, shows_rows, text_of}
 use Rattle.sqlite.specs.Table.{Table}
 use Rattle.sqlite.proofs.Callers.{IsPlain, command_of, statement_of}
 use Rattle.hall_sql.specs.declared.tables.HallTable.{HallTable}
-use Rattle.hall_sql.specs.declared.tables.HallTable.TheVariants.{People, Puzzles, Rounds, Places, Answers, Protests}
+use Rattle.hall_sql.specs.declared.tables.HallTable.TheVariants.{People, Puzzles, Rounds, Places, Answers, Protests, Testers}
 use Rattle.hall_sql.specs.Asked.{is_whole}
 use Rattle.hall_sql.specs.Cause.{IsStoreCause}
 use Rattle.hall_sql.specs.Made.{table_text, shape_of, schema_before}
@@ -74,6 +74,8 @@ makeable Answers =
     record { plain = refl; named = refl; short = refl; free = refl; autos = refl; few = refl; narrow = refl; keys = refl; unreserved = refl; formed = refl; fit = refl; unsequenced = refl }
 makeable Protests =
     record { plain = refl; named = refl; short = refl; free = refl; autos = refl; few = refl; narrow = refl; keys = refl; unreserved = refl; formed = refl; fit = refl; unsequenced = refl }
+makeable Testers =
+    record { plain = refl; named = refl; short = refl; free = refl; autos = refl; few = refl; narrow = refl; keys = refl; unreserved = refl; formed = refl; fit = refl; unsequenced = refl }
 
 making_whole : (table : HallTable) → is_whole (table_text table) 0 (understood (schema_before table) (table_text table)) ≡ true
 unfolding understood everything
@@ -83,6 +85,7 @@ making_whole Rounds = refl
 making_whole Places = refl
 making_whole Answers = refl
 making_whole Protests = refl
+making_whole Testers = refl
 
 never_both : (b : Bool) → not b ≡ true → b ≡ true → ⊥
 never_both b denied holds = let both : not true ≡ true = subst (λ a. not a ≡ true) holds denied in absurd cc

@@ -5,7 +5,7 @@ use Rattle.sqlite.specs.Rows.{sequence}
 use Rattle.sqlite.specs.State.{Executes}
 use Rattle.sqlite.proofs.Callers.{runs_as}
 use Rattle.hall_sql.specs.declared.tables.HallTable.{HallTable}
-use Rattle.hall_sql.specs.declared.tables.HallTable.TheVariants.{People, Puzzles, Rounds, Places, Answers, Protests}
+use Rattle.hall_sql.specs.declared.tables.HallTable.TheVariants.{People, Puzzles, Rounds, Places, Answers, Protests, Testers}
 use Rattle.hall_sql.specs.Made.{table_text, shape_of, schema_before, Awaits}
 use Rattle.hall_sql.proofs.TableTexts.{table_is, making_is}
 use Rattle.sqlite_resolve.specs.declared.error.CompileError.{CompileError}
@@ -60,6 +60,7 @@ uncounted_shape Rounds = refl
 uncounted_shape Places = refl
 uncounted_shape Answers = refl
 uncounted_shape Protests = refl
+uncounted_shape Testers = refl
 
 still_empty : (tables : List Table) (old new : Database) → KeepsRows tables old.trees new.trees → AllByRecursion (λ (t : Table). old.trees t.tree ≡ []) tables
     → AllByRecursion (λ (t : Table). new.trees t.tree ≡ []) tables

@@ -10,6 +10,7 @@ use Rattle.sqlite.specs.Files.{AreFoundIn}
 use Rattle.sqlite.specs.Held.{Held, state}
 use Rattle.sqlite.specs.Recovery.{Image}
 use Rattle.sqlite.specs.Schema.{Schema}
+use Rattle.sqlite.specs.Start.{FindsIn}
 use Rattle.sqlite.specs.State.{State, HasCleanDisk}
 use Rattle.sqlite.specs.Steps.{IsEmpty, over_memory}
 use Rattle.sqlite.specs.Tree.{Trees}
@@ -18,9 +19,12 @@ use Rattle.hall_policy.specs.World.{World}
 use Rattle.hall_store.specs.Maps.{empty_world}
 use Rattle.hall_sql.specs.AdoptCause.{AdoptFails}
 use Rattle.hall_sql.specs.Tables.{no_schema, hall_schema}
+use Rattle.hall_sql.specs.Migrate.{old_content_of}
 use Rattle.hall_sql.specs.Rows.{world_of}
-use Rattle.hall_sql.specs.Standing.{IsBare, StoodOrEmpty, HasAdopted, content_of}
-use Rattle.hall_sql.specs.Opened.{StandsFor, IsFound, Starts, MemoryServes, OneWorldIsFound}
+use Rattle.hall_sql.specs.Standing.{IsBare, StoodOrEmpty, HasAdopted, HasAdoptedOld, content_of}
+use Rattle.hall_sql.specs.WholeRows.{without_testers}
+use Rattle.hall_sql.specs.Opened.{FindsAs, IsFound, MemoryServes, OneWorldIsFound, StandsFor, StandsForOld, Starts}
+use Rattle.hall_sql.specs.Opened.{StartsOld}
 use Rattle.hall_sql.proofs.AdoptLemmas.{bare_world}
 
 -- the database of a connection that was taken over
@@ -41,6 +45,14 @@ from_nothing image db world (inl found) (inl stands) bytes =
     absurd (omega (arith, some, len))
 from_nothing image db world (inr empty) (inl stands) bytes = absurd (rw empty.1.1 at stands.0.lists.listed.tables)
 
+-- what the database that was found stands for
+found_as : (Stands : Trees → World → Type 0) (image : Image) (s : State) (world : World) → FindsIn image s
+    → Stands s.committed.trees world → FindsAs Stands image world
+found_as Stands image s world has stands = record {
+  holds = λ db held. subst (λ (d : Trees). Stands d world) (∥∥₁_elim held (Trees-set _ _) (has.holds db)) stands;
+  reads = (s.committed.trees, has.reads, stands);
+}
+
 pub starts : (image : Image) (old new : State) → IsFound image old → HasAdopted old new → Starts image (content_of new)
 starts image old new file adopted clean =
     let was : HasCleanDisk old = omega (arith, adopted.follows.lasts.clean, clean) in
@@ -51,11 +63,25 @@ starts image old new file adopted clean =
     (stood old new (is.1 is.0.is_open).0 (adopted.stood clean)) in (
       adopted.serves clean,
       record {
-        holds = λ db held. subst (λ (d : Trees). StandsFor d (world_of new.now.trees))
-            (∥∥₁_elim held (Trees-set _ _) (has.holds db)) stands;
-        reads = (old.committed.trees, has.reads, stands);
+        found = found_as StandsFor image old (world_of new.now.trees) has stands;
         nothing = from_nothing image old.committed.trees (world_of new.now.trees) has.reads stands;
       },
+    )
+
+pub starts_old : (image : Image) (old new : State) → IsFound image old → HasAdoptedOld old new
+    → StartsOld image (old_content_of new)
+starts_old image old new file adopted clean =
+    let was : HasCleanDisk old = omega (arith, adopted.follows.lasts.clean, clean) in
+    let is = file.opened was in
+    let has = file.found was in
+    let same = adopted.stood clean in
+    let world : World = without_testers (world_of new.now.trees) in
+    let stands : StandsForOld old.now.trees world = (
+      subst (λ (s : Schema). IsSound s old.now.trees) same.0 (is.1 is.0.is_open).0,
+      ap (λ (d : Database). without_testers (world_of d.trees)) same.1,
+    ) in (
+      adopted.serves clean,
+      found_as StandsForOld image old world has (subst (λ (d : Database). StandsForOld d.trees world) is.0.clean stands),
     )
 
 -- a list with a table is not one with none
@@ -74,7 +100,7 @@ same_world db one other (inr a) (inl b) = absurd (never_both db b.0 a.0)
 same_world db one other (inr a) (inr b) = a.1 ∙ sym b.1
 
 pub one_world : OneWorldIsFound
-one_world image held found has finds = same_world has.db found held (finds.holds has.db has.held) has.stands
+one_world image held found has finds = same_world has.db found held (finds.found.holds has.db has.held) has.stands
 
 pub memory_serves : MemoryServes
 unfolding doubt

@@ -1,17 +1,15 @@
 -- Who has a key, of the people of the table.
-use Rattle.std.proofs.Common.{◌≡◌, ◌≤◌, ℕ, List, [], ◌∷◌, length, map, filter, flat_map, true, Option, Some, None, IfSome, option_to_list, slice_get, refl, sym, subst, ◌∙◌}
-use Rattle.std.specs.List.{list_all, AllByRecursion}
+use Rattle.std.proofs.Common.{◌≡◌, ◌≤◌, inr, ℕ, List, [], ◌∷◌, length, map, filter, flat_map, true, Option, Some, None, IfSome, option_to_list, slice_get, refl, sym, subst, ◌∙◌}
+use Rattle.std.specs.List.{list_all}
 use Rattle.std.specs.List.Sorted.{IsPermutation}
 use Rattle.std.specs.FinMap.{get, values}
 use Rattle.sqlite.specs.declared.types.Value.TheVariants.{Text}
 use Rattle.sqlite.specs.Effect.{IsDatabase}
 use Rattle.sqlite.specs.Order.{Row}
 use Rattle.sqlite.specs.State.{State, Shown}
-use Rattle.sqlite.specs.Table.{Table}
 use Rattle.sqlite.specs.Term.{holds}
 use Rattle.sqlite.specs.Tree.{Trees}
-use Rattle.sqlite_schema.specs.declared.schema.Constraint.TheVariants.{Unique}
-use Rattle.sqlite_schema.specs.Rules.{agree, passes}
+use Rattle.sqlite_schema.specs.Rules.{agree}
 use Rattle.sqlite_rules.proofs.ListLemmas.{all_has}
 use Rattle.sqlite_value.specs.Keys.{plain, first_key}
 use Rattle.sqlite_value.specs.Order.{column}
@@ -22,16 +20,22 @@ use Rattle.hall_policy.proofs.Orders.{text_total, same_texts}
 use Rattle.hall_store.proofs.Tests.{find-Contains}
 use Rattle.hall_policy.proofs.Texts.{text_decides}
 use Rattle.hall_store.specs.Caller.{IsKeyHolder, with_key}
-use Rattle.hall_sql.specs.Tables.{hall_schema, people_table}
+use Rattle.hall_sql.specs.Tables.{hall_schema}
 use Rattle.hall_sql.specs.Rows.{person_in, person_of, world_of}
-use Rattle.hall_sql.specs.Standing.{AreKeyed}
-use Rattle.hall_sql.specs.Statements.{person_by_key_text}
+use Rattle.hall_sql.specs.Standing.{AreKeyed, AreKeyedIn}
+use Rattle.hall_sql.specs.Statements.{person_by_key_text, all_people_text}
 use Rattle.hall_sql.proofs.AmongLemmas.{kept_value, is_among, only_found, only_one}
 use Rattle.hall_sql.proofs.ColumnLemmas.{and_true, column_same}
-use Rattle.hall_sql.proofs.ListedLemmas.{records_asked}
+use Rattle.hall_sql.proofs.ListedLemmas.{by_order, records_asked}
 use Rattle.hall_sql.proofs.PeopleLemmas.{name_column, key_column}
-use Rattle.hall_sql.proofs.PeopleTexts.{equals, person_columns, person_by_key_is}
-use Rattle.hall_sql.proofs.UniqueLemmas.{equal_texts, first_not, kept_keyed, records_listed}
+use Rattle.hall_sql.proofs.PeopleTexts.{equals, person_columns, person_by_key_is, name_order, all_people_are}
+use Rattle.hall_sql.proofs.UniqueLemmas.{equal_texts, kept_keyed, records_listed}
+use Rattle.hall_sql.specs.Versions.{IsVersion}
+use Rattle.sqlite.specs.Schema.{Schema}
+use Rattle.hall_sql.specs.declared.tables.HallTable.TheVariants.{People}
+use Rattle.hall_sql.proofs.Versions.{all_listed, keyed_in, unique_in}
+use Rattle.sqlite_value.proofs.OrderLemmas.{then-Equal, value_cmp-Text}
+use Rattle.hall_policy.specs.Text.{text_cmp}
 
 -- two rows of one name agree on the column of the primary key
 agreeing : (r y : Row) (x z : Person) → person_of r ≡ Some x → person_of y ≡ Some z → x.name ≡ z.name
@@ -39,17 +43,13 @@ agreeing : (r y : Row) (x z : Person) → person_of r ≡ Some x → person_of y
 unfolding first_key
 agreeing r y x z p q e = rw (name_column r x p, name_column y z q, equal_texts z.name x.name (sym e))
 
-abbrev people_there : Table
-people_there = record people_table { tree = 0 }
-
 -- the table's records are the world's people, each once
-people_listed : (db : Trees) → AreKeyed (db 0) → IsDatabase (record { schema = hall_schema; trees = db })
+people_listed : {schema : Schema} → IsVersion schema → (db : Trees) → AreKeyed (db 0) → IsDatabase (record { schema = schema; trees = db })
     → IsPermutation (flat_map (λ r. option_to_list (person_of r)) (db 0)) (values (world_of db).people)
-people_listed db keyed sound =
-    let rule : AllByRecursion (λ row. passes Unique hall_schema db people_there row ≡ true) (db 0) =
-    (sound.obeys.rules Unique).0 in
+people_listed {schema} version db keyed sound =
+    let rule = unique_in schema People db version sound in
     records_listed text_total same_texts (λ (p : Person). p.name) person_of (1 ∷ []) (db 0) keyed agreeing
-    (λ r h. first_not _ _ (all_has _ (db 0) r rule h))
+    (λ r h. all_has _ (db 0) r rule h)
 
 -- WHERE pass = ?1 asks for the key
 keyed_so : (key : List ℕ) (r : Row) (p : Person) → person_of r ≡ Some p
@@ -84,8 +84,23 @@ pub key_holder : (old new : State) → old.now.schema ≡ hall_schema → AreKey
     → Shown person_by_key_text (Text key ∷ []) old new rows → IsKeyHolder (world_of old.now.trees) key (slice_get out 0)
 key_holder old new has keyed sound rows out is short key shown =
     let db = old.now.trees in
-    let whole = people_listed db keyed (subst (λ s. IsDatabase (record { schema = s; trees = db })) has sound) in
+    let whole = people_listed (inr refl) db keyed (subst (λ s. IsDatabase (record { schema = s; trees = db })) has sound) in
     holder db key out
     (records_asked person_in 3 person_by_key_text (Text key ∷ []) 0 (equals 2 0 ∷ []) person_columns [] _ person_by_key_is.0
     person_by_key_is.1 person_by_key_is.2 (λ db. refl) (λ r. refl) (λ p. same_text p.key key) (keyed_so key) old new rows
     out has shown is (values (world_of db).people) whole) short
+
+-- ORDER BY name is the order of names
+same_order : (a b : Row) (x y : Person) → person_of a ≡ Some x → person_of b ≡ Some y
+    → by_order 0 [] person_columns name_order [] a b ≡ text_cmp x.name y.name
+same_order a b x y p q =
+    rw (name_column a x p, name_column b y q, value_cmp-Text x.name y.name, then-Equal (text_cmp x.name y.name))
+
+pub all_people_listed : (schema : Schema) → IsVersion schema → (old new : State) → old.now.schema ≡ schema → AreKeyedIn schema old.now.trees
+    → IsDatabase old.now → (rows : List Row) (out : List Person) → map person_in rows ≡ map Some out → Shown all_people_text [] old new rows
+    → out ≡ values (world_of old.now.trees).people
+all_people_listed schema version old new has keyed sound =
+    let db = old.now.trees in
+    let whole = people_listed version db (keyed_in schema People db version keyed) (subst (λ s. IsDatabase (record { schema = s; trees = db })) has sound) in
+    all_listed (all_people_are schema version) text_total same_texts (λ (p : Person). p.name) person_in 3 (λ db. refl) (λ r. refl)
+    same_order old new has whole

@@ -12,9 +12,12 @@ use Rattle.sqlite.specs.Source.TheVariants.{Values}
 use Rattle.sqlite.specs.declared.types.Value.TheVariants.{Null, Text}
 use Rattle.sqlite.proofs.Callers.{IsPlain, command_of}
 use Rattle.hall_sql.specs.Tables.{hall_schema}
-use Rattle.hall_sql.specs.Statements.{plain_query, person_text, person_by_key_text, add_person_text}
+use Rattle.hall_sql.specs.Statements.{plain_query, person_text, person_by_key_text, add_person_text, all_people_text}
 use Rattle.hall_sql.specs.Asked.{IsAsked, is_whole}
 use Rattle.hall_sql.proofs.AskedLemmas.{asked}
+use Rattle.hall_sql.specs.Versions.{IsVersion}
+use Rattle.sqlite.specs.Schema.{Schema}
+use Rattle.hall_sql.proofs.Versions.{AsksAll, by_version}
 
 abbrev pub equals : ℕ → ℕ → Term
 equals place parameter = op2 (Compare Eq Binary) (col 1 place) (col 0 parameter)
@@ -58,3 +61,17 @@ pub add_person_is : (command_of (understood hall_schema add_person_text) ≡ Ins
     × IsPlain (understood hall_schema add_person_text)
 unfolding understood everything
 add_person_is = (refl, (refl, refl))
+
+abbrev pub person_names : List (List ℕ)
+person_names = codes "name" ∷ codes "pass" ∷ codes "roles" ∷ []
+
+-- the order of names
+abbrev pub name_order : List (Term × Key)
+name_order = (col 1 1, rising) ∷ []
+
+pub all_people_are : (schema : Schema) → IsVersion schema → AsksAll all_people_text 0 person_columns name_order person_names schema
+unfolding understood everything
+all_people_are =
+    by_version (AsksAll all_people_text 0 person_columns name_order person_names)
+    (record { is = refl; unlisted = refl; plain = (refl, refl); whole = refl; typed = refl })
+    (record { is = refl; unlisted = refl; plain = (refl, refl); whole = refl; typed = refl })

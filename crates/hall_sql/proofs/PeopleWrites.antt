@@ -29,7 +29,7 @@ use Rattle.hall_sql.specs.Tables.{hall_schema, people_table}
 use Rattle.hall_sql.specs.Statements.{add_person_text}
 use Rattle.hall_sql.specs.Values.{roles_in}
 use Rattle.hall_sql.specs.Columns.{person_params, roles_code}
-use Rattle.hall_sql.specs.Rows.{kept, person_of, puzzle_row_of, round_of, place_of, answer_of, protest_of, world_of}
+use Rattle.hall_sql.specs.Rows.{kept, person_of, puzzle_row_of, round_of, place_of, answer_of, protest_of, tester_of, world_of}
 use Rattle.hall_sql.specs.Inside.{IsHallData, AddsPerson}
 use Rattle.hall_sql.specs.Spared.{may_write}
 use Rattle.hall_store.specs.declared.change.Change.TheVariants.{Import}
@@ -97,6 +97,7 @@ people_alone old new people others is =
     (ap (λ rows. from_entries (flat_map (λ row. option_to_list (place_of row)) rows)) (others.1.1.1.0 (λ same. absurd (omega (arith, same)))))
     (ap (kept answer_cmp (λ row. row.key) answer_of) (others.1.1.1.1.0 (λ same. absurd (omega (arith, same)))))
     (ap (kept protest_cmp (λ row. row.key) protest_of) (others.1.1.1.1.1.0 (λ same. absurd (omega (arith, same)))))
+    (ap (λ rows. from_entries (flat_map (λ row. option_to_list (tester_of row)) rows)) (others.1.1.1.1.1.1.0 (λ same. absurd (omega (arith, same)))))
 
 -- the INSERT of a person adds the person, where the name is unknown
 pub person_added : (person : Person) → IsPerson person → (old new : State) (count : ℕ) → Executes add_person_text (person_params person) old new (Ok count)

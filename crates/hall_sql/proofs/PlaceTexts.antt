@@ -31,7 +31,7 @@ places_apart db = refl
 pub places_restricted : (olds : List Row) → Restricts (works hall_schema Enforced 0 7 olds [])
 unfolding same_name joined
 places_restricted olds =
-    refusing_works hall_schema Enforced 0 7 olds [] (tt, ((inl refl, tt), (tt, ((inl refl, (inl refl, tt)), ((inl refl, (inr refl, tt)), ((inl refl, (inr refl, tt)), tt))))))
+    refusing_works hall_schema Enforced 0 7 olds [] (tt, ((inl refl, tt), (tt, ((inl refl, (inl refl, tt)), ((inl refl, (inr refl, tt)), ((inl refl, (inr refl, tt)), ((inl refl, (inl refl, tt)), tt)))))))
 
 pub drop_places_is : (command_of (understood hall_schema drop_places_text)
     ≡ Delete 3 (deletion hall_schema places_there (equals 1 0 ∷ []) places_apart places_restricted))

@@ -1,11 +1,8 @@
 -- What the statements that write the puzzles of a round leave.
-use Rattle.std.proofs.Common.{◌≡◌, ◌≢◌, ◌≤◌, ◌<◌, ◌+◌, ◌||◌, ℕ, suc, List, [], ◌∷◌, ◌++◌, length, map, filter, flat_map, take, get_or, option_to_list, Bool, true, false, not, cond, Some, None, Ok, IsTrue, refl, sym, ap, subst, ◌∙◌, arith}
+use Rattle.std.proofs.Common.{◌≡◌, ◌≢◌, ◌≤◌, ◌<◌, ◌+◌, ℕ, suc, List, [], ◌∷◌, ◌++◌, length, map, filter, flat_map, take, get_or, option_to_list, true, not, cond, Some, None, Ok, IsTrue, refl, sym, ap, subst, ◌∙◌, arith}
 use Rattle.std.proofs.lemmas.List.{take_more, length-take-le}
-use Rattle.std.proofs.lemmas.Result.{on_ok_weaker}
-use Rattle.std.specs.Prelude.{OnOk, Result}
 use Rattle.std.specs.List.{AllByRecursion}
-use Rattle.std.specs.FinMap.{FinMap, from_entries, get, insert, get-insert, get-retain_keys, same_map}
-use Rattle.std.specs.Ordering.{eq_by_cmp}
+use Rattle.std.specs.FinMap.{FinMap, from_entries, get, insert, get-retain_keys}
 use Rattle.std.proofs.lemmas.Map.Text.{is_eq-slice_cmp}
 use Rattle.sqlite.specs.declared.types.Value.TheVariants.{Null, Int, Text}
 use Rattle.sqlite_value.specs.Order.{column}
@@ -25,38 +22,35 @@ use Rattle.sqlite.specs.Tree.{Trees}
 use Rattle.sqlite.specs.Effect.{Database}
 use Rattle.sqlite.specs.Source.TheVariants.{Values}
 use Rattle.sqlite.specs.Command.TheVariants.{Insert}
-use Rattle.sqlite.specs.State.{HasCleanDisk, State, Executes}
+use Rattle.sqlite.specs.State.{State, Executes}
 use Rattle.sqlite.proofs.Callers.{runs_as}
 use Rattle.hall_policy.specs.Text.{text_cmp, is_word_byte}
 use Rattle.hall_policy.specs.World.{World, puzzle_cmp, place_cmp, answer_cmp, protest_cmp, same_text}
 use Rattle.hall_policy.specs.Ranges.{IsRoundId, IsEntry, IsWithin}
 use Rattle.hall_policy.specs.declared.record.Entry.{Entry}
 use Rattle.hall_policy.specs.declared.record.PlaceKey.{PlaceKey}
-use Rattle.hall_policy.specs.declared.record.RoundRow.{RoundRow}
 use Rattle.hall_policy.proofs.Maps.{get-insert_other}
 use Rattle.hall_policy.proofs.Orders.{text_total, place_total, same_place_keys}
 use Rattle.hall_policy.proofs.Reading.{kind_holds}
 use Rattle.hall_store.specs.Change.{without_list, with_list}
-use Rattle.hall_store.specs.declared.change.Change.TheVariants.{PutRound}
 use Rattle.hall_sql.specs.Tables.{hall_schema}
 use Rattle.hall_sql.specs.Statements.{drop_places_text, add_place_text}
 use Rattle.hall_sql.specs.Values.{name_in, within}
 use Rattle.hall_sql.specs.RoundColumns.{place_params, is_under}
-use Rattle.hall_sql.specs.Rows.{kept, person_of, puzzle_row_of, round_of, place_of, answer_of, protest_of, world_of}
-use Rattle.hall_sql.specs.Spared.{may_write, is_head_of, is_place_of, Spares}
-use Rattle.hall_sql.specs.Standing.{Lasts, AreKeyed}
-use Rattle.hall_sql.proofs.MapLemmas.{equal_is}
-use Rattle.hall_sql.specs.Inside.{IsHallData, Did, Changes}
-use Rattle.hall_sql.specs.RoundPuts.{PutsHead, DropsPlaces, place_key, with_place, with_places, PutsPlace, HasNoPlaces, PutsPlaces, PutsRows}
+use Rattle.hall_sql.specs.Rows.{kept, person_of, puzzle_row_of, round_of, place_of, answer_of, protest_of, tester_of, world_of}
+use Rattle.hall_sql.specs.Spared.{is_place_of}
+use Rattle.hall_sql.specs.Standing.{AreKeyed}
+use Rattle.hall_sql.specs.Inside.{IsHallData, Did}
+use Rattle.hall_sql.specs.RoundPuts.{DropsPlaces, place_key, with_place, with_places, PutsPlace, HasNoPlaces, PutsPlaces, PutsList}
 use Rattle.hall_sql.proofs.AnswerWrites.{is_within}
 use Rattle.hall_sql.proofs.ColumnLemmas.{kind_column, column_same, and_true}
 use Rattle.hall_sql.proofs.DeleteLemmas.{deletes}
-use Rattle.hall_sql.proofs.EntryLemmas.{put_entry, cut_entries, cut_rows}
+use Rattle.hall_sql.proofs.EntryLemmas.{put_entry, cut_entries, cut_rows, inserts_swapped}
 use Rattle.hall_sql.proofs.InsertLemmas.{inserts}
 use Rattle.hall_sql.proofs.InsideLemmas.{did_none, did_then}
 use Rattle.hall_sql.proofs.KeyedLemmas.{keyed_after, keyed_filter, added_keyed}
 use Rattle.hall_sql.proofs.PeopleTexts.{equals}
-use Rattle.hall_sql.proofs.SparedLemmas.{own_key, added_spared, dropped_spared, alone_spared, same_spared, then_spared, wider_spared}
+use Rattle.hall_sql.proofs.SparedLemmas.{own_key, added_spared, dropped_spared, alone_spared, same_spared, then_spared}
 use Rattle.hall_sql.proofs.PlaceTexts.{places_there, places_apart, places_restricted, drop_places_is, added_terms, add_place_is}
 use Rattle.hall_sql.proofs.WriteLemmas.{same_worlds, cast_null, cast_number}
 use Rattle.hall_sql.proofs.RecordParts.{place_parts_of}
@@ -71,7 +65,7 @@ agrees id r place is =
     and_true _ ∙ column_same (column r 1) place.0.round id round
 
 -- a text is itself
-same_itself : (id : List ℕ) → same_text id id ≡ true
+pub same_itself : (id : List ℕ) → same_text id id ≡ true
 same_itself id = sym (is_eq-slice_cmp id id) ∙ own_key text_total id
 
 -- where the table of places alone was written, the places alone are changed
@@ -87,6 +81,7 @@ places_alone old new places others is =
     is
     (ap (kept answer_cmp (λ row. row.key) answer_of) (others.1.1.1.1.0 (λ same. absurd (omega (arith, same)))))
     (ap (kept protest_cmp (λ row. row.key) protest_of) (others.1.1.1.1.1.0 (λ same. absurd (omega (arith, same)))))
+    (ap (λ rows. from_entries (flat_map (λ row. option_to_list (tester_of row)) rows)) (others.1.1.1.1.1.1.0 (λ same. absurd (omega (arith, same)))))
 
 quiet : (new : Row) → works hall_schema Enforced 0 7 [] (new ∷ []) ≡ []
 unfolding same_name joined
@@ -146,22 +141,6 @@ module _ (id : List ℕ) (old new : State) (count : ℕ) (held : IsHallData old.
 
 -- ---- places one after another
 
--- two insertions at different keys may change turns
-swapped : {X : Type 0} (a b : Bool) (x y z : X) → (a ≡ true → b ≡ true → ⊥) → cond a x (cond b y z) ≡ cond b y (cond a x z)
-swapped true true x y z apart = absurd (apart refl refl)
-swapped true false x y z apart = refl
-swapped false b x y z apart = refl
-
-inserts_swapped : (places : FinMap place_cmp Entry) (a b : PlaceKey) (x y : Entry) → a ≢ b → insert (insert places a x) b y ≡ insert (insert places b y) a x
-inserts_swapped places a b x y apart =
-    same_map place_total same_place_keys _ _ (λ q.
-    get-insert place_total (insert places a x) b y q
-    ∙ ap (cond (eq_by_cmp place_cmp q b) (Some y)) (get-insert place_total places a x q)
-    ∙ swapped (eq_by_cmp place_cmp q b) (eq_by_cmp place_cmp q a) (Some y) (Some x) (get places q)
-    (λ tie_b tie_a. apart (sym (same_place_keys q a (equal_is _ tie_a)) ∙ same_place_keys q b (equal_is _ tie_b)))
-    ∙ ap (cond (eq_by_cmp place_cmp q a) (Some x)) (sym (get-insert place_total places b y q))
-    ∙ sym (get-insert place_total (insert places b y) a x q))
-
 module _ (places : FinMap place_cmp Entry) (id : List ℕ) where
   number_differs : (m n : ℕ) → m ≢ n → place_key id m ≢ place_key id n
   number_differs m n apart same = apart (ap (λ (k : PlaceKey). k.number) same)
@@ -174,7 +153,7 @@ module _ (places : FinMap place_cmp Entry) (id : List ℕ) where
       let at : number + 1 + length entries ≡ number + suc (length entries) = omega arith in
       let more = with_list places id (number + 1) entries in
       ap (λ m. insert m (place_key id number) entry) (with_last (number + 1) entries last)
-      ∙ inserts_swapped more (place_key id (number + 1 + length entries)) (place_key id number) last entry (number_differs _ _ (λ same. omega (arith, same)))
+      ∙ inserts_swapped place_total same_place_keys more (place_key id (number + 1 + length entries)) (place_key id number) last entry (λ same. absurd (number_differs _ _ (λ n. omega (arith, n)) same))
       ∙ ap (λ n. insert (insert more (place_key id number) entry) (place_key id n) last) at
 
   -- above its last entry a list changes nothing
@@ -229,49 +208,14 @@ freed id places number =
     get-retain_keys places (λ k. not (same_text k.round id)) (place_key id number) (λ x tied. ap (λ (k : PlaceKey). not (same_text k.round id)) (sym (same_place_keys (place_key id number) x tied)))
     ∙ ap (λ b. cond (not b) (get places (place_key id number)) None) (same_itself id)
 
-either_first : (a b : Bool) → a ≡ true → a || b ≡ true
-either_first a b is = ap (λ c. c || b) is
-
-either_second : (a b : Bool) → b ≡ true → a || b ≡ true
-either_second true b is = refl
-either_second false b is = is
-
--- the head, and then the list in the place of the one before
-round_put : (row : RoundRow) (a b c d : Database) → PutsHead row.round a b → DropsPlaces row.round.id b c → PutsPlaces row.round.id row.puzzles c d → Changes (PutRound row) a d
-round_put row a b c d head dropped put =
-    let id = row.round.id in
-    let world = world_of a.trees in
-    let none = subst (λ (w : World). HasNoPlaces id w.places) (sym dropped.world) (freed id (world_of b.trees).places) in
-    let places = λ (old new : Trees) (it : Spares (is_place_of id) old new). wider_spared (is_place_of id) (may_write (PutRound row)) (λ tree r is. either_second _ _ is) old new it in
+-- the list in the place of the one before
+pub list_put : (id : List ℕ) (entries : List Entry) (a b c : Database) → DropsPlaces id a b → PutsPlaces id entries b c → PutsList id entries a c
+list_put id entries a b c dropped put =
+    let none = subst (λ (w : World). HasNoPlaces id w.places) (sym dropped.world) (freed id (world_of a.trees).places) in
     record {
-      world = put.world none
-          ∙ ap (λ (w : World). record w { places = with_list w.places id 1 row.puzzles }) dropped.world
-          ∙ ap (λ (w : World). record w { places = with_list (without_list w.places id) id 1 row.puzzles }) head.world;
-      others = then_spared (may_write (PutRound row)) a.trees c.trees d.trees
-          (then_spared (may_write (PutRound row)) a.trees b.trees c.trees
-          (wider_spared (is_head_of id) (may_write (PutRound row)) (λ tree r is. either_first _ _ is) a.trees b.trees head.others)
-          (places b.trees c.trees dropped.others))
-          (places c.trees d.trees put.others);
-    }
-
-passing_all : (rows : List Row) → filter (λ r. true) rows ≡ rows
-passing_all [] = refl
-passing_all (r ∷ rows) = ap (λ l. r ∷ l) (passing_all rows)
-
--- a table of which no row may be written is as it was
-table_left : (old new : List Row) → filter (λ r. true) new ≡ filter (λ r. true) old → new ≡ old
-table_left old new it = sym (passing_all new) ∙ it ∙ passing_all old
-
--- and no other row stands under the id
-rows_put : (row : RoundRow) (a b c d : Database) → PutsHead row.round a b → DropsPlaces row.round.id b c → PutsPlaces row.round.id row.puzzles c d → PutsRows row a d
-rows_put row a b c d head dropped put =
-    let id = row.round.id in
-    let places : b.trees 7 ≡ a.trees 7 = table_left (a.trees 7) (b.trees 7) head.others.1.1.1.0 in
-    let dropped_heads : c.trees 5 ≡ b.trees 5 = table_left (b.trees 5) (c.trees 5) dropped.others.1.1.0 in
-    let heads : d.trees 5 ≡ c.trees 5 = table_left (c.trees 5) (d.trees 5) put.others.1.1.0 in
-    record {
-      head = record { rowid = head.row.rowid; alone = ap (filter (is_under id)) (heads ∙ dropped_heads) ∙ head.row.alone };
-      places = put.rows ∙ ap (with_places id 1 row.puzzles) (dropped.rows ∙ ap (filter (λ r. not (is_under id r))) places);
+      world = put.world none ∙ ap (λ (w : World). record w { places = with_list w.places id 1 entries }) dropped.world;
+      rows = put.rows ∙ ap (with_places id 1 entries) dropped.rows;
+      others = then_spared (is_place_of id) a.trees b.trees c.trees dropped.others put.others;
     }
 
 -- ---- the same inside a transaction
@@ -284,33 +228,3 @@ pub more_did : (id : List ℕ) (entries : List Entry) (i number : ℕ) (entry : 
 more_did id entries i number entry a b c at low is so it =
     did_then (PutsPlaces id (take i entries)) (PutsPlace id (number + 1) entry) (PutsPlaces id (take (i + 1) entries)) a b c
     (λ one two. more_places id entries i entry a.now b.now c.now low is one (subst (λ n. PutsPlace id (n + 1) entry b.now c.now) at two)) so it
-
--- the three calls after each other
-module _ (row : RoundRow) (a b c d : State) where
-  joined_did : (Does : Database → Database → Type 0)
-      → (PutsHead row.round a.now b.now → DropsPlaces row.round.id b.now c.now → PutsPlaces row.round.id row.puzzles c.now d.now → Does a.now d.now)
-      → Did (PutsHead row.round) a b → Did (DropsPlaces row.round.id) b c → Did (PutsPlaces row.round.id row.puzzles) c d → Did Does a d
-  joined_did Does joins one two three =
-      did_then (PutsHead row.round) (λ old new. PutsHead row.round a.now old → Does a.now new) Does a b d (λ first rest. rest first) one
-      (did_then (DropsPlaces row.round.id) (PutsPlaces row.round.id row.puzzles) (λ old new. PutsHead row.round a.now old → Does a.now new) b c d
-      (λ second third first. joins first second third) two three)
-
-  pub round_did : Did (PutsHead row.round) a b → Did (DropsPlaces row.round.id) b c → Did (PutsPlaces row.round.id row.puzzles) c d → Did (Changes (PutRound row)) a d
-  round_did = joined_did (Changes (PutRound row)) (round_put row a.now b.now c.now d.now)
-
-  pub rows_did : Did (PutsHead row.round) a b → Did (DropsPlaces row.round.id) b c → Did (PutsPlaces row.round.id row.puzzles) c d → Did (PutsRows row) a d
-  rows_did = joined_did (PutsRows row) (rows_put row a.now b.now c.now d.now)
-
-  pub all_did : {A E : Type 0} (Does : Database → Database → Type 0) (result : Result A E) (puzzles : List Entry)
-      → (Did (PutsHead row.round) a b → Did (DropsPlaces row.round.id) b c → Did (PutsPlaces row.round.id row.puzzles) c d → Did Does a d)
-      → puzzles ≡ row.puzzles → Lasts b c → Lasts c d
-      → (HasCleanDisk b → IsTrue a.in_transaction → Did (PutsHead row.round) a b)
-      → (HasCleanDisk c → IsTrue b.in_transaction → Did (DropsPlaces row.round.id) b c)
-      → (HasCleanDisk d → IsTrue c.in_transaction → OnOk result (Did (PutsPlaces row.round.id puzzles) c d))
-      → HasCleanDisk d → IsTrue a.in_transaction → OnOk result (Did Does a d)
-  all_did Does result puzzles joins same to_c to_d heads drops puts clean inside =
-      let clean_c : HasCleanDisk c = omega (arith, to_d.clean, clean) in
-      let clean_b : HasCleanDisk b = omega (arith, to_c.clean, clean_c) in
-      let one = heads clean_b inside in
-      let two = drops clean_c one.steps.mode in
-      on_ok_weaker result (λ three. joins one two (subst (λ l. Did (PutsPlaces row.round.id l) c d) same three)) (puts clean two.steps.mode)

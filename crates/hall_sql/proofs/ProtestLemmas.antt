@@ -1,7 +1,7 @@
 -- What the statements on protests say of the world.
-use Rattle.std.proofs.Common.{◌≡◌, ◌≤◌, ◌&&◌, ℕ, pos, List, [], ◌∷◌, length, map, flat_map, true, slice_get, Some, IfSome, option_to_list, refl, sym, ap, subst, ◌∙◌}
+use Rattle.std.proofs.Common.{◌≡◌, ◌≤◌, inr, ◌&&◌, ℕ, pos, List, [], ◌∷◌, length, map, flat_map, true, slice_get, Some, IfSome, option_to_list, refl, sym, ap, subst, ◌∙◌}
 use Rattle.std.proofs.lemmas.Option.{IfSome_then}
-use Rattle.std.specs.List.{list_all, AllByRecursion}
+use Rattle.std.specs.List.{list_all}
 use Rattle.std.specs.List.Sorted.{IsPermutation}
 use Rattle.std.specs.Ordering.{eq_by_cmp}
 use Rattle.std.specs.FinMap.{get, values}
@@ -11,8 +11,7 @@ use Rattle.sqlite.specs.Order.{Row}
 use Rattle.sqlite.specs.State.{State, Shown}
 use Rattle.sqlite.specs.Term.{Term, holds}
 use Rattle.sqlite.specs.Tree.{Trees}
-use Rattle.sqlite_schema.specs.declared.schema.Constraint.TheVariants.{Unique}
-use Rattle.sqlite_schema.specs.Rules.{agree, passes}
+use Rattle.sqlite_schema.specs.Rules.{agree}
 use Rattle.sqlite_rules.proofs.ListLemmas.{all_has}
 use Rattle.sqlite_value.specs.Keys.{plain, first_key}
 use Rattle.sqlite_value.specs.Order.{column}
@@ -27,15 +26,19 @@ use Rattle.hall_sql.specs.Tables.{hall_schema}
 use Rattle.hall_sql.specs.Values.{name_in, token_in, within, kind_in, ruling_in}
 use Rattle.hall_sql.specs.Rows.{protest_in, protest_of, world_of}
 use Rattle.hall_sql.specs.Columns.{IsAlone}
-use Rattle.hall_sql.specs.Standing.{AreKeyed}
-use Rattle.hall_sql.specs.Statements.{protest_text, protests_of_text, protests_in_text}
+use Rattle.hall_sql.specs.Standing.{AreKeyed, AreKeyedIn}
+use Rattle.hall_sql.specs.Statements.{all_protests_text, protest_text, protests_of_text, protests_in_text}
 use Rattle.hall_sql.proofs.ColumnLemmas.{kind_column, number_column, column_equals, column_same, and_true, last_equal, more_equal}
 use Rattle.hall_sql.proofs.FoundLemmas.{asked_found, asked_alone}
 use Rattle.hall_sql.proofs.ListedLemmas.{by_order, values_asked}
 use Rattle.hall_sql.proofs.PeopleTexts.{equals}
-use Rattle.hall_sql.proofs.ProtestTexts.{protests_there, key_terms, key_order, protest_columns, protest_is, protests_of_is, protests_in_is}
+use Rattle.hall_sql.proofs.ProtestTexts.{all_protests_are, key_terms, key_order, protest_columns, protest_is, protests_of_is, protests_in_is}
 use Rattle.hall_sql.proofs.RecordParts.{protest_parts_of}
-use Rattle.hall_sql.proofs.UniqueLemmas.{equal_texts, first_not, records_listed}
+use Rattle.hall_sql.proofs.UniqueLemmas.{equal_texts, records_listed}
+use Rattle.hall_sql.specs.Versions.{IsVersion}
+use Rattle.sqlite.specs.Schema.{Schema}
+use Rattle.hall_sql.specs.declared.tables.HallTable.TheVariants.{Protests}
+use Rattle.hall_sql.proofs.Versions.{all_listed, keyed_in, unique_in}
 
 -- the columns of a protest, and what its ruling is read from
 pub record HasColumns (r : Row) (row : ProtestRow) : Type 0 where
@@ -113,14 +116,13 @@ agreeing r y x z p q e =
     )
 
 -- the table's records are the world's protests, each once
-pub protests_listed : (db : Trees) → AreKeyed (db 12) → IsDatabase (record { schema = hall_schema; trees = db })
+pub protests_listed : {schema : Schema} → IsVersion schema → (db : Trees) → AreKeyed (db 12) → IsDatabase (record { schema = schema; trees = db })
     → IsPermutation (flat_map (λ r. option_to_list (protest_of r)) (db 12)) (values (world_of db).protests)
-protests_listed db keyed sound =
-    let rule : AllByRecursion (λ row. passes Unique hall_schema db protests_there row ≡ true) (db 12) =
-    (sound.obeys.rules Unique).1.1.1.1.1.0 in
+protests_listed {schema} version db keyed sound =
+    let rule = unique_in schema Protests db version sound in
     records_listed protest_total same_protest_keys (λ (row : ProtestRow). row.key) protest_of (1 ∷ 2 ∷ 3 ∷ []) (db 12)
     keyed agreeing
-    (λ r h. first_not _ _ (all_has _ (db 12) r rule h))
+    (λ r h. all_has _ (db 12) r rule h)
 
 -- ORDER BY entrant, round, token is the order of keys
 pub same_order : (params : Row) (terms : List Term) (a b : Row) (x y : ProtestRow) → protest_of a ≡ Some x → protest_of b ≡ Some y
@@ -141,6 +143,15 @@ same_order params terms a b x y p q =
       then-Equal (text_cmp x.key.token y.key.token),
     )
 
+pub all_protests_listed : (schema : Schema) → IsVersion schema → (old new : State) → old.now.schema ≡ schema → AreKeyedIn schema old.now.trees
+    → IsDatabase old.now → (rows : List Row) (out : List ProtestRow) → map protest_in rows ≡ map Some out → Shown all_protests_text [] old new rows
+    → out ≡ values (world_of old.now.trees).protests
+all_protests_listed schema version old new has keyed sound =
+    let db = old.now.trees in
+    let whole = protests_listed version db (keyed_in schema Protests db version keyed) (subst (λ s. IsDatabase (record { schema = s; trees = db })) has sound) in
+    all_listed (all_protests_are schema version) protest_total same_protest_keys (λ (row : ProtestRow). row.key) protest_in 7 (λ db. refl) (λ r. refl)
+    (same_order [] []) old new has whole
+
 -- what a query gives of the world's protests
 module _ (old new : State) (has : old.now.schema ≡ hall_schema) (keyed : AreKeyed (old.now.trees 12)) (sound : IsDatabase old.now)
     (rows : List Row) (out : List ProtestRow) (is : map protest_in rows ≡ map Some out) where
@@ -148,7 +159,7 @@ module _ (old new : State) (has : old.now.schema ≡ hall_schema) (keyed : AreKe
       (values (world_of old.now.trees).protests)
   whole =
       let db = old.now.trees in
-      protests_listed db keyed (subst (λ s. IsDatabase (record { schema = s; trees = db })) has sound)
+      protests_listed (inr refl) db keyed (subst (λ s. IsDatabase (record { schema = s; trees = db })) has sound)
 
   pub in_agrees : (round : List ℕ) (r : Row) (x : ProtestRow) → protest_of r ≡ Some x
       → list_all (holds ((Text round ∷ []) ∷ r ∷ [])) (equals 2 0 ∷ []) ≡ is_protest_in round x

@@ -13,11 +13,14 @@ use Rattle.sqlite.specs.Command.TheVariants.{Select, Insert, Update}
 use Rattle.sqlite.proofs.Callers.{IsPlain, command_of}
 use Rattle.hall_sql.specs.Tables.{hall_schema, protests_table}
 use Rattle.hall_sql.specs.Statements.{plain_query, protest_text, protests_of_text, protests_in_text}
-use Rattle.hall_sql.specs.Statements.{add_protest_text, rule_protest_text}
+use Rattle.hall_sql.specs.Statements.{add_protest_text, rule_protest_text, all_protests_text}
 use Rattle.hall_sql.proofs.UpdateLemmas.{update}
 use Rattle.hall_sql.proofs.PeopleTexts.{equals, rising}
 use Rattle.hall_sql.specs.Asked.{IsAsked, is_whole}
 use Rattle.hall_sql.proofs.AskedLemmas.{asked}
+use Rattle.hall_sql.specs.Versions.{IsVersion}
+use Rattle.sqlite.specs.Schema.{Schema}
+use Rattle.hall_sql.proofs.Versions.{AsksAll, by_version}
 
 abbrev pub protest_columns : List Term
 protest_columns = col 1 1 ∷ col 1 2 ∷ col 1 3 ∷ col 1 4 ∷ col 1 5 ∷ col 1 6 ∷ col 1 7 ∷ []
@@ -93,3 +96,10 @@ pub rule_protest_is : (command_of (understood hall_schema rule_protest_text)
     × IsPlain (understood hall_schema rule_protest_text)
 unfolding understood everything
 rule_protest_is = (refl, (refl, refl))
+
+pub all_protests_are : (schema : Schema) → IsVersion schema → AsksAll all_protests_text 12 protest_columns key_order protest_names schema
+unfolding understood everything
+all_protests_are =
+    by_version (AsksAll all_protests_text 12 protest_columns key_order protest_names)
+    (record { is = refl; unlisted = refl; plain = (refl, refl); whole = refl; typed = refl })
+    (record { is = refl; unlisted = refl; plain = (refl, refl); whole = refl; typed = refl })

@@ -20,8 +20,9 @@ use Rattle.sqlite.specs.Table.{Table}
 use Rattle.sqlite.specs.Tree.{Trees}
 use Rattle.sqlite.specs.Source.TheVariants.{Values}
 use Rattle.sqlite.specs.Command.TheVariants.{Insert, Update}
-use Rattle.sqlite.specs.State.{State, HasCleanDisk, Executes}
-use Rattle.sqlite.proofs.Callers.{runs_as}
+use Rattle.sqlite.specs.State.{State, HasCleanDisk, Executes, Writes}
+use Rattle.sqlite.specs.Listing.{understood}
+use Rattle.sqlite.proofs.Callers.{runs_as, statement_of}
 use Rattle.hall_policy.specs.Text.{text_cmp, is_word_byte, is_printable}
 use Rattle.hall_policy.specs.World.{puzzle_cmp, answer_cmp, protest_cmp, ruling_points}
 use Rattle.hall_policy.specs.Ranges.{IsProtestRow, IsRuling}
@@ -37,15 +38,17 @@ use Rattle.hall_sql.specs.Tables.{hall_schema}
 use Rattle.hall_sql.specs.Statements.{add_protest_text, rule_protest_text}
 use Rattle.hall_sql.specs.Values.{ruling_in}
 use Rattle.hall_sql.specs.Columns.{protest_params, ruling_params, ruling_code, is_protest_under, IsAlone}
-use Rattle.hall_sql.specs.Rows.{kept, person_of, puzzle_row_of, round_of, place_of, answer_of, protest_of, world_of}
+use Rattle.hall_sql.specs.Rows.{kept, person_of, puzzle_row_of, round_of, place_of, answer_of, protest_of, tester_of, world_of}
 use Rattle.hall_sql.specs.Spared.{may_write}
-use Rattle.hall_sql.specs.Standing.{IsHall, HasMade}
+use Rattle.hall_sql.specs.Standing.{HasAdded, IsHall, HasMade}
+use Rattle.hall_sql.specs.Fill.{WithProtest}
+use Rattle.hall_sql.specs.Inside.{IsHallData, Worlds}
 use Rattle.hall_sql.proofs.AnswerWrites.{is_within}
 use Rattle.hall_sql.proofs.ProtestTexts.{protests_there, key_terms, added_terms, ruled_terms, apart, add_protest_is, rule_protest_is}
 use Rattle.hall_sql.proofs.ProtestLemmas.{has_columns, agrees}
 use Rattle.hall_sql.proofs.CallLemmas.{executed_open}
 use Rattle.hall_sql.proofs.InsertLemmas.{inserts}
-use Rattle.hall_sql.proofs.KeyedLemmas.{keyed_after, added_keyed}
+use Rattle.hall_sql.proofs.KeyedLemmas.{data_added, keyed_after}
 use Rattle.hall_sql.proofs.FoundLemmas.{one_found}
 use Rattle.hall_sql.proofs.MapLemmas.{put_new}
 use Rattle.hall_sql.proofs.ReplaceLemmas.{replaced_one}
@@ -93,8 +96,32 @@ protests_alone old new protests others is =
     (ap (λ rows. from_entries (flat_map (λ row. option_to_list (place_of row)) rows)) (others.1.1.1.0 (λ same. absurd (omega (arith, same)))))
     (ap (kept answer_cmp (λ row. row.key) answer_of) (others.1.1.1.1.0 (λ same. absurd (omega (arith, same)))))
     is
+    (ap (λ rows. from_entries (flat_map (λ row. option_to_list (tester_of row)) rows)) (others.1.1.1.1.1.1.0 (λ same. absurd (omega (arith, same)))))
 
--- the INSERT of a protest under a new key
+-- what the INSERT of a protest adds
+module _ (row : ProtestRow) (is : IsProtestRow row) (old new : State) (count : ℕ) (has : old.now.schema ≡ hall_schema)
+    (ran : Executes add_protest_text (protest_params row) old new (Ok count)) where
+  writes : Writes old new None (Insert 5 (Values added_terms 8)) (statement_of add_protest_text (understood hall_schema add_protest_text)) (protest_params row) count
+  writes = runs_as add_protest_text (protest_params row) old new hall_schema has (Insert 5 (Values added_terms 8)) add_protest_is.0 add_protest_is.1 count ran
+
+  adds : HasAdded hall_schema 12 (protest_params row) old.now new.now
+  adds =
+      let params = protest_params row in
+      inserts hall_schema 5 protests_there refl refl added_terms 8 params (Null ∷ params) params refl refl (protest_casts row) quiet old new _ count has writes
+
+  with_protest : WithProtest (world_of old.now.trees) row (world_of new.now.trees)
+  with_protest fresh =
+      let id = Int (next_rowid (old.now.trees 12)) in
+      protests_alone old.now.trees new.now.trees (insert (world_of old.now.trees).protests row.key row) adds.others
+      (put_new protest_total same_protest_keys (λ (x : ProtestRow). x.key) protest_of row (id ∷ protest_params row) (old.now.trees 12) (new.now.trees 12) adds.put (protest_reads row is id) adds.free fresh)
+
+-- the INSERT of a protest inside a transaction
+pub protest_put : (row : ProtestRow) → IsProtestRow row → (old new : State) (count : ℕ) → Executes add_protest_text (protest_params row) old new (Ok count)
+    → IsHallData old.now → IsHallData new.now × Worlds (λ a b. WithProtest a row b) old.now new.now
+protest_put row is old new count ran held =
+    (data_added 12 (protest_params row) old.now new.now (adds row is old new count held.schema ran) held held.keyed.1.1.1.1.1.0, with_protest row is old new count held.schema ran)
+
+-- and outside of one, under a new key
 pub protest_added : (row : ProtestRow) → IsProtestRow row → (old new : State) (count : ℕ) → IsHall old → HasCleanDisk old
     → (IsTrue old.is_open → get (world_of old.now.trees).protests row.key ≡ None)
     → Executes add_protest_text (protest_params row) old new (Ok count) → HasMade (AddProtest row) old new
@@ -102,21 +129,19 @@ protest_added row is old new count hall clean fresh ran =
     let params = protest_params row in
     let mode = hall.autocommit clean in
     let was = executed_open old new add_protest_text params count mode ran in
-    let has = (hall.settled clean was).1 in
-    let keyed = hall.keyed clean was in
-    let w = runs_as add_protest_text params old new hall_schema has (Insert 5 (Values added_terms 8)) add_protest_is.0 add_protest_is.1 count ran in
-    let it = inserts hall_schema 5 protests_there refl refl added_terms 8 params (Null ∷ params) params refl refl (protest_casts row) quiet old new _ count has w in
-    let id = next_rowid (old.now.trees 12) in
-    let after = added_keyed id params (old.now.trees 12) (new.now.trees 12) it.put it.free keyed.1.1.1.1.1.0 in
+    let held : IsHallData old.now = record { schema = (hall.settled clean was).1; keyed = hall.keyed clean was } in
+    let w = writes row is old new count held.schema ran in
+    let it = adds row is old new count held.schema ran in
+    let put = protest_put row is old new count ran held in
+    let id = Int (next_rowid (old.now.trees 12)) in
     record {
-      hall = writes_hall old new _ _ _ count mode w it.same (keyed_after 12 old.now.trees new.now.trees hall_schema.tables after it.others keyed);
+      hall = writes_hall old new _ _ _ count mode w put.0.schema put.0.keyed;
       was_open = was;
       serves = w.shown.is_open;
-      world = protests_alone old.now.trees new.now.trees (insert (world_of old.now.trees).protests row.key row) it.others
-          (put_new protest_total same_protest_keys (λ (x : ProtestRow). x.key) protest_of row (Int id ∷ params) (old.now.trees 12) (new.now.trees 12) it.put (protest_reads row is (Int id)) it.free (fresh was));
+      world = put.1 (fresh was);
       others = alone_spared (may_write (AddProtest row)) 12 old.now.trees new.now.trees
-          (added_spared (may_write (AddProtest row) 12) (old.now.trees 12) (new.now.trees 12) (Int id ∷ params)
-          (taken_record protest_total (λ (x : ProtestRow). x.key) row.key (protest_of (Int id ∷ params)) row (protest_reads row is (Int id)) refl) it.free it.put) it.others;
+          (added_spared (may_write (AddProtest row) 12) (old.now.trees 12) (new.now.trees 12) (id ∷ params)
+          (taken_record protest_total (λ (x : ProtestRow). x.key) row.key (protest_of (id ∷ params)) row (protest_reads row is id) refl) it.free it.put) it.others;
     }
 
 -- ---- the ruling of the protest that stands alone under a key

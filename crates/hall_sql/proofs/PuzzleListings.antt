@@ -1,6 +1,6 @@
 -- What the listings of puzzles say of the world.
-use Rattle.std.proofs.Common.{◌≡◌, ℕ, List, [], ◌∷◌, length, map, flat_map, true, Some, option_to_list, refl, sym, ap, subst, ◌∙◌}
-use Rattle.std.specs.List.{list_all, AllByRecursion}
+use Rattle.std.proofs.Common.{◌≡◌, inr, ℕ, List, [], ◌∷◌, length, map, flat_map, true, Some, option_to_list, refl, sym, ap, subst, ◌∙◌}
+use Rattle.std.specs.List.{list_all}
 use Rattle.std.specs.List.Sorted.{IsPermutation}
 use Rattle.std.specs.FinMap.{values}
 use Rattle.sqlite.specs.declared.types.Value.TheVariants.{Text}
@@ -9,10 +9,8 @@ use Rattle.sqlite.specs.Order.{Row}
 use Rattle.sqlite.specs.State.{State, Shown}
 use Rattle.sqlite.specs.Term.{Term, holds}
 use Rattle.sqlite.specs.Tree.{Trees}
-use Rattle.sqlite_schema.specs.declared.schema.Constraint.TheVariants.{Unique}
-use Rattle.sqlite_schema.specs.Rules.{agree, passes}
+use Rattle.sqlite_schema.specs.Rules.{agree}
 use Rattle.sqlite_rules.proofs.ListLemmas.{all_has}
-use Rattle.sqlite_trees.proofs.ListLemmas.{filter_all, all_of}
 use Rattle.sqlite_value.specs.Keys.{plain, first_key}
 use Rattle.sqlite_value.specs.Order.{column}
 use Rattle.sqlite_value.proofs.OrderLemmas.{then-Equal, value_cmp-Text}
@@ -27,14 +25,18 @@ use Rattle.hall_store.specs.Store.{puzzles_of}
 use Rattle.std.proofs.lemmas.List.Sums.{length-filter}
 use Rattle.hall_sql.specs.Tables.{hall_schema}
 use Rattle.hall_sql.specs.Rows.{puzzle_row_in, puzzle_row_of, world_of}
-use Rattle.hall_sql.specs.Standing.{AreKeyed}
+use Rattle.hall_sql.specs.Standing.{AreKeyed, AreKeyedIn}
 use Rattle.hall_sql.specs.Statements.{all_puzzles_text, puzzles_of_text}
 use Rattle.hall_sql.proofs.ColumnLemmas.{and_true, column_same}
 use Rattle.hall_sql.proofs.ListedLemmas.{by_order, values_asked}
 use Rattle.hall_sql.proofs.PeopleTexts.{equals}
 use Rattle.hall_sql.proofs.PuzzleLemmas.{key_columns}
-use Rattle.hall_sql.proofs.PuzzleTexts.{puzzle_columns, key_order, puzzles_there, all_puzzles_is, puzzles_of_is}
-use Rattle.hall_sql.proofs.UniqueLemmas.{equal_texts, first_not, records_listed}
+use Rattle.hall_sql.proofs.PuzzleTexts.{puzzle_columns, key_order, all_puzzles_are, puzzles_of_is}
+use Rattle.hall_sql.proofs.UniqueLemmas.{equal_texts, records_listed}
+use Rattle.hall_sql.specs.Versions.{IsVersion}
+use Rattle.sqlite.specs.Schema.{Schema}
+use Rattle.hall_sql.specs.declared.tables.HallTable.TheVariants.{Puzzles}
+use Rattle.hall_sql.proofs.Versions.{all_listed, keyed_in, unique_in}
 
 -- two rows of one key agree on the columns of the primary key
 agreeing : (r y : Row) (x z : PuzzleRow) → puzzle_row_of r ≡ Some x → puzzle_row_of y ≡ Some z → x.key ≡ z.key
@@ -53,13 +55,12 @@ agreeing r y x z p q e =
     )
 
 -- the table's records are the world's puzzles, each once
-puzzles_listed : (db : Trees) → AreKeyed (db 3) → IsDatabase (record { schema = hall_schema; trees = db })
+puzzles_listed : {schema : Schema} → IsVersion schema → (db : Trees) → AreKeyed (db 3) → IsDatabase (record { schema = schema; trees = db })
     → IsPermutation (flat_map (λ r. option_to_list (puzzle_row_of r)) (db 3)) (values (world_of db).puzzles)
-puzzles_listed db keyed sound =
-    let rule : AllByRecursion (λ row. passes Unique hall_schema db puzzles_there row ≡ true) (db 3) =
-    (sound.obeys.rules Unique).1.0 in
+puzzles_listed {schema} version db keyed sound =
+    let rule = unique_in schema Puzzles db version sound in
     records_listed puzzle_total same_puzzle_keys (λ (row : PuzzleRow). row.key) puzzle_row_of (1 ∷ 2 ∷ []) (db 3) keyed agreeing
-    (λ r h. first_not _ _ (all_has _ (db 3) r rule h))
+    (λ r h. all_has _ (db 3) r rule h)
 
 -- ORDER BY author, label is the order of keys
 same_order : (params : Row) (terms : List Term) (a b : Row) (x y : PuzzleRow) → puzzle_row_of a ≡ Some x
@@ -78,6 +79,15 @@ same_order params terms a b x y p q =
       then-Equal (text_cmp x.key.label y.key.label),
     )
 
+pub all_puzzles_listed : (schema : Schema) → IsVersion schema → (old new : State) → old.now.schema ≡ schema → AreKeyedIn schema old.now.trees
+    → IsDatabase old.now → (rows : List Row) (out : List PuzzleRow) → map puzzle_row_in rows ≡ map Some out
+    → Shown all_puzzles_text [] old new rows → out ≡ values (world_of old.now.trees).puzzles
+all_puzzles_listed schema version old new has keyed sound =
+    let db = old.now.trees in
+    let whole = puzzles_listed version db (keyed_in schema Puzzles db version keyed) (subst (λ s. IsDatabase (record { schema = s; trees = db })) has sound) in
+    all_listed (all_puzzles_are schema version) puzzle_total same_puzzle_keys (λ (row : PuzzleRow). row.key) puzzle_row_in 5 (λ db. refl) (λ r. refl)
+    (same_order [] []) old new has whole
+
 -- the author's puzzles are as many as the rules count
 pub puzzles_counted : (world : World) (author : List ℕ) → length (puzzles_of world author) ≡ puzzles_put world author
 puzzles_counted world author =
@@ -90,18 +100,11 @@ module _ (old new : State) (has : old.now.schema ≡ hall_schema) (keyed : AreKe
       (values (world_of old.now.trees).puzzles)
   whole =
       let db = old.now.trees in
-      puzzles_listed db keyed (subst (λ s. IsDatabase (record { schema = s; trees = db })) has sound)
+      puzzles_listed (inr refl) db keyed (subst (λ s. IsDatabase (record { schema = s; trees = db })) has sound)
 
   by_author : (author : List ℕ) (r : Row) (x : PuzzleRow) → puzzle_row_of r ≡ Some x
       → list_all (holds ((Text author ∷ []) ∷ r ∷ [])) (equals 1 0 ∷ []) ≡ same_text x.key.author author
   by_author author r x h = and_true _ ∙ column_same (column r 1) x.key.author author (key_columns r x h).0
-
-  pub all_puzzles_listed : Shown all_puzzles_text [] old new rows → out ≡ values (world_of old.now.trees).puzzles
-  all_puzzles_listed shown =
-      values_asked puzzle_row_in 5 all_puzzles_text [] 3 [] puzzle_columns key_order _ all_puzzles_is.0 all_puzzles_is.1
-      all_puzzles_is.2 (λ db. refl) (λ r. refl) (λ _. true) (λ r x h. refl) old new rows out has shown is puzzle_total
-      same_puzzle_keys (λ (row : PuzzleRow). row.key) whole (same_order [] [])
-      ∙ filter_all (λ _. true) (values (world_of old.now.trees).puzzles) (all_of (λ _. true ≡ true) (λ _. refl) _)
 
   pub puzzles_of_listed : (author : List ℕ) → Shown puzzles_of_text (Text author ∷ []) old new rows
       → out ≡ puzzles_of (world_of old.now.trees) author

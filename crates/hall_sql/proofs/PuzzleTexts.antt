@@ -18,6 +18,9 @@ use Rattle.hall_sql.proofs.UpdateLemmas.{update}
 use Rattle.hall_sql.proofs.PeopleTexts.{equals, rising}
 use Rattle.hall_sql.specs.Asked.{IsAsked, is_whole}
 use Rattle.hall_sql.proofs.AskedLemmas.{asked}
+use Rattle.hall_sql.specs.Versions.{IsVersion}
+use Rattle.sqlite.specs.Schema.{Schema}
+use Rattle.hall_sql.proofs.Versions.{AsksAll, by_version}
 
 abbrev pub puzzle_columns : List Term
 puzzle_columns = col 1 1 ∷ col 1 2 ∷ col 1 3 ∷ col 1 4 ∷ col 1 5 ∷ []
@@ -44,16 +47,12 @@ puzzle_asked author label =
 abbrev pub key_order : List (Term × Key)
 key_order = (col 1 1, rising) ∷ (col 1 2, rising) ∷ []
 
-pub all_puzzles_is : (command_of (understood hall_schema all_puzzles_text)
-    ≡ Select (record { lets = []; body = plain_query 3 [] puzzle_columns key_order }) puzzle_names)
-    × (reads_listing hall_schema all_puzzles_text ≡ false) × IsPlain (understood hall_schema all_puzzles_text)
-    × (is_whole all_puzzles_text 0 (understood hall_schema all_puzzles_text) ≡ true)
+pub all_puzzles_are : (schema : Schema) → IsVersion schema → AsksAll all_puzzles_text 3 puzzle_columns key_order puzzle_names schema
 unfolding understood everything
-all_puzzles_is = (refl, refl, (refl, refl), refl)
-
-pub all_puzzles_asked : IsAsked all_puzzles_text ([])
-all_puzzles_asked =
-    asked all_puzzles_text ([]) 3 [] puzzle_columns key_order _ all_puzzles_is.0 all_puzzles_is.1 all_puzzles_is.2 all_puzzles_is.3 refl
+all_puzzles_are =
+    by_version (AsksAll all_puzzles_text 3 puzzle_columns key_order puzzle_names)
+    (record { is = refl; unlisted = refl; plain = (refl, refl); whole = refl; typed = refl })
+    (record { is = refl; unlisted = refl; plain = (refl, refl); whole = refl; typed = refl })
 
 pub puzzles_of_is : (command_of (understood hall_schema puzzles_of_text)
     ≡ Select (record { lets = []; body = plain_query 3 (equals 1 0 ∷ []) puzzle_columns key_order }) puzzle_names)

@@ -27,8 +27,9 @@ use Rattle.sqlite.specs.Term.{col, eval_all}
 use Rattle.sqlite.specs.Tree.{Trees}
 use Rattle.sqlite.specs.Source.TheVariants.{Values}
 use Rattle.sqlite.specs.Command.TheVariants.{Insert, Update}
-use Rattle.sqlite.specs.State.{State, HasCleanDisk, Executes, Shown}
-use Rattle.sqlite.proofs.Callers.{runs_as}
+use Rattle.sqlite.specs.State.{State, HasCleanDisk, Executes, Shown, Writes}
+use Rattle.sqlite.specs.Listing.{understood}
+use Rattle.sqlite.proofs.Callers.{runs_as, statement_of}
 use Rattle.hall_grid.specs.Text.{SpellsText}
 use Rattle.hall_policy.specs.Text.{text_cmp, is_word_byte, is_printable}
 use Rattle.hall_policy.specs.World.{puzzle_cmp, answer_cmp, protest_cmp}
@@ -46,16 +47,18 @@ use Rattle.hall_sql.specs.Tables.{hall_schema}
 use Rattle.hall_sql.specs.Statements.{look_puzzle_text, add_puzzle_text, replace_puzzle_text}
 use Rattle.hall_sql.specs.Values.{state_in}
 use Rattle.hall_sql.specs.Columns.{puzzle_params, HasSoMany, state_code, solution_of}
-use Rattle.hall_sql.specs.Rows.{kept, person_of, puzzle_row_of, round_of, place_of, answer_of, protest_of, world_of}
+use Rattle.hall_sql.specs.Rows.{kept, person_of, puzzle_row_of, round_of, place_of, answer_of, protest_of, tester_of, world_of}
 use Rattle.hall_sql.specs.Spared.{may_write}
-use Rattle.hall_sql.specs.Standing.{IsHall, HasMade}
+use Rattle.hall_sql.specs.Standing.{HasAdded, IsHall, HasMade}
+use Rattle.hall_sql.specs.Fill.{WithPuzzle}
+use Rattle.hall_sql.specs.Inside.{IsHallData, Worlds}
 use Rattle.hall_sql.proofs.PuzzleTexts.{puzzles_there, key_terms, added_terms, replaced_terms, apart, look_puzzle_is, add_puzzle_is, replace_puzzle_is}
 use Rattle.hall_sql.proofs.PuzzleLemmas.{key_columns}
 use Rattle.hall_sql.proofs.CallLemmas.{executed_open, answers_selection}
 use Rattle.hall_sql.proofs.ColumnLemmas.{texts_equal, column_equals, last_equal, more_equal, spelled}
 use Rattle.hall_sql.proofs.InsertLemmas.{inserts}
-use Rattle.hall_sql.proofs.KeyedLemmas.{keyed_after, added_keyed}
-use Rattle.hall_sql.proofs.MapLemmas.{equal_is}
+use Rattle.hall_sql.proofs.KeyedLemmas.{data_added, keyed_after}
+use Rattle.hall_sql.proofs.MapLemmas.{equal_is, put_new}
 use Rattle.hall_sql.proofs.QuietLemmas.{no_works, two_stay}
 use Rattle.hall_sql.proofs.ReplaceLemmas.{replaced_one, added_one}
 use Rattle.hall_sql.proofs.SparedLemmas.{own_key, added_spared, replaced_spared, alone_spared}
@@ -95,6 +98,7 @@ puzzles_alone old new puzzles others is =
     (ap (λ rows. from_entries (flat_map (λ row. option_to_list (place_of row)) rows)) (others.1.1.1.0 (λ same. absurd (omega (arith, same)))))
     (ap (kept answer_cmp (λ row. row.key) answer_of) (others.1.1.1.1.0 (λ same. absurd (omega (arith, same)))))
     (ap (kept protest_cmp (λ row. row.key) protest_of) (others.1.1.1.1.1.0 (λ same. absurd (omega (arith, same)))))
+    (ap (λ rows. from_entries (flat_map (λ row. option_to_list (tester_of row)) rows)) (others.1.1.1.1.1.1.0 (λ same. absurd (omega (arith, same)))))
 
 pub no_rows : {A : Type 0} (xs : List A) → length xs ≡ 0 → xs ≡ []
 no_rows [] e = refl
@@ -168,22 +172,41 @@ module _ (text : List ℕ) (row : PuzzleRow) (spells : SpellsText text row.puzzl
     unfolding same_name joined
     made_quiet =
         let stays = two_stay _ 1 2 r (made r) (rw author_is) (rw label_is) in
-        no_works hall_schema Enforced 0 3 (r ∷ []) (made r ∷ []) (tt, ((refl, tt), (tt, ((refl, (stays, tt)), ((refl, (refl, tt)), ((refl, (refl, tt)), tt))))))
+        no_works hall_schema Enforced 0 3 (r ∷ []) (made r ∷ []) (tt, ((refl, tt), (tt, ((refl, (stays, tt)), ((refl, (refl, tt)), ((refl, (refl, tt)), ((refl, (refl, tt)), tt)))))))
+
+  -- what the INSERT of a puzzle adds
+  module _ (old new : State) (count : ℕ) (has : old.now.schema ≡ hall_schema) (ran : Executes add_puzzle_text params old new (Ok count)) where
+    writes : Writes old new None (Insert 1 (Values added_terms 6)) (statement_of add_puzzle_text (understood hall_schema add_puzzle_text)) params count
+    writes = runs_as add_puzzle_text params old new hall_schema has (Insert 1 (Values added_terms 6)) add_puzzle_is.0 add_puzzle_is.1 count ran
+
+    adds : HasAdded hall_schema 3 params old.now new.now
+    adds = inserts hall_schema 1 puzzles_there refl refl added_terms 6 params (Null ∷ params) params refl refl puzzle_casts quiet old new _ count has writes
+
+    with_puzzle : WithPuzzle (world_of old.now.trees) row (world_of new.now.trees)
+    with_puzzle fresh =
+        let id = Int (next_rowid (old.now.trees 3)) in
+        puzzles_alone old.now.trees new.now.trees (insert (world_of old.now.trees).puzzles row.key row) adds.others
+        (put_new puzzle_total same_puzzle_keys (λ (x : PuzzleRow). x.key) puzzle_row_of row (id ∷ params) (old.now.trees 3) (new.now.trees 3) adds.put (puzzle_reads id) adds.free fresh)
+
+  -- the INSERT of a puzzle inside a transaction
+  pub puzzle_put : (old new : State) (count : ℕ) → Executes add_puzzle_text params old new (Ok count)
+      → IsHallData old.now → IsHallData new.now × Worlds (λ a b. WithPuzzle a row b) old.now new.now
+  puzzle_put old new count ran held =
+      (data_added 3 params old.now new.now (adds old new count held.schema ran) held held.keyed.1.0, with_puzzle old new count held.schema ran)
 
   module _ (old new : State) (count : ℕ) (hall : IsHall old) (clean : HasCleanDisk old) where
-    -- the INSERT of a puzzle under a new key
+    -- and outside of one, under a new key
     pub puzzle_added : (IsTrue old.is_open → HasSoMany row.key old 0) → Executes add_puzzle_text params old new (Ok count) → HasMade (PutPuzzle row) old new
     puzzle_added nobody ran =
         let mode = hall.autocommit clean in
         let was = executed_open old new add_puzzle_text params count mode ran in
-        let has = (hall.settled clean was).1 in
-        let keyed = hall.keyed clean was in
-        let w = runs_as add_puzzle_text params old new hall_schema has (Insert 1 (Values added_terms 6)) add_puzzle_is.0 add_puzzle_is.1 count ran in
-        let it = inserts hall_schema 1 puzzles_there refl refl added_terms 6 params (Null ∷ params) params refl refl puzzle_casts quiet old new _ count has w in
+        let held : IsHallData old.now = record { schema = (hall.settled clean was).1; keyed = hall.keyed clean was } in
+        let w = writes old new count held.schema ran in
+        let it = adds old new count held.schema ran in
+        let put = puzzle_put old new count ran held in
         let id = next_rowid (old.now.trees 3) in
-        let after = added_keyed id params (old.now.trees 3) (new.now.trees 3) it.put it.free keyed.1.0 in
         record {
-          hall = writes_hall old new _ _ _ count mode w it.same (keyed_after 3 old.now.trees new.now.trees hall_schema.tables after it.others keyed);
+          hall = writes_hall old new _ _ _ count mode w put.0.schema put.0.keyed;
           was_open = was;
           serves = w.shown.is_open;
           world = puzzles_alone old.now.trees new.now.trees (insert (world_of old.now.trees).puzzles row.key row) it.others

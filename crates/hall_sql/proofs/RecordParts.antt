@@ -16,8 +16,9 @@ use Rattle.hall_policy.specs.declared.record.PuzzleState.{PuzzleState}
 use Rattle.hall_policy.specs.declared.record.Roles.{Roles}
 use Rattle.hall_policy.specs.declared.record.Round.{Round}
 use Rattle.hall_policy.specs.declared.record.Ruling.{Ruling}
+use Rattle.hall_policy.specs.declared.record.TesterKey.{TesterKey}
 use Rattle.hall_sql.specs.Values.{kind_in, within, name_in, token_in, key_in, roles_in, puzzle_in, state_in, mode_in, flag_in, ruling_in}
-use Rattle.hall_sql.specs.Rows.{person_in, puzzle_row_in, round_in, place_in, answer_in, protest_in}
+use Rattle.hall_sql.specs.Rows.{person_in, puzzle_row_in, round_in, place_in, tester_in, answer_in, protest_in}
 
 pub record PersonParts (it : Person) (a : Option (List ℕ)) (b : Option (List ℕ)) (c : Option Roles) : Type 0 where
   pub name : a ≡ Some it.name
@@ -152,6 +153,29 @@ place_parts_of (Some a) (Some b) (Some c) (Some d) (Some e) it is =
 -- a row that is read as this one has its parts in the columns
 pub place_parts : (row : Row) (it : PlaceKey × Entry) → place_in row ≡ Some it → PlaceParts it (name_in (column row 0)) (within 1 99 (column row 1)) (name_in (column row 2)) (name_in (column row 3)) (within 1 1000 (column row 4))
 place_parts row it is = place_parts_of (name_in (column row 0)) (within 1 99 (column row 1)) (name_in (column row 2)) (name_in (column row 3)) (within 1 1000 (column row 4)) it is
+
+pub record TesterParts (it : TesterKey × Unit {0}) (a : Option (List ℕ)) (b : Option (List ℕ)) : Type 0 where
+  pub round : a ≡ Some it.0.round
+  pub name : b ≡ Some it.0.name
+
+abbrev tester_of_parts : List ℕ → List ℕ → TesterKey × Unit {0}
+tester_of_parts round name = (record { round = round; name = name }, tt)
+
+pub tester_parts_of : (a : Option (List ℕ)) (b : Option (List ℕ)) (it : TesterKey × Unit {0})
+    → (a >>= (λ round. b >>= (λ name. Some (tester_of_parts round name)))) ≡ Some it
+    → TesterParts it a b
+tester_parts_of None b it is = absurd cc
+tester_parts_of (Some a) None it is = absurd cc
+tester_parts_of (Some a) (Some b) it is =
+    let same : tester_of_parts a b ≡ it = cc in
+    record {
+      round = ap (λ (x : TesterKey × Unit {0}). Some x.0.round) same;
+      name = ap (λ (x : TesterKey × Unit {0}). Some x.0.name) same;
+    }
+
+-- a row that is read as this one has its parts in the columns
+pub tester_parts : (row : Row) (it : TesterKey × Unit {0}) → tester_in row ≡ Some it → TesterParts it (name_in (column row 0)) (name_in (column row 1))
+tester_parts row it is = tester_parts_of (name_in (column row 0)) (name_in (column row 1)) it is
 
 pub record AnswerParts (it : AnswerRow) (a : Option (List ℕ)) (b : Option (List ℕ)) (c : Option ℕ) (d : Option (List ℕ)) (e : Option ℕ) (f : Option ℕ) (g : Option (List ℕ)) (h : Option ℕ) : Type 0 where
   pub entrant : a ≡ Some it.key.entrant

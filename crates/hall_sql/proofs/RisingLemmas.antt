@@ -97,7 +97,7 @@ module _ {X : Type 0} (cmp : X → X → Ordering) (total : IsTotalOrder cmp) wh
 -- ---- the values of a table
 module _ {K X : Type 0} {R : K → K → Ordering} (total : IsTotalOrder R) (same : IsAntisymmetric R) (key : X → K) where
   -- each entry stands under its own key
-  abbrev AreOwn : List (K × X) → Type 0
+  abbrev pub AreOwn : List (K × X) → Type 0
   AreOwn = AllByRecursion (λ (e : K × X). e.0 ≡ key e.1)
 
   own_put : (x : X) (es : List (K × X)) → AreOwn es → AreOwn (put R (key x) x es)
@@ -146,11 +146,14 @@ module _ {K X : Type 0} {R : K → K → Ordering} (total : IsTotalOrder R) (sam
         front None es own = own
         front (Some x) es own = (refl, own)
 
+    pub kept_own : AreOwn (entries (kept R key read rows))
+    kept_own = own_made _ (own_entries rows)
+
     -- the values rise by their keys
     pub values_rise : IsAscending (λ a b. by_key a b ≡ Less) (values (kept R key read rows))
     values_rise =
         let m = kept R key read rows in
-        values_ascend (entries m) (own_made _ (own_entries rows)) (strictly_sorted R (entries m) (entries_sorted m))
+        values_ascend (entries m) kept_own (strictly_sorted R (entries m) (entries_sorted m))
 
     -- those values that pass, in the order of their keys
     pub rows_listed : (test : X → Bool) (out : List X) → IsPermutation (filter test (values (kept R key read rows))) out

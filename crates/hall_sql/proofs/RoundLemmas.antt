@@ -1,34 +1,33 @@
 -- What the statements on rounds say of the world.
-use Rattle.std.proofs.Common.{◌≡◌, List, [], ◌∷◌, map, flat_map, true, Some, option_to_list, refl, sym, subst, ◌∙◌}
-use Rattle.std.specs.List.{AllByRecursion}
+use Rattle.std.proofs.Common.{◌≡◌, List, [], ◌∷◌, map, flat_map, true, Some, option_to_list, refl, sym, subst}
 use Rattle.std.specs.List.Sorted.{IsPermutation}
 use Rattle.std.specs.FinMap.{values}
 use Rattle.sqlite.specs.declared.types.Value.TheVariants.{Text}
 use Rattle.sqlite.specs.Effect.{IsDatabase}
 use Rattle.sqlite.specs.Order.{Row}
 use Rattle.sqlite.specs.State.{State, Shown}
-use Rattle.sqlite.specs.Table.{Table}
 use Rattle.sqlite.specs.Tree.{Trees}
-use Rattle.sqlite_schema.specs.declared.schema.Constraint.TheVariants.{Unique}
-use Rattle.sqlite_schema.specs.Rules.{agree, passes}
+use Rattle.sqlite_schema.specs.Rules.{agree}
 use Rattle.sqlite_rules.proofs.ListLemmas.{all_has}
-use Rattle.sqlite_trees.proofs.ListLemmas.{filter_all, all_of}
 use Rattle.sqlite_value.specs.Keys.{plain, first_key}
 use Rattle.sqlite_value.specs.Order.{column}
 use Rattle.sqlite_value.proofs.OrderLemmas.{then-Equal, value_cmp-Text}
 use Rattle.hall_policy.specs.Text.{text_cmp, is_word_byte, is_printable}
 use Rattle.hall_policy.specs.declared.record.Round.{Round}
 use Rattle.hall_policy.proofs.Orders.{text_total, same_texts}
-use Rattle.hall_sql.specs.Tables.{hall_schema, rounds_table}
 use Rattle.hall_sql.specs.Values.{name_in, kind_in, within, mode_in, flag_in}
 use Rattle.hall_sql.specs.Rows.{round_in, round_of, world_of}
-use Rattle.hall_sql.specs.Standing.{AreKeyed}
+use Rattle.hall_sql.specs.Standing.{AreKeyed, AreKeyedIn}
 use Rattle.hall_sql.specs.Statements.{all_rounds_text}
 use Rattle.hall_sql.proofs.ColumnLemmas.{kind_column}
-use Rattle.hall_sql.proofs.ListedLemmas.{by_order, values_asked}
-use Rattle.hall_sql.proofs.RoundTexts.{round_columns, id_order, all_rounds_is}
-use Rattle.hall_sql.proofs.UniqueLemmas.{equal_texts, first_not, records_listed}
+use Rattle.hall_sql.proofs.ListedLemmas.{by_order}
+use Rattle.hall_sql.proofs.RoundTexts.{round_columns, id_order, all_rounds_are}
+use Rattle.hall_sql.proofs.UniqueLemmas.{equal_texts, records_listed}
 use Rattle.hall_sql.proofs.RecordParts.{round_parts_of}
+use Rattle.hall_sql.specs.Versions.{IsVersion}
+use Rattle.sqlite.specs.Schema.{Schema}
+use Rattle.hall_sql.specs.declared.tables.HallTable.TheVariants.{Rounds}
+use Rattle.hall_sql.proofs.Versions.{all_listed, keyed_in, unique_in}
 
 pub id_column : (r : Row) (row : Round) → round_of r ≡ Some row → column r 1 ≡ Text row.id
 id_column r row is =
@@ -43,17 +42,13 @@ agreeing : (r y : Row) (x z : Round) → round_of r ≡ Some x → round_of y �
 unfolding first_key
 agreeing r y x z p q e = rw (id_column r x p, id_column y z q, equal_texts z.id x.id (sym e))
 
-abbrev rounds_there : Table
-rounds_there = record rounds_table { tree = 5 }
-
 -- the table's records are the world's rounds, each once
-rounds_listed : (db : Trees) → AreKeyed (db 5) → IsDatabase (record { schema = hall_schema; trees = db })
+rounds_listed : {schema : Schema} → IsVersion schema → (db : Trees) → AreKeyed (db 5) → IsDatabase (record { schema = schema; trees = db })
     → IsPermutation (flat_map (λ r. option_to_list (round_of r)) (db 5)) (values (world_of db).rounds)
-rounds_listed db keyed sound =
-    let rule : AllByRecursion (λ row. passes Unique hall_schema db rounds_there row ≡ true) (db 5) =
-    (sound.obeys.rules Unique).1.1.0 in
+rounds_listed {schema} version db keyed sound =
+    let rule = unique_in schema Rounds db version sound in
     records_listed text_total same_texts (λ (round : Round). round.id) round_of (1 ∷ []) (db 5) keyed agreeing
-    (λ r h. first_not _ _ (all_has _ (db 5) r rule h))
+    (λ r h. all_has _ (db 5) r rule h)
 
 -- ORDER BY id is the order of ids
 same_order : (a b : Row) (x y : Round) → round_of a ≡ Some x → round_of b ≡ Some y
@@ -61,13 +56,11 @@ same_order : (a b : Row) (x y : Round) → round_of a ≡ Some x → round_of b 
 same_order a b x y p q =
     rw (id_column a x p, id_column b y q, value_cmp-Text x.id y.id, then-Equal (text_cmp x.id y.id))
 
-pub all_rounds_listed : (old new : State) → old.now.schema ≡ hall_schema → AreKeyed (old.now.trees 5) → IsDatabase old.now
-    → (rows : List Row) (out : List Round) → map round_in rows ≡ map Some out → Shown all_rounds_text [] old new rows
+pub all_rounds_listed : (schema : Schema) → IsVersion schema → (old new : State) → old.now.schema ≡ schema → AreKeyedIn schema old.now.trees
+    → IsDatabase old.now → (rows : List Row) (out : List Round) → map round_in rows ≡ map Some out → Shown all_rounds_text [] old new rows
     → out ≡ values (world_of old.now.trees).rounds
-all_rounds_listed old new has keyed sound rows out is shown =
+all_rounds_listed schema version old new has keyed sound =
     let db = old.now.trees in
-    let whole = rounds_listed db keyed (subst (λ s. IsDatabase (record { schema = s; trees = db })) has sound) in
-    values_asked round_in 10 all_rounds_text [] 5 [] round_columns id_order _ all_rounds_is.0 all_rounds_is.1
-    all_rounds_is.2 (λ db. refl) (λ r. refl) (λ _. true) (λ r x h. refl) old new rows out has shown is text_total
-    same_texts (λ (round : Round). round.id) whole same_order
-    ∙ filter_all (λ _. true) (values (world_of db).rounds) (all_of (λ _. true ≡ true) (λ _. refl) _)
+    let whole = rounds_listed version db (keyed_in schema Rounds db version keyed) (subst (λ s. IsDatabase (record { schema = s; trees = db })) has sound) in
+    all_listed (all_rounds_are schema version) text_total same_texts (λ (round : Round). round.id) round_in 10 (λ db. refl) (λ r. refl)
+    same_order old new has whole

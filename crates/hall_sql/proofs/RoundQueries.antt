@@ -8,10 +8,13 @@ use Rattle.sqlite.specs.Listing.{understood, reads_listing}
 use Rattle.sqlite.specs.Command.TheVariants.{Select}
 use Rattle.sqlite.proofs.Callers.{IsPlain, command_of}
 use Rattle.hall_sql.specs.Tables.{hall_schema}
-use Rattle.hall_sql.specs.Statements.{plain_query, places_with_text, places_of_text}
+use Rattle.hall_sql.specs.Statements.{plain_query, places_with_text, places_of_text, all_places_text}
 use Rattle.hall_sql.proofs.PeopleTexts.{equals, rising}
 use Rattle.hall_sql.specs.Asked.{IsAsked, is_whole}
 use Rattle.hall_sql.proofs.AskedLemmas.{asked}
+use Rattle.hall_sql.specs.Versions.{IsVersion}
+use Rattle.sqlite.specs.Schema.{Schema}
+use Rattle.hall_sql.proofs.Versions.{AsksAll, by_version}
 
 abbrev pub place_columns : List Term
 place_columns = col 1 1 ∷ col 1 2 ∷ col 1 3 ∷ col 1 4 ∷ col 1 5 ∷ []
@@ -56,3 +59,14 @@ places_of_is = (refl, refl, (refl, refl), refl)
 pub places_of_asked : (id : List ℕ) → IsAsked places_of_text (Text id ∷ [])
 places_of_asked id =
     asked places_of_text (Text id ∷ []) 7 first_terms place_columns number_order _ places_of_is.0 places_of_is.1 places_of_is.2 places_of_is.3 refl
+
+-- the order of places: round, number
+abbrev pub place_order : List (Term × Key)
+place_order = (col 1 1, rising) ∷ (col 1 2, rising) ∷ []
+
+pub all_places_are : (schema : Schema) → IsVersion schema → AsksAll all_places_text 7 place_columns place_order place_names schema
+unfolding understood everything
+all_places_are =
+    by_version (AsksAll all_places_text 7 place_columns place_order place_names)
+    (record { is = refl; unlisted = refl; plain = (refl, refl); whole = refl; typed = refl })
+    (record { is = refl; unlisted = refl; plain = (refl, refl); whole = refl; typed = refl })

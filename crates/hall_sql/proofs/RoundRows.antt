@@ -1,18 +1,20 @@
--- A round that is kept, of its head and its places.
-use Rattle.std.proofs.Common.{◌≡◌, ◌++◌, ◌⊎◌, ◌+◌, ◌-◌, ◌<◌, inl, inr, ℕ, zero, suc, List, [], ◌∷◌, length, map, Option, Some, None, option_map, slice_get, Contains, refl, sym, ap, ap₂, subst, ◌∙◌, arith}
+-- A round that is kept, of its head, its places and its testers.
+use Rattle.std.proofs.Common.{◌≡◌, ◌↔◌, ◌++◌, ◌⊎◌, ◌+◌, ◌-◌, ◌<◌, ◌≤◌, inl, inr, ℕ, zero, suc, List, [], ◌∷◌, length, map, Option, Some, None, option_map, slice_get, Contains, refl, sym, ap, ap₂, subst, ◌∙◌, arith}
 use Rattle.std.proofs.lemmas.Cmp.{ranked}
+use Rattle.std.proofs.lemmas.Cmp.{nat_list_eq_equiv}
+use Rattle.std.proofs.lemmas.Map.Made.{is_member-Decides, length-le_from_is_member, IsDistinct-from_AllPairs}
 use Rattle.std.proofs.lemmas.Option.{slice_get-map}
 use Rattle.std.specs.List.{AllByRecursion}
 use Rattle.std.specs.List.Sorted.{IsStrictlySortedBy}
 use Rattle.std.specs.Ordering.{MatchOrdering}
 use Rattle.std.specs.declared.cmp.Ordering.TheVariants.{Less}
 use Rattle.std.specs.FinMap.{get}
-use Rattle.hall_policy.specs.Lists.{AreEntries}
-use Rattle.hall_policy.specs.World.{World, entry_at}
+use Rattle.hall_policy.specs.Lists.{AreEntries, AreTesters}
+use Rattle.hall_policy.specs.World.{World, IsTesterOf, entry_at}
 use Rattle.hall_policy.specs.declared.record.Entry.{Entry}
 use Rattle.hall_policy.specs.declared.record.PlaceKey.{PlaceKey}
 use Rattle.hall_policy.specs.declared.record.Round.{Round}
-use Rattle.hall_store.specs.Store.{IsRoundKept}
+use Rattle.hall_store.specs.Store.{AreTestersOf, IsRoundKept}
 use Rattle.hall_store.proofs.Tests.{contained, placed}
 use Rattle.hall_policy.proofs.Texts.{text_decides}
 use Rattle.hall_sql.specs.Cause.{AreNoRound, HasNoRound}
@@ -81,10 +83,14 @@ module _ (world : World) (id : List ℕ) (places : List Place) (are : ArePlaces 
         go None is = is ∙ nothing_there number is
         go (Some entry) is = is ∙ sym (entry_there number entry is)
 
-    pub round_assembled : (round : Round) (entries : List Entry) → Some round ≡ get world.rounds id → entries ≡ map entry_of places
-        → IsRoundKept world id (Some (record { round = round; puzzles = entries }))
-    round_assembled round entries head is = record {
-      row = record { head = sym head; list = λ number. at_each number ∙ ap (λ l. entry_at l number) (sym is) };
+    pub round_assembled : (round : Round) (entries : List Entry) (names : List (List ℕ)) → Some round ≡ get world.rounds id → entries ≡ map entry_of places
+        → AreTestersOf world id names → IsRoundKept world id (Some (record { round = round; puzzles = entries; testers = names }))
+    round_assembled round entries names head is test = record {
+      row = record {
+        head = sym head;
+        list = λ number. at_each number ∙ ap (λ l. entry_at l number) (sym is);
+        testers = λ name. ((test.whole name).1, (test.whole name).0);
+      };
       empty = λ none entry lists. absurd cc;
     }
 
@@ -177,7 +183,16 @@ module _ (world : World) (id : List ℕ) where
           let rest = more first in
           (numbered_on low p ps rest.0 first, ap₂ (λ x l. x ∷ l) (ap entry_of same) rest.1)
 
-  module _ (places : List Place) (are : AreListed world id places) where
+  -- names of testers are as few as those of another list of them
+  few_names : (names others : List (List ℕ)) → AreTestersOf world id names → ((name : List ℕ) → IsTesterOf world id name ↔ Contains others name) → AreTesters others → AreTesters names
+  few_names names others test same are =
+      let decides = λ (xs : List (List ℕ)) (q : List ℕ). is_member-Decides text_decides xs q in
+      let fewer : length names ≤ length others = length-le_from_is_member nat_list_eq_equiv names others
+      (IsDistinct-from_AllPairs text_decides names test.different)
+      (λ q among. (decides others q).1 ((same q).0 ((test.whole q).0 ((decides names q).0 among)))) in
+      record { few = omega (arith, fewer, are.few); different = test.different }
+
+  module _ (places : List Place) (names : List (List ℕ)) (are : AreListed world id places) (test : AreTestersOf world id names) where
     all_above : (list : ℕ → Option Entry) → list 0 ≡ None → ((number : ℕ) → get world.places (place_key number) ≡ list number)
         → AreAbove 0 places
     all_above list none is = record {
@@ -198,8 +213,8 @@ module _ (world : World) (id : List ℕ) where
                 let own : place.0 ≡ place_key 0 = λ i. record { round = round i; number = at i } in
                 absurd (let no : Some place.1 ≡ None = sym there ∙ ap (get world.places) own ∙ is 0 ∙ none in cc)
 
-    -- no answer is right where they are numbered otherwise, or are no list of a round
-    pub none_right : (head : Option Round) → get world.rounds id ≡ head → AreNoRound head places → HasNoRound world id
+    -- no answer is right where they are numbered otherwise, or are no list of a round, or the names are no list of testers
+    pub none_right : (head : Option Round) → get world.rounds id ≡ head → AreNoRound head places names → HasNoRound world id
     none_right None head some = ((λ kept. go places refl kept), (λ whole. let no : None ≡ Some whole.0.round = sym head ∙ whole.1.head in cc))
       where
         go : (ps : List Place) → places ≡ ps → IsRoundKept world id None → ⊥
@@ -213,5 +228,5 @@ module _ (world : World) (id : List ℕ) where
           let it = all_placed 0 places whole.0.puzzles (all_above (entry_at whole.0.puzzles) refl whole.1.list)
           (λ j. ap (λ n. get world.places (place_key n)) (let is : suc (0 + j) ≡ suc j = omega arith in is) ∙ whole.1.list (suc j)) in
           let numbered : AreNumbered places = λ i place at. it.0 i place at ∙ (let is : suc (0 + i) ≡ suc i = omega arith in is) in
-          bad (numbered, subst AreEntries (sym it.1) whole.2)),
+          bad (numbered, subst AreEntries (sym it.1) whole.2, few_names names whole.0.testers test whole.1.testers whole.3)),
     )

@@ -1,16 +1,14 @@
 -- What the statements on rounds mean under the hall's tables.
-use Rattle.std.proofs.Common.{◌≡◌, List, ℕ, codes, refl, true, false, [], ◌∷◌}
+use Rattle.std.proofs.Common.{List, ℕ, codes, refl, [], ◌∷◌}
 use Rattle.sqlite_tied.specs.Compute.{everything}
 use Rattle.sqlite_value.specs.declared.keys.Key.{Key}
 use Rattle.sqlite.specs.Term.{Term, col}
-use Rattle.sqlite.specs.Listing.{understood, reads_listing}
-use Rattle.sqlite.specs.Command.TheVariants.{Select}
-use Rattle.sqlite.proofs.Callers.{IsPlain, command_of}
-use Rattle.hall_sql.specs.Tables.{hall_schema}
-use Rattle.hall_sql.specs.Statements.{plain_query, all_rounds_text}
+use Rattle.sqlite.specs.Listing.{understood}
+use Rattle.hall_sql.specs.Statements.{all_rounds_text}
 use Rattle.hall_sql.proofs.PeopleTexts.{rising}
-use Rattle.hall_sql.specs.Asked.{IsAsked, is_whole}
-use Rattle.hall_sql.proofs.AskedLemmas.{asked}
+use Rattle.hall_sql.specs.Versions.{IsVersion}
+use Rattle.sqlite.specs.Schema.{Schema}
+use Rattle.hall_sql.proofs.Versions.{AsksAll, by_version}
 
 abbrev pub round_columns : List Term
 round_columns =
@@ -25,13 +23,9 @@ round_names =
 abbrev pub id_order : List (Term × Key)
 id_order = (col 1 1, rising) ∷ []
 
-pub all_rounds_is : (command_of (understood hall_schema all_rounds_text)
-    ≡ Select (record { lets = []; body = plain_query 5 [] round_columns id_order }) round_names)
-    × (reads_listing hall_schema all_rounds_text ≡ false) × IsPlain (understood hall_schema all_rounds_text)
-    × (is_whole all_rounds_text 0 (understood hall_schema all_rounds_text) ≡ true)
+pub all_rounds_are : (schema : Schema) → IsVersion schema → AsksAll all_rounds_text 5 round_columns id_order round_names schema
 unfolding understood everything
-all_rounds_is = (refl, refl, (refl, refl), refl)
-
-pub all_rounds_asked : IsAsked all_rounds_text ([])
-all_rounds_asked =
-    asked all_rounds_text ([]) 5 [] round_columns id_order _ all_rounds_is.0 all_rounds_is.1 all_rounds_is.2 all_rounds_is.3 refl
+all_rounds_are =
+    by_version (AsksAll all_rounds_text 5 round_columns id_order round_names)
+    (record { is = refl; unlisted = refl; plain = (refl, refl); whole = refl; typed = refl })
+    (record { is = refl; unlisted = refl; plain = (refl, refl); whole = refl; typed = refl })

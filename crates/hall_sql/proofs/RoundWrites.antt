@@ -42,12 +42,13 @@ use Rattle.hall_store.specs.declared.change.RoundFlag.TheVariants.{Released, Pub
 use Rattle.hall_sql.specs.Tables.{hall_schema}
 use Rattle.hall_sql.specs.Statements.{head_text, look_head_text, add_head_text, replace_head_text}
 use Rattle.hall_sql.specs.Values.{mode_in, flag_in}
-use Rattle.hall_sql.specs.Inside.{IsHallData, Did}
+use Rattle.hall_sql.specs.Inside.{IsHallData, Did, Worlds}
+use Rattle.hall_sql.specs.Fill.{WithRound}
 use Rattle.hall_sql.specs.RoundPuts.{CountsHeads, PutsHead, PutsHeadOver}
 use Rattle.hall_sql.specs.RoundColumns.{mode_code, flag_code, head_params, is_under, HasSoManyHeads, IsHead}
-use Rattle.hall_sql.specs.Rows.{kept, person_of, puzzle_row_of, round_in, round_of, place_of, answer_of, protest_of, world_of}
+use Rattle.hall_sql.specs.Rows.{kept, person_of, puzzle_row_of, round_in, round_of, place_of, answer_of, protest_of, tester_of, world_of}
 use Rattle.hall_sql.specs.Spared.{is_head_of, Spares}
-use Rattle.hall_sql.specs.Standing.{IsHall, HasMade}
+use Rattle.hall_sql.specs.Standing.{HasAdded, IsHall, HasMade}
 use Rattle.hall_sql.proofs.AnswerWrites.{is_within}
 use Rattle.hall_sql.proofs.HeadTexts.{id_terms, rounds_there, head_is, look_head_is, added_terms, add_head_is, replaced_terms, apart, replace_head_is}
 use Rattle.hall_sql.proofs.RoundTexts.{round_columns}
@@ -57,7 +58,8 @@ use Rattle.hall_sql.proofs.InsideLemmas.{did, shown_mode}
 use Rattle.hall_sql.proofs.ColumnLemmas.{column_equals, last_equal}
 use Rattle.hall_sql.proofs.FoundLemmas.{length_read, asked_found}
 use Rattle.hall_sql.proofs.InsertLemmas.{inserts}
-use Rattle.hall_sql.proofs.KeyedLemmas.{keyed_after, added_keyed}
+use Rattle.hall_sql.proofs.KeyedLemmas.{data_added, keyed_after}
+use Rattle.hall_sql.proofs.MapLemmas.{put_new}
 use Rattle.hall_sql.proofs.QuietLemmas.{no_works, one_stays}
 use Rattle.hall_sql.proofs.ReplaceLemmas.{replaced_one, added_one, put_alone, replaced_alone}
 use Rattle.hall_sql.proofs.SparedLemmas.{own_key, added_spared, replaced_spared, alone_spared}
@@ -137,6 +139,7 @@ rounds_alone old new rounds others is =
     (ap (λ rows. from_entries (flat_map (λ row. option_to_list (place_of row)) rows)) (others.1.1.1.0 (λ same. absurd (omega (arith, same)))))
     (ap (kept answer_cmp (λ row. row.key) answer_of) (others.1.1.1.1.0 (λ same. absurd (omega (arith, same)))))
     (ap (kept protest_cmp (λ row. row.key) protest_of) (others.1.1.1.1.1.0 (λ same. absurd (omega (arith, same)))))
+    (ap (λ rows. from_entries (flat_map (λ row. option_to_list (tester_of row)) rows)) (others.1.1.1.1.1.1.0 (λ same. absurd (omega (arith, same)))))
 
 module _ (round : Round) (is : IsRound round) where
   abbrev params : Row
@@ -207,7 +210,7 @@ module _ (round : Round) (is : IsRound round) where
     unfolding same_name joined
     made_quiet =
         let stays = one_stays _ 1 r (made r) (rw id_is) in
-        no_works hall_schema Enforced 0 5 (r ∷ []) (made r ∷ []) (tt, ((refl, tt), (tt, ((stays, (refl, tt)), ((refl, (refl, tt)), ((refl, (refl, tt)), tt))))))
+        no_works hall_schema Enforced 0 5 (r ∷ []) (made r ∷ []) (tt, ((refl, tt), (tt, ((stays, (refl, tt)), ((refl, (refl, tt)), ((refl, (refl, tt)), ((stays, (refl, tt)), tt)))))))
 
   module _ (old new : State) (count : ℕ) (held : IsHallData old.now) where
     -- the UPDATE of the head under the id
@@ -231,15 +234,28 @@ module _ (round : Round) (is : IsRound round) where
           },
         )
 
-    -- the INSERT of a head under a new id
+    -- what the INSERT of a head adds
+    head_adds : Executes add_head_text params old new (Ok count) → HasAdded hall_schema 5 params old.now new.now
+    head_adds ran =
+        inserts hall_schema 2 rounds_there refl refl added_terms 11 params (Null ∷ params) params refl refl head_casts quiet old new _ count held.schema
+        (runs_as add_head_text params old new hall_schema held.schema (Insert 2 (Values added_terms 11)) add_head_is.0 add_head_is.1 count ran)
+
+    -- the INSERT of a head
+    pub head_inserted : Executes add_head_text params old new (Ok count) → IsHallData new.now × Worlds (λ a b. WithRound a round b) old.now new.now
+    head_inserted ran =
+        let it = head_adds ran in
+        let id = Int (next_rowid (old.now.trees 5)) in (
+          data_added 5 params old.now new.now it held held.keyed.1.1.0,
+          λ fresh. rounds_alone old.now.trees new.now.trees (insert (world_of old.now.trees).rounds round.id round) it.others
+              (put_new text_total same_texts (λ (x : Round). x.id) round_of round (id ∷ params) (old.now.trees 5) (new.now.trees 5) it.put (head_reads id) it.free fresh),
+        )
+
+    -- and under a new id
     pub head_added : Executes add_head_text params old new (Ok count) → HasSoManyHeads round.id old.now 0 → IsHallData new.now × PutsHead round old.now new.now
     head_added ran nobody =
-        let keyed = held.keyed in
-        let w = runs_as add_head_text params old new hall_schema held.schema (Insert 2 (Values added_terms 11)) add_head_is.0 add_head_is.1 count ran in
-        let it = inserts hall_schema 2 rounds_there refl refl added_terms 11 params (Null ∷ params) params refl refl head_casts quiet old new _ count held.schema w in
-        let id = next_rowid (old.now.trees 5) in
-        let after = added_keyed id params (old.now.trees 5) (new.now.trees 5) it.put it.free keyed.1.1.0 in (
-          record { schema = it.same; keyed = keyed_after 5 old.now.trees new.now.trees hall_schema.tables after it.others keyed },
+        let it = head_adds ran in
+        let id = next_rowid (old.now.trees 5) in (
+          data_added 5 params old.now new.now it held held.keyed.1.1.0,
           record {
             world = rounds_alone old.now.trees new.now.trees (insert (world_of old.now.trees).rounds round.id round) it.others
                 (added_one text_total same_texts (λ (x : Round). x.id) round_of round.id (is_under round.id) (agrees round.id) (old.now.trees 5) (new.now.trees 5) (Int id ∷ params) round (no_rows _ nobody) it.free it.put refl (head_reads (Int id)));

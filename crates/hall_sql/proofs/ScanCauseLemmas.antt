@@ -8,11 +8,9 @@ use Rattle.std.specs.List.Sorted.{IsPermutation, IsSorted}
 use Rattle.std.specs.Ordering.{int_cmp, is_gt, is_lt}
 use Rattle.std.specs.declared.cmp.Ordering.{Ordering}
 use Rattle.std.specs.declared.cmp.Ordering.TheVariants.{Less, Equal, Greater}
-use Rattle.sqlite_resolve.specs.declared.compiled.Compiled.{Compiled}
 use Rattle.sqlite_rules.specs.Lists.{Has}
 use Rattle.sqlite_rules.proofs.ListLemmas.{all_has}
 use Rattle.sqlite_schema.specs.declared.command.Command.{Command}
-use Rattle.sqlite_tied.specs.Compute.{everything}
 use Rattle.sqlite_trees.specs.declared.store.Store.{Ghosts}
 use Rattle.sqlite_trees.specs.Tree.{IsAscending, rowid}
 use Rattle.sqlite_trees.specs.View.{is_int}
@@ -35,14 +33,13 @@ use Rattle.sqlite.specs.Term.{col, eval_all}
 use Rattle.sqlite.specs.Values.{IsInt}
 use Rattle.sqlite.proofs.Callers.{EndsIn, begins_shown, command_of, given_begin}
 use Rattle.hall_sql.specs.AdoptCause.{IsUnfit, NextFails, ScanFails}
-use Rattle.hall_sql.specs.Asked.{IsAsked, is_whole}
 use Rattle.hall_sql.specs.Scan.{tree_of, Rises, IsAbove, HasScanned, IsTableKeyed, AreScanned}
 use Rattle.hall_sql.specs.Standing.{Apart, AreKeyed, Lasts}
 use Rattle.hall_sql.specs.Statements.{rowids_text}
-use Rattle.hall_sql.specs.Tables.{hall_schema}
 use Rattle.hall_sql.specs.declared.tables.HallTable.{HallTable}
-use Rattle.hall_sql.specs.declared.tables.HallTable.TheVariants.{People, Puzzles, Rounds, Places, Answers, Protests}
-use Rattle.hall_sql.proofs.AskedLemmas.{asked, open_cause}
+use Rattle.hall_sql.specs.Versions.{HasTable}
+use Rattle.hall_sql.proofs.AskedLemmas.{open_cause}
+use Rattle.hall_sql.proofs.Versions.{asked_all}
 use Rattle.hall_sql.proofs.CallLemmas.{answers_selection}
 use Rattle.hall_sql.proofs.KeyedLemmas.{keyed_permuted}
 use Rattle.hall_sql.proofs.ListedLemmas.{by_order}
@@ -121,32 +118,14 @@ above ids (Some j) id met below = all_has (λ k. int_cmp k id ≡ Less) ids j be
 order_is : (tree : ℕ) (a b : Row) → by_order tree [] (col 1 0 ∷ []) by_rowid [] a b ≡ value_cmp (rowid a) (rowid b)
 order_is tree a b = then-Equal (value_cmp (rowid a) (rowid b))
 
-rowids_whole : (table : HallTable) → is_whole (rowids_text table) 0 (understood hall_schema (rowids_text table)) ≡ true
-unfolding understood everything
-rowids_whole People = refl
-rowids_whole Puzzles = refl
-rowids_whole Rounds = refl
-rowids_whole Places = refl
-rowids_whole Answers = refl
-rowids_whole Protests = refl
-
-rowids_asked : (table : HallTable) → IsAsked (rowids_text table) []
-rowids_asked People = asked (rowids_text People) [] 0 [] (col 1 0 ∷ []) by_rowid _ (rowids_are People).0 (rowids_are People).1 (rowids_are People).2 (rowids_whole People) refl
-rowids_asked Puzzles = asked (rowids_text Puzzles) [] 3 [] (col 1 0 ∷ []) by_rowid _ (rowids_are Puzzles).0 (rowids_are Puzzles).1 (rowids_are Puzzles).2 (rowids_whole Puzzles) refl
-rowids_asked Rounds = asked (rowids_text Rounds) [] 5 [] (col 1 0 ∷ []) by_rowid _ (rowids_are Rounds).0 (rowids_are Rounds).1 (rowids_are Rounds).2 (rowids_whole Rounds) refl
-rowids_asked Places = asked (rowids_text Places) [] 7 [] (col 1 0 ∷ []) by_rowid _ (rowids_are Places).0 (rowids_are Places).1 (rowids_are Places).2 (rowids_whole Places) refl
-rowids_asked Answers = asked (rowids_text Answers) [] 9 [] (col 1 0 ∷ []) by_rowid _ (rowids_are Answers).0 (rowids_are Answers).1 (rowids_are Answers).2 (rowids_whole Answers) refl
-rowids_asked Protests = asked (rowids_text Protests) [] 12 [] (col 1 0 ∷ []) by_rowid _ (rowids_are Protests).0 (rowids_are Protests).1 (rowids_are Protests).2 (rowids_whole Protests) refl
-
 -- an unfit row stands in a table that is not keyed
-unkeyed : {S : Type 0} (g : Ghosts S) (table : HallTable) (h next : Held S) (last : Option ℤ) (shown : Row) → h.schema ≡ hall_schema
+unkeyed : {S : Type 0} (g : Ghosts S) (table : HallTable) (h next : Held S) (last : Option ℤ) (shown : Row) → HasTable h.schema table
     → HasScanned g (rowids_text table) h last → IsUnchanged (state g h) (state g next) → Advances g h next (Some shown) → IsUnfit last shown
     → ¬ IsTableKeyed (state g h) table
 unkeyed g table h next last shown has so same moves unfit keyed =
     let sql = rowids_text table in
     let s = state g next in
-    let is = rowids_are table in
-    let here : s.now.schema ≡ hall_schema = ap (λ (d : Database). d.schema) same.0.now_is ∙ has in
+    let is = rowids_are s.now.schema table (subst (λ (d : Database). HasTable d.schema table) (sym same.0.now_is) has) in
     let still : IsUnchanged s s = (
       record { was_open = same.0.is_open; is_open = same.0.is_open; now_is = refl; committed_is = refl; mode = refl },
       record { changes = refl; last_rowid = refl },
@@ -154,10 +133,10 @@ unkeyed g table h next last shown has so same moves unfit keyed =
     ) in
     let whole = begins_shown sql [] s s (so.given ++ shown ∷ []) (given_begin g sql [] next (so.given ++ shown ∷ []) (moves sql [] so.given so.has)) still
     (λ c db it source.
-    let known : c.command ≡ command_of (understood hall_schema sql) = ap command_of (sym it.is ∙ ap (λ t. understood t sql) here) in
-    subst (λ (k : Command). EndsIn k db (timed [] c.formats it.now)) (sym (known ∙ is.0)) tt) in
+    let known : c.command ≡ command_of (understood s.now.schema sql) = ap command_of (sym it.is) in
+    subst (λ (k : Command). EndsIn k db (timed [] c.formats it.now)) (sym (known ∙ is.is)) tt) in
     let rows = s.now.trees (tree_of table) in
-    let sel = answers_selection sql [] s s (tree_of table) [] (col 1 0 ∷ []) by_rowid _ is.0 is.1 is.2 (apart s.now.trees table) here _ whole.1 in
+    let sel = answers_selection sql [] s s (tree_of table) [] (col 1 0 ∷ []) by_rowid _ is.is is.unlisted is.plain (apart s.now.trees table) refl _ whole.1 in
     let found = sel.found in
     let all : AreKeyed rows = subst (λ (d : Database). AreKeyed (d.trees (tree_of table))) (sym same.0.now_is) keyed in
     let ours : AreKeyed found = keyed_permuted rows found (subst (λ l. IsPermutation l found) (all_pass rows) sel.same) all in
@@ -176,17 +155,17 @@ unkeyed g table h next last shown has so same moves unfit keyed =
 -- ---- the causes
 
 -- the query fails after a call that left the connection
-pub asks_cause : (table : HallTable) (old mid new : State) (e : Error) → Lasts old mid → HasCleanDisk mid → Lasts mid new → mid.now.schema ≡ hall_schema
+pub asks_cause : (table : HallTable) (old mid new : State) (e : Error) → Lasts old mid → HasCleanDisk mid → Lasts mid new → HasTable mid.now.schema table
     → e ≢ SqliteFailure code.OutOfMemory → FailsToQuery (rowids_text table) [] mid new e → ScanFails (table ∷ []) old new
 asks_cause table old mid new e before clean after has other fails = go old.step_limit refl
   where
     go : (limit : Option ℕ) → old.step_limit ≡ limit → ScanFails (table ∷ []) old new
     go (Some steps) is = inr (inl (subst IsSome (sym is) refl))
     go None is =
-        inl (cause_over old mid new before clean after (open_cause (rowids_text table) [] mid new e (rowids_asked table) (before.limit ∙ is) other has fails))
+        inl (cause_over old mid new before clean after (open_cause (rowids_text table) [] mid new e (asked_all (rowids_are mid.now.schema table has)) (before.limit ∙ is) other refl fails))
 
 pub next_cause : {S : Type 0} (g : Ghosts S) (table : HallTable) (old : State) (h next : Held S) (last : Option ℤ) → Lasts old (state g h)
-    → HasCleanDisk (state g h) → Lasts (state g h) (state g next) → IsUnchanged old (state g h) → h.schema ≡ hall_schema
+    → HasCleanDisk (state g h) → Lasts (state g h) (state g next) → IsUnchanged old (state g h) → HasTable h.schema table
     → HasScanned g (rowids_text table) h last → NextFails g h next last → ScanFails (table ∷ []) old (state g next)
 next_cause g table old h next last before clean after same has so (inl it) =
     asks_cause table old (state g h) (state g next) it.0 before clean after has it.1 (it.2 (rowids_text table) [] so.given so.has)

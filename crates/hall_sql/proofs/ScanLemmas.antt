@@ -17,9 +17,7 @@ use Rattle.sqlite.specs.Order.{Row}
 use Rattle.sqlite.specs.Term.{Term, col, eval_all}
 use Rattle.sqlite_value.specs.declared.keys.Key.{Key}
 use Rattle.sqlite.specs.Collation.TheVariants.{Binary}
-use Rattle.sqlite.specs.Listing.{understood, reads_listing}
-use Rattle.sqlite.specs.Command.TheVariants.{Select}
-use Rattle.sqlite.proofs.Callers.{IsPlain, command_of}
+use Rattle.sqlite.specs.Listing.{understood}
 use Rattle.sqlite.specs.Given.{HasBegun, Advances}
 use Rattle.sqlite.specs.Held.{state}
 use Rattle.sqlite.specs.State.{State, IsUnchanged, Shown}
@@ -27,10 +25,12 @@ use Rattle.sqlite.proofs.Callers.{begun_plain}
 use Rattle.sqlite_trees.specs.Tree.{rowid}
 use Rattle.sqlite_trees.proofs.ListLemmas.{map-map}
 use Rattle.std.proofs.Common.{codes}
-use Rattle.hall_sql.specs.Tables.{hall_schema}
-use Rattle.hall_sql.specs.Statements.{plain_query, rowids_text}
+use Rattle.sqlite.specs.Schema.{Schema}
+use Rattle.hall_sql.specs.Statements.{rowids_text}
+use Rattle.hall_sql.specs.Versions.{HasTable}
+use Rattle.hall_sql.proofs.Versions.{AsksAll, by_version}
 use Rattle.hall_sql.specs.declared.tables.HallTable.{HallTable}
-use Rattle.hall_sql.specs.declared.tables.HallTable.TheVariants.{People, Puzzles, Rounds, Places, Answers, Protests}
+use Rattle.hall_sql.specs.declared.tables.HallTable.TheVariants.{People, Puzzles, Rounds, Places, Answers, Protests, Testers}
 use Rattle.hall_sql.specs.Standing.{Apart, AreKeyed, Rests}
 use Rattle.sqlite.specs.Program.{overlay}
 use Rattle.sqlite.specs.Tree.{Trees}
@@ -87,20 +87,19 @@ scanned_more g sql old new last id chain so it =
 abbrev pub by_rowid : List (Term × Key)
 by_rowid = (col 1 0, record { collation = Binary; descending = false }) ∷ []
 
--- what the texts of the scans ask for
-abbrev Asks : List ℕ → ℕ → Type 0
-Asks sql tree =
-    (command_of (understood hall_schema sql) ≡ Select (record { lets = []; body = plain_query tree [] (col 1 0 ∷ []) by_rowid }) (codes "rowid" ∷ []))
-    × (reads_listing hall_schema sql ≡ false) × IsPlain (understood hall_schema sql)
+-- what the text of the table's scan asks for
+abbrev Rowids : HallTable → Schema → Type 0
+Rowids table schema = AsksAll (rowids_text table) (tree_of table) (col 1 0 ∷ []) by_rowid (codes "rowid" ∷ []) schema
 
-pub rowids_are : (table : HallTable) → Asks (rowids_text table) (tree_of table)
+pub rowids_are : (schema : Schema) (table : HallTable) → HasTable schema table → Rowids table schema
 unfolding understood everything
-rowids_are People = (refl, refl, (refl, refl))
-rowids_are Puzzles = (refl, refl, (refl, refl))
-rowids_are Rounds = (refl, refl, (refl, refl))
-rowids_are Places = (refl, refl, (refl, refl))
-rowids_are Answers = (refl, refl, (refl, refl))
-rowids_are Protests = (refl, refl, (refl, refl))
+rowids_are schema People = by_version (Rowids People) (record { is = refl; unlisted = refl; plain = (refl, refl); whole = refl; typed = refl }) (record { is = refl; unlisted = refl; plain = (refl, refl); whole = refl; typed = refl }) schema
+rowids_are schema Puzzles = by_version (Rowids Puzzles) (record { is = refl; unlisted = refl; plain = (refl, refl); whole = refl; typed = refl }) (record { is = refl; unlisted = refl; plain = (refl, refl); whole = refl; typed = refl }) schema
+rowids_are schema Rounds = by_version (Rowids Rounds) (record { is = refl; unlisted = refl; plain = (refl, refl); whole = refl; typed = refl }) (record { is = refl; unlisted = refl; plain = (refl, refl); whole = refl; typed = refl }) schema
+rowids_are schema Places = by_version (Rowids Places) (record { is = refl; unlisted = refl; plain = (refl, refl); whole = refl; typed = refl }) (record { is = refl; unlisted = refl; plain = (refl, refl); whole = refl; typed = refl }) schema
+rowids_are schema Answers = by_version (Rowids Answers) (record { is = refl; unlisted = refl; plain = (refl, refl); whole = refl; typed = refl }) (record { is = refl; unlisted = refl; plain = (refl, refl); whole = refl; typed = refl }) schema
+rowids_are schema Protests = by_version (Rowids Protests) (record { is = refl; unlisted = refl; plain = (refl, refl); whole = refl; typed = refl }) (record { is = refl; unlisted = refl; plain = (refl, refl); whole = refl; typed = refl }) schema
+rowids_are schema Testers = λ has. subst (Rowids Testers) (sym has) (record { is = refl; unlisted = refl; plain = (refl, refl); whole = refl; typed = refl })
 
 -- the statement sees the table's own rows
 pub apart : (db : Trees) (table : HallTable) → overlay db [] (tree_of table) ≡ db (tree_of table)
@@ -110,6 +109,7 @@ apart db Rounds = refl
 apart db Places = refl
 apart db Answers = refl
 apart db Protests = refl
+apart db Testers = refl
 
 pub all_pass : (rows : List Row) → filter (λ r. true) rows ≡ rows
 all_pass [] = refl
@@ -140,22 +140,22 @@ scanned_keyed table found ids same is up = keyed_permuted found table (IsPermuta
         record { ints = (subst (λ v. IsTrue (is_int v)) (sym head) refl, more.ints); distinct = (later j r rows js head tail up.0, more.distinct) }
 
 -- where the scan came to the end, no rowid stands twice
-pub scanned_end : {S : Type 0} (g : Ghosts S) (table : HallTable) (h last_held : Held S) (last : Option ℤ) → h.schema ≡ hall_schema
+pub scanned_end : {S : Type 0} (g : Ghosts S) (table : HallTable) (h last_held : Held S) (last : Option ℤ) → HasTable h.schema table
     → HasScanned g (rowids_text table) h last → Advances g h last_held None → AreKeyed ((state g h).now.trees (tree_of table))
 scanned_end g table h last_held last has so ends =
     let sql = rowids_text table in
     let rows = (state g h).now.trees (tree_of table) in
-    let is = rowids_are table in
+    let is = rowids_are h.schema table has in
     let shown : Shown sql [] (state g h) (state g last_held) so.given = ends sql [] so.given so.has in
-    let sel = answers_selection sql [] (state g h) (state g last_held) (tree_of table) [] (col 1 0 ∷ []) by_rowid _ is.0 is.1 is.2 (apart (state g h).now.trees table) has so.given shown in
+    let sel = answers_selection sql [] (state g h) (state g last_held) (tree_of table) [] (col 1 0 ∷ []) by_rowid _ is.is is.unlisted is.plain (apart (state g h).now.trees table) refl so.given shown in
     let same : IsPermutation rows sel.found = subst (λ l. IsPermutation l sel.found) (all_pass rows) sel.same in
     let ids : map rowid sel.found ≡ map Int so.ids = sym (ap (map (λ r. column r 0)) sel.shown ∙ map-map (λ r. column r 0) (λ r. eval_all (col 1 0 ∷ []) ([] ∷ r ∷ [])) sel.found) ∙ so.read in
     scanned_keyed rows sel.found so.ids same ids so.rises
 
-pub scan_begun : {S : Type 0} (g : Ghosts S) (table : HallTable) (old new : Held S) → old.schema ≡ hall_schema → HasBegun g (rowids_text table) [] old new
+pub scan_begun : {S : Type 0} (g : Ghosts S) (table : HallTable) (old new : Held S) → HasTable old.schema table → HasBegun g (rowids_text table) [] old new
     → IsUnchanged (state g old) (state g new) × HasScanned g (rowids_text table) new None
 scan_begun g table old new has begun =
-    let it = begun_plain g (rowids_text table) [] old new (subst (λ s. IsPlain (understood s (rowids_text table))) (sym has) (rowids_are table).2) begun in
+    let it = begun_plain g (rowids_text table) [] old new (rowids_are old.schema table has).plain begun in
     (it.1, record { given = []; ids = []; has = it.0; read = refl; rises = tt; top = refl; met = tt })
 
 pub ints_chain : (i j k : ℤ) → int_cmp i j ≡ Less → int_cmp j k ≡ Less → int_cmp i k ≡ Less

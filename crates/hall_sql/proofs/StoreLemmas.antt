@@ -1,21 +1,30 @@
 -- From what a statement leaves to what the trait of stores says.
-use Rattle.std.proofs.Common.{◌≡◌, ℕ, List, Option, IsTrue, Result, Ok, Err, IfOk, sym, subst, ◌∙◌, arith}
+use Rattle.std.proofs.Common.{◌≡◌, ℕ, List, Option, IsTrue, Result, Ok, Err, IfOk, sym, ap, subst, ◌∙◌, arith}
 use Rattle.sqlite.specs.Effect.{Database}
 use Rattle.sqlite.specs.Order.{Row}
 use Rattle.sqlite.specs.State.{State, HasCleanDisk}
 use Rattle.hall_policy.specs.World.{World}
-use Rattle.hall_store.specs.Store.{Served}
+use Rattle.hall_store.specs.Store.{Kept, Served}
+use Rattle.sqlite.specs.Schema.{Schema}
 use Rattle.hall_sql.specs.Tables.{hall_schema}
 use Rattle.hall_sql.specs.Rows.{world_of}
 use Rattle.hall_sql.specs.Cause.{AreRead}
 use Rattle.hall_sql.specs.Whole.{AreRecords}
-use Rattle.hall_sql.specs.Standing.{AreAllKeyed, IsHall, Rested, content_of}
-use Rattle.hall_sql.proofs.LastLemmas.{last_then}
+use Rattle.hall_sql.specs.Standing.{AreKeyedIn, IsHall, IsOver, IsTabled, Rested, RestedAny, RestedIn, content_of}
+use Rattle.hall_sql.proofs.LastLemmas.{follows_leads, last_then}
 
--- what a query over the hall's tables tells has its meaning in the world that stays
-pub told_so : (old new : State) (Means : World → Type 0) → IsHall old → Rested old new
+-- the hall's tables are tables of a schema
+pub over_hall : {Fits : Schema → Type 0} {s : State} → IsHall s → Fits hall_schema → IsOver Fits s
+over_hall hall fits = record { schema = hall_schema; tabled = hall; fits = fits }
+
+-- and rest where any do
+pub rested_hall : {old new : State} → IsHall old → RestedAny old new → Rested old new
+rested_hall hall rested = rested hall_schema hall
+
+-- what a query over tables of a schema tells has its meaning in the world that stays
+pub told_so : {schema : Schema} (old new : State) (Means : World → Type 0) → IsTabled schema old → RestedIn schema old new
     → (HasCleanDisk new → IsTrue new.is_open)
-    → (HasCleanDisk new → IsTrue old.is_open → old.now.schema ≡ hall_schema → AreAllKeyed old.now.trees → Means (world_of old.now.trees))
+    → (HasCleanDisk new → IsTrue old.is_open → old.now.schema ≡ schema → AreKeyedIn schema old.now.trees → Means (world_of old.now.trees))
     → HasCleanDisk new → IsTrue new.is_open × Means (world_of new.now.trees)
 told_so old new Means hall rested serves means clean =
     let opens = serves clean in
@@ -24,9 +33,9 @@ told_so old new Means hall rested serves means clean =
     (opens, subst (λ (d : Database). Means (world_of d.trees)) (sym (rested.same clean opens)) (means clean opened (hall.settled was opened).1 (hall.keyed was opened)))
 
 -- and so does what a read hands over, which holds in a store that serves alone
-pub told : {R E : Type 0} (old new : State) (result : Result R E) (P : R → Type 0) (Means : World → R → Type 0) → IsHall old → Rested old new
+pub told : {schema : Schema} {R E : Type 0} (old new : State) (result : Result R E) (P : R → Type 0) (Means : World → R → Type 0) → IsTabled schema old → RestedIn schema old new
     → (HasCleanDisk new → IfOk result P) → ((x : R) → P x → IsTrue new.is_open)
-    → ((x : R) → P x → HasCleanDisk new → IsTrue old.is_open → old.now.schema ≡ hall_schema → AreAllKeyed old.now.trees → Means (world_of old.now.trees) x)
+    → ((x : R) → P x → HasCleanDisk new → IsTrue old.is_open → old.now.schema ≡ schema → AreKeyedIn schema old.now.trees → Means (world_of old.now.trees) x)
     → Served (content_of new) result Means
 told old new (Ok x) P Means hall rested has serves means = λ clean.
     told_so old new (λ world. Means world x) hall rested (λ now. serves x (has now)) (λ now. means x (has now) now) clean
@@ -38,12 +47,24 @@ pub served_so : {R E : Type 0} (new : State) (result : Result R E) (Means : Worl
 served_so new (Ok x) Means serves means = λ clean. (serves clean, means clean)
 served_so new (Err e) Means serves means = tt
 
+-- what rests is kept
+pub rested_kept : {schema : Schema} (old new : State) → RestedIn schema old new → Kept (content_of old) (content_of new)
+rested_kept old new rested =
+    let leads = follows_leads old new rested.follows in
+    record {
+      honest = leads.honest;
+      serves = leads.serves;
+      counts = leads.counts;
+      lasts = leads.lasts;
+      world = λ clean opens. ap (λ (d : Database). world_of d.trees) (rested.same clean opens);
+    }
+
 -- a call that rests after one that did
-pub rests_on : (old mid new : State) → Rested old mid → Rested mid new → Rested old new
+pub rests_on : {schema : Schema} (old mid new : State) → RestedIn schema old mid → RestedIn schema mid new → RestedIn schema old new
 rests_on old mid new first second =
     let before = λ (clean : HasCleanDisk new). let was : HasCleanDisk mid = omega (arith, second.follows.lasts.clean, clean) in was in
     record {
-      hall = second.hall;
+      tabled = second.tabled;
       follows = record {
         lasts = last_then old mid new first.follows.lasts second.follows.lasts;
         opened = λ clean opens. first.follows.opened (before clean) (second.follows.opened clean opens);

@@ -6,7 +6,7 @@ use Rattle.sqlite.specs.Listing.{understood}
 use Rattle.sqlite.specs.Command.TheVariants.{CreateTable}
 use Rattle.sqlite.proofs.Callers.{IsPlain, command_of, statement_of}
 use Rattle.hall_sql.specs.declared.tables.HallTable.{HallTable}
-use Rattle.hall_sql.specs.declared.tables.HallTable.TheVariants.{People, Puzzles, Rounds, Places, Answers, Protests}
+use Rattle.hall_sql.specs.declared.tables.HallTable.TheVariants.{People, Puzzles, Rounds, Places, Answers, Protests, Testers}
 use Rattle.hall_sql.specs.Made.{table_text, shape_of, schema_before}
 
 pub table_is : (table : HallTable) → table_defined_by (table_text table) ≡ Ok (shape_of table)
@@ -17,6 +17,7 @@ table_is Rounds = refl
 table_is Places = refl
 table_is Answers = refl
 table_is Protests = refl
+table_is Testers = refl
 
 pub making_is : (table : HallTable) → (command_of (understood (schema_before table) (table_text table)) ≡ CreateTable)
     × (statement_of (table_text table) (understood (schema_before table) (table_text table)) ≡ table_text table)
@@ -28,3 +29,4 @@ making_is Rounds = (refl, refl, (refl, refl))
 making_is Places = (refl, refl, (refl, refl))
 making_is Answers = (refl, refl, (refl, refl))
 making_is Protests = (refl, refl, (refl, refl))
+making_is Testers = (refl, refl, (refl, refl))

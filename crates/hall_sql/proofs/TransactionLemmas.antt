@@ -3,20 +3,22 @@ use Rattle.std.proofs.Common.{◌≡◌, inl, inr, [], true, false, IsTrue, Ok, 
 use Rattle.sqlite_trees.specs.declared.store.Store.{Ghosts}
 use Rattle.sqlite.specs.declared.error.Error.{Error}
 use Rattle.sqlite.specs.Effect.{Database}
+use Rattle.sqlite.specs.Schema.{Schema}
 use Rattle.sqlite.specs.Held.{Held, state}
 use Rattle.sqlite.specs.State.{State, HasCleanDisk, KeepsCounts, IsRolledBack, Shows}
 use Rattle.sqlite.specs.Steps.{FailsToCommit}
+use Rattle.hall_store.specs.Store.{Leads}
 use Rattle.hall_store.specs.declared.change.Change.{Change}
 use Rattle.hall_sql.specs.Rows.{world_of}
 use Rattle.hall_sql.specs.Spared.{may_write, Spares}
-use Rattle.hall_sql.specs.Standing.{Lasts, AreAllKeyed, IsHall, Rested, Wrote, without_limit}
+use Rattle.hall_sql.specs.Standing.{Lasts, AreAllKeyed, IsHall, IsTabled, Rested, RestedIn, Wrote, content_of, without_limit}
 use Rattle.hall_sql.specs.Inside.{IsHallData, Carries, Did, Changes}
 use Rattle.hall_sql.proofs.LastLemmas.{last_none, last_then, last_begun}
 use Rattle.hall_sql.proofs.WriteLemmas.{made_wrote, rested_wrote}
 
 -- what changes nothing rests
-pub rests_itself : (s : State) → IsHall s → Rested s s
-rests_itself s hall = record { hall = hall; follows = record { lasts = last_none s; opened = λ clean opens. opens }; same = λ clean opens. refl }
+pub rests_itself : {schema : Schema} (s : State) → IsTabled schema s → RestedIn schema s s
+rests_itself s hall = record { tabled = hall; follows = record { lasts = last_none s; opened = λ clean opens. opens }; same = λ clean opens. refl }
 
 -- and wrote nothing, where it is refused
 pub wrote_nothing : {R E : Type 0} (change : Change) (s : State) (fault : E) → IsHall s → Wrote {R = R} change s s (Err fault)
@@ -36,6 +38,12 @@ shown_hall mid end ours ended shown = record {
   keyed = λ clean opens. subst (λ (d : Database). AreAllKeyed d.trees) (sym shown.now_is) ours.keyed;
 }
 
+-- what a commit over the hall's tables leaves
+pub record HasCommitted (Does : Database → Database → Type 0) (old end : State) : Type 0 where
+  pub hall : IsHall end
+  pub leads : Leads (content_of old) (content_of end)
+  pub done : HasCleanDisk end → IsTrue end.is_open × Does old.now end.now
+
 module _ {S : Type 0} (g : Ghosts S) (held : Held S) (hall : IsHall (state g held)) where
   -- where the transaction began
   abbrev base : State
@@ -54,7 +62,7 @@ module _ {S : Type 0} (g : Ghosts S) (held : Held S) (hall : IsHall (state g hel
       let same : (clean : HasCleanDisk end) (opens : IsTrue end.is_open) → end.now ≡ (state g held).now =
       λ clean opens. ((rolled clean).undone opens).0 ∙ (keeps clean).committed (opens_mid clean opens) ∙ sym (settled clean opens).0 in
       record {
-        hall = record {
+        tabled = record {
           unlimited = lasts.limit ∙ carries.lasts.limit ∙ hall.unlimited;
           autocommit = λ clean. ended;
           settled = λ clean opens. (((rolled clean).undone opens).0 ∙ sym ((rolled clean).undone opens).1, ap (λ (d : Database). d.schema) (same clean opens) ∙ (settled clean opens).1);
@@ -113,3 +121,32 @@ module _ {S : Type 0} (g : Ghosts S) (held : Held S) (hall : IsHall (state g hel
       let opened = (carries.kept clean_mid refl).was_open shown.was_open in
       let ours : IsHallData base.now = record { schema = (hall.settled was opened).1; keyed = hall.keyed was opened } in
       subst (Does base.now) (sym shown.now_is) ((did clean_mid refl).does ours)
+
+  -- and a hall is left, which serves
+  pub committed : (Does : Database → Database → Type 0) (mid end : State)
+      → Carries base mid → (HasCleanDisk mid → IsTrue base.in_transaction → Did Does base mid)
+      → Lasts mid end → end.in_transaction ≡ false
+      → (HasCleanDisk end → IsTrue mid.in_transaction × Shows mid end mid.now mid.now false × KeepsCounts mid end × (end.marks ≡ []))
+      → HasCommitted Does (state g held) end
+  committed Does mid end carries did lasts ended ok =
+      let clean_mid : HasCleanDisk end → HasCleanDisk mid = λ (clean : HasCleanDisk end). let was : HasCleanDisk mid = omega (arith, lasts.clean, clean) in was in
+      let clean_old : HasCleanDisk end → HasCleanDisk (state g held) = λ (clean : HasCleanDisk end). let was : HasCleanDisk base = omega (arith, carries.lasts.clean, lasts.clean, clean) in was in
+      let opened : (clean : HasCleanDisk end) → IsTrue (state g held).is_open = λ clean. (carries.kept (clean_mid clean) refl).was_open (ok clean).1.was_open in
+      let ours : (clean : HasCleanDisk end) → IsHallData base.now = λ clean. record { schema = (hall.settled (clean_old clean) (opened clean)).1; keyed = hall.keyed (clean_old clean) (opened clean) } in
+      let left : (clean : HasCleanDisk end) → IsHall (without_limit end) = λ clean. shown_hall mid end ((did (clean_mid clean) refl).steps.hall (ours clean)) ended (ok clean).1 in
+      let all = last_then (state g held) mid end (last_begun g held mid carries.lasts) lasts in
+      record {
+        hall = record {
+          unlimited = all.limit ∙ hall.unlimited;
+          autocommit = λ clean. ended;
+          settled = λ clean opens. (left clean).settled clean opens;
+          keyed = λ clean opens. (left clean).keyed clean opens;
+        };
+        leads = record {
+          honest = clean_old;
+          serves = λ clean opens. opened clean;
+          counts = all.counts;
+          lasts = λ clean opens. inl (ok clean).1.is_open;
+        };
+        done = λ clean. ((ok clean).1.is_open, committed_did Does mid end carries did lasts ok clean);
+      }

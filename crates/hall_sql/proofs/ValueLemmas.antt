@@ -12,7 +12,7 @@ use Rattle.std.specs.FinMap.Entries.{put, by_order}
 use Rattle.sqlite.specs.Order.{Row}
 use Rattle.hall_sql.specs.Rows.{entry, kept}
 
-no_more : {A : Type 0} (xs : List A) → length xs ≡ 0 → xs ≡ []
+pub no_more : {A : Type 0} (xs : List A) → length xs ≡ 0 → xs ≡ []
 no_more [] e = refl
 no_more (x ∷ xs) e = absurd (omega (arith, e))
 

@@ -61,7 +61,7 @@ made_wrote change old new done hall lasts made =
 -- and one that is refused leaves the tables
 pub rested_wrote : {R E : Type 0} (change : Change) (old new : State) (fault : E) → Rested old new → Wrote {R = R} change old new (Err fault)
 rested_wrote change old new fault rested = record {
-  hall = rested.hall;
+  hall = rested.tabled;
   makes = record {
     leads = follows_leads old new rested.follows;
     made = λ clean opens. ap (λ (d : Database). world_of d.trees) (rested.same clean opens);
@@ -99,7 +99,7 @@ rested_then {R} {E} change old mid new result rested serves wrote =
 pub rested_made : {R E : Type 0} (change : Change) (old new : State) (done : R) → Rested old new → (HasCleanDisk new → IsTrue new.is_open)
     → (HasCleanDisk new → changed change (world_of new.now.trees) ≡ world_of new.now.trees) → Wrote {E = E} change old new (Ok done)
 rested_made change old new done rested serves nothing = record {
-  hall = rested.hall;
+  hall = rested.tabled;
   makes = record {
     leads = follows_leads old new rested.follows;
     made = λ clean.
@@ -128,9 +128,16 @@ wrote_too {R} {E} change other old new result same wrote = record {
 
 -- worlds are one where their maps are
 pub same_worlds : (a b : World) → a.people ≡ b.people → a.puzzles ≡ b.puzzles → a.rounds ≡ b.rounds → a.places ≡ b.places → a.answers ≡ b.answers
-    → a.protests ≡ b.protests → a ≡ b
-same_worlds a b people puzzles rounds places answers protests =
-    λ i. record { people = people i; puzzles = puzzles i; rounds = rounds i; places = places i; answers = answers i; protests = protests i }
+    → a.protests ≡ b.protests → a.testers ≡ b.testers → a ≡ b
+same_worlds a b people puzzles rounds places answers protests testers = λ i. record {
+  people = people i;
+  puzzles = puzzles i;
+  rounds = rounds i;
+  places = places i;
+  answers = answers i;
+  protests = protests i;
+  testers = testers i;
+}
 
 either : (b : Bool) (x : Value) → cond b x x ≡ x
 either true x = refl

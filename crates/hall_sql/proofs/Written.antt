@@ -14,9 +14,9 @@ use Rattle.hall_policy.specs.declared.record.Round.{Round}
 use Rattle.hall_policy.specs.declared.record.Ruling.{Ruling}
 use Rattle.hall_sql.specs.Asked.{IsAsked, is_whole}
 use Rattle.hall_sql.specs.Columns.{answer_params, person_params, protest_params, puzzle_params, ruling_params}
-use Rattle.hall_sql.specs.RoundColumns.{head_params, place_params}
+use Rattle.hall_sql.specs.RoundColumns.{head_params, place_params, tester_params}
 use Rattle.hall_sql.specs.Statements.{add_answer_text, add_head_text, add_person_text, add_place_text, add_protest_text, add_puzzle_text}
-use Rattle.hall_sql.specs.Statements.{drop_places_text, look_head_text, look_puzzle_text, replace_head_text, replace_puzzle_text, rule_protest_text}
+use Rattle.hall_sql.specs.Statements.{add_tester_text, drop_testers_text, drop_places_text, look_head_text, look_puzzle_text, replace_head_text, replace_puzzle_text, rule_protest_text}
 use Rattle.hall_sql.specs.Tables.{hall_schema}
 use Rattle.hall_sql.specs.WriteCause.{IsWritten}
 use Rattle.hall_sql.proofs.AnswerTexts.{add_answer_is}
@@ -24,6 +24,7 @@ use Rattle.hall_sql.proofs.AskedLemmas.{asked}
 use Rattle.hall_sql.proofs.HeadTexts.{add_head_is, id_terms, look_head_is, replace_head_is}
 use Rattle.hall_sql.proofs.PeopleTexts.{add_person_is}
 use Rattle.hall_sql.proofs.PlaceTexts.{add_place_is, drop_places_is}
+use Rattle.hall_sql.proofs.TesterTexts.{add_tester_is, drop_testers_is}
 use Rattle.hall_sql.proofs.ProtestTexts.{add_protest_is, rule_protest_is}
 use Rattle.hall_sql.proofs.PuzzleTexts.{add_puzzle_is, key_terms, look_puzzle_is, replace_puzzle_is}
 use Rattle.hall_sql.proofs.WriteCauseLemmas.{written}
@@ -90,6 +91,20 @@ add_place_whole = refl
 
 pub add_place_written : (id : List ℕ) (number : ℕ) (entry : Entry) → IsWritten add_place_text (place_params id number entry)
 add_place_written id number entry = written add_place_text (place_params id number entry) _ add_place_is.0 tt add_place_is.1 add_place_whole
+
+drop_testers_whole : is_whole drop_testers_text 1 (understood hall_schema drop_testers_text) ≡ true
+unfolding understood everything
+drop_testers_whole = refl
+
+pub drop_testers_written : (id : List ℕ) → IsWritten drop_testers_text (Text id ∷ [])
+drop_testers_written id = written drop_testers_text (Text id ∷ []) _ drop_testers_is.0 tt drop_testers_is.1 drop_testers_whole
+
+add_tester_whole : is_whole add_tester_text 2 (understood hall_schema add_tester_text) ≡ true
+unfolding understood everything
+add_tester_whole = refl
+
+pub add_tester_written : (id name : List ℕ) → IsWritten add_tester_text (tester_params id name)
+add_tester_written id name = written add_tester_text (tester_params id name) _ add_tester_is.0 tt add_tester_is.1 add_tester_whole
 
 add_person_whole : is_whole add_person_text 3 (understood hall_schema add_person_text) ≡ true
 unfolding understood everything

@@ -14,8 +14,9 @@ use Rattle.sqlite.specs.Order.{Row}
 use Rattle.sqlite.specs.State.{State, IsUnchanged}
 use Rattle.hall_sql.specs.Cause.{IsStoreCause}
 use Rattle.hall_sql.specs.Inside.{IsHallData}
+use Rattle.hall_sql.specs.Standing.{AreKeyedIn}
 use Rattle.hall_sql.specs.Scan.{IsAbove, IsTableKeyed}
-use Rattle.hall_sql.specs.Tables.{no_schema}
+use Rattle.hall_sql.specs.Tables.{no_schema, old_schema}
 use Rattle.hall_sql.specs.declared.tables.HallTable.{HallTable}
 
 -- the row shows no integer that is above the last
@@ -33,6 +34,13 @@ NextFails g old new last =
 abbrev pub ScanFails : List HallTable → State → State → Type 0
 ScanFails tables old new =
     IsStoreCause old new ⊎ (IsSome old.step_limit ⊎ ¬ AllByRecursion (IsTableKeyed old) tables)
+
+-- Why a connection with the tables of the version before is refused: a transaction is open, or the cause lies in the
+-- store, or it has a limit on the steps of a query, or in one of the tables not all rowids are integers, or one stands
+-- twice.
+abbrev pub AdoptOldFails : State → State → Type 0
+AdoptOldFails old new =
+    IsTrue old.in_transaction ⊎ (IsStoreCause old new ⊎ (IsSome old.step_limit ⊎ ¬ AreKeyedIn old_schema old.now.trees))
 
 -- the database has tables, indexes or views, and they are not the hall's with rowids as the hall makes them
 abbrev pub IsForeign : Database → Type 0

@@ -1,6 +1,7 @@
 -- The text of a query that is refused for no cause of its own.
 use Rattle.std.specs.Prelude.{◌≡◌, ◌&&◌, ℕ, Bool, true, false, List, [], length, nat_le, nat_eq, Result, Ok, Err}
 use Rattle.sqlite.specs.Order.{Row}
+use Rattle.sqlite.specs.Schema.{Schema}
 use Rattle.sqlite.specs.Tree.{Trees}
 use Rattle.sqlite.specs.Given.{IsPlain}
 use Rattle.sqlite.specs.Listing.{understood, reads_listing}
@@ -20,15 +21,19 @@ is_whole sql count (Ok c) = nat_le (length sql) c.tail && nat_eq count (length c
 is_whole sql count (Err fault) = false
 
 -- the command is a query whose types go with these parameters, and sums nothing up that could overflow
-abbrev pub IsSafe : Command → Row → Type 0
-IsSafe (Select q names) params =
-    (accepts_program hall_schema (lets_of q) q.body params ≡ true)
+abbrev pub IsSafe : Schema → Command → Row → Type 0
+IsSafe schema (Select q names) params =
+    (accepts_program schema (lets_of q) q.body params ≡ true)
     × ((db : Trees) → ¬ (ProgramOverflows db params [] (lets_of q) q.body))
-IsSafe _ params = ⊥
+IsSafe schema _ params = ⊥
 
--- over the hall's tables the text is one query of these parameters, with no cause of its own to fail
-pub record IsAsked (sql : List ℕ) (params : Row) : Type 0 where
-  pub plain : IsPlain (understood hall_schema sql)
-  pub unlisted : reads_listing hall_schema sql ≡ false
-  pub whole : is_whole sql (length params) (understood hall_schema sql) ≡ true
-  pub safe : IsSafe (command_of (understood hall_schema sql)) params
+-- over the tables of the schema the text is one query of these parameters, with no cause of its own to fail
+pub record IsAskedIn (sql : List ℕ) (params : Row) (schema : Schema) : Type 0 where
+  pub plain : IsPlain (understood schema sql)
+  pub unlisted : reads_listing schema sql ≡ false
+  pub whole : is_whole sql (length params) (understood schema sql) ≡ true
+  pub safe : IsSafe schema (command_of (understood schema sql)) params
+
+-- so it is over the hall's tables
+abbrev pub IsAsked : List ℕ → Row → Type 0
+IsAsked sql params = IsAskedIn sql params hall_schema

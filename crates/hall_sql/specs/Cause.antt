@@ -4,7 +4,7 @@ use Rattle.std.specs.Prelude.{Contains, IsTrue, Option, Some, None}
 use Rattle.sqlite.specs.declared.types.Value.TheVariants.{Text}
 use Rattle.sqlite.specs.Order.{Row}
 use Rattle.sqlite.specs.State.{State, Begins, Shown}
-use Rattle.hall_policy.specs.Lists.{AreEntries}
+use Rattle.hall_policy.specs.Lists.{AreEntries, AreTesters}
 use Rattle.hall_policy.specs.Ranges.{HasWholeList}
 use Rattle.hall_policy.specs.Sink.{HasTaken}
 use Rattle.hall_policy.specs.World.{World}
@@ -14,8 +14,8 @@ use Rattle.hall_policy.specs.declared.record.Round.{Round}
 use Rattle.hall_store.specs.Store.{MoreFaults, IsRoundKept}
 use Rattle.hall_sql.specs.Feed.{AreAll, IsTurnedAway}
 use Rattle.hall_sql.specs.Places.{AreNumbered}
-use Rattle.hall_sql.specs.Rows.{place_in, round_in, world_of}
-use Rattle.hall_sql.specs.Statements.{head_text, places_of_text}
+use Rattle.hall_sql.specs.Rows.{place_in, round_in, tester_in, world_of}
+use Rattle.hall_sql.specs.Statements.{head_text, places_of_text, testers_of_text}
 
 -- the cause lies in the store: a fault of its device was counted in the call, or had shut the store before
 abbrev pub IsStoreCause : State → State → Type 0
@@ -36,21 +36,24 @@ abbrev pub FindFails : {X : Type 0} → (Row → Option X) → List ℕ → Row 
 FindFails read sql params old new =
     ReadFails read sql params old new ⊎ ((rows : List Row) × Shown sql params old new rows × (1 < length rows))
 
--- what was found and the places make no round with its list: there are places and no round, or they are not numbered from
--- 1 on, or the puzzles there are no list of a round
-abbrev pub AreNoRound : Option Round → List (PlaceKey × Entry) → Type 0
-AreNoRound None places = places ≢ []
-AreNoRound (Some round) places = ¬ (AreNumbered places × AreEntries (map (λ place. place.1) places))
+-- what was found, the places and the testers' names make no round with its lists: there are places and no round, or they
+-- are not numbered from 1 on, or the puzzles there are no list of a round, or the names are no list of testers
+abbrev pub AreNoRound : Option Round → List (PlaceKey × Entry) → List (List ℕ) → Type 0
+AreNoRound None places names = places ≢ []
+AreNoRound (Some round) places names =
+    ¬ (AreNumbered places × AreEntries (map (λ place. place.1) places) × AreTesters names)
 
--- what is kept under the id is neither nothing nor a round with a list, so that no answer is right
+-- what is kept under the id is neither nothing nor a round with its lists, so that no answer is right
 abbrev pub HasNoRound : World → List ℕ → Type 0
 HasNoRound world id = (¬ IsRoundKept world id None) × (¬ HasWholeList world id)
 
--- Why a read of a round fails: that of its head does, or that of its places, or no answer is right.
+-- Why a read of a round fails: that of its head does, or that of its places, or that of its testers, or no answer is
+-- right.
 abbrev pub RoundFails : List ℕ → State → State → Type 0
 RoundFails id old new =
     FindFails round_in head_text (Text id ∷ []) old new
-    ⊎ (ReadFails place_in places_of_text (Text id ∷ []) old new ⊎ HasNoRound (world_of old.now.trees) id)
+    ⊎ (ReadFails place_in places_of_text (Text id ∷ []) old new
+    ⊎ (ReadFails tester_in testers_of_text (Text id ∷ []) old new ⊎ HasNoRound (world_of old.now.trees) id))
 
 -- The sink has taken the records of the first rows that the query answers over the tables as they were, and the next
 -- row is no record, or the sink refuses it.

@@ -40,6 +40,10 @@ pub record Changes (change : Change) (old new : Database) : Type 0 where
   pub world : world_of new.trees ≡ changed change (world_of old.trees)
   pub others : Spares (may_write change) old.trees new.trees
 
+-- the world that the tables hold became another in this way
+abbrev pub Worlds : (World → World → Type 0) → Database → Database → Type 0
+Worlds Relates old new = Relates (world_of old.trees) (world_of new.trees)
+
 -- a query told what has this meaning, and left the tables
 pub record Tells (Means : World → Type 0) (old new : Database) : Type 0 where
   pub same : new ≡ old

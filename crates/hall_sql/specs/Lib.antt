@@ -9,6 +9,7 @@ pub mod RoundColumns
 pub mod Inside
 pub mod RoundPuts
 pub mod Places
+pub mod Testers
 pub mod Scan
 pub mod Made
 pub mod Feed
@@ -19,3 +20,8 @@ pub mod Asked
 pub mod Cause
 pub mod WriteCause
 pub mod AdoptCause
+pub mod Versions
+pub mod OldStore
+pub mod WholeRows
+pub mod Migrate
+pub mod Fill

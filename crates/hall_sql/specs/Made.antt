@@ -8,15 +8,19 @@ use Rattle.sqlite.specs.Effect.{Database}
 use Rattle.sqlite.specs.State.{State}
 use Rattle.hall_sql.specs.Standing.{IsBare}
 use Rattle.hall_sql.specs.declared.tables.HallTable.{HallTable}
-use Rattle.hall_sql.specs.declared.tables.HallTable.TheVariants.{People, Puzzles, Rounds, Places, Answers, Protests}
+use Rattle.hall_sql.specs.declared.tables.HallTable.TheVariants.{People, Puzzles, Rounds, Places, Answers, Protests, Testers}
 use Rattle.hall_sql.specs.Tables.{hall_schema, people_text, people_table, puzzles_text, puzzles_table, rounds_text}
 use Rattle.hall_sql.specs.Tables.{rounds_table, round_puzzles_text, round_puzzles_table, answers_text, answers_table}
 use Rattle.hall_sql.specs.Tables.{protests_text, protests_table, no_schema, with_people, with_puzzles, with_rounds}
-use Rattle.hall_sql.specs.Tables.{with_round_puzzles, with_answers}
+use Rattle.hall_sql.specs.Tables.{with_round_puzzles, with_answers, old_schema, testers_text, testers_table}
 
--- all six, each after those to which it refers
+-- all seven, each after those to which it refers
 abbrev pub all_tables : List HallTable
-all_tables = People ∷ Puzzles ∷ Rounds ∷ Places ∷ Answers ∷ Protests ∷ []
+all_tables = People ∷ Puzzles ∷ Rounds ∷ Places ∷ Answers ∷ Protests ∷ Testers ∷ []
+
+-- those of the version before
+abbrev pub old_tables : List HallTable
+old_tables = People ∷ Puzzles ∷ Rounds ∷ Places ∷ Answers ∷ Protests ∷ []
 
 -- the statement that makes the table
 abbrev pub table_text : HallTable → List ℕ
@@ -26,6 +30,7 @@ table_text Rounds = rounds_text
 table_text Places = round_puzzles_text
 table_text Answers = answers_text
 table_text Protests = protests_text
+table_text Testers = testers_text
 
 -- the table as it is made
 abbrev pub shape_of : HallTable → Table
@@ -35,6 +40,7 @@ shape_of Rounds = rounds_table
 shape_of Places = round_puzzles_table
 shape_of Answers = answers_table
 shape_of Protests = protests_table
+shape_of Testers = testers_table
 
 -- the schema to which the table is added
 abbrev pub schema_before : HallTable → Schema
@@ -44,6 +50,7 @@ schema_before Rounds = with_puzzles
 schema_before Places = with_rounds
 schema_before Answers = with_round_puzzles
 schema_before Protests = with_answers
+schema_before Testers = old_schema
 
 -- the schema is the hall's once these tables are made
 abbrev pub Lacks : List HallTable → Schema → Type 0

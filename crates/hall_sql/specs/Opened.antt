@@ -1,5 +1,5 @@
 -- The world that the files at a path held.
-use Rattle.std.specs.Prelude.{◌≡◌, ◌⊎◌, ℕ, Bool, true, false, List, []}
+use Rattle.std.specs.Prelude.{◌≡◌, ◌≢◌, ◌⊎◌, ℕ, Bool, true, false, List, [], Option, Some, None, Result, Ok, Err}
 use Rattle.sqlite_trees.specs.declared.memory.MemStore.{MemStore}
 use Rattle.sqlite_trees.specs.declared.store.Store.{Ghosts}
 use Rattle.sqlite.specs.Recovery.{Image}
@@ -16,12 +16,13 @@ use Rattle.hall_store.specs.Store.{Content}
 use Rattle.hall_store.specs.Maps.{empty_world}
 use Rattle.hall_store.specs.declared.fault.StoreFault.{StoreFault}
 use Rattle.hall_store.specs.declared.fault.StoreFault.TheVariants.{Failed}
-use Rattle.hall_sql.specs.AdoptCause.{AdoptFails}
-use Rattle.hall_sql.specs.Tables.{no_schema, hall_schema}
+use Rattle.hall_sql.specs.AdoptCause.{AdoptFails, AdoptOldFails}
+use Rattle.hall_sql.specs.Tables.{no_schema, hall_schema, old_schema}
 use Rattle.hall_sql.specs.Rows.{world_of}
-use Rattle.hall_sql.specs.Standing.{HasAdopted, HasDeclined, content_of}
+use Rattle.hall_sql.specs.Standing.{HasAdopted, HasAdoptedOld, HasDeclined, content_of}
+use Rattle.hall_sql.specs.WholeRows.{without_testers}
 use Rattle.hall_sql.specs.declared.open.OpenFault.{OpenFault}
-use Rattle.hall_sql.specs.declared.open.OpenFault.TheVariants.{Missing, Unopened, Refused}
+use Rattle.hall_sql.specs.declared.open.OpenFault.TheVariants.{Missing, Unopened, Old, Refused}
 
 -- where the device was honest, the connection stands for what the log and the database file hold
 pub record IsFound (image : Image) (s : State) : Type 0 where
@@ -34,54 +35,85 @@ StandsFor db world =
     (IsSound hall_schema db × (world ≡ world_of db))
     ⊎ (IsSound no_schema db × (world ≡ empty_world))
 
+-- the database lists the tables of the first version, whose rows stand for the world
+abbrev pub StandsForOld : Trees → World → Type 0
+StandsForOld db world = IsSound old_schema db × (world ≡ without_testers (world_of db))
+
 -- the log and the database file hold a database that stands for the world
 pub record HoldsWorld (image : Image) (world : World) : Type 0 where
   pub db : Trees
   pub held : ∥ HoldsDatabase image db ∥₁
   pub stands : StandsFor db world
 
--- the world that is found in the log and the database file
-pub record FindsWorld (image : Image) (world : World) : Type 0 where
+-- the world that is found in the log and the database file, where a database stands for a world so
+pub record FindsAs (Stands : Trees → World → Type 0) (image : Image) (world : World) : Type 0 where
   -- what database they hold stands for it
-  pub holds : (db : Trees) → ∥ HoldsDatabase image db ∥₁ → StandsFor db world
+  pub holds : (db : Trees) → ∥ HoldsDatabase image db ∥₁ → Stands db world
   -- they recover to a database, or none was made yet
-  pub reads : (db : Trees) × AreFoundIn image db × StandsFor db world
-  -- where the database file has no byte, the world is empty
+  pub reads : (db : Trees) × AreFoundIn image db × Stands db world
+
+-- the hall's world that is found in them; where the database file has no byte, it is empty
+pub record FindsWorld (image : Image) (world : World) : Type 0 where
+  pub found : FindsAs StandsFor image world
   pub nothing : image.db ≡ [] → world ≡ empty_world
 
 -- Where the device was honest, the store serves, and its world is the one that the files held.
 abbrev pub Starts : Image → Content → Type 0
 Starts image content = content.honest → content.serves × FindsWorld image content.world
 
+-- Where the device was honest, the store of the first version serves, and its world is the one that the files held.
+abbrev pub StartsOld : Image → Content → Type 0
+StartsOld image content = content.honest → content.serves × FindsAs StandsForOld image content.world
+
 -- Asked for the database at the path alone, the files handed out the one that they held, and this became of it when a
--- store took it over.
-pub record OpensAt {F S : Type 0} (g : Ghosts S) (image_at : List ℕ → Image) (opens : F → List ℕ → Held S → F → Type 0)
-    (old : F) (path : List ℕ) (held : Held S) (new : F) : Type 0 where
+-- store took it over so.
+pub record OpensAs {F S : Type 0} (Adopted : State → State → Type 0) (g : Ghosts S) (image_at : List ℕ → Image)
+    (opens : F → List ℕ → Held S → F → Type 0) (old : F) (path : List ℕ) (held : Held S) (new : F) : Type 0 where
   pub was : Held S
   pub opened : opens old path was new
   pub found : IsFound (image_at path) (state g was)
-  pub adopted : HasAdopted (state g was) (state g held)
+  pub adopted : Adopted (state g was) (state g held)
 
--- Asked for the database at the path alone, the files handed out the one that they held, which was refused by this fault,
+-- the store is the hall's
+abbrev pub OpensAt : {F S : Type 0} → Ghosts S → (List ℕ → Image) → (F → List ℕ → Held S → F → Type 0) → F → List ℕ
+    → Held S → F → Type 0
+OpensAt = OpensAs HasAdopted
+
+-- Asked for the database at the path alone, the files handed out the one that they held, which was refused for this cause,
 -- and took it back as it was left.
-pub record IsHandedBack {F S : Type 0} (g : Ghosts S) (image_at : List ℕ → Image) (opens : F → List ℕ → Held S → F → Type 0)
-    (closes : F → Held S → F → Type 0) (old : F) (path : List ℕ) (new : F) (fault : StoreFault) : Type 0 where
+pub record IsHandedBack {F S : Type 0} (Cause : State → State → Type 0) (g : Ghosts S) (image_at : List ℕ → Image)
+    (opens : F → List ℕ → Held S → F → Type 0) (closes : F → Held S → F → Type 0) (old : F) (path : List ℕ) (new : F)
+    : Type 0 where
   pub was : Held S
   pub left : Held S
   pub between : F
   pub opened : opens old path was between
   pub found : IsFound (image_at path) (state g was)
   pub declined : HasDeclined (state g was) (state g left)
-  pub cause : HasCleanDisk (state g left) → fault ≡ Failed → AdoptFails (state g was) (state g left)
+  pub cause : HasCleanDisk (state g left) → Cause (state g was) (state g left)
   pub closed : closes between left new
+
+-- the tables were those of the first version
+abbrev pub WasOld : State → State → Type 0
+WasOld was left = was.now.schema ≡ old_schema
+
+-- they were others
+abbrev pub WasNotOld : State → State → Type 0
+WasNotOld was left = was.now.schema ≢ old_schema
+
+-- they were others, and the fault has a cause
+abbrev pub IsRefusedBy : StoreFault → State → State → Type 0
+IsRefusedBy fault was left = WasNotOld was left × (fault ≡ Failed → AdoptFails was left)
 
 -- asked for the database at the path alone, the files refused by the error, or handed out one that was refused
 abbrev pub IsCauseAt : {F S : Type 0} → Ghosts S → (List ℕ → Image) → (F → List ℕ → Error → F → Type 0)
     → (F → List ℕ → Held S → F → Type 0) → (F → Held S → F → Type 0) → F → List ℕ → F → OpenFault → Type 0
 IsCauseAt g image_at refuses opens closes old path new Missing = ⊥
 IsCauseAt g image_at refuses opens closes old path new (Unopened error) = refuses old path error new
+IsCauseAt g image_at refuses opens closes old path new Old =
+    IsHandedBack WasOld g image_at opens closes old path new
 IsCauseAt g image_at refuses opens closes old path new (Refused fault) =
-    IsHandedBack g image_at opens closes old path new fault
+    IsHandedBack (IsRefusedBy fault) g image_at opens closes old path new
 
 -- the files told that there is a file at the path, and then handed out the database, of which this became
 abbrev pub OpensThere : {F S : Type 0} → Ghosts S → (List ℕ → Image) → (F → List ℕ → Bool → F → Type 0)
@@ -97,6 +129,24 @@ abbrev pub IsCauseThere : {F S : Type 0} → Ghosts S → (List ℕ → Image) �
 IsCauseThere g image_at tells refuses opens closes old path new Missing = tells old path true new
 IsCauseThere {F} g image_at tells refuses opens closes old path new cause =
     (there : F) × tells old path false there × IsCauseAt g image_at refuses opens closes there path new cause
+
+-- What came of asking for a database of the first version, which is there: the files told first whether there is one.
+-- Where there is none, or its tables are others, nothing was taken over, and no more was asked.
+abbrev pub IsOldAsked : {F S : Type 0} → Ghosts S → (List ℕ → Image) → (F → List ℕ → Bool → F → Type 0)
+    → (F → List ℕ → Error → F → Type 0) → (F → List ℕ → Held S → F → Type 0) → (F → Held S → F → Type 0)
+    → F → List ℕ → Result (Option (Held S)) OpenFault → F → Type 0
+IsOldAsked {F} g image_at tells refuses opens closes old path (Ok (Some held)) new =
+    (there : F) × tells old path false there × OpensAs HasAdoptedOld g image_at opens there path held new
+IsOldAsked {F} g image_at tells refuses opens closes old path (Ok None) new =
+    tells old path true new
+    ⊎ ((there : F) × tells old path false there
+    × IsHandedBack WasNotOld g image_at opens closes there path new)
+IsOldAsked {F} g image_at tells refuses opens closes old path (Err (Unopened error)) new =
+    (there : F) × tells old path false there × refuses there path error new
+IsOldAsked {F} g image_at tells refuses opens closes old path (Err (Refused fault)) new =
+    (there : F) × tells old path false there
+    × IsHandedBack (λ was left. fault ≡ Failed → AdoptOldFails was left) g image_at opens closes there path new
+IsOldAsked g image_at tells refuses opens closes old path (Err other) new = ⊥
 
 -- ---- what the definitions give
 

@@ -1,4 +1,4 @@
--- The columns that a round and its puzzles are written in, and the rows under a round's id.
+-- The columns that a round, its puzzles and its testers are written in, and the rows under a round's id.
 use Rattle.std.specs.Prelude.{◌≡◌, ℕ, ℤ, pos, Bool, List, [], ◌∷◌, length, Some, if◌then◌else◌}
 use Rattle.std.specs.List.{filter, list_all}
 use Rattle.std.specs.FinMap.{get}
@@ -36,6 +36,10 @@ head_params round =
 abbrev pub place_params : List ℕ → ℕ → Entry → Row
 place_params round number entry =
     Text round ∷ Int (pos number) ∷ Text entry.puzzle.author ∷ Text entry.puzzle.label ∷ Int (pos entry.points) ∷ []
+
+-- the columns of a tester of a round: round, name
+abbrev pub tester_params : List ℕ → List ℕ → Row
+tester_params round name = Text round ∷ Text name ∷ []
 
 -- the row's first column is this text, as SQL compares
 abbrev pub is_under : List ℕ → Row → Bool

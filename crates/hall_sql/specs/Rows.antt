@@ -14,6 +14,7 @@ use Rattle.hall_policy.specs.declared.record.PuzzleRow.{PuzzleRow}
 use Rattle.hall_policy.specs.declared.record.Round.{Round}
 use Rattle.hall_policy.specs.declared.record.Entry.{Entry}
 use Rattle.hall_policy.specs.declared.record.PlaceKey.{PlaceKey}
+use Rattle.hall_policy.specs.declared.record.TesterKey.{TesterKey}
 use Rattle.hall_policy.specs.declared.record.AnswerKey.{AnswerKey}
 use Rattle.hall_policy.specs.declared.record.AnswerRow.{AnswerRow}
 use Rattle.hall_policy.specs.declared.record.ProtestRow.{ProtestRow}
@@ -148,6 +149,17 @@ protest_in columns = do
 abbrev pub protest_of : Row → Option ProtestRow
 protest_of row = protest_in (columns_from 1 7 row)
 
+-- the tester of a round whose columns these are: round, name. There is nothing to tell beside the key.
+abbrev pub tester_in : Row → Option (TesterKey × Unit {0})
+tester_in columns = do
+  round ← name_in (column columns 0)
+  name ← name_in (column columns 1)
+  Some (record { round = round; name = name }, tt)
+
+-- the tester that a row of the table is
+abbrev pub tester_of : Row → Option (TesterKey × Unit {0})
+tester_of row = tester_in (columns_from 1 2 row)
+
 -- a record under its key
 abbrev pub entry : {K X : Type 0} → (X → K) → Option X → List (K × X)
 entry key None = []
@@ -166,4 +178,5 @@ world_of trees = record {
   places = from_entries (flat_map (λ row. option_to_list (place_of row)) (trees 7));
   answers = kept answer_cmp (λ row. row.key) answer_of (trees 9);
   protests = kept protest_cmp (λ row. row.key) protest_of (trees 12);
+  testers = from_entries (flat_map (λ row. option_to_list (tester_of row)) (trees 14));
 }

@@ -12,7 +12,7 @@ use Rattle.sqlite.specs.Held.{Held, state}
 use Rattle.sqlite.specs.Given.{Advances, HasGiven}
 use Rattle.sqlite.specs.State.{State, IsUnchanged, KeepsCounts}
 use Rattle.hall_sql.specs.declared.tables.HallTable.{HallTable}
-use Rattle.hall_sql.specs.declared.tables.HallTable.TheVariants.{People, Puzzles, Rounds, Places, Answers, Protests}
+use Rattle.hall_sql.specs.declared.tables.HallTable.TheVariants.{People, Puzzles, Rounds, Places, Answers, Protests, Testers}
 use Rattle.hall_sql.specs.Standing.{AreKeyed}
 
 -- the tree of the table
@@ -23,6 +23,7 @@ tree_of Rounds = 5
 tree_of Places = 7
 tree_of Answers = 9
 tree_of Protests = 12
+tree_of Testers = 14
 
 -- each number is below those after it
 abbrev pub Rises : List ℤ → Type 0

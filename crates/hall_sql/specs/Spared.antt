@@ -36,6 +36,14 @@ is_head_of id tree row = tree == 5 && is_under id row
 abbrev pub is_place_of : List ℕ → ℕ → Row → Bool
 is_place_of id tree row = tree == 7 && is_under id row
 
+-- it is a row of the table of their testers under the round's id
+abbrev pub is_tester_of : List ℕ → ℕ → Row → Bool
+is_tester_of id tree row = tree == 14 && is_under id row
+
+-- it is a row under the round's id of one of the three
+abbrev pub is_of_round : List ℕ → ℕ → Row → Bool
+is_of_round id tree row = is_head_of id tree row || (is_place_of id tree row || is_tester_of id tree row)
+
 -- Whether the change may write this row of the table in this tree. A puzzle or a round takes the place of what stands
 -- under its key, as SQL compares, be it a record or none; all else that is written is a record.
 abbrev pub may_write : Change → ℕ → Row → Bool
@@ -43,7 +51,7 @@ may_write Nothing tree row = false
 may_write (Import people) tree row = is_one_of people tree row
 may_write (PutPuzzle puzzle) tree row = tree == 3 && stands_under puzzle.key row
 may_write (SetState key state) tree row = tree == 3 && stands_under key row
-may_write (PutRound round) tree row = is_head_of round.round.id tree row || is_place_of round.round.id tree row
+may_write (PutRound round) tree row = is_of_round round.round.id tree row
 may_write (SetRoundFlag id flag) tree row = is_head_of id tree row
 may_write (AddAnswer answer) tree row = tree == 9 && has_key answer_cmp (λ x. x.key) answer.key (answer_of row)
 may_write (AddProtest protest) tree row = tree == 12 && has_key protest_cmp (λ x. x.key) protest.key (protest_of row)

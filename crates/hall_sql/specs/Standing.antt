@@ -1,5 +1,5 @@
 -- What the store keeps true of its connection, what a call leaves, and the content that a connection shows.
-use Rattle.std.specs.Prelude.{◌≡◌, ◌≢◌, ◌≤◌, ◌⊎◌, ℕ, Bool, false, List, [], ◌∷◌, map, IsTrue, Result, Ok, Err, OnOk, OnErr, None}
+use Rattle.std.specs.Prelude.{◌≡◌, ◌≢◌, ◌≤◌, ◌⊎◌, ℕ, Bool, true, false, List, [], ◌∷◌, map, IsTrue, Result, Ok, Err, OnOk, OnErr, None}
 use Rattle.std.specs.List.{AllByRecursion, filter, list_all}
 use Rattle.std.specs.List.Sorted.{IsPermutation, IsSorted}
 use Rattle.std.specs.declared.cmp.Ordering.TheVariants.{Equal}
@@ -18,7 +18,7 @@ use Rattle.sqlite.specs.State.{State, HasCleanDisk, IsUnchanged, IsRolledBack}
 use Rattle.hall_store.specs.Store.{Content, MoreFaults, Makes}
 use Rattle.hall_store.specs.Change.{changed}
 use Rattle.hall_store.specs.declared.change.Change.{Change}
-use Rattle.hall_sql.specs.Tables.{no_schema, hall_schema}
+use Rattle.hall_sql.specs.Tables.{no_schema, hall_schema, old_schema}
 use Rattle.hall_sql.specs.Rows.{world_of}
 use Rattle.hall_sql.specs.Spared.{may_write, Spares}
 
@@ -36,17 +36,25 @@ pub record AreKeyed (rows : List Row) : Type 0 where
   pub ints : AllByRecursion (λ row. IsTrue (is_int (rowid row))) rows
   pub distinct : AreDistinct rows
 
--- The rowids of each table are integers, and none stands twice in it. No clause of a connection says so.
+-- The rowids of each of these tables are integers, and none stands twice in it. No clause of a connection says so.
+abbrev pub AreKeyedIn : Schema → Trees → Type 0
+AreKeyedIn schema trees = AllByRecursion (λ table. AreKeyed (trees table.tree)) schema.tables
+
+-- so it is in the hall's tables
 abbrev pub AreAllKeyed : Trees → Type 0
-AreAllKeyed trees = AllByRecursion (λ table. AreKeyed (trees table.tree)) hall_schema.tables
+AreAllKeyed = AreKeyedIn hall_schema
 
 -- No transaction is open, and the steps of a query have no limit. Where the store still serves, all is committed, and the
--- tables are the hall's.
-pub record IsHall (s : State) : Type 0 where
+-- tables are those of the schema.
+pub record IsTabled (schema : Schema) (s : State) : Type 0 where
   pub unlimited : s.step_limit ≡ None
   pub autocommit : HasCleanDisk s → s.in_transaction ≡ false
-  pub settled : HasCleanDisk s → IsTrue s.is_open → (s.now ≡ s.committed) × (s.now.schema ≡ hall_schema)
-  pub keyed : HasCleanDisk s → IsTrue s.is_open → AreAllKeyed s.now.trees
+  pub settled : HasCleanDisk s → IsTrue s.is_open → (s.now ≡ s.committed) × (s.now.schema ≡ schema)
+  pub keyed : HasCleanDisk s → IsTrue s.is_open → AreKeyedIn schema s.now.trees
+
+-- so it is with the hall's tables
+abbrev pub IsHall : State → Type 0
+IsHall = IsTabled hall_schema
 
 -- the connection, had it no limit on the steps of a query
 abbrev pub without_limit : State → State
@@ -68,11 +76,25 @@ pub record Follows (old new : State) : Type 0 where
 abbrev pub Rests : State → State → Type 0
 Rests old new = IsUnchanged old new ⊎ IsRolledBack old new
 
--- the tables are as they were, while the store serves
-pub record Rested (old new : State) : Type 0 where
-  pub hall : IsHall new
+-- the tables are as they were, while the store serves, and still those of the schema
+pub record RestedIn (schema : Schema) (old new : State) : Type 0 where
+  pub tabled : IsTabled schema new
   pub follows : Follows old new
   pub same : HasCleanDisk new → IsTrue new.is_open → new.now ≡ old.now
+
+-- so it is with the hall's tables
+abbrev pub Rested : State → State → Type 0
+Rested = RestedIn hall_schema
+
+-- the tables are those of a schema that is so
+pub record IsOver (Fits : Schema → Type 0) (s : State) : Type 0 where
+  pub schema : Schema
+  pub tabled : IsTabled schema s
+  pub fits : Fits schema
+
+-- the tables are as they were, while the store serves, whichever schema's they are
+abbrev pub RestedAny : State → State → Type 0
+RestedAny old new = (schema : Schema) → IsTabled schema old → RestedIn schema old new
 
 -- the rows of a table that meet WHERE, in an order that ORDER BY allows, as the columns that are shown
 pub record IsSelection (q : Query) (table : List Row) (params : Row) (rows : List Row) : Type 0 where
@@ -140,13 +162,22 @@ StoodOrEmpty old new =
     ((old.now.schema ≡ hall_schema) × (new.now ≡ old.now))
     ⊎ ((old.now.schema ≡ no_schema) × IsBare hall_schema new.now)
 
--- a connection on which no transaction was open became a hall's, with no limit on the steps of a query any more
-pub record HasAdopted (old new : State) : Type 0 where
+-- The tables of a connection on which no transaction was open became those of the schema, in this way, with no limit on
+-- the steps of a query any more.
+pub record HasAdoptedIn (schema : Schema) (Stood : State → State → Type 0) (old new : State) : Type 0 where
   pub alone : old.in_transaction ≡ false
-  pub hall : IsHall new
+  pub hall : IsTabled schema new
   pub follows : Follows (without_limit old) new
   pub serves : HasCleanDisk new → IsTrue new.is_open
-  pub stood : HasCleanDisk new → StoodOrEmpty old new
+  pub stood : HasCleanDisk new → Stood old new
+
+-- a hall's tables stood or were made
+abbrev pub HasAdopted : State → State → Type 0
+HasAdopted = HasAdoptedIn hall_schema StoodOrEmpty
+
+-- the tables of the version before stood
+abbrev pub HasAdoptedOld : State → State → Type 0
+HasAdoptedOld = HasAdoptedIn old_schema (λ old new. (old.now.schema ≡ old_schema) × (new.now ≡ old.now))
 
 -- A connection was refused. Its limit on the steps of a query is as it was, and so is whether a transaction is open, with
 -- the savepoints of an open one; while the store serves, so are the tables and what is committed of them.
@@ -160,7 +191,18 @@ abbrev pub Adopts : {R E : Type 0} → State → State → Result R E → Type 0
 Adopts old new (Ok done) = HasAdopted old new
 Adopts old new (Err fault) = HasDeclined old new
 
+-- a connection with tables of the version before is taken over, and one with others is left
+abbrev pub AdoptsOld : {E : Type 0} → State → State → Result Bool E → Type 0
+AdoptsOld old new (Ok true) = HasAdoptedOld old new
+AdoptsOld old new (Ok false) = HasDeclined old new × (HasCleanDisk new → old.now.schema ≢ old_schema)
+AdoptsOld old new (Err fault) = HasDeclined old new
+
 -- so it did, but for a limit on the steps of a query, which is still to be lifted
+abbrev pub ReadiesOld : {E : Type 0} → State → State → Result Bool E → Type 0
+ReadiesOld old new (Ok true) = HasAdoptedOld old (without_limit new)
+ReadiesOld old new (Ok false) = HasDeclined old new × (HasCleanDisk new → old.now.schema ≢ old_schema)
+ReadiesOld old new (Err fault) = HasDeclined old new
+
 abbrev pub Readies : {R E : Type 0} → State → State → Result R E → Type 0
 Readies old new (Ok done) = HasAdopted old (without_limit new)
 Readies old new (Err fault) = HasDeclined old new

@@ -5,7 +5,7 @@ use Rattle.sqlite_value.specs.declared.keys.Key.{Key}
 use Rattle.sqlite.specs.Term.{Term, lit}
 use Rattle.sqlite.specs.Query.{Query, inner, end}
 use Rattle.hall_sql.specs.declared.tables.HallTable.{HallTable}
-use Rattle.hall_sql.specs.declared.tables.HallTable.TheVariants.{People, Puzzles, Rounds, Places, Answers, Protests}
+use Rattle.hall_sql.specs.declared.tables.HallTable.TheVariants.{People, Puzzles, Rounds, Places, Answers, Protests, Testers}
 
 -- a query of one table, with no grouping and all its rows
 abbrev pub plain_query : ℕ → List Term → List Term → List (Term × Key) → Query
@@ -28,6 +28,10 @@ person_text = codes "SELECT name, pass, roles FROM people WHERE name = ?1"
 -- who has a key
 abbrev pub person_by_key_text : List ℕ
 person_by_key_text = codes "SELECT name, pass, roles FROM people WHERE pass = ?1"
+
+-- all people, in the order of their names
+abbrev pub all_people_text : List ℕ
+all_people_text = codes "SELECT name, pass, roles FROM people ORDER BY name"
 
 -- the puzzle under a key
 abbrev pub puzzle_text : List ℕ
@@ -90,6 +94,12 @@ answers_in_text =
     codes "SELECT entrant, round, number, token, n, moment, answer, verdict FROM answers "
     ++ codes "WHERE round = ?1 ORDER BY entrant, number, n, token"
 
+-- all answers, in the order of their keys
+abbrev pub all_answers_text : List ℕ
+all_answers_text =
+    codes "SELECT entrant, round, number, token, n, moment, answer, verdict FROM answers "
+    ++ codes "ORDER BY entrant, round, number, token"
+
 -- one more answer
 abbrev pub add_answer_text : List ℕ
 add_answer_text =
@@ -113,6 +123,12 @@ abbrev pub protests_in_text : List ℕ
 protests_in_text =
     codes "SELECT entrant, round, token, number, body, ruling, points FROM protests "
     ++ codes "WHERE round = ?1 ORDER BY entrant, round, token"
+
+-- all protests, in the order of their keys
+abbrev pub all_protests_text : List ℕ
+all_protests_text =
+    codes "SELECT entrant, round, token, number, body, ruling, points FROM protests "
+    ++ codes "ORDER BY entrant, round, token"
 
 -- one more protest
 abbrev pub add_protest_text : List ℕ
@@ -173,6 +189,26 @@ places_of_text =
     codes "SELECT round, number, author, label, points FROM round_puzzles "
     ++ codes "WHERE round = ?1 ORDER BY number"
 
+-- the testers of a round, in the order of their names
+abbrev pub testers_of_text : List ℕ
+testers_of_text = codes "SELECT round, name FROM testers WHERE round = ?1 ORDER BY name"
+
+-- all testers, in the order of their keys
+abbrev pub all_testers_text : List ℕ
+all_testers_text = codes "SELECT round, name FROM testers ORDER BY round, name"
+
+-- the testers of a round are taken out
+abbrev pub drop_testers_text : List ℕ
+drop_testers_text = codes "DELETE FROM testers WHERE round = ?1"
+
+-- one more tester of a round
+abbrev pub add_tester_text : List ℕ
+add_tester_text = codes "INSERT INTO testers (round, name) VALUES (?1, ?2)"
+
+-- all places, by round, then number
+abbrev pub all_places_text : List ℕ
+all_places_text = codes "SELECT round, number, author, label, points FROM round_puzzles ORDER BY round, number"
+
 -- the rowids of a table, in order
 abbrev pub rowids_text : HallTable → List ℕ
 rowids_text People = codes "SELECT rowid FROM people ORDER BY rowid"
@@ -181,3 +217,4 @@ rowids_text Rounds = codes "SELECT rowid FROM rounds ORDER BY rowid"
 rowids_text Places = codes "SELECT rowid FROM round_puzzles ORDER BY rowid"
 rowids_text Answers = codes "SELECT rowid FROM answers ORDER BY rowid"
 rowids_text Protests = codes "SELECT rowid FROM protests ORDER BY rowid"
+rowids_text Testers = codes "SELECT rowid FROM testers ORDER BY rowid"

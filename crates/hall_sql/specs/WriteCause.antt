@@ -39,11 +39,12 @@ use Rattle.hall_sql.specs.Asked.{is_whole}
 use Rattle.hall_sql.specs.Cause.{IsStoreCause, IsAnyUnread, FindFails}
 use Rattle.hall_sql.specs.Columns.{person_params, puzzle_params, ruling_params, HasSoMany}
 use Rattle.hall_sql.specs.Inside.{IsHallData}
-use Rattle.hall_sql.specs.RoundColumns.{head_params, place_params, HasSoManyHeads}
-use Rattle.hall_sql.specs.RoundPuts.{PutsHead, DropsPlaces, PutsPlaces}
+use Rattle.hall_sql.specs.RoundColumns.{head_params, place_params, tester_params, HasSoManyHeads}
+use Rattle.hall_sql.specs.RoundPuts.{PutsHead, DropsPlaces, PutsPlaces, PutsList, DropsTesters, PutsTesters}
 use Rattle.hall_sql.specs.Rows.{world_of, person_in, puzzle_row_in, protest_in, round_in}
 use Rattle.hall_sql.specs.Statements.{add_person_text, person_text, add_puzzle_text, replace_puzzle_text, puzzle_text}
 use Rattle.hall_sql.specs.Statements.{add_head_text, replace_head_text, head_text, drop_places_text, add_place_text}
+use Rattle.hall_sql.specs.Statements.{drop_testers_text, add_tester_text}
 use Rattle.hall_sql.specs.Standing.{HasAdded}
 use Rattle.hall_sql.specs.Statements.{rule_protest_text, protest_text}
 use Rattle.hall_sql.specs.Tables.{hall_schema}
@@ -160,18 +161,50 @@ pub record PlaceIsRefused (id : List ℕ) (entries : List Entry) (old : Database
   pub refused : IsRefused add_place_text (place_params id (at + 1) entry) placed
 
 -- the list before is taken out, and one of the new entries is refused
-pub record ListIsRefused (row : RoundRow) (old : Database) : Type 0 where
+pub record EntriesAreRefused (id : List ℕ) (entries : List Entry) (old : Database) : Type 0 where
   pub bare : Database
   pub hall : IsHallData bare
-  pub drops : DropsPlaces row.round.id old bare
-  pub refused : PlaceIsRefused row.round.id row.puzzles bare
+  pub drops : DropsPlaces id old bare
+  pub refused : PlaceIsRefused id entries bare
 
--- the head is put, and then its list is refused
+-- the statement that takes the list before out is refused, or the new list is
+abbrev pub ListIsRefused : List ℕ → List Entry → Database → Type 0
+ListIsRefused id entries old = IsRefused drop_places_text (Text id ∷ []) old ⊎ EntriesAreRefused id entries old
+
+-- the testers before one are put, and the statement that puts it is refused there
+pub record TesterIsRefused (id : List ℕ) (names : List (List ℕ)) (old : Database) : Type 0 where
+  pub at : ℕ
+  pub name : List ℕ
+  pub next : drop at names ≡ name ∷ drop (at + 1) names
+  pub placed : Database
+  pub hall : IsHallData placed
+  pub puts : PutsTesters id (take at names) old placed
+  pub refused : IsRefused add_tester_text (tester_params id name) placed
+
+-- the testers before are taken out, and one of the new ones is refused
+pub record NamesAreRefused (id : List ℕ) (names : List (List ℕ)) (old : Database) : Type 0 where
+  pub bare : Database
+  pub hall : IsHallData bare
+  pub drops : DropsTesters id old bare
+  pub refused : TesterIsRefused id names bare
+
+-- the statement that takes the testers before out is refused, or the new ones are
+abbrev pub TesterListIsRefused : List ℕ → List (List ℕ) → Database → Type 0
+TesterListIsRefused id names old = IsRefused drop_testers_text (Text id ∷ []) old ⊎ NamesAreRefused id names old
+
+-- the list is put, and then the testers are refused
+pub record LastIsRefused (row : RoundRow) (old : Database) : Type 0 where
+  pub listed : Database
+  pub hall : IsHallData listed
+  pub puts : PutsList row.round.id row.puzzles old listed
+  pub refused : TesterListIsRefused row.round.id row.testers listed
+
+-- the head is put, and then its list is refused, or its testers
 pub record RestIsRefused (row : RoundRow) (old : Database) : Type 0 where
   pub headed : Database
   pub hall : IsHallData headed
   pub puts : PutsHead row.round old headed
-  pub refused : IsRefused drop_places_text (Text row.round.id ∷ []) headed ⊎ ListIsRefused row headed
+  pub refused : ListIsRefused row.round.id row.puzzles headed ⊎ LastIsRefused row headed
 
 -- why a put of a round fails
 abbrev pub PutRoundFails : RoundRow → State → State → Type 0

@@ -1,6 +1,6 @@
 //! The table of answers.
-ghost use Rattle.std.specs.Prelude.{◌≡◌, ◌↔◌, IsTrue, IfOk, OnErr, [], ◌∷◌, pos};
-ghost use Rattle.std.specs.FinMap.{get};
+ghost use Rattle.std.specs.Prelude.{◌≡◌, ◌↔◌, IsTrue, IfOk, OnOk, OnErr, [], ◌∷◌, pos};
+ghost use Rattle.std.specs.FinMap.{get, values};
 ghost use Rattle.sqlite.specs.Held.{state};
 ghost use Rattle.hall_store.specs.Store.{Served, Fails, IsListing, is_of, is_in, IsNumberTaken, HasSubmitted, Asks};
 ghost use Rattle.hall_policy.specs.Rules.{answers_given};
@@ -8,21 +8,26 @@ ghost use Rattle.hall_store.specs.Change.{CanAddAnswer};
 ghost use Rattle.hall_store.specs.declared.change.Change.TheVariants.{AddAnswer};
 ghost use Rattle.hall_policy.specs.Ranges.{IsAnswerRow};
 ghost use Rattle.sqlite.specs.State.{HasCleanDisk};
+ghost use Rattle.sqlite.specs.Values.{bound};
 ghost use Rattle.hall_sql.specs.Columns.{answer_params};
-ghost use Rattle.hall_sql.specs.Standing.{IsHall, Rested, Wrote, content_of, Lasts};
+ghost use Rattle.hall_sql.specs.Fill.{WithAnswer};
+ghost use Rattle.hall_sql.specs.Inside.{Carries, Did, Worlds};
+ghost use Rattle.hall_sql.specs.Standing.{IsHall, Rested, RestedAny, Wrote, content_of, Lasts};
 ghost use Rattle.sqlite.specs.declared.types.Value.TheVariants.{Text, Int};
-ghost use Rattle.hall_sql.specs.Statements.{add_answer_text, answer_text, answers_given_text};
+ghost use Rattle.hall_sql.specs.Statements.{add_answer_text, all_answers_text, answer_text, answers_given_text};
 ghost use Rattle.hall_sql.specs.Statements.{answers_in_text, answers_of_text, number_taken_text};
 ghost use Rattle.hall_sql.specs.Rows.{answer_in};
 ghost use Rattle.hall_sql.specs.Whole.{AreRecords};
 ghost use Rattle.hall_sql.specs.Cause.{ReadFails, FindFails};
+ghost use Rattle.hall_sql.specs.Versions.{IsAnyHall};
 ghost use Rattle.hall_sql.specs.WriteCause.{Ran, RunFails};
 
-use crate::calls::run;
-use crate::reads::{find, read};
+use crate::calls::{run, run_in};
+use crate::reads::{find, read, read_any};
 use hall_policy::{AnswerKey, AnswerNumber, AnswerRow, Name, PuzzleNumber, RoundId};
 use hall_store::StoreFault;
-use sqlite::{Alter, Connection, params};
+use sqlite::types::{ToSql, ValueRef};
+use sqlite::{Alter, Connection, Transaction, params};
 use std::alloc::Global;
 
 const ANSWER: &str =
@@ -212,6 +217,26 @@ pub(crate) fn has_answered<S: Alter>(
     Ok(!answers_of(conn, alloc, entrant, round)?.is_empty())
 }
 
+const ALL_ANSWERS: &str =
+    "SELECT entrant, round, number, token, n, moment, answer, verdict FROM answers \
+    ORDER BY entrant, round, number, token";
+
+/// All answers, in the order of their keys, of either version.
+pub(crate) fn all_answers<S: Alter>(
+    conn: &mut Connection<S>,
+    alloc: Global,
+) -> Result<Vec<AnswerRow>, StoreFault>
+    requires hall { IsAnyHall (state S.Store conn.old) }
+    ensures rested { RestedAny (state S.Store conn.old) (state S.Store conn.new) }
+    ensures served { Served (content_of (state S.Store conn.new)) result
+        (λ world rows. rows.items ≡ values world.answers) }
+    ensures cause { HasCleanDisk (state S.Store conn.new) → Fails
+        (ReadFails answer_in all_answers_text [] (state S.Store conn.old) (state S.Store conn.new)) result }
+{
+    let _schema = conn.schema();
+    read_any(conn, alloc, ALL_ANSWERS, &[])
+}
+
 /// Tells a proof that the answer lies in the ranges of its types.
 fn in_range(row: &AnswerRow)
     ensures { IsAnswerRow row.now }
@@ -230,6 +255,22 @@ const ADD_ANSWER: &str =
     "INSERT INTO answers (entrant, round, number, token, n, moment, answer, verdict) \
     VALUES (?1, ?2, ?3, ?4, ?5, ?6, ?7, ?8)";
 
+/// The columns of an answer.
+fn columns(row: &AnswerRow) -> [ValueRef<'_>; 8]
+    ensures { bound result ≡ answer_params row.now }
+{
+    [
+        row.key.entrant.as_str().to_sql(),
+        row.key.round.as_str().to_sql(),
+        (row.key.number.get() as u32).to_sql(),
+        row.key.token.as_str().to_sql(),
+        (row.n.get() as u32).to_sql(),
+        (row.moment.get() as u32).to_sql(),
+        row.answer.as_str().to_sql(),
+        u32::from(row.verdict.bits()).to_sql(),
+    ]
+}
+
 /// Writes the columns of an answer.
 fn write<S: Alter>(conn: &mut Connection<S>, row: &AnswerRow) -> Result<usize, StoreFault>
     requires hall { IsHall (state S.Store conn.old) }
@@ -238,20 +279,23 @@ fn write<S: Alter>(conn: &mut Connection<S>, row: &AnswerRow) -> Result<usize, S
     ensures runs { HasCleanDisk (state S.Store conn.new) →
         Ran add_answer_text (answer_params row.now) (state S.Store conn.old) (state S.Store conn.new) result }
 {
-    run(
-        conn,
-        ADD_ANSWER,
-        params![
-            row.key.entrant.as_str(),
-            row.key.round.as_str(),
-            row.key.number.get() as u32,
-            row.key.token.as_str(),
-            row.n.get() as u32,
-            row.moment.get() as u32,
-            row.answer.as_str(),
-            u32::from(row.verdict.bits())
-        ],
-    )
+    run(conn, ADD_ANSWER, &columns(row))
+}
+
+/// Adds an answer under a new key, inside a transaction.
+pub(crate) fn add_inside<S: Alter>(
+    tx: &mut Transaction<'_, S>,
+    row: &AnswerRow,
+) -> Result<(), StoreFault>
+    ensures same_reference { tx.new.conn.ghost_name ≡ tx.old.conn.ghost_name }
+    ensures carries { Carries (state S.Store tx.old.conn.now) (state S.Store tx.new.conn.now) }
+    ensures done { HasCleanDisk (state S.Store tx.new.conn.now) → IsTrue (state S.Store tx.old.conn.now).in_transaction
+        → OnOk result (Did (Worlds (λ a b. WithAnswer a row.now b)) (state S.Store tx.old.conn.now)
+        (state S.Store tx.new.conn.now)) }
+{
+    in_range(row);
+    run_in(tx, ADD_ANSWER, &columns(row))?;
+    Ok(())
 }
 
 /// Stores one more answer.

@@ -5,7 +5,7 @@ use hall_policy::{
     ProtestRow, ProtestSink, PuzzleKey, PuzzleNumber, PuzzleRow, PuzzleState, Round, RoundId,
     RoundRow, Ruling,
 };
-use hall_store::{RoundFlag, Store, StoreFault};
+use hall_store::{ReadStore, RoundFlag, Store, StoreFault};
 use std::alloc::Global;
 use std::marker::Model;
 
@@ -15,12 +15,12 @@ use std::marker::Model;
 /// There are at most 5,000 copies of people, and 1,000 of either other kind. All are forgotten before a write that may
 /// change one, and where the store refuses a call, which may have shut it.
 #[derive(Drop)]
-pub struct CachedStore<S: Store> {
+pub struct CachedStore<S: ReadStore> {
     store: S,
     cache: Cache,
 }
 
-impl<S: Store> Model for CachedStore<S> {
+impl<S: ReadStore> Model for CachedStore<S> {
     ghost use Rattle.hall_sql.specs.Cache.{Agrees};
 
     ghost Value = { S };
@@ -30,7 +30,7 @@ impl<S: Store> Model for CachedStore<S> {
     ghost invariant = { λ s. Agrees (S.content s.store) s.cache };
 }
 
-impl<S: Store> CachedStore<S> {
+impl<S: ReadStore> CachedStore<S> {
     ghost use Rattle.std.specs.Prelude.{◌≡◌};
 
     /// The store with an empty cache.
@@ -51,7 +51,7 @@ impl<S: Store> CachedStore<S> {
     }
 }
 
-impl<S: Store> Store for CachedStore<S> {
+impl<S: ReadStore> ReadStore for CachedStore<S> {
     ghost content = { S.content };
 
     ghost can_fail = { S.can_fail };
@@ -74,11 +74,6 @@ impl<S: Store> Store for CachedStore<S> {
         let told = self.store.person(alloc, name);
         self.cache.forget_if_refused(&told);
         told
-    }
-
-    fn import(&mut self, alloc: Global, people: &People) -> Result<(), StoreFault> {
-        self.cache.clear();
-        self.store.import(alloc, people)
     }
 
     fn puzzle(&mut self, alloc: Global, key: &PuzzleKey) -> Result<Option<PuzzleRow>, StoreFault> {
@@ -113,21 +108,6 @@ impl<S: Store> Store for CachedStore<S> {
         told
     }
 
-    fn put_puzzle(&mut self, alloc: Global, row: PuzzleRow) -> Result<(), StoreFault> {
-        self.cache.clear();
-        self.store.put_puzzle(alloc, row)
-    }
-
-    fn set_state(
-        &mut self,
-        alloc: Global,
-        key: &PuzzleKey,
-        state: PuzzleState,
-    ) -> Result<(), StoreFault> {
-        self.cache.clear();
-        self.store.set_state(alloc, key, state)
-    }
-
     fn round(&mut self, alloc: Global, id: &RoundId) -> Result<Option<RoundRow>, StoreFault> {
         if let Some(row) = self.cache.round(id) {
             return Ok(Some(row));
@@ -142,25 +122,16 @@ impl<S: Store> Store for CachedStore<S> {
         Ok(found)
     }
 
-    fn rounds(&mut self, alloc: Global) -> Result<Vec<Round>, StoreFault> {
-        let told = self.store.rounds(alloc);
+    fn testers_of(&mut self, alloc: Global, round: &RoundId) -> Result<Vec<Name>, StoreFault> {
+        let told = self.store.testers_of(alloc, round);
         self.cache.forget_if_refused(&told);
         told
     }
 
-    fn put_round(&mut self, alloc: Global, row: RoundRow) -> Result<(), StoreFault> {
-        self.cache.clear();
-        self.store.put_round(alloc, row)
-    }
-
-    fn set_round_flag(
-        &mut self,
-        alloc: Global,
-        id: &RoundId,
-        flag: RoundFlag,
-    ) -> Result<(), StoreFault> {
-        self.cache.clear();
-        self.store.set_round_flag(alloc, id, flag)
+    fn rounds(&mut self, alloc: Global) -> Result<Vec<Round>, StoreFault> {
+        let told = self.store.rounds(alloc);
+        self.cache.forget_if_refused(&told);
+        told
     }
 
     fn rounds_using(&mut self, alloc: Global, key: &PuzzleKey) -> Result<Vec<RoundId>, StoreFault> {
@@ -213,12 +184,6 @@ impl<S: Store> Store for CachedStore<S> {
 
     fn answers_in(&mut self, alloc: Global, round: &RoundId) -> Result<Vec<AnswerRow>, StoreFault> {
         let told = self.store.answers_in(alloc, round);
-        self.cache.forget_if_refused(&told);
-        told
-    }
-
-    fn add_answer(&mut self, alloc: Global, row: AnswerRow) -> Result<(), StoreFault> {
-        let told = self.store.add_answer(alloc, row);
         self.cache.forget_if_refused(&told);
         told
     }
@@ -293,6 +258,60 @@ impl<S: Store> Store for CachedStore<S> {
         told
     }
 
+    fn feed_protests<K: ProtestSink>(
+        &mut self,
+        alloc: Global,
+        round: &RoundId,
+        sink: &mut K,
+    ) -> Result<(), StoreFault> {
+        let told = self.store.feed_protests(alloc, round, sink);
+        self.cache.forget_if_refused(&told);
+        told
+    }
+}
+
+impl<S: Store> Store for CachedStore<S> {
+    fn import(&mut self, alloc: Global, people: &People) -> Result<(), StoreFault> {
+        self.cache.clear();
+        self.store.import(alloc, people)
+    }
+
+    fn put_puzzle(&mut self, alloc: Global, row: PuzzleRow) -> Result<(), StoreFault> {
+        self.cache.clear();
+        self.store.put_puzzle(alloc, row)
+    }
+
+    fn set_state(
+        &mut self,
+        alloc: Global,
+        key: &PuzzleKey,
+        state: PuzzleState,
+    ) -> Result<(), StoreFault> {
+        self.cache.clear();
+        self.store.set_state(alloc, key, state)
+    }
+
+    fn put_round(&mut self, alloc: Global, row: RoundRow) -> Result<(), StoreFault> {
+        self.cache.clear();
+        self.store.put_round(alloc, row)
+    }
+
+    fn set_round_flag(
+        &mut self,
+        alloc: Global,
+        id: &RoundId,
+        flag: RoundFlag,
+    ) -> Result<(), StoreFault> {
+        self.cache.clear();
+        self.store.set_round_flag(alloc, id, flag)
+    }
+
+    fn add_answer(&mut self, alloc: Global, row: AnswerRow) -> Result<(), StoreFault> {
+        let told = self.store.add_answer(alloc, row);
+        self.cache.forget_if_refused(&told);
+        told
+    }
+
     fn add_protest(&mut self, alloc: Global, row: ProtestRow) -> Result<(), StoreFault> {
         let told = self.store.add_protest(alloc, row);
         self.cache.forget_if_refused(&told);
@@ -306,17 +325,6 @@ impl<S: Store> Store for CachedStore<S> {
         ruling: Ruling,
     ) -> Result<(), StoreFault> {
         let told = self.store.rule_protest(alloc, key, ruling);
-        self.cache.forget_if_refused(&told);
-        told
-    }
-
-    fn feed_protests<K: ProtestSink>(
-        &mut self,
-        alloc: Global,
-        round: &RoundId,
-        sink: &mut K,
-    ) -> Result<(), StoreFault> {
-        let told = self.store.feed_protests(alloc, round, sink);
         self.cache.forget_if_refused(&told);
         told
     }

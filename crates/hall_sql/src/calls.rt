@@ -10,8 +10,7 @@ ghost use Rattle.sqlite.specs.declared.error.Error.TheVariants.{SqliteFailure};
 ghost use Rattle.sqlite.specs.declared.error.ErrorCode.TheVariants.{OutOfMemory};
 ghost use Rattle.hall_store.specs.Store.{Fails};
 ghost use Rattle.hall_store.specs.declared.fault.StoreFault.TheVariants.{Failed};
-ghost use Rattle.hall_sql.specs.Tables.{hall_schema};
-ghost use Rattle.hall_sql.specs.Standing.{IsHall, Rested, Lasts};
+ghost use Rattle.hall_sql.specs.Standing.{IsHall, IsOver, Rested, RestedAny, Lasts};
 ghost use Rattle.hall_sql.specs.Inside.{Carries};
 ghost use Rattle.hall_sql.specs.WriteCause.{Ran, RefusesInside, RefusesToAsk};
 
@@ -35,9 +34,8 @@ pub(crate) fn ask<S: Alter>(
     sql: &str,
     params: &[ValueRef<'_>],
 ) -> Result<Vec<Row>, StoreFault>
-    requires plain { IsPlain (understood hall_schema sql.now) }
-    requires hall { IsHall (state S.Store conn.old) }
-    ensures rested { Rested (state S.Store conn.old) (state S.Store conn.new) }
+    requires plain { IsOver (λ schema. IsPlain (understood schema sql.now)) (state S.Store conn.old) }
+    ensures rested { RestedAny (state S.Store conn.old) (state S.Store conn.new) }
     ensures serves { HasCleanDisk (state S.Store conn.new) → IfOk result
         (λ _. IsTrue (state S.Store conn.new).is_open) }
     ensures shown { HasCleanDisk (state S.Store conn.new) → IfOk result

@@ -47,7 +47,7 @@ fn make_tables<S: Alter>(
     Ok(())
 }
 
-/// Makes all six tables or none.
+/// Makes all seven tables or none.
 pub(crate) fn make<S: Alter>(conn: &mut Connection<S>) -> Result<(), StoreFault>
     requires alone { conn.old.in_transaction ≡ false }
     requires settled { IsTrue (state S.Store conn.old).is_open

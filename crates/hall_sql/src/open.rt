@@ -1,14 +1,17 @@
 //! The hall's tables in the files at a path, and in memory.
-ghost use Rattle.std.specs.Prelude.{◌≡◌, IfOk, IfErr};
+ghost use Rattle.std.specs.Prelude.{◌≡◌, IfOk, IfErr, IfSome};
 ghost use Rattle.sqlite.specs.Held.{state};
 ghost use Rattle.sqlite.specs.Steps.{over_memory};
 ghost use Rattle.hall_store.specs.Maps.{empty_world};
 ghost use Rattle.hall_store.specs.Store.{Fails};
 ghost use Rattle.hall_sql.specs.Tables.{hall_schema};
 ghost use Rattle.hall_sql.specs.Standing.{IsBare, content_of};
-ghost use Rattle.hall_sql.specs.Opened.{IsCauseAt, IsCauseThere, OpensAt, OpensThere, Starts};
+ghost use Rattle.hall_sql.specs.Migrate.{old_content_of};
+ghost use Rattle.hall_sql.specs.Opened.{IsCauseAt, IsCauseThere, IsOldAsked, OpensAt, OpensThere, Starts, StartsOld};
 ghost use Rattle.hall_sql.specs.Opened.{MemoryServes, OneWorldIsFound};
 
+use crate::old_store::{OldStore, Taken};
+use crate::schema::is_old_schema;
 use crate::sql_store::{Declined, SqlStore};
 use hall_store::StoreFault;
 use sqlite::{Alter, Connection, Error, MemStore};
@@ -22,6 +25,8 @@ pub enum OpenFault {
     Missing,
     /// The files can't be opened, or hold no database.
     Unopened(Error),
+    /// The database has the tables of the first version.
+    Old,
     /// The database has other tables than the hall's, or they can't be made.
     Refused(StoreFault),
 }
@@ -79,6 +84,13 @@ pub trait PathFiles<S: Alter> {
         ensures taken { left.new ≡ None };
 }
 
+/// Gives the files a database back, as it was left.
+fn give_back<S: Alter + Drop, F: PathFiles<S>>(files: &mut F, conn: Connection<S>)
+    ensures { F.closes files.old conn files.new }
+{
+    files.close(&mut Some(conn));
+}
+
 /// The hall's tables in the files at the path, made there where there is none.
 pub fn open_at<S: Alter + Drop, F: PathFiles<S>>(
     files: &mut F,
@@ -93,10 +105,14 @@ pub fn open_at<S: Alter + Drop, F: PathFiles<S>>(
         Ok(conn) => conn,
         Err(error) => return Err(OpenFault::Unopened(error)),
     };
+    let is_old = is_old_schema(conn.schema());
     match SqlStore::over(conn) {
         Ok(store) => Ok(store),
         Err(Declined { conn, fault }) => {
-            files.close(&mut Some(conn));
+            give_back(files, conn);
+            if is_old {
+                return Err(OpenFault::Old);
+            }
             Err(OpenFault::Refused(fault))
         }
     }
@@ -117,6 +133,35 @@ pub fn open_there<S: Alter + Drop, F: PathFiles<S>>(
         return Err(OpenFault::Missing);
     }
     open_at(files, path)
+}
+
+/// The tables of the first version in the files at the path: none where there is no file, or it has other tables.
+pub fn open_old<S: Alter + Drop, F: PathFiles<S>>(
+    files: &mut F,
+    path: &str,
+) -> Result<Option<OldStore<S>>, OpenFault>
+    ensures asked { IsOldAsked S.Store F.image_at F.tells F.refuses F.opens F.closes
+        files.old path.now result files.new }
+    ensures starts { IfOk result (λ found. IfSome found (λ store.
+        StartsOld (F.image_at path.now) (old_content_of (state S.Store store)))) }
+{
+    if files.is_missing(path) {
+        return Ok(None);
+    }
+    match files.open(path) {
+        Ok(conn) => match OldStore::over(conn) {
+            Ok(Taken::Old(store)) => Ok(Some(store)),
+            Ok(Taken::Other(conn)) => {
+                give_back(files, conn);
+                Ok(None)
+            }
+            Err(Declined { conn, fault }) => {
+                give_back(files, conn);
+                Err(OpenFault::Refused(fault))
+            }
+        },
+        Err(error) => Err(OpenFault::Unopened(error)),
+    }
 }
 
 /// The hall's tables in memory, without a row.

@@ -1,24 +1,25 @@
 //! The table of people.
 ghost use Rattle.std.specs.Prelude.{◌≡◌, ◌⊎◌, IsTrue, IfOk, OnOk, [], ◌∷◌};
-ghost use Rattle.std.specs.FinMap.{get};
+ghost use Rattle.std.specs.FinMap.{get, values};
 ghost use Rattle.sqlite.specs.Held.{state};
 ghost use Rattle.sqlite.specs.State.{HasCleanDisk};
 ghost use Rattle.hall_store.specs.Store.{Served, Fails};
 ghost use Rattle.hall_store.specs.Caller.{IsKeyHolder};
 ghost use Rattle.hall_store.specs.declared.change.Change.TheVariants.{Import};
 ghost use Rattle.hall_sql.specs.Columns.{person_params, roles_code};
-ghost use Rattle.hall_sql.specs.Standing.{IsHall, Rested, Wrote, content_of};
+ghost use Rattle.hall_sql.specs.Standing.{IsHall, Rested, RestedAny, Wrote, content_of};
 ghost use Rattle.hall_sql.specs.Inside.{Carries, Did, Changes, Tells, AddsPerson};
 ghost use Rattle.sqlite.specs.declared.types.Value.TheVariants.{Text};
-ghost use Rattle.hall_sql.specs.Statements.{add_person_text, person_by_key_text, person_text};
+ghost use Rattle.hall_sql.specs.Statements.{add_person_text, all_people_text, person_by_key_text, person_text};
 ghost use Rattle.hall_sql.specs.Rows.{person_in};
 ghost use Rattle.hall_sql.specs.Whole.{AreRecords};
-ghost use Rattle.hall_sql.specs.Cause.{IsStoreCause, FindFails};
+ghost use Rattle.hall_sql.specs.Cause.{IsStoreCause, FindFails, ReadFails};
+ghost use Rattle.hall_sql.specs.Versions.{IsAnyHall};
 ghost use Rattle.hall_sql.specs.WriteCause.{RunFails, IsUnfound, ImportsOne, PersonIsRefused, ImportFails};
 ghost use Rattle.hall_sql.specs.WriteCause.{InsideFails};
 
 use crate::calls::{ask_in, fault_of, run_in};
-use crate::reads::find;
+use crate::reads::{find, read_any};
 use crate::record::{at_most_one, read_all};
 use hall_policy::{Key, Name, People, Person, SomeRoles};
 use hall_store::StoreFault;
@@ -70,6 +71,24 @@ pub(crate) fn person_by_key<S: Alter>(
     find(conn, alloc, PERSON_BY_KEY, params![key.as_str()])
 }
 
+const ALL_PEOPLE: &str = "SELECT name, pass, roles FROM people ORDER BY name";
+
+/// All people, in the order of their names, of either version.
+pub(crate) fn all_people<S: Alter>(
+    conn: &mut Connection<S>,
+    alloc: Global,
+) -> Result<Vec<Person>, StoreFault>
+    requires hall { IsAnyHall (state S.Store conn.old) }
+    ensures rested { RestedAny (state S.Store conn.old) (state S.Store conn.new) }
+    ensures served { Served (content_of (state S.Store conn.new)) result
+        (λ world people. people.items ≡ values world.people) }
+    ensures cause { HasCleanDisk (state S.Store conn.new) → Fails
+        (ReadFails person_in all_people_text [] (state S.Store conn.old) (state S.Store conn.new)) result }
+{
+    let _schema = conn.schema();
+    read_any(conn, alloc, ALL_PEOPLE, &[])
+}
+
 /// The person of the name, as the transaction has it.
 fn person_in<S: Alter>(
     tx: &mut Transaction<'_, S>,
@@ -103,7 +122,10 @@ fn roles_code(roles: SomeRoles) -> u32
 const ADD_PERSON: &str = "INSERT INTO people (name, pass, roles) VALUES (?1, ?2, ?3)";
 
 /// Adds a person whose name is unknown.
-fn add_person<S: Alter>(tx: &mut Transaction<'_, S>, person: &Person) -> Result<(), StoreFault>
+pub(crate) fn add_person<S: Alter>(
+    tx: &mut Transaction<'_, S>,
+    person: &Person,
+) -> Result<(), StoreFault>
     ensures same_reference { tx.new.conn.ghost_name ≡ tx.old.conn.ghost_name }
     ensures carries { Carries (state S.Store tx.old.conn.now) (state S.Store tx.new.conn.now) }
     ensures done { HasCleanDisk (state S.Store tx.new.conn.now) → IsTrue (state S.Store tx.old.conn.now).in_transaction

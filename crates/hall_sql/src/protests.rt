@@ -1,6 +1,6 @@
 //! The table of protests.
-ghost use Rattle.std.specs.Prelude.{◌≡◌, ◌↔◌, IsTrue, IfOk, IfSome, OnErr, Some, None, Contains, [], ◌∷◌};
-ghost use Rattle.std.specs.FinMap.{get};
+ghost use Rattle.std.specs.Prelude.{◌≡◌, ◌↔◌, IsTrue, IfOk, IfSome, OnOk, OnErr, Some, None, Contains, [], ◌∷◌};
+ghost use Rattle.std.specs.FinMap.{get, values};
 ghost use Rattle.sqlite.specs.Held.{state};
 ghost use Rattle.sqlite.specs.State.{HasCleanDisk};
 ghost use Rattle.hall_policy.specs.Ranges.{IsProtestRow, IsRuling};
@@ -10,21 +10,26 @@ ghost use Rattle.hall_store.specs.Store.{Served, Fails, IsProtestOpen, Asks, pro
 ghost use Rattle.hall_policy.specs.declared.record.ProtestRow.{ProtestRow};
 ghost use Rattle.hall_store.specs.Change.{CanAddProtest};
 ghost use Rattle.hall_store.specs.declared.change.Change.TheVariants.{AddProtest, RuleProtest};
+ghost use Rattle.sqlite.specs.Values.{bound};
+ghost use Rattle.hall_sql.specs.Fill.{WithProtest};
+ghost use Rattle.hall_sql.specs.Inside.{Carries, Did, Worlds};
 ghost use Rattle.hall_sql.specs.Columns.{protest_params, ruling_code, ruling_params, IsAlone};
-ghost use Rattle.hall_sql.specs.Standing.{IsHall, Rested, Wrote, content_of, Lasts};
+ghost use Rattle.hall_sql.specs.Standing.{IsHall, Rested, RestedAny, Wrote, content_of, Lasts};
 ghost use Rattle.sqlite.specs.declared.types.Value.TheVariants.{Text};
-ghost use Rattle.hall_sql.specs.Statements.{add_protest_text, rule_protest_text};
+ghost use Rattle.hall_sql.specs.Statements.{add_protest_text, all_protests_text, rule_protest_text};
 ghost use Rattle.hall_sql.specs.Statements.{protest_text, protests_in_text, protests_of_text};
 ghost use Rattle.hall_sql.specs.Rows.{protest_in};
 ghost use Rattle.hall_sql.specs.Whole.{AreRecords};
 ghost use Rattle.hall_sql.specs.Cause.{ReadFails, FindFails};
+ghost use Rattle.hall_sql.specs.Versions.{IsAnyHall};
 ghost use Rattle.hall_sql.specs.WriteCause.{Ran, RunFails, RuleFails};
 
-use crate::calls::run;
-use crate::reads::{find, read};
+use crate::calls::{run, run_in};
+use crate::reads::{find, read, read_any};
 use hall_policy::{Name, ProtestKey, ProtestRow, RoundId, Ruling};
 use hall_store::StoreFault;
-use sqlite::{Alter, Connection, params};
+use sqlite::types::{ToSql, ValueRef};
+use sqlite::{Alter, Connection, Transaction, params};
 use std::alloc::Global;
 
 const PROTEST: &str = "SELECT entrant, round, token, number, body, ruling, points FROM protests \
@@ -135,6 +140,26 @@ pub(crate) fn protests_in<S: Alter>(
     read(conn, alloc, PROTESTS_IN, params![round.as_str()])
 }
 
+const ALL_PROTESTS: &str =
+    "SELECT entrant, round, token, number, body, ruling, points FROM protests \
+    ORDER BY entrant, round, token";
+
+/// All protests, in the order of their keys, of either version.
+pub(crate) fn all_protests<S: Alter>(
+    conn: &mut Connection<S>,
+    alloc: Global,
+) -> Result<Vec<ProtestRow>, StoreFault>
+    requires hall { IsAnyHall (state S.Store conn.old) }
+    ensures rested { RestedAny (state S.Store conn.old) (state S.Store conn.new) }
+    ensures served { Served (content_of (state S.Store conn.new)) result
+        (λ world rows. rows.items ≡ values world.protests) }
+    ensures cause { HasCleanDisk (state S.Store conn.new) → Fails
+        (ReadFails protest_in all_protests_text [] (state S.Store conn.old) (state S.Store conn.new)) result }
+{
+    let _schema = conn.schema();
+    read_any(conn, alloc, ALL_PROTESTS, &[])
+}
+
 /// Whether one of the protests is open.
 fn is_any_open(rows: &[ProtestRow]) -> bool
     ensures { IsTrue result ↔ ((row : ProtestRow) × Contains rows.now row × (row.ruling ≡ None)) }
@@ -206,6 +231,21 @@ const ADD_PROTEST: &str =
     "INSERT INTO protests (entrant, round, token, number, body, ruling, points) \
     VALUES (?1, ?2, ?3, ?4, ?5, ?6, ?7)";
 
+/// The columns of a protest.
+fn columns(row: &ProtestRow) -> [ValueRef<'_>; 7]
+    ensures { bound result ≡ protest_params row.now }
+{
+    [
+        row.key.entrant.as_str().to_sql(),
+        row.key.round.as_str().to_sql(),
+        row.key.token.as_str().to_sql(),
+        (row.number.get() as u32).to_sql(),
+        row.text.as_str().to_sql(),
+        ruling_code(&row.ruling).to_sql(),
+        points_of(&row.ruling).to_sql(),
+    ]
+}
+
 /// Writes the columns of a protest.
 fn write<S: Alter>(conn: &mut Connection<S>, row: &ProtestRow) -> Result<usize, StoreFault>
     requires hall { IsHall (state S.Store conn.old) }
@@ -214,19 +254,23 @@ fn write<S: Alter>(conn: &mut Connection<S>, row: &ProtestRow) -> Result<usize, 
     ensures runs { HasCleanDisk (state S.Store conn.new) →
         Ran add_protest_text (protest_params row.now) (state S.Store conn.old) (state S.Store conn.new) result }
 {
-    run(
-        conn,
-        ADD_PROTEST,
-        params![
-            row.key.entrant.as_str(),
-            row.key.round.as_str(),
-            row.key.token.as_str(),
-            row.number.get() as u32,
-            row.text.as_str(),
-            ruling_code(&row.ruling),
-            points_of(&row.ruling)
-        ],
-    )
+    run(conn, ADD_PROTEST, &columns(row))
+}
+
+/// Adds a protest under a new key, inside a transaction.
+pub(crate) fn add_inside<S: Alter>(
+    tx: &mut Transaction<'_, S>,
+    row: &ProtestRow,
+) -> Result<(), StoreFault>
+    ensures same_reference { tx.new.conn.ghost_name ≡ tx.old.conn.ghost_name }
+    ensures carries { Carries (state S.Store tx.old.conn.now) (state S.Store tx.new.conn.now) }
+    ensures done { HasCleanDisk (state S.Store tx.new.conn.now) → IsTrue (state S.Store tx.old.conn.now).in_transaction
+        → OnOk result (Did (Worlds (λ a b. WithProtest a row.now b)) (state S.Store tx.old.conn.now)
+        (state S.Store tx.new.conn.now)) }
+{
+    in_range(row);
+    run_in(tx, ADD_PROTEST, &columns(row))?;
+    Ok(())
 }
 
 /// Stores one more protest.

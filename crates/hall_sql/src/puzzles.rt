@@ -1,5 +1,5 @@
 //! The table of puzzles.
-ghost use Rattle.std.specs.Prelude.{◌≡◌, ◌⊎◌, IsTrue, IfOk, OnErr, [], ◌∷◌};
+ghost use Rattle.std.specs.Prelude.{◌≡◌, ◌⊎◌, IsTrue, IfOk, OnOk, OnErr, [], ◌∷◌};
 ghost use Rattle.std.specs.FinMap.{get, values};
 ghost use Rattle.sqlite.specs.Held.{state};
 ghost use Rattle.hall_store.specs.Store.{Served, Fails, puzzles_of};
@@ -9,21 +9,26 @@ ghost use Rattle.hall_grid.specs.Text.{SpellsText};
 ghost use Rattle.hall_grid.specs.Canonical.{CanonicalText};
 ghost use Rattle.hall_policy.specs.Ranges.{IsPuzzleKey, IsState};
 ghost use Rattle.hall_store.specs.declared.change.Change.TheVariants.{PutPuzzle, SetState};
+ghost use Rattle.sqlite.specs.Values.{bound};
+ghost use Rattle.hall_sql.specs.Fill.{WithPuzzle};
+ghost use Rattle.hall_sql.specs.Inside.{Carries, Did, Worlds};
 ghost use Rattle.hall_sql.specs.Columns.{puzzle_params, HasSoMany, state_code, solution_of};
-ghost use Rattle.hall_sql.specs.Standing.{IsHall, Rested, Wrote, content_of, Lasts};
+ghost use Rattle.hall_sql.specs.Standing.{IsHall, Rested, RestedAny, Wrote, content_of, Lasts};
 ghost use Rattle.sqlite.specs.declared.types.Value.TheVariants.{Text};
 ghost use Rattle.hall_sql.specs.Statements.{add_puzzle_text, all_puzzles_text, puzzle_text, puzzles_of_text, replace_puzzle_text};
 ghost use Rattle.hall_sql.specs.Rows.{puzzle_row_in};
 ghost use Rattle.hall_sql.specs.Whole.{AreRecords};
 ghost use Rattle.hall_sql.specs.Cause.{IsStoreCause, ReadFails, FindFails};
+ghost use Rattle.hall_sql.specs.Versions.{IsAnyHall};
 ghost use Rattle.hall_sql.specs.WriteCause.{Ran, RunFails, PuzzleIsRefused, PutPuzzleFails, SetStateFails};
 
-use crate::calls::{ask, run};
-use crate::reads::{find, read};
+use crate::calls::{ask, run, run_in};
+use crate::reads::{find, read, read_any};
 use hall_grid::write_puzzle;
 use hall_policy::{Name, PuzzleKey, PuzzleRow, PuzzleState};
 use hall_store::StoreFault;
-use sqlite::{Alter, Connection, params};
+use sqlite::types::{ToSql, ValueRef};
+use sqlite::{Alter, Connection, Transaction, params};
 use std::alloc::Global;
 
 const PUZZLE: &str =
@@ -57,13 +62,13 @@ pub(crate) fn puzzle<S: Alter>(
 const ALL_PUZZLES: &str =
     "SELECT author, label, body, state, solution FROM puzzles ORDER BY author, label";
 
-/// All puzzles, in the order of their keys.
+/// All puzzles, in the order of their keys, of either version.
 pub(crate) fn all_puzzles<S: Alter>(
     conn: &mut Connection<S>,
     alloc: Global,
 ) -> Result<Vec<PuzzleRow>, StoreFault>
-    requires hall { IsHall (state S.Store conn.old) }
-    ensures rested { Rested (state S.Store conn.old) (state S.Store conn.new) }
+    requires hall { IsAnyHall (state S.Store conn.old) }
+    ensures rested { RestedAny (state S.Store conn.old) (state S.Store conn.new) }
     ensures served { Served (content_of (state S.Store conn.new)) result
         (λ world rows. rows.items ≡ values world.puzzles) }
     ensures whole { HasCleanDisk (state S.Store conn.new) → IfOk result (λ _.
@@ -73,7 +78,7 @@ pub(crate) fn all_puzzles<S: Alter>(
         (ReadFails puzzle_row_in all_puzzles_text [] (state S.Store conn.old) (state S.Store conn.new)) result }
 {
     let _schema = conn.schema();
-    read(conn, alloc, ALL_PUZZLES, &[])
+    read_any(conn, alloc, ALL_PUZZLES, &[])
 }
 
 const PUZZLES_OF: &str =
@@ -175,6 +180,21 @@ const ADD: &str =
 const REPLACE: &str =
     "UPDATE puzzles SET body = ?3, state = ?4, solution = ?5 WHERE author = ?1 AND label = ?2";
 
+/// The columns of a puzzle that this text spells.
+fn columns<'a>(row: &'a PuzzleRow, text: &'a str) -> [ValueRef<'a>; 5]
+    ensures bound { bound result ≡ puzzle_params text.now row.now }
+    ensures in_range { IsState row.now.state }
+{
+    let solution = solution_of(&row.state);
+    [
+        row.key.author.as_str().to_sql(),
+        row.key.label.as_str().to_sql(),
+        text.to_sql(),
+        state_code(&row.state).to_sql(),
+        solution.to_sql(),
+    ]
+}
+
 /// Runs a statement over the columns of a puzzle.
 fn write<S: Alter>(
     conn: &mut Connection<S>,
@@ -189,18 +209,25 @@ fn write<S: Alter>(
     ensures runs { HasCleanDisk (state S.Store conn.new) →
         Ran sql.now (puzzle_params text.now row.now) (state S.Store conn.old) (state S.Store conn.new) result }
 {
-    let solution = solution_of(&row.state);
-    run(
-        conn,
-        sql,
-        params![
-            row.key.author.as_str(),
-            row.key.label.as_str(),
-            text,
-            state_code(&row.state),
-            solution
-        ],
-    )
+    run(conn, sql, &columns(row, text))
+}
+
+/// Adds a puzzle under a new key, inside a transaction.
+pub(crate) fn add_inside<S: Alter>(
+    tx: &mut Transaction<'_, S>,
+    alloc: Global,
+    row: &PuzzleRow,
+) -> Result<(), StoreFault>
+    ensures same_reference { tx.new.conn.ghost_name ≡ tx.old.conn.ghost_name }
+    ensures carries { Carries (state S.Store tx.old.conn.now) (state S.Store tx.new.conn.now) }
+    ensures done { HasCleanDisk (state S.Store tx.new.conn.now) → IsTrue (state S.Store tx.old.conn.now).in_transaction
+        → OnOk result (Did (Worlds (λ a b. WithPuzzle a row.now b)) (state S.Store tx.old.conn.now)
+        (state S.Store tx.new.conn.now)) }
+{
+    in_range(&row.key);
+    let text = write_puzzle(alloc, &row.puzzle)?;
+    run_in(tx, ADD, &columns(row, text.as_str()))?;
+    Ok(())
 }
 
 /// Stores a puzzle under a new key.

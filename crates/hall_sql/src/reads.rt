@@ -4,8 +4,8 @@ ghost use Rattle.sqlite.specs.Values.{bound};
 ghost use Rattle.sqlite.specs.Held.{state};
 ghost use Rattle.sqlite.specs.State.{HasCleanDisk};
 ghost use Rattle.hall_store.specs.Store.{Fails};
-ghost use Rattle.hall_sql.specs.Standing.{IsHall, Rested};
-ghost use Rattle.hall_sql.specs.Asked.{IsAsked};
+ghost use Rattle.hall_sql.specs.Standing.{IsHall, IsOver, Rested, RestedAny};
+ghost use Rattle.hall_sql.specs.Asked.{IsAsked, IsAskedIn};
 ghost use Rattle.hall_sql.specs.Cause.{ReadFails, FindFails, AreRead, IsFound};
 
 use crate::calls::ask;
@@ -15,7 +15,25 @@ use sqlite::types::ValueRef;
 use sqlite::{Alter, Connection};
 use std::alloc::Global;
 
-/// All rows of the query as records.
+/// All rows of the query as records, over the tables of any schema.
+pub(crate) fn read_any<S: Alter, T: Record + Drop>(
+    conn: &mut Connection<S>,
+    alloc: Global,
+    sql: &str,
+    params: &[ValueRef<'_>],
+) -> Result<Vec<T>, StoreFault>
+    requires asks { IsOver (IsAskedIn sql.now (bound params.now)) (state S.Store conn.old) }
+    ensures rested { RestedAny (state S.Store conn.old) (state S.Store conn.new) }
+    ensures read { HasCleanDisk (state S.Store conn.new) → IfOk result (λ records.
+        AreRead T.Record.read sql.now (bound params.now) (state S.Store conn.old) (state S.Store conn.new) records.items) }
+    ensures cause { HasCleanDisk (state S.Store conn.new) → Fails
+        (ReadFails T.Record.read sql.now (bound params.now) (state S.Store conn.old) (state S.Store conn.new)) result }
+{
+    let rows = ask(conn, sql, params)?;
+    read_all(alloc, &rows)
+}
+
+/// So it is over the hall's tables.
 pub(crate) fn read<S: Alter, T: Record + Drop>(
     conn: &mut Connection<S>,
     alloc: Global,
@@ -30,8 +48,7 @@ pub(crate) fn read<S: Alter, T: Record + Drop>(
     ensures cause { HasCleanDisk (state S.Store conn.new) → Fails
         (ReadFails T.Record.read sql.now (bound params.now) (state S.Store conn.old) (state S.Store conn.new)) result }
 {
-    let rows = ask(conn, sql, params)?;
-    read_all(alloc, &rows)
+    read_any(conn, alloc, sql, params)
 }
 
 /// The one row of the query as a record, if there is any. More than one is refused.

@@ -10,7 +10,7 @@ ghost use Rattle.hall_sql.specs.Values.{unsolved_of, state_in, int_in, ruling_po
 ghost use Rattle.hall_sql.specs.Values.{mode_in, flag_in};
 ghost use Rattle.hall_grid.proofs.SpellsOrHasFault.{spells_or_fault};
 ghost use Rattle.hall_sql.specs.Rows.{person_in, puzzle_row_in, IsAnswerKeyIn, answer_in, protest_in, round_in};
-ghost use Rattle.hall_sql.specs.Rows.{place_in};
+ghost use Rattle.hall_sql.specs.Rows.{place_in, tester_in};
 ghost use Rattle.hall_sql.specs.Cause.{IsAnyUnread};
 ghost use Rattle.hall_policy.specs.declared.record.AnswerKey.{AnswerKey as KeyColumns};
 ghost use Rattle.hall_sql.specs.Values.{AreAscii};
@@ -23,7 +23,7 @@ use hall_grid::{Broken, Puzzle, TextFault, parse_puzzle};
 use hall_policy::{
     AnswerKey, AnswerRow, AnswerText, Checked, Entry, Mode, Person, PlaceKey, ProtestKey,
     ProtestRow, PuzzleKey, PuzzleRow, PuzzleState, Roles, Round, Ruling, RulingPoints, SomeRoles,
-    TextKind, Within,
+    TesterKey, TextKind, Within,
 };
 use hall_store::StoreFault;
 use sqlite::Row;
@@ -390,6 +390,19 @@ impl Record for Place {
                 points,
             },
         ))
+    }
+}
+
+/// A tester of a round under its key, beside which there is nothing to tell.
+pub(crate) type Tester = (TesterKey, ());
+
+impl Record for Tester {
+    ghost read = { tester_in };
+
+    fn from_row(_: Global, row: &Row) -> Result<Tester, StoreFault> {
+        let round = text_at(row, 0)?;
+        let name = text_at(row, 1)?;
+        Ok((TesterKey { round, name }, ()))
     }
 }
 

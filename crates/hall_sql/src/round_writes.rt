@@ -1,4 +1,4 @@
-//! What is written to the tables of rounds and of their puzzles.
+//! What is written to the tables of rounds, of their puzzles and of their testers.
 ghost use Rattle.std.specs.Prelude.{◌≡◌, ◌≤◌, ◌⊎◌, [], ◌∷◌, length, IsTrue, IfOk, IfSome, OnOk};
 ghost use Rattle.std.specs.FinMap.{get};
 ghost use Rattle.sqlite.specs.Held.{state};
@@ -8,20 +8,22 @@ ghost use Rattle.hall_policy.specs.Ranges.{IsRound, IsWithin, IsEntry};
 ghost use Rattle.hall_store.specs.Store.{Served};
 ghost use Rattle.hall_store.specs.Change.{flagged};
 ghost use Rattle.hall_store.specs.declared.change.Change.TheVariants.{PutRound, SetRoundFlag};
-ghost use Rattle.hall_sql.specs.Inside.{Carries, Did, Changes};
+ghost use Rattle.hall_sql.specs.Inside.{Carries, Did, Changes, Worlds};
+ghost use Rattle.hall_sql.specs.Fill.{WithRound};
 ghost use Rattle.hall_sql.specs.RoundColumns.{mode_code, head_params, place_params, IsHead};
 ghost use Rattle.hall_sql.specs.RoundPuts.{CountsHeads, PutsHead, PutsHeadOver, DropsPlaces, PutsPlace, PutsPlaces};
-ghost use Rattle.hall_sql.specs.RoundPuts.{PutsRows};
+ghost use Rattle.hall_sql.specs.RoundPuts.{PutsList, PutsRows};
 ghost use Rattle.hall_sql.specs.Standing.{IsHall, Rested, Wrote, content_of};
 ghost use Rattle.sqlite.specs.declared.types.Value.TheVariants.{Text};
 ghost use Rattle.hall_store.specs.Store.{Fails};
 ghost use Rattle.hall_sql.specs.Cause.{IsStoreCause};
 ghost use Rattle.hall_sql.specs.Statements.{add_head_text, replace_head_text, drop_places_text, add_place_text};
 ghost use Rattle.hall_sql.specs.WriteCause.{RunFails, SetFlagFails, PutRoundFails, InsideFails};
-ghost use Rattle.hall_sql.specs.WriteCause.{IsHeadRefused, PlaceIsRefused};
+ghost use Rattle.hall_sql.specs.WriteCause.{IsHeadRefused, PlaceIsRefused, ListIsRefused};
 
 use crate::calls::{ask_in, fault_of, run, run_in};
 use crate::rounds::head;
+use crate::testers::put_tester_list;
 use hall_policy::{Entry, Mode, Round, RoundId, RoundRow};
 use hall_store::{RoundFlag, StoreFault};
 use sqlite::types::{ToSql, ValueRef};
@@ -142,11 +144,17 @@ const ADD_HEAD: &str =
     VALUES (?1, ?2, ?3, ?4, ?5, ?6, ?7, ?8, ?9, ?10)";
 
 /// Stores the round's head under a new id.
-fn put_new<S: Alter>(tx: &mut Transaction<'_, S>, round: &Round) -> Result<(), StoreFault>
+pub(crate) fn put_new<S: Alter>(
+    tx: &mut Transaction<'_, S>,
+    round: &Round,
+) -> Result<(), StoreFault>
     ensures same_reference { tx.new.conn.ghost_name ≡ tx.old.conn.ghost_name }
     ensures carries { Carries (state S.Store tx.old.conn.now) (state S.Store tx.new.conn.now) }
     ensures done { HasCleanDisk (state S.Store tx.new.conn.now) → IsTrue (state S.Store tx.old.conn.now).in_transaction
         → OnOk result (PutsHeadOver 0 round.now (state S.Store tx.old.conn.now)
+        (state S.Store tx.new.conn.now)) }
+    ensures world { HasCleanDisk (state S.Store tx.new.conn.now) → IsTrue (state S.Store tx.old.conn.now).in_transaction
+        → OnOk result (Did (Worlds (λ a b. WithRound a round.now b)) (state S.Store tx.old.conn.now)
         (state S.Store tx.new.conn.now)) }
     ensures cause { InsideFails (state S.Store tx.old.conn.now) (state S.Store tx.new.conn.now)
         (RunFails add_head_text (head_params round.now) (state S.Store tx.old.conn.now)
@@ -221,7 +229,7 @@ const ADD_PLACE: &str =
     "INSERT INTO round_puzzles (round, number, author, label, points) VALUES (?1, ?2, ?3, ?4, ?5)";
 
 /// Stores an entry at its place in the round.
-fn put_place<S: Alter>(
+pub(crate) fn put_place<S: Alter>(
     tx: &mut Transaction<'_, S>,
     id: &RoundId,
     number: u32,
@@ -276,7 +284,27 @@ fn put_places<S: Alter>(
     Ok(())
 }
 
-/// Stores the round's head, and its list in the place of the one before.
+/// Stores the round's list in the place of the one before.
+fn put_list<S: Alter>(
+    tx: &mut Transaction<'_, S>,
+    id: &RoundId,
+    entries: &[Entry],
+) -> Result<(), StoreFault>
+    requires few { length entries.now ≤ 40 }
+    ensures same_reference { tx.new.conn.ghost_name ≡ tx.old.conn.ghost_name }
+    ensures carries { Carries (state S.Store tx.old.conn.now) (state S.Store tx.new.conn.now) }
+    ensures done { HasCleanDisk (state S.Store tx.new.conn.now) → IsTrue (state S.Store tx.old.conn.now).in_transaction
+        → OnOk result (Did (PutsList id.now entries.now) (state S.Store tx.old.conn.now)
+        (state S.Store tx.new.conn.now)) }
+    ensures cause { InsideFails (state S.Store tx.old.conn.now) (state S.Store tx.new.conn.now)
+        (IsStoreCause (state S.Store tx.old.conn.now) (state S.Store tx.new.conn.now)
+        ⊎ ListIsRefused id.now entries.now (state S.Store tx.old.conn.now).now) result }
+{
+    drop_places(tx, id)?;
+    put_places(tx, id, entries)
+}
+
+/// Stores the round's head, and its list and its testers in the place of those before.
 fn put_inside<S: Alter>(tx: &mut Transaction<'_, S>, row: &RoundRow) -> Result<(), StoreFault>
     ensures same_reference { tx.new.conn.ghost_name ≡ tx.old.conn.ghost_name }
     ensures carries { Carries (state S.Store tx.old.conn.now) (state S.Store tx.new.conn.now) }
@@ -290,11 +318,11 @@ fn put_inside<S: Alter>(tx: &mut Transaction<'_, S>, row: &RoundRow) -> Result<(
         (PutRoundFails row.now (state S.Store tx.old.conn.now) (state S.Store tx.new.conn.now)) result }
 {
     put_head(tx, &row.round)?;
-    drop_places(tx, &row.round.id)?;
-    put_places(tx, &row.round.id, row.puzzles.as_slice())
+    put_list(tx, &row.round.id, row.puzzles.as_slice())?;
+    put_tester_list(tx, &row.round.id, row.testers.as_slice())
 }
 
-/// Stores the round with its list, in the place of the one under its id: whole or not at all.
+/// Stores the round with its list and its testers, in the place of the one under its id: whole or not at all.
 pub(crate) fn put_round<S: Alter>(
     conn: &mut Connection<S>,
     row: &RoundRow,

@@ -1,24 +1,27 @@
 //! The table of rounds.
 ghost use Rattle.std.specs.Prelude.{◌≡◌, ◌≢◌, ◌++◌, ◌∷◌, [], ℕ, List, length, map, suc, IfOk, IfErr, IfSome, OnOk};
 ghost use Rattle.std.specs.List.{dedup};
-ghost use Rattle.std.specs.FinMap.{get, values};
-ghost use Rattle.sqlite.specs.Held.{Held, state};
+ghost use Rattle.std.specs.FinMap.{get, values, entries};
+ghost use Rattle.sqlite.specs.Held.{state, Held};
 ghost use Rattle.sqlite.specs.State.{HasCleanDisk};
+ghost use Rattle.hall_policy.specs.Lists.{AreTesters};
 ghost use Rattle.hall_policy.specs.World.{World, same_text};
-ghost use Rattle.hall_store.specs.Store.{Served, Fails, AreUsing, IsRoundKept};
+ghost use Rattle.hall_store.specs.Store.{Served, Fails, AreUsing, AreTestersOf, IsRoundKept};
 ghost use Rattle.hall_sql.specs.Places.{is_in_round, ArePlaces, ArePlacesWith, AreListed, AreNumbered};
 ghost use Rattle.hall_sql.specs.RoundColumns.{IsHead};
-ghost use Rattle.hall_sql.specs.Standing.{IsHall, Rested, content_of};
+ghost use Rattle.hall_sql.specs.Standing.{IsHall, Rested, RestedAny, content_of};
+ghost use Rattle.hall_sql.specs.Versions.{IsAnyHall};
 ghost use Rattle.sqlite.specs.declared.types.Value.TheVariants.{Text};
-ghost use Rattle.hall_sql.specs.Statements.{all_rounds_text, head_text, places_of_text, places_with_text};
+ghost use Rattle.hall_sql.specs.Statements.{all_places_text, all_rounds_text, head_text, places_of_text, places_with_text};
 ghost use Rattle.hall_sql.specs.Rows.{place_in, round_in};
-ghost use Rattle.hall_sql.specs.Whole.{AreRecords};
+ghost use Rattle.hall_sql.specs.Whole.{AreRecords, IsRoundRead};
 ghost use Rattle.hall_sql.specs.Cause.{ReadFails, FindFails, RoundFails, AreNoRound};
 ghost use Rattle.hall_store.specs.declared.fault.StoreFault.TheVariants.{Memory};
 
-use crate::reads::{find, read};
+use crate::reads::{find, read, read_any};
 use crate::record::Place;
-use hall_policy::{Entries, Entry, PuzzleKey, Round, RoundId, RoundRow};
+use crate::testers::testers_of;
+use hall_policy::{Entries, Entry, Name, PuzzleKey, Round, RoundId, RoundRow, Testers};
 use hall_store::StoreFault;
 use sqlite::{Alter, Connection, params};
 use std::alloc::Global;
@@ -27,13 +30,13 @@ const ROUNDS: &str =
     "SELECT id, title, start, minutes, protest_minutes, mode, penalty, bonus, released, published \
     FROM rounds ORDER BY id";
 
-/// All rounds without their puzzles, in the order of their ids.
+/// All rounds without their puzzles, in the order of their ids, of either version.
 pub(crate) fn rounds<S: Alter>(
     conn: &mut Connection<S>,
     alloc: Global,
 ) -> Result<Vec<Round>, StoreFault>
-    requires hall { IsHall (state S.Store conn.old) }
-    ensures rested { Rested (state S.Store conn.old) (state S.Store conn.new) }
+    requires hall { IsAnyHall (state S.Store conn.old) }
+    ensures rested { RestedAny (state S.Store conn.old) (state S.Store conn.new) }
     ensures served { Served (content_of (state S.Store conn.new)) result
         (λ world rounds. rounds.items ≡ values world.rounds) }
     ensures whole { HasCleanDisk (state S.Store conn.new) → IfOk result (λ _.
@@ -43,7 +46,7 @@ pub(crate) fn rounds<S: Alter>(
         (ReadFails round_in all_rounds_text [] (state S.Store conn.old) (state S.Store conn.new)) result }
 {
     let _schema = conn.schema();
-    read(conn, alloc, ROUNDS, &[])
+    read_any(conn, alloc, ROUNDS, &[])
 }
 
 const PLACES_WITH: &str = "SELECT round, number, author, label, points FROM round_puzzles \
@@ -73,6 +76,25 @@ fn places_with<S: Alter>(
         PLACES_WITH,
         params![key.author.as_str(), key.label.as_str()],
     )
+}
+
+const ALL_PLACES: &str =
+    "SELECT round, number, author, label, points FROM round_puzzles ORDER BY round, number";
+
+/// All places, by round, then number, of either version.
+pub(crate) fn all_places<S: Alter>(
+    conn: &mut Connection<S>,
+    alloc: Global,
+) -> Result<Vec<Place>, StoreFault>
+    requires hall { IsAnyHall (state S.Store conn.old) }
+    ensures rested { RestedAny (state S.Store conn.old) (state S.Store conn.new) }
+    ensures served { Served (content_of (state S.Store conn.new)) result
+        (λ world places. places.items ≡ entries world.places) }
+    ensures cause { HasCleanDisk (state S.Store conn.new) → Fails
+        (ReadFails place_in all_places_text [] (state S.Store conn.old) (state S.Store conn.new)) result }
+{
+    let _schema = conn.schema();
+    read_any(conn, alloc, ALL_PLACES, &[])
 }
 
 /// The round of each place.
@@ -199,19 +221,40 @@ fn entries_of(alloc: Global, places: Vec<Place>) -> Result<Vec<Entry>, StoreFaul
     Ok(entries)
 }
 
-/// The round of a head and its places; none where there is neither.
+/// The round with these puzzles and testers. Refused where the names are no list of testers.
+fn listed_row(
+    round: Round,
+    puzzles: Entries,
+    names: Vec<Name>,
+) -> Result<Option<RoundRow>, StoreFault>
+    ensures row { IfOk result (λ found. found ≡ Some (record { round = round; puzzles = puzzles; testers = names.items })) }
+    ensures none { Fails (¬ (AreTesters names.items)) result }
+{
+    match Testers::new(names) {
+        Some(testers) => Ok(Some(RoundRow {
+            round,
+            puzzles,
+            testers,
+        })),
+        None => Err(StoreFault::Failed),
+    }
+}
+
+/// The round of a head, its places and the names of its testers; none where there is neither head nor place.
 fn row_of(
     alloc: Global,
     head: Option<Round>,
     places: Vec<Place>,
+    names: Vec<Name>,
 ) -> Result<Option<RoundRow>, StoreFault>
     ensures row { (world : World) (id : List ℕ) → head ≡ get world.rounds id
-        → ArePlaces world (is_in_round id) places.items → IfOk result (IsRoundKept world id) }
-    ensures none { Fails (AreNoRound head places.items) result }
+        → ArePlaces world (is_in_round id) places.items → AreTestersOf world id names.items
+        → IfOk result (IsRoundKept world id) }
+    ensures none { Fails (AreNoRound head places.items names.items) result }
 {
     match head {
         Some(round) => match Entries::new(entries_of(alloc, places)?) {
-            Some(puzzles) => Ok(Some(RoundRow { round, puzzles })),
+            Some(puzzles) => listed_row(round, puzzles, names),
             None => Err(StoreFault::Failed),
         },
         None if places.is_empty() => Ok(None),
@@ -219,7 +262,7 @@ fn row_of(
     }
 }
 
-/// The round with its list of puzzles; none where neither is kept.
+/// The round with its list of puzzles and its testers; none where neither head nor list is kept.
 pub(crate) fn round<S: Alter>(
     conn: &mut Connection<S>,
     alloc: Global,
@@ -229,13 +272,13 @@ pub(crate) fn round<S: Alter>(
     ensures rested { Rested (state S.Store conn.old) (state S.Store conn.new) }
     ensures served { Served (content_of (state S.Store conn.new)) result
         (λ world found. IsRoundKept world id.now found) }
-    ensures whole { HasCleanDisk (state S.Store conn.new) → IfOk result (λ _. (mid : Held S)
-        × AreRecords round_in head_text (Text id.now ∷ []) (state S.Store conn.old) (state S.Store mid)
-        × AreRecords place_in places_of_text (Text id.now ∷ []) (state S.Store mid) (state S.Store conn.new)) }
+    ensures whole { HasCleanDisk (state S.Store conn.new) → IfOk result (λ _.
+        IsRoundRead S.Store id.now (state S.Store conn.old) (state S.Store conn.new)) }
     ensures cause { HasCleanDisk (state S.Store conn.new) → Fails
         (RoundFails id.now (state S.Store conn.old) (state S.Store conn.new)) result }
 {
     let head = head(conn, alloc, id)?;
     let places = places_of(conn, alloc, id)?;
-    row_of(alloc, head, places)
+    let names = testers_of(conn, alloc, id)?;
+    row_of(alloc, head, places, names)
 }

@@ -2,7 +2,8 @@
 ghost use Rattle.std.specs.Prelude.{◌≡◌, IsTrue, IfOk, OnOk, OnErr, [], ◌∷◌};
 ghost use Rattle.sqlite.specs.Held.{state};
 ghost use Rattle.sqlite.specs.State.{HasCleanDisk, IsUnchanged};
-ghost use Rattle.hall_sql.specs.Tables.{hall_schema};
+ghost use Rattle.std.specs.List.{AllByRecursion};
+ghost use Rattle.hall_sql.specs.Versions.{HasTable};
 ghost use Rattle.hall_sql.specs.Standing.{Rests, Lasts};
 ghost use Rattle.hall_sql.specs.Scan.{IsAbove, Scanned, IsTableKeyed, AreScanned};
 ghost use Rattle.hall_sql.specs.AdoptCause.{NextFails, ScanFails};
@@ -53,7 +54,7 @@ fn next_id<S: Alter>(rows: &mut Rows<'_, S>, last: Option<i64>) -> Result<Option
 
 /// Refused where a rowid of the table is no integer or stands twice.
 fn check_rowids<S: Alter>(conn: &mut Connection<S>, table: HallTable) -> Result<(), StoreFault>
-    requires schema { HasCleanDisk (state S.Store conn.old) → conn.old.schema ≡ hall_schema }
+    requires schema { HasCleanDisk (state S.Store conn.old) → HasTable conn.old.schema table }
     ensures lasts { Lasts (state S.Store conn.old) (state S.Store conn.new) }
     ensures rests { HasCleanDisk (state S.Store conn.new)
         → Rests (state S.Store conn.old) (state S.Store conn.new) }
@@ -83,7 +84,7 @@ pub(crate) fn check_all_rowids<S: Alter>(
     conn: &mut Connection<S>,
     tables: &[HallTable],
 ) -> Result<(), StoreFault>
-    requires schema { HasCleanDisk (state S.Store conn.old) → conn.old.schema ≡ hall_schema }
+    requires schema { HasCleanDisk (state S.Store conn.old) → AllByRecursion (HasTable conn.old.schema) tables.now }
     ensures lasts { Lasts (state S.Store conn.old) (state S.Store conn.new) }
     ensures refused { HasCleanDisk (state S.Store conn.new)
         → OnErr result (Rests (state S.Store conn.old) (state S.Store conn.new)) }

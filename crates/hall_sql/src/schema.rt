@@ -4,7 +4,8 @@ ghost use Rattle.sqlite_value.specs.Keys.{plain};
 ghost use Rattle.sqlite.specs.Collation.TheVariants.{Binary};
 ghost use Rattle.sqlite.specs.declared.types.Value.TheVariants.{Null};
 ghost use Rattle.hall_sql.specs.Tables.{people_table, puzzles_table, rounds_table, round_puzzles_table};
-ghost use Rattle.hall_sql.specs.Tables.{answers_table, protests_table, hall_schema, hall_indexes};
+ghost use Rattle.hall_sql.specs.Tables.{answers_table, protests_table, testers_table};
+ghost use Rattle.hall_sql.specs.Tables.{old_schema, old_indexes, hall_schema, hall_indexes};
 
 use sqlite_items::Items;
 use sqlite_schema::schema::{Action, Column, Index, Kind, Reference, Schema, Table};
@@ -519,9 +520,42 @@ fn is_protests(table: &Table) -> bool
         && is_plain(table)
 }
 
-fn are_hall_tables(tables: &[Table]) -> bool
-    ensures is { IsTrue result → tables.now ≡ hall_schema.tables }
-    ensures only { tables.now ≡ hall_schema.tables → IsTrue result }
+fn has_testers_columns(columns: &[Column]) -> bool
+    ensures is { IsTrue result → columns.now ≡ testers_table.columns }
+    ensures only { columns.now ≡ testers_table.columns → IsTrue result }
+{
+    let [round, name] = columns else {
+        return false;
+    };
+    is_column(round, "round", Kind::Text) && is_column(name, "name", Kind::Text)
+}
+
+fn has_testers_references(references: &[Reference]) -> bool
+    ensures is { IsTrue result → references.now ≡ testers_table.references }
+    ensures only { references.now ≡ testers_table.references → IsTrue result }
+{
+    let [first, second] = references else {
+        return false;
+    };
+    is_link(first, &[1], "rounds", "id", Action::Cascade)
+        && is_link(second, &[2], "people", "name", Action::Restrict)
+}
+
+fn is_testers(table: &Table) -> bool
+    ensures is { IsTrue result → table.now ≡ record testers_table { tree = 14 } }
+    ensures only { table.now ≡ record testers_table { tree = 14 } → IsTrue result }
+{
+    is_name(&table.name, "testers")
+        && table.tree == 14
+        && has_testers_columns(table.columns.as_slice())
+        && has_key(table, &[1, 2])
+        && has_testers_references(table.references.as_slice())
+        && is_plain(table)
+}
+
+fn are_old_tables(tables: &[Table]) -> bool
+    ensures is { IsTrue result → tables.now ≡ old_schema.tables }
+    ensures only { tables.now ≡ old_schema.tables → IsTrue result }
 {
     let [people, puzzles, rounds, round_puzzles, answers, protests] = tables else {
         return false;
@@ -534,9 +568,19 @@ fn are_hall_tables(tables: &[Table]) -> bool
         && is_protests(protests)
 }
 
-fn are_hall_indexes(indexes: &[Index]) -> bool
-    ensures is { IsTrue result → indexes.now ≡ hall_indexes }
-    ensures only { indexes.now ≡ hall_indexes → IsTrue result }
+fn are_hall_tables(tables: &[Table]) -> bool
+    ensures is { IsTrue result → tables.now ≡ hall_schema.tables }
+    ensures only { tables.now ≡ hall_schema.tables → IsTrue result }
+{
+    let [old @ .., testers] = tables else {
+        return false;
+    };
+    are_old_tables(old) && is_testers(testers)
+}
+
+fn are_old_indexes(indexes: &[Index]) -> bool
+    ensures is { IsTrue result → indexes.now ≡ old_indexes }
+    ensures only { indexes.now ≡ old_indexes → IsTrue result }
 {
     let [name, pass, rest @ ..] = indexes else {
         return false;
@@ -547,8 +591,8 @@ fn are_hall_indexes(indexes: &[Index]) -> bool
 }
 
 fn are_indexes_from_puzzles(indexes: &[Index]) -> bool
-    ensures is { IsTrue result → indexes.now ≡ drop 2 hall_indexes }
-    ensures only { indexes.now ≡ drop 2 hall_indexes → IsTrue result }
+    ensures is { IsTrue result → indexes.now ≡ drop 2 old_indexes }
+    ensures only { indexes.now ≡ drop 2 old_indexes → IsTrue result }
 {
     let [puzzle, round, rest @ ..] = indexes else {
         return false;
@@ -559,8 +603,8 @@ fn are_indexes_from_puzzles(indexes: &[Index]) -> bool
 }
 
 fn are_indexes_from_places(indexes: &[Index]) -> bool
-    ensures is { IsTrue result → indexes.now ≡ drop 4 hall_indexes }
-    ensures only { indexes.now ≡ drop 4 hall_indexes → IsTrue result }
+    ensures is { IsTrue result → indexes.now ≡ drop 4 old_indexes }
+    ensures only { indexes.now ≡ drop 4 old_indexes → IsTrue result }
 {
     let [place, answer, rest @ ..] = indexes else {
         return false;
@@ -571,8 +615,8 @@ fn are_indexes_from_places(indexes: &[Index]) -> bool
 }
 
 fn are_last_indexes(indexes: &[Index]) -> bool
-    ensures is { IsTrue result → indexes.now ≡ drop 6 hall_indexes }
-    ensures only { indexes.now ≡ drop 6 hall_indexes → IsTrue result }
+    ensures is { IsTrue result → indexes.now ≡ drop 6 old_indexes }
+    ensures only { indexes.now ≡ drop 6 old_indexes → IsTrue result }
 {
     let [turn, protest] = indexes else {
         return false;
@@ -581,7 +625,27 @@ fn are_last_indexes(indexes: &[Index]) -> bool
         && is_index(protest, "sqlite_autoindex_protests_1", 13, 12, &[1, 2, 3])
 }
 
-/// The database has the hall's six tables and their indexes, and nothing else.
+fn are_hall_indexes(indexes: &[Index]) -> bool
+    ensures is { IsTrue result → indexes.now ≡ hall_indexes }
+    ensures only { indexes.now ≡ hall_indexes → IsTrue result }
+{
+    let [old @ .., tester] = indexes else {
+        return false;
+    };
+    are_old_indexes(old) && is_index(tester, "sqlite_autoindex_testers_1", 15, 14, &[1, 2])
+}
+
+/// The database has the hall's six tables of the version before, without testers, and their indexes, and nothing else.
+pub(crate) fn is_old_schema(schema: &Schema) -> bool
+    ensures is { IsTrue result → schema.now ≡ old_schema }
+    ensures only { schema.now ≡ old_schema → IsTrue result }
+{
+    are_old_tables(schema.tables.as_slice())
+        && are_old_indexes(schema.indexes.as_slice())
+        && schema.views.is_empty()
+}
+
+/// The database has the hall's seven tables and their indexes, and nothing else.
 pub(crate) fn is_hall_schema(schema: &Schema) -> bool
     ensures is { IsTrue result → schema.now ≡ hall_schema }
     ensures only { schema.now ≡ hall_schema → IsTrue result }

@@ -1,16 +1,21 @@
 //! The store over SQL tables.
 ghost use Rattle.std.specs.Prelude.{◌≡◌, IfOk, IfErr};
+ghost use Rattle.std.specs.FinMap.{empty};
 ghost use Rattle.sqlite.specs.Held.{state};
 ghost use Rattle.sqlite.specs.State.{HasCleanDisk};
+ghost use Rattle.hall_policy.specs.World.{World};
 ghost use Rattle.hall_store.specs.declared.fault.StoreFault.TheVariants.{Failed};
 ghost use Rattle.hall_sql.specs.AdoptCause.{AdoptFails};
-ghost use Rattle.hall_sql.specs.Standing.{HasAdopted, HasDeclined, IsHall};
+ghost use Rattle.hall_sql.specs.Migrate.{Leaves, Takes};
+ghost use Rattle.hall_sql.specs.Standing.{HasAdopted, HasDeclined, IsHall, content_of};
+ghost use Rattle.hall_sql.specs.WholeRows.{AreRowsOf};
 
 use crate::adoption::adopt;
 use crate::answers::{
     add_answer, answer, answers_given, answers_in, answers_of, has_answered, is_number_taken,
 };
 use crate::feed::{feed_answers, feed_protests};
+use crate::migration::{Migrated, take_rows};
 use crate::people::{import, person, person_by_key};
 use crate::protests::{
     add_protest, has_open_protest, protest, protests_in, protests_made, protests_of, rule_protest,
@@ -18,17 +23,19 @@ use crate::protests::{
 use crate::puzzles::{all_puzzles, put_puzzle, puzzle, puzzles_of, puzzles_put, set_state};
 use crate::round_writes::{put_round, set_round_flag};
 use crate::rounds::{round, rounds, rounds_using};
+use crate::rows::Rows;
+use crate::testers::testers_of;
 use hall_policy::{
     AnswerKey, AnswerNumber, AnswerRow, AnswerSink, Key, Name, People, Person, ProtestKey,
     ProtestRow, ProtestSink, PuzzleKey, PuzzleNumber, PuzzleRow, PuzzleState, Round, RoundId,
     RoundRow, Ruling,
 };
-use hall_store::{RoundFlag, Store, StoreFault};
+use hall_store::{ReadStore, RoundFlag, Store, StoreFault};
 use sqlite::{Alter, Connection};
 use std::alloc::Global;
 use std::marker::Model;
 
-/// The hall's world in the six tables of a connection, on which no transaction is open between calls.
+/// The hall's world in the seven tables of a connection, on which no transaction is open between calls.
 #[derive(Drop)]
 pub struct SqlStore<S: Alter> {
     conn: Connection<S>,
@@ -76,38 +83,39 @@ impl<S: Alter + Drop> SqlStore<S> {
     {
         self.conn
     }
+
+    /// Puts the rows in tables that hold nothing, and tells of tables that hold these or others.
+    pub(crate) fn take_rows(&mut self, alloc: Global, rows: &Rows) -> Result<Migrated, StoreFault>
+        ensures leaves { Leaves (content_of (state S.Store self.old)) (content_of (state S.Store self.new)) result }
+        ensures takes { (world : World) → AreRowsOf world rows.now → world.testers ≡ empty
+            → Takes world (content_of (state S.Store self.old)) (content_of (state S.Store self.new)) result }
+    {
+        take_rows(&mut self.conn, alloc, rows)
+    }
 }
 
-impl<S: Alter + Drop> Store for SqlStore<S> {
-    ghost use Rattle.std.specs.Prelude.{◌≡◌, ◌↔◌, ◌⊎◌, IsTrue, IfOk, IfErr, OnOk, [], ◌∷◌, pos};
+impl<S: Alter + Drop> ReadStore for SqlStore<S> {
+    ghost use Rattle.std.specs.Prelude.{◌≡◌, ◌↔◌, ◌⊎◌, IsTrue, IfOk, IfErr, [], ◌∷◌, pos};
     ghost use Rattle.std.specs.FinMap.{get, values};
     ghost use Rattle.sqlite.specs.declared.types.Value.TheVariants.{Text, Int};
-    ghost use Rattle.sqlite.specs.Held.{Held, state};
+    ghost use Rattle.sqlite.specs.Held.{state};
     ghost use Rattle.sqlite.specs.State.{HasCleanDisk};
     ghost use Rattle.hall_policy.specs.Rules.{answers_given, protests_made, puzzles_put};
     ghost use Rattle.hall_store.specs.Caller.{IsKeyHolder};
     ghost use Rattle.hall_store.specs.Store.{Kept, Served, Fails, puzzles_of, IsRoundKept, AreUsing, IsNumberTaken};
-    ghost use Rattle.hall_store.specs.Store.{IsListing, is_of, is_in};
+    ghost use Rattle.hall_store.specs.Store.{AreTestersOf, IsListing, is_of, is_in};
     ghost use Rattle.hall_store.specs.Store.{HasSubmitted, IsProtestOpen, protests_of, protests_in};
-    ghost use Rattle.hall_store.specs.Store.{Asks, Fed, IsRefusedNext};
-    ghost use Rattle.hall_store.specs.Change.{CanAddAnswer, CanAddProtest};
-    ghost use Rattle.hall_store.specs.declared.change.Change.TheVariants.{Import, PutPuzzle, SetState, PutRound};
-    ghost use Rattle.hall_store.specs.declared.change.Change.TheVariants.{SetRoundFlag, AddAnswer, AddProtest, RuleProtest};
+    ghost use Rattle.hall_store.specs.Store.{Fed, IsRefusedNext};
     ghost use Rattle.hall_store.specs.declared.fault.StoreFault.TheVariants.{Failed};
-    ghost use Rattle.hall_sql.specs.Rows.{person_in, puzzle_row_in, round_in, place_in, answer_in, protest_in};
+    ghost use Rattle.hall_sql.specs.Rows.{person_in, puzzle_row_in, round_in, place_in, tester_in, answer_in, protest_in};
     ghost use Rattle.hall_sql.specs.Statements.{person_text, person_by_key_text, puzzle_text, all_puzzles_text};
-    ghost use Rattle.hall_sql.specs.Statements.{puzzles_of_text, head_text, all_rounds_text, places_of_text};
+    ghost use Rattle.hall_sql.specs.Statements.{puzzles_of_text, testers_of_text, all_rounds_text};
     ghost use Rattle.hall_sql.specs.Statements.{places_with_text, answer_text, answers_given_text, number_taken_text};
     ghost use Rattle.hall_sql.specs.Statements.{answers_of_text, answers_in_text, protest_text, protests_of_text};
     ghost use Rattle.hall_sql.specs.Statements.{protests_in_text};
-    ghost use Rattle.hall_sql.specs.Whole.{AreRecords};
+    ghost use Rattle.hall_sql.specs.Whole.{AreRecords, IsRoundRead};
     ghost use Rattle.hall_sql.specs.Cause.{ReadFails, FeedFails, FindFails, RoundFails};
-    ghost use Rattle.hall_sql.specs.Columns.{answer_params, protest_params};
-    ghost use Rattle.hall_sql.specs.Statements.{add_answer_text, add_protest_text};
-    ghost use Rattle.hall_sql.specs.WriteCause.{ImportFails, PutPuzzleFails, PutRoundFails, RuleFails, RunFails};
-    ghost use Rattle.hall_sql.specs.WriteCause.{SetFlagFails, SetStateFails};
-    ghost use Rattle.hall_sql.specs.RoundPuts.{PutsRows};
-    ghost use Rattle.hall_sql.specs.Standing.{Rested, Wrote, content_of};
+    ghost use Rattle.hall_sql.specs.Standing.{Rested, content_of};
 
     ghost content = { λ s. content_of (state S.Store s) };
 
@@ -143,14 +151,6 @@ impl<S: Alter + Drop> Store for SqlStore<S> {
             (state S.Store self.new)) result }
     {
         person(&mut self.conn, alloc, name)
-    }
-
-    fn import(&mut self, alloc: Global, people: &People) -> Result<(), StoreFault>
-        ensures wrote { Wrote (Import people.now) (state S.Store self.old) (state S.Store self.new) result }
-        ensures cause { HasCleanDisk (state S.Store self.new) → Fails
-            (ImportFails S.Store people.now (state S.Store self.old) (state S.Store self.new)) result }
-    {
-        import(&mut self.conn, alloc, people)
     }
 
     fn puzzle(&mut self, alloc: Global, key: &PuzzleKey) -> Result<Option<PuzzleRow>, StoreFault>
@@ -217,40 +217,34 @@ impl<S: Alter + Drop> Store for SqlStore<S> {
         puzzles_put(&mut self.conn, alloc, author)
     }
 
-    fn put_puzzle(&mut self, alloc: Global, row: PuzzleRow) -> Result<(), StoreFault>
-        ensures wrote { Wrote (PutPuzzle row) (state S.Store self.old) (state S.Store self.new) result }
-        ensures cause { HasCleanDisk (state S.Store self.new) → Fails
-            (PutPuzzleFails row (state S.Store self.old) (state S.Store self.new)) result }
-    {
-        put_puzzle(&mut self.conn, alloc, &row)
-    }
-
-    fn set_state(
-        &mut self,
-        alloc: Global,
-        key: &PuzzleKey,
-        known: PuzzleState,
-    ) -> Result<(), StoreFault>
-        ensures wrote { Wrote (SetState key.now known) (state S.Store self.old) (state S.Store self.new) result }
-        ensures cause { HasCleanDisk (state S.Store self.new) → Fails
-            (SetStateFails key.now known (state S.Store self.old) (state S.Store self.new)) result }
-    {
-        set_state(&mut self.conn, alloc, key, known)
-    }
-
     fn round(&mut self, alloc: Global, id: &RoundId) -> Result<Option<RoundRow>, StoreFault>
         ensures kept { Kept (content_of (state S.Store self.old)) (content_of (state S.Store self.new)) }
         ensures rested { Rested (state S.Store self.old) (state S.Store self.new) }
         ensures served { Served (content_of (state S.Store self.new)) result
             (λ world found. IsRoundKept world id.now found) }
         ensures fault { Fails (Unit {0}) result }
-        ensures whole { HasCleanDisk (state S.Store self.new) → IfOk result (λ _. (mid : Held S)
-            × AreRecords round_in head_text (Text id.now ∷ []) (state S.Store self.old) (state S.Store mid)
-            × AreRecords place_in places_of_text (Text id.now ∷ []) (state S.Store mid) (state S.Store self.new)) }
+        ensures whole { HasCleanDisk (state S.Store self.new) → IfOk result (λ _.
+            IsRoundRead S.Store id.now (state S.Store self.old) (state S.Store self.new)) }
         ensures cause { HasCleanDisk (state S.Store self.new) → Fails
             (RoundFails id.now (state S.Store self.old) (state S.Store self.new)) result }
     {
         round(&mut self.conn, alloc, id)
+    }
+
+    fn testers_of(&mut self, alloc: Global, id: &RoundId) -> Result<Vec<Name>, StoreFault>
+        ensures kept { Kept (content_of (state S.Store self.old)) (content_of (state S.Store self.new)) }
+        ensures rested { Rested (state S.Store self.old) (state S.Store self.new) }
+        ensures served { Served (content_of (state S.Store self.new)) result
+            (λ world names. AreTestersOf world id.now names.items) }
+        ensures fault { Fails (Unit {0}) result }
+        ensures whole { HasCleanDisk (state S.Store self.new) → IfOk result (λ _.
+            AreRecords tester_in testers_of_text (Text id.now ∷ []) (state S.Store self.old)
+            (state S.Store self.new)) }
+        ensures cause { HasCleanDisk (state S.Store self.new) → Fails
+            (ReadFails tester_in testers_of_text (Text id.now ∷ []) (state S.Store self.old)
+            (state S.Store self.new)) result }
+    {
+        testers_of(&mut self.conn, alloc, id)
     }
 
     fn rounds(&mut self, alloc: Global) -> Result<Vec<Round>, StoreFault>
@@ -266,29 +260,6 @@ impl<S: Alter + Drop> Store for SqlStore<S> {
             (ReadFails round_in all_rounds_text [] (state S.Store self.old) (state S.Store self.new)) result }
     {
         rounds(&mut self.conn, alloc)
-    }
-
-    fn put_round(&mut self, _alloc: Global, row: RoundRow) -> Result<(), StoreFault>
-        ensures wrote { Wrote (PutRound row) (state S.Store self.old) (state S.Store self.new) result }
-        ensures rows { HasCleanDisk (state S.Store self.new) → OnOk result
-            (PutsRows row (state S.Store self.old).now (state S.Store self.new).now) }
-        ensures cause { HasCleanDisk (state S.Store self.new) → Fails
-            (PutRoundFails row (state S.Store self.old) (state S.Store self.new)) result }
-    {
-        put_round(&mut self.conn, &row)
-    }
-
-    fn set_round_flag(
-        &mut self,
-        alloc: Global,
-        id: &RoundId,
-        flag: RoundFlag,
-    ) -> Result<(), StoreFault>
-        ensures wrote { Wrote (SetRoundFlag id.now flag) (state S.Store self.old) (state S.Store self.new) result }
-        ensures cause { HasCleanDisk (state S.Store self.new) → Fails
-            (SetFlagFails id.now flag (state S.Store self.old) (state S.Store self.new)) result }
-    {
-        set_round_flag(&mut self.conn, alloc, id, flag)
     }
 
     fn rounds_using(&mut self, alloc: Global, key: &PuzzleKey) -> Result<Vec<RoundId>, StoreFault>
@@ -409,15 +380,6 @@ impl<S: Alter + Drop> Store for SqlStore<S> {
             (state S.Store self.new)) result }
     {
         answers_in(&mut self.conn, alloc, round)
-    }
-
-    fn add_answer(&mut self, _alloc: Global, row: AnswerRow) -> Result<(), StoreFault>
-        requires { Asks (content_of (state S.Store self.old)) (λ world. CanAddAnswer world row) }
-        ensures wrote { Wrote (AddAnswer row) (state S.Store self.old) (state S.Store self.new) result }
-        ensures cause { HasCleanDisk (state S.Store self.new) → Fails
-            (RunFails add_answer_text (answer_params row) (state S.Store self.old) (state S.Store self.new)) result }
-    {
-        add_answer(&mut self.conn, &row)
     }
 
     fn feed_answers<K: AnswerSink>(
@@ -555,28 +517,6 @@ impl<S: Alter + Drop> Store for SqlStore<S> {
         protests_in(&mut self.conn, alloc, round)
     }
 
-    fn add_protest(&mut self, _alloc: Global, row: ProtestRow) -> Result<(), StoreFault>
-        requires { Asks (content_of (state S.Store self.old)) (λ world. CanAddProtest world row) }
-        ensures wrote { Wrote (AddProtest row) (state S.Store self.old) (state S.Store self.new) result }
-        ensures cause { HasCleanDisk (state S.Store self.new) → Fails
-            (RunFails add_protest_text (protest_params row) (state S.Store self.old) (state S.Store self.new)) result }
-    {
-        add_protest(&mut self.conn, &row)
-    }
-
-    fn rule_protest(
-        &mut self,
-        alloc: Global,
-        key: &ProtestKey,
-        ruling: Ruling,
-    ) -> Result<(), StoreFault>
-        ensures wrote { Wrote (RuleProtest key.now ruling) (state S.Store self.old) (state S.Store self.new) result }
-        ensures cause { HasCleanDisk (state S.Store self.new) → Fails
-            (RuleFails key.now ruling (state S.Store self.old) (state S.Store self.new)) result }
-    {
-        rule_protest(&mut self.conn, alloc, key, ruling)
-    }
-
     fn feed_protests<K: ProtestSink>(
         &mut self,
         alloc: Global,
@@ -598,5 +538,104 @@ impl<S: Alter + Drop> Store for SqlStore<S> {
             (state S.Store self.new) sink.old sink.new) result }
     {
         feed_protests(&mut self.conn, alloc, round, sink)
+    }
+}
+
+impl<S: Alter + Drop> Store for SqlStore<S> {
+    ghost use Rattle.std.specs.Prelude.{OnOk};
+    ghost use Rattle.sqlite.specs.Held.{state};
+    ghost use Rattle.sqlite.specs.State.{HasCleanDisk};
+    ghost use Rattle.hall_store.specs.Store.{Fails, Asks};
+    ghost use Rattle.hall_store.specs.Change.{CanAddAnswer, CanAddProtest};
+    ghost use Rattle.hall_store.specs.declared.change.Change.TheVariants.{Import, PutPuzzle, SetState, PutRound};
+    ghost use Rattle.hall_store.specs.declared.change.Change.TheVariants.{SetRoundFlag, AddAnswer, AddProtest, RuleProtest};
+    ghost use Rattle.hall_sql.specs.Columns.{answer_params, protest_params};
+    ghost use Rattle.hall_sql.specs.Statements.{add_answer_text, add_protest_text};
+    ghost use Rattle.hall_sql.specs.WriteCause.{ImportFails, PutPuzzleFails, PutRoundFails, RuleFails, RunFails};
+    ghost use Rattle.hall_sql.specs.WriteCause.{SetFlagFails, SetStateFails};
+    ghost use Rattle.hall_sql.specs.RoundPuts.{PutsRows};
+    ghost use Rattle.hall_sql.specs.Standing.{Wrote, content_of};
+
+    fn import(&mut self, alloc: Global, people: &People) -> Result<(), StoreFault>
+        ensures wrote { Wrote (Import people.now) (state S.Store self.old) (state S.Store self.new) result }
+        ensures cause { HasCleanDisk (state S.Store self.new) → Fails
+            (ImportFails S.Store people.now (state S.Store self.old) (state S.Store self.new)) result }
+    {
+        import(&mut self.conn, alloc, people)
+    }
+
+    fn put_puzzle(&mut self, alloc: Global, row: PuzzleRow) -> Result<(), StoreFault>
+        ensures wrote { Wrote (PutPuzzle row) (state S.Store self.old) (state S.Store self.new) result }
+        ensures cause { HasCleanDisk (state S.Store self.new) → Fails
+            (PutPuzzleFails row (state S.Store self.old) (state S.Store self.new)) result }
+    {
+        put_puzzle(&mut self.conn, alloc, &row)
+    }
+
+    fn set_state(
+        &mut self,
+        alloc: Global,
+        key: &PuzzleKey,
+        known: PuzzleState,
+    ) -> Result<(), StoreFault>
+        ensures wrote { Wrote (SetState key.now known) (state S.Store self.old) (state S.Store self.new) result }
+        ensures cause { HasCleanDisk (state S.Store self.new) → Fails
+            (SetStateFails key.now known (state S.Store self.old) (state S.Store self.new)) result }
+    {
+        set_state(&mut self.conn, alloc, key, known)
+    }
+
+    fn put_round(&mut self, _alloc: Global, row: RoundRow) -> Result<(), StoreFault>
+        ensures wrote { Wrote (PutRound row) (state S.Store self.old) (state S.Store self.new) result }
+        ensures rows { HasCleanDisk (state S.Store self.new) → OnOk result
+            (PutsRows row (state S.Store self.old).now (state S.Store self.new).now) }
+        ensures cause { HasCleanDisk (state S.Store self.new) → Fails
+            (PutRoundFails row (state S.Store self.old) (state S.Store self.new)) result }
+    {
+        put_round(&mut self.conn, &row)
+    }
+
+    fn set_round_flag(
+        &mut self,
+        alloc: Global,
+        id: &RoundId,
+        flag: RoundFlag,
+    ) -> Result<(), StoreFault>
+        ensures wrote { Wrote (SetRoundFlag id.now flag) (state S.Store self.old) (state S.Store self.new) result }
+        ensures cause { HasCleanDisk (state S.Store self.new) → Fails
+            (SetFlagFails id.now flag (state S.Store self.old) (state S.Store self.new)) result }
+    {
+        set_round_flag(&mut self.conn, alloc, id, flag)
+    }
+
+    fn add_answer(&mut self, _alloc: Global, row: AnswerRow) -> Result<(), StoreFault>
+        requires { Asks (content_of (state S.Store self.old)) (λ world. CanAddAnswer world row) }
+        ensures wrote { Wrote (AddAnswer row) (state S.Store self.old) (state S.Store self.new) result }
+        ensures cause { HasCleanDisk (state S.Store self.new) → Fails
+            (RunFails add_answer_text (answer_params row) (state S.Store self.old) (state S.Store self.new)) result }
+    {
+        add_answer(&mut self.conn, &row)
+    }
+
+    fn add_protest(&mut self, _alloc: Global, row: ProtestRow) -> Result<(), StoreFault>
+        requires { Asks (content_of (state S.Store self.old)) (λ world. CanAddProtest world row) }
+        ensures wrote { Wrote (AddProtest row) (state S.Store self.old) (state S.Store self.new) result }
+        ensures cause { HasCleanDisk (state S.Store self.new) → Fails
+            (RunFails add_protest_text (protest_params row) (state S.Store self.old) (state S.Store self.new)) result }
+    {
+        add_protest(&mut self.conn, &row)
+    }
+
+    fn rule_protest(
+        &mut self,
+        alloc: Global,
+        key: &ProtestKey,
+        ruling: Ruling,
+    ) -> Result<(), StoreFault>
+        ensures wrote { Wrote (RuleProtest key.now ruling) (state S.Store self.old) (state S.Store self.new) result }
+        ensures cause { HasCleanDisk (state S.Store self.new) → Fails
+            (RuleFails key.now ruling (state S.Store self.old) (state S.Store self.new)) result }
+    {
+        rule_protest(&mut self.conn, alloc, key, ruling)
     }
 }

@@ -12,10 +12,22 @@ pub(crate) enum HallTable {
     Places,
     Answers,
     Protests,
+    Testers,
 }
 
 /// All of them, each after those to which it refers.
-pub(crate) const ALL: [HallTable; 6] = [
+pub(crate) const ALL: [HallTable; 7] = [
+    HallTable::People,
+    HallTable::Puzzles,
+    HallTable::Rounds,
+    HallTable::Places,
+    HallTable::Answers,
+    HallTable::Protests,
+    HallTable::Testers,
+];
+
+/// Those of the version before.
+pub(crate) const OLD: [HallTable; 6] = [
     HallTable::People,
     HallTable::Puzzles,
     HallTable::Rounds,
@@ -35,6 +47,7 @@ pub(crate) fn rowids_text(table: HallTable) -> &'static str
         HallTable::Places => "SELECT rowid FROM round_puzzles ORDER BY rowid",
         HallTable::Answers => "SELECT rowid FROM answers ORDER BY rowid",
         HallTable::Protests => "SELECT rowid FROM protests ORDER BY rowid",
+        HallTable::Testers => "SELECT rowid FROM testers ORDER BY rowid",
     }
 }
 
@@ -49,6 +62,7 @@ pub(crate) fn table_text(table: HallTable) -> &'static str
         HallTable::Places => PLACES,
         HallTable::Answers => ANSWERS,
         HallTable::Protests => PROTESTS,
+        HallTable::Testers => TESTERS,
     }
 }
 
@@ -95,4 +109,10 @@ const PROTESTS: &str = concat!(
     "PRIMARY KEY (entrant, round, token), ",
     "FOREIGN KEY (round, number) REFERENCES round_puzzles (round, number) ",
     "ON DELETE RESTRICT ON UPDATE RESTRICT) STRICT"
+);
+
+const TESTERS: &str = concat!(
+    "CREATE TABLE testers (round TEXT NOT NULL REFERENCES rounds (id) ",
+    "ON DELETE CASCADE ON UPDATE CASCADE, name TEXT NOT NULL REFERENCES people (name) ",
+    "ON DELETE RESTRICT ON UPDATE RESTRICT, PRIMARY KEY (round, name)) STRICT"
 );

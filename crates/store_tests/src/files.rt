@@ -1,7 +1,9 @@
 //! The two files of a database in memory, which may fail from some call on.
 use crate::lent::Lent;
 use crate::tables::{Ask, ask_over};
-use sqlite::{Alter, Connection, FileStore, Files, Options};
+use hall_sql::{Migrated, OldStore, SqlStore, migrate};
+use hall_store::StoreFault;
+use sqlite::{Alter, Connection, FileStore, Files, MemStore, Options};
 use sqlite_disk::{Crash, Disk, Fuse, Memory};
 use std::alloc::AllocGlobal;
 use std::process::Abort;
@@ -132,6 +134,19 @@ pub(crate) fn ask_in<A: Ask>(
     match connected(rt, files) {
         Some(conn) => ask_over(rt, conn, ask),
         None => false,
+    }
+}
+
+/// Migrates the store into the database in the files. What became of it, where that could be opened.
+pub(crate) fn migrate_in(
+    rt: &(impl AllocGlobal + Abort),
+    files: &mut Stopped,
+    old: &mut OldStore<MemStore>,
+) -> Option<Result<Migrated, StoreFault>> {
+    let conn = connected(rt, files)?;
+    match SqlStore::over(conn) {
+        Ok(mut store) => Some(migrate(rt.alloc(), old, &mut store)),
+        Err(_) => None,
     }
 }
 

@@ -14,6 +14,8 @@ mod lists;
 #[cfg(test)]
 mod making;
 #[cfg(test)]
+mod migrating;
+#[cfg(test)]
 mod opening;
 #[cfg(test)]
 mod rows;

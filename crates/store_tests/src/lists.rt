@@ -38,8 +38,8 @@ puzzle = [{author = \"bob\", label = \"p2\", points = 10}]~
 5|0|dora-key|PUT /rounds/r5|version = 1~title = \"Morning\"~start = \"2026-05-02T09:00:00Z\"~minutes = 60~\
 protest_minutes = 30~mode = \"instant\"~penalty = 5~bonus = 2~\
 puzzle = [{author = \"bob\", label = \"p1\", points = 40}]~
-5|0|dora-key|PUT /rounds/r4|version = 1~title = \"Ten\"~start = \"2026-05-02T10:00:00Z\"~minutes = 20~\
-protest_minutes = 5~mode = \"instant\"~penalty = 1~bonus = 1~\
+5|0|dora-key|PUT /rounds/r4|version = 3~title = \"Ten\"~start = \"2026-05-02T10:00:00\"~zone = \"UTC0\"~minutes = 20~\
+protest_minutes = 5~mode = \"instant\"~penalty = 1~bonus = 1~testers = [\"rex\", \"eve\"]~\
 puzzle = [{author = \"bob\", label = \"p2\", points = 10}]~
 5|0|dora-key|PUT /rounds/r5|version = 1~
 6|0|dora-key|POST /rounds/r1/release|
@@ -117,8 +117,8 @@ const MOMENTS: &str = "\
 const ENDING: &str = "\
 1|1777720000|bob-key-1|PUT /puzzles/bob/p4|{\"text\":\"sudoku/4/4/123434122143432g\"}
 4|1777720000|bob-key-1|POST /puzzles/bob/p4/certificate|{\"budget\":200000}
-5|1777720000|dora-key|PUT /rounds/r6|version = 1~title = \"Alone\"~start = \"2026-05-02T09:00:00Z\"~minutes = 60~\
-protest_minutes = 30~mode = \"instant\"~penalty = 0~bonus = 0~\
+5|1777720000|dora-key|PUT /rounds/r6|version = 3~title = \"Alone\"~start = \"2026-05-02T09:00:00\"~zone = \"UTC0\"~minutes = 60~\
+protest_minutes = 30~mode = \"instant\"~penalty = 0~bonus = 0~testers = [\"rex\", \"fay\"]~\
 puzzle = [{author = \"bob\", label = \"p4\", points = 40}]~
 6|1777720000|dora-key|POST /rounds/r6/release|
 12|1777716000|gil-key-1|PUT /rounds/r1/protests/w2|{\"number\":1,\"text\":\"unclear\"}

@@ -17,14 +17,14 @@ impl Ask for Making {
     }
 }
 
-/// How many of the files that were opened again held no tables, and how many all six.
+/// How many of the files that were opened again held no tables, and how many all seven.
 #[derive(Clone, Copy)]
 struct Found {
     none: u64,
     all: u64,
 }
 
-/// Makes the tables in files that stop, and sees that what is left has all six or none, and all where they were made.
+/// Makes the tables in files that stop, and sees that what is left has all seven or none, and all where they were made.
 /// Whether no call was refused.
 fn see_stop(rt: &(impl AllocGlobal + Abort), part: Part, calls: u64, found: &mut Found) -> bool {
     let mut files = stopped(rt, &empty_image(rt), part, calls);
@@ -33,7 +33,7 @@ fn see_stop(rt: &(impl AllocGlobal + Abort), part: Part, calls: u64, found: &mut
     assert!(rt; is_made || !is_whole, "call {calls}");
     for image in &images_after(rt, &mut files) {
         let count = tables_in(rt, image);
-        if count == 6 {
+        if count == 7 {
             found.all = found.all.saturating_add(1);
         } else {
             assert!(rt;
@@ -65,7 +65,7 @@ fn see_stops(rt: &(impl AllocGlobal + Abort), part: Part) {
 }
 
 #[test]
-fn a_stop_leaves_all_six_tables_or_none(rt: HostRuntime) {
+fn a_stop_leaves_all_seven_tables_or_none(rt: HostRuntime) {
     see_stops(&rt, Part::Log);
     see_stops(&rt, Part::Database);
 }

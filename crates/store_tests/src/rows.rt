@@ -4,7 +4,7 @@ use crate::fixtures::text;
 use crate::tables::{ROWS, TABLES, connection, filled, over};
 use crate::world::world_text;
 use hall_policy::PuzzleKey;
-use hall_store::Store;
+use hall_store::ReadStore;
 use std::alloc::AllocGlobal;
 use std::process::Abort;
 
@@ -37,7 +37,7 @@ fn puzzle_key(rt: &(impl AllocGlobal + Abort), author: &str, label: &str) -> Puz
 }
 
 /// Sees that those of the three calls fail whose letters are given; the answers in r2 are told in any case.
-fn see_calls<S: Store>(rt: &(impl AllocGlobal + Abort), store: &mut S, failing: &str) {
+fn see_calls<S: ReadStore>(rt: &(impl AllocGlobal + Abort), store: &mut S, failing: &str) {
     let of_bob = store.rounds_using(rt.alloc(), &puzzle_key(rt, "bob", "p1"));
     assert!(rt; of_bob.is_err() == (failing == "p"), "rounds of bob's p1");
     let of_ada = store.rounds_using(rt.alloc(), &puzzle_key(rt, "ada", "q1"));
@@ -80,7 +80,11 @@ INSERT INTO answers VALUES ('eve', 'r1', 2, 'k2', 1, 1777712401, '1', 0)
 INSERT INTO answers VALUES ('eve', 'r1', 1, 'k2', 1, 1777712401, '1', 0)
 INSERT INTO answers VALUES ('zoe', 'r1', 1, 'k1', 1, 1777712401, '1', 0)
 INSERT INTO protests VALUES ('eve', 'r1', 'w2', 2, 'unclear', 0, 0)
-DELETE FROM rounds WHERE id = 'r1'";
+DELETE FROM rounds WHERE id = 'r1'
+INSERT INTO testers VALUES ('r1', 'rex')
+INSERT INTO testers VALUES ('r1', 'zoe')
+INSERT INTO testers VALUES ('r9', 'rex')
+DELETE FROM people WHERE name = 'rex'";
 
 #[test]
 fn the_tables_refuse_rows_that_break_them(rt: HostRuntime) {

@@ -20,11 +20,11 @@ const STEPS: &str = "\
 1|0|bob-key-1|PUT /puzzles/bob/p2|{\"text\":\"sudoku/4/4/v\"}
 1|0|bob-key-1|PUT /puzzles/bob/p1|{\"text\":\"sudoku/4/4/123434122143432g\"}
 4|0|bob-key-1|POST /puzzles/bob/p1/certificate|{\"budget\":200000}
-5|0|dora-key|PUT /rounds/r1|version = 1~title = \"Draft\"~start = \"2026-05-02T09:00:00Z\"~minutes = 20~\
-protest_minutes = 10~mode = \"sealed\"~penalty = 0~bonus = 0~\
+5|0|dora-key|PUT /rounds/r1|version = 3~title = \"Draft\"~start = \"2026-05-02T09:00:00\"~zone = \"UTC0\"~minutes = 20~\
+protest_minutes = 10~mode = \"sealed\"~penalty = 0~bonus = 0~testers = [\"gil\", \"fay\"]~\
 puzzle = [{author = \"bob\", label = \"p2\", points = 30}, {author = \"bob\", label = \"p1\", points = 20}]~
-5|0|dora-key|PUT /rounds/r1|version = 1~title = \"Morning\"~start = \"2026-05-02T09:00:00Z\"~minutes = 60~\
-protest_minutes = 30~mode = \"instant\"~penalty = 5~bonus = 2~\
+5|0|dora-key|PUT /rounds/r1|version = 3~title = \"Morning\"~start = \"2026-05-02T09:00:00\"~zone = \"UTC0\"~minutes = 60~\
+protest_minutes = 30~mode = \"instant\"~penalty = 5~bonus = 2~testers = [\"rex\", \"fay\"]~\
 puzzle = [{author = \"bob\", label = \"p1\", points = 40}]~
 6|0|dora-key|POST /rounds/r1/release|
 9|1777712500|eve-key-1|PUT /rounds/r1/answers/1/k1|{\"answer\":\"1234341221434321\"}
@@ -49,10 +49,12 @@ const WORLDS: &str = "\
 6 6 round r1 Draft 1777712400 20 10 sealed 0 0
 6 6 place bob p2 30
 6 6 place bob p1 20
+6 6 testers fay gil
 7 7 round r1 Morning 1777712400 60 30 instant 5 2
 8 11 round r1 Morning 1777712400 60 30 instant 5 2 released
 12 12 round r1 Morning 1777712400 60 30 instant 5 2 released published
 7 12 place bob p1 40
+7 12 testers fay rex
 9 12 answer eve 1 k1 1 1777712500 1234341221434321 0
 10 10 protest eve w1 1 unclear open 0
 11 12 protest eve w1 1 unclear upheld -5";
@@ -98,7 +100,7 @@ impl Ask for Telling {
 }
 
 /// The world in the files, which are opened again.
-fn world_in(rt: &(impl AllocGlobal + Abort), image: &Image) -> String {
+pub(crate) fn world_in(rt: &(impl AllocGlobal + Abort), image: &Image) -> String {
     let mut files = whole(rt, image);
     let mut telling = Telling {
         world: String::new(rt.alloc()),

@@ -26,9 +26,11 @@ CREATE TABLE answers (entrant TEXT NOT NULL REFERENCES people (name) ON DELETE R
 CREATE TABLE protests (entrant TEXT NOT NULL REFERENCES people (name) ON DELETE RESTRICT ON UPDATE RESTRICT,
     round TEXT NOT NULL, token TEXT NOT NULL, number INTEGER NOT NULL, body TEXT NOT NULL, ruling INTEGER NOT NULL,
     points INTEGER NOT NULL, PRIMARY KEY (entrant, round, token), FOREIGN KEY (round, number) REFERENCES
-    round_puzzles (round, number) ON DELETE RESTRICT ON UPDATE RESTRICT) STRICT";
+    round_puzzles (round, number) ON DELETE RESTRICT ON UPDATE RESTRICT) STRICT;
+CREATE TABLE testers (round TEXT NOT NULL REFERENCES rounds (id) ON DELETE CASCADE ON UPDATE CASCADE, name TEXT
+    NOT NULL REFERENCES people (name) ON DELETE RESTRICT ON UPDATE RESTRICT, PRIMARY KEY (round, name)) STRICT";
 
-/// A world of four people, two puzzles, two rounds, three answers and three protests.
+/// A world of four people, two puzzles, two rounds, three answers, three protests and a tester.
 pub(crate) const ROWS: &str = "\
 INSERT INTO people (name, pass, roles) VALUES ('ada', 'ada-key-1', 10), ('bob', 'bob-key-1', 2), ('eve',
     'eve-key-1', 8), ('rex', 'rex-key-1', 4);
@@ -42,7 +44,8 @@ INSERT INTO answers (entrant, round, number, token, n, moment, answer, verdict) 
     1777712401, '1234341221434321', 0), ('ada', 'r1', 1, 'k1', 1, 1777712402, '1', 65535), ('eve', 'r2', 1, 'k1', 1,
     1777714201, '', 1);
 INSERT INTO protests (entrant, round, token, number, body, ruling, points) VALUES ('eve', 'r1', 'w1', 1,
-    'unclear', 0, 0), ('ada', 'r1', 'w1', 1, 'wrong', 1, -1000), ('eve', 'r2', 'w1', 1, 'late', 2, 0)";
+    'unclear', 0, 0), ('ada', 'r1', 'w1', 1, 'wrong', 1, -1000), ('eve', 'r2', 'w1', 1, 'late', 2, 0);
+INSERT INTO testers (round, name) VALUES ('r1', 'rex')";
 
 /// A connection on which the statements were run.
 pub(crate) fn connection(

@@ -5,7 +5,7 @@ use hall_policy::{
     AnswerRow, Entry, Mode, Person, ProtestRow, PuzzleRow, PuzzleState, Round, RoundId, Ruling,
     ruling_points,
 };
-use hall_store::Store;
+use hall_store::ReadStore;
 use std::alloc::AllocGlobal;
 use std::process::Abort;
 
@@ -46,7 +46,7 @@ fn add_person(rt: &impl Abort, words: &mut String, person: &Person) {
     add_flag(rt, words, "entrant", person.roles.get().entrant);
 }
 
-fn add_people<S: Store>(rt: &(impl AllocGlobal + Abort), words: &mut String, store: &mut S) {
+fn add_people<S: ReadStore>(rt: &(impl AllocGlobal + Abort), words: &mut String, store: &mut S) {
     for name in NAMES {
         let found = store.person(rt.alloc(), &text(rt, name));
         if let Some(person) = found.expect(rt, "person") {
@@ -74,7 +74,7 @@ fn add_puzzle(rt: &(impl AllocGlobal + Abort), words: &mut String, row: &PuzzleR
     add(rt, words, state_word(&row.state));
 }
 
-fn add_puzzles<S: Store>(rt: &(impl AllocGlobal + Abort), words: &mut String, store: &mut S) {
+fn add_puzzles<S: ReadStore>(rt: &(impl AllocGlobal + Abort), words: &mut String, store: &mut S) {
     let rows = store.all_puzzles(rt.alloc()).expect(rt, "puzzles");
     for row in rows.as_slice() {
         add_puzzle(rt, words, row);
@@ -113,7 +113,7 @@ fn add_entry(rt: &(impl AllocGlobal + Abort), words: &mut String, entry: &Entry)
     add_number(rt, words, entry.points.get());
 }
 
-fn add_places<S: Store>(
+fn add_places<S: ReadStore>(
     rt: &(impl AllocGlobal + Abort),
     words: &mut String,
     store: &mut S,
@@ -122,6 +122,24 @@ fn add_places<S: Store>(
     let row = store.round(rt.alloc(), id).expect(rt, "round");
     for entry in row.expect(rt, "row").puzzles.as_slice() {
         add_entry(rt, words, entry);
+    }
+}
+
+/// The testers' line, in the order of the names, where the round has any.
+fn add_testers<S: ReadStore>(
+    rt: &(impl AllocGlobal + Abort),
+    words: &mut String,
+    store: &mut S,
+    id: &RoundId,
+) {
+    let names = store.testers_of(rt.alloc(), id).expect(rt, "testers");
+    if names.is_empty() {
+        return;
+    }
+    add_line(rt, words, "testers");
+    for name in NAMES {
+        let is_tester = names.iter().any(|it| it.as_str() == name);
+        add_flag(rt, words, name, is_tester);
     }
 }
 
@@ -136,7 +154,7 @@ fn add_answer(rt: &(impl AllocGlobal + Abort), words: &mut String, row: &AnswerR
     add_number(rt, words, u64::from(row.verdict.bits()));
 }
 
-fn add_answers<S: Store>(
+fn add_answers<S: ReadStore>(
     rt: &(impl AllocGlobal + Abort),
     words: &mut String,
     store: &mut S,
@@ -168,7 +186,7 @@ fn add_protest(rt: &(impl AllocGlobal + Abort), words: &mut String, row: &Protes
     add(rt, words, points.as_str());
 }
 
-fn add_protests<S: Store>(
+fn add_protests<S: ReadStore>(
     rt: &(impl AllocGlobal + Abort),
     words: &mut String,
     store: &mut S,
@@ -180,18 +198,19 @@ fn add_protests<S: Store>(
     }
 }
 
-fn add_rounds<S: Store>(rt: &(impl AllocGlobal + Abort), words: &mut String, store: &mut S) {
+fn add_rounds<S: ReadStore>(rt: &(impl AllocGlobal + Abort), words: &mut String, store: &mut S) {
     let rounds = store.rounds(rt.alloc()).expect(rt, "rounds");
     for round in rounds.as_slice() {
         add_round(rt, words, round);
         add_places(rt, words, store, &round.id);
+        add_testers(rt, words, store, &round.id);
         add_answers(rt, words, store, &round.id);
         add_protests(rt, words, store, &round.id);
     }
 }
 
 /// The people of a few names, and all puzzles, rounds, answers and protests.
-pub(crate) fn world_text<S: Store>(rt: &(impl AllocGlobal + Abort), store: &mut S) -> String {
+pub(crate) fn world_text<S: ReadStore>(rt: &(impl AllocGlobal + Abort), store: &mut S) -> String {
     let mut words = String::new(rt.alloc());
     add_people(rt, &mut words, store);
     add_puzzles(rt, &mut words, store);

@@ -1,6 +1,5 @@
 use Rattle.std.proofs.Common.{inl, inr, sym, subst}
 use Rattle.sqlite.specs.Given.{Advances}
-use Rattle.sqlite.specs.Held.{state}
 use Rattle.hall_sql.proofs.CauseLemmas.{fails_as}
 use Rattle.hall_sql.proofs.feed.step.Goals as goal
 

@@ -7,14 +7,26 @@ pub returns-in-Ok-over-clause-starts : goal.returns-in-Ok-over-clause-starts
 returns-in-Ok-over-clause-starts g c =
     starts _ (state g.S.Store c.in-Ok.conn) (state g.S.Store c.in-Ok-over.store) c.in-Ok.ensures.found c.in-Ok-over.ensures.adopted
 
-pub returns-in-Err-over-clause-cause : goal.returns-in-Err-over-clause-cause
-returns-in-Err-over-clause-cause g c = record {
+pub returns-then-is_old-clause-cause : goal.returns-then-is_old-clause-cause
+returns-then-is_old-clause-cause g c = record {
   was = c.in-Ok.conn;
   left = c.in-Err-over.field-0.conn;
   between = c.open.new.self;
   opened = c.in-Ok.ensures.opened;
   found = c.in-Ok.ensures.found;
   declined = c.in-Err-over.ensures.declined;
-  cause = c.in-Err-over.ensures.cause;
+  cause = λ clean. search rules;
+  closed = search rules;
+}
+
+pub returns-else-is_old-clause-cause : goal.returns-else-is_old-clause-cause
+returns-else-is_old-clause-cause g c = record {
+  was = c.in-Ok.conn;
+  left = c.in-Err-over.field-0.conn;
+  between = c.open.new.self;
+  opened = c.in-Ok.ensures.opened;
+  found = c.in-Ok.ensures.found;
+  declined = c.in-Err-over.ensures.declined;
+  cause = λ clean. (search rules, c.in-Err-over.ensures.cause clean);
   closed = search rules;
 }

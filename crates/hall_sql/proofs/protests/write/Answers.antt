@@ -1,24 +1,4 @@
-use Rattle.std.proofs.Common.{rules, w32, FitsSigned}
-use Rattle.std.proofs.lemmas.Int.{to_z-of_z}
 use Rattle.hall_sql.proofs.protests.write.Goals as goal
 
 pub returns-clause-runs : goal.returns-clause-runs
-returns-clause-runs g c =
-    let fits : FitsSigned w32 c.points_of.result = search rules in
-    rw (
-      c.params-to_sql.ensures,
-      c.params-to_sql-2.ensures,
-      c.params-to_sql-3.ensures,
-      c.params-to_sql-4.ensures,
-      c.params-to_sql-5.ensures,
-      c.params-to_sql-6.ensures,
-      c.params-to_sql-7.ensures,
-      c.as_str.ensures.text,
-      c.as_str-2.ensures.text,
-      c.as_str-3.ensures.text,
-      c.as_str-4.ensures.text,
-      c.get.ensures.value,
-      c.ruling_code.ensures,
-      to_z-of_z w32 c.points_of.result fits,
-      c.points_of.ensures.value,
-    ) at c.run.ensures.runs
+returns-clause-runs g c = rw c.columns.ensures at c.run.ensures.runs

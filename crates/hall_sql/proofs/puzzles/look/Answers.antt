@@ -10,16 +10,23 @@ use Rattle.hall_sql.proofs.PuzzleWrites.{puzzle_looked}
 use Rattle.sqlite.specs.declared.types.Value.TheVariants.{Text}
 use Rattle.hall_sql.specs.Statements.{look_puzzle_text}
 use Rattle.hall_sql.proofs.CauseLemmas.{fails_as}
+use Rattle.hall_sql.proofs.StoreLemmas.{over_hall, rested_hall}
 use Rattle.hall_sql.proofs.AskedLemmas.{asked_cause}
 use Rattle.hall_sql.proofs.Written.{look_puzzle_asked}
 use Rattle.hall_sql.proofs.puzzles.look.Goals as goal
 
-pub ask-requires-clause-plain : goal.ask-requires-clause-plain
-ask-requires-clause-plain g c = look_puzzle_is.2
+pub ask-requires : goal.ask-requires
+ask-requires g c = record { plain = over_hall c.requires.hall look_puzzle_is.2 }
+
+pub returns-clause-rested : goal.returns-clause-rested
+returns-clause-rested g c = rested_hall c.requires.hall c.ask.ensures.rested
+
+pub returns-in_err-ask-clause-rested : goal.returns-in_err-ask-clause-rested
+returns-in_err-ask-clause-rested g c = rested_hall c.requires.hall c.ask.ensures.rested
 
 pub returns-clause-found : goal.returns-clause-found
 returns-clause-found g c clean =
-    let rested = c.ask.ensures.rested in
+    let rested = rested_hall c.requires.hall c.ask.ensures.rested in
     let opens = c.in_ok-ask.ensures.serves clean in
     let was : HasCleanDisk (state g.S.Store c.args.conn.now) = omega (arith, rested.follows.lasts.clean, clean) in
     let opened = rested.follows.opened clean opens in
@@ -32,7 +39,7 @@ pub returns-in_err-ask-clause-cause : goal.returns-in_err-ask-clause-cause
 returns-in_err-ask-clause-cause g c clean =
     let old = state g.S.Store c.args.conn.now in
     let key = c.args.key.now in
-    let was : HasCleanDisk old = omega (arith, c.ask.ensures.rested.follows.lasts.clean, clean) in
+    let was : HasCleanDisk old = omega (arith, (rested_hall c.requires.hall c.ask.ensures.rested).follows.lasts.clean, clean) in
     fails_as c.from_residual.result _ _ c.from_residual.ensures.1 (λ failed.
     let it = rw (c.params-to_sql.ensures, c.params-to_sql-2.ensures, c.as_str.ensures.text, c.as_str-2.ensures.text) at (c.in_err-ask.ensures.cause clean failed) in
     asked_cause look_puzzle_text (Text key.author ∷ Text key.label ∷ []) old (state g.S.Store c.ask.new.conn) it.0 (look_puzzle_asked key.author key.label)

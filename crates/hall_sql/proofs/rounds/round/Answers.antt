@@ -5,33 +5,57 @@ use Rattle.sqlite.specs.declared.types.Value.TheVariants.{Text}
 use Rattle.sqlite.specs.Effect.{Database}
 use Rattle.sqlite.specs.Held.{state}
 use Rattle.sqlite.specs.State.{HasCleanDisk}
-use Rattle.hall_sql.specs.Rows.{place_in, world_of}
+use Rattle.hall_sql.specs.Places.{AreListed}
+use Rattle.hall_sql.specs.Rows.{place_in, tester_in, world_of}
 use Rattle.hall_sql.specs.Cause.{HasNoRound}
-use Rattle.hall_sql.specs.Statements.{head_text, places_of_text}
+use Rattle.hall_sql.specs.Statements.{head_text, places_of_text, testers_of_text}
 use Rattle.hall_sql.proofs.CauseLemmas.{fails_as}
 use Rattle.hall_sql.proofs.HeadTexts.{head_asked}
 use Rattle.hall_sql.proofs.ReadCauseLemmas.{after_shown}
 use Rattle.hall_sql.proofs.RoundQueries.{places_of_asked}
 use Rattle.hall_sql.proofs.RoundRows.{none_right}
-use Rattle.hall_sql.proofs.StoreLemmas.{always, served_so}
+use Rattle.hall_sql.proofs.StoreLemmas.{always, rests_on, served_so}
+use Rattle.hall_sql.proofs.TesterTexts.{testers_of_asked}
 use Rattle.hall_sql.proofs.rounds.round.Goals as goal
+
+pub returns-clause-rested : goal.returns-clause-rested
+returns-clause-rested g c =
+    rests_on (state g.S.Store c.args.conn.now) (state g.S.Store c.places_of.new.conn) _
+    (rests_on (state g.S.Store c.args.conn.now) (state g.S.Store c.head.new.conn) _ c.head.ensures.rested c.places_of.ensures.rested) c.testers_of.ensures.rested
+
+pub returns-in_err-names-clause-rested : goal.returns-in_err-names-clause-rested
+returns-in_err-names-clause-rested g c =
+    rests_on (state g.S.Store c.args.conn.now) (state g.S.Store c.places_of.new.conn) _
+    (rests_on (state g.S.Store c.args.conn.now) (state g.S.Store c.head.new.conn) _ c.head.ensures.rested c.places_of.ensures.rested) c.testers_of.ensures.rested
 
 pub returns-clause-served : goal.returns-clause-served
 returns-clause-served g c =
-    let mid = state g.S.Store c.head.new.conn in
-    let new = state g.S.Store c.places_of.new.conn in
-    served_so new c.row_of.result _ (λ clean. (c.in_ok-places.ensures.served clean).0)
+    let headed = state g.S.Store c.head.new.conn in
+    let listed = state g.S.Store c.places_of.new.conn in
+    let new = state g.S.Store c.testers_of.new.conn in
+    served_so new c.row_of.result _ (λ clean. (c.in_ok-names.ensures.served clean).0)
     (λ clean.
-    let rested = c.places_of.ensures.rested in
-    let places = c.in_ok-places.ensures.served clean in
-    let was : HasCleanDisk mid = omega (arith, rested.follows.lasts.clean, clean) in
-    let head = (c.in_ok-head.ensures.served was).1 ∙ ap (λ (d : Database). get (world_of d.trees).rounds c.args.id.now) (sym (rested.same clean places.0)) in
-    c.row_of.ensures.row (world_of new.now.trees) c.args.id.now head places.1.whole)
+    let names = c.in_ok-names.ensures.served clean in
+    let late : HasCleanDisk listed = omega (arith, c.testers_of.ensures.rested.follows.lasts.clean, clean) in
+    let places = c.in_ok-places.ensures.served late in
+    let was : HasCleanDisk headed = omega (arith, c.places_of.ensures.rested.follows.lasts.clean, late) in
+    let same : new.now ≡ listed.now = c.testers_of.ensures.rested.same clean names.0 in
+    let first : new.now ≡ headed.now = same ∙ c.places_of.ensures.rested.same late places.0 in
+    let head = (c.in_ok-head.ensures.served was).1 ∙ ap (λ (d : Database). get (world_of d.trees).rounds c.args.id.now) (sym first) in
+    let list = subst (λ (d : Database). AreListed (world_of d.trees) c.args.id.now c.in_ok-places.places.items) (sym same) places.1 in
+    c.row_of.ensures.row (world_of new.now.trees) c.args.id.now head list.whole names.1)
 
 pub returns-clause-whole : goal.returns-clause-whole
 returns-clause-whole g c clean =
-    let was : HasCleanDisk (state g.S.Store c.head.new.conn) = omega (arith, c.places_of.ensures.rested.follows.lasts.clean, clean) in
-    always c.row_of.result _ (c.head.new.conn, c.in_ok-head.ensures.whole was, c.in_ok-places.ensures.whole clean)
+    let late : HasCleanDisk (state g.S.Store c.places_of.new.conn) = omega (arith, c.testers_of.ensures.rested.follows.lasts.clean, clean) in
+    let was : HasCleanDisk (state g.S.Store c.head.new.conn) = omega (arith, c.places_of.ensures.rested.follows.lasts.clean, late) in
+    always c.row_of.result _ (record {
+      headed = c.head.new.conn;
+      listed = c.places_of.new.conn;
+      head = c.in_ok-head.ensures.whole was;
+      places = c.in_ok-places.ensures.whole late;
+      testers = c.in_ok-names.ensures.whole clean;
+    })
 
 pub returns-in_err-head-clause-cause : goal.returns-in_err-head-clause-cause
 returns-in_err-head-clause-cause g c clean =
@@ -52,20 +76,47 @@ returns-in_err-places-clause-cause g c clean =
     (c.requires.hall.settled was opens).1 (head_asked id).plain (places_of_asked id).plain rested.follows.lasts.counts whole.rows whole.shown
     (c.in_err-places.ensures.cause clean failed))))
 
+pub returns-in_err-names-clause-cause : goal.returns-in_err-names-clause-cause
+returns-in_err-names-clause-cause g c clean =
+    let old = state g.S.Store c.args.conn.now in
+    let headed = state g.S.Store c.head.new.conn in
+    let listed = state g.S.Store c.places_of.new.conn in
+    let new = state g.S.Store c.testers_of.new.conn in
+    let id = c.args.id.now in
+    let first = c.head.ensures.rested in
+    let second = c.places_of.ensures.rested in
+    let last : HasCleanDisk listed = omega (arith, c.testers_of.ensures.rested.follows.lasts.clean, clean) in
+    let late : HasCleanDisk headed = omega (arith, second.follows.lasts.clean, last) in
+    let was : HasCleanDisk old = omega (arith, first.follows.lasts.clean, late) in
+    let opened = second.follows.opened last (c.in_ok-places.ensures.served last).0 in
+    let opens = first.follows.opened late opened in
+    let head = c.in_ok-head.ensures.whole late in
+    let places = c.in_ok-places.ensures.whole last in
+    fails_as c.from_residual-in_err-names.result _ _ c.from_residual-in_err-names.ensures.1 (λ failed.
+    inr (inr (inl (after_shown tester_in head_text (Text id ∷ []) testers_of_text (Text id ∷ []) old headed new
+    (c.requires.hall.settled was opens).1 (head_asked id).plain (testers_of_asked id).plain first.follows.lasts.counts head.rows head.shown
+    (after_shown tester_in places_of_text (Text id ∷ []) testers_of_text (Text id ∷ []) headed listed new
+    (first.tabled.settled late opened).1 (places_of_asked id).plain (testers_of_asked id).plain second.follows.lasts.counts places.rows places.shown
+    (c.in_err-names.ensures.cause clean failed))))))
+
 pub returns-clause-cause : goal.returns-clause-cause
 returns-clause-cause g c clean =
     let old = state g.S.Store c.args.conn.now in
-    let mid = state g.S.Store c.head.new.conn in
-    let new = state g.S.Store c.places_of.new.conn in
+    let headed = state g.S.Store c.head.new.conn in
+    let listed = state g.S.Store c.places_of.new.conn in
+    let new = state g.S.Store c.testers_of.new.conn in
     let id = c.args.id.now in
-    let rested = c.places_of.ensures.rested in
-    let places = c.in_ok-places.ensures.served clean in
-    let was : HasCleanDisk mid = omega (arith, rested.follows.lasts.clean, clean) in
+    let names = c.in_ok-names.ensures.served clean in
+    let late : HasCleanDisk listed = omega (arith, c.testers_of.ensures.rested.follows.lasts.clean, clean) in
+    let places = c.in_ok-places.ensures.served late in
+    let was : HasCleanDisk headed = omega (arith, c.places_of.ensures.rested.follows.lasts.clean, late) in
     let served = c.in_ok-head.ensures.served was in
-    let same : new.now ≡ mid.now = rested.same clean places.0 in
-    let first : new.now ≡ old.now = same ∙ c.head.ensures.rested.same was served.0 in
-    let head = served.1 ∙ ap (λ (d : Database). get (world_of d.trees).rounds id) (sym same) in
+    let same : new.now ≡ listed.now = c.testers_of.ensures.rested.same clean names.0 in
+    let second : new.now ≡ headed.now = same ∙ c.places_of.ensures.rested.same late places.0 in
+    let first : new.now ≡ old.now = second ∙ c.head.ensures.rested.same was served.0 in
+    let head = served.1 ∙ ap (λ (d : Database). get (world_of d.trees).rounds id) (sym second) in
+    let list = subst (λ (d : Database). AreListed (world_of d.trees) id c.in_ok-places.places.items) (sym same) places.1 in
     IfErr-weaker c.row_of.result _ _ (λ fault none failed.
-    inr (inr (subst (λ (d : Database). HasNoRound (world_of d.trees) id) first
-    (none_right (world_of new.now.trees) id c.in_ok-places.places.items places.1 _ (sym head) (none failed)))))
+    inr (inr (inr (subst (λ (d : Database). HasNoRound (world_of d.trees) id) first
+    (none_right (world_of new.now.trees) id c.in_ok-places.places.items c.in_ok-names.names.items list names.1 _ (sym head) (none failed))))))
     c.row_of.ensures.none

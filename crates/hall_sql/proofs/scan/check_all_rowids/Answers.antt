@@ -6,7 +6,21 @@ use Rattle.hall_sql.proofs.LastLemmas.{last_then}
 use Rattle.hall_sql.specs.declared.tables.HallTable.TheVariants.{People}
 use Rattle.hall_sql.proofs.ScanLemmas.{scanned_next}
 use Rattle.hall_sql.proofs.ScanCauseLemmas.{scan_cause}
+use Rattle.std.proofs.Common.{get_or, sym, subst}
+use Rattle.std.proofs.lemmas.List.Elements.{All-from_recursion}
+use Rattle.sqlite.specs.Effect.{Database}
+use Rattle.hall_sql.specs.Versions.{HasTable}
 use Rattle.hall_sql.proofs.scan.check_all_rowids.Goals as goal
+
+pub check_rowids-requires : goal.check_rowids-requires
+check_rowids-requires g c = record {
+  schema = λ clean.
+      let old = state g.S.Store c.args.conn.now in
+      let so = c.loop-table.invariant in
+      let was : HasCleanDisk old = omega (arith, so.0.clean, clean) in
+      subst (λ (d : Database). HasTable d.schema (get_or c.args.tables.now c.loop-table.table-index People)) (sym (so.1 clean).left.now_is)
+      (All-from_recursion (HasTable c.args.conn.now.schema) c.args.tables.now (c.requires.schema was) c.loop-table.table-index People c.loop-table-test.true);
+}
 
 pub returns-in_err-check_rowids-clause-cause : goal.returns-in_err-check_rowids-clause-cause
 returns-in_err-check_rowids-clause-cause g c clean =

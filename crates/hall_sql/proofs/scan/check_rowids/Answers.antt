@@ -1,9 +1,9 @@
-use Rattle.std.proofs.Common.{rules, arith, [], ◌∷◌, ◌≡◌, ◌∙◌, Some, None, refl, sym, ap, subst}
+use Rattle.std.proofs.Common.{rules, arith, [], ◌∷◌, ◌≡◌, ◌∙◌, Some, None, refl, sym, subst}
 use Rattle.sqlite.specs.Effect.{Database}
 use Rattle.sqlite.specs.Held.{state}
 use Rattle.sqlite.specs.State.{HasCleanDisk, IsUnchanged}
 use Rattle.sqlite.proofs.Callers.{unchanged_then}
-use Rattle.hall_sql.specs.Tables.{hall_schema}
+use Rattle.hall_sql.specs.Versions.{HasTable}
 use Rattle.hall_sql.specs.Standing.{AreKeyed}
 use Rattle.hall_sql.specs.Statements.{rowids_text}
 use Rattle.hall_sql.specs.Scan.{tree_of, Scanned}
@@ -43,7 +43,7 @@ returns-in_default-clause-scanned g c clean =
     let so = c.scan.invariant.2 mid in
     let none : c.in_ok-id.field-0 ≡ None = search rules in
     let it = subst (Scanned g.S.Store c.scan.rows.conn.now c.next_id.new.rows.conn.now c.scan.last) none (c.in_ok-id.ensures.scanned late) in
-    let has : c.scan.rows.conn.now.schema ≡ hall_schema = ap (λ (d : Database). d.schema) so.0.0.now_is ∙ c.requires.schema was in
+    let has = subst (λ (d : Database). HasTable d.schema c.args.table) (sym so.0.0.now_is) (c.requires.schema was) in
     let keyed = scanned_end g.S.Store c.args.table c.scan.rows.conn.now c.next_id.new.rows.conn.now c.scan.last has so.1 it.1 in
     let first = subst (λ (d : Database). AreKeyed (d.trees (tree_of c.args.table))) so.0.0.now_is keyed in
     (subst (λ h. IsUnchanged old (state g.S.Store h)) (sym same) (unchanged_then old before after so.0 it.0), first)
@@ -85,7 +85,7 @@ returns-in_err-id-clause-cause g c clean =
     let mid : HasCleanDisk before = omega (arith, c.next_id.ensures.lasts.clean, late) in
     let was : HasCleanDisk old = omega (arith, c.scan.invariant.1.clean, mid) in
     let so = c.scan.invariant.2 mid in
-    let has : c.scan.rows.conn.now.schema ≡ hall_schema = ap (λ (d : Database). d.schema) so.0.0.now_is ∙ c.requires.schema was in
+    let has = subst (λ (d : Database). HasTable d.schema c.args.table) (sym so.0.0.now_is) (c.requires.schema was) in
     fails_as c.from_residual.result _ _ c.from_residual.ensures.1 (λ failed.
     subst (λ h. ScanFails (c.args.table ∷ []) old (state g.S.Store h)) (sym same)
     (next_cause g.S.Store c.args.table old c.scan.rows.conn.now c.next_id.new.rows.conn.now c.scan.last c.scan.invariant.1 mid c.next_id.ensures.lasts

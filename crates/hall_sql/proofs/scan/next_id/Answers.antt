@@ -1,7 +1,6 @@
 use Rattle.std.proofs.Common.{rules, inr, ◌≡◌, true, false, sym, subst, ◌∙◌, to_z, of_z, w64}
 use Rattle.std.proofs.lemmas.Int.{to_z-of_z}
 use Rattle.sqlite.specs.Given.{Advances}
-use Rattle.sqlite.specs.Held.{state}
 use Rattle.hall_sql.specs.Scan.{IsAbove}
 use Rattle.hall_sql.proofs.ScanCauseLemmas.{unfit_unread}
 use Rattle.hall_sql.proofs.scan.next_id.Goals as goal

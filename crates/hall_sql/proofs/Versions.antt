@@ -1,0 +1,152 @@
+-- What is said of the hall's tables of either version.
+use Rattle.std.proofs.Common.{◌≡◌, inl, inr, ℕ, List, [], ◌∷◌, flat_map, map, Bool, true, false, ◌&&◌, Option, Some, option_to_list, IsTrue, Result, IfOk, refl, sym, subst, ◌∙◌}
+use Rattle.std.specs.Cmp.{IsTotalOrder}
+use Rattle.std.specs.declared.cmp.Ordering.{Ordering}
+use Rattle.std.specs.FinMap.{IsAntisymmetric, values}
+use Rattle.std.specs.List.{AllByRecursion, list_any}
+use Rattle.std.specs.List.Sorted.{IsPermutation}
+use Rattle.sqlite_schema.specs.declared.schema.Constraint.TheVariants.{Unique}
+use Rattle.sqlite_schema.specs.Rules.{agree, differ, passes}
+use Rattle.sqlite_trees.proofs.ListLemmas.{all_weaker, filter_all, all_of}
+use Rattle.sqlite_trees.specs.Tree.{rowid}
+use Rattle.sqlite_value.specs.Keys.{plain}
+use Rattle.sqlite_typing.specs.Types.{accepts_program}
+use Rattle.sqlite_value.specs.declared.keys.Key.{Key}
+use Rattle.sqlite.specs.Command.TheVariants.{Select}
+use Rattle.sqlite.specs.Effect.{IsDatabase}
+use Rattle.sqlite.specs.Listing.{understood, reads_listing}
+use Rattle.sqlite.specs.Order.{Row}
+use Rattle.sqlite.specs.Program.{overlay}
+use Rattle.sqlite.specs.Schema.{Schema}
+use Rattle.sqlite.specs.State.{State, HasCleanDisk, Shown}
+use Rattle.sqlite.specs.Table.{Table}
+use Rattle.sqlite.specs.Term.{Term, eval_all}
+use Rattle.sqlite.specs.Tree.{Trees}
+use Rattle.sqlite.proofs.Callers.{IsPlain, command_of}
+use Rattle.hall_policy.specs.World.{World}
+use Rattle.hall_store.specs.Store.{Served}
+use Rattle.hall_sql.specs.declared.tables.HallTable.{HallTable}
+use Rattle.hall_sql.specs.declared.tables.HallTable.TheVariants.{People, Puzzles, Rounds, Places, Answers, Protests, Testers}
+use Rattle.hall_sql.specs.Asked.{IsAskedIn, is_whole}
+use Rattle.hall_sql.specs.Made.{all_tables, old_tables, shape_of}
+use Rattle.hall_sql.specs.Rows.{columns_from, kept, world_of}
+use Rattle.hall_sql.specs.Scan.{tree_of}
+use Rattle.hall_sql.specs.Standing.{AreKeyed, AreKeyedIn, IsOver, RestedAny, content_of}
+use Rattle.hall_sql.specs.Statements.{plain_query}
+use Rattle.hall_sql.specs.Tables.{hall_schema, old_schema}
+use Rattle.hall_sql.specs.Versions.{IsVersion, IsAnyHall, HasTable}
+use Rattle.hall_sql.proofs.AskedLemmas.{asked}
+use Rattle.hall_sql.proofs.ListedLemmas.{by_order, values_asked}
+use Rattle.hall_sql.proofs.StoreLemmas.{told}
+use Rattle.hall_sql.proofs.UniqueLemmas.{first_not}
+
+-- what holds of each version's schema
+pub by_version : (P : Schema → Type 0) → P old_schema → P hall_schema → (schema : Schema) → IsVersion schema → P schema
+by_version P before now schema (inl is) = subst P (sym is) before
+by_version P before now schema (inr is) = subst P (sym is) now
+
+-- tables of a version are tables of a schema
+pub over_any : {Fits : Schema → Type 0} {s : State} → IsAnyHall s → ((schema : Schema) → IsVersion schema → Fits schema) → IsOver Fits s
+over_any hall fits = record { schema = hall.schema; tabled = hall.tabled; fits = fits hall.schema hall.fits }
+
+-- what a query over tables of a version tells has its meaning in the world that stays
+pub told_any : {R E : Type 0} (old new : State) (result : Result R E) (P : R → Type 0) (Means : World → R → Type 0) → IsAnyHall old → RestedAny old new
+    → (HasCleanDisk new → IfOk result P) → ((x : R) → P x → IsTrue new.is_open)
+    → ((x : R) → P x → IsTrue old.is_open → (schema : Schema) → IsVersion schema → old.now.schema ≡ schema → AreKeyedIn schema old.now.trees → Means (world_of old.now.trees) x)
+    → Served (content_of new) result Means
+told_any old new result P Means hall rested has serves means =
+    told {schema = hall.schema} old new result P Means hall.tabled (rested hall.schema hall.tabled) has serves
+    (λ x it clean opened is keyed. means x it opened hall.schema hall.fits is keyed)
+
+-- the table, in its tree
+abbrev pub table_at : HallTable → Table
+table_at table = record (shape_of table) { tree = tree_of table }
+
+-- a table of the schema is keyed
+abbrev Keyed : ℕ → Trees → Schema → Type 0
+Keyed tree trees schema = AreKeyedIn schema trees → AreKeyed (trees tree)
+
+pub keyed_in : (schema : Schema) (table : HallTable) (trees : Trees) → HasTable schema table → Keyed (tree_of table) trees schema
+keyed_in schema People trees = by_version (Keyed 0 trees) (λ k. k.0) (λ k. k.0) schema
+keyed_in schema Puzzles trees = by_version (Keyed 3 trees) (λ k. k.1.0) (λ k. k.1.0) schema
+keyed_in schema Rounds trees = by_version (Keyed 5 trees) (λ k. k.1.1.0) (λ k. k.1.1.0) schema
+keyed_in schema Places trees = by_version (Keyed 7 trees) (λ k. k.1.1.1.0) (λ k. k.1.1.1.0) schema
+keyed_in schema Answers trees = by_version (Keyed 9 trees) (λ k. k.1.1.1.1.0) (λ k. k.1.1.1.1.0) schema
+keyed_in schema Protests trees = by_version (Keyed 12 trees) (λ k. k.1.1.1.1.1.0) (λ k. k.1.1.1.1.1.0) schema
+keyed_in schema Testers trees = λ has. subst (Keyed 14 trees) (sym has) (λ k. k.1.1.1.1.1.1.0)
+
+-- another row has the columns of the row's primary key
+abbrev is_repeated : HallTable → List Row → Row → Bool
+is_repeated table rows row =
+    list_any (λ other. agree plain (shape_of table).primary other (shape_of table).primary row && differ (rowid other) (rowid row)) rows
+
+-- a table of the schema repeats no row
+abbrev IsUnique : HallTable → Trees → Schema → Type 0
+IsUnique table trees schema =
+    IsDatabase (record { schema = schema; trees = trees })
+    → AllByRecursion (λ row. is_repeated table (trees (tree_of table)) row ≡ false) (trees (tree_of table))
+
+from_rule : (schema : Schema) (table : HallTable) (trees : Trees)
+    → ((row : Row) → passes Unique schema trees (table_at table) row ≡ true → is_repeated table (trees (tree_of table)) row ≡ false)
+    → AllByRecursion (λ row. passes Unique schema trees (table_at table) row ≡ true) (trees (tree_of table))
+    → AllByRecursion (λ row. is_repeated table (trees (tree_of table)) row ≡ false) (trees (tree_of table))
+from_rule schema table trees weaker all = all_weaker _ _ weaker (trees (tree_of table)) all
+
+pub unique_in : (schema : Schema) (table : HallTable) (trees : Trees) → HasTable schema table → IsUnique table trees schema
+unique_in schema People trees =
+    by_version (IsUnique People trees) (λ d. from_rule old_schema People trees (λ row h. first_not _ _ h) (d.obeys.rules Unique).0)
+    (λ d. from_rule hall_schema People trees (λ row h. first_not _ _ h) (d.obeys.rules Unique).0) schema
+unique_in schema Puzzles trees =
+    by_version (IsUnique Puzzles trees) (λ d. from_rule old_schema Puzzles trees (λ row h. first_not _ _ h) (d.obeys.rules Unique).1.0)
+    (λ d. from_rule hall_schema Puzzles trees (λ row h. first_not _ _ h) (d.obeys.rules Unique).1.0) schema
+unique_in schema Rounds trees =
+    by_version (IsUnique Rounds trees) (λ d. from_rule old_schema Rounds trees (λ row h. first_not _ _ h) (d.obeys.rules Unique).1.1.0)
+    (λ d. from_rule hall_schema Rounds trees (λ row h. first_not _ _ h) (d.obeys.rules Unique).1.1.0) schema
+unique_in schema Places trees =
+    by_version (IsUnique Places trees) (λ d. from_rule old_schema Places trees (λ row h. first_not _ _ h) (d.obeys.rules Unique).1.1.1.0)
+    (λ d. from_rule hall_schema Places trees (λ row h. first_not _ _ h) (d.obeys.rules Unique).1.1.1.0) schema
+unique_in schema Answers trees =
+    by_version (IsUnique Answers trees) (λ d. from_rule old_schema Answers trees (λ row h. first_not _ _ h) (d.obeys.rules Unique).1.1.1.1.0)
+    (λ d. from_rule hall_schema Answers trees (λ row h. first_not _ _ h) (d.obeys.rules Unique).1.1.1.1.0) schema
+unique_in schema Protests trees =
+    by_version (IsUnique Protests trees) (λ d. from_rule old_schema Protests trees (λ row h. first_not _ _ h) (d.obeys.rules Unique).1.1.1.1.1.0)
+    (λ d. from_rule hall_schema Protests trees (λ row h. first_not _ _ h) (d.obeys.rules Unique).1.1.1.1.1.0) schema
+unique_in schema Testers trees = λ has.
+    subst (IsUnique Testers trees) (sym has) (λ d. from_rule hall_schema Testers trees (λ row h. first_not _ _ h) (d.obeys.rules Unique).1.1.1.1.1.1.0)
+
+-- What is computed of a text over a schema: it asks for all rows of the table in this tree, in this order.
+pub record AsksAll (text : List ℕ) (tree : ℕ) (project : List Term) (order : List (Term × Key)) (names : List (List ℕ)) (schema : Schema) : Type 0 where
+  pub is : command_of (understood schema text) ≡ Select (record { lets = []; body = plain_query tree [] project order }) names
+  pub unlisted : reads_listing schema text ≡ false
+  pub plain : IsPlain (understood schema text)
+  pub whole : is_whole text 0 (understood schema text) ≡ true
+  pub typed : accepts_program schema [] (plain_query tree [] project order) [] ≡ true
+
+module _ {text : List ℕ} {tree : ℕ} {project : List Term} {order : List (Term × Key)} {names : List (List ℕ)} {schema : Schema}
+    (all : AsksAll text tree project order names schema) where
+  pub asked_all : IsAskedIn text [] schema
+  asked_all = asked text [] tree [] project order names all.is all.unlisted all.plain all.whole all.typed
+
+  module _ {K X : Type 0} {R : K → K → Ordering} (total : IsTotalOrder R) (same : IsAntisymmetric R) (key : X → K)
+      (read : Row → Option X) (count : ℕ) (apart : (db : Trees) → overlay db [] tree ≡ db tree)
+      (shows : (r : Row) → eval_all project ([] ∷ r ∷ []) ≡ columns_from 1 count r)
+      (keyed : (a b : Row) (x y : X) → read (columns_from 1 count a) ≡ Some x → read (columns_from 1 count b) ≡ Some y
+      → by_order tree [] project order [] a b ≡ R (key x) (key y)) where
+    abbrev map_of : List Row → List X
+    map_of rows = values (kept R key (λ r. read (columns_from 1 count r)) rows)
+
+    -- the records of its answer are the map's values, where the table's are
+    pub all_listed : (old new : State) → old.now.schema ≡ schema
+        → IsPermutation (flat_map (λ r. option_to_list (read (columns_from 1 count r))) (old.now.trees tree)) (map_of (old.now.trees tree))
+        → (rows : List Row) (out : List X) → map read rows ≡ map Some out → Shown text [] old new rows → out ≡ map_of (old.now.trees tree)
+    all_listed old new has whole rows out is shown =
+        values_asked read count text [] tree [] project order names all.is all.unlisted all.plain apart shows
+        (λ _. true) (λ r x h. refl) old new rows out has shown is total same key whole keyed
+        ∙ filter_all (λ _. true) (map_of (old.now.trees tree)) (all_of (λ _. true ≡ true) (λ _. refl) _)
+
+-- each of these tables is in the schema
+pub all_there : (schema : Schema) → schema ≡ hall_schema → AllByRecursion (HasTable schema) all_tables
+all_there schema is = (inr is, (inr is, (inr is, (inr is, (inr is, (inr is, (is, tt)))))))
+
+pub old_there : (schema : Schema) → schema ≡ old_schema → AllByRecursion (HasTable schema) old_tables
+old_there schema is = (inl is, (inl is, (inl is, (inl is, (inl is, (inl is, tt))))))

@@ -1,0 +1,7 @@
+use Rattle.hall_sql.proofs.sql_store.SqlStoreReadStore.round.Goals as goal
+
+pub returns-clause-whole : goal.returns-clause-whole
+returns-clause-whole g c = rw (← c.self.view_is) c.round.ensures.whole
+
+pub returns-clause-cause : goal.returns-clause-cause
+returns-clause-cause g c = rw (← c.self.view_is) c.round.ensures.cause

@@ -1,0 +1,20 @@
+use Rattle.std.proofs.Common.{[]}
+use Rattle.sqlite.specs.Held.{state}
+use Rattle.hall_sql.specs.Cause.{AreRead}
+use Rattle.hall_sql.specs.Rows.{tester_in}
+use Rattle.hall_sql.specs.Statements.{all_testers_text}
+use Rattle.hall_sql.proofs.StoreLemmas.{told}
+use Rattle.hall_sql.proofs.TesterListings.{all_testers_listed}
+use Rattle.hall_sql.proofs.TesterTexts.{all_testers_are}
+use Rattle.hall_sql.proofs.Versions.{asked_all}
+use Rattle.hall_sql.proofs.testers.all_testers.Goals as goal
+
+pub read-requires-clause-asks : goal.read-requires-clause-asks
+read-requires-clause-asks g c = asked_all all_testers_are
+
+pub returns-clause-served : goal.returns-clause-served
+returns-clause-served g c =
+    told (state g.S.Store c.args.conn.now) (state g.S.Store c.read.new.conn) c.read.result (λ out. AreRead tester_in all_testers_text [] (state g.S.Store c.args.conn.now) (state g.S.Store c.read.new.conn) out.items) _ c.requires.hall c.read.ensures.rested
+    c.read.ensures.read (λ out it. it.0)
+    (λ out it clean opened has keyed. all_testers_listed _ (state g.S.Store c.read.new.conn) has keyed.1.1.1.1.1.1.0 (c.schema-schema.ensures.live opened).0
+    it.1.rows out.items it.1.reads it.1.shown)

@@ -1,0 +1,147 @@
+//! Empty tables, filled with the records of others.
+ghost use Rattle.std.specs.Prelude.{◌≡◌, IsTrue, OnOk, OnErr};
+ghost use Rattle.sqlite.specs.Held.{state};
+ghost use Rattle.sqlite.specs.State.{HasCleanDisk};
+ghost use Rattle.hall_policy.specs.Sink.{HasTaken};
+ghost use Rattle.hall_policy.specs.World.{World};
+ghost use Rattle.hall_store.specs.Store.{Leads};
+ghost use Rattle.hall_sql.specs.Fill.{Fills, WithAnswer, WithPerson, WithPlace, WithProtest, WithPuzzle, WithRound};
+ghost use Rattle.hall_sql.specs.Inside.{Carries, Did, Worlds};
+ghost use Rattle.hall_sql.specs.Rows.{world_of};
+ghost use Rattle.hall_sql.specs.Standing.{IsHall, Rested, content_of};
+
+use crate::calls::fault_of;
+use crate::people::add_person;
+use crate::record::Place;
+use crate::round_writes::{put_new, put_place};
+use crate::rows::Rows;
+use crate::{answers, protests, puzzles};
+use hall_policy::{AnswerRow, Person, ProtestRow, PuzzleRow, Round};
+use hall_store::StoreFault;
+use sqlite::{Alter, Connection, Transaction};
+use std::alloc::Global;
+
+/// A record that is added to its table.
+pub(crate) trait Added: Sized {
+    // The world before, the record, the world after.
+    ghost adds: { World → Self → World → Type 0 };
+
+    /// Adds it under a new key, inside a transaction.
+    fn add<S: Alter>(&self, tx: &mut Transaction<'_, S>, alloc: Global) -> Result<(), StoreFault>
+        ensures same_reference { tx.new.conn.ghost_name ≡ tx.old.conn.ghost_name }
+        ensures carries { Carries (state S.Store tx.old.conn.now) (state S.Store tx.new.conn.now) }
+        ensures done { HasCleanDisk (state S.Store tx.new.conn.now)
+            → IsTrue (state S.Store tx.old.conn.now).in_transaction
+            → OnOk result (Did (Worlds (λ a b. adds a self.now b)) (state S.Store tx.old.conn.now)
+            (state S.Store tx.new.conn.now)) };
+}
+
+impl Added for Person {
+    ghost adds = { WithPerson };
+
+    fn add<S: Alter>(&self, tx: &mut Transaction<'_, S>, alloc: Global) -> Result<(), StoreFault> {
+        add_person(tx, self)
+    }
+}
+
+impl Added for PuzzleRow {
+    ghost adds = { WithPuzzle };
+
+    fn add<S: Alter>(&self, tx: &mut Transaction<'_, S>, alloc: Global) -> Result<(), StoreFault> {
+        puzzles::add_inside(tx, alloc, self)
+    }
+}
+
+impl Added for Round {
+    ghost adds = { WithRound };
+
+    fn add<S: Alter>(&self, tx: &mut Transaction<'_, S>, alloc: Global) -> Result<(), StoreFault> {
+        put_new(tx, self)
+    }
+}
+
+impl Added for Place {
+    ghost adds = { WithPlace };
+
+    fn add<S: Alter>(&self, tx: &mut Transaction<'_, S>, alloc: Global) -> Result<(), StoreFault> {
+        put_place(tx, &self.0.round, self.0.number.get() as u32, &self.1)
+    }
+}
+
+impl Added for AnswerRow {
+    ghost adds = { WithAnswer };
+
+    fn add<S: Alter>(&self, tx: &mut Transaction<'_, S>, alloc: Global) -> Result<(), StoreFault> {
+        answers::add_inside(tx, self)
+    }
+}
+
+impl Added for ProtestRow {
+    ghost adds = { WithProtest };
+
+    fn add<S: Alter>(&self, tx: &mut Transaction<'_, S>, alloc: Global) -> Result<(), StoreFault> {
+        protests::add_inside(tx, self)
+    }
+}
+
+/// Adds them, one after another.
+fn add_each<S: Alter, T: Added>(
+    tx: &mut Transaction<'_, S>,
+    alloc: Global,
+    records: &[T],
+) -> Result<(), StoreFault>
+    ensures same_reference { tx.new.conn.ghost_name ≡ tx.old.conn.ghost_name }
+    ensures carries { Carries (state S.Store tx.old.conn.now) (state S.Store tx.new.conn.now) }
+    ensures done { HasCleanDisk (state S.Store tx.new.conn.now) → IsTrue (state S.Store tx.old.conn.now).in_transaction
+        → OnOk result (Did (Worlds (λ a b. HasTaken T.adds a records.now b)) (state S.Store tx.old.conn.now)
+        (state S.Store tx.new.conn.now)) }
+{
+    for record in records {
+        record.add(tx, alloc)?;
+    }
+    Ok(())
+}
+
+/// Adds all records, each after those to which it refers.
+fn fill_inside<S: Alter>(
+    tx: &mut Transaction<'_, S>,
+    alloc: Global,
+    rows: &Rows,
+) -> Result<(), StoreFault>
+    ensures same_reference { tx.new.conn.ghost_name ≡ tx.old.conn.ghost_name }
+    ensures carries { Carries (state S.Store tx.old.conn.now) (state S.Store tx.new.conn.now) }
+    ensures done { HasCleanDisk (state S.Store tx.new.conn.now) → IsTrue (state S.Store tx.old.conn.now).in_transaction
+        → OnOk result (Did (Worlds (Fills rows.now)) (state S.Store tx.old.conn.now) (state S.Store tx.new.conn.now)) }
+{
+    add_each(tx, alloc, rows.people.as_slice())?;
+    add_each(tx, alloc, rows.puzzles.as_slice())?;
+    add_each(tx, alloc, rows.heads.as_slice())?;
+    add_each(tx, alloc, rows.places.as_slice())?;
+    add_each(tx, alloc, rows.answers.as_slice())?;
+    add_each(tx, alloc, rows.protests.as_slice())?;
+    Ok(())
+}
+
+/// Adds all records to tables that have none: all of them or none.
+pub(crate) fn fill<S: Alter>(
+    conn: &mut Connection<S>,
+    alloc: Global,
+    rows: &Rows,
+) -> Result<(), StoreFault>
+    requires hall { IsHall (state S.Store conn.old) }
+    ensures hall { IsHall (state S.Store conn.new) }
+    ensures leads { Leads (content_of (state S.Store conn.old)) (content_of (state S.Store conn.new)) }
+    ensures filled { HasCleanDisk (state S.Store conn.new) → OnOk result (IsTrue (state S.Store conn.new).is_open
+        × Fills rows.now (world_of (state S.Store conn.old).now.trees) (world_of (state S.Store conn.new).now.trees)) }
+    ensures refused { OnErr result (Rested (state S.Store conn.old) (state S.Store conn.new)) }
+{
+    if !conn.is_autocommit() {
+        return Err(StoreFault::Failed);
+    }
+    let mut tx = conn.transaction();
+    fill_inside(&mut tx, alloc, rows)?;
+    match tx.commit() {
+        Ok(()) => Ok(()),
+        Err(error) => Err(fault_of(&error)),
+    }
+}

@@ -1,0 +1,114 @@
+//! A hall of the version before, taken whole into tables with testers.
+ghost use Rattle.std.specs.Prelude.{◌≡◌, IfOk};
+ghost use Rattle.std.specs.FinMap.{empty};
+ghost use Rattle.sqlite.specs.Held.{state};
+ghost use Rattle.hall_policy.specs.World.{World};
+ghost use Rattle.hall_store.specs.Store.{Served};
+ghost use Rattle.hall_sql.specs.Migrate.{IsFoundBeside, Leaves, Migrates, Takes, old_content_of};
+ghost use Rattle.hall_sql.specs.Standing.{IsHall, Rested, content_of};
+ghost use Rattle.hall_sql.specs.WholeRows.{AreRowsOf, IsEmptyIn};
+
+use crate::fill::fill;
+use crate::old_store::OldStore;
+use crate::rows::{Rows, read_rows};
+use crate::sql_store::SqlStore;
+use crate::testers::has_testers;
+use hall_store::StoreFault;
+use sqlite::{Alter, Connection};
+use std::alloc::Global;
+
+/// What became of the target.
+#[derive(Clone, Copy, Debug, PartialEq, Eq)]
+pub enum Migrated {
+    /// It holds the source's world, and so many rows were written.
+    Done(u64),
+    /// It holds another world, and is left.
+    Occupied,
+}
+
+/// What a target holds beside the rows that it is to take.
+#[derive(Clone, Copy)]
+enum Found {
+    Nothing,
+    These,
+    Others,
+}
+
+/// What the tables hold beside the rows.
+fn compare<T: Alter>(
+    conn: &mut Connection<T>,
+    alloc: Global,
+    rows: &Rows,
+) -> Result<Found, StoreFault>
+    requires hall { IsHall (state T.Store conn.old) }
+    ensures rested { Rested (state T.Store conn.old) (state T.Store conn.new) }
+    ensures served { Served (content_of (state T.Store conn.new)) result
+        (λ held found. IsFoundBeside rows.now held found) }
+{
+    let held = read_rows(conn, alloc)?;
+    if has_testers(conn, alloc)? {
+        Ok(Found::Others)
+    } else if held.is_empty() {
+        Ok(Found::Nothing)
+    } else if held.is_same(rows) {
+        Ok(Found::These)
+    } else {
+        Ok(Found::Others)
+    }
+}
+
+/// Fills tables that hold nothing.
+fn fill_counted<T: Alter>(
+    conn: &mut Connection<T>,
+    alloc: Global,
+    rows: &Rows,
+) -> Result<Migrated, StoreFault>
+    requires hall { IsHall (state T.Store conn.old) }
+    requires nothing { IsEmptyIn (state T.Store conn.old) }
+    ensures hall { IsHall (state T.Store conn.new) }
+    ensures leaves { Leaves (content_of (state T.Store conn.old)) (content_of (state T.Store conn.new)) result }
+    ensures takes { (world : World) → AreRowsOf world rows.now → world.testers ≡ empty
+        → Takes world (content_of (state T.Store conn.old)) (content_of (state T.Store conn.new)) result }
+{
+    match rows.count() {
+        Some(count) => {
+            fill(conn, alloc, rows)?;
+            Ok(Migrated::Done(count))
+        }
+        None => Err(StoreFault::Failed),
+    }
+}
+
+/// Puts the rows in tables that hold nothing, and tells of tables that hold these or others.
+pub(crate) fn take_rows<T: Alter>(
+    conn: &mut Connection<T>,
+    alloc: Global,
+    rows: &Rows,
+) -> Result<Migrated, StoreFault>
+    requires hall { IsHall (state T.Store conn.old) }
+    ensures hall { IsHall (state T.Store conn.new) }
+    ensures leaves { Leaves (content_of (state T.Store conn.old)) (content_of (state T.Store conn.new)) result }
+    ensures takes { (world : World) → AreRowsOf world rows.now → world.testers ≡ empty
+        → Takes world (content_of (state T.Store conn.old)) (content_of (state T.Store conn.new)) result }
+{
+    match compare(conn, alloc, rows)? {
+        Found::Nothing => fill_counted(conn, alloc, rows),
+        Found::These => Ok(Migrated::Done(0)),
+        Found::Others => Ok(Migrated::Occupied),
+    }
+}
+
+/// Takes the whole world of a hall of the version before into one that holds nothing, or that already.
+///
+/// The source is only read. Where the target holds another world it is left, and so it is after a fault.
+pub fn migrate<S: Alter + Drop, T: Alter + Drop>(
+    alloc: Global,
+    old: &mut OldStore<S>,
+    new: &mut SqlStore<T>,
+) -> Result<Migrated, StoreFault>
+    ensures { Migrates (old_content_of (state S.Store old.old)) (old_content_of (state S.Store old.new))
+        (content_of (state T.Store new.old)) (content_of (state T.Store new.new)) result }
+{
+    let rows = old.read_rows(alloc)?;
+    new.take_rows(alloc, &rows)
+}

@@ -1,0 +1,82 @@
+//! The tables of the version before, which had no testers.
+ghost use Rattle.std.specs.Prelude.{◌≡◌, IfOk, IfErr};
+ghost use Rattle.sqlite.specs.Held.{state};
+ghost use Rattle.sqlite.specs.State.{HasCleanDisk};
+ghost use Rattle.hall_store.specs.Store.{Kept, Served};
+ghost use Rattle.hall_store.specs.declared.fault.StoreFault.TheVariants.{Failed};
+ghost use Rattle.hall_sql.specs.AdoptCause.{AdoptOldFails};
+ghost use Rattle.hall_sql.specs.Migrate.{old_content_of};
+ghost use Rattle.hall_sql.specs.OldStore.{IsTaken};
+ghost use Rattle.hall_sql.specs.Standing.{HasDeclined, IsTabled};
+ghost use Rattle.hall_sql.specs.Tables.{old_schema};
+ghost use Rattle.hall_sql.specs.WholeRows.{AreRowsOf};
+
+use crate::adoption::adopt_old;
+use crate::rows::{Rows, read_rows};
+use crate::sql_store::Declined;
+use hall_store::StoreFault;
+use sqlite::{Alter, Connection};
+use std::alloc::Global;
+use std::marker::Model;
+
+/// The hall's world in the six tables that a hall of the version before kept, to be read.
+#[derive(Drop)]
+pub struct OldStore<S: Alter> {
+    conn: Connection<S>,
+}
+
+/// What became of a connection that may have the tables of the version before.
+#[derive(Drop)]
+pub enum Taken<S: Alter> {
+    /// It has them, and was taken over.
+    Old(OldStore<S>),
+    /// It has others, or none, and is handed back as it was.
+    Other(Connection<S>),
+}
+
+impl<S: Alter> Model for OldStore<S> {
+    ghost use Rattle.sqlite.specs.Held.{Held, held_code, state};
+    ghost use Rattle.hall_sql.specs.Standing.{IsTabled};
+    ghost use Rattle.hall_sql.specs.Tables.{old_schema};
+
+    ghost Value = { Held S };
+
+    ghost coded = { held_code S.code };
+
+    ghost view = { λ s. s.conn };
+
+    ghost invariant = { λ s. IsTabled old_schema (state S.Store s.conn) };
+}
+
+impl<S: Alter + Drop> OldStore<S> {
+    /// Takes over a connection with the tables of the version before. One with others, or one that is refused, is handed
+    /// back as it was.
+    pub fn over(mut conn: Connection<S>) -> Result<Taken<S>, Declined<S>>
+        ensures taken { IfOk result (IsTaken S.Store conn) }
+        ensures declined { IfErr result (λ declined. HasDeclined (state S.Store conn) (state S.Store declined.conn)) }
+        ensures cause { IfErr result (λ declined. HasCleanDisk (state S.Store declined.conn) → declined.fault ≡ Failed
+            → AdoptOldFails (state S.Store conn) (state S.Store declined.conn)) }
+    {
+        match adopt_old(&mut conn) {
+            Ok(true) => Ok(Taken::Old(OldStore { conn })),
+            Ok(false) => Ok(Taken::Other(conn)),
+            Err(fault) => Err(Declined { conn, fault }),
+        }
+    }
+
+    /// The connection, as the last call left it: no transaction is open.
+    pub fn into_connection(self) -> Connection<S>
+        ensures same { result ≡ self }
+        ensures old { IsTabled old_schema (state S.Store result) }
+    {
+        self.conn
+    }
+
+    /// All rows of the tables.
+    pub(crate) fn read_rows(&mut self, alloc: Global) -> Result<Rows, StoreFault>
+        ensures kept { Kept (old_content_of (state S.Store self.old)) (old_content_of (state S.Store self.new)) }
+        ensures served { Served (old_content_of (state S.Store self.new)) result (λ world rows. AreRowsOf world rows) }
+    {
+        read_rows(&mut self.conn, alloc)
+    }
+}

@@ -1,0 +1,190 @@
+//! The table of testers.
+ghost use Rattle.std.specs.Prelude.{◌≡◌, ◌↔◌, ◌⊎◌, false, [], ◌∷◌, map, AllPairs, IsTrue, IfOk, IfErr, OnOk};
+ghost use Rattle.std.specs.FinMap.{empty, entries};
+ghost use Rattle.sqlite.specs.Held.{state};
+ghost use Rattle.sqlite.specs.State.{HasCleanDisk};
+ghost use Rattle.sqlite.specs.declared.types.Value.TheVariants.{Text};
+ghost use Rattle.hall_store.specs.Store.{Served, Fails, AreTestersOf};
+ghost use Rattle.hall_store.specs.declared.fault.StoreFault.TheVariants.{Memory};
+ghost use Rattle.hall_sql.specs.Cause.{IsStoreCause, ReadFails};
+ghost use Rattle.hall_sql.specs.Inside.{Carries, Did};
+ghost use Rattle.hall_sql.specs.RoundColumns.{tester_params};
+ghost use Rattle.hall_sql.specs.RoundPuts.{DropsTesters, PutsTester, PutsTesters, PutsTesterList};
+ghost use Rattle.hall_sql.specs.Rows.{tester_in};
+ghost use Rattle.hall_sql.specs.Standing.{IsHall, Rested, content_of};
+ghost use Rattle.hall_sql.specs.Statements.{testers_of_text, drop_testers_text, add_tester_text};
+ghost use Rattle.hall_sql.specs.Testers.{AreNamed};
+ghost use Rattle.hall_sql.specs.Whole.{AreRecords};
+ghost use Rattle.hall_sql.specs.WriteCause.{RunFails, InsideFails, TesterIsRefused, TesterListIsRefused};
+
+use crate::calls::run_in;
+use crate::reads::read;
+use crate::record::Tester;
+use hall_policy::{Name, RoundId};
+use hall_store::StoreFault;
+use sqlite::{Alter, Connection, Transaction, params};
+use std::alloc::Global;
+
+const TESTERS_OF: &str = "SELECT round, name FROM testers WHERE round = ?1 ORDER BY name";
+
+/// The testers of the round under their keys, in the order of their names.
+fn keyed_testers<S: Alter>(
+    conn: &mut Connection<S>,
+    alloc: Global,
+    round: &RoundId,
+) -> Result<Vec<Tester>, StoreFault>
+    requires hall { IsHall (state S.Store conn.old) }
+    ensures rested { Rested (state S.Store conn.old) (state S.Store conn.new) }
+    ensures served { Served (content_of (state S.Store conn.new)) result
+        (λ world testers. AreNamed world round.now testers.items) }
+    ensures whole { HasCleanDisk (state S.Store conn.new) → IfOk result (λ _.
+        AreRecords tester_in testers_of_text (Text round.now ∷ []) (state S.Store conn.old)
+        (state S.Store conn.new)) }
+    ensures cause { HasCleanDisk (state S.Store conn.new) → Fails
+        (ReadFails tester_in testers_of_text (Text round.now ∷ []) (state S.Store conn.old)
+        (state S.Store conn.new)) result }
+{
+    let _schema = conn.schema();
+    read(conn, alloc, TESTERS_OF, params![round.as_str()])
+}
+
+/// The name of each tester.
+fn names_of(alloc: Global, testers: Vec<Tester>) -> Result<Vec<Name>, StoreFault>
+    ensures names { IfOk result (λ names. names.items ≡ map (λ tester. tester.0.name) testers.items) }
+    ensures memory { IfErr result (λ fault. fault ≡ Memory) }
+{
+    let mut names = Vec::new(alloc);
+    for (key, _) in testers {
+        if names.push(key.name).is_err() {
+            return Err(StoreFault::Memory);
+        }
+    }
+    Ok(names)
+}
+
+/// The names of the round's testers, in their order.
+pub(crate) fn testers_of<S: Alter>(
+    conn: &mut Connection<S>,
+    alloc: Global,
+    round: &RoundId,
+) -> Result<Vec<Name>, StoreFault>
+    requires hall { IsHall (state S.Store conn.old) }
+    ensures rested { Rested (state S.Store conn.old) (state S.Store conn.new) }
+    ensures served { Served (content_of (state S.Store conn.new)) result
+        (λ world names. AreTestersOf world round.now names.items) }
+    ensures whole { HasCleanDisk (state S.Store conn.new) → IfOk result (λ _.
+        AreRecords tester_in testers_of_text (Text round.now ∷ []) (state S.Store conn.old)
+        (state S.Store conn.new)) }
+    ensures cause { HasCleanDisk (state S.Store conn.new) → Fails
+        (ReadFails tester_in testers_of_text (Text round.now ∷ []) (state S.Store conn.old)
+        (state S.Store conn.new)) result }
+{
+    let testers = keyed_testers(conn, alloc, round)?;
+    names_of(alloc, testers)
+}
+
+const ALL_TESTERS: &str = "SELECT round, name FROM testers ORDER BY round, name";
+
+/// All testers under their keys, in the order of the keys.
+fn all_testers<S: Alter>(conn: &mut Connection<S>, alloc: Global) -> Result<Vec<Tester>, StoreFault>
+    requires hall { IsHall (state S.Store conn.old) }
+    ensures rested { Rested (state S.Store conn.old) (state S.Store conn.new) }
+    ensures served { Served (content_of (state S.Store conn.new)) result
+        (λ world testers. testers.items ≡ entries world.testers) }
+{
+    let _schema = conn.schema();
+    read(conn, alloc, ALL_TESTERS, &[])
+}
+
+/// Whether any round has testers.
+pub(crate) fn has_testers<S: Alter>(
+    conn: &mut Connection<S>,
+    alloc: Global,
+) -> Result<bool, StoreFault>
+    requires hall { IsHall (state S.Store conn.old) }
+    ensures rested { Rested (state S.Store conn.old) (state S.Store conn.new) }
+    ensures served { Served (content_of (state S.Store conn.new)) result
+        (λ world has. (has ≡ false) ↔ (world.testers ≡ empty)) }
+{
+    Ok(!all_testers(conn, alloc)?.is_empty())
+}
+
+const DROP_TESTERS: &str = "DELETE FROM testers WHERE round = ?1";
+
+/// Takes out the testers of the round.
+fn drop_testers<S: Alter>(tx: &mut Transaction<'_, S>, round: &RoundId) -> Result<(), StoreFault>
+    ensures same_reference { tx.new.conn.ghost_name ≡ tx.old.conn.ghost_name }
+    ensures carries { Carries (state S.Store tx.old.conn.now) (state S.Store tx.new.conn.now) }
+    ensures done { HasCleanDisk (state S.Store tx.new.conn.now) → IsTrue (state S.Store tx.old.conn.now).in_transaction
+        → OnOk result (Did (DropsTesters round.now) (state S.Store tx.old.conn.now)
+        (state S.Store tx.new.conn.now)) }
+    ensures cause { InsideFails (state S.Store tx.old.conn.now) (state S.Store tx.new.conn.now)
+        (RunFails drop_testers_text (Text round.now ∷ []) (state S.Store tx.old.conn.now)
+        (state S.Store tx.new.conn.now)) result }
+{
+    run_in(tx, DROP_TESTERS, params![round.as_str()])?;
+    Ok(())
+}
+
+const ADD_TESTER: &str = "INSERT INTO testers (round, name) VALUES (?1, ?2)";
+
+/// Stores that the person tests the round.
+fn put_tester<S: Alter>(
+    tx: &mut Transaction<'_, S>,
+    round: &RoundId,
+    name: &Name,
+) -> Result<(), StoreFault>
+    ensures same_reference { tx.new.conn.ghost_name ≡ tx.old.conn.ghost_name }
+    ensures carries { Carries (state S.Store tx.old.conn.now) (state S.Store tx.new.conn.now) }
+    ensures done { HasCleanDisk (state S.Store tx.new.conn.now) → IsTrue (state S.Store tx.old.conn.now).in_transaction
+        → OnOk result (Did (PutsTester round.now name.now) (state S.Store tx.old.conn.now)
+        (state S.Store tx.new.conn.now)) }
+    ensures cause { InsideFails (state S.Store tx.old.conn.now) (state S.Store tx.new.conn.now)
+        (RunFails add_tester_text (tester_params round.now name.now)
+        (state S.Store tx.old.conn.now) (state S.Store tx.new.conn.now)) result }
+{
+    run_in(tx, ADD_TESTER, params![round.as_str(), name.as_str()])?;
+    Ok(())
+}
+
+/// Stores the testers of a round that has none.
+fn put_testers<S: Alter>(
+    tx: &mut Transaction<'_, S>,
+    round: &RoundId,
+    names: &[Name],
+) -> Result<(), StoreFault>
+    requires different { AllPairs (λ a b. ¬ (a ≡ b)) names.now }
+    ensures same_reference { tx.new.conn.ghost_name ≡ tx.old.conn.ghost_name }
+    ensures carries { Carries (state S.Store tx.old.conn.now) (state S.Store tx.new.conn.now) }
+    ensures done { HasCleanDisk (state S.Store tx.new.conn.now) → IsTrue (state S.Store tx.old.conn.now).in_transaction
+        → OnOk result (Did (PutsTesters round.now names.now) (state S.Store tx.old.conn.now)
+        (state S.Store tx.new.conn.now)) }
+    ensures cause { InsideFails (state S.Store tx.old.conn.now) (state S.Store tx.new.conn.now)
+        (IsStoreCause (state S.Store tx.old.conn.now) (state S.Store tx.new.conn.now)
+        ⊎ TesterIsRefused round.now names.now (state S.Store tx.old.conn.now).now) result }
+{
+    for name in names {
+        put_tester(tx, round, name)?;
+    }
+    Ok(())
+}
+
+/// Stores the round's testers in the place of those before.
+pub(crate) fn put_tester_list<S: Alter>(
+    tx: &mut Transaction<'_, S>,
+    round: &RoundId,
+    names: &[Name],
+) -> Result<(), StoreFault>
+    requires different { AllPairs (λ a b. ¬ (a ≡ b)) names.now }
+    ensures same_reference { tx.new.conn.ghost_name ≡ tx.old.conn.ghost_name }
+    ensures carries { Carries (state S.Store tx.old.conn.now) (state S.Store tx.new.conn.now) }
+    ensures done { HasCleanDisk (state S.Store tx.new.conn.now) → IsTrue (state S.Store tx.old.conn.now).in_transaction
+        → OnOk result (Did (PutsTesterList round.now names.now) (state S.Store tx.old.conn.now)
+        (state S.Store tx.new.conn.now)) }
+    ensures cause { InsideFails (state S.Store tx.old.conn.now) (state S.Store tx.new.conn.now)
+        (IsStoreCause (state S.Store tx.old.conn.now) (state S.Store tx.new.conn.now)
+        ⊎ TesterListIsRefused round.now names.now (state S.Store tx.old.conn.now).now) result }
+{
+    drop_testers(tx, round)?;
+    put_testers(tx, round, names)
+}
