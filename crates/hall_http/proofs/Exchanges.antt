@@ -9,18 +9,18 @@ use Rattle.std.specs.Io.KnownBytes.{Appends, Consumes}
 use Rattle.hall_grid.specs.Device.{MadeCalls, Rises}
 use Rattle.hall_http.specs.Head.{IsRequest, IsWhole, IsUnfinished, NeverHas}
 use Rattle.hall_http.specs.Reading.{at_first, after_read, after_answer}
-use Rattle.hall_http.proofs.Readings.{one_call_more}
+use Rattle.hall_http.proofs.Readings.{one_call_more, session_more}
 use Rattle.httparse.specs.Grammar.{RequestHead}
 use Rattle.hall_http.specs.Device.{WritesPart, NoneFailed, WriteFailed}
 use Rattle.hall_http.specs.Inbox.{ReadsMore}
-use Rattle.hall_http.specs.Connection.{Exchange, Exchanged, Session, requests_of, replies_of, AreOpen, IsOpen, IsClosing, closes}
+use Rattle.hall_http.specs.Connection.{Exchange, Exchanged, Session, AreMoments, requests_of, replies_of, AreOpen, IsOpen, IsClosing, closes}
 use Rattle.hall_http.specs.Served.{IsHandled, Ended, IsNoRequest, MayGoOn, HaveRead, IsLastRequest, refusal}
 use Rattle.hall_http.specs.Sending.{Refuses, EndsInput}
 use Rattle.hall_http.specs.declared.connection.ServeEnd.{ServeEnd}
 use Rattle.hall_http.specs.declared.connection.ServeEnd.TheVariants as end
 use Rattle.hall_http.specs.declared.inbox.ReadFault.{ReadFault}
 use Rattle.hall_http.specs.declared.inbox.ReadFault.TheVariants as fault
-use Rattle.std.specs.Prelude.{Ok, Err, Bool, true, false}
+use Rattle.std.specs.Prelude.{Ok, Err, Bool, true, false, All}
 
 requests_more : (xs : List Exchange) (x : Exchange) → requests_of (xs ++ x ∷ []) ≡ requests_of xs ++ x.request
 requests_more xs x =
@@ -43,20 +43,21 @@ open_request request result (head, body, is) says stays = (head, body, is, sym (
 pub not_nil : (xs : List ℕ) → 0 < length xs → xs ≢ []
 not_nil xs some e = let z : length xs ≡ 0 = ap length e in omega arith
 
-module _ {H C : Type 0} (answers : H → Option ℕ → List ℕ → List ℕ → H → Type 0) (now_gives : C → Option ℕ → C → Type 0) where
-  session_more : (h : H) (c : C) (xs : List Exchange) (m : H) (n : C) (x : Exchange) (i : H) (d : C)
-      → Session answers now_gives h c xs m n → Exchanged answers now_gives m n x i d
-      → Session answers now_gives h c (xs ++ x ∷ []) i d
-  session_more h c [] m n x i d (same, clock) step = (i, d, rw (← same, ← clock) step, (refl, refl))
-  session_more h c (y ∷ ys) m n x i d (p, q, first, rest) step =
-      (p, q, first, session_more p q ys m n x i d rest step)
+-- a further moment is told
+moments_more : {C : Type 0} (now_gives : C → Option ℕ → C → Type 0) (c : C) (xs : List Exchange) (n : C) (x : Exchange) (d : C)
+    → AreMoments now_gives c xs n → now_gives n x.moment d → AreMoments now_gives c (xs ++ x ∷ []) d
+moments_more {C} now_gives c [] n x d same told = (d, subst (λ (n : C). now_gives n x.moment d) same told, refl)
+moments_more now_gives c (y ∷ ys) n x d (p, first, rest) told = (p, first, moments_more now_gives p ys n x d rest told)
 
+module _ {H C : Type 0} (answers : H → Option ℕ → List ℕ → List ℕ → H → Type 0) (now_gives : C → Option ℕ → C → Type 0) where
   -- after some turns: the requests answered, and what was read after them
   pub record Kept (stream after wrote written : Option (List ℕ)) (h : H) (c : C) (i : H) (d : C)
       (inbox : List ℕ) (requests reads asked asks : ℕ) : Type 0 where
     pub done : List Exchange
     pub count : length done ≡ requests
-    pub session : Session answers now_gives h c done i d
+    pub session : Session answers h done i
+    pub whole : All (λ x. IsWhole x.request) done
+    pub moments : AreMoments now_gives c done d
     pub consumed : Consumes stream after (requests_of done ++ inbox)
     pub reading : HaveRead done reads inbox
     pub made : MadeCalls reads asked asks
@@ -71,7 +72,9 @@ module _ {H C : Type 0} (answers : H → Option ℕ → List ℕ → List ℕ �
   kept_start stream wrote h c asked = record {
     done = [];
     count = refl;
-    session = (refl, refl);
+    session = refl;
+    whole = All-nil (λ x. IsWhole x.request);
+    moments = refl;
     consumed = Consumes-nil stream;
     reading = at_first;
     made = inl (omega arith);
@@ -94,6 +97,8 @@ module _ {H C : Type 0} (answers : H → Option ℕ → List ℕ → List ℕ �
           done = kept.done;
           count = kept.count;
           session = kept.session;
+          whole = kept.whole;
+          moments = kept.moments;
           consumed = rw all (Consumes-trans stream after then (requests_of kept.done ++ inbox) piece kept.consumed more);
           reading = after_read kept.done reads inbox piece kept.reading unfinished some few;
           made = one_call_more reads asked asks later kept.made rise;
@@ -118,8 +123,14 @@ module _ {H C : Type 0} (answers : H → Option ℕ → List ℕ → List ℕ �
           ∙ append_assoc (requests_of kept.done) (take size inbox) (drop size inbox)
           ∙ ap (λ s. requests_of kept.done ++ s) (take-append-drop size inbox)
 
-      longer : Session answers now_gives h c all i d
-      longer = session_more h c kept.done m n x i d kept.session exchanged
+      longer : Session answers h all i
+      longer = session_more answers h kept.done m x i kept.session exchanged.2
+
+      all_whole : All (λ x. IsWhole x.request) all
+      all_whole = All-push (λ x. IsWhole x.request) kept.done x kept.whole exchanged.0
+
+      all_moments : AreMoments now_gives c all d
+      all_moments = moments_more now_gives c kept.done n x d kept.moments exchanged.1
 
       one_more : length all ≡ requests + 1
       one_more = length-append kept.done (x ∷ []) ∙ ap (λ k. k + 1) kept.count
@@ -143,6 +154,8 @@ module _ {H C : Type 0} (answers : H → Option ℕ → List ℕ → List ℕ �
         done = all;
         count = one_more;
         session = longer;
+        whole = all_whole;
+        moments = all_moments;
         consumed = rw same_bytes kept.consumed;
         reading = after_answer kept.done reads (drop size inbox) x before_it;
         made = kept.made;
@@ -163,6 +176,8 @@ module _ {H C : Type 0} (answers : H → Option ℕ → List ℕ → List ℕ �
           pieces = reads;
           reads = reads;
           session = longer;
+          whole = all_whole;
+          moments = all_moments;
           few = omega (arith, one_more);
           seldom = seldom;
           made = kept.made;
@@ -196,6 +211,8 @@ module _ {H C : Type 0} (answers : H → Option ℕ → List ℕ → List ℕ �
         pieces = reads;
         reads = total;
         session = kept.session;
+        whole = kept.whole;
+        moments = kept.moments;
         few = omega (arith, kept.count);
         seldom = seldom;
         made = made;

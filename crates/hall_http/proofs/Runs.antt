@@ -1,5 +1,5 @@
 -- A session over a store is a run of the hall over its requests.
-use Rattle.std.proofs.Common.{◌≡◌, ◌∙◌, ap, sym, subst, refl, ℕ, inl, inr, List, [], ◌∷◌, ◌++◌, Option, Some, None, All}
+use Rattle.std.proofs.Common.{◌≡◌, ◌∙◌, ap, sym, subst, refl, ℕ, inl, inr, List, [], ◌∷◌, Option, Some, None}
 use Rattle.std.proofs.lemmas.List.Elements.{All-nil, All-cons}
 use Rattle.hall_policy.specs.World.{World}
 use Rattle.hall_store.specs.Store.{Content, Leads, Over}
@@ -8,14 +8,15 @@ use Rattle.hall_desk.specs.Run.{IsTimed, Run}
 use Rattle.hall_desk.specs.Sane.{Sane}
 use Rattle.hall_desk.specs.Desk.{SaneThen}
 use Rattle.hall_desk.proofs.StepsSane.{run_sane}
-use Rattle.hall_http.specs.Head.{IsWhole}
-use Rattle.hall_http.specs.Connection.{Exchange, Session}
+use Rattle.hall_http.specs.Request.{AsksNothing}
+use Rattle.hall_http.specs.Answered.{AnswersOver}
+use Rattle.hall_http.specs.Connection.{Exchange}
 use Rattle.hall_http.specs.Served.{IsHandled, IsServed}
 use Rattle.hall_http.specs.declared.connection.ServeEnd.{ServeEnd}
-use Rattle.hall_http.specs.Serving.{AnswersAt, IsAnswered, AreAnswered, AreMoments, IsNotMade, IsRunOver, RunsOver}
+use Rattle.hall_http.specs.Serving.{AnswersAt, IsAnswered, AreAnswered, IsNotMade, IsRunOver, RunsOver}
 
 -- the exchanges, one after another, over worlds
-abbrev pub Answering : World → List Exchange → World → Type 0
+abbrev Answering : World → List Exchange → World → Type 0
 Answering world [] last = last ≡ world
 Answering world (x ∷ xs) last =
     (next : World) × AnswersAt world x.moment x.request x.reply next × Answering next xs last
@@ -63,39 +64,29 @@ run_over world [] last same = record { requests = []; replies = []; timed = All-
 run_over world (x ∷ xs) last (next, step, rest) =
     before_run world x x.moment next xs last refl step (run_over next xs last rest)
 
-pub answering_more : (a : World) (xs : List Exchange) (b : World) (x : Exchange) (c : World) → Answering a xs b
-    → AnswersAt b x.moment x.request x.reply c → Answering a (xs ++ x ∷ []) c
-answering_more a [] b x c same step = (c, subst (λ w. AnswersAt w x.moment x.request x.reply c) same step, refl)
-answering_more a (y ∷ ys) b x c (next, first, rest) step = (next, first, answering_more next ys b x c rest step)
-
 -- the exchanges from a world on, which is the store's where it serves
-abbrev pub Onward : World → List Exchange → Content → Type 0
+abbrev Onward : World → List Exchange → Content → Type 0
 Onward world xs new = (last : World) × Answering world xs last × (new.serves → new.world ≡ last)
 
-pub onward_runs : (old : Content) (xs : List Exchange) (new : Content) → Onward old.world xs new → RunsOver old xs new
+onward_runs : (old : Content) (xs : List Exchange) (new : Content) → Onward old.world xs new → RunsOver old xs new
 onward_runs old xs new (last, more, stays) = (last, run_over old.world xs last more, stays)
 
-module _ {H C : Type 0} (content : H → Content) (now_gives : C → Option ℕ → C → Type 0) where
-  abbrev answers : H → Option ℕ → List ℕ → List ℕ → H → Type 0
-  answers = IsAnswered content
+module _ {H : Type 0} (content : H → Content) where
+  -- a request that was answered at a moment
+  pub answered_at : (old : H) (moment : ℕ) (request reply : List ℕ) (new : H) → Leads (content old) (content new)
+      → ((content new).honest → AnswersOver (content old) moment request reply (content new))
+      → (AsksNothing request → new ≡ old) → IsAnswered content old (Some moment) request reply new
+  answered_at old moment request reply new leads answers untouched = record {
+    leads = leads;
+    answers = answers;
+    untouched = λ quiet. elim quiet [ inl nothing ↦ untouched nothing | inr none ↦ absurd cc ];
+  }
 
-  pub session_whole : (h : H) (c : C) (xs : List Exchange) (i : H) (d : C) → Session answers now_gives h c xs i d
-      → All (λ x. IsWhole x.request) xs
-  session_whole h c [] i d ends = All-nil (λ x. IsWhole x.request)
-  session_whole h c (x ∷ xs) i d (m, n, (whole, time, says), rest) =
-      All-cons (λ x. IsWhole x.request) x xs whole (session_whole m n xs i d rest)
-
-  pub session_moments : (h : H) (c : C) (xs : List Exchange) (i : H) (d : C) → Session answers now_gives h c xs i d
-      → AreMoments now_gives c xs d
-  session_moments h c [] i d (same, ends) = ends
-  session_moments h c (x ∷ xs) i d (m, n, (whole, time, says), rest) = (n, time, session_moments m n xs i d rest)
-
-  pub session_leads : (h : H) (c : C) (xs : List Exchange) (i : H) (d : C) → Session answers now_gives h c xs i d
-      → Leads (content h) (content i)
-  session_leads h c [] i d (same, ends) =
+  pub session_leads : (h : H) (xs : List Exchange) (i : H) → AreAnswered content h xs i → Leads (content h) (content i)
+  session_leads h [] i same =
       subst (λ (i : H). Leads (content h) (content i)) (sym same) (leads_same (content h))
-  session_leads h c (x ∷ xs) i d (m, n, (whole, time, says), rest) =
-      leads_then (content h) (content m) (content i) says.leads (session_leads m n xs i d rest)
+  session_leads h (x ∷ xs) i (m, says, rest) =
+      leads_then (content h) (content m) (content i) says.leads (session_leads m xs i rest)
 
   -- the first exchange, and then the others from whatever world it leaves
   further : (old new : Content) (x : Exchange) (xs : List Exchange) (last : Content) (world : World)
@@ -109,20 +100,19 @@ module _ {H C : Type 0} (content : H → Content) (now_gives : C → Option ℕ 
       let (end, more, stays) = rest new.world (λ s. refl) in
       (end, (new.world, subst (λ w. AnswersAt w x.moment x.request x.reply new.world) (own before) says, more), stays)
 
-  onward : (h : H) (c : C) (xs : List Exchange) (i : H) (d : C) (world : World)
-      → Session answers now_gives h c xs i d → ((content h).serves → (content h).world ≡ world) → (content i).honest
-      → Onward world xs (content i)
-  onward h c [] i d world (same, ends) own honest =
+  onward : (h : H) (xs : List Exchange) (i : H) (world : World) → AreAnswered content h xs i
+      → ((content h).serves → (content h).world ≡ world) → (content i).honest → Onward world xs (content i)
+  onward h [] i world same own honest =
       (world, refl, subst (λ (i : H). (content i).serves → (content i).world ≡ world) (sym same) own)
-  onward h c (x ∷ xs) i d world (m, n, (whole, time, says), rest) own honest =
-      let before = (session_leads m n xs i d rest).honest honest in
+  onward h (x ∷ xs) i world (m, says, rest) own honest =
+      let before = (session_leads m xs i rest).honest honest in
       further (content h) (content m) x xs (content i) world own (says.leads.serves before) (says.answers before)
-      (λ next is. onward m n xs i d next rest is honest)
+      (λ next is. onward m xs i next rest is honest)
 
-  pub session_runs : (h : H) (c : C) (xs : List Exchange) (i : H) (d : C) → Session answers now_gives h c xs i d
-      → (content i).honest → RunsOver (content h) xs (content i)
-  session_runs h c xs i d session honest =
-      onward_runs (content h) xs (content i) (onward h c xs i d (content h).world session (λ s. refl) honest)
+  pub session_runs : (h : H) (xs : List Exchange) (i : H) → AreAnswered content h xs i → (content i).honest
+      → RunsOver (content h) xs (content i)
+  session_runs h xs i session honest =
+      onward_runs (content h) xs (content i) (onward h xs i (content h).world session (λ s. refl) honest)
 
 -- what was answered keeps a sane world sane
 pub runs_sane : (old : Content) (xs : List Exchange) (new : Content) → (new.honest → RunsOver old xs new)
@@ -132,34 +122,33 @@ runs_sane old xs new run h s sane =
     subst Sane (sym (over.2 s)) (run_sane old.world over.1.requests over.1.replies over.0 over.1.timed over.1.run sane)
 
 -- what was answered over desks was answered over what they keep
-module _ {D H C : Type 0} (kept : D → H) (content : H → Content) (now_gives : C → Option ℕ → C → Type 0) where
-  session_kept : (h : D) (c : C) (xs : List Exchange) (i : D) (d : C)
-      → AreAnswered (λ h. content (kept h)) now_gives h c xs i d
-      → AreAnswered content now_gives (kept h) c xs (kept i) d
-  session_kept h c [] i d (same, ends) = (ap kept same, ends)
-  session_kept h c (x ∷ xs) i d (m, n, (whole, time, says), rest) =
+module _ {D H : Type 0} (kept : D → H) (content : H → Content) where
+  session_kept : (h : D) (xs : List Exchange) (i : D) → AreAnswered (λ h. content (kept h)) h xs i
+      → AreAnswered content (kept h) xs (kept i)
+  session_kept h [] i same = ap kept same
+  session_kept h (x ∷ xs) i (m, says, rest) =
       let first : IsAnswered content (kept h) x.moment x.request x.reply (kept m) = record {
         leads = says.leads;
         answers = says.answers;
         untouched = λ nothing. ap kept (says.untouched nothing);
       } in
-      (kept m, n, (whole, time, first), session_kept m n xs i d rest)
+      (kept m, first, session_kept m xs i rest)
 
 module _ {D H C : Type 0} (kept : D → H) (content : H → Content) (now_gives : C → Option ℕ → C → Type 0)
     (stream after wrote written : Option (List ℕ)) (h : D) (c : C) (i : D) (d : C) (failed fails broke breaks asked asks : ℕ)
     (e : ServeEnd) where
   pub handled_served :
-      IsHandled (answers (λ h. content (kept h)) now_gives) now_gives stream after wrote written h c i d failed
+      IsHandled (IsAnswered (λ h. content (kept h))) now_gives stream after wrote written h c i d failed
       fails broke breaks asked asks e
       → IsServed content now_gives stream after wrote written (kept h) c (kept i) d failed fails broke breaks asked asks e
   handled_served handled = let over : D → Content = λ h. content (kept h) in record {
     exchanges = handled.exchanges;
     unread = handled.unread;
-    answered = session_kept kept content now_gives h c handled.exchanges i d handled.session;
-    whole = session_whole over now_gives h c handled.exchanges i d handled.session;
-    moments = session_moments over now_gives h c handled.exchanges i d handled.session;
-    leads = session_leads over now_gives h c handled.exchanges i d handled.session;
-    run = session_runs over now_gives h c handled.exchanges i d handled.session;
+    answered = session_kept kept content h handled.exchanges i handled.session;
+    whole = handled.whole;
+    moments = handled.moments;
+    leads = session_leads over h handled.exchanges i handled.session;
+    run = session_runs over h handled.exchanges i handled.session;
     pieces = handled.pieces;
     reads = handled.reads;
     few = handled.few;
@@ -175,8 +164,8 @@ module _ {H C : Type 0} (content : H → Content) (now_gives : C → Option ℕ 
     (stream after wrote written : Option (List ℕ)) (h : H) (c : C) (i : H) (d : C) (failed fails broke breaks asked asks : ℕ)
   where
     pub handled_sane : (e : ServeEnd)
-        → IsHandled (answers content now_gives) now_gives stream after wrote written h c i d failed fails broke breaks asked asks e
+        → IsHandled (IsAnswered content) now_gives stream after wrote written h c i d failed fails broke breaks asked asks e
         → SaneThen Sane (content h) (content i)
     handled_sane e handled =
         runs_sane (content h) handled.exchanges (content i)
-        (session_runs content now_gives h c handled.exchanges i d handled.session)
+        (session_runs content h handled.exchanges i handled.session)

@@ -1,22 +1,33 @@
 -- What the bytes of replies tell to one key.
-use Rattle.std.proofs.Common.{◌≡◌, ◌≢◌, inl, inr, if◌then◌else◌, ℕ, Bool, true, false, cond, not, List, [], ◌∷◌, Some, Ok, Err, refl, sym, ap, ◌∙◌, subst}
+use Rattle.std.proofs.Common.{◌≡◌, ◌≢◌, inl, inr, if◌then◌else◌, ℕ, Bool, true, false, cond, not, List, [], ◌∷◌, Option, Some, None, Ok, Err, refl, sym, ap, ◌∙◌, subst}
+use Rattle.std.specs.Prelude.{IsTrue}
+use Rattle.std.specs.FinMap.{get}
+use Rattle.std.proofs.lemmas.Bool.{false≢true, not-true}
 use Rattle.std.proofs.lemmas.List.Elements.{All-head, All-tail, All-nil, All-cons}
+use Rattle.serde_json.specs.Written.{compact_text}
 use Rattle.hall_policy.specs.World.{World}
+use Rattle.hall_policy.specs.Ranges.{IsWorld}
+use Rattle.hall_policy.specs.OwnAlike.{is_entrant_alone}
 use Rattle.hall_policy.specs.declared.record.Person.{Person}
 use Rattle.hall_policy.specs.declared.request.Request.{Request}
 use Rattle.hall_desk.specs.Run.{Run}
+use Rattle.hall_desk.specs.Sane.{Sane}
 use Rattle.hall_desk.specs.Without.{without, replies_where, replies_to, has_key, certifies, Serve}
 use Rattle.hall_desk.specs.Exchanged.{swapped, exchanged_request, exchanged_list, exchanged_replies}
 use Rattle.hall_desk.specs.declared.reply.Reply.{Reply}
 use Rattle.hall_desk.specs.declared.reply.Reply.TheVariants as reply
+use Rattle.hall_desk.proofs.OthersAlike.{not_own}
 use Rattle.hall_desk.proofs.OthersRun.{others_hidden_in_runs}
 use Rattle.hall_desk.proofs.SealedRun.{sealed_runs}
+use Rattle.hall_desk.proofs.StepsSane.{run_sane}
 use Rattle.hall_http.specs.declared.form.FormFault.{FormFault}
-use Rattle.hall_http.specs.Request.{RequestOf}
-use Rattle.hall_http.specs.Reply.{BytesOf}
+use Rattle.hall_http.specs.declared.status.MediaType.TheVariants as media
+use Rattle.hall_http.specs.Request.{RequestOf, AsksRequest}
+use Rattle.hall_http.specs.Reply.{BytesOf, wire_bytes, fault_status, fault_data}
+use Rattle.hall_http.specs.Answered.{IsRefused}
 use Rattle.hall_http.specs.Connection.{Exchange}
-use Rattle.hall_http.specs.Serving.{IsNotMade, IsMade, AreMade}
-use Rattle.hall_http.specs.Told.{HasOneSpelling, AsksFor, AreTold, AllServed, ComesAgain, is_others, AreWithout, BytesHideOthers, ComesExchanged, AreExchanged, AreBytes, BytesHideAnswers}
+use Rattle.hall_http.specs.Serving.{AnswersAt, IsNotMade, IsMade, AreMade}
+use Rattle.hall_http.specs.Told.{HasOneSpelling, RefusalsTellNothing, AsksFor, AsksForOther, AreTold, AllServed, ComesAgain, is_others, AreWithout, BytesHideOthers, ComesExchanged, AreExchanged, AreBytes, BytesHideAnswers}
 use Rattle.hall_http.proofs.Asked.{one_asked}
 
 one_text : (given : Reply) (x y : List ℕ) → BytesOf given x → BytesOf given y → x ≡ y
@@ -54,37 +65,66 @@ served_first x xs served = All-head (λ y. ¬ (BytesOf reply.Unavailable y.reply
 served_later : (x : Exchange) (xs : List Exchange) → AllServed (x ∷ xs) → AllServed xs
 served_later x xs served = All-tail (λ y. ¬ (BytesOf reply.Unavailable y.reply)) x xs served
 
--- ---- the replies to some of the requests, as bytes
-same_bytes : (replies : List Reply) (texts others : List (List ℕ)) → AreBytes replies texts → AreBytes replies others → texts ≡ others
-same_bytes [] texts others p q = p ∙ sym q
-same_bytes (given ∷ replies) texts others (text, rest, is, written, more) (word, tail, also, writes, further) =
-    let first : text ≡ word = one_text given text word written writes in
-    let later : rest ≡ tail = same_bytes replies rest tail more further in
-    is ∙ (λ i. first i ∷ later i) ∙ sym also
+-- ---- bytes that are no request
+-- they have one refusal
+one_refusal : (bytes text word : List ℕ) → IsRefused bytes text → IsRefused bytes word → text ≡ word
+one_refusal bytes text word one other =
+    let both : Err one.found ≡ Err other.found = one_asked bytes (Err one.found) (Err other.found) one.reads other.reads in
+    let same : one.found ≡ other.found = cc in
+    one.written ∙ ap (λ (f : FormFault). wire_bytes (fault_status f) media.Json (compact_text (fault_data f))) same ∙ sym other.written
 
+-- they are answered by it, or by 503
+refused_at : (world after : World) (moment : Option ℕ) (bytes text : List ℕ) → ¬ (AsksRequest bytes) → AnswersAt world moment bytes text after
+    → ¬ (BytesOf reply.Unavailable text) → IsRefused bytes text
+refused_at world after (Some t) bytes text never (inl step) served = absurd (never (step.request, step.reads))
+refused_at world after (Some t) bytes text never (inr (inl refused, same)) served = refused
+refused_at world after (Some t) bytes text never (inr (inr lacking, same)) served = absurd (served lacking)
+refused_at world after None bytes text never (lacking, same) served = absurd (served lacking)
+
+pub refusals_tell_nothing : RefusalsTellNothing
+refusals_tell_nothing world after other left moment later bytes text word never one second served kept =
+    one_refusal bytes text word (refused_at world after moment bytes text never one served) (refused_at other left later bytes word never second kept)
+
+-- ---- the replies to some of the requests, as bytes
 told_bytes : (test : Request → Bool) (xs : List Exchange) (requests : List (ℕ × Request)) (replies : List Reply) (texts : List (List ℕ)) → AllServed xs → AreMade xs requests replies → AreTold test xs texts →
-    AreBytes (replies_where (λ asked. test asked.1) requests replies) texts
+    AreBytes test xs (replies_where (λ asked. test asked.1) requests replies) texts
 told_bytes test [] requests replies texts served made told =
-    subst (λ (rs : List (ℕ × Request)). AreBytes (replies_where (λ asked. test asked.1) rs replies) texts) (sym made.0) told
-told_bytes test (x ∷ xs) requests replies texts served (inl (missed, made)) (inl (asks, more, texts_are, told)) =
-    absurd (not_made_asks x missed (served_first x xs served) test asks)
+    (ap (λ (rs : List (ℕ × Request)). replies_where (λ asked. test asked.1) rs replies) made.0, told)
+told_bytes test (x ∷ xs) requests replies texts served (inl (inl (moment, at, refused), made)) (inl (asks, more, texts_are, told)) =
+    inr (inl (refused, more, texts_are, told_bytes test xs requests replies more (served_later x xs served) made told))
+told_bytes test (x ∷ xs) requests replies texts served (inl (inr lacking, made)) told = absurd (served_first x xs served lacking)
 told_bytes test (x ∷ xs) requests replies texts served (inl (missed, made)) (inr (fails, told)) =
-    told_bytes test xs requests replies texts (served_later x xs served) made told
-told_bytes test (x ∷ xs) requests replies texts served (inr (q, given, later, rest, are, come, is, made)) (inl (asks, more, texts_are, told)) =
+    absurd (not_made_asks x missed (served_first x xs served) (λ request. not (test request)) fails)
+told_bytes test (x ∷ xs) requests replies texts served (inr (q, given, later, rest, are, come, is, made)) (inl (inl asks, more, texts_are, told)) =
     let passes : test q.1 ≡ true = made_passes x q given is test asks in
-    let tail : AreBytes (replies_where (λ asked. test asked.1) later rest) more = told_bytes test xs later rest more (served_later x xs served) made told in
     let ours : List Reply = replies_where (λ asked. test asked.1) later rest in
-    let here : AreBytes (if test q.1 then given ∷ ours else ours) texts =
-    subst (λ b. AreBytes (if b then given ∷ ours else ours) texts) (sym passes) (x.reply, more, texts_are, is.written, tail) in
-    subst (λ (rs : List (ℕ × Request)). AreBytes (replies_where (λ asked. test asked.1) rs replies) texts) (sym are)
-    (subst (λ (gs : List Reply). AreBytes (replies_where (λ asked. test asked.1) (q ∷ later) gs) texts) (sym come) here)
+    let first : replies_where (λ asked. test asked.1) requests replies ≡ given ∷ ours =
+    (λ i. replies_where (λ asked. test asked.1) (are i) (come i)) ∙ ap (λ (b : Bool). if b then given ∷ ours else ours) passes in
+    inl (asks, given, ours, more, first, texts_are, is.written, told_bytes test xs later rest more (served_later x xs served) made told)
+told_bytes test (x ∷ xs) requests replies texts served (inr (q, given, later, rest, are, come, is, made)) (inl (inr never, more, texts_are, told)) =
+    absurd (never (q.1, is.reads))
 told_bytes test (x ∷ xs) requests replies texts served (inr (q, given, later, rest, are, come, is, made)) (inr (fails, told)) =
-    let skips : test q.1 ≡ false = made_fails x q given is test fails in
-    let tail : AreBytes (replies_where (λ asked. test asked.1) later rest) texts = told_bytes test xs later rest texts (served_later x xs served) made told in
+    let skips : test q.1 ≡ false = not-true (test q.1) (made_passes x q given is (λ request. not (test request)) fails) in
     let ours : List Reply = replies_where (λ asked. test asked.1) later rest in
-    let here : AreBytes (if test q.1 then given ∷ ours else ours) texts = subst (λ b. AreBytes (if b then given ∷ ours else ours) texts) (sym skips) tail in
-    subst (λ (rs : List (ℕ × Request)). AreBytes (replies_where (λ asked. test asked.1) rs replies) texts) (sym are)
-    (subst (λ (gs : List Reply). AreBytes (replies_where (λ asked. test asked.1) (q ∷ later) gs) texts) (sym come) here)
+    let first : replies_where (λ asked. test asked.1) requests replies ≡ ours =
+    (λ i. replies_where (λ asked. test asked.1) (are i) (come i)) ∙ ap (λ (b : Bool). if b then given ∷ ours else ours) skips in
+    inr (inr (fails, subst (λ (gs : List Reply). AreBytes test xs gs texts) (sym first) (told_bytes test xs later rest texts (served_later x xs served) made told)))
+
+-- what is asked for by the same bytes
+asks_again : (test : Request → Bool) (x y : Exchange) → y.request ≡ x.request → AsksFor test y → AsksFor test x
+asks_again test x y same (request, reads, passes) = (request, subst (λ (bytes : List ℕ). RequestOf bytes (Ok request)) same reads, passes)
+
+refused_again : (x y : Exchange) → y.request ≡ x.request → IsRefused y.request y.reply → IsRefused x.request y.reply
+refused_again x y same refused = subst (λ (bytes : List ℕ). IsRefused bytes y.reply) same refused
+
+-- a request passes a test or fails it, and bytes that are refused are none
+not_both : (test : Request → Bool) (x : Exchange) → AsksFor test x → AsksForOther test x → ⊥
+not_both test x (request, reads, passes) (other, read, fails) =
+    let none : test request ≡ false = ap test (same_request x request other reads read) ∙ not-true (test other) fails in
+    false≢true (sym none ∙ passes)
+
+not_refused : (test : Request → Bool) (x : Exchange) (text : List ℕ) → AsksFor test x → IsRefused x.request text → ⊥
+not_refused test x text (request, reads, passes) refused = no_request x refused.found request refused.reads reads
 
 -- ---- the requests that are made
 -- served bytes have replies that serve
@@ -136,6 +176,59 @@ module _ (last : World) (e : Person) where
       comes_on x xs (left_requests xs) y zs requests again replies also served (subst AllServed come_again kept) made
       (subst (λ (ws : List Exchange). AreMade ws again also) come_again remade) fails same left
 
+  -- the same replies to e's key, and the same refusals, are the same bytes
+  module _ (settled : IsWorld last) (there : get last.people e.name ≡ Some e) (alone : IsTrue (is_entrant_alone e)) where
+    abbrev own : Request → Bool
+    own request = has_key e.key request.key
+
+    abbrev Same : List Exchange → Type 0
+    Same xs = (ys : List Exchange) (replies : List Reply) (texts words : List (List ℕ)) → AreWithout last e xs ys → AreBytes own xs replies texts → AreBytes own ys replies words → texts ≡ words
+
+    -- others' requests have another key
+    not_others : (x : Exchange) → AsksFor own x → AsksFor (is_others last e) x → ⊥
+    not_others x (request, reads, passes) (other, read, struck) =
+        let same : request ≡ other = same_request x request other reads read in
+        false≢true (sym (not_own last e settled there alone other.key struck) ∙ sym (ap own same) ∙ passes)
+
+    same_on : (x : Exchange) (xs : List Exchange) → Same xs → (y : Exchange) (zs : List Exchange) (replies : List Reply) (texts words : List (List ℕ)) → ComesAgain x y → AreWithout last e xs zs →
+        AreBytes own (x ∷ xs) replies texts → AreBytes own (y ∷ zs) replies words → texts ≡ words
+    same_on x xs claim y zs replies texts words same left (inl (asks, given, later, rest, come, are, written, more)) (inl (asks_too, answered, further, tail, come_too, are_too, written_too, more_too)) =
+        let both : given ∷ later ≡ answered ∷ further = sym come ∙ come_too in
+        let head : given ≡ answered = cc in
+        let others_too : later ≡ further = cc in
+        let first : x.reply ≡ y.reply = one_spelling given answered x.reply y.reply head written written_too in
+        let next : rest ≡ tail = claim zs later rest tail left more (subst (λ (gs : List Reply). AreBytes own zs gs tail) (sym others_too) more_too) in
+        are ∙ (λ i. first i ∷ next i) ∙ sym are_too
+    same_on x xs claim y zs replies texts words same left (inr (inl (refused, rest, are, more))) (inr (inl (refused_too, tail, are_too, more_too))) =
+        let first : x.reply ≡ y.reply = one_refusal x.request x.reply y.reply refused (refused_again x y same.0 refused_too) in
+        let next : rest ≡ tail = claim zs replies rest tail left more more_too in
+        are ∙ (λ i. first i ∷ next i) ∙ sym are_too
+    same_on x xs claim y zs replies texts words same left (inr (inr (fails, more))) (inr (inr (fails_too, more_too))) =
+        claim zs replies texts words left more more_too
+    same_on x xs claim y zs replies texts words same left (inl one) (inr (inl other)) =
+        absurd (not_refused own x y.reply one.0 (refused_again x y same.0 other.0))
+    same_on x xs claim y zs replies texts words same left (inl one) (inr (inr (fails, more_too))) =
+        absurd (not_both own x one.0 (asks_again (λ request. not (own request)) x y same.0 fails))
+    same_on x xs claim y zs replies texts words same left (inr (inl one)) (inl other) =
+        absurd (not_refused own x x.reply (asks_again own x y same.0 other.0) one.0)
+    same_on x xs claim y zs replies texts words same left (inr (inl one)) (inr (inr (fails, more_too))) =
+        absurd (not_refused (λ request. not (own request)) x x.reply (asks_again (λ request. not (own request)) x y same.0 fails) one.0)
+    same_on x xs claim y zs replies texts words same left (inr (inr (fails, more))) (inl other) =
+        absurd (not_both own x (asks_again own x y same.0 other.0) fails)
+    same_on x xs claim y zs replies texts words same left (inr (inr (fails, more))) (inr (inl other)) =
+        absurd (not_refused (λ request. not (own request)) x y.reply fails (refused_again x y same.0 other.0))
+
+    same_told : (xs : List Exchange) → Same xs
+    same_told [] ys replies texts words none first second =
+        first.1 ∙ sym (subst (λ (zs : List Exchange). AreBytes own zs replies words) none second).1
+    same_told (x ∷ xs) ys replies texts words (inl (struck, left)) (inl first) second = absurd (not_others x first.0 struck)
+    same_told (x ∷ xs) ys replies texts words (inl (struck, left)) (inr (inl first)) second =
+        absurd (not_refused (is_others last e) x x.reply struck first.0)
+    same_told (x ∷ xs) ys replies texts words (inl (struck, left)) (inr (inr (fails, more))) second =
+        same_told xs ys replies texts words left more second
+    same_told (x ∷ xs) ys replies texts words (inr (stays, y, zs, come_again, same, left)) first second =
+        same_on x xs (same_told xs) y zs replies texts words same left first (subst (λ (ws : List Exchange). AreBytes own ws replies words) come_again second)
+
 -- the law
 pub bytes_hide_others : BytesHideOthers
 bytes_hide_others world last end e xs ys texts others whole left sane there alone without_them served kept none none_left same told told_too =
@@ -147,8 +240,10 @@ bytes_hide_others world last end e xs ys texts others whole left sane there alon
     (served_replies xs whole.requests whole.replies served whole.made) (served_replies ys left.requests left.replies kept left.made)
     none none_left (same ∙ ap (λ (rs : List (ℕ × Request)). replies_where certifies rs left.replies) requests)
     ∙ ap (λ (rs : List (ℕ × Request)). replies_where key rs left.replies) (sym requests) in
-    same_bytes (replies_where key left.requests left.replies) texts others
-    (subst (λ (gs : List Reply). AreBytes gs texts) replies (told_bytes (λ request. has_key e.key request.key) xs whole.requests whole.replies texts served whole.made told))
+    let settled : Sane last = run_sane world whole.requests whole.replies last whole.timed whole.run sane in
+    same_told last e settled.typed there alone xs ys (replies_where key left.requests left.replies) texts others without_them
+    (subst (λ (gs : List Reply). AreBytes (λ request. has_key e.key request.key) xs gs texts) replies
+    (told_bytes (λ request. has_key e.key request.key) xs whole.requests whole.replies texts served whole.made told))
     (told_bytes (λ request. has_key e.key request.key) ys left.requests left.replies others kept left.made told_too)
 
 -- ---- two answers exchanged
@@ -193,6 +288,6 @@ bytes_hide_answers world last end r a b round e xs ys texts others whole turned 
     (same ∙ ap (λ (rs : List (ℕ × Request)). replies_where certifies rs turned.replies) requests) in
     record {
       first = told_bytes (λ request. has_key e.key request.key) xs whole.requests whole.replies texts served whole.made told;
-      second = subst (λ (gs : List Reply). AreBytes gs others) replies
+      second = subst (λ (gs : List Reply). AreBytes (λ request. has_key e.key request.key) ys gs others) replies
           (told_bytes (λ request. has_key e.key request.key) ys turned.requests turned.replies others kept turned.made told_too);
     }

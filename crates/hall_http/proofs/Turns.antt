@@ -1,6 +1,6 @@
 -- What the loop of a replay keeps, and how each of its ends follows.
 use Rattle.std.proofs.Common.{◌≡◌, ◌∙◌, sym, ap, subst, refl, arith, ℕ, zero, suc, ◌+◌, ◌<◌, ◌≤◌, inl, inr, List}
-use Rattle.std.proofs.Common.{[], ◌∷◌, ◌++◌, length, take, drop, Option, append_assoc, length-append, length-drop}
+use Rattle.std.proofs.Common.{[], ◌∷◌, ◌++◌, length, take, drop, Option, Some, append_assoc, length-append, length-drop}
 use Rattle.std.specs.Prelude.{Result, Ok, Err, false, All, MatchResult}
 use Rattle.std.proofs.lemmas.List.{append-nil, take-append-drop, map-append}
 use Rattle.std.proofs.lemmas.List.Concat.{flat_map-append}
@@ -8,8 +8,8 @@ use Rattle.std.proofs.lemmas.List.Elements.{All-nil, All-push}
 use Rattle.std.proofs.KnownBytes.{Appends-nil, Appends-trans, Consumes-nil, Consumes-trans}
 use Rattle.std.specs.Io.KnownBytes.{Appends, Consumes}
 use Rattle.hall_grid.specs.Device.{MadeCalls, Rises}
-use Rattle.hall_store.specs.Store.{Content, Leads}
-use Rattle.hall_store.proofs.Knowing.{leads_same, leads_then}
+use Rattle.hall_store.specs.Store.{Content}
+use Rattle.hall_store.proofs.Knowing.{leads_same}
 use Rattle.hall_http.specs.declared.fault.ReplayFault.{ReplayFault}
 use Rattle.hall_http.specs.declared.fault.ReplayFault.TheVariants as fault
 use Rattle.hall_http.specs.Device.{WritesPart, NoneFailed, ReadFailed, WriteFailed}
@@ -17,13 +17,13 @@ use Rattle.hall_http.specs.Reading.{at_first, after_read, after_answer}
 use Rattle.hall_http.specs.Records.{Record, IsRecord, record_bytes, header_of, NeverHasRecord, IsCut}
 use Rattle.hall_http.specs.Records.{IsUnfinishedRecord}
 use Rattle.hall_http.specs.Records.{bytes_between}
-use Rattle.hall_http.specs.Answered.{Answers, AnswersOver}
+use Rattle.hall_http.specs.Serving.{AreAnswered, IsAnswered}
 use Rattle.hall_http.specs.Replay.{AnsweredRecord, exchange_of, exchanges_of, records_of, replies_to}
 use Rattle.hall_http.specs.Replay.{IsReplayed, Ended, HaveReadRecords}
-use Rattle.hall_http.proofs.Readings.{one_call_more}
+use Rattle.hall_http.proofs.Readings.{one_call_more, session_more}
 use Rattle.hall_http.specs.Inbox.{ReadsMore}
 use Rattle.hall_http.proofs.Exchanges.{not_nil}
-use Rattle.hall_http.proofs.Runs.{Onward, answering_more, onward_runs}
+use Rattle.hall_http.proofs.Runs.{session_leads, session_runs}
 
 records_more : (xs : List AnsweredRecord) (x : AnsweredRecord) → records_of (xs ++ x ∷ []) ≡ records_of xs ++ record_bytes x.asked
 records_more xs x =
@@ -51,227 +51,211 @@ never_nil h =
     h (record_bytes r) r [] (record { moment = omega arith; size = omega arith }) (sym (append-nil (record_bytes r)))
 
 -- after some turns: the records answered, and what was read after them
-pub record Kept (stream after wrote written : Option (List ℕ)) (old new : Content)
+pub record Kept {H : Type 0} (content : H → Content) (stream after wrote written : Option (List ℕ)) (old new : H)
     (inbox : List ℕ) (reads asked asks : ℕ) : Type 0 where
   pub done : List AnsweredRecord
+  pub session : AreAnswered content old (exchanges_of done) new
   pub whole : All (λ x. IsRecord x.asked) done
-  pub leads : Leads old new
-  pub onward : new.honest → Onward old.world (exchanges_of done) new
   pub consumed : Consumes stream after (records_of done ++ inbox)
   pub reading : HaveReadRecords done reads inbox
   pub made : MadeCalls reads asked asks
   pub replied : Appends wrote written (replies_to done)
   pub bounded : length inbox ≤ 81920
 
-pub kept_start : (stream wrote : Option (List ℕ)) (store : Content) (asked : ℕ)
-    → Kept stream stream wrote wrote store store [] 0 asked asked
-kept_start stream wrote store asked =
-    record {
-      done = [];
-      whole = All-nil (λ x. IsRecord x.asked);
-      leads = leads_same store;
-      onward = λ h. (store.world, refl, λ s. refl);
-      consumed = Consumes-nil stream;
-      reading = at_first;
-      made = inl (omega arith);
-      replied = Appends-nil wrote;
-      bounded = omega arith;
-    }
-
-module _ (stream after wrote written : Option (List ℕ)) (old new : Content) (inbox : List ℕ) (reads asked asks : ℕ)
-    (kept : Kept stream after wrote written old new inbox reads asked asks) where
-  pub kept_read : (then : Option (List ℕ)) (piece : List ℕ) (later : ℕ) → IsUnfinishedRecord inbox → 0 < length piece
-      → length piece ≤ 4096 → Consumes after then piece → Rises asks later
-      → Kept stream then wrote written old new (inbox ++ piece) (reads + 1) asked later
-  kept_read then piece later unfinished some few more rise =
-      let all : records_of kept.done ++ (inbox ++ piece) ≡ (records_of kept.done ++ inbox) ++ piece =
-      sym (append_assoc (records_of kept.done) inbox piece) in
+module _ {H : Type 0} (content : H → Content) where
+  pub kept_start : (stream wrote : Option (List ℕ)) (store : H) (asked : ℕ)
+      → Kept content stream stream wrote wrote store store [] 0 asked asked
+  kept_start stream wrote store asked =
       record {
-        done = kept.done;
-        whole = kept.whole;
-        leads = kept.leads;
-        onward = kept.onward;
-        consumed = rw all (Consumes-trans stream after then (records_of kept.done ++ inbox) piece kept.consumed more);
-        reading = after_read kept.done reads inbox piece kept.reading unfinished some few;
-        made = one_call_more reads asked asks later kept.made rise;
-        replied = kept.replied;
-        bounded = omega (arith, length-append inbox piece, unfinished.1);
+        done = [];
+        session = refl;
+        whole = All-nil (λ x. IsRecord x.asked);
+        consumed = Consumes-nil stream;
+        reading = at_first;
+        made = inl (omega arith);
+        replied = Appends-nil wrote;
+        bounded = omega arith;
       }
 
-  shorter : (size : ℕ) → length (drop size inbox) ≤ 81920
-  shorter size = omega (arith, kept.bounded, length-drop size inbox)
+  module _ (stream after wrote written : Option (List ℕ)) (old new : H) (inbox : List ℕ) (reads asked asks : ℕ)
+      (kept : Kept content stream after wrote written old new inbox reads asked asks) where
+    pub kept_read : (then : Option (List ℕ)) (piece : List ℕ) (later : ℕ) → IsUnfinishedRecord inbox → 0 < length piece
+        → length piece ≤ 4096 → Consumes after then piece → Rises asks later
+        → Kept content stream then wrote written old new (inbox ++ piece) (reads + 1) asked later
+    kept_read then piece later unfinished some few more rise =
+        let all : records_of kept.done ++ (inbox ++ piece) ≡ (records_of kept.done ++ inbox) ++ piece =
+        sym (append_assoc (records_of kept.done) inbox piece) in
+        record {
+          done = kept.done;
+          session = kept.session;
+          whole = kept.whole;
+          consumed = rw all (Consumes-trans stream after then (records_of kept.done ++ inbox) piece kept.consumed more);
+          reading = after_read kept.done reads inbox piece kept.reading unfinished some few;
+          made = one_call_more reads asked asks later kept.made rise;
+          replied = kept.replied;
+          bounded = omega (arith, length-append inbox piece, unfinished.1);
+        }
 
-  module _ (r : Record) (start end : ℕ) (text : List ℕ) (next : Content) (cut : IsCut inbox r start end)
-      (leads : Leads new next) (says : next.honest → AnswersOver new r.moment (bytes_between inbox start end) text next) where
-    abbrev x : AnsweredRecord
-    x = record { asked = r; reply = text }
+    shorter : (size : ℕ) → length (drop size inbox) ≤ 81920
+    shorter size = omega (arith, kept.bounded, length-drop size inbox)
 
-    same_bytes : records_of (kept.done ++ x ∷ []) ++ drop end inbox ≡ records_of kept.done ++ inbox
-    same_bytes =
-        ap (λ s. s ++ drop end inbox) (records_more kept.done x ∙ ap (λ s. records_of kept.done ++ s) (sym cut.whole))
-        ∙ append_assoc (records_of kept.done) (take end inbox) (drop end inbox)
-        ∙ ap (λ s. records_of kept.done ++ s) (take-append-drop end inbox)
+    module _ (r : Record) (start end : ℕ) (text : List ℕ) (next : H) (cut : IsCut inbox r start end)
+        (says : IsAnswered content new (Some r.moment) (bytes_between inbox start end) text next) where
+      abbrev x : AnsweredRecord
+      x = record { asked = r; reply = text }
 
-    abbrev all : List AnsweredRecord
-    all = kept.done ++ x ∷ []
+      same_bytes : records_of (kept.done ++ x ∷ []) ++ drop end inbox ≡ records_of kept.done ++ inbox
+      same_bytes =
+          ap (λ s. s ++ drop end inbox) (records_more kept.done x ∙ ap (λ s. records_of kept.done ++ s) (sym cut.whole))
+          ∙ append_assoc (records_of kept.done) (take end inbox) (drop end inbox)
+          ∙ ap (λ s. records_of kept.done ++ s) (take-append-drop end inbox)
 
-    same_request : bytes_between inbox start end ≡ r.request
-    same_request = sym cut.request
+      abbrev all : List AnsweredRecord
+      all = kept.done ++ x ∷ []
 
-    more : Onward old.world (exchanges_of kept.done) new → (next.serves → new.serves)
-        → AnswersOver new r.moment (bytes_between inbox start end) text next → Onward old.world (exchanges_of all) next
-    more (last, onward, own) served (inl (always, left)) = (
-      last,
-      rw (exchanges_more kept.done x)
-          (answering_more old.world (exchanges_of kept.done) last (exchange_of x) last onward
-          (subst (λ s. Answers last r.moment s text last) same_request (always last))),
-      λ s. left s ∙ own (served s),
-    )
-    more (last, onward, own) served (inr (before, later, answers)) = (
-      next.world,
-      rw (exchanges_more kept.done x)
-          (answering_more old.world (exchanges_of kept.done) last (exchange_of x) next.world onward
-          (subst (λ w. Answers w r.moment r.request text next.world) (own before)
-          (subst (λ s. Answers new.world r.moment s text next.world) same_request answers))),
-      λ s. refl,
-    )
+      longer : AreAnswered content old (exchanges_of all) next
+      longer =
+          rw (exchanges_more kept.done x)
+          (session_more (IsAnswered content) old (exchanges_of kept.done) new (exchange_of x) next kept.session
+          (subst (λ s. IsAnswered content new (Some r.moment) s text next) (sym cut.request) says))
 
-    longer : next.honest → Onward old.world (exchanges_of all) next
-    longer h = more (kept.onward (leads.honest h)) (leads.serves h) (says h)
+      whole_all : All (λ x. IsRecord x.asked) all
+      whole_all = All-push (λ x. IsRecord x.asked) kept.done x kept.whole cut.is
 
-    whole_all : All (λ x. IsRecord x.asked) all
-    whole_all = All-push (λ x. IsRecord x.asked) kept.done x kept.whole cut.is
+      before_it : HaveReadRecords kept.done reads (record_bytes r ++ drop end inbox)
+      before_it =
+          subst (HaveReadRecords kept.done reads)
+          (sym (ap (λ s. s ++ drop end inbox) (sym cut.whole) ∙ take-append-drop end inbox)) kept.reading
 
-    led : Leads old next
-    led = leads_then old new next kept.leads leads
+      after_it : HaveReadRecords all reads (drop end inbox)
+      after_it = after_answer kept.done reads (drop end inbox) x before_it
 
-    before_it : HaveReadRecords kept.done reads (record_bytes r ++ drop end inbox)
-    before_it =
-        subst (HaveReadRecords kept.done reads)
-        (sym (ap (λ s. s ++ drop end inbox) (sym cut.whole) ∙ take-append-drop end inbox)) kept.reading
+      pub kept_answered : (then : Option (List ℕ)) → Appends written then text
+          → Kept content stream after wrote then old next (drop end inbox) reads asked asks
+      kept_answered then sent = record {
+        done = all;
+        session = longer;
+        whole = whole_all;
+        consumed = rw same_bytes kept.consumed;
+        reading = after_it;
+        made = kept.made;
+        replied = rw (replies_more kept.done x)
+            (Appends-trans wrote written then (replies_to kept.done) text kept.replied sent);
+        bounded = shorter end;
+      }
 
-    after_it : HaveReadRecords all reads (drop end inbox)
-    after_it = after_answer kept.done reads (drop end inbox) x before_it
+      -- the text couldn't be written whole
+      pub unsent : {U : Type 0} (then : Option (List ℕ)) (failed fails broke breaks : ℕ) → reads ≤ 1000000000
+          → WritesPart written then text → WriteFailed failed fails broke breaks
+          → IsReplayed {U = U} content stream after wrote then old next failed fails broke breaks asked asks
+          (Err fault.Device)
+      unsent then failed fails broke breaks seldom part rose = record {
+        records = all;
+        unread = drop end inbox;
+        pieces = reads;
+        reads = reads;
+        answered = longer;
+        whole = whole_all;
+        leads = session_leads content old (exchanges_of all) next longer;
+        run = session_runs content old (exchanges_of all) next longer;
+        seldom = seldom;
+        made = kept.made;
+        reading = after_it;
+        consumed = rw same_bytes kept.consumed;
+        bounded = shorter end;
+        ended = inr (
+          (kept.done, x, written, record { all = refl; reading = before_it }, kept.replied, part),
+          rose,
+          refl,
+        );
+      }
 
-    pub kept_answered : (then : Option (List ℕ)) → Appends written then text
-        → Kept stream after wrote then old next (drop end inbox) reads asked asks
-    kept_answered then sent = record {
-      done = all;
-      whole = whole_all;
-      leads = led;
-      onward = longer;
-      consumed = rw same_bytes kept.consumed;
-      reading = after_it;
-      made = kept.made;
-      replied = rw (replies_more kept.done x)
-          (Appends-trans wrote written then (replies_to kept.done) text kept.replied sent);
-      bounded = shorter end;
-    }
+    one_read : (later : ℕ) → Rises asks later → MadeCalls (reads + 1) asked later
+    one_read later rise = one_call_more reads asked asks later kept.made rise
 
-    -- the text couldn't be written whole
-    pub unsent : {U : Type 0} (then : Option (List ℕ)) (failed fails broke breaks : ℕ) → reads ≤ 1000000000
-        → WritesPart written then text → WriteFailed failed fails broke breaks
-        → IsReplayed {U = U} stream after wrote then old next failed fails broke breaks asked asks (Err fault.Device)
-    unsent then failed fails broke breaks seldom part rose = record {
-      answered = all;
-      unread = drop end inbox;
-      pieces = reads;
-      reads = reads;
-      whole = whole_all;
-      leads = led;
-      run = λ h. onward_runs old (exchanges_of all) next (longer h);
-      seldom = seldom;
-      made = kept.made;
-      reading = after_it;
-      consumed = rw same_bytes kept.consumed;
-      bounded = shorter end;
-      ended = inr (
-        (kept.done, x, written, record { all = refl; reading = before_it }, kept.replied, part),
-        rose,
-        refl,
-      );
-    }
+    module _ {U : Type 0} (failed fails broke breaks : ℕ) where
+      -- how it ends with no further record answered
+      ends : (then : Option (List ℕ)) (total later : ℕ) (end : Result U ReplayFault) → Consumes after then []
+          → MadeCalls total asked later → total ≤ 1000000000
+          → Ended end then wrote written kept.done inbox reads total failed fails broke breaks
+          → IsReplayed {U = U} content stream then wrote written old new failed fails broke breaks asked later end
+      ends then total later end none made seldom ended = record {
+        records = kept.done;
+        unread = inbox;
+        pieces = reads;
+        reads = total;
+        answered = kept.session;
+        whole = kept.whole;
+        leads = session_leads content old (exchanges_of kept.done) new kept.session;
+        run = session_runs content old (exchanges_of kept.done) new kept.session;
+        seldom = seldom;
+        made = made;
+        reading = kept.reading;
+        consumed = subst (λ s. Consumes stream then s) (append-nil (records_of kept.done ++ inbox))
+            (Consumes-trans stream after then (records_of kept.done ++ inbox) [] kept.consumed none);
+        bounded = kept.bounded;
+        ended = ended;
+      }
 
-  one_read : (later : ℕ) → Rises asks later → MadeCalls (reads + 1) asked later
-  one_read later rise = one_call_more reads asked asks later kept.made rise
+      pub too_many : IsUnfinishedRecord inbox → reads ≡ 1000000000 → NoneFailed failed fails broke breaks
+          → IsReplayed {U = U} content stream after wrote written old new failed fails broke breaks asked asks
+          (Err fault.Record)
+      too_many unfinished many steady =
+          ends after reads asks (Err fault.Record) (Consumes-nil after) kept.made (omega arith)
+          (kept.replied, steady, inr (unfinished, many, refl))
 
-  module _ {U : Type 0} (failed fails broke breaks : ℕ) where
-    -- how it ends with no further record answered
-    ends : (then : Option (List ℕ)) (total later : ℕ) (end : Result U ReplayFault) → Consumes after then []
-        → MadeCalls total asked later → total ≤ 1000000000
-        → Ended end then wrote written kept.done inbox reads total failed fails broke breaks
-        → IsReplayed {U = U} stream then wrote written old new failed fails broke breaks asked later end
-    ends then total later end none made seldom ended = record {
-      answered = kept.done;
-      unread = inbox;
-      pieces = reads;
-      reads = total;
-      whole = kept.whole;
-      leads = kept.leads;
-      run = λ h. onward_runs old (exchanges_of kept.done) new (kept.onward h);
-      seldom = seldom;
-      made = made;
-      reading = kept.reading;
-      consumed = subst (λ s. Consumes stream then s) (append-nil (records_of kept.done ++ inbox))
-          (Consumes-trans stream after then (records_of kept.done ++ inbox) [] kept.consumed none);
-      bounded = kept.bounded;
-      ended = ended;
-    }
+      -- no record begins so
+      pub never_record : reads ≤ 1000000000 → NeverHasRecord inbox → NoneFailed failed fails broke breaks
+          → IsReplayed {U = U} content stream after wrote written old new failed fails broke breaks asked asks
+          (Err fault.Record)
+      never_record seldom never steady =
+          ends after reads asks (Err fault.Record) (Consumes-nil after) kept.made seldom
+          (kept.replied, steady, inl ((λ e. never_nil (subst NeverHasRecord e never)), inr (never, refl)))
 
-    pub too_many : IsUnfinishedRecord inbox → reads ≡ 1000000000 → NoneFailed failed fails broke breaks
-        → IsReplayed {U = U} stream after wrote written old new failed fails broke breaks asked asks (Err fault.Record)
-    too_many unfinished many steady =
-        ends after reads asks (Err fault.Record) (Consumes-nil after) kept.made (omega arith)
-        (kept.replied, steady, inr (unfinished, many, refl))
+      -- after one read more
+      module _ (unfinished : IsUnfinishedRecord inbox) (seldom : reads < 1000000000) (then : Option (List ℕ)) (later : ℕ)
+          (rise : Rises asks later) where
+        -- it was refused
+        pub unread_device : Consumes after then [] → ReadFailed failed fails broke breaks
+            → IsReplayed {U = U} content stream then wrote written old new failed fails broke breaks asked later
+            (Err fault.Device)
+        unread_device none rose =
+            ends then (reads + 1) later (Err fault.Device) none (one_read later rise) (omega arith)
+            (inl (kept.replied, rose, unfinished, refl))
 
-    -- no record begins so
-    pub never_record : reads ≤ 1000000000 → NeverHasRecord inbox → NoneFailed failed fails broke breaks
-        → IsReplayed {U = U} stream after wrote written old new failed fails broke breaks asked asks (Err fault.Record)
-    never_record seldom never steady =
-        ends after reads asks (Err fault.Record) (Consumes-nil after) kept.made seldom
-        (kept.replied, steady, inl ((λ e. never_nil (subst NeverHasRecord e never)), inr (never, refl)))
+        -- the input is at its end
+        pub at_end : (result : Result U ReplayFault) (now : List ℕ)
+            → ReadsMore after then inbox now failed fails (Ok false) → breaks ≡ broke
+            → MatchResult result (λ _. now ≡ []) (λ e. (e ≡ fault.Record) × (0 < length now))
+            → IsReplayed {U = U} content stream then wrote written old new failed fails broke breaks asked later result
+        at_end (Ok u) now (same, none, over, steady) whole empty =
+            ends then (reads + 1) later (Ok u) none (one_read later rise) (omega arith)
+            (kept.replied, (steady, whole), sym same ∙ empty, over, refl)
+        at_end (Err e) now (same, none, over, steady) whole (is, some) =
+            rw is
+            (ends then (reads + 1) later (Err fault.Record) none (one_read later rise) (omega arith) (
+              kept.replied,
+              (steady, whole),
+              inl (not_nil inbox (subst (λ s. 0 < length s) same some), inl (unfinished.0, over, refl)),
+            ))
 
-    -- after one read more
-    module _ (unfinished : IsUnfinishedRecord inbox) (seldom : reads < 1000000000) (then : Option (List ℕ)) (later : ℕ)
-        (rise : Rises asks later) where
-      -- it was refused
-      pub unread_device : Consumes after then [] → ReadFailed failed fails broke breaks
-          → IsReplayed {U = U} stream then wrote written old new failed fails broke breaks asked later (Err fault.Device)
-      unread_device none rose =
-          ends then (reads + 1) later (Err fault.Device) none (one_read later rise) (omega arith)
-          (inl (kept.replied, rose, unfinished, refl))
-
-      -- the input is at its end
-      pub at_end : (result : Result U ReplayFault) (now : List ℕ)
-          → ReadsMore after then inbox now failed fails (Ok false) → breaks ≡ broke
-          → MatchResult result (λ _. now ≡ []) (λ e. (e ≡ fault.Record) × (0 < length now))
-          → IsReplayed {U = U} stream then wrote written old new failed fails broke breaks asked later result
-      at_end (Ok u) now (same, none, over, steady) whole empty =
-          ends then (reads + 1) later (Ok u) none (one_read later rise) (omega arith)
-          (kept.replied, (steady, whole), sym same ∙ empty, over, refl)
-      at_end (Err e) now (same, none, over, steady) whole (is, some) =
-          rw is
-          (ends then (reads + 1) later (Err fault.Record) none (one_read later rise) (omega arith) (
-            kept.replied,
-            (steady, whole),
-            inl (not_nil inbox (subst (λ s. 0 < length s) same some), inl (unfinished.0, over, refl)),
-          ))
-
--- nothing was read for want of memory
-pub unbegun : {U : Type 0} (stream wrote : Option (List ℕ)) (store : Content) (failed broke asked : ℕ)
-    → IsReplayed {U = U} stream stream wrote wrote store store failed failed broke broke asked asked (Err fault.Memory)
-unbegun stream wrote store failed broke asked = record {
-  answered = [];
-  unread = [];
-  pieces = 0;
-  reads = 0;
-  whole = All-nil (λ x. IsRecord x.asked);
-  leads = leads_same store;
-  run = λ h. onward_runs store [] store (store.world, refl, λ s. refl);
-  seldom = omega arith;
-  made = inl (omega arith);
-  reading = at_first;
-  consumed = Consumes-nil stream;
-  bounded = omega arith;
-  ended = (Appends-nil wrote, (refl, refl), refl, refl, refl);
-}
+  -- nothing was read for want of memory
+  pub unbegun : {U : Type 0} (stream wrote : Option (List ℕ)) (store : H) (failed broke asked : ℕ)
+      → IsReplayed {U = U} content stream stream wrote wrote store store failed failed broke broke asked asked
+      (Err fault.Memory)
+  unbegun stream wrote store failed broke asked = record {
+    records = [];
+    unread = [];
+    pieces = 0;
+    reads = 0;
+    answered = refl;
+    whole = All-nil (λ x. IsRecord x.asked);
+    leads = leads_same (content store);
+    run = session_runs content store [] store refl;
+    seldom = omega arith;
+    made = inl (omega arith);
+    reading = at_first;
+    consumed = Consumes-nil stream;
+    bounded = omega arith;
+    ended = (Appends-nil wrote, (refl, refl), refl, refl, refl);
+  }

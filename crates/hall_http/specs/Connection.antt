@@ -1,4 +1,4 @@
--- The requests of one connection, each with its reply.
+-- Requests that are answered one after another, each with its reply.
 use Rattle.std.specs.Prelude.{◌≡◌, ◌==◌, ℕ, List, [], ◌∷◌, Bool, true, false, ◌&&◌, ◌||◌, flat_map, All}
 use Rattle.std.specs.Prelude.{Option, codes}
 use Rattle.std.specs.List.{list_any}
@@ -39,13 +39,19 @@ replies_of xs = flat_map (λ x. x.reply) xs
 abbrev pub AreOpen : List Exchange → Type 0
 AreOpen xs = All (λ x. IsOpen x.request) xs
 
-module _ {H C : Type 0} (answers : H → Option ℕ → List ℕ → List ℕ → H → Type 0)
-    (now_gives : C → Option ℕ → C → Type 0) where
-  -- a whole request is answered at the moment that the clock gives
-  abbrev pub Exchanged : H → C → Exchange → H → C → Type 0
-  Exchanged h c x i d = IsWhole x.request × now_gives c x.moment d × answers h x.moment x.request x.reply i
+-- a whole request is answered at the moment that the clock gives
+abbrev pub Exchanged : {H C : Type 0} → (H → Option ℕ → List ℕ → List ℕ → H → Type 0) → (C → Option ℕ → C → Type 0)
+    → H → C → Exchange → H → C → Type 0
+Exchanged answers now_gives h c x i d =
+    IsWhole x.request × now_gives c x.moment d × answers h x.moment x.request x.reply i
 
-  -- these requests are answered, one after another, at the moments that the clock gives
-  abbrev pub Session : H → C → List Exchange → H → C → Type 0
-  Session h c [] i d = (i ≡ h) × (d ≡ c)
-  Session h c (x ∷ xs) i d = (m : H) × (n : C) × Exchanged h c x m n × Session m n xs i d
+-- these requests are answered, one after another, each by what the one before it left
+abbrev pub Session : {H : Type 0} → (H → Option ℕ → List ℕ → List ℕ → H → Type 0) → H → List Exchange → H → Type 0
+Session answers h [] i = i ≡ h
+Session {H} answers h (x ∷ xs) i = (m : H) × answers h x.moment x.request x.reply m × Session answers m xs i
+
+-- the clock was asked once for each request, in their order
+abbrev pub AreMoments : {C : Type 0} → (C → Option ℕ → C → Type 0) → C → List Exchange → C → Type 0
+AreMoments now_gives clock [] later = later ≡ clock
+AreMoments {C} now_gives clock (x ∷ xs) later =
+    (next : C) × now_gives clock x.moment next × AreMoments now_gives next xs later

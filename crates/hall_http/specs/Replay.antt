@@ -8,7 +8,7 @@ use Rattle.hall_http.specs.declared.fault.ReplayFault.{ReplayFault}
 use Rattle.hall_http.specs.declared.fault.ReplayFault.TheVariants as fault
 use Rattle.hall_http.specs.Device.{WritesPart, NoneFailed, ReadFailed, WriteFailed}
 use Rattle.hall_http.specs.Connection.{Exchange}
-use Rattle.hall_http.specs.Serving.{RunsOver}
+use Rattle.hall_http.specs.Serving.{AreAnswered, RunsOver}
 use Rattle.hall_http.specs.Reading.{Reading, IsLast}
 use Rattle.hall_http.specs.Records.{Record, IsRecord, record_bytes, HasNoRecord, NeverHasRecord, IsUnfinishedRecord}
 
@@ -71,19 +71,21 @@ Ended (Err fault.Memory) after wrote written xs unread pieces reads failed fails
     Appends wrote written [] × NoneFailed failed fails broke breaks × (xs ≡ []) × (unread ≡ []) × (reads ≡ 0)
 
 -- the stream was read, in at most a thousand million reads, as these records and then this rest, the records were
--- answered, each before a further read, by the replies of a run of the hall, and the replay ended so
-pub record IsReplayed {U : Type 0} (stream after wrote written : Option (List ℕ)) (old new : Content)
-    (failed fails broke breaks asked asks : ℕ) (end : Result U ReplayFault) : Type 0 where
-  pub answered : List AnsweredRecord
+-- answered over a store, each before a further read and over the store that the one before it left, by the replies of a
+-- run of the hall, and the replay ended so
+pub record IsReplayed {H U : Type 0} (content : H → Content) (stream after wrote written : Option (List ℕ))
+    (old new : H) (failed fails broke breaks asked asks : ℕ) (end : Result U ReplayFault) : Type 0 where
+  pub records : List AnsweredRecord
   pub unread : List ℕ
   pub pieces : ℕ
   pub reads : ℕ
-  pub whole : All (λ x. IsRecord x.asked) answered
-  pub leads : Leads old new
-  pub run : new.honest → RunsOver old (exchanges_of answered) new
+  pub answered : AreAnswered content old (exchanges_of records) new
+  pub whole : All (λ x. IsRecord x.asked) records
+  pub leads : Leads (content old) (content new)
+  pub run : (content new).honest → RunsOver (content old) (exchanges_of records) (content new)
   pub seldom : reads ≤ 1000000000
   pub made : MadeCalls reads asked asks
-  pub reading : HaveReadRecords answered pieces unread
-  pub consumed : Consumes stream after (records_of answered ++ unread)
+  pub reading : HaveReadRecords records pieces unread
+  pub consumed : Consumes stream after (records_of records ++ unread)
   pub bounded : length unread ≤ 81920
-  pub ended : Ended end after wrote written answered unread pieces reads failed fails broke breaks
+  pub ended : Ended end after wrote written records unread pieces reads failed fails broke breaks

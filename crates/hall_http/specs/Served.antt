@@ -7,8 +7,8 @@ use Rattle.hall_store.specs.Store.{Content, Leads}
 use Rattle.hall_http.specs.Head.{IsWhole, IsUnfinished, NeverHas}
 use Rattle.hall_http.specs.Reading.{Reading, IsLast}
 use Rattle.hall_http.specs.Device.{WritesPart, NoneFailed, ReadFailed, WriteFailed}
-use Rattle.hall_http.specs.Connection.{Exchange, Session, requests_of, replies_of, AreOpen, IsClosing}
-use Rattle.hall_http.specs.Serving.{AreMoments, AreAnswered, RunsOver}
+use Rattle.hall_http.specs.Connection.{Exchange, Session, AreMoments, requests_of, replies_of, AreOpen, IsClosing}
+use Rattle.hall_http.specs.Serving.{AreAnswered, RunsOver}
 use Rattle.hall_http.specs.Reply.{wire_bytes, fault_status, fault_data}
 use Rattle.hall_http.specs.declared.form.FormFault.TheVariants as fault
 use Rattle.hall_http.specs.declared.status.MediaType.TheVariants as media
@@ -86,7 +86,7 @@ Ended end.Device after wrote written xs unread pieces reads failed fails broke b
     ⊎ (BreaksRefusal wrote written xs × WriteFailed failed fails broke breaks × IsNoRequest after unread pieces reads)
 
 -- the stream was read, in at most 100,000 reads, as at most 1,000 requests and then this rest, a handler answered the
--- requests, each before a further read, and the connection ended so
+-- requests at the clock's moments, each before a further read, and the connection ended so
 pub record IsHandled {H C : Type 0} (answers : H → Option ℕ → List ℕ → List ℕ → H → Type 0)
     (now_gives : C → Option ℕ → C → Type 0) (stream after wrote written : Option (List ℕ))
     (h : H) (c : C) (i : H) (d : C) (failed fails broke breaks asked asks : ℕ) (end : ServeEnd) : Type 0 where
@@ -94,7 +94,9 @@ pub record IsHandled {H C : Type 0} (answers : H → Option ℕ → List ℕ →
   pub unread : List ℕ
   pub pieces : ℕ
   pub reads : ℕ
-  pub session : Session answers now_gives h c exchanges i d
+  pub session : Session answers h exchanges i
+  pub whole : All (λ x. IsWhole x.request) exchanges
+  pub moments : AreMoments now_gives c exchanges d
   pub few : length exchanges ≤ 1000
   pub seldom : reads ≤ 100000
   pub made : MadeCalls reads asked asks
@@ -113,7 +115,7 @@ pub record IsServed {H C : Type 0} (content : H → Content) (now_gives : C → 
   pub unread : List ℕ
   pub pieces : ℕ
   pub reads : ℕ
-  pub answered : AreAnswered content now_gives old clock exchanges new later
+  pub answered : AreAnswered content old exchanges new
   pub whole : All (λ x. IsWhole x.request) exchanges
   pub moments : AreMoments now_gives clock exchanges later
   pub leads : Leads (content old) (content new)

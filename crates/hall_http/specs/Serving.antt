@@ -1,4 +1,4 @@
--- The requests of one connection, answered over a store at the moments that a clock gives.
+-- Requests that are answered over a store, one after another.
 use Rattle.std.specs.Prelude.{◌≡◌, ◌⊎◌, ℕ, List, [], ◌∷◌, Option, Some, None, Ok, All}
 use Rattle.hall_policy.specs.World.{World}
 use Rattle.hall_policy.specs.declared.request.Request.{Request}
@@ -24,17 +24,10 @@ pub record IsAnswered {H : Type 0} (content : H → Content) (old : H) (moment :
       Over (λ before after. AnswersAt before moment request reply after) (content old) (content new)
   pub untouched : AsksNothing request ⊎ (moment ≡ None) → new ≡ old
 
--- the requests are answered over a store at the moments that a clock gives, one after another, each over the store that
--- the one before it left: where a fault has shut it, by 503, or by what no store decides
-abbrev pub AreAnswered : {H C : Type 0} → (H → Content) → (C → Option ℕ → C → Type 0) → H → C → List Exchange → H → C
-    → Type 0
-AreAnswered content now_gives = Session (IsAnswered content) now_gives
-
--- the clock was asked once for each request, in their order
-abbrev pub AreMoments : {C : Type 0} → (C → Option ℕ → C → Type 0) → C → List Exchange → C → Type 0
-AreMoments now_gives clock [] later = later ≡ clock
-AreMoments {C} now_gives clock (x ∷ xs) later =
-    (next : C) × now_gives clock x.moment next × AreMoments now_gives next xs later
+-- the requests are answered over a store, one after another, each over the store that the one before it left: where a
+-- fault has shut it, by 503, or by what no store decides
+abbrev pub AreAnswered : {H : Type 0} → (H → Content) → H → List Exchange → H → Type 0
+AreAnswered content = Session (IsAnswered content)
 
 -- the bytes aren't made into a request of the hall: they are none, and their reply names the fault; or no memory or no
 -- moment was there for it, and their reply is 503

@@ -1,5 +1,5 @@
 -- What the bytes of replies tell of replies, and to one key.
-use Rattle.std.specs.Prelude.{◌≡◌, ◌&&◌, ◌⊎◌, ℕ, Bool, true, List, [], ◌∷◌, Some, All, Ok, IsTrue}
+use Rattle.std.specs.Prelude.{◌≡◌, ◌&&◌, ◌⊎◌, ℕ, Bool, true, not, List, [], ◌∷◌, Option, Some, All, Ok, IsTrue}
 use Rattle.std.specs.FinMap.{get}
 use Rattle.hall_policy.specs.World.{World}
 use Rattle.hall_policy.specs.OwnAlike.{is_entrant_alone}
@@ -13,25 +13,38 @@ use Rattle.hall_desk.specs.Without.{GrantsNoPublication, is_other_person, stays,
 use Rattle.hall_desk.specs.Exchanged.{swapped, exchanged_request, exchanged_replies, IsSealedRound}
 use Rattle.hall_desk.specs.declared.reply.Reply.{Reply}
 use Rattle.hall_desk.specs.declared.reply.Reply.TheVariants.{Unavailable as NotServed}
-use Rattle.hall_http.specs.Request.{RequestOf}
+use Rattle.hall_http.specs.Request.{RequestOf, AsksRequest}
 use Rattle.hall_http.specs.Reply.{BytesOf}
+use Rattle.hall_http.specs.Answered.{IsRefused}
 use Rattle.hall_http.specs.Connection.{Exchange}
-use Rattle.hall_http.specs.Serving.{IsRunOver}
+use Rattle.hall_http.specs.Serving.{AnswersAt, IsRunOver}
 
 -- equal replies have equal bytes
 abbrev pub HasOneSpelling : Type 0
 HasOneSpelling = (a b : Reply) (x y : List ℕ) → a ≡ b → BytesOf a x → BytesOf b y → x ≡ y
 
+-- bytes that are no request of the hall are answered alike whatever its world and the moment, where not by 503
+abbrev pub RefusalsTellNothing : Type 0
+RefusalsTellNothing =
+    (world after other left : World) (moment later : Option ℕ) (bytes text word : List ℕ) → ¬ (AsksRequest bytes) →
+    AnswersAt world moment bytes text after → AnswersAt other later bytes word left →
+    ¬ (BytesOf NotServed text) → ¬ (BytesOf NotServed word) → text ≡ word
+
 -- the bytes ask for a request that passes the test
 abbrev pub AsksFor : (Request → Bool) → Exchange → Type 0
 AsksFor test x = (request : Request) × RequestOf x.request (Ok request) × (test request ≡ true)
 
--- the texts are the bytes of the replies to the requests that pass the test, in their order
+-- the bytes ask for a request that fails the test
+abbrev pub AsksForOther : (Request → Bool) → Exchange → Type 0
+AsksForOther test x = AsksFor (λ request. not (test request)) x
+
+-- the texts are the replies to the requests that pass the test and to the bytes that are no request, in their order
 abbrev pub AreTold : (Request → Bool) → List Exchange → List (List ℕ) → Type 0
 AreTold test [] texts = texts ≡ []
 AreTold test (x ∷ xs) texts =
-    (AsksFor test x × (rest : List (List ℕ)) × (texts ≡ x.reply ∷ rest) × AreTold test xs rest)
-    ⊎ (¬ (AsksFor test x) × AreTold test xs texts)
+    ((AsksFor test x ⊎ ¬ (AsksRequest x.request)) × (rest : List (List ℕ)) × (texts ≡ x.reply ∷ rest)
+    × AreTold test xs rest)
+    ⊎ (AsksForOther test x × AreTold test xs texts)
 
 -- no reply is 503
 abbrev pub AllServed : List Exchange → Type 0
@@ -55,9 +68,9 @@ AreWithout last e (x ∷ xs) ys =
     × (y : Exchange) × (rest : List Exchange) × (ys ≡ y ∷ rest) × ComesAgain x y × AreWithout last e xs rest)
 
 -- the replies' bytes tell e nothing of others who hold the role entrant alone: two runs of the hall from a sane world,
--- one over bytes, and one over those without the others' requests, write the same bytes to the requests with e's key;
--- where no reply is 503, none grants a publication, and each request to certify that comes in both runs is answered
--- alike
+-- one over bytes, and one over those without the others' requests, write the same bytes to the requests with e's key
+-- and to the bytes that are no request; where no reply is 503, none grants a publication, and each request to certify
+-- that comes in both runs is answered alike
 abbrev pub BytesHideOthers : Type 0
 BytesHideOthers =
     (world last end : World) (e : Person) (xs ys : List Exchange) (texts others : List (List ℕ)) →
@@ -84,23 +97,29 @@ AreExchanged r a b [] ys = ys ≡ []
 AreExchanged r a b (x ∷ xs) ys =
     (y : Exchange) × (rest : List Exchange) × (ys ≡ y ∷ rest) × ComesExchanged r a b x y × AreExchanged r a b xs rest
 
--- the texts are the bytes of these replies
-abbrev pub AreBytes : List Reply → List (List ℕ) → Type 0
-AreBytes [] texts = texts ≡ []
-AreBytes (given ∷ replies) texts =
-    (text : List ℕ) × (rest : List (List ℕ)) × (texts ≡ text ∷ rest) × BytesOf given text × AreBytes replies rest
+-- the texts are, in the order of the exchanges, the bytes of these replies, one to each request that passes the test,
+-- and the refusals of the bytes that are no request
+abbrev pub AreBytes : (Request → Bool) → List Exchange → List Reply → List (List ℕ) → Type 0
+AreBytes test [] replies texts = (replies ≡ []) × (texts ≡ [])
+AreBytes test (x ∷ xs) replies texts =
+    (AsksFor test x × (given : Reply) × (later : List Reply) × (rest : List (List ℕ)) × (replies ≡ given ∷ later)
+    × (texts ≡ x.reply ∷ rest) × BytesOf given x.reply × AreBytes test xs later rest)
+    ⊎ (IsRefused x.request x.reply × (rest : List (List ℕ)) × (texts ≡ x.reply ∷ rest) × AreBytes test xs replies rest)
+    ⊎ (AsksForOther test x × AreBytes test xs replies texts)
 
 -- the first texts are the bytes of the replies to the requests with the key, and the others those of the same replies
--- in which a stands for b and b for a wherever one of them is listed as an answer to the round r
+-- in which a stands for b and b for a wherever one of them is listed as an answer to the round r; and among both, in
+-- their places, are the refusals of the bytes that are no request
 pub record AreBytesExchanged (r a b key : List ℕ) (requests : List (ℕ × Request)) (replies : List Reply)
-    (texts others : List (List ℕ)) : Type 0 where
-  pub first : AreBytes (replies_to key requests replies) texts
-  pub second : AreBytes (replies_to key requests (exchanged_replies r a b requests replies)) others
+    (xs ys : List Exchange) (texts others : List (List ℕ)) : Type 0 where
+  pub first : AreBytes (λ request. has_key key request.key) xs (replies_to key requests replies) texts
+  pub second : AreBytes (λ request. has_key key request.key) ys
+      (replies_to key requests (exchanged_replies r a b requests replies)) others
 
 -- until a sealed round's end, the replies' bytes don't tell e which of two texts is the answer: two runs of the hall
 -- from a sane world, over bytes and over those in which two answers to the round are exchanged, write to the requests
--- with e's key the bytes of the same replies, with the two texts exchanged where answers to the round are listed; where
--- no reply is 503, and each request to certify is answered alike
+-- with e's key the bytes of the same replies, with the two texts exchanged where answers to the round are listed, and
+-- to bytes that are no request their refusals; where no reply is 503, and each request to certify is answered alike
 abbrev pub BytesHideAnswers : Type 0
 BytesHideAnswers =
     (world last end : World) (r a b : List ℕ) (round : Round) (e : Person) (xs ys : List Exchange)
@@ -111,4 +130,4 @@ BytesHideAnswers =
     replies_where certifies whole.requests whole.replies ≡ replies_where certifies turned.requests turned.replies →
     AreTold (λ request. has_key e.key request.key) xs texts →
     AreTold (λ request. has_key e.key request.key) ys others →
-    AreBytesExchanged r a b e.key whole.requests whole.replies texts others
+    AreBytesExchanged r a b e.key whole.requests whole.replies xs ys texts others

@@ -1,7 +1,7 @@
 //! Laws of the definitions, each the contract of a function that does nothing.
 ghost use Rattle.hall_http.specs.Laws.{AreOneRequest, BeginsWithOneRequest, AskForOneThing};
 ghost use Rattle.hall_http.specs.Laws.{AreOneListOfRequests, AreOneListOfRecords};
-ghost use Rattle.hall_http.specs.Told.{HasOneSpelling, BytesHideOthers, BytesHideAnswers};
+ghost use Rattle.hall_http.specs.Told.{HasOneSpelling, RefusalsTellNothing, BytesHideOthers, BytesHideAnswers};
 
 /// Bytes are at most one request and ask for at most one thing. A stream begins with at most one whole request and is at
 /// most one list of requests; an input is at most one list of records.
@@ -13,12 +13,14 @@ pub fn law_requests()
     ensures one_record_list { AreOneListOfRecords }
 {}
 
-/// Equal replies have equal bytes. So the bytes of the replies to an entrant alone are the same where the requests of
-/// others who are entrants alone don't come, if no publication is granted; and until a sealed round's end, where two
-/// answers to the round are exchanged, they are those of the same replies with the two exchanged where answers to the
-/// round are listed. In neither run a reply is 503, and each request to certify that comes in both is answered alike.
+/// Equal replies have equal bytes, and bytes that are no request have one reply, whatever the world. So the bytes of the
+/// replies to an entrant alone and to what is no request are the same where the requests of others who are entrants
+/// alone don't come, if no publication is granted; and until a sealed round's end, where two answers to the round are
+/// exchanged, they are those of the same replies with the two exchanged where answers to the round are listed. In
+/// neither run a reply is 503, and each request to certify that comes in both is answered alike.
 pub fn law_bytes()
     ensures spelling { HasOneSpelling }
+    ensures refusals { RefusalsTellNothing }
     ensures others { BytesHideOthers }
     ensures answers { BytesHideAnswers }
 {}

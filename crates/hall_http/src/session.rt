@@ -56,9 +56,8 @@ pub fn replay<R: Read, W: Write, S: Store>(
     reader: &mut Counted<R>,
     writer: &mut Counted<W>,
 ) -> Result<(), ReplayFault>
-    ensures replayed { IsReplayed (R.remaining reader.old.device) (R.remaining reader.new.device)
-        (W.contents writer.old.device) (W.contents writer.new.device)
-        (S.content (kept_by desk.old)) (S.content (kept_by desk.new))
+    ensures replayed { IsReplayed S.content (R.remaining reader.old.device) (R.remaining reader.new.device)
+        (W.contents writer.old.device) (W.contents writer.new.device) (kept_by desk.old) (kept_by desk.new)
         reader.old.failures reader.new.failures writer.old.failures writer.new.failures
         reader.old.calls reader.new.calls result }
     ensures sane { SaneThen Sane (S.content (kept_by desk.old)) (S.content (kept_by desk.new)) }
@@ -79,9 +78,8 @@ fn answer_records<R: Read, W: Write, S: Store>(
     writer: &mut Counted<W>,
 ) -> Result<(), ReplayFault>
     requires { inbox ≡ [] }
-    ensures { IsReplayed (R.remaining reader.old.device) (R.remaining reader.new.device)
-        (W.contents writer.old.device) (W.contents writer.new.device)
-        (S.content (kept_by desk.old)) (S.content (kept_by desk.new))
+    ensures { IsReplayed S.content (R.remaining reader.old.device) (R.remaining reader.new.device)
+        (W.contents writer.old.device) (W.contents writer.new.device) (kept_by desk.old) (kept_by desk.new)
         reader.old.failures reader.new.failures writer.old.failures writer.new.failures
         reader.old.calls reader.new.calls result }
 {

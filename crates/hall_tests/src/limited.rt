@@ -6,7 +6,7 @@ use hall_policy::{
     ProtestRow, ProtestSink, PuzzleKey, PuzzleNumber, PuzzleRow, PuzzleState, Round, RoundId,
     RoundRow, Ruling,
 };
-use hall_store::{MapStore, RoundFlag, Store, StoreFault};
+use hall_store::{MapStore, ReadStore, RoundFlag, Store, StoreFault};
 use std::alloc::Global;
 
 /// A store that answers so many calls, and fails at each further one.
@@ -29,7 +29,7 @@ impl LimitedStore {
     }
 }
 
-impl Store for LimitedStore {
+impl ReadStore for LimitedStore {
     ghost use Rattle.hall_store.specs.Maps.{content_of};
 
     ghost content = { λ limited. content_of limited.store };
@@ -44,11 +44,6 @@ impl Store for LimitedStore {
     fn person(&mut self, alloc: Global, name: &Name) -> Result<Option<Person>, StoreFault> {
         self.spend()?;
         self.store.person(alloc, name)
-    }
-
-    fn import(&mut self, alloc: Global, people: &People) -> Result<(), StoreFault> {
-        self.spend()?;
-        self.store.import(alloc, people)
     }
 
     fn puzzle(&mut self, alloc: Global, key: &PuzzleKey) -> Result<Option<PuzzleRow>, StoreFault> {
@@ -71,44 +66,19 @@ impl Store for LimitedStore {
         self.store.puzzles_put(alloc, author)
     }
 
-    fn put_puzzle(&mut self, alloc: Global, row: PuzzleRow) -> Result<(), StoreFault> {
-        self.spend()?;
-        self.store.put_puzzle(alloc, row)
-    }
-
-    fn set_state(
-        &mut self,
-        alloc: Global,
-        key: &PuzzleKey,
-        state: PuzzleState,
-    ) -> Result<(), StoreFault> {
-        self.spend()?;
-        self.store.set_state(alloc, key, state)
-    }
-
     fn round(&mut self, alloc: Global, id: &RoundId) -> Result<Option<RoundRow>, StoreFault> {
         self.spend()?;
         self.store.round(alloc, id)
     }
 
+    fn testers_of(&mut self, alloc: Global, round: &RoundId) -> Result<Vec<Name>, StoreFault> {
+        self.spend()?;
+        self.store.testers_of(alloc, round)
+    }
+
     fn rounds(&mut self, alloc: Global) -> Result<Vec<Round>, StoreFault> {
         self.spend()?;
         self.store.rounds(alloc)
-    }
-
-    fn put_round(&mut self, alloc: Global, row: RoundRow) -> Result<(), StoreFault> {
-        self.spend()?;
-        self.store.put_round(alloc, row)
-    }
-
-    fn set_round_flag(
-        &mut self,
-        alloc: Global,
-        id: &RoundId,
-        flag: RoundFlag,
-    ) -> Result<(), StoreFault> {
-        self.spend()?;
-        self.store.set_round_flag(alloc, id, flag)
     }
 
     fn rounds_using(&mut self, alloc: Global, key: &PuzzleKey) -> Result<Vec<RoundId>, StoreFault> {
@@ -157,11 +127,6 @@ impl Store for LimitedStore {
     fn answers_in(&mut self, alloc: Global, round: &RoundId) -> Result<Vec<AnswerRow>, StoreFault> {
         self.spend()?;
         self.store.answers_in(alloc, round)
-    }
-
-    fn add_answer(&mut self, alloc: Global, row: AnswerRow) -> Result<(), StoreFault> {
-        self.spend()?;
-        self.store.add_answer(alloc, row)
     }
 
     fn feed_answers<K: AnswerSink>(
@@ -227,6 +192,58 @@ impl Store for LimitedStore {
         self.store.protests_in(alloc, round)
     }
 
+    fn feed_protests<K: ProtestSink>(
+        &mut self,
+        alloc: Global,
+        round: &RoundId,
+        sink: &mut K,
+    ) -> Result<(), StoreFault> {
+        self.spend()?;
+        self.store.feed_protests(alloc, round, sink)
+    }
+}
+
+impl Store for LimitedStore {
+    fn import(&mut self, alloc: Global, people: &People) -> Result<(), StoreFault> {
+        self.spend()?;
+        self.store.import(alloc, people)
+    }
+
+    fn put_puzzle(&mut self, alloc: Global, row: PuzzleRow) -> Result<(), StoreFault> {
+        self.spend()?;
+        self.store.put_puzzle(alloc, row)
+    }
+
+    fn set_state(
+        &mut self,
+        alloc: Global,
+        key: &PuzzleKey,
+        state: PuzzleState,
+    ) -> Result<(), StoreFault> {
+        self.spend()?;
+        self.store.set_state(alloc, key, state)
+    }
+
+    fn put_round(&mut self, alloc: Global, row: RoundRow) -> Result<(), StoreFault> {
+        self.spend()?;
+        self.store.put_round(alloc, row)
+    }
+
+    fn set_round_flag(
+        &mut self,
+        alloc: Global,
+        id: &RoundId,
+        flag: RoundFlag,
+    ) -> Result<(), StoreFault> {
+        self.spend()?;
+        self.store.set_round_flag(alloc, id, flag)
+    }
+
+    fn add_answer(&mut self, alloc: Global, row: AnswerRow) -> Result<(), StoreFault> {
+        self.spend()?;
+        self.store.add_answer(alloc, row)
+    }
+
     fn add_protest(&mut self, alloc: Global, row: ProtestRow) -> Result<(), StoreFault> {
         self.spend()?;
         self.store.add_protest(alloc, row)
@@ -240,15 +257,5 @@ impl Store for LimitedStore {
     ) -> Result<(), StoreFault> {
         self.spend()?;
         self.store.rule_protest(alloc, key, ruling)
-    }
-
-    fn feed_protests<K: ProtestSink>(
-        &mut self,
-        alloc: Global,
-        round: &RoundId,
-        sink: &mut K,
-    ) -> Result<(), StoreFault> {
-        self.spend()?;
-        self.store.feed_protests(alloc, round, sink)
     }
 }

@@ -4,7 +4,7 @@ use crate::devices::{failing_reader, failing_writer};
 use crate::limited::LimitedStore;
 use hall_desk::Desk;
 use hall_grid::Counted;
-use hall_store::{MapStore, Store};
+use hall_store::{MapStore, ReadStore, Store};
 use hall_tool::{ToolFault, init_run, judge_run, seed_run, table_run};
 use std::alloc::Global;
 use std::io::{ErrorKind, Read, Write};
@@ -93,7 +93,7 @@ const NO_ROUNDS: [&[u8]; 6] = [
 const TABLE: &[u8] = b"   1 eve                           160\n";
 
 /// Writes a table, and what was written.
-fn tabled<S: Store>(
+fn tabled<S: ReadStore>(
     alloc: Global,
     desk: &mut Desk<S>,
     round: &[u8],

@@ -18,7 +18,7 @@ use Rattle.hall_tool.specs.declared.fault.CommandFault.{CommandFault}
 use Rattle.hall_tool.specs.declared.fault.CommandFault.TheVariants as command
 use Rattle.hall_tool.specs.declared.fault.ToolFault.TheVariants as tool
 use Rattle.hall_tool.specs.declared.advice.TheConstants.{NO_MEMORY, NO_DEVICE, NO_STORE, NO_LIST, NO_FILE, IN_USE}
-use Rattle.hall_tool.specs.declared.advice.TheConstants.{NO_DATABASE, OTHER_TABLES, FULL, UNREADABLE}
+use Rattle.hall_tool.specs.declared.advice.TheConstants.{NO_DATABASE, OLD, OTHER_TABLES, FULL, UNREADABLE}
 use Rattle.hall_tool.specs.declared.advice.TheConstants.{NO_PORT, NO_CLIENT}
 use Rattle.hall_tool.specs.declared.program.TheConstants.{NO_TEXT}
 
@@ -78,6 +78,7 @@ open_told other = unreadable_told
 database_told : (fault : OpenFault) → IsFaultText (database_lines fault)
 database_told database.Missing = is_told NO_FILE.now refl refl refl
 database_told (database.Unopened error) = open_told error
+database_told database.Old = is_told OLD.now refl refl refl
 database_told (database.Refused store.Memory) = no_memory_told
 database_told (database.Refused store.Failed) = is_told OTHER_TABLES.now refl refl refl
 
@@ -108,6 +109,7 @@ are_faults_told = record {
   file = has_words 15 NO_FILE.now (codes "no such database file") refl;
   in_use = has_words 6 IN_USE.now (codes "another program") refl;
   database = has_words 18 NO_DATABASE.now (codes "no whole SQLite database") refl;
+  old = has_words 25 OLD.now (codes "the first version: `hall migrate`") refl;
   tables = has_words 25 OTHER_TABLES.now (codes "other tables") refl;
   full = has_words 6 FULL.now (codes "the disk is full") refl;
   unreadable = has_words 24 UNREADABLE.now (codes "can't be opened") refl;

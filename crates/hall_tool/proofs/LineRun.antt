@@ -1,5 +1,5 @@
 -- How a command that writes one line of its input ends.
-use Rattle.std.proofs.Common.{◌≡◌, ◌⊎◌, ℕ, List, Option, inl, inr}
+use Rattle.std.proofs.Common.{◌≡◌, ◌⊎◌, ap, ℕ, List, Option, inl, inr}
 use Rattle.std.specs.Prelude.{Result, Ok, Err, IsErrOf}
 use Rattle.std.specs.Io.KnownBytes.{Appends}
 use Rattle.hall_grid.specs.Device.{Rises, Tally}
@@ -34,7 +34,7 @@ module _ {R W : Type 0} (Writes : List ℕ → List ℕ → ℕ → Type 0) (rem
   unread_run fault cause failed same = record {
     line = tt;
     same = tt;
-    device = λ is. inl (failed is);
+    device = λ is. inl (failed is, ap (λ (t : Tally W). t.failures) same);
     part = λ is. inl same;
     memory = λ is. same;
     no_store = λ is. elim cause [ inl e ↦ absurd cc | inr e ↦ absurd cc ];
@@ -52,14 +52,14 @@ module _ {R W : Type 0} (Writes : List ℕ → List ℕ → ℕ → Type 0) (rem
   }
 
   -- the writer failed, and a first part of the line was written
-  pub broken_run : Rises writer.failures written.failures
+  pub broken_run : read.failures ≡ reader.failures → Rises writer.failures written.failures
       → ((input : List ℕ) × (line : List ℕ) × (status : ℕ) × IsInput (remaining reader.device) input
       × Writes input line status × WritesPart (contents writer.device) (contents written.device) line)
       → Ran (Err tool.Device)
-  broken_run failed told = record {
+  broken_run unfailed failed told = record {
     line = tt;
     same = tt;
-    device = λ is. inr failed;
+    device = λ is. inr (unfailed, failed);
     part = λ is. inr told;
     memory = λ is. absurd cc;
     no_store = λ is. absurd cc;

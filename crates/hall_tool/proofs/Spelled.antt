@@ -8,7 +8,7 @@ use Rattle.clap.proofs.OnLiterals.{clap_on_literals}
 use Rattle.hall_tool.specs.declared.pages.Page.{Page}
 use Rattle.hall_tool.specs.declared.pages.Page.TheVariants as pages
 use Rattle.hall_tool.specs.declared.words.Command.{Command}
-use Rattle.hall_tool.specs.declared.words.Command.TheVariants.{Judge, Solve, Init, Serve, Replay, Table}
+use Rattle.hall_tool.specs.declared.words.Command.TheVariants.{Judge, Solve, Init, Serve, Replay, Table, Migrate}
 use Rattle.hall_tool.specs.declared.words.Command.TheVariants.{Help, Version}
 use Rattle.hall_tool.specs.declared.words.Numbers.{Numbers}
 use Rattle.hall_tool.specs.Words.{AreSpelled, AsksFor, IsNumber, IsTaken, SpellOneCommand}
@@ -27,6 +27,8 @@ are_spelled = record {
   replay = λ path. inl (refl, (refl, refl));
   apart = inl (refl, (refl, refl));
   table = λ db round. inl (refl, (refl, refl, refl));
+  migrate = λ from to. inl (refl, (refl, refl, refl));
+  turned = λ from to. inl (refl, (refl, refl, refl));
   help = inr (DisplayHelp, refl, (refl, refl));
   judge_help = inr (DisplayHelp, refl, (refl, refl));
   solve_help = inr (DisplayHelp, refl, (refl, refl));
@@ -34,6 +36,7 @@ are_spelled = record {
   serve_help = inr (DisplayHelp, refl, (refl, refl));
   replay_help = inr (DisplayHelp, refl, (refl, refl));
   table_help = inr (DisplayHelp, refl, (refl, refl));
+  migrate_help = inr (DisplayHelp, refl, (refl, refl));
   version = inr (DisplayVersion, refl, refl);
 }
 
@@ -56,6 +59,9 @@ TakenBy pages.Replay rows command =
 TakenBy pages.Table rows command =
     (db : Text) × (round : Text) × (first_of (codes "db") rows ≡ Some db) × (first_of (codes "round") rows ≡ Some round)
     × (command ≡ Table db round)
+TakenBy pages.Migrate rows command =
+    (from : Text) × (to : Text) × (first_of (codes "from") rows ≡ Some from) × (first_of (codes "to") rows ≡ Some to)
+    × (command ≡ Migrate from to)
 
 taken_by : (page : Page) (rows : List Row) (command : Command) → IsTaken page rows command → TakenBy page rows command
 taken_by page rows Judge t = subst (λ p. TakenBy p rows Judge) (sym t) refl
@@ -68,6 +74,8 @@ taken_by page rows (Serve db port connections) t =
 taken_by page rows (Replay people) t = subst (λ p. TakenBy p rows (Replay people)) (sym t.0) (people, t.1, refl)
 taken_by page rows (Table db round) t =
     subst (λ p. TakenBy p rows (Table db round)) (sym t.0) (db, round, t.1, t.2, refl)
+taken_by page rows (Migrate from to) t =
+    subst (λ p. TakenBy p rows (Migrate from to)) (sym t.0) (from, to, t.1, t.2, refl)
 taken_by page rows (Help asked) t = absurd t
 taken_by page rows Version t = absurd t
 
@@ -103,6 +111,10 @@ one_by pages.Table rows one other s t =
     let db = same_word s.2 t.2 in
     let round = same_word s.3 t.3 in
     s.4 ∙ ap (λ d. Table d s.1) db ∙ ap (λ r. Table t.0 r) round ∙ sym t.4
+one_by pages.Migrate rows one other s t =
+    let from = same_word s.2 t.2 in
+    let to = same_word s.3 t.3 in
+    s.4 ∙ ap (λ f. Migrate f s.1) from ∙ ap (λ g. Migrate t.0 g) to ∙ sym t.4
 
 one_asked : (page : Page) (kind : ErrorKind) (one other : Command) → AsksFor page kind one → AsksFor page kind other
     → one ≡ other

@@ -16,7 +16,7 @@ use Rattle.clap.proofs.OnLiterals.{clap_on_literals}
 use Rattle.hall_tool.specs.declared.pages.Page.{Page}
 use Rattle.hall_tool.specs.declared.pages.Page.TheVariants as pages
 use Rattle.hall_tool.specs.declared.words.Command.{Command}
-use Rattle.hall_tool.specs.declared.words.Command.TheVariants.{Judge, Solve, Init, Serve, Replay, Table}
+use Rattle.hall_tool.specs.declared.words.Command.TheVariants.{Judge, Solve, Init, Serve, Replay, Table, Migrate}
 use Rattle.hall_tool.specs.declared.words.Command.TheVariants.{Help, Version}
 use Rattle.hall_tool.specs.Pages.{line_of}
 use Rattle.hall_tool.specs.declared.words.WordsFault.{WordsFault}
@@ -35,9 +35,9 @@ differs a b unlike = go (bytes_eq a b) refl
 -- a first word that is no command's name
 pub no_command : {X : Type 0} (f : X → Text) (xs : List X) (x : X) → Some x ≡ slice_get xs 0
     → f x ≢ codes "judge" → f x ≢ codes "solve" → f x ≢ codes "init" → f x ≢ codes "serve" → f x ≢ codes "replay"
-    → f x ≢ codes "table" → pages.Hall ≡ page_of (map f xs)
-no_command f [] x e judge solve init serve replay table = cc
-no_command f (y ∷ ys) x e judge solve init serve replay table =
+    → f x ≢ codes "table" → f x ≢ codes "migrate" → pages.Hall ≡ page_of (map f xs)
+no_command f [] x e judge solve init serve replay table migrate = cc
+no_command f (y ∷ ys) x e judge solve init serve replay table migrate =
     let same : f x ≡ f y = ap f (ap (λ o. unwrap_or o x) e) in
     rw (
       ← same,
@@ -47,6 +47,7 @@ no_command f (y ∷ ys) x e judge solve init serve replay table =
       differs (f x) (codes "serve") serve,
       differs (f x) (codes "replay") replay,
       differs (f x) (codes "table") table,
+      differs (f x) (codes "migrate") migrate,
     ) refl
 
 -- what holds of the value that clap's matches give for an option
@@ -73,6 +74,7 @@ no_budget rows none (Init db people) t = let page = t.0 in cc
 no_budget rows none (Serve db port connections) t = let page = t.0 in cc
 no_budget rows none (Replay people) t = let page = t.0 in cc
 no_budget rows none (Table db round) t = let page = t.0 in cc
+no_budget rows none (Migrate from to) t = let page = t.0 in cc
 no_budget rows none (Help page) t = absurd t
 no_budget rows none Version t = absurd t
 
@@ -86,6 +88,7 @@ line_simple pages.Init = refl
 line_simple pages.Serve = refl
 line_simple pages.Replay = refl
 line_simple pages.Table = refl
+line_simple pages.Migrate = refl
 
 pub line_free : (page : Page) → is_simple_and_free (line_of page) ≡ true
 unfolding clap_on_literals
@@ -96,6 +99,7 @@ line_free pages.Init = refl
 line_free pages.Serve = refl
 line_free pages.Replay = refl
 line_free pages.Table = refl
+line_free pages.Migrate = refl
 
 one_fault : (page : Page) (words : List Text) → IsSingle (fault_of (line_of page) words)
 one_fault pages.Hall words =
@@ -112,6 +116,8 @@ one_fault pages.Replay words =
     built_one (built (line_of pages.Replay)).top (argument_words (built (line_of pages.Replay)) words) refl
 one_fault pages.Table words =
     built_one (built (line_of pages.Table)).top (argument_words (built (line_of pages.Table)) words) refl
+one_fault pages.Migrate words =
+    built_one (built (line_of pages.Migrate)).top (argument_words (built (line_of pages.Migrate)) words) refl
 
 pub none_is_some : (k : ErrorKind) → ◌≡◌ {A = Kinds} [] (k ∷ []) → ⊥
 none_is_some k e = cc
@@ -128,6 +134,7 @@ asked_is page kind (Init db people) asks = absurd asks
 asked_is page kind (Serve db port connections) asks = absurd asks
 asked_is page kind (Replay people) asks = absurd asks
 asked_is page kind (Table db round) asks = absurd asks
+asked_is page kind (Migrate from to) asks = absurd asks
 asked_is page kind (Help asked) asks = inl (asks.1, ap Help asks.0)
 asked_is page kind Version asks = inr (asks, refl)
 

@@ -17,7 +17,7 @@ use Rattle.hall_tool.specs.declared.fault.CommandFault.{CommandFault}
 use Rattle.hall_tool.specs.declared.fault.CommandFault.TheVariants as command
 use Rattle.hall_tool.specs.declared.fault.ToolFault.TheVariants as tool
 use Rattle.hall_tool.specs.declared.advice.TheConstants.{NO_MEMORY, NO_DEVICE, NO_STORE, NO_LIST, NO_FILE, IN_USE}
-use Rattle.hall_tool.specs.declared.advice.TheConstants.{NO_DATABASE, OTHER_TABLES, FULL, UNREADABLE}
+use Rattle.hall_tool.specs.declared.advice.TheConstants.{NO_DATABASE, OLD, OTHER_TABLES, FULL, UNREADABLE}
 use Rattle.hall_tool.specs.declared.advice.TheConstants.{NO_PORT, NO_CLIENT}
 use Rattle.hall_tool.specs.declared.program.TheConstants.{NO_TEXT}
 
@@ -44,6 +44,7 @@ open_lines other = UNREADABLE.now
 abbrev pub database_lines : OpenFault → List ℕ
 database_lines database.Missing = NO_FILE.now
 database_lines (database.Unopened error) = open_lines error
+database_lines database.Old = OLD.now
 database_lines (database.Refused store.Memory) = NO_MEMORY.now
 database_lines (database.Refused store.Failed) = OTHER_TABLES.now
 
@@ -71,7 +72,7 @@ IsErrorText text =
 abbrev pub fault_texts : List (List ℕ)
 fault_texts =
     NO_MEMORY.now ∷ NO_DEVICE.now ∷ NO_STORE.now ∷ NO_LIST.now ∷ NO_FILE.now ∷ IN_USE.now ∷ NO_DATABASE.now
-    ∷ OTHER_TABLES.now ∷ FULL.now ∷ UNREADABLE.now ∷ NO_PORT.now ∷ NO_CLIENT.now ∷ NO_TEXT.now ∷ []
+    ∷ OLD.now ∷ OTHER_TABLES.now ∷ FULL.now ∷ UNREADABLE.now ∷ NO_PORT.now ∷ NO_CLIENT.now ∷ NO_TEXT.now ∷ []
 
 -- each fault is told on two lines, and a word that is no text on one; no two of the texts are the same; and each has
 -- the words for what failed
@@ -86,6 +87,7 @@ pub record AreFaultsTold : Type 0 where
   pub file : HasSubslice NO_FILE.now (codes "no such database file")
   pub in_use : HasSubslice IN_USE.now (codes "another program")
   pub database : HasSubslice NO_DATABASE.now (codes "no whole SQLite database")
+  pub old : HasSubslice OLD.now (codes "the first version: `hall migrate`")
   pub tables : HasSubslice OTHER_TABLES.now (codes "other tables")
   pub full : HasSubslice FULL.now (codes "the disk is full")
   pub unreadable : HasSubslice UNREADABLE.now (codes "can't be opened")

@@ -43,7 +43,7 @@ IsReplayRun {S} {R} {W} content can_fail remaining contents list old new reader 
     × (read ≡ reader))
     ⊎ ((seeded : S) × (told : Tally W) × (end : Result (Unit {0}) ReplayFault)
     × IsSeedRun can_fail contents list (content old) (content seeded) writer told (Ok 0)
-    × IsReplayed (remaining reader.device) (remaining read.device) (contents told.device) (contents written.device)
-    (content seeded) (content new) reader.failures read.failures told.failures written.failures
+    × IsReplayed content (remaining reader.device) (remaining read.device) (contents told.device)
+    (contents written.device) seeded new reader.failures read.failures told.failures written.failures
     reader.calls read.calls end
     × (result ≡ replay_end end))

@@ -9,7 +9,7 @@ use Rattle.clap.specs.declared.error.kind.ErrorKind.TheVariants.{DisplayHelp, Di
 use Rattle.hall_tool.specs.declared.pages.Page.{Page}
 use Rattle.hall_tool.specs.declared.pages.Page.TheVariants as pages
 use Rattle.hall_tool.specs.declared.words.Command.{Command}
-use Rattle.hall_tool.specs.declared.words.Command.TheVariants.{Judge, Solve, Init, Serve, Replay, Table}
+use Rattle.hall_tool.specs.declared.words.Command.TheVariants.{Judge, Solve, Init, Serve, Replay, Table, Migrate}
 use Rattle.hall_tool.specs.declared.words.Command.TheVariants.{Help, Version}
 use Rattle.hall_tool.specs.declared.words.Numbers.{Numbers}
 use Rattle.hall_tool.specs.declared.words.WordsFault.{WordsFault}
@@ -26,7 +26,8 @@ page_of (name ∷ rest) =
     else (if bytes_eq name (codes "serve") then pages.Serve
     else (if bytes_eq name (codes "replay") then pages.Replay
     else (if bytes_eq name (codes "table") then pages.Table
-    else pages.Hall)))))
+    else (if bytes_eq name (codes "migrate") then pages.Migrate
+    else pages.Hall))))))
 
 -- what is wrong with the words, or asked for by them in place of a run
 abbrev pub faults_of : List Text → Kinds
@@ -77,6 +78,10 @@ IsTaken page options (Table db round) =
     (page ≡ pages.Table)
     × (first_of (codes "db") options ≡ Some db)
     × (first_of (codes "round") options ≡ Some round)
+IsTaken page options (Migrate from to) =
+    (page ≡ pages.Migrate)
+    × (first_of (codes "from") options ≡ Some from)
+    × (first_of (codes "to") options ≡ Some to)
 IsTaken page options other = ⊥
 
 -- what a fault of this kind asks for in place of a run: a page of help, or the version
@@ -141,6 +146,10 @@ pub record AreSpelled : Type 0 where
   pub apart : Spells (codes "replay" ∷ codes "--people" ∷ codes "people.csv" ∷ []) (Replay (codes "people.csv"))
   pub table : (db round : Text)
       → Spells (codes "table" ∷ (codes "--db=" ++ db) ∷ (codes "--round=" ++ round) ∷ []) (Table db round)
+  pub migrate : (from to : Text)
+      → Spells (codes "migrate" ∷ (codes "--from=" ++ from) ∷ (codes "--to=" ++ to) ∷ []) (Migrate from to)
+  pub turned : (from to : Text)
+      → Spells (codes "migrate" ∷ (codes "--to=" ++ to) ∷ (codes "--from=" ++ from) ∷ []) (Migrate from to)
   pub help : Spells (codes "--help" ∷ []) (Help pages.Hall)
   pub judge_help : Spells (codes "judge" ∷ codes "--help" ∷ []) (Help pages.Judge)
   pub solve_help : Spells (codes "solve" ∷ codes "--help" ∷ []) (Help pages.Solve)
@@ -148,4 +157,5 @@ pub record AreSpelled : Type 0 where
   pub serve_help : Spells (codes "serve" ∷ codes "--help" ∷ []) (Help pages.Serve)
   pub replay_help : Spells (codes "replay" ∷ codes "--help" ∷ []) (Help pages.Replay)
   pub table_help : Spells (codes "table" ∷ codes "--help" ∷ []) (Help pages.Table)
+  pub migrate_help : Spells (codes "migrate" ∷ codes "--help" ∷ []) (Help pages.Migrate)
   pub version : Spells (codes "--version" ∷ []) Version

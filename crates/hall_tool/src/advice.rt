@@ -31,6 +31,10 @@ const IN_USE: &str = told!(
     "another program has the database open: end it, or wait for it, and try again"
 );
 
+const OLD: &str = told!(
+    "the database is of the first version: `hall migrate` copies its rows into one of the second"
+);
+
 const NO_DATABASE: &str = told!(
     "the file is no whole SQLite database: name another, or put back a copy"
 );
@@ -83,6 +87,7 @@ fn database_lines(fault: &OpenFault) -> &'static str
     match fault {
         OpenFault::Missing => NO_FILE,
         OpenFault::Unopened(error) => open_lines(error),
+        OpenFault::Old => OLD,
         OpenFault::Refused(StoreFault::Memory) => NO_MEMORY,
         OpenFault::Refused(StoreFault::Failed) => OTHER_TABLES,
     }

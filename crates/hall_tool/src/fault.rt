@@ -1,6 +1,9 @@
 //! Why a command gave up.
+ghost use Rattle.std.specs.Prelude.{◌≡◌, ◌⊎◌};
+
 use hall_http::DeviceFault;
 use hall_sql::OpenFault;
+use hall_store::StoreFault;
 use std::alloc::{AllocError, AllocFailed};
 use std::io;
 
@@ -60,5 +63,16 @@ impl From<DeviceFault> for ToolFault {
 
     fn from(_e: DeviceFault) -> ToolFault {
         ToolFault::Device
+    }
+}
+
+/// A fault of the store, as it is told.
+pub(crate) fn told(fault: StoreFault) -> ToolFault
+    ensures { ((fault ≡ StoreFault.Memory) × (result ≡ ToolFault.Memory))
+        ⊎ ((fault ≡ StoreFault.Failed) × (result ≡ ToolFault.Store)) }
+{
+    match fault {
+        StoreFault::Memory => ToolFault::Memory,
+        StoreFault::Failed => ToolFault::Store,
     }
 }

@@ -11,19 +11,20 @@ const HALL: &str = "\
 A contest hall: judges answers to puzzles, searches for the solutions of a puzzle, and holds rounds over HTTP, whose
 records stand in an SQLite database.
 
-Usage: hall judge|solve|init|serve|table|replay [OPTIONS] < FILE
+Usage: hall judge|solve|init|serve|table|replay|migrate [OPTIONS] < FILE
 
 Options:
   -h, --help     Print help
   -V, --version  Print version
 
 Commands:
-  judge   Judge the answer to a puzzle
-  solve   Search for the solutions of a puzzle
-  init    Import the people of an entry list into a database file
-  serve   Serve a database file over HTTP
-  table   Write the table of a published round
-  replay  Answer recorded requests
+  judge    Judge the answer to a puzzle
+  solve    Search for the solutions of a puzzle
+  init     Import the people of an entry list into a database file
+  serve    Serve a database file over HTTP
+  table    Write the table of a published round
+  replay   Answer recorded requests
+  migrate  Copy a database file of the first version into one of the second
 
 `hall COMMAND --help` tells more of a command.
 
@@ -156,6 +157,28 @@ Example:
   $ hall table --db hall.db --round r1
 ";
 
+const MIGRATE: &str = "\
+Copies the rows of a database file of the first version, which has six tables, into one of the second, which has seven.
+
+Writes `migrated` and how many rows were copied: all, into a file without a row, which is made where it isn't there, and
+0 where it holds the same already. Where F isn't there or is of another version, it writes `refused source` and makes no
+file; where G holds other rows, `refused target`. F keeps its rows, and G gets all of them or none.
+
+Usage: hall migrate --from F --to G
+
+Options:
+      --from <F>  The database file F, of the first version
+      --to <G>    The database file G, of the second version
+  -h, --help      Print help
+
+Exit status: 0 where G holds the rows of F; 2 where one of the two is refused; 3 where a file can't be opened, read or
+written, with `fault` on standard error and what to do.
+
+Example:
+  $ hall migrate --from old.db --to hall.db
+  migrated 6
+";
+
 /// The text of a page of help: what the command does, its options with their ranges and defaults, and an example.
 pub fn help_text(page: Page) -> &'static str
     ensures { result.now ≡ help_text page }
@@ -168,5 +191,6 @@ pub fn help_text(page: Page) -> &'static str
         Page::Serve => SERVE,
         Page::Replay => REPLAY,
         Page::Table => TABLE,
+        Page::Migrate => MIGRATE,
     }
 }

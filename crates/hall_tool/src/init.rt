@@ -1,5 +1,5 @@
 //! People of an entry list, who are imported into what the store keeps.
-ghost use Rattle.std.specs.Prelude.{◌≡◌, ◌≤◌, ◌+◌, ◌++◌, ℕ, List, IfOk, IsErrOf, OnErr, [], length, string_bytes};
+ghost use Rattle.std.specs.Prelude.{◌≡◌, ◌≤◌, ℕ, List, IfOk, IsErrOf, OnErr, [], string_bytes};
 ghost use Rattle.std.specs.String.{string_capacity, string_len};
 ghost use Rattle.std.specs.Io.KnownBytes.{Appends};
 ghost use Rattle.hall_grid.specs.Device.{Rises};
@@ -10,48 +10,18 @@ ghost use Rattle.hall_http.specs.Device.{WritesPart};
 ghost use Rattle.hall_sheet.specs.People.{people_in};
 ghost use Rattle.hall_sheet.specs.declared.fault.Refusal.{Refusal};
 ghost use Rattle.std.specs.Prelude.{Err};
-ghost use Rattle.hall_tool.specs.InitText.{InitText, added_line, init_line};
+ghost use Rattle.hall_tool.specs.InitText.{InitText, init_line};
 ghost use Rattle.hall_tool.specs.SeedText.{AddsNobody, seeded_status};
 
-use crate::ending::Ending;
+use crate::ending::{Ending, ROOM, counted};
 use crate::fault::ToolFault;
 use crate::seed::{Seeded, seed_desk, seeded_ending};
 use hall_desk::Desk;
 use hall_grid::Counted;
 use hall_http::write_all;
 use hall_store::Store;
-use itoa::Buffer;
 use std::alloc::{AllocError, Global};
 use std::io::Write;
-
-/// Room for `added`, a number of at most 20 digits and the line's end.
-const ROOM: usize = 64;
-
-/// Appends a text for which there is room.
-fn push(line: &mut String, text: &str)
-    requires { string_len line.old + length text.now ≤ string_capacity line.old }
-    ensures bytes { string_bytes line.new ≡ string_bytes line.old ++ text.now }
-    ensures len { string_len line.new ≡ string_len line.old + length text.now }
-    ensures capacity { string_capacity line.old ≤ string_capacity line.new }
-{
-    if line.push_str(text).is_err() {
-        unreachable!();
-    }
-}
-
-/// How many people were added, on the empty line that has room for it.
-fn added_ending(mut line: String, count: u64) -> Ending
-    requires empty { string_bytes line ≡ [] }
-    requires begins { string_len line ≡ 0 }
-    requires room { 64 ≤ string_capacity line }
-    ensures line { string_bytes result.line ≡ added_line count }
-    ensures status { result.status ≡ 0 }
-{
-    push(&mut line, "added ");
-    push(&mut line, Buffer::new().format(count));
-    push(&mut line, "\n");
-    Ending { line, status: 0 }
-}
 
 /// What came of the list, on a line; the empty line given has room for a number of people.
 fn init_ending(alloc: Global, line: String, seeded: Seeded) -> Result<Ending, AllocError>
@@ -62,7 +32,7 @@ fn init_ending(alloc: Global, line: String, seeded: Seeded) -> Result<Ending, Al
     ensures memory { OnErr result (AddsNobody seeded) }
 {
     match seeded {
-        Seeded::Added(count) => Ok(added_ending(line, count)),
+        Seeded::Added(count) => Ok(counted(line, "added ", count)),
         Seeded::Refused(_) | Seeded::Denied(_) => seeded_ending(alloc, seeded),
     }
 }

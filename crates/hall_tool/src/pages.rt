@@ -44,6 +44,16 @@ pub(crate) const ROUND: ValueOption = ValueOption {
     value: "R",
 };
 
+pub(crate) const FROM: ValueOption = ValueOption {
+    name: "from",
+    value: "F",
+};
+
+pub(crate) const TO: ValueOption = ValueOption {
+    name: "to",
+    value: "G",
+};
+
 /// A page of help: the program's own, or that of a command.
 #[derive(Clone, Copy, Debug, PartialEq, Eq)]
 pub enum Page {
@@ -54,6 +64,7 @@ pub enum Page {
     Serve,
     Replay,
     Table,
+    Migrate,
 }
 
 /// The command line that the page is of.
@@ -68,6 +79,7 @@ pub(crate) fn command_line<'a>(alloc: Global, page: Page) -> Result<Command<'a>,
         Page::Serve => serve_line(alloc),
         Page::Replay => replay_line(alloc),
         Page::Table => table_line(alloc),
+        Page::Migrate => migrate_line(alloc),
     }
 }
 
@@ -78,7 +90,7 @@ fn hall_line<'a>(alloc: Global) -> Command<'a>
     Command::new(alloc, "hall")
         .no_binary_name(true)
         .version(VERSION)
-        .override_usage("hall judge|solve|init|serve|table|replay [OPTIONS] < FILE")
+        .override_usage("hall judge|solve|init|serve|table|replay|migrate [OPTIONS] < FILE")
 }
 
 fn judge_line<'a>(alloc: Global) -> Command<'a>
@@ -129,6 +141,15 @@ fn table_line<'a>(alloc: Global) -> Result<Command<'a>, AllocError>
         .override_usage("hall table --db F --round R")
         .arg(option(alloc, &DB))?
         .arg(option(alloc, &ROUND))
+}
+
+fn migrate_line<'a>(alloc: Global) -> Result<Command<'a>, AllocError>
+    ensures { IfOk result (λ line. app_of line ≡ line_of Page.Migrate) }
+{
+    Command::new(alloc, "migrate")
+        .override_usage("hall migrate --from F --to G")
+        .arg(option(alloc, &FROM))?
+        .arg(option(alloc, &TO))
 }
 
 fn option<'a>(alloc: Global, named: &ValueOption) -> Arg<'a>

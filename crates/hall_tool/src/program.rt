@@ -3,9 +3,10 @@ ghost use Rattle.std.specs.Prelude.{◌≡◌, ◌⊎◌, map, string_bytes};
 ghost use Rattle.std.specs.IoError.{error_kind};
 ghost use Rattle.sqlite.specs.Held.{state};
 ghost use Rattle.hall_http.specs.Listener.{AreServed};
-ghost use Rattle.hall_sql.specs.Opened.{IsCauseAt, IsCauseThere, OpensAt, OpensThere};
+ghost use Rattle.hall_sql.specs.Opened.{IsCauseAt, IsCauseThere, IsOldAsked, OpensAt, OpensThere};
 ghost use Rattle.hall_sql.specs.Standing.{content_of};
-ghost use Rattle.hall_tool.specs.CommandRun.{IsCommandRun};
+ghost use Rattle.hall_tool.specs.CommandRun.{IsCommandRun, UnlessMigrate};
+ghost use Rattle.hall_tool.specs.Migrate.{IsMigrateAt};
 ghost use Rattle.hall_tool.specs.Status.{status_of};
 ghost use Rattle.hall_tool.specs.Tasks.{DoesServe};
 ghost use Rattle.hall_tool.specs.WordsRun.{AreNoWords, AreWordsRun, IsEndTold, IsRefused, IsTold, IsWanting};
@@ -32,10 +33,20 @@ const USAGE: u8 = 64;
 const NO_TEXT: &str = "error: a word is no text\n";
 
 /// Runs the command that the words after the program's name spell, over the files, the host, the input and the output,
-/// and gives the exit status. Of a fault it is told on `error`, on two lines, that there is one and what to do; words
+/// and gives the exit status. A database that is migrated is asked for among the files `sources`. Of a fault it is told on `error`, on two lines, that there is one and what to do; words
 /// that spell no command are refused there. Where `error` fails, the status is the same.
-pub fn run_words<S: Alter + Drop, F: PathFiles<S>, H: Host, R: Read, W: Write, E: Write>(
+pub fn run_words<
+    O: Alter + Drop,
+    G: PathFiles<O>,
+    S: Alter + Drop,
+    F: PathFiles<S>,
+    H: Host,
+    R: Read,
+    W: Write,
+    E: Write,
+>(
     alloc: Global,
+    sources: &mut G,
     files: &mut F,
     host: &mut H,
     words: &[String],
@@ -43,21 +54,25 @@ pub fn run_words<S: Alter + Drop, F: PathFiles<S>, H: Host, R: Read, W: Write, E
     output: &mut Counted<W>,
     error: &mut Counted<E>,
 ) -> u8
-    ensures { AreWordsRun (λ command ended. IsCommandRun S.Store F.image_at F.gives F.withholds
+    ensures { AreWordsRun (λ command ended. UnlessMigrate command (sources.new ≡ sources.old) × IsCommandRun S.Store F.image_at F.gives F.withholds
         (OpensAt S.Store F.image_at F.opens) (IsCauseAt S.Store F.image_at F.refuses F.opens F.closes)
         (OpensThere S.Store F.image_at F.tells F.opens)
         (IsCauseThere S.Store F.image_at F.tells F.refuses F.opens F.closes) F.closes
         (DoesServe H.listens H.refuses H.shows
         (AreServed H.Listener.accepts H.Listener.lets_go H.Listener.Line.hands_out H.Listener.Line.refuses
         H.Listener.Line.hears H.Listener.Line.Reader.remaining H.Listener.Line.Writer.contents
-        (λ s. content_of (state S.Store s)) H.Clock.now_gives)) R.remaining W.contents command
+        (λ s. content_of (state S.Store s)) H.Clock.now_gives))
+        (λ from to. IsMigrateAt O.Store S.Store
+        (IsOldAsked O.Store G.image_at G.tells G.refuses G.opens G.closes) G.image_at G.closes
+        F.image_at (OpensAt S.Store F.image_at F.opens) (IsCauseAt S.Store F.image_at F.refuses F.opens F.closes)
+        F.closes W.contents from to sources.old sources.new) R.remaining W.contents command
         files.old files.new host.old host.new input.old input.new output.old output.new ended)
-        ((files.new ≡ files.old) × (host.new ≡ host.old) × (input.new ≡ input.old) × (output.new ≡ output.old))
+        ((sources.new ≡ sources.old) × (files.new ≡ files.old) × (host.new ≡ host.old) × (input.new ≡ input.old) × (output.new ≡ output.old))
         E.contents (map string_bytes words.now) error.old error.new result }
 {
     match read_words(alloc, words) {
         Ok(command) => end(
-            run_command(alloc, files, host, &command, input, output),
+            run_command(alloc, sources, files, host, &command, input, output),
             error,
         ),
         Err(fault) => match fault {

@@ -1,5 +1,5 @@
-//! The pages of help, and the version.
-ghost use Rattle.hall_tool.specs.Shown.{IsShown};
+//! Texts that are shown as they are: the pages of help, the version, and lines that say no more than themselves.
+ghost use Rattle.hall_tool.specs.Shown.{IsShown, IsShownBy};
 
 use crate::fault::ToolFault;
 use hall_grid::Counted;
@@ -10,8 +10,19 @@ use std::io::Write;
 pub fn show_run<W: Write>(text: &str, writer: &mut Counted<W>) -> Result<u8, ToolFault>
     ensures { IsShown W.contents text.now writer.old writer.new result }
 {
+    show(text, 0, writer)
+}
+
+/// Writes the text, with which this exit status goes.
+pub(crate) fn show<W: Write>(
+    text: &str,
+    status: u8,
+    writer: &mut Counted<W>,
+) -> Result<u8, ToolFault>
+    ensures { IsShownBy status W.contents text.now writer.old writer.new result }
+{
     match write_all(writer, text.as_bytes()) {
-        Ok(()) => Ok(0),
+        Ok(()) => Ok(status),
         Err(_) => Err(ToolFault::Device),
     }
 }

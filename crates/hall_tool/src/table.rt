@@ -12,12 +12,12 @@ ghost use Rattle.hall_tool.specs.SeedText.{denial_of};
 ghost use Rattle.hall_tool.specs.TableText.{IsOtherReply, IsTableOver, IsTableWritten, MayFail, TableText};
 
 use crate::ending::Ending;
-use crate::fault::ToolFault;
+use crate::fault::{ToolFault, told};
 use hall_desk::{Desk, Plan, Reply};
 use hall_grid::Counted;
 use hall_http::write_all;
 use hall_policy::{Action, Moment, Request, RoundId};
-use hall_store::{Store, StoreFault};
+use hall_store::ReadStore;
 use std::alloc::{AllocError, Global};
 use std::io::Write;
 
@@ -70,19 +70,8 @@ fn written_of(alloc: Global, plan: Plan) -> Result<Ending, ToolFault>
     ending
 }
 
-/// A fault of the store, as it is told.
-fn told(fault: StoreFault) -> ToolFault
-    ensures { ((fault ≡ StoreFault.Memory) × (result ≡ ToolFault.Memory))
-        ⊎ ((fault ≡ StoreFault.Failed) × (result ≡ ToolFault.Store)) }
-{
-    match fault {
-        StoreFault::Memory => ToolFault::Memory,
-        StoreFault::Failed => ToolFault::Store,
-    }
-}
-
 /// The round's table, as it is written.
-fn table_of<S: Store>(
+fn table_of<S: ReadStore>(
     alloc: Global,
     desk: &mut Desk<S>,
     round: RoundId,
@@ -110,7 +99,7 @@ fn table_of<S: Store>(
 }
 
 /// What is written of the table of the round that the bytes name.
-fn table_ending<S: Store>(
+fn table_ending<S: ReadStore>(
     alloc: Global,
     desk: &mut Desk<S>,
     round: &[u8],
@@ -131,7 +120,7 @@ fn table_ending<S: Store>(
 /// round that isn't there, or bytes that are no round's id, 15 for one that isn't published. The result is the exit
 /// status: 0 for the table, 2 for a denial. The world stays. `Store` is answered only where the store can fail, or its
 /// world isn't sane.
-pub fn table_run<S: Store, W: Write>(
+pub fn table_run<S: ReadStore, W: Write>(
     alloc: Global,
     desk: &mut Desk<S>,
     round: &[u8],

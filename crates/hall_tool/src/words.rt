@@ -4,7 +4,9 @@ ghost use Rattle.clap.specs.Words.{first_of, found_of, kind_of, rows_of};
 ghost use Rattle.hall_tool.specs.Words.{IfLine, SpellsNone, IsNumber, IsNumberWithin, Spells, page_of};
 ghost use Rattle.hall_tool.specs.Words.{IsNoNumber, IsTaken, TakesNone, AsksFor, AsksNone};
 
-use crate::pages::{BUDGET, CONNECTIONS, DB, PEOPLE, PORT, Page, ROUND, ValueOption, command_line};
+use crate::pages::{
+    BUDGET, CONNECTIONS, DB, FROM, PEOPLE, PORT, Page, ROUND, TO, ValueOption, command_line,
+};
 use crate::word::Word;
 use clap::ArgMatches;
 use clap::error::{Error, ErrorKind};
@@ -69,6 +71,12 @@ pub enum Command {
         db: Word,
         round: Word,
     },
+    /// Copy the rows of the database file at the path `from`, of the first version, into the one at the path `to`, made
+    /// there where there is none.
+    Migrate {
+        from: Word,
+        to: Word,
+    },
     /// Show a page of help.
     Help(Page),
     /// Show the version.
@@ -123,6 +131,7 @@ fn page_of(words: &[String]) -> Page
         "serve" => Page::Serve,
         "replay" => Page::Replay,
         "table" => Page::Table,
+        "migrate" => Page::Migrate,
         _ => Page::Hall,
     }
 }
@@ -145,6 +154,7 @@ fn taken<'a>(
         Page::Serve => serve_taken(alloc, line, matches),
         Page::Replay => replay_taken(alloc, line, matches),
         Page::Table => table_taken(alloc, line, matches),
+        Page::Migrate => migrate_taken(alloc, line, matches),
     }
 }
 
@@ -216,6 +226,19 @@ fn table_taken<'a>(
     let db = word(alloc, line, matches, &DB)?;
     let round = word(alloc, line, matches, &ROUND)?;
     Ok(Command::Table { db, round })
+}
+
+fn migrate_taken<'a>(
+    alloc: Global,
+    line: &mut clap::Command<'a>,
+    matches: &ArgMatches<'a>,
+) -> Result<Command, WordsFault>
+    ensures command { IfOk result (IsTaken Page.Migrate (rows_of (found_of matches.now))) }
+    ensures fault { IfErr result (λ fault. IfLine fault (TakesNone Page.Migrate (rows_of (found_of matches.now)))) }
+{
+    let from = word(alloc, line, matches, &FROM)?;
+    let to = word(alloc, line, matches, &TO)?;
+    Ok(Command::Migrate { from, to })
 }
 
 /// What words ask for that the line of the page doesn't take.

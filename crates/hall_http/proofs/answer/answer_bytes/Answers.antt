@@ -13,7 +13,7 @@ returns-in-Ok-clause-answers g c =
     let request = c.in-Ok.request in
     let text : List ℕ = answer_text c.answer_request.result in
     λ h. over_turn (λ before after. AnswersRequest before t request text after) (λ before after. Answers before t c.args.bytes.now text after)
-    (g.S.Store.content (kept_by c.args.desk.now)) (g.S.Store.content (kept_by c.answer_request.new.desk))
+    (g.S.ReadStore.content (kept_by c.args.desk.now)) (g.S.ReadStore.content (kept_by c.answer_request.new.desk))
     (λ before after says. answers_bytes before t c.args.bytes.now request text after c.in-Ok.ensures c.answer_request.ensures.timed says)
     (c.answer_request.ensures.answers h)
 
@@ -23,32 +23,32 @@ returns-in-Ok-clause-untouched g c = λ nothing.
 
 pub returns-in-Ok-clause-sane : goal.returns-in-Ok-clause-sane
 returns-in-Ok-clause-sane g c = λ h s sane.
-    request_sane (g.S.Store.content (kept_by c.args.desk.now)) (g.S.Store.content (kept_by c.answer_request.new.desk))
+    request_sane (g.S.ReadStore.content (kept_by c.args.desk.now)) (g.S.ReadStore.content (kept_by c.answer_request.new.desk))
     c.args.moment c.in-Ok.request _ c.answer_request.ensures.timed (c.answer_request.ensures.answers h) s sane
 
 pub returns-in-Ok-clause-unique : goal.returns-in-Ok-clause-unique
 returns-in-Ok-clause-unique g c = λ h s sane.
-    unique_solutions (g.S.Store.content (kept_by c.answer_request.new.desk)).world
-    (request_sane (g.S.Store.content (kept_by c.args.desk.now)) (g.S.Store.content (kept_by c.answer_request.new.desk))
+    unique_solutions (g.S.ReadStore.content (kept_by c.answer_request.new.desk)).world
+    (request_sane (g.S.ReadStore.content (kept_by c.args.desk.now)) (g.S.ReadStore.content (kept_by c.answer_request.new.desk))
     c.args.moment c.in-Ok.request _ c.answer_request.ensures.timed (c.answer_request.ensures.answers h) s sane)
 
 pub returns-in-Ok-clause-right : goal.returns-in-Ok-clause-right
 returns-in-Ok-clause-right g c = λ h s sane.
-    right_answers (g.S.Store.content (kept_by c.answer_request.new.desk)).world
-    (request_sane (g.S.Store.content (kept_by c.args.desk.now)) (g.S.Store.content (kept_by c.answer_request.new.desk))
+    right_answers (g.S.ReadStore.content (kept_by c.answer_request.new.desk)).world
+    (request_sane (g.S.ReadStore.content (kept_by c.args.desk.now)) (g.S.ReadStore.content (kept_by c.answer_request.new.desk))
     c.args.moment c.in-Ok.request _ c.answer_request.ensures.timed (c.answer_request.ensures.answers h) s sane)
 
 pub returns-in-Err-Form-clause-unique : goal.returns-in-Err-Form-clause-unique
-returns-in-Err-Form-clause-unique g c = λ h s sane. unique_solutions (g.S.Store.content (kept_by c.args.desk.now)).world sane
+returns-in-Err-Form-clause-unique g c = λ h s sane. unique_solutions (g.S.ReadStore.content (kept_by c.args.desk.now)).world sane
 
 pub returns-in-Err-Form-clause-right : goal.returns-in-Err-Form-clause-right
-returns-in-Err-Form-clause-right g c = λ h s sane. right_answers (g.S.Store.content (kept_by c.args.desk.now)).world sane
+returns-in-Err-Form-clause-right g c = λ h s sane. right_answers (g.S.ReadStore.content (kept_by c.args.desk.now)).world sane
 
 pub returns-in-Err-Memory-clause-answers : goal.returns-in-Err-Memory-clause-answers
 returns-in-Err-Memory-clause-answers g c = λ h. inl ((λ world. inr (inr unavailable_reply, refl)), λ s. refl)
 
 pub returns-in-Err-Memory-clause-unique : goal.returns-in-Err-Memory-clause-unique
-returns-in-Err-Memory-clause-unique g c = λ h s sane. unique_solutions (g.S.Store.content (kept_by c.args.desk.now)).world sane
+returns-in-Err-Memory-clause-unique g c = λ h s sane. unique_solutions (g.S.ReadStore.content (kept_by c.args.desk.now)).world sane
 
 pub returns-in-Err-Memory-clause-right : goal.returns-in-Err-Memory-clause-right
-returns-in-Err-Memory-clause-right g c = λ h s sane. right_answers (g.S.Store.content (kept_by c.args.desk.now)).world sane
+returns-in-Err-Memory-clause-right g c = λ h s sane. right_answers (g.S.ReadStore.content (kept_by c.args.desk.now)).world sane

@@ -24,7 +24,7 @@ returns-in-Ok-clause-answers g c =
     let request = c.args.request.now in
     let text = string_bytes c.in-Ok.text in
     λ h. over_turn (λ before after. IsStepReply before t request text after) (λ before after. AnswersRequest before t request text after)
-    (g.S.Store.content (kept_by c.args.desk.now)) (g.S.Store.content (kept_by c.step_bytes.new.desk))
+    (g.S.ReadStore.content (kept_by c.args.desk.now)) (g.S.ReadStore.content (kept_by c.step_bytes.new.desk))
     (λ before after step. inl step) (c.in-Ok.ensures.ok h)
 
 pub returns-in-Err-clause-answers : goal.returns-in-Err-clause-answers

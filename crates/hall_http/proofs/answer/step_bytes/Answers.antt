@@ -24,20 +24,20 @@ returns-clause-ok g c =
     let text = string_bytes c.in_ok-text.text in
     let planned = c.in_ok-plan.ensures in
     let made = c.in_ok-_reply.ensures in
-    let old = g.S.Store.content (kept_by c.args.desk.now) in
-    let mid = g.S.Store.content (kept_by c.plan.new.self) in
-    let new = g.S.Store.content (kept_by c.commit.new.self) in
+    let old = g.S.ReadStore.content (kept_by c.args.desk.now) in
+    let mid = g.S.ReadStore.content (kept_by c.plan.new.self) in
+    let new = g.S.ReadStore.content (kept_by c.commit.new.self) in
     let written = subst (λ (reply : Reply). BytesOf reply text) c.reply.ensures c.in_ok-text.ensures in
     λ h. over_turn (λ before after. Step before t request given after) (λ before after. IsStepReply before t request text after) old new
     (λ before after step. (given, step, written))
     (planned_steps t request StoreFault old mid new plan given planned.kept planned.planned made.leads refl
-    (committed StoreFault g.S.Store.content (kept_by c.plan.new.self) (kept_by c.commit.new.self) (planned_change plan) c.in_ok-_reply._reply (λ none. (made.nothing none).1) made.made) h)
+    (committed StoreFault g.S.ReadStore.content (kept_by c.plan.new.self) (kept_by c.commit.new.self) (planned_change plan) c.in_ok-_reply._reply (λ none. (made.nothing none).1) made.made) h)
 
 pub returns-clause-leads : goal.returns-clause-leads
 returns-clause-leads g c =
-    let old = g.S.Store.content (kept_by c.args.desk.now) in
-    let mid = g.S.Store.content (kept_by c.plan.new.self) in
-    leads_then old mid (g.S.Store.content (kept_by c.commit.new.self)) (kept_leads old mid c.in_ok-plan.ensures.kept) c.in_ok-_reply.ensures.leads
+    let old = g.S.ReadStore.content (kept_by c.args.desk.now) in
+    let mid = g.S.ReadStore.content (kept_by c.plan.new.self) in
+    leads_then old mid (g.S.ReadStore.content (kept_by c.commit.new.self)) (kept_leads old mid c.in_ok-plan.ensures.kept) c.in_ok-_reply.ensures.leads
 
 on_err : {T E P : Type 0} (r : Result T E) → P → OnErr r P
 on_err (Ok x) holds = tt
@@ -51,8 +51,8 @@ refused R E change old new fault never (inr made) = made
 
 pub returns-in_err-_reply-clause-err : goal.returns-in_err-_reply-clause-err
 returns-in_err-_reply-clause-err g c =
-    let mid = g.S.Store.content (kept_by c.plan.new.self) in
-    let new = g.S.Store.content (kept_by c.commit.new.self) in
+    let mid = g.S.ReadStore.content (kept_by c.plan.new.self) in
+    let new = g.S.ReadStore.content (kept_by c.commit.new.self) in
     let kept = c.in_ok-plan.ensures.kept in
     let made = c.in_err-_reply.ensures in
     on_err c.from_residual-in_err-_reply.result (λ h s.

@@ -1,8 +1,11 @@
-use Rattle.hall_http.proofs.Told.{one_spelling, bytes_hide_others, bytes_hide_answers}
+use Rattle.hall_http.proofs.Told.{one_spelling, refusals_tell_nothing, bytes_hide_others, bytes_hide_answers}
 use Rattle.hall_http.proofs.law.law_bytes.Goals as goal
 
 pub returns-clause-spelling : goal.returns-clause-spelling
 returns-clause-spelling c = one_spelling
+
+pub returns-clause-refusals : goal.returns-clause-refusals
+returns-clause-refusals c = refusals_tell_nothing
 
 pub returns-clause-others : goal.returns-clause-others
 returns-clause-others c = bytes_hide_others

@@ -9,7 +9,7 @@ pub loop-turn-preserved : goal.loop-turn-preserved
 loop-turn-preserved g c =
     elim c.match-accept.branch [
       | in-Line w ↦ served_turn g.L.Listener.accepts g.L.Listener.lets_go g.L.Line.Line.hands_out g.L.Line.Line.refuses
-          g.L.Line.Line.hears g.L.Line.Reader.Read.remaining g.L.Line.Writer.Write.contents g.S.Store.content
+          g.L.Line.Line.hears g.L.Line.Reader.Read.remaining g.L.Line.Writer.Write.contents g.S.ReadStore.content
           g.C.Clock.now_gives c.loop-turn._turn c.args.listener.now (kept_by c.args.desk.now) c.args.clock.now c.loop-turn.listener
           (kept_by c.loop-turn.desk) c.loop-turn.clock c.loop-turn.invariant c.accept.new.self w.let_go.new.self
           c.match-accept.listener w.in-Line.line
@@ -17,7 +17,7 @@ loop-turn-preserved g c =
           w.serve_line-ended.new.clock c.match-accept.clock w.serve_line-ended.result w.in-Line.ensures
           w.serve_line-ended.ensures.line w.let_go.ensures w.listener-is (ap kept_by w.desk-is) w.clock-is
       | in-Gone w ↦ gone_turn g.L.Listener.accepts g.L.Listener.lets_go g.L.Line.Line.hands_out g.L.Line.Line.refuses
-          g.L.Line.Line.hears g.L.Line.Reader.Read.remaining g.L.Line.Writer.Write.contents g.S.Store.content
+          g.L.Line.Line.hears g.L.Line.Reader.Read.remaining g.L.Line.Writer.Write.contents g.S.ReadStore.content
           g.C.Clock.now_gives c.loop-turn._turn c.args.listener.now (kept_by c.args.desk.now) c.args.clock.now c.loop-turn.listener
           (kept_by c.loop-turn.desk) c.loop-turn.clock c.loop-turn.invariant c.accept.new.self c.match-accept.listener
           (kept_by c.match-accept.desk) c.match-accept.clock w.in-Gone.ensures w.listener-is (ap kept_by w.desk-is)
@@ -31,36 +31,36 @@ returns-in-Refused-clause-served g c =
 pub returns-in-Refused-clause-sane : goal.returns-in-Refused-clause-sane
 returns-in-Refused-clause-sane g c =
     turns_sane g.L.Listener.accepts g.L.Listener.lets_go g.L.Line.Line.hands_out g.L.Line.Line.refuses
-    g.L.Line.Line.hears g.L.Line.Reader.Read.remaining g.L.Line.Writer.Write.contents g.S.Store.content
+    g.L.Line.Line.hears g.L.Line.Reader.Read.remaining g.L.Line.Writer.Write.contents g.S.ReadStore.content
     g.C.Clock.now_gives c.loop-turn._turn c.args.listener.now (kept_by c.args.desk.now) c.args.clock.now c.loop-turn.listener
     (kept_by c.loop-turn.desk) c.loop-turn.clock c.loop-turn.invariant
 
 pub returns-in-Refused-clause-unique : goal.returns-in-Refused-clause-unique
 returns-in-Refused-clause-unique g c = λ h s sane.
-    unique_solutions (g.S.Store.content (kept_by c.loop-turn.desk)).world (returns-in-Refused-clause-sane g c h s sane)
+    unique_solutions (g.S.ReadStore.content (kept_by c.loop-turn.desk)).world (returns-in-Refused-clause-sane g c h s sane)
 
 pub returns-in-Refused-clause-right : goal.returns-in-Refused-clause-right
 returns-in-Refused-clause-right g c = λ h s sane.
-    right_answers (g.S.Store.content (kept_by c.loop-turn.desk)).world (returns-in-Refused-clause-sane g c h s sane)
+    right_answers (g.S.ReadStore.content (kept_by c.loop-turn.desk)).world (returns-in-Refused-clause-sane g c h s sane)
 
 pub returns-clause-served : goal.returns-clause-served
 returns-clause-served g c =
     all_turns g.L.Listener.accepts g.L.Listener.lets_go g.L.Line.Line.hands_out g.L.Line.Line.refuses
-    g.L.Line.Line.hears g.L.Line.Reader.Read.remaining g.L.Line.Writer.Write.contents g.S.Store.content
+    g.L.Line.Line.hears g.L.Line.Reader.Read.remaining g.L.Line.Writer.Write.contents g.S.ReadStore.content
     g.C.Clock.now_gives c.loop-turn._turn c.args.listener.now (kept_by c.args.desk.now) c.args.clock.now c.loop-turn.listener
     (kept_by c.loop-turn.desk) c.loop-turn.clock c.loop-turn.invariant c.args.connections (omega arith) (omega arith)
 
 pub returns-clause-sane : goal.returns-clause-sane
 returns-clause-sane g c =
     turns_sane g.L.Listener.accepts g.L.Listener.lets_go g.L.Line.Line.hands_out g.L.Line.Line.refuses
-    g.L.Line.Line.hears g.L.Line.Reader.Read.remaining g.L.Line.Writer.Write.contents g.S.Store.content
+    g.L.Line.Line.hears g.L.Line.Reader.Read.remaining g.L.Line.Writer.Write.contents g.S.ReadStore.content
     g.C.Clock.now_gives c.loop-turn._turn c.args.listener.now (kept_by c.args.desk.now) c.args.clock.now c.loop-turn.listener
     (kept_by c.loop-turn.desk) c.loop-turn.clock c.loop-turn.invariant
 
 pub returns-clause-unique : goal.returns-clause-unique
 returns-clause-unique g c = λ h s sane.
-    unique_solutions (g.S.Store.content (kept_by c.loop-turn.desk)).world (returns-clause-sane g c h s sane)
+    unique_solutions (g.S.ReadStore.content (kept_by c.loop-turn.desk)).world (returns-clause-sane g c h s sane)
 
 pub returns-clause-right : goal.returns-clause-right
 returns-clause-right g c = λ h s sane.
-    right_answers (g.S.Store.content (kept_by c.loop-turn.desk)).world (returns-clause-sane g c h s sane)
+    right_answers (g.S.ReadStore.content (kept_by c.loop-turn.desk)).world (returns-clause-sane g c h s sane)

@@ -8,9 +8,9 @@ invariant-records g l = record {
   few : l.reads ≤ 1000000000;
   reader : l.reader.failures ≡ l.fn.reader.failures;
   writer : l.writer.failures ≡ l.fn.writer.failures;
-  kept : Kept (g.R.Read.remaining l.fn.reader.device) (g.R.Read.remaining l.reader.device)
+  kept : Kept g.S.ReadStore.content (g.R.Read.remaining l.fn.reader.device) (g.R.Read.remaining l.reader.device)
       (g.W.Write.contents l.fn.writer.device) (g.W.Write.contents l.writer.device)
-      (g.S.Store.content (kept_by l.fn.desk)) (g.S.Store.content (kept_by l.desk)) l.inbox l.reads l.fn.reader.calls l.reader.calls;
+      (kept_by l.fn.desk) (kept_by l.desk) l.inbox l.reads l.fn.reader.calls l.reader.calls;
 }
 
 abbrev pub decreases-records : goal.decreases-records

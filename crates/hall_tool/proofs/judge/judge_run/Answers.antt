@@ -18,7 +18,7 @@ returns g c =
 pub returns-in_err-write_all : goal.returns-in_err-write_all
 returns-in_err-write_all g c =
     let p = err_from_is_err_and c.from_residual-in_err-write_all.result c.from_residual-in_err-write_all.ensures.1 in
-    rw (p.1, p.2) (broken_run JudgeText g.R.Read.remaining g.W.Write.contents _ _ _ _ c.in_err-write_all.ensures.device
+    rw (p.1, p.2) (broken_run JudgeText g.R.Read.remaining g.W.Write.contents _ _ _ _ c.in_ok-input.ensures.same c.in_err-write_all.ensures.device
     (known_tells JudgeText judged_by_front _ _ _ _
     (WritesPart (g.W.Write.contents c.args.writer.now.device) (g.W.Write.contents c.write_all.new.writer.device))
     c.in_ok-input.ensures.front (rw c.deref.ensures.value at c.in_ok-ending.ensures)

@@ -6,7 +6,7 @@ returns-in-Ok g c = inl (
   c.in-Ok.command,
   c.run_command.result,
   c.in-Ok.ensures.command,
-  c.run_command.ensures,
+  (c.run_command.ensures.sources, c.run_command.ensures.run),
   c.end.ensures.told,
   c.end.ensures.status,
 )

@@ -16,8 +16,8 @@ returns-in-Ok-eq0-clause-run g c =
       kept_by c.seed_run.new.desk,
       c.seed_run.new.writer,
       c.replay.result,
-      subst (λ (ended : Result ℕ ToolFault). IsSeedRun g.S.Store.can_fail g.W.Write.contents c.args.list.now
-          (g.S.Store.content (kept_by c.args.desk.now)) (g.S.Store.content (kept_by c.seed_run.new.desk))
+      subst (λ (ended : Result ℕ ToolFault). IsSeedRun g.S.ReadStore.can_fail g.W.Write.contents c.args.list.now
+          (g.S.ReadStore.content (kept_by c.args.desk.now)) (g.S.ReadStore.content (kept_by c.seed_run.new.desk))
           c.args.writer.now c.seed_run.new.writer ended) zero
           (record {
             leads = seeded.leads;
@@ -36,8 +36,8 @@ returns-in-Ok-eq0-clause-run g c =
 
 pub returns-in-Ok-eq0-clause-sane : goal.returns-in-Ok-eq0-clause-sane
 returns-in-Ok-eq0-clause-sane g c =
-    then_sane Sane (g.S.Store.content (kept_by c.args.desk.now)) (g.S.Store.content (kept_by c.seed_run.new.desk))
-    (g.S.Store.content (kept_by c.replay.new.desk)) c.replay.ensures.replayed.leads c.seed_run.ensures.sane
+    then_sane Sane (g.S.ReadStore.content (kept_by c.args.desk.now)) (g.S.ReadStore.content (kept_by c.seed_run.new.desk))
+    (g.S.ReadStore.content (kept_by c.replay.new.desk)) c.replay.ensures.replayed.leads c.seed_run.ensures.sane
     c.replay.ensures.sane
 
 pub returns-in_default-2-clause-run : goal.returns-in_default-2-clause-run

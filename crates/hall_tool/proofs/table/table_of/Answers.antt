@@ -8,15 +8,15 @@ use Rattle.hall_tool.proofs.table.table_of.Goals as goal
 
 pub returns-in-Ok-clause-told : goal.returns-in-Ok-clause-told
 returns-in-Ok-clause-told g c =
-    let new = g.S.Store.content (kept_by c.plan-planned.new.self) in
+    let new = g.S.ReadStore.content (kept_by c.plan-planned.new.self) in
     let told = table_told new c.args.round c.in-Ok.plan c.in-Some.t c.in-Some.ensures.value c.in-Ok.ensures.planned in
     IfOk-weaker c.written_of.result _ _ (λ ending written. (planned_reply c.in-Ok.plan, told, written)) c.written_of.ensures.written
 
 pub returns-in-Ok-clause-fault : goal.returns-in-Ok-clause-fault
 returns-in-Ok-clause-fault g c = λ failed.
-    let new = g.S.Store.content (kept_by c.plan-planned.new.self) in
+    let new = g.S.ReadStore.content (kept_by c.plan-planned.new.self) in
     let told = table_told new c.args.round c.in-Ok.plan c.in-Some.t c.in-Some.ensures.value c.in-Ok.ensures.planned in
-    other_fails g.S.Store.can_fail new c.args.round (planned_reply c.in-Ok.plan) told (c.written_of.ensures.fault failed)
+    other_fails g.S.ReadStore.can_fail new c.args.round (planned_reply c.in-Ok.plan) told (c.written_of.ensures.fault failed)
 
 pub returns-in-Err-clause-cause : goal.returns-in-Err-clause-cause
 returns-in-Err-clause-cause g c = elim c.told.ensures [

@@ -1,15 +1,15 @@
-use Rattle.std.proofs.Common.{refl, inl, inr}
+use Rattle.std.proofs.Common.{refl, inl}
 use Rattle.hall_store.proofs.Knowing.{leads_same}
+use Rattle.hall_desk.specs.Desk.{kept_by}
 use Rattle.hall_http.proofs.Refusals.{unavailable_reply}
+use Rattle.hall_http.proofs.Runs.{answered_at}
 use Rattle.hall_http.proofs.handler.DeskHandler.answer.Goals as goal
 
 pub returns-in-Some : goal.returns-in-Some
 returns-in-Some g c =
-    rw c.in-Some.is (record {
-      leads = c.answer_bytes.ensures.leads;
-      answers = c.answer_bytes.ensures.answers;
-      untouched = λ quiet. elim quiet [ inl nothing ↦ c.answer_bytes.ensures.untouched nothing | inr none ↦ absurd cc ];
-    })
+    rw c.in-Some.is
+    (answered_at (λ desk. g.S.ReadStore.content (kept_by desk)) _ _ _ _ _ c.answer_bytes.ensures.leads
+    c.answer_bytes.ensures.answers c.answer_bytes.ensures.untouched)
 
 pub returns-in-None : goal.returns-in-None
 returns-in-None g c = rw c.in-None.is (record {
