@@ -26,12 +26,12 @@ PUZZLES = 25
 RIGHT, WRONG = "1234341221434321", "1234341221434312"
 
 
-def fill(path, answers):
+def fill(path, answers, tables=TABLES):
     """A round that runs now (`now`) and a published one (`then`), each with 25 puzzles; `answers` answers of others in the first, and 1,000 in the second."""
     now = int(time.time())
     entrants = [f"e{k}" for k in range(max(20, answers // 1000))]
     conn = sqlite3.connect(path)
-    conn.executescript("PRAGMA journal_mode = DELETE;" + TABLES)
+    conn.executescript("PRAGMA journal_mode = DELETE;" + tables)
     conn.executemany("INSERT INTO people VALUES (?, ?, ?)",
                      [("bob", "bob-key-1", 2), *((name, f"{name}-key-{name}", 8) for name in ["eve", *(f"s{k}" for k in range(40)), *entrants])])
     conn.executemany("INSERT INTO puzzles VALUES ('bob', ?, ?, 1, ?)", [(f"p{k}", SUDOKU, RIGHT) for k in range(PUZZLES)])

@@ -18,7 +18,7 @@ ROOT = os.path.dirname(os.path.dirname(os.path.realpath(__file__)))
 PEOPLE = f"{ROOT}/examples/people.csv"
 SUDOKU = "sudoku/4/4/123434122143432g"
 
-# The six tables, as docs/DECISIONS.md gives their columns and keys; written as a person would, and not as the program does.
+# The seven tables, as docs/RUNNING.md gives their columns and keys; written as a person would, and not as the program does.
 TABLES = """
 CREATE TABLE people (
     name TEXT NOT NULL PRIMARY KEY,
@@ -78,6 +78,11 @@ CREATE TABLE protests (
     PRIMARY KEY (entrant, round, token),
     FOREIGN KEY (round, number) REFERENCES round_puzzles (round, number) ON DELETE RESTRICT ON UPDATE RESTRICT
 ) STRICT;
+CREATE TABLE testers (
+    round TEXT NOT NULL REFERENCES rounds (id) ON DELETE CASCADE ON UPDATE CASCADE,
+    name TEXT NOT NULL REFERENCES people (name) ON DELETE RESTRICT ON UPDATE RESTRICT,
+    PRIMARY KEY (round, name)
+) STRICT;
 """
 
 # A published round of one puzzle: fay's answer was right at once, eve's after a wrong one, and a protest of hers was upheld.
@@ -92,6 +97,7 @@ INSERT INTO answers VALUES ('eve', 'r1', 1, 'a', 1, 1777712500, '123434122143431
     ('eve', 'r1', 1, 'b', 2, 1777712600, '1234341221434321', 0),
     ('fay', 'r1', 1, 'a', 1, 1777712700, '1234341221434321', 0);
 INSERT INTO protests VALUES ('eve', 'r1', 'w', 1, 'The third row is unclear.', 1, 3);
+INSERT INTO testers VALUES ('r1', 'rex');
 """
 TABLE = b"   1 fay                            40\n   2 eve                            38\n"
 
@@ -139,7 +145,7 @@ def own_files(room):
     check("a new file", hall("init", "--db", path, "--people", PEOPLE), (b"added 6\n", 0, False))
     check("the same file", hall("init", "--db", path, "--people", PEOPLE), (b"added 0\n", 0, False))
     before = looked_into("the same file", path)
-    check("its tables", before[0], ["people", "puzzles", "rounds", "round_puzzles", "answers", "protests"])
+    check("its tables", before[0], ["people", "puzzles", "rounds", "round_puzzles", "answers", "protests", "testers"])
     check("its people", before[1][:2], [("ada", "ada-key-1", 10), ("bob", "bob-key-1", 2)])
     other = f"{room}/other.csv"
     with open(PEOPLE, encoding="ascii") as read, open(other, "w", encoding="ascii") as write:

@@ -1,12 +1,11 @@
 #!/usr/bin/env python3
 """Says, in seconds and without a proof, what the gate would refuse at first sight: files that aren't laid out as `rt fmt` does, files that no check reads,
-texts that a verdict stops at, and must-fail edits whose `old:` text doesn't stand once.
+texts that a verdict stops at, and must-fail edits, those of must-fail/further.md too, whose `old:` text doesn't stand once.
 
     python3 tools/ready.py
 
 To be run before a push; it ends with 1 where it found something.
 """
-import glob
 import os
 import shutil
 import subprocess
@@ -15,18 +14,20 @@ import sys
 ROOT = os.path.dirname(os.path.dirname(os.path.realpath(__file__)))
 sys.path.insert(0, os.path.dirname(os.path.realpath(shutil.which("rt"))))
 import rtlib  # noqa: E402
+import wrong_bodies  # noqa: E402
 
 
-def edits_that_do_not_stand(folder):
-    for path in sorted(glob.glob(f"{folder}/must-fail/*.edit")):
-        text = ""
-        with open(path) as lines:
-            for line in lines:
-                if line.startswith("file: "):
-                    with open(f"{folder}/{line[6:].strip()}") as source:
-                        text = source.read()
-                elif line.startswith("old: ") and text.count(line[5:].rstrip("\n")) != 1:
-                    yield f"{os.path.relpath(path, ROOT)}: stands {text.count(line[5:].rstrip(chr(10)))} times: {line[5:].strip()[:80]}"
+def edits_that_do_not_stand(crate):
+    """The wrong bodies of the crate, in the gate and outside it, that don't fit the sources any more."""
+    for further in (False, True):
+        for name, text in wrong_bodies.texts_of(crate.name, further):
+            try:
+                fault = wrong_bodies.Edit(name, text, crate.folder).fault
+            except FileNotFoundError as why:
+                fault = f"BAD EDIT: {why}"
+            if fault:
+                where = "further.md, " if further else ""
+                yield f"{os.path.relpath(crate.folder, ROOT)}/must-fail/{where}{name}: {fault}"
 
 
 def main():
@@ -47,7 +48,7 @@ def main():
         if subprocess.run([rtlib.RATTLE, "fmt", "--check", *files]).returncode:
             found += 1
             print(f"{crate.name}: run `rt fmt` in {os.path.relpath(crate.folder, ROOT)}")
-        for line in edits_that_do_not_stand(crate.folder):
+        for line in edits_that_do_not_stand(crate):
             found += 1
             print(line)
     print("ready" if not found else f"{found} found")

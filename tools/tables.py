@@ -21,6 +21,7 @@ from pathlib import Path
 ROOT = Path(os.path.realpath(__file__)).parent.parent
 sys.path.insert(0, str(ROOT / "bench"))
 from files import ROWS, TABLES, written  # noqa: E402
+from migration import FIRST_ROWS, FIRST_TABLES  # noqa: E402
 from wire import replies  # noqa: E402
 
 EXAMPLES = ROOT / "examples"
@@ -176,12 +177,14 @@ def check_text(row, got, want):
 
 
 def ask_commands(table, program):
-    """Rows of words, standard input, exit status, standard output, standard error; `@file NAME = text` and `@published NAME` are there before."""
+    """Rows of words, standard input, exit status, standard output, standard error; `@file NAME = text`, `@published NAME` and `@first NAME` are there before."""
     for rest in table.ordered("file"):
         name, _, text = rest.partition(" = ")
         program.file(name, bytes_of(text))
     for name in table.ordered("published"):
         written(program.room / name, TABLES, ROWS)
+    for name in table.ordered("first"):
+        written(program.room / name, FIRST_TABLES, FIRST_ROWS)
     program.file("people.csv", PEOPLE.read_bytes())
     for row in table.rows:
         words, given, status, output, error = [*row.cells, *[b""] * (5 - len(row.cells))]
@@ -246,7 +249,8 @@ def fields_of(told):
 def ask_sheets(table, program):
     """Rows of a sheet and what is told: `F2 version`, or the fields that the round has otherwise than the order `@told` says."""
     asked = [of_request(row) for row in table.before]
-    texts = {row.cells[2].decode().removeprefix("PUT /puzzles/"): json.loads(row.cells[3])["text"] for row in table.before}
+    puts = {row.cells[2].decode(): row.cells[3] for row in table.before}
+    texts = {line.removeprefix("PUT /puzzles/"): json.loads(body)["text"] for line, body in puts.items() if line.startswith("PUT /puzzles/")}
     usual = fields_of(table.ordered("told")[0])
     for number, (row, sheet, told) in enumerate(table.inputs()):
         name = f"s{number}"

@@ -1,0 +1,191 @@
+#!/usr/bin/env python3
+"""Migrates database files of the first version with the built program: those that an earlier program left (examples/first_version), and files that sqlite3 wrote.
+
+    python3 tools/migration.py
+
+Run by ./check. Prints a line for each case that went wrong, and last how many there were; exits with 1 where one did.
+"""
+import lzma
+import os
+import re
+import shutil
+import sqlite3
+import sys
+import tempfile
+
+sys.path[:0] = [os.path.dirname(os.path.realpath(__file__))]
+import files  # noqa: E402
+import refusals  # noqa: E402
+from files import PEOPLE, ROOT, check, hall, written  # noqa: E402
+
+# The tables of the first version: the seven without the last.
+FIRST_TABLES = files.TABLES[: files.TABLES.index("CREATE TABLE testers")]
+FIRST_ROWS = re.sub(r"INSERT INTO testers .*\n", "", files.ROWS)
+NAMES = re.findall(r"CREATE TABLE (\w+)", FIRST_TABLES)
+# The rows of examples/first_version/round.db.
+ROUND_ROWS = 6 + 3 + 2 + 3 + 3 + 2
+# People, puzzles, rounds, places, answers and protests of FIRST_ROWS.
+WRITTEN_ROWS = 5 + 1 + 2 + 2 + 3 + 1
+
+
+def kept(room, name):
+    """The file of examples/first_version, as the program of that version left it."""
+    for ending in ("", "-wal"):
+        with lzma.open(f"{ROOT}/examples/first_version/{name}.db{ending}.xz") as packed, open(f"{room}/{name}.db{ending}", "wb") as it:
+            shutil.copyfileobj(packed, it)
+    return f"{room}/{name}.db"
+
+
+def bytes_of(path):
+    """The bytes of a database: of its file and of its log."""
+    found = []
+    for ending in ("", "-wal"):
+        if os.path.exists(path + ending):
+            with open(path + ending, "rb") as it:
+                found.append(it.read())
+    return found
+
+
+def rows_of(path, names):
+    """The rows of each table, in the order of their columns; of a copy, since sqlite3 changes the file as it closes it."""
+    with tempfile.TemporaryDirectory(prefix="hall-rows-") as room:
+        for ending in ("", "-wal"):
+            if os.path.exists(path + ending):
+                shutil.copyfile(path + ending, f"{room}/copy.db{ending}")
+        conn = sqlite3.connect(f"{room}/copy.db")
+        found = {name: sorted(conn.execute(f"SELECT * FROM {name}").fetchall()) for name in names}
+        conn.close()
+    return found
+
+
+def content_of(path):
+    """The rows of each table that is there; of no file none."""
+    with tempfile.TemporaryDirectory(prefix="hall-rows-") as room:
+        for ending in ("", "-wal"):
+            if os.path.exists(path + ending):
+                shutil.copyfile(path + ending, f"{room}/copy.db{ending}")
+        conn = sqlite3.connect(f"{room}/copy.db")
+        names = [name for (name,) in conn.execute("SELECT name FROM sqlite_master WHERE type = 'table'")]
+        found = {name: sorted(conn.execute(f"SELECT * FROM {name}").fetchall()) for name in names}
+        conn.close()
+    return found
+
+
+def migrate(source, target):
+    return hall("migrate", "--from", source, "--to", target)
+
+
+def is_migrated(name, source, target, count):
+    """Sees that the source's rows, so many, are migrated into a new file, once, and that the source stays as it was."""
+    before = content_of(source)
+    check(name, migrate(source, target), (f"migrated {count}\n".encode(), 0, False))
+    check(f"{name}, its rows", rows_of(target, NAMES), rows_of(source, NAMES))
+    check(f"{name}, its testers", rows_of(target, ["testers"]), {"testers": []})
+    check(f"{name} again", migrate(source, target), (b"migrated 0\n", 0, False))
+    check(f"{name}, the source", content_of(source), before)
+
+
+def is_refused(name, source, target, what, status=2):
+    """Sees that the source isn't migrated, and that both files stay as they were."""
+    before, other = content_of(source), content_of(target)
+    said = (b"", status, True) if what is None else (f"refused {what}\n".encode(), status, False)
+    was_there = os.path.exists(target)
+    check(name, migrate(source, target), said)
+    check(f"{name}, the source", content_of(source), before)
+    check(f"{name}, the target", content_of(target), other)
+    check(f"{name}, whether the target is there", os.path.exists(target), was_there)
+
+
+def files_of_the_first_program(room):
+    people, round_file = kept(room, "people"), kept(room, "round")
+    left = [bytes_of(people), bytes_of(round_file)]
+    is_migrated("the people alone", people, f"{room}/new_people.db", 6)
+    check("the people again", hall("init", "--db", f"{room}/new_people.db", "--people", PEOPLE), (b"added 0\n", 0, False))
+    is_migrated("a round", round_file, f"{room}/new_round.db", ROUND_ROWS)
+    table = b"   1 fay                            40\n   2 eve                            38\n"
+    check("the round's table", hall("table", "--db", f"{room}/new_round.db", "--round", "noon"), (table, 0, False))
+    check("the table of a file of the first version", hall("table", "--db", round_file, "--round", "noon"), (b"", 3, True))
+    is_refused("a target with other rows", round_file, f"{room}/new_people.db", "target")
+    is_refused("a target with more rows", people, f"{room}/new_round.db", "target")
+    is_refused("a source of the second version", f"{room}/new_round.db", f"{room}/none.db", "source")
+    is_refused("a target of the first version", people, round_file, None, 3)
+    check("the bytes of the files of the first version", [bytes_of(people), bytes_of(round_file)], left)
+
+
+def files_of_sqlite(room):
+    source = written(f"{room}/theirs.db", FIRST_TABLES, FIRST_ROWS)
+    is_migrated("sqlite3's rows", source, f"{room}/from_theirs.db", WRITTEN_ROWS)
+    check("the table of sqlite3's rows", hall("table", "--db", f"{room}/from_theirs.db", "--round", "r1"), (files.TABLE, 0, False))
+    tested = written(f"{room}/tested.db", files.TABLES, FIRST_ROWS, "INSERT INTO testers VALUES ('r1', 'rex')")
+    is_refused("a target with a tester", source, tested, "target")
+    theirs = written(f"{room}/seven.db", files.TABLES, FIRST_ROWS)
+    check("a target that sqlite3 filled", migrate(source, theirs), (b"migrated 0\n", 0, False))
+    empty = written(f"{room}/empty.db", FIRST_TABLES)
+    is_migrated("no row", empty, f"{room}/from_empty.db", 0)
+    other = written(f"{room}/other.db", "CREATE TABLE note (id INTEGER PRIMARY KEY)")
+    is_refused("a source of another program", other, f"{room}/none.db", "source")
+    for name, change in [
+        ("roles of 0", "UPDATE people SET roles = 0 WHERE name = 'rex'"),
+        ("a puzzle's body that is no text", "UPDATE puzzles SET body = 'sudoku/4'"),
+        ("a round's mode of 5", "UPDATE rounds SET mode = 5 WHERE id = 'r1'"),
+        ("a place of 0 points", "UPDATE round_puzzles SET points = 0"),
+        ("a verdict of 65536", "UPDATE answers SET verdict = 65536 WHERE n = 2"),
+        ("a ruling of 3", "UPDATE protests SET ruling = 3"),
+    ]:
+        bad = written(f"{room}/bad.db", FIRST_TABLES, FIRST_ROWS, change)
+        before = content_of(bad)
+        check(name, migrate(bad, f"{room}/from_bad.db"), (b"", 3, True))
+        check(f"{name}, the source", content_of(bad), before)
+        check(f"{name}, the target", rows_of(f"{room}/from_bad.db", [*NAMES, "testers"]), {it: [] for it in [*NAMES, "testers"]})
+        for ending in ("", "-wal"):
+            for path in (f"{room}/bad.db", f"{room}/from_bad.db"):
+                if os.path.exists(path + ending):
+                    os.remove(path + ending)
+
+
+def files_that_are_none(room):
+    is_missing = migrate(f"{room}/nowhere.db", f"{room}/none.db")
+    check("no source", is_missing, (b"refused source\n", 2, False))
+    check("no source, no file is made", [os.path.exists(f"{room}/{it}.db") for it in ("nowhere", "none")], [False, False])
+    people = kept(room, "people")
+    got = migrate(people, people)
+    check("the same file twice", got[1], 3)
+
+
+def refused_allocations(room):
+    """Refuses the first 200 allocations of a migration in turn, and then each 41st: the target then holds nothing or all, and all where that was told; and the
+    source stays as it was."""
+    program = refusals.Program(f"{ROOT}/crates/hall/out/hall", room)
+    source, target = kept(room, "people"), f"{room}/refused.db"
+    before, whole = bytes_of(source), rows_of(source, NAMES)
+    none, wrong, found = {name: [] for name in NAMES}, [], {"none": 0, "all": 0}
+    for number in [*range(1, 200), *range(200, 1_000_000, 41)]:
+        for ending in ("", "-wal"):
+            if os.path.exists(target + ending):
+                os.remove(target + ending)
+        (said, status), was_refused = program.run(["migrate", "--from", source, "--to", target], b"", number)
+        if not was_refused:
+            break
+        try:
+            left = rows_of(target, NAMES)
+        except sqlite3.OperationalError:
+            # no file, or one without tables
+            left = none
+        found["all" if left == whole else "none"] += 1
+        is_told = (said, status) == (b"migrated 6\n", 0)
+        if left not in (none, whole) or is_told and left != whole or not is_told and (said, status) != (b"", 3) or bytes_of(source) != before:
+            wrong.append((number, said, status, left))
+    check(f"refused allocations of a migration, {found}", wrong[:2], [])
+    check("refused allocations that left all rows, and none", [found["all"] > 0, found["none"] > 0], [True, True])
+
+
+def main():
+    with tempfile.TemporaryDirectory(prefix="hall-migration-") as room:
+        for of in (files_of_the_first_program, files_of_sqlite, files_that_are_none, refused_allocations):
+            of(room)
+    print(f"migrations: {files.passed} as wanted, {files.failed} not")
+    sys.exit(1 if files.failed else 0)
+
+
+if __name__ == "__main__":
+    main()
