@@ -33,8 +33,9 @@ const USAGE: u8 = 64;
 const NO_TEXT: &str = "error: a word is no text\n";
 
 /// Runs the command that the words after the program's name spell, over the files, the host, the input and the output,
-/// and gives the exit status. A database that is migrated is asked for among the files `sources`. Of a fault it is told on `error`, on two lines, that there is one and what to do; words
-/// that spell no command are refused there. Where `error` fails, the status is the same.
+/// and gives the exit status. A database that is migrated is asked for among the files `sources`. Of a fault it is told
+/// on `error`, on two lines, that there is one and what to do; words that spell no command are refused there. Where
+/// `error` fails, the status is the same.
 pub fn run_words<
     O: Alter + Drop,
     G: PathFiles<O>,
@@ -54,7 +55,8 @@ pub fn run_words<
     output: &mut Counted<W>,
     error: &mut Counted<E>,
 ) -> u8
-    ensures { AreWordsRun (λ command ended. UnlessMigrate command (sources.new ≡ sources.old) × IsCommandRun S.Store F.image_at F.gives F.withholds
+    ensures { AreWordsRun (λ command ended. UnlessMigrate command (sources.new ≡ sources.old)
+        × IsCommandRun S.Store F.image_at F.gives F.withholds
         (OpensAt S.Store F.image_at F.opens) (IsCauseAt S.Store F.image_at F.refuses F.opens F.closes)
         (OpensThere S.Store F.image_at F.tells F.opens)
         (IsCauseThere S.Store F.image_at F.tells F.refuses F.opens F.closes) F.closes
@@ -67,7 +69,8 @@ pub fn run_words<
         F.image_at (OpensAt S.Store F.image_at F.opens) (IsCauseAt S.Store F.image_at F.refuses F.opens F.closes)
         F.closes W.contents from to sources.old sources.new) R.remaining W.contents command
         files.old files.new host.old host.new input.old input.new output.old output.new ended)
-        ((sources.new ≡ sources.old) × (files.new ≡ files.old) × (host.new ≡ host.old) × (input.new ≡ input.old) × (output.new ≡ output.old))
+        ((sources.new ≡ sources.old) × (files.new ≡ files.old) × (host.new ≡ host.old) × (input.new ≡ input.old)
+        × (output.new ≡ output.old))
         E.contents (map string_bytes words.now) error.old error.new result }
 {
     match read_words(alloc, words) {
