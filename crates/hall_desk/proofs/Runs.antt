@@ -5,7 +5,7 @@ use Rattle.hall_policy.specs.declared.request.Request.{Request}
 use Rattle.hall_store.specs.Store.{Content}
 use Rattle.hall_desk.specs.Step.{Step}
 use Rattle.hall_desk.specs.Run.{Run}
-use Rattle.hall_desk.specs.Plans.{Steps, Runs, IsNobodys, IsAvailable, NobodysAreAnswered}
+use Rattle.hall_desk.specs.Plans.{Steps, Runs, IsStepped, AreStepped, IsNobodys, IsAvailable, NobodysAreAnswered}
 use Rattle.hall_desk.specs.declared.reply.Reply.{Reply}
 
 -- a run and one step more
@@ -39,3 +39,12 @@ nobodys_more [] [] asked given before here = (here, tt)
 nobodys_more [] (r ∷ replies) asked given before here = absurd before
 nobodys_more (q ∷ requests) [] asked given before here = absurd before
 nobodys_more (q ∷ requests) (r ∷ replies) asked given before here = (before.0, nobodys_more requests replies asked given before.1 here)
+
+-- requests that were stepped over a store, and one more
+pub stepped_more : {S : Type 0} (content : S → Content) (first old new : S) (requests : List (ℕ × Request)) (replies : List Reply) (asked : ℕ × Request) (given : Reply) →
+    AreStepped content first requests replies old → IsStepped content old asked given new → AreStepped content first (requests ++ asked ∷ []) (replies ++ given ∷ []) new
+stepped_more content first old new [] [] asked given same step = (new, subst (λ s. IsStepped content s asked given new) same step, refl)
+stepped_more content first old new [] (r ∷ replies) asked given before step = absurd before
+stepped_more content first old new (q ∷ requests) [] asked given before step = absurd before
+stepped_more content first old new (q ∷ requests) (r ∷ replies) asked given (mid, says, rest) step =
+    (mid, says, stepped_more content mid old new requests replies asked given rest step)

@@ -1,5 +1,5 @@
 -- People who stand before any request.
-use Rattle.std.proofs.Common.{◌≡◌, ◌⊎◌, inl, inr, ℕ, false, List, Result, Ok, Err, IfOk, sym, ap, ◌∙◌, subst}
+use Rattle.std.proofs.Common.{◌≡◌, ◌≤◌, ◌⊎◌, inl, inr, ℕ, false, List, Result, Ok, Err, IfOk, sym, ap, ◌∙◌, subst}
 use Rattle.std.specs.Prelude.{All, IsOk, OnErr}
 use Rattle.std.proofs.lemmas.Bool.{false≢true}
 use Rattle.hall_policy.specs.Facts.{TrueUpTo}
@@ -11,7 +11,7 @@ use Rattle.hall_policy.specs.Ranges.{IsPerson}
 use Rattle.hall_policy.specs.Rules.{HasConflict}
 use Rattle.hall_policy.specs.declared.record.Person.{Person}
 use Rattle.hall_policy.specs.declared.request.Action.TheVariants.{Import}
-use Rattle.hall_store.specs.Store.{Content, Kept, Leads, Made}
+use Rattle.hall_store.specs.Store.{Content, Kept, Left, Leads, Made}
 use Rattle.hall_store.specs.Change.{changed, CanMake}
 use Rattle.hall_store.specs.declared.change.Change.{Change}
 use Rattle.hall_store.specs.declared.change.Change.TheVariants.{Nothing}
@@ -19,10 +19,10 @@ use Rattle.hall_desk.specs.Step.{Seed}
 use Rattle.hall_desk.specs.Sane.{Sane}
 use Rattle.hall_desk.specs.Plans.{IsMadePlan, IsImportPlan, IsSeedPlan, IsSeedReply, Seeds}
 use Rattle.hall_desk.specs.declared.reply.Reply.{Reply}
+use Rattle.hall_desk.specs.declared.reply.Reply.TheVariants.{Denied}
 use Rattle.hall_desk.specs.declared.planned.Plan.{Plan}
-use Rattle.hall_store.proofs.Knowing.{kept_then, leads_kept}
 use Rattle.hall_desk.proofs.ImportSane.{people_sane}
-use Rattle.hall_desk.proofs.Stepping.{committed}
+use Rattle.hall_desk.proofs.Stepping.{committed, quiet_commit}
 
 -- where nobody contradicts what is known, the plan that imports is that of the people
 pub seed_plan : (world : World) (people : List Person) (plan : Plan) → ¬ (HasConflict world (Import people)) → IsImportPlan world people plan → IsSeedPlan world people plan
@@ -78,10 +78,16 @@ module _ {S : Type 0} (content : S → Content) (old : Content) (mid new : S) (p
 
   -- or is refused, and leaves the world
   pub seed_refused : {R E : Type 0} (result : Result R E) → (plan.change ≡ Nothing → IsOk result) → (plan.change ≡ Nothing) ⊎ Made plan.change (content mid) (content new) result
-      → OnErr result (Kept old (content new))
+      → OnErr result (Left old (content new))
   seed_refused (Ok done) nothing made = tt
   seed_refused (Err fault) nothing (inl none) = absurd (let no = nothing none in cc)
-  seed_refused (Err fault) nothing (inr made) = kept_then old (content mid) (content new) kept (leads_kept (content mid) (content new) leads made)
+  seed_refused (Err fault) nothing (inr made) = λ h s. made h s ∙ kept.world (leads.honest h) (leads.serves h s)
+
+  -- a denial makes no write
+  pub seed_quiet : {E : Type 0} (result : Result Reply E) → (plan.reply ≡ Denied 20 → plan.change ≡ Nothing) → (plan.change ≡ Nothing → new ≡ mid)
+      → IfOk result (λ reply. reply ≡ plan.reply) → IfOk result (λ reply. reply ≡ Denied 20 → (content new).writes ≤ old.writes)
+  seed_quiet (Ok reply) denied nothing is = λ e. quiet_commit content old mid new plan kept nothing (denied (sym is ∙ e))
+  seed_quiet (Err fault) denied nothing is = tt
 
 -- what a commit answers is the plan's reply
 pub seed_answered : {E : Type 0} (result : Result Reply E) (plan : Plan) → IsSeedReply plan.reply → IfOk result (λ reply. reply ≡ plan.reply) → IfOk result IsSeedReply
@@ -105,6 +111,6 @@ seed_sane_over old new people given are each leads h s seeds sane = elim seeds [
 
 -- so it does where it was answered
 pub seeds_sane : {E : Type 0} (result : Result Reply E) (old new : Content) (people : List Person) → ArePeople people → All IsPerson people → Leads old new
-    → OnErr result (Kept old new) → IfOk result (λ reply. new.honest → Seeds old people reply new) → new.honest → new.serves → Sane old.world → Sane new.world
-seeds_sane (Ok reply) old new people are each leads kept seeds h s sane = seed_sane_over old new people reply are each leads h s (seeds h) sane
-seeds_sane (Err fault) old new people are each leads kept seeds h s sane = subst Sane (sym (kept.world h s)) sane
+    → OnErr result (Left old new) → IfOk result (λ reply. new.honest → Seeds old people reply new) → new.honest → new.serves → Sane old.world → Sane new.world
+seeds_sane (Ok reply) old new people are each leads left seeds h s sane = seed_sane_over old new people reply are each leads h s (seeds h) sane
+seeds_sane (Err fault) old new people are each leads left seeds h s sane = subst Sane (sym (left h s)) sane

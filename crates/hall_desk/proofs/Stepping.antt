@@ -1,11 +1,11 @@
 -- A plan and its commit make a step.
-use Rattle.std.proofs.Common.{◌≡◌, ◌⊎◌, inl, inr, ℕ, Result, Ok, Err, IfOk, sym, ap, ◌∙◌, subst}
+use Rattle.std.proofs.Common.{◌≡◌, ◌≤◌, ◌⊎◌, inl, inr, ℕ, Result, Ok, Err, IfOk, sym, ap, ◌∙◌, subst, arith}
 use Rattle.hall_policy.specs.World.{World}
 use Rattle.hall_policy.specs.declared.request.Request.{Request}
-use Rattle.hall_store.specs.Store.{Content, Kept, Leads, Made}
+use Rattle.hall_store.specs.Store.{Content, Kept, Leads, Made, WritesOnce}
 use Rattle.hall_store.specs.Change.{changed}
 use Rattle.hall_desk.specs.Step.{Step}
-use Rattle.hall_desk.specs.Plans.{IsPlanFor, Planned, Steps}
+use Rattle.hall_desk.specs.Plans.{IsPlanFor, IsQuiet, Planned, Steps, WritesIfAny}
 use Rattle.hall_store.specs.declared.change.Change.{Change}
 use Rattle.hall_store.specs.declared.change.Change.TheVariants.{Nothing}
 use Rattle.hall_desk.specs.declared.reply.Reply.{Reply}
@@ -42,3 +42,24 @@ module _ (t : ℕ) (request : Request) where
         let before = leads.serves h s in
         (done h before).1 ∙ ap (λ (change : Change). changed change mid.world) made.0 ∙ kept.world (leads.honest h) before),
   )
+
+-- what leaves the number of writes, and then at most one
+pub once_after : (old mid new : Content) → Kept old mid → WritesOnce mid new → WritesOnce old new
+once_after old mid new kept once = omega (arith, kept.writes, once)
+
+-- a plan for a request that has nothing to write changes nothing
+pub quiet_plan : (world : World) (t : ℕ) (request : Request) (plan : Plan) → IsPlanFor world t request plan → IsQuiet world t request → plan.change ≡ Nothing
+quiet_plan world t request plan is (inl others) = is.quiet (inl (others is.answered.1.0 is.answered.1.1))
+quiet_plan world t request plan is (inr nothing) = is.quiet (inr nothing)
+
+-- so its commit makes no write
+module _ {S : Type 0} (content : S → Content) (old : Content) (mid new : S) (plan : Plan) (kept : Kept old (content mid)) (nothing : plan.change ≡ Nothing → new ≡ mid) where
+  pub quiet_commit : plan.change ≡ Nothing → (content new).writes ≤ old.writes
+  quiet_commit none = subst (λ (i : S). (content i).writes ≤ old.writes) (sym (nothing none)) kept.writes
+
+  pub planned_quiet : (E : Type 0) (t : ℕ) (request : Request) → Planned {E = E} (content mid) t request (Ok plan) → Leads (content mid) (content new) → WritesIfAny old t request (content new)
+  planned_quiet E t request (inl made) leads h s quiet =
+      let before = leads.honest h in
+      let p = made before in
+      quiet_commit (quiet_plan (content mid).world t request plan p.1 (subst (λ (w : World). IsQuiet w t request) (sym (kept.world before p.0)) quiet))
+  planned_quiet E t request (inr made) leads h s quiet = quiet_commit made.0

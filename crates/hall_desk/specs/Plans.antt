@@ -17,7 +17,7 @@ use Rattle.hall_policy.specs.declared.request.Action.TheVariants.{PutPuzzle, Cer
 use Rattle.hall_policy.specs.declared.request.Action.TheVariants.{ReadPuzzle, ListPuzzles, ListRounds, ReadRound}
 use Rattle.hall_policy.specs.declared.request.Action.TheVariants.{Answers, Solutions, Protests, Table}
 use Rattle.hall_policy.specs.declared.facts.Facts.{Facts}
-use Rattle.hall_store.specs.Store.{Content, Over}
+use Rattle.hall_store.specs.Store.{Content, Leads, Over, WritesOnce}
 use Rattle.hall_store.specs.declared.fault.StoreFault.{StoreFault}
 use Rattle.hall_store.specs.declared.fault.StoreFault.TheVariants.{Failed}
 use Rattle.hall_policy.specs.Facts.{TrueUpTo}
@@ -28,7 +28,10 @@ use Rattle.hall_desk.specs.Shown.{state_name}
 use Rattle.hall_desk.specs.declared.reply.StateName.{StateName}
 use Rattle.hall_desk.specs.declared.reply.StateName.TheVariants as name
 use Rattle.hall_policy.specs.declared.request.Request.{Request}
+use Rattle.hall_policy.specs.First.{First}
+use Rattle.hall_policy.specs.declared.rule.Decision.{Decision}
 use Rattle.hall_policy.specs.declared.rule.Decision.TheVariants.{Allow}
+use Rattle.hall_store.specs.Caller.{caller_of}
 use Rattle.hall_store.specs.Change.{changed, CanMake}
 use Rattle.hall_desk.specs.Plan.{planned_reply, planned_change}
 use Rattle.hall_desk.specs.Step.{Step, Seed, IsAnswered, Allowed, is_open, unknown_people}
@@ -166,6 +169,18 @@ Planned new t request (Err fault) = Unit {0}
 abbrev pub Steps : Content → ℕ → Request → Reply → Content → Type 0
 Steps old t request given new = Over (λ before after. Step before t request given after) old new
 
+-- the request has nothing to write in the world: another decision is made than to allow it, or its action has nothing to
+-- write there
+abbrev pub IsQuiet : World → ℕ → Request → Type 0
+IsQuiet world t request =
+    ((decision : Decision) → First world (caller_of world request.key) request.action t decision → decision ≢ Allow)
+    ⊎ HasNothingToWrite world request.action
+
+-- a request that has nothing to write makes no write, as far as that can be told
+abbrev pub WritesIfAny : Content → ℕ → Request → Content → Type 0
+WritesIfAny old t request new =
+    new.honest → new.serves → IsQuiet old.world t request → new.writes ≤ old.writes
+
 -- The people were refused by what stands in every world before any request and leaves it; or the store served before
 -- and after, and made of the people what stands before any request.
 abbrev pub Seeds : Content → List Person → Reply → Content → Type 0
@@ -174,6 +189,23 @@ Seeds old people given new = Over (λ before after. Seed before people given aft
 -- so many people were added, or the rule on lists denies
 abbrev pub IsSeedReply : Reply → Type 0
 IsSeedReply given = ((count : ℕ) × (given ≡ reply.Imported count)) ⊎ (given ≡ reply.Denied 20)
+
+-- The request was stepped over a store: at most one write was made, and none where it has nothing to write.
+pub record IsStepped {S : Type 0} (content : S → Content) (old : S) (asked : ℕ × Request) (given : Reply) (new : S)
+    : Type 0 where
+  pub leads : Leads (content old) (content new)
+  pub once : WritesOnce (content old) (content new)
+  pub quiet : WritesIfAny (content old) asked.0 asked.1 (content new)
+  pub steps : (content new).honest → Steps (content old) asked.0 asked.1 given (content new)
+  pub untouched : IsNobodys asked.1 → new ≡ old
+
+-- the requests were stepped over a store, one after another, each over the store that the one before it left
+abbrev pub AreStepped : {S : Type 0} → (S → Content) → S → List (ℕ × Request) → List Reply → S → Type 0
+AreStepped content old [] [] new = new ≡ old
+AreStepped {S} content old (asked ∷ rest) (given ∷ replies) new =
+    (mid : S) × IsStepped content old asked given mid × AreStepped content mid rest replies new
+AreStepped content old [] (given ∷ replies) new = ⊥
+AreStepped content old (asked ∷ rest) [] new = ⊥
 
 -- the replies are a run of the hall to some world, and where the store still serves, that world is its own
 abbrev pub Runs : Content → List (ℕ × Request) → List Reply → Content → Type 0

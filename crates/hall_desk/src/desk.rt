@@ -1,6 +1,6 @@
 //! The desk: requests, answered over the world of a store.
-ghost use Rattle.std.specs.Prelude.{◌≡◌, ◌⊎◌, IfOk, IsOk, OnErr};
-ghost use Rattle.hall_store.specs.Store.{Kept, Leads, Made, Asks, Fails};
+ghost use Rattle.std.specs.Prelude.{◌≡◌, ◌⊎◌, ◌≤◌, ◌+◌, length, IfOk, IsOk, OnErr};
+ghost use Rattle.hall_store.specs.Store.{Kept, Left, Leads, Made, WritesOnce, Asks, Fails};
 ghost use Rattle.hall_store.specs.Change.{changed, CanMake};
 ghost use Rattle.hall_store.specs.declared.change.Change.{Change};
 ghost use Rattle.hall_desk.specs.Desk.{kept_by, SaneThen};
@@ -8,7 +8,7 @@ ghost use Rattle.hall_desk.specs.Sane.{Sane};
 ghost use Rattle.hall_desk.specs.Promises.{HasUniqueSolutions, RightAnswersAreSolutions};
 ghost use Rattle.hall_desk.specs.Plan.{planned_reply, planned_change};
 ghost use Rattle.hall_desk.specs.Plans.{Planned, Steps, Seeds, Runs, FailsIn, IsNobodys, AreNobodys, IsAvailable};
-ghost use Rattle.hall_desk.specs.Plans.{IsQuietPlan, IsSeedReply, NobodysAreAnswered};
+ghost use Rattle.hall_desk.specs.Plans.{IsQuietPlan, IsSeedReply, AreStepped, NobodysAreAnswered, WritesIfAny};
 
 use crate::plan::make_plan;
 use crate::planned::Plan;
@@ -60,11 +60,12 @@ impl<S: ReadStore> Desk<S> {
 }
 
 impl<S: Store> Desk<S> {
-    /// Makes the plan's change, and answers its reply. Refused, it has consumed the plan and, while the store serves,
-    /// left the world; a plan without a change is never refused.
+    /// Makes the plan's change by one write at most, and answers its reply. Refused, it has consumed the plan and, while
+    /// the store serves, left the world; a plan without a change is never refused, and makes no write.
     pub fn commit(&mut self, alloc: Global, plan: Plan) -> Result<Reply, StoreFault>
         requires { Asks (S.content (kept_by self.old)) (CanMake (planned_change plan)) }
         ensures leads { Leads (S.content (kept_by self.old)) (S.content (kept_by self.new)) }
+        ensures once { WritesOnce (S.content (kept_by self.old)) (S.content (kept_by self.new)) }
         ensures made { (planned_change plan ≡ Change.Nothing) ⊎ Made (planned_change plan)
             (S.content (kept_by self.old)) (S.content (kept_by self.new)) result }
         ensures fault { Fails S.can_fail result }
@@ -74,12 +75,15 @@ impl<S: Store> Desk<S> {
         commit(alloc, &mut self.store, plan)
     }
 
-    /// Answers one request: a step of the hall. A fault is `Reply::Unavailable`, which a request without a key, other
-    /// than for a table, is never answered.
+    /// Answers one request: a step of the hall. It makes at most one write, and none for a request that is denied,
+    /// repeated or has nothing to write. A fault is `Reply::Unavailable`, which a request without a key, other than for
+    /// a table, is never answered.
     pub fn step(&mut self, alloc: Global, t: Moment, request: &Request) -> Reply
         ensures leads { Leads (S.content (kept_by self.old)) (S.content (kept_by self.new)) }
+        ensures once { WritesOnce (S.content (kept_by self.old)) (S.content (kept_by self.new)) }
         ensures steps { (S.content (kept_by self.new)).honest →
             Steps (S.content (kept_by self.old)) t request.now result (S.content (kept_by self.new)) }
+        ensures quiet { WritesIfAny (S.content (kept_by self.old)) t request.now (S.content (kept_by self.new)) }
         ensures answered { IsNobodys request.now → IsAvailable result }
         ensures untouched { IsNobodys request.now → kept_by self.new ≡ kept_by self.old }
         ensures sane { SaneThen Sane (S.content (kept_by self.old)) (S.content (kept_by self.new)) }
@@ -91,14 +95,17 @@ impl<S: Store> Desk<S> {
     }
 
     /// Imports the people before any request: the rule on lists alone is asked. It answers `Reply::Imported`, or
-    /// `Reply::Denied` by that rule. Refused, it has left the world while the store serves; want of memory apart, it fails
-    /// only over a store that can.
+    /// `Reply::Denied` by that rule. It makes at most one write, and none where it denies. Refused, it has left the world
+    /// while the store serves; want of memory apart, it fails only over a store that can.
     pub fn try_seed(&mut self, alloc: Global, people: &People) -> Result<Reply, StoreFault>
         ensures leads { Leads (S.content (kept_by self.old)) (S.content (kept_by self.new)) }
+        ensures once { WritesOnce (S.content (kept_by self.old)) (S.content (kept_by self.new)) }
         ensures seeds { IfOk result (λ reply. (S.content (kept_by self.new)).honest →
             Seeds (S.content (kept_by self.old)) people.now reply (S.content (kept_by self.new))) }
         ensures answered { IfOk result IsSeedReply }
-        ensures kept { OnErr result (Kept (S.content (kept_by self.old)) (S.content (kept_by self.new))) }
+        ensures quiet { IfOk result (λ reply. reply ≡ Reply.Denied 20 →
+            (S.content (kept_by self.new)).writes ≤ (S.content (kept_by self.old)).writes) }
+        ensures left { OnErr result (Left (S.content (kept_by self.old)) (S.content (kept_by self.new))) }
         ensures fault { Fails S.can_fail result }
         ensures sane { SaneThen Sane (S.content (kept_by self.old)) (S.content (kept_by self.new)) }
     {
@@ -108,8 +115,11 @@ impl<S: Store> Desk<S> {
     /// Imports the people before any request, as `try_seed` does. A fault is `Reply::Unavailable`.
     pub fn seed(&mut self, alloc: Global, people: &People) -> Reply
         ensures leads { Leads (S.content (kept_by self.old)) (S.content (kept_by self.new)) }
+        ensures once { WritesOnce (S.content (kept_by self.old)) (S.content (kept_by self.new)) }
         ensures seeds { (S.content (kept_by self.new)).honest →
             Seeds (S.content (kept_by self.old)) people.now result (S.content (kept_by self.new)) }
+        ensures quiet { result ≡ Reply.Denied 20 →
+            (S.content (kept_by self.new)).writes ≤ (S.content (kept_by self.old)).writes }
         ensures sane { SaneThen Sane (S.content (kept_by self.old)) (S.content (kept_by self.new)) }
     {
         match self.try_seed(alloc, people) {
@@ -118,16 +128,20 @@ impl<S: Store> Desk<S> {
         }
     }
 
-    /// Answers the requests one after another: a run of the hall. Room for all replies is made before the first
-    /// request; refused there, nothing is done.
+    /// Answers the requests one after another: a run of the hall, by no more writes than there are requests. Each is
+    /// a step over the store that the one before left, also where a fault has shut it. Room for all replies is made
+    /// before the first request; refused there, nothing is done.
     pub fn run(
         &mut self,
         alloc: Global,
         requests: &[(Moment, Request)],
     ) -> Result<Vec<Reply>, AllocError>
         ensures leads { Leads (S.content (kept_by self.old)) (S.content (kept_by self.new)) }
+        ensures few { (S.content (kept_by self.new)).writes ≤ (S.content (kept_by self.old)).writes + length requests.now }
         ensures runs { IfOk result (λ replies. (S.content (kept_by self.new)).honest →
             Runs (S.content (kept_by self.old)) requests.now replies.items (S.content (kept_by self.new))) }
+        ensures stepped { IfOk result (λ replies. AreStepped S.content (kept_by self.old) requests.now replies.items
+            (kept_by self.new)) }
         ensures answered { IfOk result (λ replies. NobodysAreAnswered requests.now replies.items) }
         ensures untouched { AreNobodys requests.now → kept_by self.new ≡ kept_by self.old }
         ensures sane { SaneThen Sane (S.content (kept_by self.old)) (S.content (kept_by self.new)) }

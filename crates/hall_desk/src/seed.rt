@@ -1,6 +1,6 @@
 //! People who are imported before any request.
-ghost use Rattle.std.specs.Prelude.{◌≡◌, IfOk, OnErr};
-ghost use Rattle.hall_store.specs.Store.{Kept, Leads, Told, Fails};
+ghost use Rattle.std.specs.Prelude.{◌≡◌, ◌≤◌, IfOk, OnErr};
+ghost use Rattle.hall_store.specs.Store.{Kept, Left, Leads, WritesOnce, Told, Fails};
 ghost use Rattle.hall_store.specs.declared.change.Change.{Change};
 ghost use Rattle.hall_desk.specs.Desk.{SaneThen};
 ghost use Rattle.hall_desk.specs.Sane.{Sane};
@@ -21,10 +21,13 @@ pub(crate) fn seed<S: Store>(
     people: &People,
 ) -> Result<Reply, StoreFault>
     ensures leads { Leads (S.content store.old) (S.content store.new) }
+    ensures once { WritesOnce (S.content store.old) (S.content store.new) }
     ensures seeds { IfOk result (λ reply. (S.content store.new).honest → Seeds (S.content store.old) people.now reply
         (S.content store.new)) }
     ensures answered { IfOk result IsSeedReply }
-    ensures kept { OnErr result (Kept (S.content store.old) (S.content store.new)) }
+    ensures quiet { IfOk result (λ reply. reply ≡ Reply.Denied 20 →
+        (S.content store.new).writes ≤ (S.content store.old).writes) }
+    ensures left { OnErr result (Left (S.content store.old) (S.content store.new)) }
     ensures fault { Fails S.can_fail result }
     ensures sane { SaneThen Sane (S.content store.old) (S.content store.new) }
 {
@@ -33,13 +36,16 @@ pub(crate) fn seed<S: Store>(
     make_seed(alloc, store, people)
 }
 
-/// Makes the plan of the people, and commits it.
+/// Makes the plan of the people, and commits it. It makes at most one write, and none for a list that is denied.
 fn make_seed<S: Store>(alloc: Global, store: &mut S, people: &People) -> Result<Reply, StoreFault>
     ensures leads { Leads (S.content store.old) (S.content store.new) }
+    ensures once { WritesOnce (S.content store.old) (S.content store.new) }
     ensures seeds { IfOk result (λ reply. (S.content store.new).honest → Seeds (S.content store.old) people.now reply
         (S.content store.new)) }
     ensures answered { IfOk result IsSeedReply }
-    ensures kept { OnErr result (Kept (S.content store.old) (S.content store.new)) }
+    ensures quiet { IfOk result (λ reply. reply ≡ Reply.Denied 20 →
+        (S.content store.new).writes ≤ (S.content store.old).writes) }
+    ensures left { OnErr result (Left (S.content store.old) (S.content store.new)) }
     ensures fault { Fails S.can_fail result }
 {
     let plan = plan_seed(alloc, store, people)?;
@@ -55,6 +61,7 @@ fn plan_seed<S: ReadStore>(
     ensures kept { Kept (S.content store.old) (S.content store.new) }
     ensures fault { Fails S.can_fail result }
     ensures answered { IfOk result (λ plan. IsSeedReply plan.reply) }
+    ensures denied { IfOk result (λ plan. plan.reply ≡ Reply.Denied 20 → plan.change ≡ Change.Nothing) }
     ensures asked { IfOk result (λ plan. plan.change ≡ Change.Nothing → (S.content store.new).honest
         → (S.content store.new).serves) }
     ensures told { Told (S.content store.old) (S.content store.new) result

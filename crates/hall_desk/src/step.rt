@@ -1,11 +1,12 @@
 //! Plans made and committed, one request after another.
-ghost use Rattle.std.specs.Prelude.{◌≡◌, ◌⊎◌, ◌+◌, ◌≤◌, ◌<◌, ◌++◌, ◌∷◌, [], IfOk, IsOk, OnErr, vec_len, vec_capacity};
-ghost use Rattle.hall_store.specs.Store.{Leads, Made, Asks, Fails};
+ghost use Rattle.std.specs.Prelude.{◌≡◌, ◌⊎◌, ◌+◌, ◌≤◌, ◌<◌, ◌++◌, ◌∷◌, [], length, IfOk, IsOk, OnErr, vec_len, vec_capacity};
+ghost use Rattle.hall_store.specs.Store.{Leads, Made, WritesOnce, Asks, Fails};
 ghost use Rattle.hall_store.specs.Change.{CanMake};
 ghost use Rattle.hall_store.specs.declared.change.Change.{Change};
 ghost use Rattle.hall_desk.specs.Desk.{SaneThen};
 ghost use Rattle.hall_desk.specs.Sane.{Sane};
-ghost use Rattle.hall_desk.specs.Plans.{Steps, Runs, IsNobodys, AreNobodys, IsAvailable, NobodysAreAnswered};
+ghost use Rattle.hall_desk.specs.Plans.{Steps, Runs, AreStepped, IsNobodys, AreNobodys, IsAvailable};
+ghost use Rattle.hall_desk.specs.Plans.{NobodysAreAnswered, WritesIfAny};
 
 use crate::plan::make_plan;
 use crate::planned::Plan;
@@ -14,7 +15,7 @@ use hall_policy::{Moment, Request};
 use hall_store::{Change, Store, StoreFault};
 use std::alloc::{AllocError, Global};
 
-/// Makes the plan's change, and answers its reply.
+/// Makes the plan's change by one write, and answers its reply; where it changes nothing, by none.
 pub(crate) fn commit<S: Store>(
     alloc: Global,
     store: &mut S,
@@ -22,6 +23,7 @@ pub(crate) fn commit<S: Store>(
 ) -> Result<Reply, StoreFault>
     requires { Asks (S.content store.old) (CanMake plan.change) }
     ensures leads { Leads (S.content store.old) (S.content store.new) }
+    ensures once { WritesOnce (S.content store.old) (S.content store.new) }
     ensures made { (plan.change ≡ Change.Nothing) ⊎ Made plan.change (S.content store.old) (S.content store.new) result }
     ensures fault { Fails S.can_fail result }
     ensures nothing { plan.change ≡ Change.Nothing → IsOk result × (store.new ≡ store.old) }
@@ -32,10 +34,11 @@ pub(crate) fn commit<S: Store>(
     Ok(reply)
 }
 
-/// Makes the change by its call of the store.
+/// Makes the change by its one call of the store.
 fn make<S: Store>(alloc: Global, store: &mut S, change: Change) -> Result<(), StoreFault>
     requires { Asks (S.content store.old) (CanMake change) }
     ensures leads { Leads (S.content store.old) (S.content store.new) }
+    ensures once { WritesOnce (S.content store.old) (S.content store.new) }
     ensures made { (change ≡ Change.Nothing) ⊎ Made change (S.content store.old) (S.content store.new) result }
     ensures fault { Fails S.can_fail result }
     ensures nothing { change ≡ Change.Nothing → IsOk result × (store.new ≡ store.old) }
@@ -53,11 +56,14 @@ fn make<S: Store>(alloc: Global, store: &mut S, change: Change) -> Result<(), St
     }
 }
 
-/// Answers one request. It is read for the ranges that its types keep, and so keeps a sane world.
+/// Answers one request, by one write at most, and by none where the request is denied, repeated or has nothing to write.
+/// It is read for the ranges that its types keep, and so keeps a sane world.
 pub(crate) fn step<S: Store>(alloc: Global, store: &mut S, t: Moment, request: &Request) -> Reply
     ensures leads { Leads (S.content store.old) (S.content store.new) }
+    ensures once { WritesOnce (S.content store.old) (S.content store.new) }
     ensures steps { (S.content store.new).honest → Steps (S.content store.old) t request.now result
         (S.content store.new) }
+    ensures quiet { WritesIfAny (S.content store.old) t request.now (S.content store.new) }
     ensures answered { IsNobodys request.now → IsAvailable result }
     ensures untouched { IsNobodys request.now → store.new ≡ store.old }
     ensures sane { SaneThen Sane (S.content store.old) (S.content store.new) }
@@ -70,8 +76,10 @@ pub(crate) fn step<S: Store>(alloc: Global, store: &mut S, t: Moment, request: &
 /// Makes the request's plan, and commits it.
 fn make_step<S: Store>(alloc: Global, store: &mut S, t: Moment, request: &Request) -> Reply
     ensures leads { Leads (S.content store.old) (S.content store.new) }
+    ensures once { WritesOnce (S.content store.old) (S.content store.new) }
     ensures steps { (S.content store.new).honest → Steps (S.content store.old) t request.now result
         (S.content store.new) }
+    ensures quiet { WritesIfAny (S.content store.old) t request.now (S.content store.new) }
     ensures answered { IsNobodys request.now → IsAvailable result }
     ensures untouched { IsNobodys request.now → store.new ≡ store.old }
 {
@@ -84,16 +92,19 @@ fn make_step<S: Store>(alloc: Global, store: &mut S, t: Moment, request: &Reques
     }
 }
 
-/// Answers the requests one after another. Room for all replies is made before the first.
+/// Answers the requests one after another, by no more writes than there are requests. Room for all replies is made
+/// before the first.
 pub(crate) fn run<S: Store>(
     alloc: Global,
     store: &mut S,
     requests: &[(Moment, Request)],
 ) -> Result<Vec<Reply>, AllocError>
     ensures leads { Leads (S.content store.old) (S.content store.new) }
+    ensures few { (S.content store.new).writes ≤ (S.content store.old).writes + length requests.now }
     ensures runs { IfOk result (λ replies. (S.content store.new).honest →
         Runs (S.content store.old) requests.now replies.items (S.content store.new)) }
     ensures sane { SaneThen Sane (S.content store.old) (S.content store.new) }
+    ensures stepped { IfOk result (λ replies. AreStepped S.content store.old requests.now replies.items store.new) }
     ensures answered { IfOk result (λ replies. NobodysAreAnswered requests.now replies.items) }
     ensures untouched { AreNobodys requests.now → store.new ≡ store.old }
     ensures refused { OnErr result (store.new ≡ store.old) }

@@ -42,17 +42,19 @@ leads_then a b c first second = record {
 pub kept_leads : (a b : Content) → Kept a b → Leads a b
 kept_leads a b kept = record { honest = kept.honest; serves = kept.serves; counts = kept.counts; lasts = kept.lasts }
 
--- and one that leads on and leaves the world keeps it
-pub leads_kept : (a b : Content) → Leads a b → (b.honest → b.serves → b.world ≡ a.world) → Kept a b
-leads_kept a b leads world = record { honest = leads.honest; serves = leads.serves; counts = leads.counts; lasts = leads.lasts; world = world }
+-- and one that leads on, makes no write and leaves the world keeps it
+pub leads_kept : (a b : Content) → Leads a b → b.writes ≤ a.writes → (b.honest → b.serves → b.world ≡ a.world) → Kept a b
+leads_kept a b leads writes world =
+    record { honest = leads.honest; serves = leads.serves; counts = leads.counts; lasts = leads.lasts; writes = writes; world = world }
 
 -- a call that changes nothing leaves the world
 pub kept_same : (a : Content) → Kept a a
-kept_same a = leads_kept a a (leads_same a) (λ h s. refl)
+kept_same a = leads_kept a a (leads_same a) (omega arith) (λ h s. refl)
 
 -- two calls that leave the world, one after the other
 pub kept_then : (a b c : Content) → Kept a b → Kept b c → Kept a c
-kept_then a b c first second = leads_kept a c (leads_then a b c (kept_leads a b first) (kept_leads b c second))
+kept_then a b c first second =
+    leads_kept a c (leads_then a b c (kept_leads a b first) (kept_leads b c second)) (omega (arith, first.writes, second.writes))
     (λ h s. second.world h s ∙ first.world (second.honest h) (second.serves h s))
 
 -- what was true before a call that leaves the world is true after it

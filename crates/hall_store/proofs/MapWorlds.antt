@@ -83,7 +83,7 @@ module _ (store : MapStore) (key : List ℕ) where
       let led : lookup (is_at (text_cmp key)) store.keys.entries ≡ Some name = subst (λ k. lookup (is_at (text_cmp k)) store.keys.entries ≡ Some name) own (store.people_indexed name other at).led in
       ap (holder_under store.people.entries key) led ∙ ap (if_holder key) at ∙ ap (λ b. cond b (Some other) None) ((text_decides other.key key).1 own)
 
-  -- who is found has the key, and is kept under the own name
+  -- who is found has the key, and is kept under that person's name
   pub found_kept : (p : Person) → found ≡ Some p → (get (world_of store).people p.name ≡ Some p) × (p.key ≡ key)
   found_kept p is =
       let at = found_holder store.people.entries key (lookup (is_at (text_cmp key)) store.keys.entries) p is in

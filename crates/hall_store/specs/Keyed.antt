@@ -35,7 +35,7 @@ abbrev pub least_word : List ℕ
 least_word = 45 ∷ []
 
 -- ---- people
--- the person stands under the own name, and the index leads from the person's key to it
+-- the person stands under that person's name, and the index leads from the person's key to it
 pub record IsPersonIndexed (keys : List (List ℕ × List ℕ)) (name : List ℕ) (person : Person) : Type 0 where
   pub own : person.name ≡ name
   pub led : lookup (is_at (text_cmp person.key)) keys ≡ Some name

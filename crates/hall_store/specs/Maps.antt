@@ -42,9 +42,9 @@ world_of store = record {
   testers = from_entries (flat_map testers_in store.rounds.entries);
 }
 
--- ordered maps have no device that could lie or fail, so no fault is counted
+-- ordered maps have no device that could lie or fail, so no fault is counted; nor do they count their writes
 abbrev pub content_of : MapStore → Content
-content_of store = record { honest = ⊤; serves = ⊤; faults = 0; world = world_of store }
+content_of store = record { honest = ⊤; serves = ⊤; faults = 0; writes = 0; world = world_of store }
 
 -- nobody and nothing
 abbrev pub empty_world : World

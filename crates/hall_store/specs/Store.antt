@@ -1,5 +1,5 @@
 -- What the calls of a store say, where its device was honest and the store still serves.
-use Rattle.std.specs.Prelude.{◌≡◌, ◌↔◌, ◌⊎◌, ◌&&◌, ◌++◌, ℕ, ◌<◌, ◌≤◌, Bool, List, [], ◌∷◌, Result, Ok, Err, IfErr, Option, Some, None, Contains, AllPairs}
+use Rattle.std.specs.Prelude.{◌≡◌, ◌↔◌, ◌⊎◌, ◌&&◌, ◌++◌, ◌+◌, ℕ, ◌<◌, ◌≤◌, Bool, List, [], ◌∷◌, Result, Ok, Err, IfErr, Option, Some, None, Contains, AllPairs}
 use Rattle.std.specs.List.{filter}
 use Rattle.std.specs.List.Sorted.{IsSorted, IsStrictlySortedBy, IsPermutation}
 use Rattle.std.specs.Ordering.{nat_cmp, ordering_then}
@@ -26,10 +26,13 @@ use Rattle.hall_store.specs.Change.{changed}
 
 -- What a store keeps, and while that can be told: `honest`, so far the device has returned what was written, and no one
 -- else has written; `serves`, no fault of the device has shut the store; `faults`, how often the device has failed.
+-- `writes` is a number that one write may raise by one, and nothing else raises. Which one is the store's own matter: a
+-- store may count its writes, or say 0 for ever. So what is proved of all stores bounds how many writes are made.
 pub record Content : Type 1 where
   pub honest : Type 0
   pub serves : Type 0
   pub faults : ℕ
+  pub writes : ℕ
   pub world : World
 
 -- the device has failed once more, or so often that it is no longer counted
@@ -44,12 +47,13 @@ pub record Leads (old new : Content) : Type 0 where
   pub counts : old.faults ≤ new.faults
   pub lasts : new.honest → old.serves → new.serves ⊎ MoreFaults old.faults new.faults
 
--- A call leaves the world: it leads on, and the world is the one before.
+-- A call leaves the world and makes no write: it leads on, and the world is the one before.
 pub record Kept (old new : Content) : Type 0 where
   pub honest : new.honest → old.honest
   pub serves : new.honest → new.serves → old.serves
   pub counts : old.faults ≤ new.faults
   pub lasts : new.honest → old.serves → new.serves ⊎ MoreFaults old.faults new.faults
+  pub writes : new.writes ≤ old.writes
   pub world : new.honest → new.serves → new.world ≡ old.world
 
 -- What a call of the store answers has its meaning, and the store still serves, where the device was honest. Nothing is
@@ -78,9 +82,18 @@ abbrev pub Made : {R E : Type 0} → Change → Content → Content → Result R
 Made change old new (Ok done) = new.honest → new.serves × (new.world ≡ changed change old.world)
 Made change old new (Err fault) = new.honest → new.serves → new.world ≡ old.world
 
--- A call leads on, and makes the change or leaves the world.
+-- a call leaves the world, while the store serves
+abbrev pub Left : Content → Content → Type 0
+Left old new = new.honest → new.serves → new.world ≡ old.world
+
+-- at most one write was made
+abbrev pub WritesOnce : Content → Content → Type 0
+WritesOnce old new = new.writes ≤ old.writes + 1
+
+-- A call leads on, and makes the change or leaves the world, by one write at most.
 pub record Makes {R E : Type 0} (change : Change) (old new : Content) (result : Result R E) : Type 0 where
   pub leads : Leads old new
+  pub once : WritesOnce old new
   pub made : Made change old new result
 
 -- A relation of the worlds before and after holds over a store: nothing asked of the store made it true, it holds of

@@ -75,7 +75,7 @@ pub(crate) fn with_people(
     Ok(people)
 }
 
-/// Puts the person under the own name. Refused, it leaves the people.
+/// Puts the person under that person's name. Refused, it leaves the people.
 fn put_person(people: &mut BTreeMap<Name, Person>, person: Person) -> Result<(), AllocError>
     ensures ok { OnOk result (tree.Updates text_cmp people.old people.new person.name (Some person)) }
     ensures err { OnErr result (tree.IsUnchanged people.old people.new) }

@@ -1,4 +1,5 @@
-use Rattle.hall_desk.proofs.Seeding.{seed_made, seed_refused, seed_answered}
+use Rattle.hall_desk.proofs.Stepping.{once_after}
+use Rattle.hall_desk.proofs.Seeding.{seed_made, seed_refused, seed_quiet, seed_answered}
 use Rattle.hall_desk.proofs.seed.make_seed.Goals as goal
 
 pub returns-clause-seeds : goal.returns-clause-seeds
@@ -8,8 +9,8 @@ returns-clause-seeds g c =
     seed_made g.S.ReadStore.content (g.S.ReadStore.content c.args.store.now) c.plan_seed.new.store c.commit.new.store c.args.people.now c.in_ok-plan.plan plan.kept made.leads
     c.commit.result plan.asked plan.told.1 made.nothing made.made made.reply
 
-pub returns-clause-kept : goal.returns-clause-kept
-returns-clause-kept g c =
+pub returns-clause-left : goal.returns-clause-left
+returns-clause-left g c =
     let made = c.commit.ensures in
     let plan = c.in_ok-plan.ensures in
     seed_refused g.S.ReadStore.content (g.S.ReadStore.content c.args.store.now) c.plan_seed.new.store c.commit.new.store c.args.people.now c.in_ok-plan.plan plan.kept made.leads
@@ -17,3 +18,14 @@ returns-clause-kept g c =
 
 pub returns-clause-answered : goal.returns-clause-answered
 returns-clause-answered g c = seed_answered c.commit.result c.in_ok-plan.plan c.in_ok-plan.ensures.answered c.commit.ensures.reply
+
+pub returns-clause-quiet : goal.returns-clause-quiet
+returns-clause-quiet g c =
+    let made = c.commit.ensures in
+    let plan = c.in_ok-plan.ensures in
+    seed_quiet g.S.ReadStore.content (g.S.ReadStore.content c.args.store.now) c.plan_seed.new.store c.commit.new.store c.args.people.now c.in_ok-plan.plan plan.kept made.leads
+    c.commit.result plan.denied (λ none. (made.nothing none).1) made.reply
+
+pub returns-clause-once : goal.returns-clause-once
+returns-clause-once g c =
+    once_after (g.S.ReadStore.content c.args.store.now) (g.S.ReadStore.content c.plan_seed.new.store) (g.S.ReadStore.content c.commit.new.store) c.in_ok-plan.ensures.kept c.commit.ensures.once

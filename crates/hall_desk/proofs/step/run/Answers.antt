@@ -2,9 +2,9 @@ use Rattle.std.proofs.Common.{◌≡◌, ◌+◌, ◌++◌, ◌∷◌, [], ℕ, 
 use Rattle.std.proofs.lemmas.List.{take_more}
 use Rattle.hall_policy.specs.declared.request.Request.{Request}
 use Rattle.hall_desk.specs.Run.{Run}
-use Rattle.hall_desk.specs.Plans.{Runs, IsNobodys, AreNobodys, NobodysAreAnswered}
+use Rattle.hall_desk.specs.Plans.{Runs, AreStepped, IsNobodys, AreNobodys, NobodysAreAnswered}
 use Rattle.hall_desk.specs.declared.reply.Reply.{Reply}
-use Rattle.hall_desk.proofs.Runs.{runs_more, take_all, nobodys_more}
+use Rattle.hall_desk.proofs.Runs.{runs_more, take_all, nobodys_more, stepped_more}
 use Rattle.hall_store.proofs.Knowing.{leads_same, leads_then}
 use Rattle.hall_desk.proofs.step.run.Goals as goal
 
@@ -15,8 +15,11 @@ loop-asked-init g c =
     record {
       count = made.len;
       room = made.capacity;
+      within = omega arith;
       leads = leads_same (g.S.ReadStore.content c.args.store.now);
+      few = omega arith;
       runs = λ h. (world, subst (λ (replies : List Reply). Run world [] replies world) (sym made.items) refl, λ s. refl);
+      stepped = subst (λ (replies : List Reply). AreStepped g.S.ReadStore.content c.args.store.now [] replies c.args.store.now) (sym made.items) refl;
       answered = subst (λ (replies : List Reply). NobodysAreAnswered [] replies) (sym made.items) tt;
       untouched = λ nobodys. refl;
       sane = λ h s world_sane. world_sane;
@@ -39,12 +42,19 @@ loop-asked-preserved g c =
     record {
       count = omega (arith, kept.len, old.count);
       room = omega (arith, kept.capacity, old.room);
+      within = omega (arith, c.loop-asked-test.true);
       leads = leads_then first before new old.leads step.leads;
+      few = omega (arith, old.few, step.once);
       runs = λ h.
           subst (λ (list : List (ℕ × Request)). Runs first list c.keep.new.replies.items new) (sym more)
           (subst (λ (replies : List Reply). Runs first (take index requests ++ asked ∷ []) replies new) (sym kept.items)
           (runs_more first before new (take index requests) c.loop-asked.replies.items asked c.step-reply.result
           (step.leads.serves h) (old.runs (step.leads.honest h)) (step.steps h)));
+      stepped =
+          subst (λ (list : List (ℕ × Request)). AreStepped g.S.ReadStore.content c.args.store.now list c.keep.new.replies.items c.step-reply.new.store) (sym more)
+          (subst (λ (replies : List Reply). AreStepped g.S.ReadStore.content c.args.store.now (take index requests ++ asked ∷ []) replies c.step-reply.new.store) (sym kept.items)
+          (stepped_more g.S.ReadStore.content c.args.store.now c.loop-asked.store c.step-reply.new.store (take index requests) c.loop-asked.replies.items asked c.step-reply.result old.stepped
+          (record { leads = step.leads; once = step.once; quiet = step.quiet; steps = step.steps; untouched = step.untouched })));
       answered =
           subst (λ (list : List (ℕ × Request)). NobodysAreAnswered list c.keep.new.replies.items) (sym more)
           (subst (λ (replies : List Reply). NobodysAreAnswered (take index requests ++ asked ∷ []) replies) (sym kept.items)
@@ -58,7 +68,15 @@ returns-clause-runs g c =
     let whole : take c.loop-asked.asked-index c.args.requests.now ≡ c.args.requests.now = take_all c.args.requests.now c.loop-asked.asked-index c.loop-asked-test.false in
     λ h. subst (λ (list : List (ℕ × Request)). Runs (g.S.ReadStore.content c.args.store.now) list c.loop-asked.replies.items (g.S.ReadStore.content c.loop-asked.store)) whole (c.loop-asked.invariant.runs h)
 
+pub returns-clause-stepped : goal.returns-clause-stepped
+returns-clause-stepped g c =
+    let whole : take c.loop-asked.asked-index c.args.requests.now ≡ c.args.requests.now = take_all c.args.requests.now c.loop-asked.asked-index c.loop-asked-test.false in
+    subst (λ (list : List (ℕ × Request)). AreStepped g.S.ReadStore.content c.args.store.now list c.loop-asked.replies.items c.loop-asked.store) whole c.loop-asked.invariant.stepped
+
 pub returns-clause-answered : goal.returns-clause-answered
 returns-clause-answered g c =
     let whole : take c.loop-asked.asked-index c.args.requests.now ≡ c.args.requests.now = take_all c.args.requests.now c.loop-asked.asked-index c.loop-asked-test.false in
     subst (λ (list : List (ℕ × Request)). NobodysAreAnswered list c.loop-asked.replies.items) whole c.loop-asked.invariant.answered
+
+pub returns-clause-few : goal.returns-clause-few
+returns-clause-few g c = omega (arith, c.loop-asked.invariant.few, c.loop-asked.invariant.within)

@@ -29,6 +29,7 @@ returns-clause-makes c =
     ∙ answer_put slot row old.answers.entries (slot_free old slot row own can) (key_fresh old slot row own can) in
     record {
       leads = record { honest = λ h. h; serves = λ h s. s; counts = omega arith; lasts = λ h s. inl s };
+      once = omega arith;
       made = λ _. (tt, λ i. record (world_of old) { answers = made i });
     }
 

@@ -17,6 +17,7 @@ returns-clause-makes c =
     ∙ ap (λ (k : ProtestKey). insert (from_entries {R = protest_cmp} old.protests.entries) k c.args.row) (sym c.in_ok-key.ensures.own) in
     record {
       leads = record { honest = λ h. h; serves = λ h s. s; counts = omega arith; lasts = λ h s. inl s };
+      once = omega arith;
       made = λ _. (tt, λ i. record (world_of old) { protests = made i });
     }
 

@@ -17,6 +17,7 @@ returns-clause-makes c =
     ∙ ap (λ (k : PuzzleKey). insert (from_entries {R = puzzle_cmp} old.puzzles.entries) k c.args.row) (sym c.in_ok-key.ensures.own) in
     record {
       leads = record { honest = λ h. h; serves = λ h s. s; counts = omega arith; lasts = λ h s. inl s };
+      once = omega arith;
       made = λ _. (tt, λ i. record (world_of old) { puzzles = made i });
     }
 

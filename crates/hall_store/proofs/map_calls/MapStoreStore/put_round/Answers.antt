@@ -19,6 +19,7 @@ returns-clause-makes c =
     let testers = testers_retested es fs row.round.id row put.ok.0 put.was_ordered put.ordered in
     record {
       leads = record { honest = λ h. h; serves = λ h s. s; counts = omega arith; lasts = λ h s. inl s };
+      once = omega arith;
       made = λ _. (tt, λ i. record (world_of old) { rounds = heads i; places = places i; testers = testers i });
     }
 

@@ -35,6 +35,7 @@ returns-clause-makes c =
     inserted protest_total same_protest_keys es (c.get_mut.follows.lender new).entries key new ((c.get_mut.follows.holds new).3 (search rules)).0 in
     record {
       leads = record { honest = λ h. h; serves = λ h s. s; counts = omega arith; lasts = λ h s. inl s };
+      once = omega arith;
       made = λ _. (tt, (λ i. record (world_of old) { protests = made i }) ∙ ap (with_ruling (world_of old) key c.args.ruling) (sym found));
     }
 

@@ -46,6 +46,7 @@ returns-clause-makes c =
     let testers : from_entries {R = tester_cmp} (flat_map testers_in fs) ≡ from_entries (flat_map testers_in es) = testers_same es fs id new updates before holds.4 row seen refl in
     record {
       leads = record { honest = λ h. h; serves = λ h s. s; counts = omega arith; lasts = λ h s. inl s };
+      once = omega arith;
       made = λ _. (tt, (λ i. record (world_of old) { rounds = heads i; places = places i; testers = testers i }) ∙ ap (with_flag (world_of old) id c.args.flag) (sym kept));
     }
 
