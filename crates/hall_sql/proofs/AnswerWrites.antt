@@ -1,5 +1,5 @@
 -- What the statement that adds an answer leaves.
-use Rattle.std.proofs.Common.{◌≡◌, ◌≢◌, ◌&&◌, ℕ, [], ◌∷◌, flat_map, option_to_list, true, IsTrue, Some, None, Ok, refl, ap, arith}
+use Rattle.std.proofs.Common.{◌≡◌, ◌≢◌, ◌&&◌, ℕ, [], ◌∷◌, flat_map, is_some, option_to_list, true, IsTrue, Some, None, Ok, refl, ap, arith}
 use Rattle.std.specs.Prelude.{nat_le}
 use Rattle.std.proofs.lemmas.Bool.{and_from, le-leb}
 use Rattle.std.specs.List.{AllByRecursion}
@@ -33,8 +33,9 @@ use Rattle.hall_sql.specs.Columns.{answer_params}
 use Rattle.hall_sql.specs.Rows.{kept, person_of, puzzle_row_of, round_of, place_of, answer_of, protest_of, tester_of, world_of}
 use Rattle.hall_sql.specs.Spared.{may_write}
 use Rattle.hall_sql.specs.Standing.{HasAdded, IsHall, HasMade}
-use Rattle.hall_sql.specs.Fill.{WithAnswer}
-use Rattle.hall_sql.specs.Inside.{IsHallData, Worlds}
+use Rattle.hall_sql.specs.Fill.{AddsAnswer, WithAnswer}
+use Rattle.hall_sql.specs.Inside.{IsHallData}
+use Rattle.hall_sql.proofs.AllRead.{added_read}
 use Rattle.hall_sql.proofs.AnswerTexts.{added_terms, add_answer_is}
 use Rattle.hall_sql.proofs.AnswerLemmas.{answers_there}
 use Rattle.hall_sql.proofs.CallLemmas.{executed_open}
@@ -102,9 +103,16 @@ module _ (row : AnswerRow) (is : IsAnswerRow row) (old new : State) (count : ℕ
 
 -- the INSERT of an answer inside a transaction
 pub answer_put : (row : AnswerRow) → IsAnswerRow row → (old new : State) (count : ℕ) → Executes add_answer_text (answer_params row) old new (Ok count)
-    → IsHallData old.now → IsHallData new.now × Worlds (λ a b. WithAnswer a row b) old.now new.now
+    → IsHallData old.now → IsHallData new.now × AddsAnswer old.now row new.now
 answer_put row is old new count ran held =
-    (data_added 9 (answer_params row) old.now new.now (adds row is old new count held.schema ran) held held.keyed.1.1.1.1.0, with_answer row is old new count held.schema ran)
+    let it = adds row is old new count held.schema ran in (
+      data_added 9 (answer_params row) old.now new.now it held held.keyed.1.1.1.1.0,
+      record {
+        row = it;
+        world = with_answer row is old new count held.schema ran;
+        read = added_read 9 (answer_params row) old.now new.now it (ap is_some (answer_reads row is (Int (next_rowid (old.now.trees 9))))) (λ all. all.1.1.1.1.0);
+      },
+    )
 
 -- and outside of one, under a new key
 pub answer_added : (row : AnswerRow) → IsAnswerRow row → (old new : State) (count : ℕ) → IsHall old → HasCleanDisk old
@@ -123,7 +131,7 @@ answer_added row is old new count hall clean fresh ran =
       hall = writes_hall old new _ _ _ count mode w put.0.schema put.0.keyed;
       was_open = was;
       serves = w.shown.is_open;
-      world = put.1 (fresh was);
+      world = put.1.world (fresh was);
       others = alone_spared (may_write (AddAnswer row)) 9 old.now.trees new.now.trees
           (added_spared (may_write (AddAnswer row) 9) (old.now.trees 9) (new.now.trees 9) (id ∷ params)
           (taken_record answer_total (λ (x : AnswerRow). x.key) row.key (answer_of (id ∷ params)) row (answer_reads row is id) refl) it.free it.put) it.others;

@@ -10,14 +10,13 @@ use Rattle.sqlite.specs.Order.{Row}
 use Rattle.sqlite.specs.State.{State}
 use Rattle.hall_policy.specs.Sink.{HasTaken}
 use Rattle.hall_policy.specs.Text.{text_cmp}
-use Rattle.hall_policy.specs.World.{World}
 use Rattle.hall_policy.specs.declared.record.Person.{Person}
 use Rattle.hall_store.specs.Change.{changed}
 use Rattle.hall_store.specs.declared.change.Change.TheVariants.{Import}
 use Rattle.hall_sql.specs.declared.tables.HallTable.{HallTable}
 use Rattle.hall_sql.specs.Made.{Awaits, Grows, HasGrown, schema_before}
 use Rattle.hall_sql.specs.Rows.{person_of, world_of}
-use Rattle.hall_sql.specs.Inside.{Did, Changes, Worlds}
+use Rattle.hall_sql.specs.Inside.{Did, Changes}
 use Rattle.hall_sql.specs.Spared.{has_key, may_write, Spares}
 use Rattle.hall_sql.specs.WriteCause.{ImportsOne, ImportsEach}
 use Rattle.hall_sql.proofs.FeedLemmas.{taken_more}
@@ -90,16 +89,16 @@ more_imported people i person a b c low is so made rows =
         and_from _ _ parts.0 (any_item test people i person low (subst (λ x. test x ≡ true) is (or_false _ parts.1)))
 
 -- records that are added one after another
-module _ {X : Type 0} (Adds : World → X → World → Type 0) where
+module _ {X : Type 0} (Adds : Database → X → Database → Type 0) where
   abbrev pub AddsAll : List X → Database → Database → Type 0
-  AddsAll items = Worlds (λ a b. HasTaken Adds a items b)
+  AddsAll items a b = HasTaken Adds a items b
 
   pub none_added : (s : State) → IsTrue s.in_transaction → Did (AddsAll []) s s
   none_added s mode = did_none (AddsAll []) s mode refl
 
   pub more_added : (items : List X) (i : ℕ) (item : X) (a b c : State) → i < length items → item ≡ get_or items i item
-      → Did (AddsAll (take i items)) a b → Did (Worlds (λ v w. Adds v item w)) b c → Did (AddsAll (take (i + 1) items)) a c
+      → Did (AddsAll (take i items)) a b → Did (λ v w. Adds v item w) b c → Did (AddsAll (take (i + 1) items)) a c
   more_added items i item a b c low is =
-      did_then (AddsAll (take i items)) (Worlds (λ v w. Adds v item w)) (AddsAll (take (i + 1) items)) a b c (λ one two.
+      did_then (AddsAll (take i items)) (λ v w. Adds v item w) (AddsAll (take (i + 1) items)) a b c (λ one two.
       subst (λ l. AddsAll l a.now c.now) (ap (λ x. take i items ++ x ∷ []) is ∙ sym (take_more items i item low))
-      (taken_more Adds (world_of a.now.trees) (world_of b.now.trees) (world_of c.now.trees) (take i items) item one two))
+      (taken_more Adds a.now b.now c.now (take i items) item one two))

@@ -14,11 +14,14 @@ use Rattle.sqlite_trees.specs.Tree.{IsAscending}
 use Rattle.hall_policy.proofs.Maps.{strictly_sorted}
 use Rattle.hall_policy.specs.Sink.{HasTaken}
 use Rattle.hall_policy.specs.World.{World}
+use Rattle.sqlite.specs.Effect.{Database}
 use Rattle.sqlite.specs.State.{State}
 use Rattle.hall_sql.specs.declared.rows.Rows.{Rows}
-use Rattle.hall_sql.specs.Fill.{Fills, WithPerson, WithPuzzle, WithRound, WithPlace, WithAnswer, WithProtest}
-use Rattle.hall_sql.specs.Inside.{Did, Worlds}
+use Rattle.hall_sql.specs.AllRead.{AreAllRead, StaysRead}
+use Rattle.hall_sql.specs.Fill.{AddsAnswer, AddsHead, AddsPlace, AddsProtest, AddsPuzzle, Fills, PutsPerson, WithPerson, WithPuzzle, WithRound, WithPlace, WithAnswer, WithProtest}
+use Rattle.hall_sql.specs.Inside.{Did}
 use Rattle.hall_sql.specs.Rows.{world_of}
+use Rattle.hall_sql.specs.Tables.{hall_schema}
 
 module _ {K V X : Type 0} {R : K → K → Ordering} (total : IsTotalOrder R) (same : IsAntisymmetric R) (key : X → K) (value : X → V) where
   abbrev pub pairs : List X → List (K × V)
@@ -84,12 +87,66 @@ module _ {K V X : Type 0} {R : K → K → Ordering} (total : IsTotalOrder R) (s
         let whole : from_entries (pairs rows) ≡ m = same_map total same _ _ (λ q. get-from_entries total (pairs rows) q ∙ ap (find_key R q) are ∙ sym (get-entries m q)) in
         taken [] rows old new done none up ∙ ap (with old) whole
 
+-- ---- tables
+
+-- what was added to tables was added to their worlds
+taken_worlds : {X : Type 0} (Adds : Database → X → Database → Type 0) (With : World → X → World → Type 0)
+    → ((a : Database) (x : X) (b : Database) → Adds a x b → With (world_of a.trees) x (world_of b.trees))
+    → (a : Database) (xs : List X) (b : Database) → HasTaken Adds a xs b → HasTaken With (world_of a.trees) xs (world_of b.trees)
+taken_worlds Adds With one a [] b done = ap (λ (d : Database). world_of d.trees) done
+taken_worlds Adds With one a (x ∷ xs) b done =
+    (world_of done.0.trees, one a x done.0 done.1, taken_worlds Adds With one done.0 xs b done.2)
+
+-- and leaves each row a record
+taken_read : {X : Type 0} (Adds : Database → X → Database → Type 0) → ((a : Database) (x : X) (b : Database) → Adds a x b → StaysRead a b)
+    → (a : Database) (xs : List X) (b : Database) → HasTaken Adds a xs b → StaysRead a b
+taken_read Adds one a [] b done = subst (λ (d : Database). AreAllRead hall_schema d.trees) (sym done)
+taken_read Adds one a (x ∷ xs) b done = λ all. taken_read Adds one done.0 xs b done.2 (one a x done.0 done.1 all)
+
+-- each record was added to the world, after those to which it refers
+pub record FillsWorlds (rows : Rows) (old new : World) : Type 0 where
+  pub with_people : World
+  pub with_puzzles : World
+  pub with_heads : World
+  pub with_places : World
+  pub with_answers : World
+  pub people : HasTaken WithPerson old rows.people.items with_people
+  pub puzzles : HasTaken WithPuzzle with_people rows.puzzles.items with_puzzles
+  pub heads : HasTaken WithRound with_puzzles rows.heads.items with_heads
+  pub places : HasTaken WithPlace with_heads rows.places.items with_places
+  pub answers : HasTaken WithAnswer with_places rows.answers.items with_answers
+  pub protests : HasTaken WithProtest with_answers rows.protests.items new
+
+pub fills_worlds : (rows : Rows) (a b : Database) → Fills rows a b → FillsWorlds rows (world_of a.trees) (world_of b.trees)
+fills_worlds rows a b fills = record {
+  with_people = world_of fills.with_people.trees;
+  with_puzzles = world_of fills.with_puzzles.trees;
+  with_heads = world_of fills.with_heads.trees;
+  with_places = world_of fills.with_places.trees;
+  with_answers = world_of fills.with_answers.trees;
+  people = taken_worlds PutsPerson WithPerson (λ d x e it. it.world) _ _ _ fills.people;
+  puzzles = taken_worlds AddsPuzzle WithPuzzle (λ d x e it. it.2.world) _ _ _ fills.puzzles;
+  heads = taken_worlds AddsHead WithRound (λ d x e it. it.world) _ _ _ fills.heads;
+  places = taken_worlds AddsPlace WithPlace (λ d x e it. it.world) _ _ _ fills.places;
+  answers = taken_worlds AddsAnswer WithAnswer (λ d x e it. it.world) _ _ _ fills.answers;
+  protests = taken_worlds AddsProtest WithProtest (λ d x e it. it.world) _ _ _ fills.protests;
+}
+
+pub fills_read : (rows : Rows) (a b : Database) → Fills rows a b → StaysRead a b
+fills_read rows a b fills all =
+    taken_read AddsProtest (λ d x e it. it.read) _ _ _ fills.protests
+    (taken_read AddsAnswer (λ d x e it. it.read) _ _ _ fills.answers
+    (taken_read AddsPlace (λ d x e it. it.read) _ _ _ fills.places
+    (taken_read AddsHead (λ d x e it. it.read) _ _ _ fills.heads
+    (taken_read AddsPuzzle (λ d x e it. it.2.read) _ _ _ fills.puzzles
+    (taken_read PutsPerson (λ d x e it. it.read) _ _ _ fills.people all)))))
+
 -- the six tables, one after another
 pub six_added : (rows : Rows) (a b c d e f h : State)
-    → Did (Worlds (λ v w. HasTaken WithPerson v rows.people.items w)) a b → Did (Worlds (λ v w. HasTaken WithPuzzle v rows.puzzles.items w)) b c
-    → Did (Worlds (λ v w. HasTaken WithRound v rows.heads.items w)) c d → Did (Worlds (λ v w. HasTaken WithPlace v rows.places.items w)) d e
-    → Did (Worlds (λ v w. HasTaken WithAnswer v rows.answers.items w)) e f → Did (Worlds (λ v w. HasTaken WithProtest v rows.protests.items w)) f h
-    → Did (Worlds (Fills rows)) a h
+    → Did (λ v w. HasTaken PutsPerson v rows.people.items w) a b → Did (λ v w. HasTaken AddsPuzzle v rows.puzzles.items w) b c
+    → Did (λ v w. HasTaken AddsHead v rows.heads.items w) c d → Did (λ v w. HasTaken AddsPlace v rows.places.items w) d e
+    → Did (λ v w. HasTaken AddsAnswer v rows.answers.items w) e f → Did (λ v w. HasTaken AddsProtest v rows.protests.items w) f h
+    → Did (Fills rows) a h
 six_added rows a b c d e f h people puzzles heads places answers protests = record {
   steps = record {
     mode = protests.steps.mode;
@@ -101,11 +158,11 @@ six_added rows a b c d e f h people puzzles heads places answers protests = reco
       let at_d = heads.steps.hall at_c in
       let at_e = places.steps.hall at_d in
       record {
-        with_people = world_of b.now.trees;
-        with_puzzles = world_of c.now.trees;
-        with_heads = world_of d.now.trees;
-        with_places = world_of e.now.trees;
-        with_answers = world_of f.now.trees;
+        with_people = b.now;
+        with_puzzles = c.now;
+        with_heads = d.now;
+        with_places = e.now;
+        with_answers = f.now;
         people = people.does is;
         puzzles = puzzles.does at_b;
         heads = heads.does at_c;

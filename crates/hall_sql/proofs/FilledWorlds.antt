@@ -11,16 +11,16 @@ use Rattle.hall_policy.specs.declared.record.ProtestRow.{ProtestRow}
 use Rattle.hall_policy.proofs.Orders.{text_total, same_texts, puzzle_total, same_puzzle_keys, place_total, same_place_keys, answer_total, same_answer_keys, protest_total, same_protest_keys}
 use Rattle.hall_store.specs.Maps.{empty_world}
 use Rattle.hall_sql.specs.declared.rows.Rows.{Rows}
-use Rattle.hall_sql.specs.Fill.{Fills, WithAnswer, WithPerson, WithPlace, WithProtest, WithPuzzle, WithRound}
+use Rattle.hall_sql.specs.Fill.{WithAnswer, WithPerson, WithPlace, WithProtest, WithPuzzle, WithRound}
 use Rattle.hall_sql.specs.WholeRows.{AreRowsOf, without_testers}
-use Rattle.hall_sql.proofs.FillLemmas.{filled}
+use Rattle.hall_sql.proofs.FillLemmas.{FillsWorlds, filled}
 
 same_pairs : {K V : Type 0} (es : List (K × V)) → map {B = K × V} (λ e. (e.0, e.1)) es ≡ es
 same_pairs [] = refl
 same_pairs (e ∷ es) = ap (λ l. e ∷ l) (same_pairs es)
 
 -- rows that were added to nothing make the world whose rows they are, without its testers
-pub filled_whole : (world new : World) (rows : Rows) → AreRowsOf world rows → Fills rows empty_world new → new ≡ without_testers world
+pub filled_whole : (world new : World) (rows : Rows) → AreRowsOf world rows → FillsWorlds rows empty_world new → new ≡ without_testers world
 filled_whole world new rows are fills =
     let a : fills.with_people ≡ record empty_world { people = world.people } =
     filled text_total same_texts (λ (x : Person). x.name) (λ x. x) (λ w. w.people) (λ w m. record w { people = m }) (λ w m. refl) (λ w m n. refl) (λ w. refl)

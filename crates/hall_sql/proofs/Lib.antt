@@ -51,6 +51,7 @@ pub mod EntryListings
 pub mod RoundWrites
 pub mod TransactionLemmas
 pub mod InsideLemmas
+pub mod AllRead
 pub mod PeopleWrites
 pub mod PlaceWrites
 pub mod TesterWrites

@@ -1,22 +1,33 @@
 -- What a migration leaves of the target.
-use Rattle.std.proofs.Common.{◌≡◌, ◌≢◌, ◌⊎◌, ◌↔◌, inl, inr, ℕ, Bool, false, IsTrue, Result, Ok, Err, refl, sym, ap, subst, ◌∙◌, arith}
+use Rattle.std.proofs.Common.{◌≡◌, ◌≢◌, ◌↔◌, [], inl, inr, ℕ, Bool, false, IsErrAnd, IsTrue, Result, Ok, Err, refl, sym, ap, subst, ◌∙◌, arith}
 use Rattle.std.specs.FinMap.{empty}
 use Rattle.sqlite.specs.Effect.{Database}
 use Rattle.sqlite.specs.State.{State, HasCleanDisk}
+use Rattle.sqlite.specs.Tree.{Trees}
 use Rattle.hall_policy.specs.World.{World}
 use Rattle.hall_store.specs.Maps.{empty_world}
-use Rattle.hall_store.specs.Store.{Content, Kept, Leads, Served}
+use Rattle.hall_store.specs.Store.{Leads, Served}
 use Rattle.hall_store.specs.declared.fault.StoreFault.{StoreFault}
-use Rattle.hall_store.proofs.Knowing.{kept_leads, kept_then, leads_then}
+use Rattle.hall_store.proofs.Knowing.{leads_then}
 use Rattle.hall_sql.specs.declared.migration.Migrated.{Migrated}
 use Rattle.hall_sql.specs.declared.migration.Migrated.TheVariants.{Done, Occupied}
 use Rattle.hall_sql.specs.declared.rows.Rows.{Rows}
+use Rattle.hall_sql.specs.AllRead.{AreAllRead, IsRead}
 use Rattle.hall_sql.specs.Fill.{Fills}
-use Rattle.hall_sql.specs.Migrate.{HasTaken, Leaves, Migrates, Takes, old_content_of, row_count}
-use Rattle.hall_sql.specs.Rows.{world_of}
-use Rattle.hall_sql.specs.Standing.{Rested, content_of}
+use Rattle.hall_sql.specs.Migrate.{HasTaken, HoldsOther, Leaves, Migrates, Takes, WasBefore, old_content_of}
+use Rattle.hall_sql.specs.Rows.{tester_in, world_of}
+use Rattle.hall_sql.specs.Standing.{IsBare, IsHall, Rested, RestedAny, RestedIn, content_of}
+use Rattle.hall_sql.specs.Statements.{all_testers_text}
+use Rattle.hall_sql.specs.Tables.{hall_schema, old_schema}
+use Rattle.hall_sql.specs.Whole.{AreRecords}
 use Rattle.hall_sql.specs.WholeRows.{AreRowsOf, AreSameRows, IsEmptyIn, count_of, without_testers}
+use Rattle.hall_sql.proofs.AdoptLemmas.{bare_world as bare_empty}
+use Rattle.hall_sql.proofs.AllRead.{all_bare, bare_read, read_before, testers_read}
+use Rattle.hall_sql.proofs.FillLemmas.{FillsWorlds, fills_read, fills_worlds}
 use Rattle.hall_sql.proofs.FilledWorlds.{filled_whole}
+use Rattle.hall_sql.proofs.LastLemmas.{follows_leads}
+use Rattle.hall_sql.proofs.StoreLemmas.{always, over_hall, rested_hall, rests_on}
+use Rattle.hall_sql.proofs.TransactionLemmas.{rests_itself}
 use Rattle.hall_sql.proofs.WholeRows.{bare_rows, bare_world, none_counted, nothing_kept, one_rows, one_world, rows_counted}
 
 -- ---- what the tables hold beside rows
@@ -64,70 +75,105 @@ module _ (mid new : State) (held : Rows) (rested : Rested mid new) (read : HasCl
       let now = still clean in
       ((told clean).0, (is_something (world_of new.now.trees) held now some, λ world own bare. are_others (world_of new.now.trees) held now world rows own apart))
 
+-- six tables that are read, and that of the testers
+all_seven : (trees : Trees) → AreAllRead old_schema trees → IsRead trees 14 → AreAllRead hall_schema trees
+all_seven trees six testers = (six.0, (six.1.0, (six.1.1.0, (six.1.1.1.0, (six.1.1.1.1.0, (six.1.1.1.1.1.0, (testers, tt)))))))
+
+-- the rows were read, and then the testers
+pub compared : (old mid new : State) → IsHall old → RestedAny old mid → (HasCleanDisk mid → IsTrue mid.is_open)
+    → (HasCleanDisk mid → AreAllRead old_schema old.now.trees) → Rested mid new
+    → (HasCleanDisk new → AreRecords tester_in all_testers_text [] mid new) → HasCleanDisk new → AreAllRead hall_schema old.now.trees
+compared old mid new hall rested serves six after testers clean =
+    let was : HasCleanDisk mid = omega (arith, after.follows.lasts.clean, clean) in
+    let over = over_hall hall (inr refl) in
+    all_seven old.now.trees (six was)
+    (read_before 14 old mid over rested was (serves was)
+    (testers_read mid new was (over_hall (rested_hall {old = old} {new = mid} hall rested).tabled refl) (testers clean)))
+
 -- ---- what a target took
 
--- tables that held nothing were filled
+-- tables that hold nothing, of which each row is a record, have no row
+pub found_bare : (old new : State) → Rested old new → (HasCleanDisk new → IsTrue new.is_open × (world_of new.now.trees ≡ empty_world))
+    → (HasCleanDisk new → AreAllRead hall_schema old.now.trees) → IsEmptyIn new
+found_bare old new rested told read clean opens =
+    all_bare new.now (rested.tabled.settled clean opens).1 (told clean).1
+    (subst (λ (d : Database). AreAllRead hall_schema d.trees) (sym (rested.same clean opens)) (read clean))
+
+-- tables that had no row were filled
 pub filled_takes : (old new : State) (world : World) (rows : Rows) (count : ℕ) → AreRowsOf world rows → world.testers ≡ empty
     → count ≡ count_of rows → IsEmptyIn old → Leads (content_of old) (content_of new)
-    → (HasCleanDisk new → IsTrue new.is_open × Fills rows (world_of old.now.trees) (world_of new.now.trees))
-    → HasCleanDisk new → HasTaken world count (content_of old) (content_of new)
+    → (HasCleanDisk new → IsTrue new.is_open × Fills rows old.now new.now)
+    → HasCleanDisk new → HasTaken world count old new
 filled_takes old new world rows count are bare is empties leads filled clean =
     let it = filled clean in
-    let none : world_of old.now.trees ≡ empty_world = empties (leads.honest clean) (leads.serves clean it.0) in
+    let none : IsBare hall_schema old.now = empties (leads.honest clean) (leads.serves clean it.0) in
     record {
       serves = it.0;
-      held = filled_whole world (world_of new.now.trees) rows are (subst (λ (w : World). Fills rows w (world_of new.now.trees)) none it.1) ∙ sym (bare_world world bare);
+      held = filled_whole world (world_of new.now.trees) rows are
+          (subst (λ (w : World). FillsWorlds rows w (world_of new.now.trees)) (bare_empty old.now none) (fills_worlds rows old.now new.now it.1))
+          ∙ sym (bare_world world bare);
+      read = fills_read rows old.now new.now it.1 (bare_read old.now none);
       before = inl (none, is ∙ rows_counted world rows are);
     }
 
--- a target that took after it was kept
-pub leaves_after : (old mid new : Content) (result : Result Migrated StoreFault) → Kept old mid → Leaves mid new result → Leaves old new result
-leaves_after old mid new (Ok (Done count)) kept leaves = leads_then old mid new (kept_leads old mid kept) leaves
-leaves_after old mid new (Ok Occupied) kept leaves = kept_then old mid new kept leaves
-leaves_after old mid new (Err fault) kept leaves = kept_then old mid new kept leaves
+-- a target that took after it rested
+pub leaves_after : (old mid new : State) (result : Result Migrated StoreFault) → Rested old mid → Leaves mid new result → Leaves old new result
+leaves_after old mid new (Ok (Done count)) rested leaves =
+    leads_then (content_of old) (content_of mid) (content_of new) (follows_leads old mid rested.follows) leaves
+leaves_after old mid new (Ok Occupied) rested leaves = rests_on old mid new rested leaves
+leaves_after old mid new (Err fault) rested leaves = rests_on old mid new rested leaves
 
-pub takes_after : (old mid new : Content) (world : World) (result : Result Migrated StoreFault) → Kept old mid → (mid.honest → mid.serves)
+was_after : (old mid new : State) (world : World) (count : ℕ) → Rested old mid → HasCleanDisk mid → IsTrue mid.is_open
+    → WasBefore world count mid new → WasBefore world count old new
+was_after old mid new world count rested clean opens (inl bare) = inl (subst (IsBare hall_schema) (rested.same clean opens) bare.0, bare.1)
+was_after old mid new world count rested clean opens (inr held) =
+    inr (subst (λ (d : Database). world_of d.trees ≡ world) (rested.same clean opens) held.0, held.1, rests_on old mid new rested held.2)
+
+pub takes_after : (old mid new : State) (world : World) (result : Result Migrated StoreFault) → Rested old mid → (HasCleanDisk mid → IsTrue mid.is_open)
     → Leaves mid new result → Takes world mid new result → Takes world old new result
-takes_after old mid new world (Ok (Done count)) kept serves leaves takes = λ clean.
+takes_after old mid new world (Ok (Done count)) rested serves leaves takes = λ clean.
     let it = takes clean in
-    let was = leaves.honest clean in
-    let same = kept.world was (serves was) in
+    let was : HasCleanDisk mid = leaves.honest clean in
+    record { serves = it.serves; held = it.held; read = it.read; before = was_after old mid new world count rested was (serves was) it.before }
+takes_after old mid new world (Ok Occupied) rested serves leaves takes = λ clean.
+    let it = takes clean in
+    let was : HasCleanDisk mid = omega (arith, leaves.follows.lasts.clean, clean) in
+    let same = rested.same was (serves was) in
     record {
-      serves = it.serves;
-      held = it.held;
-      before = subst (λ (w : World). ((w ≡ empty_world) × (count ≡ row_count world)) ⊎ ((w ≡ world) × (count ≡ 0))) same it.before;
+      some = subst (λ (d : Database). world_of d.trees ≢ empty_world) same it.some;
+      other = subst (λ (d : Database). world_of d.trees ≢ world) same it.other;
+      read = subst (λ (d : Database). AreAllRead hall_schema d.trees) same it.read;
     }
-takes_after old mid new world (Ok Occupied) kept serves leaves takes = λ clean.
-    let was = leaves.honest clean in
-    subst (λ (w : World). (w ≢ empty_world) × (w ≢ world)) (kept.world was (serves was)) (takes clean)
-takes_after old mid new world (Err fault) kept serves leaves takes = tt
+takes_after old mid new world (Err fault) rested serves leaves takes = tt
 
 -- it held the world already
-pub had_taken : (old new : Content) (world : World) → Kept old new → (new.honest → new.serves × (new.world ≡ world))
-    → new.honest → HasTaken world 0 old new
-had_taken old new world kept has clean =
+pub had_taken : (old new : State) (world : World) → Rested old new
+    → (HasCleanDisk new → IsTrue new.is_open × (world_of new.now.trees ≡ world)) → (HasCleanDisk new → AreAllRead hall_schema old.now.trees)
+    → HasCleanDisk new → HasTaken world 0 old new
+had_taken old new world rested has read clean =
     let it = has clean in
-    record { serves = it.0; held = it.1; before = inr (sym (kept.world clean it.0) ∙ it.1, refl) }
+    let same = rested.same clean it.0 in
+    record {
+      serves = it.0;
+      held = it.1;
+      read = subst (λ (d : Database). AreAllRead hall_schema d.trees) (sym same) (read clean);
+      before = inr (subst (λ (d : Database). world_of d.trees ≡ world) same it.1, refl, rested);
+    }
 
 -- it holds another
-pub is_left : (old new : Content) (world : World) → Kept old new
-    → (new.honest → new.serves × ((new.world ≢ empty_world) × (new.world ≢ world)))
-    → new.honest → (old.world ≢ empty_world) × (old.world ≢ world)
-is_left old new world kept has clean =
+pub is_left : (old new : State) (world : World) → Rested old new
+    → (HasCleanDisk new → IsTrue new.is_open × ((world_of new.now.trees ≢ empty_world) × (world_of new.now.trees ≢ world)))
+    → (HasCleanDisk new → AreAllRead hall_schema old.now.trees) → HasCleanDisk new → HoldsOther world old
+is_left old new world rested has read clean =
     let it = has clean in
-    subst (λ (w : World). (w ≢ empty_world) × (w ≢ world)) (kept.world clean it.0) it.1
+    let same = rested.same clean it.0 in
+    record {
+      some = subst (λ (d : Database). world_of d.trees ≢ empty_world) same it.1.0;
+      other = subst (λ (d : Database). world_of d.trees ≢ world) same it.1.1;
+      read = read clean;
+    }
 
 -- ---- the source
-
--- its content is left where its tables are
-pub source_kept : (old new : State) → Kept (content_of old) (content_of new) → Kept (old_content_of old) (old_content_of new)
-source_kept old new kept = record {
-  honest = kept.honest;
-  serves = kept.serves;
-  counts = kept.counts;
-  lasts = kept.lasts;
-  world = λ clean opens. ap without_testers (kept.world clean opens);
-}
 
 -- its rows are those of its world, which has no testers
 pub source_told : (s : State) (result : Result Rows StoreFault) → Served (content_of s) result AreRowsOf → Served (old_content_of s) result AreRowsOf
@@ -137,16 +183,29 @@ source_told s (Err fault) told = tt
 -- ---- both
 
 -- what the target did with the rows that were read
-pub migrated : (was now : State) (target target' : Content) (rows : Rows) (result : Result Migrated StoreFault)
-    → Kept (old_content_of was) (old_content_of now)
+pub migrated : (was now before after : State) (rows : Rows) (result : Result Migrated StoreFault) → RestedIn old_schema was now
     → (HasCleanDisk now → IsTrue now.is_open × AreRowsOf (without_testers (world_of now.now.trees)) rows)
-    → Leaves target target' result
-    → ((world : World) → AreRowsOf world rows → world.testers ≡ empty → Takes world target target' result)
-    → Migrates (old_content_of was) (old_content_of now) target target' result
-migrated was now target target' rows result kept told leaves takes = record {
-  source = kept;
+    → (HasCleanDisk now → AreAllRead old_schema was.now.trees)
+    → Leaves before after result
+    → ((world : World) → AreRowsOf world rows → world.testers ≡ empty → Takes world before after result)
+    → Migrates was now before after result
+migrated was now before after rows result rested told read leaves takes = record {
+  source = rested;
+  read = λ clean. always result (AreAllRead old_schema was.now.trees) (read clean);
   target = leaves;
   taken = λ clean.
       let it = told clean in
-      subst (λ (w : World). Takes w target target' result) (kept.world clean it.0) (takes (without_testers (world_of now.now.trees)) it.1 refl);
+      subst (λ (d : Database). Takes (without_testers (world_of d.trees)) before after result) (rested.same clean it.0)
+      (takes (without_testers (world_of now.now.trees)) it.1 refl);
+}
+
+-- where the source could not be read, the target was not asked
+pub unmigrated : (was now before : State) (fault : StoreFault) (result : Result Migrated StoreFault) → IsErrAnd result (λ e. e ≡ fault)
+    → RestedIn old_schema was now → IsHall before → Migrates was now before before result
+unmigrated was now before fault (Ok done) is rested hall = absurd is
+unmigrated was now before fault (Err e) is rested hall = record {
+  source = rested;
+  read = λ clean. tt;
+  target = rests_itself before hall;
+  taken = λ clean. tt;
 }

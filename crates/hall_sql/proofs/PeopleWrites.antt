@@ -1,5 +1,5 @@
 -- What the statement that writes a person leaves.
-use Rattle.std.proofs.Common.{◌≡◌, ◌≢◌, ◌||◌, ℕ, pos, [], ◌∷◌, Bool, true, false, flat_map, option_to_list, Some, Ok, refl, ap, arith}
+use Rattle.std.proofs.Common.{◌≡◌, ◌≢◌, ◌||◌, ℕ, pos, [], ◌∷◌, Bool, true, false, flat_map, is_some, option_to_list, Some, Ok, refl, ap, arith}
 use Rattle.std.specs.List.{AllByRecursion}
 use Rattle.std.specs.FinMap.{FinMap, from_entries, insert}
 use Rattle.sqlite.specs.declared.types.Value.{Value}
@@ -34,6 +34,7 @@ use Rattle.hall_sql.specs.Inside.{IsHallData, AddsPerson}
 use Rattle.hall_sql.specs.Spared.{may_write}
 use Rattle.hall_store.specs.declared.change.Change.TheVariants.{Import}
 use Rattle.hall_sql.proofs.PeopleTexts.{added_terms, add_person_is}
+use Rattle.hall_sql.proofs.AllRead.{added_read}
 use Rattle.hall_sql.proofs.InsertLemmas.{inserts}
 use Rattle.hall_sql.proofs.KeyedLemmas.{keyed_after, added_keyed}
 use Rattle.hall_sql.proofs.MapLemmas.{put_new}
@@ -116,5 +117,6 @@ person_added person is old new count ran it =
             (put_new text_total same_texts (λ (x : Person). x.name) person_of person (Int id ∷ params) (old.now.trees 0) (new.now.trees 0) put.put (person_reads person is (Int id)) put.free unknown);
         others = alone_spared (may_write (Import (person ∷ []))) 0 old.now.trees new.now.trees
             (added_spared (may_write (Import (person ∷ [])) 0) (old.now.trees 0) (new.now.trees 0) (Int id ∷ params) (ap (λ b. b || false) own) put.free put.put) put.others;
+        read = added_read 0 params old.now new.now put (ap is_some (person_reads person is (Int id))) (λ all. all.0);
       },
     )

@@ -1,5 +1,5 @@
 -- What the statements that write the puzzles of a round leave.
-use Rattle.std.proofs.Common.{◌≡◌, ◌≢◌, ◌≤◌, ◌<◌, ◌+◌, ℕ, suc, List, [], ◌∷◌, ◌++◌, length, map, filter, flat_map, take, get_or, option_to_list, true, not, cond, Some, None, Ok, IsTrue, refl, sym, ap, subst, ◌∙◌, arith}
+use Rattle.std.proofs.Common.{◌≡◌, ◌≢◌, ◌≤◌, ◌<◌, ◌+◌, ℕ, suc, List, [], ◌∷◌, ◌++◌, length, map, filter, flat_map, is_some, take, get_or, option_to_list, true, not, cond, Some, None, Ok, IsTrue, refl, sym, ap, subst, ◌∙◌, arith}
 use Rattle.std.proofs.lemmas.List.{take_more, length-take-le}
 use Rattle.std.specs.List.{AllByRecursion}
 use Rattle.std.specs.FinMap.{FinMap, from_entries, get, insert, get-retain_keys}
@@ -46,6 +46,7 @@ use Rattle.hall_sql.proofs.AnswerWrites.{is_within}
 use Rattle.hall_sql.proofs.ColumnLemmas.{kind_column, column_same, and_true}
 use Rattle.hall_sql.proofs.DeleteLemmas.{deletes}
 use Rattle.hall_sql.proofs.EntryLemmas.{put_entry, cut_entries, cut_rows, inserts_swapped}
+use Rattle.hall_sql.proofs.AllRead.{added_read}
 use Rattle.hall_sql.proofs.InsertLemmas.{inserts}
 use Rattle.hall_sql.proofs.InsideLemmas.{did_none, did_then}
 use Rattle.hall_sql.proofs.KeyedLemmas.{keyed_after, keyed_filter, added_keyed}
@@ -136,6 +137,7 @@ module _ (id : List ℕ) (old new : State) (count : ℕ) (held : IsHallData old.
           rows = it.put;
           others = alone_spared (is_place_of id) 7 old.now.trees new.now.trees
               (added_spared (is_place_of id 7) (old.now.trees 7) (new.now.trees 7) (Int at ∷ given) own it.free it.put) it.others;
+          read = added_read 7 given old.now new.now it (ap is_some reads) (λ all. all.1.1.1.0);
         },
       )
 

@@ -1,5 +1,5 @@
 -- What the statements that write a protest leave.
-use Rattle.std.proofs.Common.{◌≡◌, ◌≢◌, ℕ, pos, negsuc, List, [], ◌∷◌, length, flat_map, option_to_list, Bool, true, IsTrue, Option, Some, None, IfSome, Ok, refl, sym, ap, subst, ◌∙◌, arith}
+use Rattle.std.proofs.Common.{◌≡◌, ◌≢◌, ℕ, pos, negsuc, List, [], ◌∷◌, length, flat_map, is_some, option_to_list, Bool, true, IsTrue, Option, Some, None, IfSome, Ok, refl, sym, ap, subst, ◌∙◌, arith}
 use Rattle.std.specs.Prelude.{nat_le}
 use Rattle.std.proofs.lemmas.Bool.{le-leb}
 use Rattle.std.proofs.lemmas.Int.{ints}
@@ -41,12 +41,13 @@ use Rattle.hall_sql.specs.Columns.{protest_params, ruling_params, ruling_code, i
 use Rattle.hall_sql.specs.Rows.{kept, person_of, puzzle_row_of, round_of, place_of, answer_of, protest_of, tester_of, world_of}
 use Rattle.hall_sql.specs.Spared.{may_write}
 use Rattle.hall_sql.specs.Standing.{HasAdded, IsHall, HasMade}
-use Rattle.hall_sql.specs.Fill.{WithProtest}
-use Rattle.hall_sql.specs.Inside.{IsHallData, Worlds}
+use Rattle.hall_sql.specs.Fill.{AddsProtest, WithProtest}
+use Rattle.hall_sql.specs.Inside.{IsHallData}
 use Rattle.hall_sql.proofs.AnswerWrites.{is_within}
 use Rattle.hall_sql.proofs.ProtestTexts.{protests_there, key_terms, added_terms, ruled_terms, apart, add_protest_is, rule_protest_is}
 use Rattle.hall_sql.proofs.ProtestLemmas.{has_columns, agrees}
 use Rattle.hall_sql.proofs.CallLemmas.{executed_open}
+use Rattle.hall_sql.proofs.AllRead.{added_read}
 use Rattle.hall_sql.proofs.InsertLemmas.{inserts}
 use Rattle.hall_sql.proofs.KeyedLemmas.{data_added, keyed_after}
 use Rattle.hall_sql.proofs.FoundLemmas.{one_found}
@@ -117,9 +118,16 @@ module _ (row : ProtestRow) (is : IsProtestRow row) (old new : State) (count : �
 
 -- the INSERT of a protest inside a transaction
 pub protest_put : (row : ProtestRow) → IsProtestRow row → (old new : State) (count : ℕ) → Executes add_protest_text (protest_params row) old new (Ok count)
-    → IsHallData old.now → IsHallData new.now × Worlds (λ a b. WithProtest a row b) old.now new.now
+    → IsHallData old.now → IsHallData new.now × AddsProtest old.now row new.now
 protest_put row is old new count ran held =
-    (data_added 12 (protest_params row) old.now new.now (adds row is old new count held.schema ran) held held.keyed.1.1.1.1.1.0, with_protest row is old new count held.schema ran)
+    let it = adds row is old new count held.schema ran in (
+      data_added 12 (protest_params row) old.now new.now it held held.keyed.1.1.1.1.1.0,
+      record {
+        row = it;
+        world = with_protest row is old new count held.schema ran;
+        read = added_read 12 (protest_params row) old.now new.now it (ap is_some (protest_reads row is (Int (next_rowid (old.now.trees 12))))) (λ all. all.1.1.1.1.1.0);
+      },
+    )
 
 -- and outside of one, under a new key
 pub protest_added : (row : ProtestRow) → IsProtestRow row → (old new : State) (count : ℕ) → IsHall old → HasCleanDisk old
@@ -138,7 +146,7 @@ protest_added row is old new count hall clean fresh ran =
       hall = writes_hall old new _ _ _ count mode w put.0.schema put.0.keyed;
       was_open = was;
       serves = w.shown.is_open;
-      world = put.1 (fresh was);
+      world = put.1.world (fresh was);
       others = alone_spared (may_write (AddProtest row)) 12 old.now.trees new.now.trees
           (added_spared (may_write (AddProtest row) 12) (old.now.trees 12) (new.now.trees 12) (id ∷ params)
           (taken_record protest_total (λ (x : ProtestRow). x.key) row.key (protest_of (id ∷ params)) row (protest_reads row is id) refl) it.free it.put) it.others;

@@ -1,5 +1,5 @@
 -- What the statements that write a puzzle leave.
-use Rattle.std.proofs.Common.{None, ◌≡◌, ◌≢◌, inl, ℕ, pos, List, [], ◌∷◌, length, flat_map, option_to_list, Bool, true, IsTrue, Some, Ok, refl, sym, ap, subst, ◌∙◌, arith}
+use Rattle.std.proofs.Common.{None, ◌≡◌, ◌≢◌, inl, ℕ, pos, List, [], ◌∷◌, length, flat_map, is_some, option_to_list, Bool, true, IsTrue, Some, Ok, refl, sym, ap, subst, ◌∙◌, arith}
 use Rattle.std.proofs.lemmas.Bool.{and_parts}
 use Rattle.std.proofs.lemmas.List.{length-map}
 use Rattle.std.proofs.lemmas.List.Sorted.{length_permutation}
@@ -50,12 +50,13 @@ use Rattle.hall_sql.specs.Columns.{puzzle_params, HasSoMany, state_code, solutio
 use Rattle.hall_sql.specs.Rows.{kept, person_of, puzzle_row_of, round_of, place_of, answer_of, protest_of, tester_of, world_of}
 use Rattle.hall_sql.specs.Spared.{may_write}
 use Rattle.hall_sql.specs.Standing.{HasAdded, IsHall, HasMade}
-use Rattle.hall_sql.specs.Fill.{WithPuzzle}
-use Rattle.hall_sql.specs.Inside.{IsHallData, Worlds}
+use Rattle.hall_sql.specs.Fill.{AddsRow, WithPuzzle}
+use Rattle.hall_sql.specs.Inside.{IsHallData}
 use Rattle.hall_sql.proofs.PuzzleTexts.{puzzles_there, key_terms, added_terms, replaced_terms, apart, look_puzzle_is, add_puzzle_is, replace_puzzle_is}
 use Rattle.hall_sql.proofs.PuzzleLemmas.{key_columns}
 use Rattle.hall_sql.proofs.CallLemmas.{executed_open, answers_selection}
 use Rattle.hall_sql.proofs.ColumnLemmas.{texts_equal, column_equals, last_equal, more_equal, spelled}
+use Rattle.hall_sql.proofs.AllRead.{added_read}
 use Rattle.hall_sql.proofs.InsertLemmas.{inserts}
 use Rattle.hall_sql.proofs.KeyedLemmas.{data_added, keyed_after}
 use Rattle.hall_sql.proofs.MapLemmas.{equal_is, put_new}
@@ -190,9 +191,16 @@ module _ (text : List ℕ) (row : PuzzleRow) (spells : SpellsText text row.puzzl
 
   -- the INSERT of a puzzle inside a transaction
   pub puzzle_put : (old new : State) (count : ℕ) → Executes add_puzzle_text params old new (Ok count)
-      → IsHallData old.now → IsHallData new.now × Worlds (λ a b. WithPuzzle a row b) old.now new.now
+      → IsHallData old.now → IsHallData new.now × AddsRow 3 WithPuzzle params old.now row new.now
   puzzle_put old new count ran held =
-      (data_added 3 params old.now new.now (adds old new count held.schema ran) held held.keyed.1.0, with_puzzle old new count held.schema ran)
+      let it = adds old new count held.schema ran in (
+        data_added 3 params old.now new.now it held held.keyed.1.0,
+        record {
+          row = it;
+          world = with_puzzle old new count held.schema ran;
+          read = added_read 3 params old.now new.now it (ap is_some (puzzle_reads (Int (next_rowid (old.now.trees 3))))) (λ all. all.1.0);
+        },
+      )
 
   module _ (old new : State) (count : ℕ) (hall : IsHall old) (clean : HasCleanDisk old) where
     -- and outside of one, under a new key

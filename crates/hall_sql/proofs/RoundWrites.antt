@@ -1,5 +1,5 @@
 -- What the statements that write the head of a round leave.
-use Rattle.std.proofs.Common.{IsTrue, ◌≡◌, ◌≢◌, ◌≤◌, inl, ℕ, pos, List, [], ◌∷◌, length, map, flat_map, option_to_list, slice_get, Bool, true, false, Option, Some, None, IfSome, Ok, refl, sym, ap, subst, ◌∙◌, arith}
+use Rattle.std.proofs.Common.{IsTrue, ◌≡◌, ◌≢◌, ◌≤◌, inl, ℕ, pos, List, [], ◌∷◌, length, map, flat_map, is_some, option_to_list, slice_get, Bool, true, false, Option, Some, None, IfSome, Ok, refl, sym, ap, subst, ◌∙◌, arith}
 use Rattle.std.proofs.lemmas.Bool.{and_parts}
 use Rattle.std.proofs.lemmas.List.{length-map}
 use Rattle.std.proofs.lemmas.List.Sorted.{length_permutation}
@@ -42,8 +42,8 @@ use Rattle.hall_store.specs.declared.change.RoundFlag.TheVariants.{Released, Pub
 use Rattle.hall_sql.specs.Tables.{hall_schema}
 use Rattle.hall_sql.specs.Statements.{head_text, look_head_text, add_head_text, replace_head_text}
 use Rattle.hall_sql.specs.Values.{mode_in, flag_in}
-use Rattle.hall_sql.specs.Inside.{IsHallData, Did, Worlds}
-use Rattle.hall_sql.specs.Fill.{WithRound}
+use Rattle.hall_sql.specs.Inside.{IsHallData, Did}
+use Rattle.hall_sql.specs.Fill.{AddsHead}
 use Rattle.hall_sql.specs.RoundPuts.{CountsHeads, PutsHead, PutsHeadOver}
 use Rattle.hall_sql.specs.RoundColumns.{mode_code, flag_code, head_params, is_under, HasSoManyHeads, IsHead}
 use Rattle.hall_sql.specs.Rows.{kept, person_of, puzzle_row_of, round_in, round_of, place_of, answer_of, protest_of, tester_of, world_of}
@@ -57,6 +57,7 @@ use Rattle.hall_sql.proofs.CallLemmas.{executed_open, answers_selection, shown_u
 use Rattle.hall_sql.proofs.InsideLemmas.{did, shown_mode}
 use Rattle.hall_sql.proofs.ColumnLemmas.{column_equals, last_equal}
 use Rattle.hall_sql.proofs.FoundLemmas.{length_read, asked_found}
+use Rattle.hall_sql.proofs.AllRead.{added_read}
 use Rattle.hall_sql.proofs.InsertLemmas.{inserts}
 use Rattle.hall_sql.proofs.KeyedLemmas.{data_added, keyed_after}
 use Rattle.hall_sql.proofs.MapLemmas.{put_new}
@@ -241,13 +242,17 @@ module _ (round : Round) (is : IsRound round) where
         (runs_as add_head_text params old new hall_schema held.schema (Insert 2 (Values added_terms 11)) add_head_is.0 add_head_is.1 count ran)
 
     -- the INSERT of a head
-    pub head_inserted : Executes add_head_text params old new (Ok count) → IsHallData new.now × Worlds (λ a b. WithRound a round b) old.now new.now
+    pub head_inserted : Executes add_head_text params old new (Ok count) → IsHallData new.now × AddsHead old.now round new.now
     head_inserted ran =
         let it = head_adds ran in
         let id = Int (next_rowid (old.now.trees 5)) in (
           data_added 5 params old.now new.now it held held.keyed.1.1.0,
-          λ fresh. rounds_alone old.now.trees new.now.trees (insert (world_of old.now.trees).rounds round.id round) it.others
-              (put_new text_total same_texts (λ (x : Round). x.id) round_of round (id ∷ params) (old.now.trees 5) (new.now.trees 5) it.put (head_reads id) it.free fresh),
+          record {
+            row = it;
+            world = λ fresh. rounds_alone old.now.trees new.now.trees (insert (world_of old.now.trees).rounds round.id round) it.others
+                (put_new text_total same_texts (λ (x : Round). x.id) round_of round (id ∷ params) (old.now.trees 5) (new.now.trees 5) it.put (head_reads id) it.free fresh);
+            read = added_read 5 params old.now new.now it (ap is_some (head_reads id)) (λ all. all.1.1.0);
+          },
         )
 
     -- and under a new id

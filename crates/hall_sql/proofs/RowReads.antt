@@ -25,3 +25,9 @@ told_before mid new Means hall rested has clean opens =
     let rests = rested hall.schema hall.tabled in
     let was : HasCleanDisk mid = omega (arith, rests.follows.lasts.clean, clean) in
     subst (λ (d : Database). Means (world_of d.trees)) (sym (rests.same clean opens)) (has was).1
+
+-- a disk that is clean was so before
+pub rested_clean : (old new : State) → IsAnyHall old → RestedAny old new → HasCleanDisk new → HasCleanDisk old
+rested_clean old new hall rested clean =
+    let lasts = (rested hall.schema hall.tabled).follows.lasts in
+    omega (arith, lasts.clean, clean)

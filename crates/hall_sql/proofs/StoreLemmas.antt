@@ -56,6 +56,7 @@ rested_kept old new rested =
       serves = leads.serves;
       counts = leads.counts;
       lasts = leads.lasts;
+      writes = omega arith;
       world = λ clean opens. ap (λ (d : Database). world_of d.trees) (rested.same clean opens);
     }
 

@@ -52,6 +52,7 @@ made_wrote change old new done hall lasts made =
           counts = lasts.counts;
           lasts = λ clean opens. inl (it clean).serves;
         };
+        once = omega arith;
         made = λ clean. ((it clean).serves, (it clean).world);
       };
       others = λ clean. (it clean).others;
@@ -64,6 +65,7 @@ rested_wrote change old new fault rested = record {
   hall = rested.tabled;
   makes = record {
     leads = follows_leads old new rested.follows;
+    once = omega arith;
     made = λ clean opens. ap (λ (d : Database). world_of d.trees) (rested.same clean opens);
   };
   others = λ clean. tt;
@@ -81,6 +83,7 @@ rested_then {R} {E} change old mid new result rested serves wrote =
       hall = wrote.hall;
       makes = record {
         leads = leads_then (content_of old) (content_of mid) (content_of new) (follows_leads old mid rested.follows) wrote.makes.leads;
+        once = omega arith;
         made = by result wrote.makes.made world;
       };
       others = λ clean. subst (λ (d : Database). OnOk result (Spares (may_write change) d.trees new.now.trees)) (same clean) (wrote.others clean);
@@ -102,6 +105,7 @@ rested_made change old new done rested serves nothing = record {
   hall = rested.tabled;
   makes = record {
     leads = follows_leads old new rested.follows;
+    once = omega arith;
     made = λ clean.
         let world = ap (λ (d : Database). world_of d.trees) (rested.same clean (serves clean)) in
         (serves clean, sym (nothing clean) ∙ ap (changed change) world);
@@ -116,7 +120,7 @@ pub wrote_too : {R E : Type 0} (change other : Change) (old new : State) (result
     → Wrote change old new result → Wrote other old new result
 wrote_too {R} {E} change other old new result same wrote = record {
   hall = wrote.hall;
-  makes = record { leads = wrote.makes.leads; made = by result wrote.makes.made wrote.makes.leads.honest };
+  makes = record { leads = wrote.makes.leads; once = omega arith; made = by result wrote.makes.made wrote.makes.leads.honest };
   others = λ clean. subst (λ takes. OnOk result (Spares takes old.now.trees new.now.trees)) (same (wrote.makes.leads.honest clean)).1 (wrote.others clean);
   refused = wrote.refused;
 }

@@ -8,6 +8,7 @@ use Rattle.hall_policy.specs.declared.record.Person.{Person}
 use Rattle.hall_store.specs.Change.{changed}
 use Rattle.hall_store.specs.declared.change.Change.{Change}
 use Rattle.hall_store.specs.declared.change.Change.TheVariants.{Import}
+use Rattle.hall_sql.specs.AllRead.{StaysRead}
 use Rattle.hall_sql.specs.Columns.{person_params}
 use Rattle.hall_sql.specs.Tables.{hall_schema}
 use Rattle.hall_sql.specs.Rows.{world_of}
@@ -49,10 +50,12 @@ pub record Tells (Means : World → Type 0) (old new : Database) : Type 0 where
   pub same : new ≡ old
   pub means : Means (world_of old.trees)
 
--- a row of the person is added, which adds the person where the name is unknown, and each other row stays
+-- a row of the person is added, which adds the person where the name is unknown, and each other row stays; the row is a
+-- record
 pub record AddsPerson (person : Person) (old new : Database) : Type 0 where
   pub row : HasAdded hall_schema 0 (person_params person) old new
   pub world : get (world_of old.trees).people person.name ≡ None →
       world_of new.trees
       ≡ record (world_of old.trees) { people = insert (world_of old.trees).people person.name person }
   pub others : Spares (may_write (Import (person ∷ []))) old.trees new.trees
+  pub read : StaysRead old new

@@ -22,6 +22,7 @@ pub mod WriteCause
 pub mod AdoptCause
 pub mod Versions
 pub mod OldStore
+pub mod AllRead
 pub mod WholeRows
 pub mod Migrate
 pub mod Fill

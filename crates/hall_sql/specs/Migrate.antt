@@ -1,17 +1,20 @@
 -- What becomes of a hall of the version before, and of a hall that takes its rows.
-use Rattle.std.specs.Prelude.{◌≡◌, ◌≢◌, ◌⊎◌, ◌+◌, ℕ, Result, Ok, Err}
+use Rattle.std.specs.Prelude.{◌≡◌, ◌≢◌, ◌⊎◌, ◌+◌, ℕ, IfOk, IsTrue, Result, Ok, Err}
 use Rattle.std.specs.FinMap.{empty, len}
-use Rattle.sqlite.specs.State.{State}
+use Rattle.sqlite.specs.State.{State, HasCleanDisk}
 use Rattle.hall_policy.specs.World.{World}
 use Rattle.hall_store.specs.Maps.{empty_world}
-use Rattle.hall_store.specs.Store.{Content, Kept, Leads}
+use Rattle.hall_store.specs.Store.{Content, Leads}
 use Rattle.hall_store.specs.declared.fault.StoreFault.{StoreFault}
 use Rattle.hall_sql.specs.declared.migration.Found.{Found}
 use Rattle.hall_sql.specs.declared.migration.Found.TheVariants.{Nothing, These, Others}
 use Rattle.hall_sql.specs.declared.migration.Migrated.{Migrated}
 use Rattle.hall_sql.specs.declared.migration.Migrated.TheVariants.{Done, Occupied}
 use Rattle.hall_sql.specs.declared.rows.Rows.{Rows}
-use Rattle.hall_sql.specs.Standing.{content_of}
+use Rattle.hall_sql.specs.AllRead.{AreAllRead}
+use Rattle.hall_sql.specs.Rows.{world_of}
+use Rattle.hall_sql.specs.Standing.{IsBare, Rested, RestedIn, content_of}
+use Rattle.hall_sql.specs.Tables.{hall_schema, old_schema}
 use Rattle.hall_sql.specs.WholeRows.{AreRowsOf, without_testers}
 
 -- The content of a connection with the tables of the version before: its world is what its tables hold, and no testers.
@@ -30,28 +33,43 @@ IsFoundBeside rows held These = (world : World) → AreRowsOf world rows → wor
 IsFoundBeside rows held Others =
     (held ≢ empty_world) × ((world : World) → AreRowsOf world rows → world.testers ≡ empty → held ≢ world)
 
--- The target holds the world, which it was given in so many rows, or which it held before.
-pub record HasTaken (world : World) (count : ℕ) (old new : Content) : Type 0 where
-  pub serves : new.serves
-  pub held : new.world ≡ world
-  pub before : ((old.world ≡ empty_world) × (count ≡ row_count world)) ⊎ ((old.world ≡ world) × (count ≡ 0))
+-- the target had no row, and was given so many; or it held the world before, and its tables are as they were
+abbrev pub WasBefore : World → ℕ → State → State → Type 0
+WasBefore world count old new =
+    (IsBare hall_schema old.now × (count ≡ row_count world))
+    ⊎ ((world_of old.now.trees ≡ world) × (count ≡ 0) × Rested old new)
 
--- The target held nothing, or the world already, and holds it now; or it held neither. It is told where its device was
--- honest to the end.
-abbrev pub Takes : World → Content → Content → Result Migrated StoreFault → Type 0
-Takes world old new (Ok (Done count)) = new.honest → HasTaken world count old new
-Takes world old new (Ok Occupied) = new.honest → (old.world ≢ empty_world) × (old.world ≢ world)
+-- The target holds the world, which it was given in so many rows, or which it held before. Each of its rows is a record.
+pub record HasTaken (world : World) (count : ℕ) (old new : State) : Type 0 where
+  pub serves : IsTrue new.is_open
+  pub held : world_of new.now.trees ≡ world
+  pub read : AreAllRead hall_schema new.now.trees
+  pub before : WasBefore world count old new
+
+-- it holds another world, and each of its rows is a record
+pub record HoldsOther (world : World) (old : State) : Type 0 where
+  pub some : world_of old.now.trees ≢ empty_world
+  pub other : world_of old.now.trees ≢ world
+  pub read : AreAllRead hall_schema old.now.trees
+
+-- The target had no row, or held the world already, and holds it now; or it holds another. It is told where its device
+-- was honest to the end.
+abbrev pub Takes : World → State → State → Result Migrated StoreFault → Type 0
+Takes world old new (Ok (Done count)) = HasCleanDisk new → HasTaken world count old new
+Takes world old new (Ok Occupied) = HasCleanDisk new → HoldsOther world old
 Takes world old new (Err fault) = Unit {0}
 
--- A target that isn't done is left.
-abbrev pub Leaves : Content → Content → Result Migrated StoreFault → Type 0
-Leaves old new (Ok (Done count)) = Leads old new
-Leaves old new (Ok Occupied) = Kept old new
-Leaves old new (Err fault) = Kept old new
+-- A target that isn't done is left: its tables are as they were, also rows that are no records.
+abbrev pub Leaves : State → State → Result Migrated StoreFault → Type 0
+Leaves old new (Ok (Done count)) = Leads (content_of old) (content_of new)
+Leaves old new (Ok Occupied) = Rested old new
+Leaves old new (Err fault) = Rested old new
 
--- The source is left, and the target takes the source's world, or is left. What it takes is told where the devices of
--- both were honest to the end.
-pub record Migrates (was now before after : Content) (result : Result Migrated StoreFault) : Type 0 where
-  pub source : Kept was now
+-- The tables of the source are as they were, and the target takes the source's world, or is left. What it takes is told
+-- where the devices of both were honest to the end; and where the source's was, each row of the source is a record, or
+-- the migration fails.
+pub record Migrates (was now before after : State) (result : Result Migrated StoreFault) : Type 0 where
+  pub source : RestedIn old_schema was now
+  pub read : HasCleanDisk now → IfOk result (λ _. AreAllRead old_schema was.now.trees)
   pub target : Leaves before after result
-  pub taken : now.honest → Takes was.world before after result
+  pub taken : HasCleanDisk now → Takes (without_testers (world_of was.now.trees)) before after result

@@ -17,6 +17,7 @@ use Rattle.hall_policy.specs.declared.record.RoundRow.{RoundRow}
 use Rattle.hall_policy.specs.declared.record.TesterKey.{TesterKey}
 use Rattle.hall_store.specs.Change.{without_list, with_list, relisted, without_testers, with_testers, retested}
 use Rattle.hall_sql.specs.Rows.{world_of}
+use Rattle.hall_sql.specs.AllRead.{StaysRead}
 use Rattle.hall_sql.specs.Inside.{IsHallData}
 use Rattle.hall_sql.specs.RoundColumns.{head_params, place_params, tester_params, is_under, HasSoManyHeads}
 use Rattle.hall_sql.specs.Spared.{is_head_of, is_place_of, is_tester_of, Spares}
@@ -69,13 +70,14 @@ with_places id number [] rows = rows
 with_places id number (entry ∷ entries) rows =
     with_places id (number + 1) entries (with_place id number entry rows)
 
--- the entry stands at its place, where none stood there, and all else is as it was
+-- the entry stands at its place, where none stood there, and all else is as it was; its row is a record
 pub record PutsPlace (id : List ℕ) (number : ℕ) (entry : Entry) (old new : Database) : Type 0 where
   pub world : get (world_of old.trees).places (place_key id number) ≡ None →
       world_of new.trees
       ≡ record (world_of old.trees) { places = insert (world_of old.trees).places (place_key id number) entry }
   pub rows : new.trees 7 ≡ with_place id number entry (old.trees 7)
   pub others : Spares (is_place_of id) old.trees new.trees
+  pub read : StaysRead old new
 
 -- the round has no places
 abbrev pub HasNoPlaces : List ℕ → FinMap place_cmp Entry → Type 0

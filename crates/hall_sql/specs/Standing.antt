@@ -103,13 +103,14 @@ pub record IsSelection (q : Query) (table : List Row) (params : Row) (rows : Lis
   pub sorted : IsSorted (λ a b. output_cmp q (output q (params ∷ a ∷ [])) (output q (params ∷ b ∷ []))) found
   pub shown : rows ≡ map (λ row. eval_all q.project (params ∷ row ∷ [])) found
 
--- The content of a connection: it is honest while its disk is clean, serves while it is open, counts the disk's faults,
--- and its world is what its tables hold.
+-- The content of a connection: it is honest while its disk is clean, serves while it is open, counts the disk's faults
+-- and no writes, and its world is what its tables hold.
 abbrev pub content_of : State → Content
 content_of s = record {
   honest = HasCleanDisk s;
   serves = IsTrue s.is_open;
   faults = s.faults;
+  writes = 0;
   world = world_of s.now.trees;
 }
 
@@ -187,6 +188,7 @@ pub record HasDeclined (old new : State) : Type 0 where
   pub marks : HasCleanDisk new → IsTrue old.in_transaction → new.marks ≡ old.marks
   pub same : HasCleanDisk new → IsTrue new.is_open → (new.now ≡ old.now) × (new.committed ≡ old.committed)
 
+-- a connection with a hall's tables, or with none, is taken over; one that is refused is left as it was
 abbrev pub Adopts : {R E : Type 0} → State → State → Result R E → Type 0
 Adopts old new (Ok done) = HasAdopted old new
 Adopts old new (Err fault) = HasDeclined old new
@@ -203,6 +205,7 @@ ReadiesOld old new (Ok true) = HasAdoptedOld old (without_limit new)
 ReadiesOld old new (Ok false) = HasDeclined old new × (HasCleanDisk new → old.now.schema ≢ old_schema)
 ReadiesOld old new (Err fault) = HasDeclined old new
 
+-- so it does, but for a limit on the steps of a query, which is still to be lifted
 abbrev pub Readies : {R E : Type 0} → State → State → Result R E → Type 0
 Readies old new (Ok done) = HasAdopted old (without_limit new)
 Readies old new (Err fault) = HasDeclined old new

@@ -3,9 +3,9 @@ use Rattle.std.specs.Prelude.{◌≡◌, ◌+◌, ℕ, map, length, IsTrue}
 use Rattle.std.specs.FinMap.{entries, empty}
 use Rattle.sqlite.specs.State.{State, HasCleanDisk}
 use Rattle.hall_policy.specs.World.{World}
-use Rattle.hall_store.specs.Maps.{empty_world}
 use Rattle.hall_sql.specs.declared.rows.Rows.{Rows}
-use Rattle.hall_sql.specs.Rows.{world_of}
+use Rattle.hall_sql.specs.Standing.{IsBare}
+use Rattle.hall_sql.specs.Tables.{hall_schema}
 
 -- the rows are all that the world keeps but its testers, each list in the order of its keys
 pub record AreRowsOf (world : World) (rows : Rows) : Type 0 where
@@ -36,6 +36,6 @@ count_of rows =
 abbrev pub without_testers : World → World
 without_testers world = record world { testers = empty }
 
--- the tables hold nothing, where that can be told
+-- the tables have no row, where that can be told
 abbrev pub IsEmptyIn : State → Type 0
-IsEmptyIn s = HasCleanDisk s → IsTrue s.is_open → world_of s.now.trees ≡ empty_world
+IsEmptyIn s = HasCleanDisk s → IsTrue s.is_open → IsBare hall_schema s.now

@@ -10,8 +10,8 @@ ghost use Rattle.hall_policy.specs.Ranges.{IsAnswerRow};
 ghost use Rattle.sqlite.specs.State.{HasCleanDisk};
 ghost use Rattle.sqlite.specs.Values.{bound};
 ghost use Rattle.hall_sql.specs.Columns.{answer_params};
-ghost use Rattle.hall_sql.specs.Fill.{WithAnswer};
-ghost use Rattle.hall_sql.specs.Inside.{Carries, Did, Worlds};
+ghost use Rattle.hall_sql.specs.Fill.{AddsAnswer};
+ghost use Rattle.hall_sql.specs.Inside.{Carries, Did};
 ghost use Rattle.hall_sql.specs.Standing.{IsHall, Rested, RestedAny, Wrote, content_of, Lasts};
 ghost use Rattle.sqlite.specs.declared.types.Value.TheVariants.{Text, Int};
 ghost use Rattle.hall_sql.specs.Statements.{add_answer_text, all_answers_text, answer_text, answers_given_text};
@@ -230,6 +230,9 @@ pub(crate) fn all_answers<S: Alter>(
     ensures rested { RestedAny (state S.Store conn.old) (state S.Store conn.new) }
     ensures served { Served (content_of (state S.Store conn.new)) result
         (λ world rows. rows.items ≡ values world.answers) }
+    ensures whole { HasCleanDisk (state S.Store conn.new) → IfOk result (λ _.
+        AreRecords answer_in all_answers_text [] (state S.Store conn.old)
+        (state S.Store conn.new)) }
     ensures cause { HasCleanDisk (state S.Store conn.new) → Fails
         (ReadFails answer_in all_answers_text [] (state S.Store conn.old) (state S.Store conn.new)) result }
 {
@@ -290,7 +293,7 @@ pub(crate) fn add_inside<S: Alter>(
     ensures same_reference { tx.new.conn.ghost_name ≡ tx.old.conn.ghost_name }
     ensures carries { Carries (state S.Store tx.old.conn.now) (state S.Store tx.new.conn.now) }
     ensures done { HasCleanDisk (state S.Store tx.new.conn.now) → IsTrue (state S.Store tx.old.conn.now).in_transaction
-        → OnOk result (Did (Worlds (λ a b. WithAnswer a row.now b)) (state S.Store tx.old.conn.now)
+        → OnOk result (Did (λ a b. AddsAnswer a row.now b) (state S.Store tx.old.conn.now)
         (state S.Store tx.new.conn.now)) }
 {
     in_range(row);

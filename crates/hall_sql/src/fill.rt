@@ -1,13 +1,12 @@
 //! Empty tables, filled with the records of others.
 ghost use Rattle.std.specs.Prelude.{◌≡◌, IsTrue, OnOk, OnErr};
+ghost use Rattle.sqlite.specs.Effect.{Database};
 ghost use Rattle.sqlite.specs.Held.{state};
 ghost use Rattle.sqlite.specs.State.{HasCleanDisk};
 ghost use Rattle.hall_policy.specs.Sink.{HasTaken};
-ghost use Rattle.hall_policy.specs.World.{World};
 ghost use Rattle.hall_store.specs.Store.{Leads};
-ghost use Rattle.hall_sql.specs.Fill.{Fills, WithAnswer, WithPerson, WithPlace, WithProtest, WithPuzzle, WithRound};
-ghost use Rattle.hall_sql.specs.Inside.{Carries, Did, Worlds};
-ghost use Rattle.hall_sql.specs.Rows.{world_of};
+ghost use Rattle.hall_sql.specs.Fill.{AddsAnswer, AddsHead, AddsPlace, AddsProtest, AddsPuzzle, Fills, PutsPerson};
+ghost use Rattle.hall_sql.specs.Inside.{Carries, Did};
 ghost use Rattle.hall_sql.specs.Standing.{IsHall, Rested, content_of};
 
 use crate::calls::fault_of;
@@ -23,8 +22,8 @@ use std::alloc::Global;
 
 /// A record that is added to its table.
 pub(crate) trait Added: Sized {
-    // The world before, the record, the world after.
-    ghost adds: { World → Self → World → Type 0 };
+    // The tables before, the record, the tables after.
+    ghost adds: { Database → Self → Database → Type 0 };
 
     /// Adds it under a new key, inside a transaction.
     fn add<S: Alter>(&self, tx: &mut Transaction<'_, S>, alloc: Global) -> Result<(), StoreFault>
@@ -32,12 +31,12 @@ pub(crate) trait Added: Sized {
         ensures carries { Carries (state S.Store tx.old.conn.now) (state S.Store tx.new.conn.now) }
         ensures done { HasCleanDisk (state S.Store tx.new.conn.now)
             → IsTrue (state S.Store tx.old.conn.now).in_transaction
-            → OnOk result (Did (Worlds (λ a b. adds a self.now b)) (state S.Store tx.old.conn.now)
+            → OnOk result (Did (λ a b. adds a self.now b) (state S.Store tx.old.conn.now)
             (state S.Store tx.new.conn.now)) };
 }
 
 impl Added for Person {
-    ghost adds = { WithPerson };
+    ghost adds = { PutsPerson };
 
     fn add<S: Alter>(&self, tx: &mut Transaction<'_, S>, alloc: Global) -> Result<(), StoreFault> {
         add_person(tx, self)
@@ -45,7 +44,7 @@ impl Added for Person {
 }
 
 impl Added for PuzzleRow {
-    ghost adds = { WithPuzzle };
+    ghost adds = { AddsPuzzle };
 
     fn add<S: Alter>(&self, tx: &mut Transaction<'_, S>, alloc: Global) -> Result<(), StoreFault> {
         puzzles::add_inside(tx, alloc, self)
@@ -53,7 +52,7 @@ impl Added for PuzzleRow {
 }
 
 impl Added for Round {
-    ghost adds = { WithRound };
+    ghost adds = { AddsHead };
 
     fn add<S: Alter>(&self, tx: &mut Transaction<'_, S>, alloc: Global) -> Result<(), StoreFault> {
         put_new(tx, self)
@@ -61,7 +60,7 @@ impl Added for Round {
 }
 
 impl Added for Place {
-    ghost adds = { WithPlace };
+    ghost adds = { AddsPlace };
 
     fn add<S: Alter>(&self, tx: &mut Transaction<'_, S>, alloc: Global) -> Result<(), StoreFault> {
         put_place(tx, &self.0.round, self.0.number.get() as u32, &self.1)
@@ -69,7 +68,7 @@ impl Added for Place {
 }
 
 impl Added for AnswerRow {
-    ghost adds = { WithAnswer };
+    ghost adds = { AddsAnswer };
 
     fn add<S: Alter>(&self, tx: &mut Transaction<'_, S>, alloc: Global) -> Result<(), StoreFault> {
         answers::add_inside(tx, self)
@@ -77,7 +76,7 @@ impl Added for AnswerRow {
 }
 
 impl Added for ProtestRow {
-    ghost adds = { WithProtest };
+    ghost adds = { AddsProtest };
 
     fn add<S: Alter>(&self, tx: &mut Transaction<'_, S>, alloc: Global) -> Result<(), StoreFault> {
         protests::add_inside(tx, self)
@@ -93,7 +92,7 @@ fn add_each<S: Alter, T: Added>(
     ensures same_reference { tx.new.conn.ghost_name ≡ tx.old.conn.ghost_name }
     ensures carries { Carries (state S.Store tx.old.conn.now) (state S.Store tx.new.conn.now) }
     ensures done { HasCleanDisk (state S.Store tx.new.conn.now) → IsTrue (state S.Store tx.old.conn.now).in_transaction
-        → OnOk result (Did (Worlds (λ a b. HasTaken T.adds a records.now b)) (state S.Store tx.old.conn.now)
+        → OnOk result (Did (λ a b. HasTaken T.adds a records.now b) (state S.Store tx.old.conn.now)
         (state S.Store tx.new.conn.now)) }
 {
     for record in records {
@@ -111,7 +110,7 @@ fn fill_inside<S: Alter>(
     ensures same_reference { tx.new.conn.ghost_name ≡ tx.old.conn.ghost_name }
     ensures carries { Carries (state S.Store tx.old.conn.now) (state S.Store tx.new.conn.now) }
     ensures done { HasCleanDisk (state S.Store tx.new.conn.now) → IsTrue (state S.Store tx.old.conn.now).in_transaction
-        → OnOk result (Did (Worlds (Fills rows.now)) (state S.Store tx.old.conn.now) (state S.Store tx.new.conn.now)) }
+        → OnOk result (Did (Fills rows.now) (state S.Store tx.old.conn.now) (state S.Store tx.new.conn.now)) }
 {
     add_each(tx, alloc, rows.people.as_slice())?;
     add_each(tx, alloc, rows.puzzles.as_slice())?;
@@ -132,7 +131,7 @@ pub(crate) fn fill<S: Alter>(
     ensures hall { IsHall (state S.Store conn.new) }
     ensures leads { Leads (content_of (state S.Store conn.old)) (content_of (state S.Store conn.new)) }
     ensures filled { HasCleanDisk (state S.Store conn.new) → OnOk result (IsTrue (state S.Store conn.new).is_open
-        × Fills rows.now (world_of (state S.Store conn.old).now.trees) (world_of (state S.Store conn.new).now.trees)) }
+        × Fills rows.now (state S.Store conn.old).now (state S.Store conn.new).now) }
     ensures refused { OnErr result (Rested (state S.Store conn.old) (state S.Store conn.new)) }
 {
     if !conn.is_autocommit() {

@@ -2,10 +2,13 @@
 ghost use Rattle.std.specs.Prelude.{◌≡◌, IfOk};
 ghost use Rattle.std.specs.FinMap.{empty};
 ghost use Rattle.sqlite.specs.Held.{state};
+ghost use Rattle.sqlite.specs.State.{HasCleanDisk};
 ghost use Rattle.hall_policy.specs.World.{World};
 ghost use Rattle.hall_store.specs.Store.{Served};
-ghost use Rattle.hall_sql.specs.Migrate.{IsFoundBeside, Leaves, Migrates, Takes, old_content_of};
+ghost use Rattle.hall_sql.specs.AllRead.{AreAllRead};
+ghost use Rattle.hall_sql.specs.Migrate.{IsFoundBeside, Leaves, Migrates, Takes};
 ghost use Rattle.hall_sql.specs.Standing.{IsHall, Rested, content_of};
+ghost use Rattle.hall_sql.specs.Tables.{hall_schema};
 ghost use Rattle.hall_sql.specs.WholeRows.{AreRowsOf, IsEmptyIn};
 
 use crate::fill::fill;
@@ -44,6 +47,8 @@ fn compare<T: Alter>(
     ensures rested { Rested (state T.Store conn.old) (state T.Store conn.new) }
     ensures served { Served (content_of (state T.Store conn.new)) result
         (λ held found. IsFoundBeside rows.now held found) }
+    ensures whole { HasCleanDisk (state T.Store conn.new) → IfOk result (λ _.
+        AreAllRead hall_schema (state T.Store conn.old).now.trees) }
 {
     let held = read_rows(conn, alloc)?;
     if has_testers(conn, alloc)? {
@@ -66,9 +71,9 @@ fn fill_counted<T: Alter>(
     requires hall { IsHall (state T.Store conn.old) }
     requires nothing { IsEmptyIn (state T.Store conn.old) }
     ensures hall { IsHall (state T.Store conn.new) }
-    ensures leaves { Leaves (content_of (state T.Store conn.old)) (content_of (state T.Store conn.new)) result }
+    ensures leaves { Leaves (state T.Store conn.old) (state T.Store conn.new) result }
     ensures takes { (world : World) → AreRowsOf world rows.now → world.testers ≡ empty
-        → Takes world (content_of (state T.Store conn.old)) (content_of (state T.Store conn.new)) result }
+        → Takes world (state T.Store conn.old) (state T.Store conn.new) result }
 {
     match rows.count() {
         Some(count) => {
@@ -87,9 +92,9 @@ pub(crate) fn take_rows<T: Alter>(
 ) -> Result<Migrated, StoreFault>
     requires hall { IsHall (state T.Store conn.old) }
     ensures hall { IsHall (state T.Store conn.new) }
-    ensures leaves { Leaves (content_of (state T.Store conn.old)) (content_of (state T.Store conn.new)) result }
+    ensures leaves { Leaves (state T.Store conn.old) (state T.Store conn.new) result }
     ensures takes { (world : World) → AreRowsOf world rows.now → world.testers ≡ empty
-        → Takes world (content_of (state T.Store conn.old)) (content_of (state T.Store conn.new)) result }
+        → Takes world (state T.Store conn.old) (state T.Store conn.new) result }
 {
     match compare(conn, alloc, rows)? {
         Found::Nothing => fill_counted(conn, alloc, rows),
@@ -100,15 +105,17 @@ pub(crate) fn take_rows<T: Alter>(
 
 /// Takes the whole world of a hall of the version before into one that holds nothing, or that already.
 ///
-/// The source is only read. Where the target holds another world it is left, and so it is after a fault.
+/// The source is only read. Where the target holds another world it is left, and so it is after a fault. A row of either
+/// that is no record is a fault.
 pub fn migrate<S: Alter + Drop, T: Alter + Drop>(
     alloc: Global,
     old: &mut OldStore<S>,
     new: &mut SqlStore<T>,
 ) -> Result<Migrated, StoreFault>
-    ensures { Migrates (old_content_of (state S.Store old.old)) (old_content_of (state S.Store old.new))
-        (content_of (state T.Store new.old)) (content_of (state T.Store new.new)) result }
+    ensures { Migrates (state S.Store old.old) (state S.Store old.new)
+        (state T.Store new.old) (state T.Store new.new) result }
 {
+    new.in_hall();
     let rows = old.read_rows(alloc)?;
     new.take_rows(alloc, &rows)
 }

@@ -2,12 +2,13 @@
 ghost use Rattle.std.specs.Prelude.{◌≡◌, IfOk, IfErr};
 ghost use Rattle.sqlite.specs.Held.{state};
 ghost use Rattle.sqlite.specs.State.{HasCleanDisk};
-ghost use Rattle.hall_store.specs.Store.{Kept, Served};
+ghost use Rattle.hall_store.specs.Store.{Served};
 ghost use Rattle.hall_store.specs.declared.fault.StoreFault.TheVariants.{Failed};
 ghost use Rattle.hall_sql.specs.AdoptCause.{AdoptOldFails};
+ghost use Rattle.hall_sql.specs.AllRead.{AreAllRead};
 ghost use Rattle.hall_sql.specs.Migrate.{old_content_of};
 ghost use Rattle.hall_sql.specs.OldStore.{IsTaken};
-ghost use Rattle.hall_sql.specs.Standing.{HasDeclined, IsTabled};
+ghost use Rattle.hall_sql.specs.Standing.{HasDeclined, IsTabled, RestedIn};
 ghost use Rattle.hall_sql.specs.Tables.{old_schema};
 ghost use Rattle.hall_sql.specs.WholeRows.{AreRowsOf};
 
@@ -72,10 +73,19 @@ impl<S: Alter + Drop> OldStore<S> {
         self.conn
     }
 
+    /// Tells a proof that the tables are those of the version before.
+    pub fn in_old_hall(&self)
+        ensures { IsTabled old_schema (state S.Store self.now) }
+    {
+        let _conn = &self.conn;
+    }
+
     /// All rows of the tables.
     pub(crate) fn read_rows(&mut self, alloc: Global) -> Result<Rows, StoreFault>
-        ensures kept { Kept (old_content_of (state S.Store self.old)) (old_content_of (state S.Store self.new)) }
+        ensures rested { RestedIn old_schema (state S.Store self.old) (state S.Store self.new) }
         ensures served { Served (old_content_of (state S.Store self.new)) result (λ world rows. AreRowsOf world rows) }
+        ensures whole { HasCleanDisk (state S.Store self.new) → IfOk result (λ _.
+            AreAllRead old_schema (state S.Store self.old).now.trees) }
     {
         read_rows(&mut self.conn, alloc)
     }

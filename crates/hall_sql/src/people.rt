@@ -82,6 +82,9 @@ pub(crate) fn all_people<S: Alter>(
     ensures rested { RestedAny (state S.Store conn.old) (state S.Store conn.new) }
     ensures served { Served (content_of (state S.Store conn.new)) result
         (λ world people. people.items ≡ values world.people) }
+    ensures whole { HasCleanDisk (state S.Store conn.new) → IfOk result (λ _.
+        AreRecords person_in all_people_text [] (state S.Store conn.old)
+        (state S.Store conn.new)) }
     ensures cause { HasCleanDisk (state S.Store conn.new) → Fails
         (ReadFails person_in all_people_text [] (state S.Store conn.old) (state S.Store conn.new)) result }
 {

@@ -11,8 +11,8 @@ ghost use Rattle.hall_policy.specs.declared.record.ProtestRow.{ProtestRow};
 ghost use Rattle.hall_store.specs.Change.{CanAddProtest};
 ghost use Rattle.hall_store.specs.declared.change.Change.TheVariants.{AddProtest, RuleProtest};
 ghost use Rattle.sqlite.specs.Values.{bound};
-ghost use Rattle.hall_sql.specs.Fill.{WithProtest};
-ghost use Rattle.hall_sql.specs.Inside.{Carries, Did, Worlds};
+ghost use Rattle.hall_sql.specs.Fill.{AddsProtest};
+ghost use Rattle.hall_sql.specs.Inside.{Carries, Did};
 ghost use Rattle.hall_sql.specs.Columns.{protest_params, ruling_code, ruling_params, IsAlone};
 ghost use Rattle.hall_sql.specs.Standing.{IsHall, Rested, RestedAny, Wrote, content_of, Lasts};
 ghost use Rattle.sqlite.specs.declared.types.Value.TheVariants.{Text};
@@ -153,6 +153,9 @@ pub(crate) fn all_protests<S: Alter>(
     ensures rested { RestedAny (state S.Store conn.old) (state S.Store conn.new) }
     ensures served { Served (content_of (state S.Store conn.new)) result
         (λ world rows. rows.items ≡ values world.protests) }
+    ensures whole { HasCleanDisk (state S.Store conn.new) → IfOk result (λ _.
+        AreRecords protest_in all_protests_text [] (state S.Store conn.old)
+        (state S.Store conn.new)) }
     ensures cause { HasCleanDisk (state S.Store conn.new) → Fails
         (ReadFails protest_in all_protests_text [] (state S.Store conn.old) (state S.Store conn.new)) result }
 {
@@ -265,7 +268,7 @@ pub(crate) fn add_inside<S: Alter>(
     ensures same_reference { tx.new.conn.ghost_name ≡ tx.old.conn.ghost_name }
     ensures carries { Carries (state S.Store tx.old.conn.now) (state S.Store tx.new.conn.now) }
     ensures done { HasCleanDisk (state S.Store tx.new.conn.now) → IsTrue (state S.Store tx.old.conn.now).in_transaction
-        → OnOk result (Did (Worlds (λ a b. WithProtest a row.now b)) (state S.Store tx.old.conn.now)
+        → OnOk result (Did (λ a b. AddsProtest a row.now b) (state S.Store tx.old.conn.now)
         (state S.Store tx.new.conn.now)) }
 {
     in_range(row);

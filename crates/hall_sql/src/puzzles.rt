@@ -10,8 +10,8 @@ ghost use Rattle.hall_grid.specs.Canonical.{CanonicalText};
 ghost use Rattle.hall_policy.specs.Ranges.{IsPuzzleKey, IsState};
 ghost use Rattle.hall_store.specs.declared.change.Change.TheVariants.{PutPuzzle, SetState};
 ghost use Rattle.sqlite.specs.Values.{bound};
-ghost use Rattle.hall_sql.specs.Fill.{WithPuzzle};
-ghost use Rattle.hall_sql.specs.Inside.{Carries, Did, Worlds};
+ghost use Rattle.hall_sql.specs.Fill.{AddsPuzzle};
+ghost use Rattle.hall_sql.specs.Inside.{Carries, Did};
 ghost use Rattle.hall_sql.specs.Columns.{puzzle_params, HasSoMany, state_code, solution_of};
 ghost use Rattle.hall_sql.specs.Standing.{IsHall, Rested, RestedAny, Wrote, content_of, Lasts};
 ghost use Rattle.sqlite.specs.declared.types.Value.TheVariants.{Text};
@@ -221,7 +221,7 @@ pub(crate) fn add_inside<S: Alter>(
     ensures same_reference { tx.new.conn.ghost_name ≡ tx.old.conn.ghost_name }
     ensures carries { Carries (state S.Store tx.old.conn.now) (state S.Store tx.new.conn.now) }
     ensures done { HasCleanDisk (state S.Store tx.new.conn.now) → IsTrue (state S.Store tx.old.conn.now).in_transaction
-        → OnOk result (Did (Worlds (λ a b. WithPuzzle a row.now b)) (state S.Store tx.old.conn.now)
+        → OnOk result (Did (λ a b. AddsPuzzle a row.now b) (state S.Store tx.old.conn.now)
         (state S.Store tx.new.conn.now)) }
 {
     in_range(&row.key);

@@ -8,8 +8,8 @@ ghost use Rattle.hall_policy.specs.Ranges.{IsRound, IsWithin, IsEntry};
 ghost use Rattle.hall_store.specs.Store.{Served};
 ghost use Rattle.hall_store.specs.Change.{flagged};
 ghost use Rattle.hall_store.specs.declared.change.Change.TheVariants.{PutRound, SetRoundFlag};
-ghost use Rattle.hall_sql.specs.Inside.{Carries, Did, Changes, Worlds};
-ghost use Rattle.hall_sql.specs.Fill.{WithRound};
+ghost use Rattle.hall_sql.specs.Inside.{Carries, Did, Changes};
+ghost use Rattle.hall_sql.specs.Fill.{AddsHead};
 ghost use Rattle.hall_sql.specs.RoundColumns.{mode_code, head_params, place_params, IsHead};
 ghost use Rattle.hall_sql.specs.RoundPuts.{CountsHeads, PutsHead, PutsHeadOver, DropsPlaces, PutsPlace, PutsPlaces};
 ghost use Rattle.hall_sql.specs.RoundPuts.{PutsList, PutsRows};
@@ -153,8 +153,8 @@ pub(crate) fn put_new<S: Alter>(
     ensures done { HasCleanDisk (state S.Store tx.new.conn.now) → IsTrue (state S.Store tx.old.conn.now).in_transaction
         → OnOk result (PutsHeadOver 0 round.now (state S.Store tx.old.conn.now)
         (state S.Store tx.new.conn.now)) }
-    ensures world { HasCleanDisk (state S.Store tx.new.conn.now) → IsTrue (state S.Store tx.old.conn.now).in_transaction
-        → OnOk result (Did (Worlds (λ a b. WithRound a round.now b)) (state S.Store tx.old.conn.now)
+    ensures added { HasCleanDisk (state S.Store tx.new.conn.now) → IsTrue (state S.Store tx.old.conn.now).in_transaction
+        → OnOk result (Did (λ a b. AddsHead a round.now b) (state S.Store tx.old.conn.now)
         (state S.Store tx.new.conn.now)) }
     ensures cause { InsideFails (state S.Store tx.old.conn.now) (state S.Store tx.new.conn.now)
         (RunFails add_head_text (head_params round.now) (state S.Store tx.old.conn.now)

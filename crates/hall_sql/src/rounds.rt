@@ -90,6 +90,9 @@ pub(crate) fn all_places<S: Alter>(
     ensures rested { RestedAny (state S.Store conn.old) (state S.Store conn.new) }
     ensures served { Served (content_of (state S.Store conn.new)) result
         (λ world places. places.items ≡ entries world.places) }
+    ensures whole { HasCleanDisk (state S.Store conn.new) → IfOk result (λ _.
+        AreRecords place_in all_places_text [] (state S.Store conn.old)
+        (state S.Store conn.new)) }
     ensures cause { HasCleanDisk (state S.Store conn.new) → Fails
         (ReadFails place_in all_places_text [] (state S.Store conn.old) (state S.Store conn.new)) result }
 {

@@ -1,8 +1,11 @@
 //! All that a hall keeps but its testers, as lists of rows.
-ghost use Rattle.std.specs.Prelude.{◌≡◌, ◌↔◌, IsTrue, IfSome};
+ghost use Rattle.std.specs.Prelude.{◌≡◌, ◌↔◌, IsTrue, IfSome, IfOk};
 ghost use Rattle.sqlite.specs.Held.{state};
+ghost use Rattle.sqlite.specs.State.{HasCleanDisk};
 ghost use Rattle.hall_store.specs.Store.{Served};
+ghost use Rattle.hall_sql.specs.AllRead.{AreAllRead};
 ghost use Rattle.hall_sql.specs.Standing.{RestedAny, content_of};
+ghost use Rattle.hall_sql.specs.Tables.{old_schema};
 ghost use Rattle.hall_sql.specs.Versions.{IsAnyHall};
 ghost use Rattle.hall_sql.specs.WholeRows.{AreRowsOf, AreSameRows, count_of};
 
@@ -67,7 +70,7 @@ impl Rows {
     }
 }
 
-/// The rows of the tables of either version.
+/// The rows of the six tables that either version has.
 pub(crate) fn read_rows<S: Alter>(
     conn: &mut Connection<S>,
     alloc: Global,
@@ -75,6 +78,8 @@ pub(crate) fn read_rows<S: Alter>(
     requires hall { IsAnyHall (state S.Store conn.old) }
     ensures rested { RestedAny (state S.Store conn.old) (state S.Store conn.new) }
     ensures served { Served (content_of (state S.Store conn.new)) result (λ world rows. AreRowsOf world rows) }
+    ensures whole { HasCleanDisk (state S.Store conn.new) → IfOk result (λ _.
+        AreAllRead old_schema (state S.Store conn.old).now.trees) }
 {
     let people = all_people(conn, alloc)?;
     let puzzles = all_puzzles(conn, alloc)?;

@@ -7,7 +7,7 @@ ghost use Rattle.hall_policy.specs.World.{World};
 ghost use Rattle.hall_store.specs.declared.fault.StoreFault.TheVariants.{Failed};
 ghost use Rattle.hall_sql.specs.AdoptCause.{AdoptFails};
 ghost use Rattle.hall_sql.specs.Migrate.{Leaves, Takes};
-ghost use Rattle.hall_sql.specs.Standing.{HasAdopted, HasDeclined, IsHall, content_of};
+ghost use Rattle.hall_sql.specs.Standing.{HasAdopted, HasDeclined, IsHall};
 ghost use Rattle.hall_sql.specs.WholeRows.{AreRowsOf};
 
 use crate::adoption::adopt;
@@ -84,11 +84,18 @@ impl<S: Alter + Drop> SqlStore<S> {
         self.conn
     }
 
+    /// Tells a proof that the tables are the hall's.
+    pub fn in_hall(&self)
+        ensures { IsHall (state S.Store self.now) }
+    {
+        let _conn = &self.conn;
+    }
+
     /// Puts the rows in tables that hold nothing, and tells of tables that hold these or others.
     pub(crate) fn take_rows(&mut self, alloc: Global, rows: &Rows) -> Result<Migrated, StoreFault>
-        ensures leaves { Leaves (content_of (state S.Store self.old)) (content_of (state S.Store self.new)) result }
+        ensures leaves { Leaves (state S.Store self.old) (state S.Store self.new) result }
         ensures takes { (world : World) → AreRowsOf world rows.now → world.testers ≡ empty
-            → Takes world (content_of (state S.Store self.old)) (content_of (state S.Store self.new)) result }
+            → Takes world (state S.Store self.old) (state S.Store self.new) result }
     {
         take_rows(&mut self.conn, alloc, rows)
     }

@@ -12,7 +12,7 @@ ghost use Rattle.hall_sql.specs.RoundColumns.{tester_params};
 ghost use Rattle.hall_sql.specs.RoundPuts.{DropsTesters, PutsTester, PutsTesters, PutsTesterList};
 ghost use Rattle.hall_sql.specs.Rows.{tester_in};
 ghost use Rattle.hall_sql.specs.Standing.{IsHall, Rested, content_of};
-ghost use Rattle.hall_sql.specs.Statements.{testers_of_text, drop_testers_text, add_tester_text};
+ghost use Rattle.hall_sql.specs.Statements.{testers_of_text, all_testers_text, drop_testers_text, add_tester_text};
 ghost use Rattle.hall_sql.specs.Testers.{AreNamed};
 ghost use Rattle.hall_sql.specs.Whole.{AreRecords};
 ghost use Rattle.hall_sql.specs.WriteCause.{RunFails, InsideFails, TesterIsRefused, TesterListIsRefused};
@@ -91,6 +91,9 @@ fn all_testers<S: Alter>(conn: &mut Connection<S>, alloc: Global) -> Result<Vec<
     ensures rested { Rested (state S.Store conn.old) (state S.Store conn.new) }
     ensures served { Served (content_of (state S.Store conn.new)) result
         (λ world testers. testers.items ≡ entries world.testers) }
+    ensures whole { HasCleanDisk (state S.Store conn.new) → IfOk result (λ _.
+        AreRecords tester_in all_testers_text [] (state S.Store conn.old)
+        (state S.Store conn.new)) }
 {
     let _schema = conn.schema();
     read(conn, alloc, ALL_TESTERS, &[])
@@ -105,6 +108,9 @@ pub(crate) fn has_testers<S: Alter>(
     ensures rested { Rested (state S.Store conn.old) (state S.Store conn.new) }
     ensures served { Served (content_of (state S.Store conn.new)) result
         (λ world has. (has ≡ false) ↔ (world.testers ≡ empty)) }
+    ensures whole { HasCleanDisk (state S.Store conn.new) → IfOk result (λ _.
+        AreRecords tester_in all_testers_text [] (state S.Store conn.old)
+        (state S.Store conn.new)) }
 {
     Ok(!all_testers(conn, alloc)?.is_empty())
 }

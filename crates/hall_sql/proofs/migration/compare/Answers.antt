@@ -1,7 +1,7 @@
 use Rattle.std.proofs.Common.{rules, ◌≡◌}
 use Rattle.sqlite.specs.Held.{state}
 use Rattle.hall_sql.specs.WholeRows.{AreSameRows, count_of}
-use Rattle.hall_sql.proofs.MigrationLemmas.{finds_nothing, finds_others, finds_these}
+use Rattle.hall_sql.proofs.MigrationLemmas.{compared, finds_nothing, finds_others, finds_these}
 use Rattle.hall_sql.proofs.StoreLemmas.{rested_hall, rests_on}
 use Rattle.hall_sql.proofs.migration.compare.Goals as goal
 
@@ -57,3 +57,23 @@ returns-clause-served g c =
     let apart : ¬ (AreSameRows c.in_ok-held.held c.args.rows.now) = search rules in
     finds_others (state g.T.Store c.read_rows.new.conn) (state g.T.Store c.has_testers.new.conn) c.in_ok-held.held c.in_ok-has_testers.ensures.rested
     c.in_ok-held.ensures.served c.in_ok-has_testers.field-0 c.in_ok-has_testers.ensures.served c.args.rows.now some apart
+
+pub returns-then-branch-clause-whole : goal.returns-then-branch-clause-whole
+returns-then-branch-clause-whole g c =
+    compared (state g.T.Store c.args.conn.now) (state g.T.Store c.read_rows.new.conn) (state g.T.Store c.has_testers.new.conn) c.requires.hall c.in_ok-held.ensures.rested
+    (λ clean. (c.in_ok-held.ensures.served clean).0) c.in_ok-held.ensures.whole c.in_ok-has_testers.ensures.rested c.in_ok-has_testers.ensures.whole
+
+pub returns-then-is_empty-clause-whole : goal.returns-then-is_empty-clause-whole
+returns-then-is_empty-clause-whole g c =
+    compared (state g.T.Store c.args.conn.now) (state g.T.Store c.read_rows.new.conn) (state g.T.Store c.has_testers.new.conn) c.requires.hall c.in_ok-held.ensures.rested
+    (λ clean. (c.in_ok-held.ensures.served clean).0) c.in_ok-held.ensures.whole c.in_ok-has_testers.ensures.rested c.in_ok-has_testers.ensures.whole
+
+pub returns-then-is_same-clause-whole : goal.returns-then-is_same-clause-whole
+returns-then-is_same-clause-whole g c =
+    compared (state g.T.Store c.args.conn.now) (state g.T.Store c.read_rows.new.conn) (state g.T.Store c.has_testers.new.conn) c.requires.hall c.in_ok-held.ensures.rested
+    (λ clean. (c.in_ok-held.ensures.served clean).0) c.in_ok-held.ensures.whole c.in_ok-has_testers.ensures.rested c.in_ok-has_testers.ensures.whole
+
+pub returns-clause-whole : goal.returns-clause-whole
+returns-clause-whole g c =
+    compared (state g.T.Store c.args.conn.now) (state g.T.Store c.read_rows.new.conn) (state g.T.Store c.has_testers.new.conn) c.requires.hall c.in_ok-held.ensures.rested
+    (λ clean. (c.in_ok-held.ensures.served clean).0) c.in_ok-held.ensures.whole c.in_ok-has_testers.ensures.rested c.in_ok-has_testers.ensures.whole

@@ -4,9 +4,7 @@ use Rattle.sqlite.specs.State.{HasCleanDisk}
 use Rattle.hall_sql.specs.declared.migration.Found.{Found}
 use Rattle.hall_sql.specs.Migrate.{IsFoundBeside}
 use Rattle.hall_sql.specs.Rows.{world_of}
-use Rattle.hall_sql.specs.Standing.{content_of}
-use Rattle.hall_sql.proofs.MigrationLemmas.{had_taken, is_left}
-use Rattle.hall_sql.proofs.StoreLemmas.{rested_kept}
+use Rattle.hall_sql.proofs.MigrationLemmas.{found_bare, had_taken, is_left}
 use Rattle.hall_sql.proofs.migration.take_rows.Goals as goal
 
 pub returns-in-These-clause-takes : goal.returns-in-These-clause-takes
@@ -16,7 +14,7 @@ returns-in-These-clause-takes g c world own bare =
     let it = c.in_ok-compare.ensures in
     let told = subst (λ (f : Found). HasCleanDisk s1 → IsTrue s1.is_open × IsFoundBeside c.args.rows.now (world_of s1.now.trees) f)
     c.in-These.is it.served in
-    had_taken (content_of s0) (content_of s1) world (rested_kept s0 s1 it.rested) (λ clean. ((told clean).0, (told clean).1 world own bare))
+    had_taken s0 s1 world it.rested (λ clean. ((told clean).0, (told clean).1 world own bare)) it.whole
 
 pub returns-in-Others-clause-takes : goal.returns-in-Others-clause-takes
 returns-in-Others-clause-takes g c world own bare =
@@ -25,5 +23,14 @@ returns-in-Others-clause-takes g c world own bare =
     let it = c.in_ok-compare.ensures in
     let told = subst (λ (f : Found). HasCleanDisk s1 → IsTrue s1.is_open × IsFoundBeside c.args.rows.now (world_of s1.now.trees) f)
     c.in-Others.is it.served in
-    is_left (content_of s0) (content_of s1) world (rested_kept s0 s1 it.rested)
-    (λ clean. ((told clean).0, ((told clean).1.0, (told clean).1.1 world own bare)))
+    is_left s0 s1 world it.rested
+    (λ clean. ((told clean).0, ((told clean).1.0, (told clean).1.1 world own bare))) it.whole
+
+pub fill_counted-requires-clause-nothing : goal.fill_counted-requires-clause-nothing
+fill_counted-requires-clause-nothing g c =
+    let s0 = state g.T.Store c.args.conn.now in
+    let s1 = state g.T.Store c.compare.new.conn in
+    let it = c.in_ok-compare.ensures in
+    let told = subst (λ (f : Found). HasCleanDisk s1 → IsTrue s1.is_open × IsFoundBeside c.args.rows.now (world_of s1.now.trees) f)
+    c.in-Nothing.is it.served in
+    found_bare s0 s1 it.rested told it.whole

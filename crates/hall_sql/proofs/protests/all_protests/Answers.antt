@@ -5,6 +5,8 @@ use Rattle.hall_sql.specs.Rows.{protest_in}
 use Rattle.hall_sql.specs.Statements.{all_protests_text}
 use Rattle.hall_sql.proofs.ProtestTexts.{all_protests_are}
 use Rattle.hall_sql.proofs.ProtestLemmas.{all_protests_listed}
+use Rattle.std.proofs.lemmas.Result.{IfOk-weaker}
+use Rattle.hall_sql.proofs.StoreLemmas.{read_whole}
 use Rattle.hall_sql.proofs.Versions.{asked_all, over_any, told_any}
 use Rattle.hall_sql.proofs.protests.all_protests.Goals as goal
 
@@ -17,6 +19,10 @@ returns-clause-served g c =
     c.read_any.ensures.rested c.read_any.ensures.read (λ out it. it.0)
     (λ out it opened schema version has keyed. all_protests_listed schema version _ (state g.S.Store c.read_any.new.conn) has keyed (c.schema-schema.ensures.live opened).0
     it.1.rows out.items it.1.reads it.1.shown)
+
+pub returns-clause-whole : goal.returns-clause-whole
+returns-clause-whole g c clean =
+    IfOk-weaker c.read_any.result (λ out. AreRead protest_in all_protests_text [] (state g.S.Store c.args.conn.now) (state g.S.Store c.read_any.new.conn) out.items) _ (λ out it. read_whole protest_in all_protests_text [] (state g.S.Store c.args.conn.now) (state g.S.Store c.read_any.new.conn) out.items it) (c.read_any.ensures.read clean)
 
 pub returns-clause-cause : goal.returns-clause-cause
 returns-clause-cause g c = c.read_any.ensures.cause

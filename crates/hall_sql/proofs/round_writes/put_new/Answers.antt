@@ -1,6 +1,5 @@
 use Rattle.hall_sql.proofs.RoundWrites.{head_added, head_inserted}
-use Rattle.hall_sql.specs.Fill.{WithRound}
-use Rattle.hall_sql.specs.Inside.{Worlds}
+use Rattle.hall_sql.specs.Fill.{AddsHead}
 use Rattle.hall_sql.proofs.InsideLemmas.{did}
 use Rattle.sqlite.specs.Held.{state}
 use Rattle.hall_sql.specs.Statements.{add_head_text}
@@ -15,10 +14,10 @@ returns-clause-done g c clean inside =
     let it = c.in_ok-run_in.ensures in
     record { mode = it.mode clean inside; puts = λ held. head_added c.args.round.now c.in_range.ensures _ _ _ held (rw c.columns.ensures at (it.runs clean inside)) }
 
-pub returns-clause-world : goal.returns-clause-world
-returns-clause-world g c clean inside =
+pub returns-clause-added : goal.returns-clause-added
+returns-clause-added g c clean inside =
     let it = c.in_ok-run_in.ensures in
-    did (Worlds (λ a b. WithRound a c.args.round.now b)) (state g.S.Store c.args.tx.now.conn.now) (state g.S.Store c.run_in.new.tx.conn.now) (it.mode clean inside)
+    did (λ a b. AddsHead a c.args.round.now b) (state g.S.Store c.args.tx.now.conn.now) (state g.S.Store c.run_in.new.tx.conn.now) (it.mode clean inside)
     (λ held. head_inserted c.args.round.now c.in_range.ensures _ _ _ held (rw c.columns.ensures at (it.runs clean inside)))
 
 pub returns-in_err-run_in-clause-cause : goal.returns-in_err-run_in-clause-cause

@@ -3,7 +3,8 @@ use Rattle.std.specs.FinMap.{entries, values}
 use Rattle.sqlite.specs.Held.{state}
 use Rattle.hall_sql.specs.Standing.{RestedAny}
 use Rattle.hall_sql.specs.Versions.{IsAnyHall}
-use Rattle.hall_sql.proofs.RowReads.{rests_any, rests_twice, told_before}
+use Rattle.hall_sql.proofs.AllRead.{answers_read, people_read, places_read, protests_read, puzzles_read, read_before, rounds_read}
+use Rattle.hall_sql.proofs.RowReads.{rested_clean, rests_any, rests_twice, told_before}
 use Rattle.hall_sql.proofs.WholeRows.{rows_of}
 use Rattle.hall_sql.proofs.rows.read_rows.Goals as goal
 
@@ -116,3 +117,31 @@ returns-clause-served g c clean =
           (told_before s5 s6 (λ world. c.in_ok-answers.answers.items ≡ values world.answers) h5 r5 c.in_ok-answers.ensures.served clean last.0)
           last.1,
     )
+
+pub returns-clause-whole : goal.returns-clause-whole
+returns-clause-whole g c clean =
+    let s0 = state g.S.Store c.args.conn.now in
+    let s1 = state g.S.Store c.all_people.new.conn in
+    let s2 = state g.S.Store c.all_puzzles.new.conn in
+    let s3 = state g.S.Store c.rounds.new.conn in
+    let s4 = state g.S.Store c.all_places.new.conn in
+    let s5 = state g.S.Store c.all_answers.new.conn in
+    let s6 = state g.S.Store c.all_protests.new.conn in
+    let h0 : IsAnyHall s0 = c.requires.hall in
+    let r1 : RestedAny s0 s1 = c.in_ok-people.ensures.rested in
+    let r2 : RestedAny s0 s2 = rests_twice s0 s1 s2 r1 c.in_ok-puzzles.ensures.rested in
+    let r3 : RestedAny s0 s3 = rests_twice s0 s2 s3 r2 c.in_ok-heads.ensures.rested in
+    let r4 : RestedAny s0 s4 = rests_twice s0 s3 s4 r3 c.in_ok-places.ensures.rested in
+    let r5 : RestedAny s0 s5 = rests_twice s0 s4 s5 r4 c.in_ok-answers.ensures.rested in
+    let c5 = rested_clean s5 s6 (rests_any s0 s5 h0 r5) c.in_ok-protests.ensures.rested clean in
+    let c4 = rested_clean s4 s5 (rests_any s0 s4 h0 r4) c.in_ok-answers.ensures.rested c5 in
+    let c3 = rested_clean s3 s4 (rests_any s0 s3 h0 r3) c.in_ok-places.ensures.rested c4 in
+    let c2 = rested_clean s2 s3 (rests_any s0 s2 h0 r2) c.in_ok-heads.ensures.rested c3 in
+    let c1 = rested_clean s1 s2 (rests_any s0 s1 h0 r1) c.in_ok-puzzles.ensures.rested c2 in
+    let t0 = people_read s0 s1 (rested_clean s0 s1 h0 r1 c1) h0 (c.in_ok-people.ensures.whole c1) in
+    let t1 = read_before 3 s0 s1 h0 r1 c1 (c.in_ok-people.ensures.served c1).0 (puzzles_read s1 s2 c1 (rests_any s0 s1 h0 r1) (c.in_ok-puzzles.ensures.whole c2)) in
+    let t2 = read_before 5 s0 s2 h0 r2 c2 (c.in_ok-puzzles.ensures.served c2).0 (rounds_read s2 s3 c2 (rests_any s0 s2 h0 r2) (c.in_ok-heads.ensures.whole c3)) in
+    let t3 = read_before 7 s0 s3 h0 r3 c3 (c.in_ok-heads.ensures.served c3).0 (places_read s3 s4 c3 (rests_any s0 s3 h0 r3) (c.in_ok-places.ensures.whole c4)) in
+    let t4 = read_before 9 s0 s4 h0 r4 c4 (c.in_ok-places.ensures.served c4).0 (answers_read s4 s5 c4 (rests_any s0 s4 h0 r4) (c.in_ok-answers.ensures.whole c5)) in
+    let t5 = read_before 12 s0 s5 h0 r5 c5 (c.in_ok-answers.ensures.served c5).0 (protests_read s5 s6 c5 (rests_any s0 s5 h0 r5) (c.in_ok-protests.ensures.whole clean)) in
+    (t0, (t1, (t2, (t3, (t4, (t5, tt))))))

@@ -11,3 +11,6 @@ returns-clause-served g c clean =
       told.0,
       none_told (world_of (state g.S.Store c.all_testers.new.conn).now.trees) c.in_ok-all_testers.field-0.items c.is_empty.result none told.1,
     )
+
+pub returns-clause-whole : goal.returns-clause-whole
+returns-clause-whole g c = c.in_ok-all_testers.ensures.whole

@@ -1,0 +1,207 @@
+-- Tables of which each row is a record: what is asked of them, what one row more leaves, and tables with no row.
+use Rattle.std.proofs.Common.{◌≡◌, ◌≢◌, ◌==◌, ◌++◌, inl, inr, ℕ, List, [], ◌∷◌, map, flat_map, true, is_some, option_to_list, Option, Some, None, IsTrue, refl, sym, ap, subst, ◌∙◌}
+use Rattle.std.proofs.lemmas.Bool.{cases_Bool}
+use Rattle.std.specs.Cmp.{IsTotalOrder}
+use Rattle.std.specs.FinMap.{empty, from_entries, get, get-empty, get-from_entries}
+use Rattle.std.specs.List.{AllByRecursion}
+use Rattle.std.specs.List.Sorted.{IsPermutation}
+use Rattle.std.specs.declared.cmp.Ordering.{Ordering}
+use Rattle.std.proofs.lemmas.List.Sorted.{IsPermutation-sym}
+use Rattle.sqlite_trees.proofs.ListLemmas.{all-map, all-permutation, all_from_map, all_of, all_weaker, filter_all}
+use Rattle.sqlite_trees.specs.Tree.{put_row}
+use Rattle.sqlite_rules.specs.Edit.{next_rowid}
+use Rattle.sqlite_value.specs.declared.keys.Key.{Key}
+use Rattle.sqlite.specs.declared.types.Value.TheVariants.{Int}
+use Rattle.sqlite.specs.Effect.{Database}
+use Rattle.sqlite.specs.Order.{Row}
+use Rattle.sqlite.specs.Program.{overlay}
+use Rattle.sqlite.specs.Schema.{Schema}
+use Rattle.sqlite.specs.State.{State, HasCleanDisk, Shown}
+use Rattle.sqlite.specs.Table.{Table}
+use Rattle.sqlite.specs.Term.{Term, eval_all}
+use Rattle.sqlite.specs.Tree.{Trees}
+use Rattle.hall_policy.proofs.Orders.{text_total, puzzle_total, place_total, answer_total, protest_total, tester_total}
+use Rattle.hall_policy.specs.World.{World}
+use Rattle.hall_policy.specs.declared.record.Person.{Person}
+use Rattle.hall_policy.specs.declared.record.PuzzleRow.{PuzzleRow}
+use Rattle.hall_policy.specs.declared.record.Round.{Round}
+use Rattle.hall_policy.specs.declared.record.AnswerRow.{AnswerRow}
+use Rattle.hall_policy.specs.declared.record.ProtestRow.{ProtestRow}
+use Rattle.hall_store.specs.Maps.{empty_world}
+use Rattle.hall_sql.specs.AllRead.{AreAllRead, IsRead, StaysRead, is_record}
+use Rattle.hall_sql.specs.Rows.{answer_in, answer_of, columns_from, entry, kept, person_in, person_of, place_in, place_of, protest_in, protest_of, puzzle_row_in, puzzle_row_of, round_in, round_of, tester_in, tester_of, world_of}
+use Rattle.hall_sql.specs.Standing.{HasAdded, IsBare, IsOver, IsSelection, RestedAny}
+use Rattle.hall_sql.specs.Statements.{all_answers_text, all_people_text, all_places_text, all_protests_text, all_puzzles_text, all_rounds_text, all_testers_text, plain_query}
+use Rattle.hall_sql.specs.Tables.{hall_schema}
+use Rattle.hall_sql.specs.Versions.{IsAnyHall}
+use Rattle.hall_sql.specs.Whole.{AreRecords}
+use Rattle.hall_sql.proofs.AnswerTexts.{all_answers_are}
+use Rattle.hall_sql.proofs.CallLemmas.{answers_selection, shown_was_open}
+use Rattle.hall_sql.proofs.InsertLemmas.{put_permutes}
+use Rattle.hall_sql.proofs.KeyedLemmas.{other_tree, same_tree}
+use Rattle.hall_sql.proofs.PeopleTexts.{all_people_are}
+use Rattle.hall_sql.proofs.ProtestTexts.{all_protests_are}
+use Rattle.hall_sql.proofs.PuzzleTexts.{all_puzzles_are}
+use Rattle.hall_sql.proofs.RoundQueries.{all_places_are}
+use Rattle.hall_sql.proofs.RoundTexts.{all_rounds_are}
+use Rattle.hall_sql.proofs.SparedLemmas.{own_key}
+use Rattle.hall_sql.proofs.TesterTexts.{all_testers_are}
+use Rattle.hall_sql.proofs.Versions.{AsksAll}
+
+-- ---- what is asked of them
+
+-- rows that read as records are read, each
+all_some : {X : Type 0} (read : Row → Option X) (rows : List Row) (out : List X) → map read rows ≡ map Some out
+    → AllByRecursion (λ r. IsTrue (is_some (read r))) rows
+all_some read [] out is = tt
+all_some read (r ∷ rows) [] is = absurd cc
+all_some read (r ∷ rows) (x ∷ out) is =
+    let here : read r ≡ Some x = cc in
+    let more : map read rows ≡ map Some out = cc in
+    (ap is_some here, all_some read rows out more)
+
+-- a query asks for all rows of a table
+module _ {Fits : Schema → Type 0} {text : List ℕ} {tree : ℕ} {project : List Term} {order : List (Term × Key)} {names : List (List ℕ)}
+    (asks : (schema : Schema) → Fits schema → AsksAll text tree project order names schema) {X : Type 0} (read : Row → Option X) (count : ℕ)
+    (apart : (db : Trees) → overlay db [] tree ≡ db tree) (shows : (r : Row) → eval_all project ([] ∷ r ∷ []) ≡ columns_from 1 count r)
+    (is_read : (r : Row) → is_record tree r ≡ is_some (read (columns_from 1 count r)))
+    (old new : State) (hall : IsOver Fits old) (clean : HasCleanDisk old) where
+  abbrev Reads : Row → Type 0
+  Reads r = IsTrue (is_some (read r))
+
+  module _ (rows : List Row) (shown : Shown text [] old new rows) where
+    all : AsksAll text tree project order names hall.schema
+    all = asks hall.schema hall.fits
+
+    selection : IsSelection (plain_query tree [] project order) (old.now.trees tree) [] rows
+    selection =
+        answers_selection text [] old new tree [] project order names all.is all.unlisted all.plain (apart old.now.trees)
+        (hall.tabled.settled clean (shown_was_open text [] old new rows shown)).1 rows shown
+
+    same : IsPermutation (old.now.trees tree) selection.found
+    same = subst (λ l. IsPermutation l selection.found) (filter_all (λ _. true) (old.now.trees tree) (all_of (λ _. true ≡ true) (λ _. refl) _)) selection.same
+
+    shown_are : rows ≡ map (columns_from 1 count) selection.found
+    shown_are = selection.shown ∙ (λ i. map (λ r. shows r i) selection.found)
+
+    to_table : AllByRecursion Reads rows → IsRead old.now.trees tree
+    to_table each =
+        let found = all_from_map Reads (columns_from 1 count) selection.found (subst (AllByRecursion Reads) shown_are each) in
+        all-permutation (λ r. IsTrue (is_record tree r)) selection.found (old.now.trees tree) (IsPermutation-sym _ _ same)
+        (all_weaker (λ r. Reads (columns_from 1 count r)) (λ r. IsTrue (is_record tree r)) (λ r h. is_read r ∙ h) selection.found found)
+
+    from_table : IsRead old.now.trees tree → AllByRecursion Reads rows
+    from_table each =
+        let found = all-permutation (λ r. IsTrue (is_record tree r)) (old.now.trees tree) selection.found same each in
+        subst (AllByRecursion Reads) (sym shown_are)
+        (all-map Reads (columns_from 1 count) selection.found
+        (all_weaker (λ r. IsTrue (is_record tree r)) (λ r. Reads (columns_from 1 count r)) (λ r h. sym (is_read r) ∙ h) selection.found found))
+
+  -- where all that it answers are records, each row of the table is one
+  read_all : AreRecords read text [] old new → IsRead old.now.trees tree
+  read_all it = to_table it.rows it.shown (all_some read it.rows it.records it.reads)
+
+module _ (old new : State) (clean : HasCleanDisk old) where
+  pub people_read : IsAnyHall old → AreRecords person_in all_people_text [] old new → IsRead old.now.trees 0
+  people_read hall = read_all all_people_are person_in 3 (λ db. refl) (λ r. refl) (λ r. refl) old new hall clean
+
+  pub puzzles_read : IsAnyHall old → AreRecords puzzle_row_in all_puzzles_text [] old new → IsRead old.now.trees 3
+  puzzles_read hall = read_all all_puzzles_are puzzle_row_in 5 (λ db. refl) (λ r. refl) (λ r. refl) old new hall clean
+
+  pub rounds_read : IsAnyHall old → AreRecords round_in all_rounds_text [] old new → IsRead old.now.trees 5
+  rounds_read hall = read_all all_rounds_are round_in 10 (λ db. refl) (λ r. refl) (λ r. refl) old new hall clean
+
+  pub places_read : IsAnyHall old → AreRecords place_in all_places_text [] old new → IsRead old.now.trees 7
+  places_read hall = read_all all_places_are place_in 5 (λ db. refl) (λ r. refl) (λ r. refl) old new hall clean
+
+  pub answers_read : IsAnyHall old → AreRecords answer_in all_answers_text [] old new → IsRead old.now.trees 9
+  answers_read hall = read_all all_answers_are answer_in 8 (λ db. refl) (λ r. refl) (λ r. refl) old new hall clean
+
+  pub protests_read : IsAnyHall old → AreRecords protest_in all_protests_text [] old new → IsRead old.now.trees 12
+  protests_read hall = read_all all_protests_are protest_in 7 (λ db. refl) (λ r. refl) (λ r. refl) old new hall clean
+
+  pub testers_read : IsOver (λ schema. schema ≡ hall_schema) old → AreRecords tester_in all_testers_text [] old new → IsRead old.now.trees 14
+  testers_read hall =
+      read_all (λ schema is. subst (AsksAll all_testers_text 14 _ _ _) (sym is) all_testers_are) tester_in 2 (λ db. refl) (λ r. refl) (λ r. refl) old new hall clean
+
+-- a table that rests was read before, where it is
+pub read_before : (tree : ℕ) (old new : State) → IsAnyHall old → RestedAny old new → HasCleanDisk new → IsTrue new.is_open
+    → IsRead new.now.trees tree → IsRead old.now.trees tree
+read_before tree old new hall rested clean opens =
+    subst (λ (d : Database). IsRead d.trees tree) ((rested hall.schema hall.tabled).same clean opens)
+
+-- ---- one row more
+
+read_after : (tree : ℕ) (old new : Trees) (tables : List Table) → IsRead new tree
+    → AllByRecursion (λ (t : Table). t.tree ≢ tree → new t.tree ≡ old t.tree) tables
+    → AllByRecursion (λ (t : Table). IsRead old t.tree) tables → AllByRecursion (λ (t : Table). IsRead new t.tree) tables
+read_after tree old new [] here others each = tt
+read_after tree old new (t ∷ tables) here others each = (
+  elim (cases_Bool (t.tree == tree)) [
+    | inl is ↦ subst (IsRead new) (sym (same_tree t.tree tree is)) here
+    | inr differs ↦ subst (AllByRecursion (λ r. IsTrue (is_record t.tree r))) (sym (others.0 (other_tree t.tree tree differs))) each.0
+  ],
+  read_after tree old new tables here others.1 each.1,
+)
+
+-- a row that is a record was added to a table of which each row was one
+pub added_read : (tree : ℕ) (values : Row) (old new : Database) → HasAdded hall_schema tree values old new
+    → IsTrue (is_record tree (Int (next_rowid (old.trees tree)) ∷ values)) → (AreAllRead hall_schema old.trees → IsRead old.trees tree) → StaysRead old new
+added_read tree values old new it own before each =
+    let row = Int (next_rowid (old.trees tree)) ∷ values in
+    let P = λ (r : Row). IsTrue (is_record tree r) in
+    let here : IsRead new.trees tree = subst (AllByRecursion P) (sym it.put)
+    (all-permutation P (row ∷ old.trees tree) (put_row row (old.trees tree)) (put_permutes row (old.trees tree) it.free) (own, before each)) in
+    read_after tree old.trees new.trees hall_schema.tables here it.others each
+
+-- ---- no row
+
+module _ {K X : Type 0} {R : K → K → Ordering} (total : IsTotalOrder R) where
+  -- a map with an entry in front is not empty
+  not_none : (k : K) (x : X) (es : List (K × X)) → from_entries {R = R} ((k, x) ∷ es) ≡ empty → ⊥
+  not_none k x es none =
+      let there : get (from_entries {R = R} ((k, x) ∷ es)) k ≡ Some x = get-from_entries total ((k, x) ∷ es) k ∙ rw (own_key total k) refl in
+      let no : None ≡ Some x = sym (get-empty R k) ∙ ap (λ m. get m k) (sym none) ∙ there in cc
+
+  none_kept : (key : X → K) (read : Row → Option X) (rows : List Row) → kept R key read rows ≡ empty
+      → AllByRecursion (λ r. IsTrue (is_some (read r))) rows → rows ≡ []
+  none_kept key read [] none each = refl
+  none_kept key read (r ∷ rows) none each = absurd (go (read r) refl each.0)
+    where
+      go : (o : Option X) → read r ≡ o → IsTrue (is_some o) → ⊥
+      go None is some = absurd cc
+      go (Some x) is some =
+          not_none (key x) x (flat_map (λ r. entry key (read r)) rows)
+          (subst (λ o. from_entries {R = R} (entry key o ++ flat_map (λ r. entry key (read r)) rows) ≡ empty) is none)
+
+  none_listed : (read : Row → Option (K × X)) (rows : List Row) → from_entries {R = R} (flat_map (λ r. option_to_list (read r)) rows) ≡ empty
+      → AllByRecursion (λ r. IsTrue (is_some (read r))) rows → rows ≡ []
+  none_listed read [] none each = refl
+  none_listed read (r ∷ rows) none each = absurd (go (read r) refl each.0)
+    where
+      go : (o : Option (K × X)) → read r ≡ o → IsTrue (is_some o) → ⊥
+      go None is some = absurd cc
+      go (Some e) is some =
+          not_none e.0 e.1 (flat_map (λ r. option_to_list (read r)) rows)
+          (subst (λ o. from_entries {R = R} (option_to_list o ++ flat_map (λ r. option_to_list (read r)) rows) ≡ empty) is none)
+
+-- tables that hold nothing, and no row that is no record, have no row
+pub all_bare : (held : Database) → held.schema ≡ hall_schema → world_of held.trees ≡ empty_world → AreAllRead hall_schema held.trees → IsBare hall_schema held
+all_bare held has none each = record {
+  is = has;
+  empty =
+      let n0 = none_kept text_total (λ (p : Person). p.name) person_of (held.trees 0) (ap (λ (w : World). w.people) none) each.0 in
+      let n1 = none_kept puzzle_total (λ (p : PuzzleRow). p.key) puzzle_row_of (held.trees 3) (ap (λ (w : World). w.puzzles) none) each.1.0 in
+      let n2 = none_kept text_total (λ (r : Round). r.id) round_of (held.trees 5) (ap (λ (w : World). w.rounds) none) each.1.1.0 in
+      let n3 = none_listed place_total place_of (held.trees 7) (ap (λ (w : World). w.places) none) each.1.1.1.0 in
+      let n4 = none_kept answer_total (λ (a : AnswerRow). a.key) answer_of (held.trees 9) (ap (λ (w : World). w.answers) none) each.1.1.1.1.0 in
+      let n5 = none_kept protest_total (λ (p : ProtestRow). p.key) protest_of (held.trees 12) (ap (λ (w : World). w.protests) none) each.1.1.1.1.1.0 in
+      let n6 = none_listed tester_total tester_of (held.trees 14) (ap (λ (w : World). w.testers) none) each.1.1.1.1.1.1.0 in
+      (n0, (n1, (n2, (n3, (n4, (n5, (n6, tt)))))));
+}
+
+-- and tables that have none hold no row that is no record
+pub bare_read : (held : Database) → IsBare hall_schema held → AreAllRead hall_schema held.trees
+bare_read held bare =
+    let all = bare.empty in
+    rw (all.0, all.1.0, all.1.1.0, all.1.1.1.0, all.1.1.1.1.0, all.1.1.1.1.1.0, all.1.1.1.1.1.1.0) (tt, (tt, (tt, (tt, (tt, (tt, (tt, tt)))))))

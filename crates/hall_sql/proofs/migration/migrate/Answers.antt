@@ -1,0 +1,8 @@
+use Rattle.sqlite.specs.Held.{state}
+use Rattle.hall_sql.proofs.MigrationLemmas.{unmigrated}
+use Rattle.hall_sql.proofs.migration.migrate.Goals as goal
+
+pub returns-in_err-rows : goal.returns-in_err-rows
+returns-in_err-rows g c =
+    unmigrated (state g.S.Store c.args.old.now) (state g.S.Store c.read_rows.new.self) (state g.T.Store c.args.new.now) _ c.from_residual.result
+    c.from_residual.ensures.1 c.in_err-rows.ensures.rested c.in_hall.ensures
