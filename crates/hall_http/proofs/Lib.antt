@@ -3,6 +3,7 @@ pub mod Digits
 pub mod Floats
 pub mod Heads
 pub mod Listed
+pub mod Notices
 pub mod Parts
 pub mod Patterns
 pub mod Texts

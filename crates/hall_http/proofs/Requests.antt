@@ -3,7 +3,7 @@ use Rattle.std.proofs.Common.{◌≡◌, sym, subst, refl, ℕ, List, inl, inr}
 use Rattle.hall_policy.specs.World.{World}
 use Rattle.hall_policy.specs.declared.request.Request.{Request}
 use Rattle.hall_store.specs.Store.{Content}
-use Rattle.hall_desk.specs.Plans.{IsNobodys}
+use Rattle.hall_desk.specs.Plans.{IsNobodys, WritesIfAny}
 use Rattle.hall_desk.specs.Run.{IsTimed}
 use Rattle.hall_desk.specs.Sane.{Sane}
 use Rattle.hall_desk.proofs.StepsSane.{step_sane}
@@ -41,3 +41,11 @@ nobodys bytes request reads (inl never) = absurd (never (request, reads))
 nobodys bytes request reads (inr (other, read, nobody)) =
     let same = one_asked bytes (Ok other) (Ok request) read reads in
     subst IsNobodys (one_request other request (Ok other) (Ok request) refl refl same) nobody
+
+-- a promise on the request that bytes spell is one on each request that they spell, since that is one
+pub quiet_bytes : (old new : Content) (t : ℕ) (bytes : List ℕ) (request : Request) → RequestOf bytes (Ok request)
+    → WritesIfAny old t request new → (asked : Request) → RequestOf bytes (Ok asked) → WritesIfAny old t asked new
+quiet_bytes old new t bytes request reads quiet asked read =
+    let same = one_asked bytes (Ok request) (Ok asked) reads read in
+    subst (λ (r : Request). WritesIfAny old t r new) (one_request request asked (Ok request) (Ok asked) refl refl same)
+    quiet

@@ -1,19 +1,24 @@
 -- A session over a store is a run of the hall over its requests.
-use Rattle.std.proofs.Common.{◌≡◌, ◌∙◌, ap, sym, subst, refl, ℕ, inl, inr, List, [], ◌∷◌, Option, Some, None}
-use Rattle.std.proofs.lemmas.List.Elements.{All-nil, All-cons}
+use Rattle.std.proofs.Common.{◌≡◌, ◌∙◌, ap, sym, subst, refl, ℕ, inl, inr, List, [], ◌∷◌, ◌++◌, Option, Some, None}
+use Rattle.std.specs.Prelude.{Ok}
+use Rattle.std.proofs.lemmas.List.Elements.{All-nil, All-cons, All-append}
 use Rattle.hall_policy.specs.World.{World}
-use Rattle.hall_store.specs.Store.{Content, Leads, Over}
+use Rattle.hall_policy.specs.declared.request.Request.{Request}
+use Rattle.hall_store.specs.Store.{Content, Leads, Over, WritesOnce}
 use Rattle.hall_store.proofs.Knowing.{leads_same, leads_then}
+use Rattle.hall_desk.specs.Plans.{WritesIfAny}
 use Rattle.hall_desk.specs.Run.{IsTimed, Run}
 use Rattle.hall_desk.specs.Sane.{Sane}
 use Rattle.hall_desk.specs.Desk.{SaneThen}
+use Rattle.hall_desk.specs.declared.reply.Reply.{Reply}
 use Rattle.hall_desk.proofs.StepsSane.{run_sane}
-use Rattle.hall_http.specs.Request.{AsksNothing}
+use Rattle.hall_http.specs.Request.{RequestOf, AsksNothing}
 use Rattle.hall_http.specs.Answered.{AnswersOver}
 use Rattle.hall_http.specs.Connection.{Exchange}
 use Rattle.hall_http.specs.Served.{IsHandled, IsServed}
 use Rattle.hall_http.specs.declared.connection.ServeEnd.{ServeEnd}
-use Rattle.hall_http.specs.Serving.{AnswersAt, IsAnswered, AreAnswered, IsNotMade, IsRunOver, RunsOver}
+use Rattle.hall_http.specs.Serving.{AnswersAt, IsAnswered, AreAnswered, IsNotMade, AreMade, IsRunOver, RunsOver}
+use Rattle.hall_http.specs.Laws.{RunsCompose}
 
 -- the exchanges, one after another, over worlds
 abbrev Answering : World → List Exchange → World → Type 0
@@ -71,13 +76,21 @@ Onward world xs new = (last : World) × Answering world xs last × (new.serves �
 onward_runs : (old : Content) (xs : List Exchange) (new : Content) → Onward old.world xs new → RunsOver old xs new
 onward_runs old xs new (last, more, stays) = (last, run_over old.world xs last more, stays)
 
+one_moment : (t u : ℕ) → Some t ≡ Some u → t ≡ u
+one_moment t u same = cc
+
 module _ {H : Type 0} (content : H → Content) where
   -- a request that was answered at a moment
   pub answered_at : (old : H) (moment : ℕ) (request reply : List ℕ) (new : H) → Leads (content old) (content new)
+      → WritesOnce (content old) (content new)
+      → ((asked : Request) → RequestOf request (Ok asked) → WritesIfAny (content old) moment asked (content new))
       → ((content new).honest → AnswersOver (content old) moment request reply (content new))
       → (AsksNothing request → new ≡ old) → IsAnswered content old (Some moment) request reply new
-  answered_at old moment request reply new leads answers untouched = record {
+  answered_at old moment request reply new leads once quiet answers untouched = record {
     leads = leads;
+    once = once;
+    quiet = λ t asked at reads.
+        subst (λ (m : ℕ). WritesIfAny (content old) m asked (content new)) (one_moment moment t at) (quiet asked reads);
     answers = answers;
     untouched = λ quiet. elim quiet [ inl nothing ↦ untouched nothing | inr none ↦ absurd cc ];
   }
@@ -129,6 +142,8 @@ module _ {D H : Type 0} (kept : D → H) (content : H → Content) where
   session_kept h (x ∷ xs) i (m, says, rest) =
       let first : IsAnswered content (kept h) x.moment x.request x.reply (kept m) = record {
         leads = says.leads;
+        once = says.once;
+        quiet = says.quiet;
         answers = says.answers;
         untouched = λ nothing. ap kept (says.untouched nothing);
       } in
@@ -169,3 +184,42 @@ module _ {H C : Type 0} (content : H → Content) (now_gives : C → Option ℕ 
     handled_sane e handled =
         runs_sane (content h) handled.exchanges (content i)
         (session_runs content h handled.exchanges i handled.session)
+
+-- a run, and a run from where it ended
+run_then : (old mid new : World) (requests more : List (ℕ × Request)) (replies others : List Reply)
+    → Run old requests replies mid → Run mid more others new
+    → Run old (requests ++ more) (replies ++ others) new
+run_then old mid new [] more [] others same rest = subst (λ (w : World). Run w more others new) same rest
+run_then old mid new [] more (r ∷ replies) others run rest = absurd run
+run_then old mid new (q ∷ requests) more [] others run rest = absurd run
+run_then old mid new (q ∷ requests) more (r ∷ replies) others (next, step, run) rest =
+    (next, step, run_then next mid new requests more replies others run rest)
+
+-- the requests of both, and their replies
+made_then : (xs ys : List Exchange) (requests more : List (ℕ × Request)) (replies others : List Reply)
+    → AreMade xs requests replies → AreMade ys more others → AreMade (xs ++ ys) (requests ++ more) (replies ++ others)
+made_then [] ys requests more replies others (asks, tells) rest =
+    subst (λ (qs : List (ℕ × Request)). AreMade ys (qs ++ more) (replies ++ others)) (sym asks)
+    (subst (λ (rs : List Reply). AreMade ys more (rs ++ others)) (sym tells) rest)
+made_then (x ∷ xs) ys requests more replies others (inl (other, made)) rest =
+    inl (other, made_then xs ys requests more replies others made rest)
+made_then (x ∷ xs) ys requests more replies others (inr (request, reply, later, left, asks, tells, is, made)) rest =
+    inr (
+      request,
+      reply,
+      later ++ more,
+      left ++ others,
+      ap (λ (qs : List (ℕ × Request)). qs ++ more) asks,
+      ap (λ (rs : List Reply). rs ++ others) tells,
+      is,
+      made_then xs ys later more left others made rest,
+    )
+
+pub runs_compose : RunsCompose
+runs_compose old mid new xs ys first second = record {
+  requests = first.requests ++ second.requests;
+  replies = first.replies ++ second.replies;
+  timed = All-append IsTimed first.requests second.requests first.timed second.timed;
+  run = run_then old mid new first.requests second.requests first.replies second.replies first.run second.run;
+  made = made_then xs ys first.requests second.requests first.replies second.replies first.made second.made;
+}

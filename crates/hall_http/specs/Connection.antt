@@ -28,10 +28,11 @@ pub record Exchange : Type 0 where
   pub moment : Option ℕ
   pub reply : List ℕ
 
--- the bytes of the requests, and those of the replies
+-- the bytes of the requests
 abbrev pub requests_of : List Exchange → List ℕ
 requests_of xs = flat_map (λ x. x.request) xs
 
+-- the bytes of the replies
 abbrev pub replies_of : List Exchange → List ℕ
 replies_of xs = flat_map (λ x. x.reply) xs
 

@@ -1,11 +1,14 @@
 -- What bytes are as requests and as records, they are in at most one way.
 use Rattle.std.specs.Prelude.{◌≡◌, ℕ, List, ◌++◌, flat_map, All, Result}
 use Rattle.httparse.specs.Grammar.{RequestHead}
+use Rattle.hall_policy.specs.World.{World}
 use Rattle.hall_policy.specs.declared.request.Request.{Request}
 use Rattle.hall_http.specs.declared.form.FormFault.{FormFault}
 use Rattle.hall_http.specs.Head.{IsRequest, IsWhole, HasNone}
 use Rattle.hall_http.specs.Request.{RequestOf}
 use Rattle.hall_http.specs.Records.{Record, Records, HasNoRecord}
+use Rattle.hall_http.specs.Connection.{Exchange}
+use Rattle.hall_http.specs.Serving.{IsRunOver}
 
 -- bytes are at most one request
 abbrev pub AreOneRequest : Type 0
@@ -43,3 +46,9 @@ AreOneListOfRecords =
     (stream : List ℕ) (records others : List Record) (rest left : List ℕ)
     → Records stream records rest → HasNoRecord rest → Records stream others left → HasNoRecord left
     → (records ≡ others) × (rest ≡ left)
+
+-- the exchanges of two runs, of which the second begins where the first ended, are those of one run
+abbrev pub RunsCompose : Type 0
+RunsCompose =
+    (old mid new : World) (xs ys : List Exchange)
+    → IsRunOver old xs mid → IsRunOver mid ys new → IsRunOver old (xs ++ ys) new

@@ -18,6 +18,8 @@ pub mod Serving
 pub mod Served
 pub mod Line
 pub mod Listener
+pub mod Notice
+pub mod Host
 pub mod Sending
 pub mod Laws
 pub mod Told

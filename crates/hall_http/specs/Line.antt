@@ -1,14 +1,10 @@
 -- How one connection is served over a line.
-use Rattle.std.specs.Prelude.{◌≡◌, ◌⊎◌, ℕ, List, Option, Result, Ok, Err}
+use Rattle.std.specs.Prelude.{◌≡◌, ◌⊎◌, ℕ, List, Option}
 use Rattle.hall_grid.specs.Device.{Tally}
 use Rattle.hall_store.specs.Store.{Content}
 use Rattle.hall_http.specs.Served.{IsServed}
 use Rattle.hall_http.specs.declared.connection.ServeEnd.{ServeEnd}
 use Rattle.hall_http.specs.declared.connection.ServeEnd.TheVariants.{Device}
-
--- a device that wasn't called yet
-abbrev pub uncalled : {D : Type 0} → D → Tally D
-uncalled device = record { device = device; calls = 0; failures = 0 }
 
 -- the line refused to be set up, and nothing was done
 pub record IsNotSetUp {L H C : Type 0} (refuses : L → L → Type 0) (l : L) (h : H) (c : C) (m : L) (i : H) (d : C)
@@ -34,18 +30,6 @@ module _ {L R W H C : Type 0} (hands_out : L → R → W → L → Type 0) (refu
         (contents writer_left.device) h c i d 0 reader_left.failures 0 writer_left.failures 0 reader_left.calls end
     pub hung_up : hears ready reader_left writer_left m
 
-  -- Set up, the line handed out a reader and a writer; for want of memory nothing was written or done; and then the line
-  -- was told that nothing more is written, with the two as they came.
-  pub record IsLeftUnserved (l : L) (h : H) (c : C) (m : L) (i : H) (d : C) : Type 0 where
-    pub ready : L
-    pub reader : R
-    pub writer : W
-    pub set_up : hands_out l reader writer ready
-    pub hung_up : hears ready (uncalled reader) (uncalled writer) m
-    pub store : i ≡ h
-    pub clock : d ≡ c
-
-  -- the connection of a line was served, or the line refused to be set up; or there was no memory for it
-  abbrev pub IsLineServed : {E : Type 0} → L → H → C → L → H → C → Result ServeEnd E → Type 0
-  IsLineServed l h c m i d (Ok end) = IsServedThrough l h c m i d end ⊎ IsNotSetUp refuses l h c m i d end
-  IsLineServed l h c m i d (Err want) = IsLeftUnserved l h c m i d
+  -- the connection of a line was served, or the line refused to be set up
+  abbrev pub IsLineServed : L → H → C → L → H → C → ServeEnd → Type 0
+  IsLineServed l h c m i d end = IsServedThrough l h c m i d end ⊎ IsNotSetUp refuses l h c m i d end

@@ -21,13 +21,15 @@ pub record AnsweredRecord : Type 0 where
 abbrev pub exchange_of : AnsweredRecord → Exchange
 exchange_of x = record { request = x.asked.request; moment = Some x.asked.moment; reply = x.reply }
 
+-- the requests of these records, each at its moment
 abbrev pub exchanges_of : List AnsweredRecord → List Exchange
 exchanges_of xs = map exchange_of xs
 
--- the bytes of the records, and those of the replies
+-- the bytes of the records
 abbrev pub records_of : List AnsweredRecord → List ℕ
 records_of xs = flat_map (λ x. record_bytes x.asked) xs
 
+-- the bytes of the replies to these records
 abbrev pub replies_to : List AnsweredRecord → List ℕ
 replies_to xs = flat_map (λ x. x.reply) xs
 

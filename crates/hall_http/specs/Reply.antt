@@ -57,10 +57,11 @@ abbrev pub wire_bytes : Status → MediaType → List ℕ → List ℕ
 wire_bytes s m body =
     head_bytes s m ++ ((codes "\r\nContent-Length: " ++ (decimal (length body) ++ codes "\r\n\r\n")) ++ body)
 
--- a member that is a text, and one that is a number, before further members
+-- a member that is a text, before further members
 abbrev pub text_member : List ℕ → List ℕ → Members → Members
 text_member name text more = member name (string text) more
 
+-- a member that is a number, before further members
 abbrev pub number_member : List ℕ → ℕ → Members → Members
 number_member name n more = member name (number (unsigned n)) more
 

@@ -23,6 +23,7 @@ use Rattle.hall_http.specs.declared.routes.Route.TheVariants as route
 use Rattle.hall_http.specs.declared.routes.Place.{Place}
 use Rattle.hall_http.specs.declared.routes.Place.TheVariants as place
 
+-- a table of patterns, each with the place that it leads to
 abbrev pub Table : Type 0
 Table = RowsOf (RouteOf Place)
 
@@ -41,11 +42,13 @@ abbrev pub is_free : Place → Result Scan InsertError → Table → Bool
 is_free value (Ok s) rows = not (is_some (nearest s.pattern rows))
 is_free value (Err e) rows = false
 
+-- each of these is a pattern, and none is in conflict with a row before it
 unfoldable pub are_free : Table → List (List ℕ × Place) → Bool
 are_free rows [] = true
 are_free rows ((text, value) ∷ more) =
     is_free value (parse_route text) rows && are_free (added value (parse_route text) rows) more
 
+-- the patterns of the hall, each with its place
 abbrev pub patterns : List (List ℕ × Place)
 patterns =
     (codes "/people", place.People)
@@ -64,6 +67,7 @@ patterns =
     ∷ (codes "/rounds/{round}/publish", place.Publish)
     ∷ (codes "/rounds/{round}/table", place.Table) ∷ []
 
+-- the rows of the hall's patterns
 abbrev pub routes : Table
 routes = rows_from [] patterns
 

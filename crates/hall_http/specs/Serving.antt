@@ -2,7 +2,8 @@
 use Rattle.std.specs.Prelude.{◌≡◌, ◌⊎◌, ℕ, List, [], ◌∷◌, Option, Some, None, Ok, All}
 use Rattle.hall_policy.specs.World.{World}
 use Rattle.hall_policy.specs.declared.request.Request.{Request}
-use Rattle.hall_store.specs.Store.{Content, Leads, Over}
+use Rattle.hall_store.specs.Store.{Content, Leads, Over, WritesOnce}
+use Rattle.hall_desk.specs.Plans.{WritesIfAny}
 use Rattle.hall_desk.specs.Run.{IsTimed, Run}
 use Rattle.hall_desk.specs.declared.reply.Reply.{Reply}
 use Rattle.hall_desk.specs.declared.reply.Reply.TheVariants.{Unavailable as NotServed}
@@ -16,10 +17,14 @@ abbrev pub AnswersAt : World → Option ℕ → List ℕ → List ℕ → World 
 AnswersAt world (Some moment) request reply after = Answers world moment request reply after
 AnswersAt world None request reply after = BytesOf NotServed reply × (after ≡ world)
 
--- the same over a store, which stays as it is where the request asks nothing of it, or the clock told no moment
+-- the same over a store, which stays as it is where the request asks nothing of it, or the clock told no moment; at most
+-- one write was made, and none for a request that has nothing to write
 pub record IsAnswered {H : Type 0} (content : H → Content) (old : H) (moment : Option ℕ) (request reply : List ℕ)
     (new : H) : Type 0 where
   pub leads : Leads (content old) (content new)
+  pub once : WritesOnce (content old) (content new)
+  pub quiet : (t : ℕ) (asked : Request) → moment ≡ Some t → RequestOf request (Ok asked) →
+      WritesIfAny (content old) t asked (content new)
   pub answers : (content new).honest →
       Over (λ before after. AnswersAt before moment request reply after) (content old) (content new)
   pub untouched : AsksNothing request ⊎ (moment ≡ None) → new ≡ old

@@ -1,13 +1,14 @@
 //! Bytes to bytes: a request is read, a step of the hall made, and its reply written.
-ghost use Rattle.std.specs.Prelude.{◌≡◌, IfOk, OnErr, string_bytes};
-ghost use Rattle.hall_store.specs.Store.{Leads};
+ghost use Rattle.std.specs.Prelude.{◌≡◌, Ok, IfOk, OnErr, string_bytes};
+ghost use Rattle.hall_store.specs.Store.{Leads, WritesOnce};
 ghost use Rattle.hall_desk.specs.Desk.{kept_by, SaneThen};
-ghost use Rattle.hall_desk.specs.Plans.{IsNobodys};
+ghost use Rattle.hall_desk.specs.Plans.{IsNobodys, WritesIfAny};
 ghost use Rattle.hall_desk.specs.Promises.{HasUniqueSolutions, RightAnswersAreSolutions};
 ghost use Rattle.hall_desk.specs.Run.{IsTimed};
 ghost use Rattle.hall_desk.specs.Sane.{Sane};
 ghost use Rattle.hall_http.specs.Answered.{answer_text, AnswersFault, AnswersOver, AnswersRequestOver, IsStepReplyOver};
-ghost use Rattle.hall_http.specs.Request.{AsksNothing};
+ghost use Rattle.hall_http.specs.Request.{AsksNothing, RequestOf};
+ghost use Rattle.hall_policy.specs.declared.request.Request.{Request as Asked};
 
 use crate::form::{FormFault, RequestFault};
 use crate::reply::{UNAVAILABLE, fault_bytes, reply_bytes};
@@ -41,9 +42,9 @@ impl Answer {
 /// Answers the bytes of one request at the moment, and makes its change.
 ///
 /// The reply is there before the change: where either is refused, nothing is changed while the store serves, and the
-/// answer is 503. Bytes that
-/// aren't one whole request are answered by the first fault of their form; no rule is asked, and the desk stays as it
-/// was. A sane world stays sane.
+/// answer is 503. It makes at most one write, and none for a request that is denied, repeated or has nothing to write.
+/// Bytes that aren't one whole request are answered by the first fault of their form; no rule is asked, and the desk
+/// stays as it was. A sane world stays sane.
 pub fn answer_bytes<S: Store>(
     alloc: Global,
     routes: &Routes,
@@ -52,6 +53,9 @@ pub fn answer_bytes<S: Store>(
     bytes: &[u8],
 ) -> Answer
     ensures leads { Leads (S.content (kept_by desk.old)) (S.content (kept_by desk.new)) }
+    ensures once { WritesOnce (S.content (kept_by desk.old)) (S.content (kept_by desk.new)) }
+    ensures quiet { (asked : Asked) → RequestOf bytes.now (Ok asked) →
+        WritesIfAny (S.content (kept_by desk.old)) moment asked (S.content (kept_by desk.new)) }
     ensures answers { (S.content (kept_by desk.new)).honest → AnswersOver (S.content (kept_by desk.old))
         moment bytes.now (answer_text result) (S.content (kept_by desk.new)) }
     ensures untouched { AsksNothing bytes.now → desk.new ≡ desk.old }
@@ -84,6 +88,8 @@ fn answer_request<S: Store>(
     request: &Request,
 ) -> Answer
     ensures leads { Leads (S.content (kept_by desk.old)) (S.content (kept_by desk.new)) }
+    ensures once { WritesOnce (S.content (kept_by desk.old)) (S.content (kept_by desk.new)) }
+    ensures quiet { WritesIfAny (S.content (kept_by desk.old)) moment request.now (S.content (kept_by desk.new)) }
     ensures timed { IsTimed (moment, request.now) }
     ensures answers { (S.content (kept_by desk.new)).honest → AnswersRequestOver (S.content (kept_by desk.old))
         moment request.now (answer_text result) (S.content (kept_by desk.new)) }
@@ -106,6 +112,8 @@ fn step_bytes<S: Store>(
     request: &Request,
 ) -> Result<String, StoreFault>
     ensures leads { Leads (S.content (kept_by desk.old)) (S.content (kept_by desk.new)) }
+    ensures once { WritesOnce (S.content (kept_by desk.old)) (S.content (kept_by desk.new)) }
+    ensures quiet { WritesIfAny (S.content (kept_by desk.old)) moment request.now (S.content (kept_by desk.new)) }
     ensures ok { IfOk result (λ text. (S.content (kept_by desk.new)).honest → IsStepReplyOver
         (S.content (kept_by desk.old)) moment request.now (string_bytes text) (S.content (kept_by desk.new))) }
     ensures err { OnErr result ((S.content (kept_by desk.new)).honest → (S.content (kept_by desk.new)).serves →

@@ -87,21 +87,45 @@ pub fn serve<S: Store, R: Read, W: Write, C: Clock>(
     ensures unique { SaneThen HasUniqueSolutions (S.content (kept_by desk.old)) (S.content (kept_by desk.new)) }
     ensures right { SaneThen RightAnswersAreSolutions (S.content (kept_by desk.old)) (S.content (kept_by desk.new)) }
 {
-    let (routes, inbox) = routes_and_inbox(alloc)?;
-    Ok(serve_requests(alloc, &routes, inbox, desk, reader, writer, clock))
+    let (routes, mut inbox) = routes_and_inbox(alloc)?;
+    Ok(serve_with(alloc, &routes, &mut inbox, desk, reader, writer, clock))
+}
+
+/// Serves one connection as `serve` does, with these routes and the room of this inbox, whose bytes are forgotten.
+pub(crate) fn serve_with<S: Store, R: Read, W: Write, C: Clock>(
+    alloc: Global,
+    routes: &Routes,
+    inbox: &mut Inbox,
+    desk: &mut Desk<S>,
+    reader: &mut Counted<R>,
+    writer: &mut Counted<W>,
+    clock: &mut C,
+) -> ServeEnd
+    ensures served { IsServed S.content C.now_gives
+        (R.remaining reader.old.device) (R.remaining reader.new.device)
+        (W.contents writer.old.device) (W.contents writer.new.device)
+        (kept_by desk.old) clock.old (kept_by desk.new) clock.new
+        reader.old.failures reader.new.failures writer.old.failures writer.new.failures
+        reader.old.calls reader.new.calls result }
+    ensures sane { SaneThen Sane (S.content (kept_by desk.old)) (S.content (kept_by desk.new)) }
+    ensures unique { SaneThen HasUniqueSolutions (S.content (kept_by desk.old)) (S.content (kept_by desk.new)) }
+    ensures right { SaneThen RightAnswersAreSolutions (S.content (kept_by desk.old)) (S.content (kept_by desk.new)) }
+{
+    inbox.clear();
+    serve_requests(alloc, routes, inbox, desk, reader, writer, clock)
 }
 
 /// Answers the requests of a connection, in their order, with an empty inbox.
 fn serve_requests<H: Handler, R: Read, W: Write, C: Clock>(
     alloc: Global,
     routes: &Routes,
-    mut inbox: Inbox,
+    inbox: &mut Inbox,
     handler: &mut H,
     reader: &mut Counted<R>,
     writer: &mut Counted<W>,
     clock: &mut C,
 ) -> ServeEnd
-    requires { inbox ≡ [] }
+    requires { inbox.old ≡ [] }
     ensures { IsHandled H.answers C.now_gives
         (R.remaining reader.old.device) (R.remaining reader.new.device)
         (W.contents writer.old.device) (W.contents writer.new.device) handler.old clock.old handler.new clock.new

@@ -1,11 +1,16 @@
 //! The machine that a hall is served on.
-ghost use Rattle.std.specs.Prelude.{ℕ, IfOk, OnErr};
+ghost use Rattle.std.specs.Prelude.{◌≡◌, ℕ, List, IfOk, OnErr};
+ghost use Rattle.hall_http.specs.Host.{told_on, uncalled};
+ghost use Rattle.hall_http.specs.Notice.{IsNotified};
 
 use crate::clock::SystemClock;
 use crate::connection::Clock;
+use crate::crowd::Crowd;
 use crate::listener::Listener;
-use std::io::ErrorKind;
-use std::net::{Ipv4Addr, Net, TcpListener, TcpStream};
+use crate::notice::notify;
+use hall_grid::Counted;
+use std::io::{ErrorKind, Write};
+use std::net::{Ipv4Addr, Net, SocketAddr};
 use std::{io, time};
 
 /// A machine that a hall can be served on.
@@ -20,6 +25,9 @@ pub trait Host {
     /// Asked to listen on the port, it refuses.
     ghost refuses: { Self → ℕ → Self → Type 0 };
 
+    /// It was told that the hall in the file at the path is served on the port.
+    ghost tells: { Self → ℕ → List ℕ → Self → Type 0 };
+
     ghost shows: { Self → Self.Clock → Type 0 };
 
     /// Listens on the port, for clients of this machine alone.
@@ -27,28 +35,37 @@ pub trait Host {
         ensures listening { IfOk result (λ listener. listens self.old port listener self.new) }
         ensures refused { OnErr result (refuses self.old port self.new) };
 
+    /// Tells whoever runs the machine that the hall in the file at the path is served on the port.
+    fn tell(&mut self, port: u64, path: &str)
+        ensures { tells self.old port path.now self.new };
+
     /// The machine's clock.
     fn clock(&self) -> Self::Clock
         ensures { shows self.now result };
 }
 
-/// The machine that the program runs on.
+/// The machine that the program runs on, and where it tells what it has to tell.
 #[derive(Drop)]
-pub struct SystemHost<'r, N> {
+pub struct SystemHost<'r, N, E> {
     rt: &'r N,
+    error: Counted<E>,
 }
 
-impl<'r, N> SystemHost<'r, N> {
-    /// The machine that the runtime has.
-    pub fn new(rt: &'r N) -> SystemHost<'r, N> {
-        SystemHost { rt }
+impl<'r, N, E> SystemHost<'r, N, E> {
+    /// The machine that the runtime has, which tells there.
+    pub fn new(rt: &'r N, error: E) -> SystemHost<'r, N, E>
+        ensures { told_on result ≡ uncalled error }
+    {
+        SystemHost {
+            rt,
+            error: Counted::new(error),
+        }
     }
 }
 
 // The system tells nothing of its sockets and its clock.
-impl<'r, N: Net<Listener = TcpListener, Stream = TcpStream> + time::Clock> Host
-    for SystemHost<'r, N> {
-    type Listener = TcpListener;
+impl<'r, N: Net + AllocGlobal + time::Clock, E: Write + Drop> Host for SystemHost<'r, N, E> {
+    type Listener = Crowd<'r, N>;
 
     type Clock = SystemClock<&'r N>;
 
@@ -56,13 +73,19 @@ impl<'r, N: Net<Listener = TcpListener, Stream = TcpStream> + time::Clock> Host
 
     ghost refuses = { λ _ _ _. Unit {0} };
 
+    ghost tells = { λ old port path new. IsNotified E.contents port path (told_on old) (told_on new) };
+
     ghost shows = { λ _ _. Unit {0} };
 
-    fn listen(&mut self, port: u64) -> io::Result<TcpListener> {
+    fn listen(&mut self, port: u64) -> io::Result<Crowd<'r, N>> {
         let Ok(port) = u16::try_from(port) else {
             return Err(io::Error::from(ErrorKind::InvalidInput));
         };
-        TcpListener::bind(self.rt, (Ipv4Addr::LOCALHOST, port))
+        Crowd::new(self.rt, SocketAddr::from((Ipv4Addr::LOCALHOST, port)))
+    }
+
+    fn tell(&mut self, port: u64, path: &str) {
+        notify(self.rt.alloc(), port, path, &mut self.error)
     }
 
     fn clock(&self) -> SystemClock<&'r N> {

@@ -50,6 +50,14 @@ impl Inbox {
         Ok(Inbox { bytes, passed: 0 })
     }
 
+    /// Forgets all its bytes.
+    pub fn clear(&mut self)
+        ensures { self.new ≡ [] }
+    {
+        self.bytes.clear();
+        self.passed = 0;
+    }
+
     /// The bytes that are left.
     pub fn unread(&self) -> &[u8]
         ensures { result.now ≡ self.now }
@@ -86,7 +94,7 @@ impl Inbox {
     }
 
     /// Puts some more bytes behind those that are left.
-    fn add(&mut self, piece: &[u8]) -> Result<(), AllocError>
+    pub(crate) fn add(&mut self, piece: &[u8]) -> Result<(), AllocError>
         ensures all { OnOk result (self.new ≡ self.old ++ piece.now) }
         ensures full { OnErr result (81920 < length self.old + length piece.now) }
     {

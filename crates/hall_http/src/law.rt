@@ -1,6 +1,6 @@
 //! Laws of the definitions, each the contract of a function that does nothing.
 ghost use Rattle.hall_http.specs.Laws.{AreOneRequest, BeginsWithOneRequest, AskForOneThing};
-ghost use Rattle.hall_http.specs.Laws.{AreOneListOfRequests, AreOneListOfRecords};
+ghost use Rattle.hall_http.specs.Laws.{AreOneListOfRequests, AreOneListOfRecords, RunsCompose};
 ghost use Rattle.hall_http.specs.Told.{HasOneSpelling, RefusalsTellNothing, BytesHideOthers, BytesHideAnswers};
 
 /// Bytes are at most one request and ask for at most one thing. A stream begins with at most one whole request and is at
@@ -11,6 +11,12 @@ pub fn law_requests()
     ensures one_asked { AskForOneThing }
     ensures one_list { AreOneListOfRequests }
     ensures one_record_list { AreOneListOfRecords }
+{}
+
+/// Connections, one after another, make one run: where the run over the second's exchanges begins in the world in which
+/// that over the first's ended, both are one run over the exchanges of both. While a store serves, it keeps that world.
+pub fn law_runs()
+    ensures { RunsCompose }
 {}
 
 /// Equal replies have equal bytes, and bytes that are no request have one reply, whatever the world. So the bytes of the

@@ -5,11 +5,13 @@ ghost use Rattle.hall_desk.specs.Sane.{Sane};
 ghost use Rattle.hall_desk.specs.Promises.{HasUniqueSolutions, RightAnswersAreSolutions};
 ghost use Rattle.hall_http.specs.Line.{IsLineServed};
 
-use crate::connection::{Clock, ServeEnd, serve};
+use crate::connection::{Clock, ServeEnd, serve_with};
+use crate::inbox::Inbox;
+use crate::routes::Routes;
 use hall_desk::Desk;
 use hall_grid::Counted;
 use hall_store::Store;
-use std::alloc::{AllocError, Global};
+use std::alloc::Global;
 use std::io;
 use std::io::{Read, Write};
 
@@ -43,17 +45,19 @@ pub trait Line {
         ensures { hears self.old reader.now writer self.new };
 }
 
-/// Serves one connection over a line, and hangs up.
+/// Serves one connection over a line, and hangs up, with these routes and the room of this inbox.
 ///
 /// A line that can't be set up isn't served (`Device`). At the end the writing side is shut, and what is still unread
 /// is read off for a while: a line that is closed with unread bytes may be reset, and the client would lose its last
 /// reply.
-pub fn serve_line<S: Store, L: Line, C: Clock>(
+pub(crate) fn serve_line<S: Store, L: Line, C: Clock>(
     alloc: Global,
+    routes: &Routes,
+    inbox: &mut Inbox,
     desk: &mut Desk<S>,
     line: &mut L,
     clock: &mut C,
-) -> Result<ServeEnd, AllocError>
+) -> ServeEnd
     ensures line { IsLineServed L.hands_out L.refuses L.hears L.Reader.remaining L.Writer.contents
         S.content C.now_gives line.old (kept_by desk.old) clock.old line.new (kept_by desk.new) clock.new result }
     ensures sane { SaneThen Sane (S.content (kept_by desk.old)) (S.content (kept_by desk.new)) }
@@ -61,11 +65,11 @@ pub fn serve_line<S: Store, L: Line, C: Clock>(
     ensures right { SaneThen RightAnswersAreSolutions (S.content (kept_by desk.old)) (S.content (kept_by desk.new)) }
 {
     let Ok((reader, writer)) = line.set_up() else {
-        return Ok(ServeEnd::Device);
+        return ServeEnd::Device;
     };
     let mut reader = Counted::new(reader);
     let mut writer = Counted::new(writer);
-    let ended = serve(alloc, desk, &mut reader, &mut writer, clock);
+    let ended = serve_with(alloc, routes, inbox, desk, &mut reader, &mut writer, clock);
     line.end_writing(&reader, writer);
     read_off(&mut reader);
     ended

@@ -7,34 +7,36 @@ ghost use Rattle.hall_http.specs.Listener.{AreServed};
 
 use crate::connection::Clock;
 use crate::line::{Line, serve_line};
+use crate::session::routes_and_inbox;
 use hall_desk::Desk;
 use hall_store::Store;
 use std::alloc::Global;
-use std::io::ErrorKind;
-use std::net::{TcpListener, TcpStream};
 
 /// What comes of waiting for the next line.
 #[derive(Drop)]
 pub enum Accepted<X> {
     /// It is let in.
     Line(X),
-    /// It went away before it was let in.
+    /// A connection has ended for good, also one of which no line was let in.
     Gone,
     /// No more can come in.
     Refused,
 }
 
-/// What lets lines in, one after another.
+/// What lets lines in, one after another: of connections, each of which may have several lines.
 pub trait Listener {
+    ghost use Rattle.std.specs.Prelude.{ℕ};
+
     type Line: Line + Drop;
 
-    ghost accepts: { Self → Accepted Self.Line → Self → Type 0 };
+    /// Asked for the next line while it may hold so many connections, it answers so.
+    ghost accepts: { Self → ℕ → Accepted Self.Line → Self → Type 0 };
 
     ghost lets_go: { Self → Self.Line → Self → Type 0 };
 
-    /// Waits for the next line.
-    fn accept(&mut self) -> Accepted<Self::Line>
-        ensures { accepts self.old result self.new };
+    /// Waits for the next line, or for a connection to end. It holds no more than so many connections.
+    fn accept(&mut self, most: u64) -> Accepted<Self::Line>
+        ensures { accepts self.old most result self.new };
 
     /// Takes back a line that it let in, as it was left, and lets it go.
     fn let_go(&mut self, line: Self::Line)
@@ -44,13 +46,16 @@ pub trait Listener {
 /// How serving one connection after another ended.
 #[derive(Clone, Copy)]
 pub enum ServeAllEnd {
-    /// After the last connection.
+    /// After the last connection, or after 2^64 - 1 turns.
     Served,
     /// No more could come in.
     Refused,
+    /// For want of memory, before the first line was let in.
+    Memory,
 }
 
-/// Serves so many connections, one after another, however each ends: the next line is let in once the last is let go.
+/// Serves the lines of so many connections, one after another, however each ends: the next line is let in once the last
+/// is let go. It ends once so many connections have.
 pub fn serve_all<S: Store, L: Listener, C: Clock>(
     alloc: Global,
     desk: &mut Desk<S>,
@@ -65,35 +70,22 @@ pub fn serve_all<S: Store, L: Listener, C: Clock>(
     ensures unique { SaneThen HasUniqueSolutions (S.content (kept_by desk.old)) (S.content (kept_by desk.new)) }
     ensures right { SaneThen RightAnswersAreSolutions (S.content (kept_by desk.old)) (S.content (kept_by desk.new)) }
 {
-    for _turn in 0..connections {
-        match listener.accept() {
+    let Ok((routes, mut inbox)) = routes_and_inbox(alloc) else {
+        return ServeAllEnd::Memory;
+    };
+    let mut gone = 0;
+    for _turn in 0..u64::MAX {
+        if gone == connections {
+            return ServeAllEnd::Served;
+        }
+        match listener.accept(connections - gone) {
             Accepted::Line(mut line) => {
-                let _ended = serve_line(alloc, desk, &mut line, clock);
+                let _ended = serve_line(alloc, &routes, &mut inbox, desk, &mut line, clock);
                 listener.let_go(line);
             }
-            Accepted::Gone => {}
+            Accepted::Gone => gone += 1,
             Accepted::Refused => return ServeAllEnd::Refused,
         }
     }
     ServeAllEnd::Served
-}
-
-impl Listener for TcpListener {
-    type Line = TcpStream;
-
-    ghost accepts = { λ _ _ _. Unit {0} };
-
-    ghost lets_go = { λ _ _ _. Unit {0} };
-
-    fn accept(&mut self) -> Accepted<TcpStream> {
-        match TcpListener::accept(self) {
-            Ok((stream, _)) => Accepted::Line(stream),
-            Err(error) if error.kind() == ErrorKind::ConnectionAborted => Accepted::Gone,
-            Err(_) => Accepted::Refused,
-        }
-    }
-
-    fn let_go(&mut self, line: TcpStream) {
-        drop(line);
-    }
 }

@@ -22,7 +22,7 @@ use hall_sheet::Refusal;
 use serde_json::{Value, json};
 use std::alloc::{AllocError, Global};
 
-/// The reply for want of memory, of the store or of the clock. It takes no memory.
+/// The reply where memory runs out, or where the database or the clock fails. To make it takes no memory.
 pub(crate) const UNAVAILABLE: &str =
     "HTTP/1.1 503 Service Unavailable\r\nContent-Type: application/json\r\nContent-Length: 16\r\n\r\n{\"fault\":\"hall\"}";
 

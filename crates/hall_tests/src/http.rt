@@ -1,11 +1,9 @@
 //! Bytes to bytes: replays, and connections.
 use crate::devices::{endless_reader, failing_reader, failing_writer};
-use crate::lines::{Listed, Seen, endless_line};
+use crate::lines::{Listed, Seen, endless_line, listed_lines};
 use crate::opening::opening_desk;
 use hall_grid::Counted;
-use hall_http::{
-    Accepted, Clock, ReplayFault, ServeAllEnd, ServeEnd, replay, serve, serve_all, serve_line,
-};
+use hall_http::{Accepted, Clock, ReplayFault, ServeAllEnd, ServeEnd, replay, serve, serve_all};
 use hall_policy::Moment;
 use std::alloc::AllocGlobal;
 use std::io;
@@ -391,13 +389,16 @@ fn a_connection_ends_at_a_device_fault(rt: HostRuntime) {
 #[test]
 fn a_line_is_hung_up_and_what_still_comes_is_read_off(rt: HostRuntime) {
     let seen = Seen::new(rt.alloc());
-    let mut line = endless_line(rt.alloc(), Some(CLOSING), &seen);
+    let mut coming = Vec::new(rt.alloc());
+    let line = endless_line(rt.alloc(), Some(CLOSING), &seen);
+    coming.push(Accepted::Line(line)).expect(&rt, "memory");
+    let mut listener = listed_lines(coming, &seen);
     let mut desk = opening_desk(&rt);
-    let ended = serve_line(rt.alloc(), &mut desk, &mut line, &mut clock(&[1])).expect(&rt, "serve");
-    assert!(rt; ended == ServeEnd::Closed);
+    let ended = serve_all(rt.alloc(), &mut desk, &mut listener, &mut clock(&[1]), 1);
+    assert!(rt; matches!(ended, ServeAllEnd::Served));
     assert!(rt; seen.reads_before_end.get() == CLOSING.len());
     assert!(rt; seen.reads.get() == CLOSING.len().wrapping_add(64));
-    drop(line);
+    drop(listener);
     assert!(rt; seen.into_written().as_slice() == NO_ROUTE);
 }
 
@@ -421,7 +422,7 @@ fn listed<'a>(rt: &(impl AllocGlobal + Abort), seen: &'a Seen) -> Listed<'a> {
     ] {
         coming.push(next).expect(rt, "memory");
     }
-    Listed { coming, seen }
+    listed_lines(coming, seen)
 }
 
 #[test]

@@ -107,21 +107,34 @@ impl<'a> Line for Endless<'a> {
     }
 }
 
-/// Lets in what its list says, from the last to the first, and then no more.
+/// Lets in what its list says, from the last to the first, and then no more. A line that is let go is gone for good.
 #[derive(Drop)]
 pub(crate) struct Listed<'a> {
-    pub(crate) coming: Vec<Accepted<Endless<'a>>>,
-    pub(crate) seen: &'a Seen,
+    coming: Vec<Accepted<Endless<'a>>>,
+    seen: &'a Seen,
+    has_gone: bool,
+}
+
+pub(crate) fn listed_lines<'a>(coming: Vec<Accepted<Endless<'a>>>, seen: &'a Seen) -> Listed<'a> {
+    Listed {
+        coming,
+        seen,
+        has_gone: false,
+    }
 }
 
 impl<'a> Listener for Listed<'a> {
     type Line = Endless<'a>;
 
-    ghost accepts = { λ _ _ _. Unit {0} };
+    ghost accepts = { λ _ _ _ _. Unit {0} };
 
     ghost lets_go = { λ _ _ _. Unit {0} };
 
-    fn accept(&mut self) -> Accepted<Endless<'a>> {
+    fn accept(&mut self, _most: u64) -> Accepted<Endless<'a>> {
+        if self.has_gone {
+            self.has_gone = false;
+            return Accepted::Gone;
+        }
         let Some(next) = self.coming.pop() else {
             return Accepted::Refused;
         };
@@ -135,6 +148,7 @@ impl<'a> Listener for Listed<'a> {
 
     fn let_go(&mut self, line: Endless<'a>) {
         self.seen.held.set(self.seen.held.get().saturating_sub(1));
+        self.has_gone = true;
         drop(line);
     }
 }

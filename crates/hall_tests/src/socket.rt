@@ -1,26 +1,88 @@
 //! Connections over sockets.
 use crate::opening::opening_desk;
-use hall_http::{Clock, Host, ServeEnd, SystemClock, SystemHost, serve_line};
+use hall_desk::Desk;
+use hall_http::{
+    Accepted, Clock, Crowd, Host, Listener, SystemClock, SystemHost, Visit, serve_all,
+};
+use hall_store::Store;
 use std::io;
 use std::io::Write;
-use std::net::{TcpListener, TcpStream};
+use std::net::{Ipv4Addr, Shutdown, SocketAddr, TcpStream};
 use std::test::Fail;
+
+/// A crowd that lets none in once a connection has gone.
+#[derive(Drop)]
+struct Brief<'r> {
+    crowd: Crowd<'r, HostRuntime>,
+    has_gone: bool,
+}
+
+impl<'r> Listener for Brief<'r> {
+    type Line = Visit;
+
+    ghost accepts = { λ _ _ _ _. Unit {0} };
+
+    ghost lets_go = { λ _ _ _. Unit {0} };
+
+    fn accept(&mut self, most: u64) -> Accepted<Visit> {
+        if self.has_gone {
+            return Accepted::Refused;
+        }
+        let next = self.crowd.accept(most);
+        self.has_gone = matches!(&next, Accepted::Gone);
+        next
+    }
+
+    fn let_go(&mut self, line: Visit) {
+        self.crowd.let_go(line);
+    }
+}
+
+/// What the last of the clients is answered, which send these bytes. The others never end what they send.
+fn last_answered<S: Store>(
+    rt: &HostRuntime,
+    desk: &mut Desk<S>,
+    clients: &[&[u8]],
+) -> io::Result<String> {
+    let address = SocketAddr::from((Ipv4Addr::LOCALHOST, 0));
+    let mut brief = Brief {
+        crowd: Crowd::new(rt, address)?,
+        has_gone: false,
+    };
+    let mut connected = Vec::new(rt.alloc());
+    for sent in clients {
+        let mut client = TcpStream::connect(rt, brief.crowd.local_addr()?)?;
+        client.write_all(sent)?;
+        connected.push(client)?;
+    }
+    let Some(last) = connected.pop() else {
+        return Ok(String::new(rt.alloc()));
+    };
+    last.shutdown(Shutdown::Write)?;
+    let mut clock = SystemClock::new(rt);
+    let _ended = serve_all(rt.alloc(), desk, &mut brief, &mut clock, 100);
+    drop(brief);
+    io::read_to_string(rt.alloc(), last)
+}
 
 #[test]
 fn the_last_reply_reaches_a_client_that_sends_more(rt: HostRuntime) -> Result<(), Fail> {
-    let listener = TcpListener::bind(&rt, "127.0.0.1:0")?;
-    let mut client = TcpStream::connect(&rt, listener.local_addr()?)?;
-    client.write_all(b"GET /nothing HTTP/1.1\r\n\r\nno request\r\n\r\n")?;
-    client.write_all(&[b'x'; 60_000])?;
-    let (mut stream, _) = listener.accept()?;
+    let mut sent = Vec::new(rt.alloc());
+    sent.extend_from_slice(b"GET /nothing HTTP/1.1\r\n\r\nno request\r\n\r\n")?;
+    sent.resize(60_000, b'x')?;
     let mut desk = opening_desk(&rt);
-    let mut clock = SystemClock::new(&rt);
-    let ended = serve_line(rt.alloc(), &mut desk, &mut stream, &mut clock)?;
-    assert!(rt; ended == ServeEnd::BadHead);
-    drop(stream);
-    let text = io::read_to_string(rt.alloc(), client)?;
+    let text = last_answered(&rt, &mut desk, &[sent.as_slice()])?;
     assert!(rt; text.as_str().starts_with("HTTP/1.1 404 Not Found"));
     assert!(rt; text.as_str().ends_with("{\"form\":\"F7\"}"));
+    Ok(())
+}
+
+#[test]
+fn clients_that_stall_keep_no_other_out(rt: HostRuntime) -> Result<(), Fail> {
+    let request = b"GET /nothing HTTP/1.1\r\n\r\n".as_slice();
+    let mut desk = opening_desk(&rt);
+    let text = last_answered(&rt, &mut desk, &[b"", &request[..9], request, request])?;
+    assert!(rt; text.as_str().starts_with("HTTP/1.1 404 Not Found"));
     Ok(())
 }
 
@@ -35,7 +97,7 @@ fn the_systems_clock_tells_seconds_of_this_century(rt: HostRuntime) {
 
 #[test]
 fn the_systems_host_listens_for_this_machine_alone(rt: HostRuntime) -> Result<(), Fail> {
-    let mut host = SystemHost::new(&rt);
+    let mut host = SystemHost::new(&rt, rt.stderr());
     let listener = host.listen(0)?;
     assert!(rt; listener.local_addr()?.ip().is_loopback());
     assert!(rt; host.listen(65_536).is_err());

@@ -1,10 +1,11 @@
 -- A list that adds nobody leaves the world.
-use Rattle.std.proofs.Common.{◌≡◌, ◌<◌, ℕ, List, ◌++◌, length, ap, subst, inl, inr, arith}
+use Rattle.std.proofs.Common.{◌≡◌, ◌<◌, ◌≤◌, ℕ, List, ◌++◌, length, ap, subst, inl, inr, arith}
 use Rattle.std.specs.Prelude.{◌≢◌, OnErr, Result, Ok, Err}
 use Rattle.std.proofs.lemmas.List.{length-append}
 use Rattle.hall_policy.specs.declared.record.Person.{Person}
 use Rattle.hall_store.specs.Store.{Content, Kept, Leads, Over}
 use Rattle.hall_store.proofs.Knowing.{leads_kept}
+use Rattle.hall_desk.specs.Plans.{IsSeedReply}
 use Rattle.hall_desk.specs.Step.{Seed}
 use Rattle.hall_desk.specs.declared.reply.Reply.{Reply}
 use Rattle.hall_desk.specs.declared.reply.Reply.TheVariants as reply
@@ -21,12 +22,18 @@ adds_nobody (Added count) front rest e some =
     let none : 0 ≡ length (front ++ rest) = ap length e in
     absurd (omega (arith, none, length-append front rest))
 
+-- the desk denies a list by the rule on lists alone
+denied_20 : (given : Reply) (rule : ℕ) → IsSeedReply given → given ≡ reply.Denied rule → given ≡ reply.Denied 20
+denied_20 given rule (inl (count, added)) denied = absurd cc
+denied_20 given rule (inr is) denied = is
+
 -- what the desk answered came of the list
 pub seeded_is : (list : List ℕ) (old new : Content) (given : Reply) (seeded : Seeded) → IsToldBy given seeded → IsAnswered list old new given
-    → IsSeeded list old new seeded
-seeded_is list old new given (Refused refusal) is answered = absurd is
-seeded_is list old new given (Denied rule) is answered = subst (IsAnswered list old new) is answered
-seeded_is list old new given (Added count) is answered = subst (IsAnswered list old new) is answered
+    → IsSeedReply given → (given ≡ reply.Denied 20 → new.writes ≤ old.writes) → IsSeeded list old new seeded
+seeded_is list old new given (Refused refusal) is answered known quiet = absurd is
+seeded_is list old new given (Denied rule) is answered known quiet =
+    (subst (IsAnswered list old new) is answered, quiet (denied_20 given rule known is))
+seeded_is list old new given (Added count) is answered known quiet = subst (IsAnswered list old new) is answered
 
 left_by : (old new : Content) (people : List Person) (given : Reply) → ((n : ℕ) → given ≢ reply.Imported n)
     → Over (λ before after. Seed before people given after) old new → new.serves → new.world ≡ old.world
@@ -39,9 +46,11 @@ pub on_err : {A B : Type 0} (result : Result A B) (claim : Type 0) → claim →
 on_err (Ok a) claim holds = tt
 on_err (Err e) claim holds = holds
 
+-- a list that adds nobody makes no write and leaves the world
 pub nobody_keeps : (list : List ℕ) (old new : Content) (seeded : Seeded) → Leads old new → IsSeeded list old new seeded
     → AddsNobody seeded → Kept old new
 nobody_keeps list old new (Refused refusal) leads is nobody = is.1
-nobody_keeps list old new (Denied rule) leads is nobody =
-    leads_kept old new leads (λ honest serves. left_by old new is.0 (reply.Denied rule) (λ n e. cc) (is.2 honest) serves)
+nobody_keeps list old new (Denied rule) leads (is, quiet) nobody =
+    leads_kept old new leads quiet
+    (λ honest serves. left_by old new is.0 (reply.Denied rule) (λ n e. cc) (is.2 honest) serves)
 nobody_keeps list old new (Added count) leads is nobody = absurd nobody

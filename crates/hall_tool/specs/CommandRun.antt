@@ -29,7 +29,7 @@ EndsAs Done result = (ended : Result ℕ ToolFault) × Done ended × (result ≡
 abbrev pub IsCommandRun : {F N S R W : Type 0} → Ghosts S → (List ℕ → Image) → (F → List ℕ → List ℕ → F → Type 0)
     → (F → List ℕ → Error → F → Type 0) → (F → List ℕ → Held S → F → Type 0) → (F → List ℕ → F → OpenFault → Type 0)
     → (F → List ℕ → Held S → F → Type 0) → (F → List ℕ → F → OpenFault → Type 0) → (F → Held S → F → Type 0)
-    → (ℕ → ℕ → N → N → Held S → Held S → Tally R → Tally R → Tally W → Tally W → Result ℕ CommandFault → Type 0)
+    → (List ℕ → ℕ → ℕ → N → N → Held S → Held S → Tally R → Tally R → Tally W → Tally W → Result ℕ CommandFault → Type 0)
     → (List ℕ → List ℕ → F → F → Tally W → Tally W → Result ℕ CommandFault → Type 0)
     → (R → Option (List ℕ)) → (W → Option (List ℕ)) → Command → F → F → N → N
     → Tally R → Tally R → Tally W → Tally W → Result ℕ CommandFault → Type 0
@@ -45,7 +45,7 @@ IsCommandRun g image_at gives withholds opened refused found missed closes serve
     reader read writer written result
 IsCommandRun g image_at gives withholds opened refused found missed closes serves migrates remaining contents
     (Serve db port connections) old new host asked reader read writer written result =
-    IsTaskAt g image_at found missed closes (serves port connections) db old new host asked
+    IsTaskAt g image_at found missed closes (serves db port connections) db old new host asked
     reader read writer written result
 IsCommandRun g image_at gives withholds opened refused found missed closes serves migrates remaining contents
     (Replay people) old new host asked reader read writer written result =

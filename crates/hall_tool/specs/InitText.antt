@@ -2,7 +2,7 @@
 use Rattle.std.specs.Prelude.{◌≡◌, ℕ, List, ◌++◌, codes, decimal, Option, Result, IfOk, IsErrOf}
 use Rattle.std.specs.Io.KnownBytes.{Appends}
 use Rattle.hall_grid.specs.Device.{Rises, Tally}
-use Rattle.hall_store.specs.Store.{Content, Kept, Leads}
+use Rattle.hall_store.specs.Store.{Content, Left, Leads, WritesOnce}
 use Rattle.hall_desk.specs.Desk.{SaneThen}
 use Rattle.hall_desk.specs.Sane.{Sane}
 use Rattle.hall_http.specs.Device.{WritesPart}
@@ -33,6 +33,7 @@ InitText list old new line status =
 pub record IsInitRun {W : Type 0} (can_fail : Type 0) (contents : W → Option (List ℕ)) (list : List ℕ)
     (old new : Content) (writer written : Tally W) (result : Result ℕ ToolFault) : Type 0 where
   pub leads : Leads old new
+  pub once : WritesOnce old new
   pub sane : SaneThen Sane old new
   pub line : IfOk result (λ status. (line : List ℕ) × InitText list old new line status
       × Appends (contents writer.device) (contents written.device) line)
@@ -40,5 +41,5 @@ pub record IsInitRun {W : Type 0} (can_fail : Type 0) (contents : W → Option (
   pub device : IsErrOf result tool.Device → Rises writer.failures written.failures
   pub part : IsErrOf result tool.Device → (line : List ℕ) × (status : ℕ) × InitText list old new line status
       × WritesPart (contents writer.device) (contents written.device) line
-  pub memory : IsErrOf result tool.Memory → Kept old new × (written ≡ writer)
-  pub store : IsErrOf result tool.Store → can_fail × Kept old new × (written ≡ writer)
+  pub memory : IsErrOf result tool.Memory → Left old new × (written ≡ writer)
+  pub store : IsErrOf result tool.Store → can_fail × Left old new × (written ≡ writer)

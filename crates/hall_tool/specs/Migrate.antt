@@ -5,10 +5,10 @@ use Rattle.sqlite_trees.specs.declared.store.Store.{Ghosts}
 use Rattle.sqlite.specs.Held.{Held, state}
 use Rattle.sqlite.specs.Recovery.{Image}
 use Rattle.hall_grid.specs.Device.{Rises, Tally}
-use Rattle.hall_store.specs.Store.{Content, Kept}
+use Rattle.sqlite.specs.State.{State}
 use Rattle.hall_sql.specs.Migrate.{Migrates, old_content_of}
 use Rattle.hall_sql.specs.Opened.{Starts, StartsOld}
-use Rattle.hall_sql.specs.Standing.{IsHall, IsTabled, content_of}
+use Rattle.hall_sql.specs.Standing.{IsHall, Rested, RestedIn, content_of}
 use Rattle.hall_sql.specs.Tables.{old_schema}
 use Rattle.hall_sql.specs.declared.migration.Migrated.{Migrated}
 use Rattle.hall_sql.specs.declared.migration.Migrated.TheVariants.{Done, Occupied}
@@ -37,24 +37,24 @@ abbrev pub no_source_line : List ℕ
 no_source_line = refusal_of (codes "source")
 
 -- what became of the migration, as it is written, and the exit status
-abbrev pub MigrateText : Content → Content → Content → Content → List ℕ → ℕ → Type 0
+abbrev pub MigrateText : State → State → State → State → List ℕ → ℕ → Type 0
 MigrateText source left old new line status =
     (migrated : Migrated) × Migrates source left old new (Ok migrated) × (line ≡ migrated_line migrated)
     × (status ≡ migrated_status migrated)
 
--- The source is never changed. What became of the migration was written on a line; at a device's fault, a first part of
--- it; another fault left the target and the writer.
-pub record IsMigrateRun {W : Type 0} (contents : W → Option (List ℕ)) (source left old new : Content)
+-- The tables of the source are never changed. What became of the migration was written on a line; at a device's fault, a
+-- first part of it; another fault left the target's tables and the writer.
+pub record IsMigrateRun {W : Type 0} (contents : W → Option (List ℕ)) (source left old new : State)
     (writer written : Tally W) (result : Result ℕ ToolFault) : Type 0 where
-  pub kept : Kept source left
+  pub rested : RestedIn old_schema source left
   pub line : IfOk result (λ status. (line : List ℕ) × MigrateText source left old new line status
       × Appends (contents writer.device) (contents written.device) line)
   pub same : IfOk result (λ status. written.failures ≡ writer.failures)
   pub device : IsErrOf result tool.Device → Rises writer.failures written.failures
   pub part : IsErrOf result tool.Device → (line : List ℕ) × (status : ℕ) × MigrateText source left old new line status
       × WritesPart (contents writer.device) (contents written.device) line
-  pub memory : IsErrOf result tool.Memory → Kept old new × (written ≡ writer)
-  pub store : IsErrOf result tool.Store → Kept old new × (written ≡ writer)
+  pub memory : IsErrOf result tool.Memory → Rested old new × (written ≡ writer)
+  pub store : IsErrOf result tool.Store → Rested old new × (written ≡ writer)
 
 -- over a source that was taken over, the target was asked for: the files handed it out, the rows were copied from the
 -- world that the source held into the one that the target held, and the files were given it back, a hall's; or they
@@ -66,22 +66,21 @@ IsMigratedTo {F} {S} {T} g h image_at opened refused closes contents to source l
     ((first last : Held T) × (between : F) × (ended : Result ℕ ToolFault)
     × opened old to first between × closes between last new
     × IsHall (state h last) × Starts (image_at to) (content_of (state h first))
-    × IsMigrateRun contents (old_content_of (state g source)) (old_content_of (state g left))
-    (content_of (state h first)) (content_of (state h last)) writer written ended
+    × IsMigrateRun contents (state g source) (state g left) (state h first) (state h last) writer written ended
     × (result ≡ command_end ended))
     ⊎ ((cause : OpenFault) × refused old to new cause × (left ≡ source) × (written ≡ writer)
     × (result ≡ Err (Database cause)))
 
 -- What became of asking for the source. Taken over, it holds the world that its files held, the target was asked for,
--- and the files of the source were given it back, of the first version still. Where it isn't there, or is of another
--- version, that was written; where it can't be had, nothing. No target was asked for then.
+-- and the files of the source were given it back, its tables as they were, also rows that are no records. Where it isn't
+-- there, or is of another version, that was written; where it can't be had, nothing. No target was asked for then.
 abbrev pub IsMigratedFrom : {E F S T W : Type 0} → Ghosts S → Ghosts T → (List ℕ → Image) → (E → Held S → E → Type 0)
     → (List ℕ → Image) → (F → List ℕ → Held T → F → Type 0) → (F → List ℕ → F → OpenFault → Type 0)
     → (F → Held T → F → Type 0) → (W → Option (List ℕ)) → List ℕ → List ℕ → Result (Option (Held S)) OpenFault
     → E → E → F → F → Tally W → Tally W → Result ℕ CommandFault → Type 0
 IsMigratedFrom {E} {F} {S} g h source_at returned image_at opened refused closes contents from to
     (Ok (Some source)) taken sources old new writer written result =
-    (left : Held S) × returned taken left sources × IsTabled old_schema (state g left)
+    (left : Held S) × returned taken left sources × RestedIn old_schema (state g source) (state g left)
     × StartsOld (source_at from) (old_content_of (state g source))
     × IsMigratedTo g h image_at opened refused closes contents to source left old new writer written result
 IsMigratedFrom g h source_at returned image_at opened refused closes contents from to

@@ -2,7 +2,7 @@
 use Rattle.std.specs.Prelude.{◌≡◌, ◌≢◌, ◌⊎◌, ℕ, List, Option, Result, Ok, Err, IfOk, OnErr, IsErrOf}
 use Rattle.std.specs.Io.KnownBytes.{Appends}
 use Rattle.hall_grid.specs.Device.{Rises, Tally}
-use Rattle.hall_store.specs.Store.{Content, Kept, Leads}
+use Rattle.hall_store.specs.Store.{Content, Left, Leads, WritesOnce}
 use Rattle.hall_http.specs.Device.{WritesPart}
 use Rattle.hall_http.specs.Replay.{IsReplayed}
 use Rattle.hall_http.specs.declared.fault.ReplayFault.{ReplayFault}
@@ -16,10 +16,11 @@ use Rattle.hall_tool.specs.declared.fault.ToolFault.TheVariants as tool
 pub record IsSeedRun {W : Type 0} (can_fail : Type 0) (contents : W → Option (List ℕ)) (list : List ℕ)
     (old new : Content) (writer written : Tally W) (result : Result ℕ ToolFault) : Type 0 where
   pub leads : Leads old new
+  pub once : WritesOnce old new
   pub line : IfOk result (λ status. (line : List ℕ) × SeedText list old new line status
       × Appends (contents writer.device) (contents written.device) line)
   pub same : IfOk result (λ status. written.failures ≡ writer.failures)
-  pub kept : OnErr result (Kept old new)
+  pub left : OnErr result (Left old new)
   pub device : IsErrOf result tool.Device → Rises writer.failures written.failures
   pub part : IsErrOf result tool.Device → (line : List ℕ) × (status : ℕ) × SeedText list old new line status
       × WritesPart (contents writer.device) (contents written.device) line

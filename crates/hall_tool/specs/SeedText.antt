@@ -1,5 +1,5 @@
 -- What an entry list that stands before any request makes of a world, what is written of it, and the exit status.
-use Rattle.std.specs.Prelude.{◌≡◌, ℕ, ⊤, List, [], ◌++◌, codes, decimal, Ok, Err}
+use Rattle.std.specs.Prelude.{◌≡◌, ◌≤◌, ℕ, ⊤, List, [], ◌++◌, codes, decimal, Ok, Err}
 use Rattle.hall_policy.specs.declared.record.Person.{Person}
 use Rattle.hall_store.specs.Store.{Content, Kept}
 use Rattle.hall_desk.specs.Plans.{Seeds}
@@ -16,10 +16,10 @@ abbrev pub IsAnswered : List ℕ → Content → Content → Reply → Type 0
 IsAnswered list old new given =
     (people : List Person) × (people_in list ≡ Ok people) × (new.honest → Seeds old people given new)
 
--- this came of the list: its first fault, which leaves the world, or what the desk answered
+-- this came of the list: its first fault, which leaves the world, or what the desk answered; a denial makes no write
 abbrev pub IsSeeded : List ℕ → Content → Content → Seeded → Type 0
 IsSeeded list old new (Refused refusal) = (people_in list ≡ Err refusal) × Kept old new
-IsSeeded list old new (Denied rule) = IsAnswered list old new (reply.Denied rule)
+IsSeeded list old new (Denied rule) = IsAnswered list old new (reply.Denied rule) × (new.writes ≤ old.writes)
 IsSeeded list old new (Added count) = IsAnswered list old new (reply.Imported count)
 
 -- so the desk answered a list that came to this

@@ -11,6 +11,7 @@ use Rattle.hall_tool.specs.TableText.{IsTableRun}
 use Rattle.hall_tool.specs.declared.fault.CommandFault.{CommandFault}
 use Rattle.hall_tool.specs.declared.fault.CommandFault.TheVariants.{Client, Port, Tool}
 use Rattle.hall_tool.specs.declared.fault.ToolFault.{ToolFault}
+use Rattle.hall_tool.specs.declared.fault.ToolFault.TheVariants.{Memory}
 
 -- a fault of what is done is a fault of the command
 abbrev pub command_end : Result ℕ ToolFault → Result ℕ CommandFault
@@ -39,21 +40,22 @@ DoesReplay content can_fail remaining contents list host asked old new reader re
     × IsReplayRun content can_fail remaining contents list old new reader read writer written ended
     × (result ≡ command_end ended) × (asked ≡ host)
 
--- 0 after the last connection; a fault where no more could come in
+-- 0 after the last connection; a fault where no more could come in, and for want of memory
 abbrev pub serve_end : ServeAllEnd → Result ℕ CommandFault
 serve_end end.Served = Ok 0
 serve_end end.Refused = Err Client
+serve_end end.Memory = Err (Tool Memory)
 
--- The machine was asked once to listen, on the port. It listened there and showed a clock, and so many connections were
--- served over the store, one after another; or it refused, and the store is as it was. Neither reader nor writer is
--- asked.
-abbrev pub DoesServe : {N L C S R W : Type 0} → (N → ℕ → L → N → Type 0) → (N → ℕ → N → Type 0) → (N → C → Type 0)
-    → (ℕ → L → S → C → L → S → C → ServeAllEnd → Type 0) → ℕ → ℕ → N → N → S → S → Tally R → Tally R
-    → Tally W → Tally W → Result ℕ CommandFault → Type 0
-DoesServe {N} {L} {C} listens refuses shows served port connections host asked old new reader read writer written
-    result =
-    (((listener left : L) × (clock later : C) × (end : ServeAllEnd)
-    × listens host port listener asked × shows asked clock
+-- The machine was asked once to listen, on the port. It listened there, was told that the hall in the file at the path is
+-- served, and showed a clock; and then so many connections were served over the store, line after line. Or it refused,
+-- and the store is as it was. Neither reader nor writer is asked.
+abbrev pub DoesServe : {N L C S R W : Type 0} → (N → ℕ → L → N → Type 0) → (N → ℕ → N → Type 0)
+    → (N → ℕ → List ℕ → N → Type 0) → (N → C → Type 0) → (ℕ → L → S → C → L → S → C → ServeAllEnd → Type 0)
+    → List ℕ → ℕ → ℕ → N → N → S → S → Tally R → Tally R → Tally W → Tally W → Result ℕ CommandFault → Type 0
+DoesServe {N} {L} {C} listens refuses tells shows served path port connections host asked old new reader read writer
+    written result =
+    (((listening : N) × (listener left : L) × (clock later : C) × (end : ServeAllEnd)
+    × listens host port listener listening × tells listening port path asked × shows asked clock
     × served connections listener old clock left new later end × (result ≡ serve_end end))
     ⊎ (refuses host port asked × (new ≡ old) × (result ≡ Err Port)))
     × (read ≡ reader) × (written ≡ writer)

@@ -26,13 +26,14 @@ Commands:
   replay   Answer recorded requests
   migrate  Copy a database file of the first version into one of the second
 
-`hall COMMAND --help` tells more of a command.
+`hall COMMAND --help` tells more of a command, and the page docs/HTTP.md what each code means, as `denied 4`,
+`refused E7 0` or `wrong U2`.
 
 Exit status: 0 done; 1 a wrong answer, or not one solution; 2 refused input, or denied; 3 a fault of memory, of a device
 or of the database, with `fault` on standard error and what to do; 64 a wrong command line.
 
 Example:
-  $ hall judge < examples/right.txt
+  $ hall judge < examples/judge/right.txt
   right
 ";
 
@@ -51,7 +52,7 @@ Options:
 Exit status: 0 right; 1 wrong; 2 refused.
 
 Example:
-  $ hall judge < examples/wrong.txt
+  $ hall judge < examples/judge/wrong.txt
   wrong U2 U4
 ";
 
@@ -71,7 +72,7 @@ Options:
 Exit status: 0 one solution; 1 none, more or gave up; 2 refused.
 
 Example:
-  $ hall solve --budget 1000 < examples/loop.txt
+  $ hall solve --budget 1000 < examples/solve/loop.txt
   one 110011/101101
 ";
 
@@ -98,10 +99,14 @@ Example:
 ";
 
 const SERVE: &str = "\
-Serves the database file over HTTP on 127.0.0.1, one connection after another.
+Serves the database file over HTTP on 127.0.0.1: one request after another, each once it is there whole.
 
-The moment of a request is the system's. A connection has at most 1000 requests; one on which nothing arrives, or nothing
-is taken, for 10 seconds is ended, and the next is served.
+The moment of a request is the system's. At most 500 connections are open at once; where one more comes, the one with
+nothing asked and nothing unsent that has the least time left is closed. A connection is closed where a request isn't
+whole within 10 seconds of its first byte, a reply isn't taken within 10 seconds, or nothing comes for 10 seconds; and
+after 1000 requests.
+
+Once it listens, it writes a line on standard error: `hall: serving`, the address and the file.
 
 Usage: hall serve --db F --port N [--connections N]
 
@@ -135,7 +140,7 @@ Exit status: 0 where the input is whole records and no more; 2 where it goes on 
 refused or denied.
 
 Example:
-  $ hall replay --people examples/people.csv < examples/replay.txt
+  $ hall replay --people examples/people.csv < examples/rounds/replay.txt
 ";
 
 const TABLE: &str = "\

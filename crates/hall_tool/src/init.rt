@@ -3,7 +3,7 @@ ghost use Rattle.std.specs.Prelude.{◌≡◌, ◌≤◌, ℕ, List, IfOk, IsErr
 ghost use Rattle.std.specs.String.{string_capacity, string_len};
 ghost use Rattle.std.specs.Io.KnownBytes.{Appends};
 ghost use Rattle.hall_grid.specs.Device.{Rises};
-ghost use Rattle.hall_store.specs.Store.{Kept, Leads};
+ghost use Rattle.hall_store.specs.Store.{Left, Leads, WritesOnce};
 ghost use Rattle.hall_desk.specs.Desk.{kept_by, SaneThen};
 ghost use Rattle.hall_desk.specs.Sane.{Sane};
 ghost use Rattle.hall_http.specs.Device.{WritesPart};
@@ -38,8 +38,8 @@ fn init_ending(alloc: Global, line: String, seeded: Seeded) -> Result<Ending, Al
 }
 
 /// Imports the people of an entry list, whose rule on lists alone is asked, and writes on a line how many were added,
-/// or why nobody was. The result is the exit status: 0 where the people were imported, 2 where the list is refused or
-/// denied.
+/// or why nobody was. It makes at most one write, and none where the list is refused or denied. The result is the exit
+/// status: 0 where the people were imported, 2 where the list is refused or denied.
 pub fn init_run<S: Store, W: Write>(
     alloc: Global,
     desk: &mut Desk<S>,
@@ -47,6 +47,7 @@ pub fn init_run<S: Store, W: Write>(
     writer: &mut Counted<W>,
 ) -> Result<u8, ToolFault>
     ensures leads { Leads (S.content (kept_by desk.old)) (S.content (kept_by desk.new)) }
+    ensures once { WritesOnce (S.content (kept_by desk.old)) (S.content (kept_by desk.new)) }
     ensures line { IfOk result (λ status. (line : List ℕ)
         × InitText list.now (S.content (kept_by desk.old)) (S.content (kept_by desk.new)) line status
         × Appends (W.contents writer.old.device) (W.contents writer.new.device) line) }
@@ -59,9 +60,9 @@ pub fn init_run<S: Store, W: Write>(
         × InitText list.now (S.content (kept_by desk.old)) (S.content (kept_by desk.new)) line status
         × WritesPart (W.contents writer.old.device) (W.contents writer.new.device) line }
     // Another fault leaves the world and the writer.
-    ensures memory { IsErrOf result ToolFault.Memory → Kept (S.content (kept_by desk.old))
+    ensures memory { IsErrOf result ToolFault.Memory → Left (S.content (kept_by desk.old))
         (S.content (kept_by desk.new)) × (writer.new ≡ writer.old) }
-    ensures store { IsErrOf result ToolFault.Store → S.can_fail × Kept (S.content (kept_by desk.old))
+    ensures store { IsErrOf result ToolFault.Store → S.can_fail × Left (S.content (kept_by desk.old))
         (S.content (kept_by desk.new)) × (writer.new ≡ writer.old) }
 {
     // The line's memory is taken first, so that a want of it leaves the world.

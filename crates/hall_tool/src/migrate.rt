@@ -2,9 +2,7 @@
 ghost use Rattle.std.specs.Prelude.{◌≡◌, ◌≤◌, [], string_bytes};
 ghost use Rattle.std.specs.String.{string_capacity, string_len};
 ghost use Rattle.sqlite.specs.Held.{state};
-ghost use Rattle.hall_sql.specs.Migrate.{old_content_of};
 ghost use Rattle.hall_sql.specs.Opened.{IsCauseAt, IsOldAsked, OpensAt};
-ghost use Rattle.hall_sql.specs.Standing.{content_of};
 ghost use Rattle.hall_tool.specs.Migrate.{IsMigrateAt, IsMigrateRun, IsMigratedTo, migrated_line, migrated_status};
 
 use crate::ending::{Ending, ROOM, counted, push};
@@ -37,17 +35,19 @@ fn migrated_ending(mut line: String, migrated: Migrated) -> Ending
 
 /// Copies the rows of the one store into the other, which has none, and writes on a line how many they were: 0 where
 /// that one holds the same already. Where it holds others it stays, which is written. The result is the exit status: 0
-/// where the target holds the rows of the source, 2 where it is refused. The source is never changed.
+/// where the target holds the rows of the source, 2 where it is refused. The source is never changed, and a row of either
+/// that is no record is a fault.
 pub fn migrate_run<S: Alter + Drop, T: Alter + Drop, W: Write>(
     alloc: Global,
     source: &mut OldStore<S>,
     target: &mut SqlStore<T>,
     writer: &mut Counted<W>,
 ) -> Result<u8, ToolFault>
-    ensures { IsMigrateRun W.contents (old_content_of (state S.Store source.old))
-        (old_content_of (state S.Store source.new)) (content_of (state T.Store target.old))
-        (content_of (state T.Store target.new)) writer.old writer.new result }
+    ensures { IsMigrateRun W.contents (state S.Store source.old) (state S.Store source.new)
+        (state T.Store target.old) (state T.Store target.new) writer.old writer.new result }
 {
+    source.in_old_hall();
+    target.in_hall();
     // The line's memory is taken first, so that a want of it leaves the target.
     let line = String::with_capacity(alloc, ROOM)?;
     match migrate(alloc, source, target) {

@@ -2,7 +2,7 @@
 ghost use Rattle.std.specs.Prelude.{◌≡◌, ◌⊎◌, ℕ, List, IfOk, IfErr, IsErrOf, OnErr, Err, string_bytes};
 ghost use Rattle.std.specs.Io.KnownBytes.{Appends};
 ghost use Rattle.hall_grid.specs.Device.{Rises};
-ghost use Rattle.hall_store.specs.Store.{Kept, Leads};
+ghost use Rattle.hall_store.specs.Store.{Left, Leads, WritesOnce};
 ghost use Rattle.hall_desk.specs.Desk.{kept_by, SaneThen};
 ghost use Rattle.hall_desk.specs.Sane.{Sane};
 ghost use Rattle.hall_desk.specs.Plans.{IsSeedReply};
@@ -54,18 +54,19 @@ fn seeded_by(reply: Reply) -> Seeded
     seeded
 }
 
-/// Imports the people of the list before any request.
+/// Imports the people of the list before any request, by one write at most, and by none where the list is denied.
 pub(crate) fn seed_desk<S: Store>(
     alloc: Global,
     desk: &mut Desk<S>,
     list: &[u8],
 ) -> Result<Seeded, ToolFault>
     ensures leads { Leads (S.content (kept_by desk.old)) (S.content (kept_by desk.new)) }
+    ensures once { WritesOnce (S.content (kept_by desk.old)) (S.content (kept_by desk.new)) }
     ensures seeded { IfOk result
         (IsSeeded list.now (S.content (kept_by desk.old)) (S.content (kept_by desk.new))) }
     ensures sane { SaneThen Sane (S.content (kept_by desk.old)) (S.content (kept_by desk.new)) }
     ensures refused { (refusal : Refusal) → people_in list.now ≡ Err refusal → desk.new ≡ desk.old }
-    ensures kept { OnErr result (Kept (S.content (kept_by desk.old)) (S.content (kept_by desk.new))) }
+    ensures left { OnErr result (Left (S.content (kept_by desk.old)) (S.content (kept_by desk.new))) }
     ensures cause { IfErr result (λ e. (e ≡ ToolFault.Memory) ⊎ (e ≡ ToolFault.Store)) }
     ensures fault { IsErrOf result ToolFault.Store → S.can_fail }
 {
@@ -100,7 +101,8 @@ pub(crate) fn seeded_ending(alloc: Global, seeded: Seeded) -> Result<Ending, All
 }
 
 /// Imports the people of an entry list before any request, and writes nothing; or writes on a line why nobody was
-/// added. The result is the exit status: 0 where the people were imported, 2 where the list is refused or denied.
+/// added, and has then made no write; else it has made one at most. The result is the exit status: 0 where the people
+/// were imported, 2 where the list is refused or denied.
 pub fn seed_run<S: Store, W: Write>(
     alloc: Global,
     desk: &mut Desk<S>,
@@ -108,6 +110,7 @@ pub fn seed_run<S: Store, W: Write>(
     writer: &mut Counted<W>,
 ) -> Result<u8, ToolFault>
     ensures leads { Leads (S.content (kept_by desk.old)) (S.content (kept_by desk.new)) }
+    ensures once { WritesOnce (S.content (kept_by desk.old)) (S.content (kept_by desk.new)) }
     ensures line { IfOk result (λ status. (line : List ℕ)
         × SeedText list.now (S.content (kept_by desk.old)) (S.content (kept_by desk.new)) line status
         × Appends (W.contents writer.old.device) (W.contents writer.new.device) line) }
@@ -115,7 +118,7 @@ pub fn seed_run<S: Store, W: Write>(
     ensures sane { SaneThen Sane (S.content (kept_by desk.old)) (S.content (kept_by desk.new)) }
     ensures refused { (refusal : Refusal) → people_in list.now ≡ Err refusal → desk.new ≡ desk.old }
     // A fault leaves the world.
-    ensures kept { OnErr result (Kept (S.content (kept_by desk.old)) (S.content (kept_by desk.new))) }
+    ensures left { OnErr result (Left (S.content (kept_by desk.old)) (S.content (kept_by desk.new))) }
     ensures device { IsErrOf result ToolFault.Device → Rises writer.old.failures writer.new.failures }
     // At a device's fault a first part of the line was written, perhaps none of it.
     ensures part { IsErrOf result ToolFault.Device → (line : List ℕ) × (status : ℕ)

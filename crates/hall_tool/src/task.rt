@@ -56,6 +56,7 @@ fn serve_end(end: ServeAllEnd) -> Result<u8, CommandFault>
     match end {
         ServeAllEnd::Served => Ok(0),
         ServeAllEnd::Refused => Err(CommandFault::Client),
+        ServeAllEnd::Memory => Err(CommandFault::Tool(ToolFault::Memory)),
     }
 }
 
@@ -131,22 +132,24 @@ impl<N> Task<N> for Replay<'_> {
     }
 }
 
-/// Serves so many connections on the host's port, one after another, however each ends.
+/// Serves so many connections on the host's port, line after line, however each ends, and tells before the first that the
+/// hall in the file at the path is served.
 #[derive(Clone, Copy)]
-pub struct Serve {
+pub struct Serve<'a> {
+    pub path: &'a str,
     pub port: u64,
     pub connections: u64,
 }
 
-impl<H: Host> Task<H> for Serve {
+impl<H: Host> Task<H> for Serve<'_> {
     ghost use Rattle.hall_http.specs.Listener.{AreServed};
     ghost use Rattle.hall_tool.specs.Tasks.{DoesServe};
 
-    ghost does = { λ S R W content can_fail remaining contents task. DoesServe H.listens H.refuses H.shows
+    ghost does = { λ S R W content can_fail remaining contents task. DoesServe H.listens H.refuses H.tells H.shows
         (AreServed H.Listener.accepts H.Listener.lets_go H.Listener.Line.hands_out H.Listener.Line.refuses
         H.Listener.Line.hears H.Listener.Line.Reader.remaining H.Listener.Line.Writer.contents content
         H.Clock.now_gives)
-        task.port task.connections };
+        task.path.now task.port task.connections };
 
     fn run<S: Store, R: Read, W: Write>(
         &self,
@@ -159,6 +162,7 @@ impl<H: Host> Task<H> for Serve {
         let Ok(mut listener) = host.listen(self.port) else {
             return Err(CommandFault::Port);
         };
+        host.tell(self.port, self.path);
         let mut clock = host.clock();
         serve_end(serve_all(alloc, desk, &mut listener, &mut clock, self.connections))
     }

@@ -3,7 +3,7 @@ use Rattle.hall_desk.specs.Desk.{kept_by}
 use Rattle.hall_desk.proofs.Promises.{unique_solutions, right_answers}
 use Rattle.hall_http.specs.Answered.{answer_text, Answers, AnswersRequest}
 use Rattle.hall_http.proofs.Refusals.{unavailable_reply}
-use Rattle.hall_http.proofs.Requests.{answers_bytes, request_sane, nobodys}
+use Rattle.hall_http.proofs.Requests.{answers_bytes, request_sane, nobodys, quiet_bytes}
 use Rattle.hall_store.proofs.Knowing.{over_turn}
 use Rattle.hall_http.proofs.answer.answer_bytes.Goals as goal
 
@@ -20,6 +20,11 @@ returns-in-Ok-clause-answers g c =
 pub returns-in-Ok-clause-untouched : goal.returns-in-Ok-clause-untouched
 returns-in-Ok-clause-untouched g c = λ nothing.
     c.answer_request.ensures.untouched (nobodys c.args.bytes.now c.in-Ok.request c.in-Ok.ensures nothing)
+
+pub returns-in-Ok-clause-quiet : goal.returns-in-Ok-clause-quiet
+returns-in-Ok-clause-quiet g c =
+    quiet_bytes (g.S.ReadStore.content (kept_by c.args.desk.now)) (g.S.ReadStore.content (kept_by c.answer_request.new.desk))
+    c.args.moment c.args.bytes.now c.in-Ok.request c.in-Ok.ensures c.answer_request.ensures.quiet
 
 pub returns-in-Ok-clause-sane : goal.returns-in-Ok-clause-sane
 returns-in-Ok-clause-sane g c = λ h s sane.

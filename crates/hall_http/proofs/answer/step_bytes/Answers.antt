@@ -9,7 +9,7 @@ use Rattle.hall_desk.specs.Desk.{kept_by}
 use Rattle.hall_desk.specs.Plan.{planned_reply, planned_change}
 use Rattle.hall_desk.specs.Step.{Step}
 use Rattle.hall_desk.specs.declared.reply.Reply.{Reply}
-use Rattle.hall_desk.proofs.Stepping.{committed, planned_steps}
+use Rattle.hall_desk.proofs.Stepping.{committed, planned_steps, planned_quiet, once_after}
 use Rattle.hall_http.specs.Reply.{BytesOf}
 use Rattle.hall_http.specs.Answered.{IsStepReply}
 use Rattle.hall_store.proofs.Knowing.{kept_leads, leads_then, over_turn}
@@ -38,6 +38,27 @@ returns-clause-leads g c =
     let old = g.S.ReadStore.content (kept_by c.args.desk.now) in
     let mid = g.S.ReadStore.content (kept_by c.plan.new.self) in
     leads_then old mid (g.S.ReadStore.content (kept_by c.commit.new.self)) (kept_leads old mid c.in_ok-plan.ensures.kept) c.in_ok-_reply.ensures.leads
+
+pub returns-clause-once : goal.returns-clause-once
+returns-clause-once g c =
+    once_after (g.S.ReadStore.content (kept_by c.args.desk.now)) (g.S.ReadStore.content (kept_by c.plan.new.self))
+    (g.S.ReadStore.content (kept_by c.commit.new.self)) c.in_ok-plan.ensures.kept c.in_ok-_reply.ensures.once
+
+pub returns-clause-quiet : goal.returns-clause-quiet
+returns-clause-quiet g c =
+    let planned = c.in_ok-plan.ensures in
+    let made = c.in_ok-_reply.ensures in
+    planned_quiet g.S.ReadStore.content (g.S.ReadStore.content (kept_by c.args.desk.now)) (kept_by c.plan.new.self)
+    (kept_by c.commit.new.self) c.in_ok-plan.plan planned.kept (λ none. (made.nothing none).1) StoreFault c.args.moment
+    c.args.request.now planned.planned made.leads
+
+pub returns-in_err-_reply-clause-quiet : goal.returns-in_err-_reply-clause-quiet
+returns-in_err-_reply-clause-quiet g c =
+    let planned = c.in_ok-plan.ensures in
+    let made = c.in_err-_reply.ensures in
+    planned_quiet g.S.ReadStore.content (g.S.ReadStore.content (kept_by c.args.desk.now)) (kept_by c.plan.new.self)
+    (kept_by c.commit.new.self) c.in_ok-plan.plan planned.kept (λ none. (made.nothing none).1) StoreFault c.args.moment
+    c.args.request.now planned.planned made.leads
 
 on_err : {T E P : Type 0} (r : Result T E) → P → OnErr r P
 on_err (Ok x) holds = tt

@@ -12,10 +12,9 @@ returns-in_default-clause-right g c = λ h s sane. right_answers (g.S.ReadStore.
 pub returns-clause-line : goal.returns-clause-line
 returns-clause-line g c =
     line_served g.L.Line.hands_out g.L.Line.refuses g.L.Line.hears g.L.Reader.Read.remaining g.L.Writer.Write.contents
-    g.S.ReadStore.content g.C.Clock.now_gives kept_by c.args.line.now c.set_up.new.self c.end_writing.new.self
-    c.args.desk.now c.serve-ended.new.desk c.args.clock.now c.serve-ended.new.clock c.in-Ok.reader c.in-Ok.writer
-    c.new-reader.result c.serve-ended.new.reader c.new-writer.result c.serve-ended.new.writer
-    c.serve-ended.result c.in-Ok.ensures.handed c.new-reader.ensures.device c.new-reader.ensures.unasked
-    c.new-reader.ensures.none c.new-writer.ensures.device c.new-writer.ensures.none c.serve-ended.ensures.served
-    c.serve-ended.ensures.desk c.serve-ended.ensures.clock c.serve-ended.ensures.reader c.serve-ended.ensures.writer
-    c.new-writer.ensures.unasked c.end_writing.ensures
+    g.S.ReadStore.content g.C.Clock.now_gives c.args.line.now c.set_up.new.self c.end_writing.new.self
+    (kept_by c.args.desk.now) (kept_by c.serve_with-ended.new.desk) c.args.clock.now c.serve_with-ended.new.clock c.in-Ok.reader c.in-Ok.writer
+    c.new-reader.result c.serve_with-ended.new.reader c.new-writer.result c.serve_with-ended.new.writer
+    c.serve_with-ended.result c.in-Ok.ensures.handed c.new-reader.ensures.device c.new-reader.ensures.unasked
+    c.new-reader.ensures.none c.new-writer.ensures.device c.new-writer.ensures.none c.serve_with-ended.ensures.served
+    c.end_writing.ensures

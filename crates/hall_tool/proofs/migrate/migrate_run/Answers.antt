@@ -1,9 +1,22 @@
-use Rattle.std.proofs.Common.{rules}
+use Rattle.std.proofs.Common.{rules, refl}
+use Rattle.sqlite.specs.Held.{state}
+use Rattle.hall_sql.proofs.TransactionLemmas.{rests_itself}
 use Rattle.hall_tool.proofs.migrate.migrate_run.Goals as goal
+
+pub returns-in_err-line : goal.returns-in_err-line
+returns-in_err-line g c = record {
+  rested = rests_itself (state g.S.Store c.args.source.now) c.in_old_hall.ensures;
+  line = search rules;
+  same = search rules;
+  device = search rules;
+  part = search rules;
+  memory = λ _. (rests_itself (state g.T.Store c.args.target.now) c.in_hall.ensures, refl);
+  store = search rules;
+}
 
 pub returns-in_err-write_all-in-Ok : goal.returns-in_err-write_all-in-Ok
 returns-in_err-write_all-in-Ok g c = record {
-  kept = c.in-Ok.ensures.source;
+  rested = c.in-Ok.ensures.source;
   line = search rules;
   same = search rules;
   device = search rules;

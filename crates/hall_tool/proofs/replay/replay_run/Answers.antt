@@ -21,9 +21,10 @@ returns-in-Ok-eq0-clause-run g c =
           c.args.writer.now c.seed_run.new.writer ended) zero
           (record {
             leads = seeded.leads;
+            once = seeded.once;
             line = seeded.line;
             same = seeded.same;
-            kept = seeded.kept;
+            left = seeded.left;
             device = seeded.device;
             part = seeded.part;
             memory = seeded.memory;
@@ -47,9 +48,10 @@ returns-in_default-2-clause-run g c =
     inl (
       record {
         leads = seeded.leads;
+        once = seeded.once;
         line = seeded.line;
         same = seeded.same;
-        kept = seeded.kept;
+        left = seeded.left;
         device = seeded.device;
         part = seeded.part;
         memory = seeded.memory;

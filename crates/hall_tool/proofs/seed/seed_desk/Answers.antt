@@ -6,3 +6,4 @@ pub returns-in-Ok-try_seed-clause-seeded : goal.returns-in-Ok-try_seed-clause-se
 returns-in-Ok-try_seed-clause-seeded g c =
     seeded_is c.args.list.now (g.S.ReadStore.content (kept_by c.args.desk.now)) (g.S.ReadStore.content (kept_by c.try_seed.new.self)) c.in-Ok-try_seed.reply _
     c.seeded_by.ensures (_, c.in-Ok.ensures, c.in-Ok-try_seed.ensures.seeds)
+    c.in-Ok-try_seed.ensures.answered c.in-Ok-try_seed.ensures.quiet

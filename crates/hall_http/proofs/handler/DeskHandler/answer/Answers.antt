@@ -1,4 +1,4 @@
-use Rattle.std.proofs.Common.{refl, inl}
+use Rattle.std.proofs.Common.{refl, inl, arith}
 use Rattle.hall_store.proofs.Knowing.{leads_same}
 use Rattle.hall_desk.specs.Desk.{kept_by}
 use Rattle.hall_http.proofs.Refusals.{unavailable_reply}
@@ -9,11 +9,13 @@ pub returns-in-Some : goal.returns-in-Some
 returns-in-Some g c =
     rw c.in-Some.is
     (answered_at (λ desk. g.S.ReadStore.content (kept_by desk)) _ _ _ _ _ c.answer_bytes.ensures.leads
-    c.answer_bytes.ensures.answers c.answer_bytes.ensures.untouched)
+    c.answer_bytes.ensures.once c.answer_bytes.ensures.quiet c.answer_bytes.ensures.answers c.answer_bytes.ensures.untouched)
 
 pub returns-in-None : goal.returns-in-None
 returns-in-None g c = rw c.in-None.is (record {
   leads = leads_same _;
+  once = omega arith;
+  quiet = λ t asked at. absurd cc;
   answers = λ h. inl ((λ world. (unavailable_reply, refl)), λ s. refl);
   untouched = λ quiet. refl;
 })

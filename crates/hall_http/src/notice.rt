@@ -1,0 +1,27 @@
+//! What is told as a hall begins to be served.
+ghost use Rattle.std.specs.Prelude.{◌≡◌, ◌⊎◌, IfOk, string_bytes};
+ghost use Rattle.std.specs.Io.KnownBytes.{Appends};
+ghost use Rattle.hall_http.specs.Device.{WritesPart};
+ghost use Rattle.hall_http.specs.Notice.{IsNotified, notice_of};
+
+use crate::device::write_all;
+use hall_grid::Counted;
+use std::alloc::{AllocError, Global};
+use std::io::Write;
+
+/// Tells on which port of 127.0.0.1 the hall in the file at the path is served, by one line, or as much of it as is
+/// taken. For want of memory nothing is told.
+pub fn notify<E: Write>(alloc: Global, port: u64, path: &str, error: &mut Counted<E>)
+    ensures { IsNotified E.contents port path.now error.old error.new }
+{
+    if let Ok(line) = notice_of(alloc, port, path) {
+        let _written = write_all(error, line.as_str().as_bytes());
+    }
+}
+
+/// The line.
+fn notice_of(alloc: Global, port: u64, path: &str) -> Result<String, AllocError>
+    ensures { IfOk result (λ line. string_bytes line ≡ notice_of port path.now) }
+{
+    format!(in alloc; "hall: serving 127.0.0.1:{port} from {path}\n")
+}
