@@ -106,13 +106,15 @@ class Plain(http.server.BaseHTTPRequestHandler):
         self.conn.execute("SELECT * FROM rounds WHERE id = ?", (round,)).fetchone()
         place = self.conn.execute("SELECT author, label FROM round_puzzles WHERE round = ? AND number = ?", (round, number)).fetchone()
         key = (name, round, int(number), token)
-        self.conn.execute("SELECT * FROM answers WHERE entrant = ? AND round = ? AND number = ? AND token = ?", key).fetchone()
+        stored = self.conn.execute("SELECT * FROM answers WHERE entrant = ? AND round = ? AND number = ? AND token = ?", key).fetchone()
         count = self.conn.execute("SELECT n FROM answers WHERE entrant = ? AND round = ? AND number = ?", key[:3]).fetchall()
         solution = self.conn.execute("SELECT solution FROM puzzles WHERE author = ? AND label = ?", place).fetchone()[0]
         verdict = 0 if answer == solution else 20
-        self.conn.execute("INSERT INTO answers VALUES (?, ?, ?, ?, ?, ?, ?, ?)", (*key, len(count) + 1, int(time.time()), answer, verdict))
-        self.conn.commit()
-        self.reply({"received": len(count) + 1, "verdict": "right" if verdict == 0 else "wrong"})
+        received = stored[4] if stored else len(count) + 1
+        if not stored:
+            self.conn.execute("INSERT INTO answers VALUES (?, ?, ?, ?, ?, ?, ?, ?)", (*key, received, int(time.time()), answer, verdict))
+            self.conn.commit()
+        self.reply({"received": received, "verdict": "right" if verdict == 0 else "wrong"})
 
 
 def free_port():

@@ -14,6 +14,17 @@ def record(moment, asked):
     return f"@{moment} {len(asked)}\n{asked}"
 
 
+def records(text):
+    """The records of a replay's input, one by one."""
+    found = []
+    while text:
+        line, rest = text.split(b"\n", 1)
+        size = int(re.fullmatch(rb"@\d+ (\d+)", line)[1])
+        found.append(line + b"\n" + rest[:size])
+        text = rest[size:]
+    return found
+
+
 def replies(written):
     """The replies that were written one after another, each whole; the last may be cut short."""
     found, at = [], 0

@@ -1,10 +1,11 @@
 #!/usr/bin/env python3
-"""Writes the tables of docs/HTTP.md, the routes and all codes, each with the sentence that stands beside it in the sources; and that of
-docs/RUNNING.md, what is told of a fault.
+"""Writes the tables of docs/HTTP.md, the routes and all codes, each with the sentence that stands beside it in the sources; that of docs/RUNNING.md,
+what is told of a fault; and the index by code of examples/README.md.
 
     python3 tools/codes.py [--check]
 
-With --check it writes nothing, and ends with 1 where a table isn't what the sources say, or where HTTP.md shows a reply that stands in no example.
+With --check it writes nothing, and ends with 1 where a table isn't what the sources say, where HTTP.md shows a reply that stands in no example, or where
+no example shows a code.
 """
 import re
 import sys
@@ -13,9 +14,11 @@ from sources import definitions, paths, read, sentence, variants, write_or_compa
 
 HTTP = "docs/HTTP.md"
 RUNNING = "docs/RUNNING.md"
+EXAMPLES = "examples/README.md"
 ACTIONS = "crates/hall_policy/specs/Actions.antt"
 RULES = "crates/hall_policy/specs/Rules.antt"
 
+FAULTS = [f"F{it}" for it in range(1, 9)] + [f"E{it}" for it in range(2, 9)]
 # A sentence that is so many bytes longer than another one says more.
 MORE = 5
 
@@ -124,6 +127,43 @@ def advice():
     yield from ([told] for told in re.findall(r'= told!\(\s*"(.*?)"\s*\);', text))
 
 
+def of_denial(number):
+    return rf'denied\\?"?:? ?{number}\b'
+
+
+def of_name(code):
+    return rf"wrong (?:\w\d )*{code}\b"
+
+
+def of_fault(code):
+    return rf"\b{code}\b"
+
+
+def patterns():
+    """Each code of a denial, of a fault and of a broken rule, and what an example that shows it has in a line."""
+    yield from ((f"denied {it}", of_denial(it)) for it in numbers().values())
+    yield from ((it, of_fault(it)) for it in FAULTS)
+    yield from ((code, of_name(code)) for code in (it[0].strip("`") for it in names()))
+
+
+def examples_of(pattern):
+    """The lines of examples/ that have it: path and number. The tables of codes come first, and then the others; pages of help and comments are none."""
+    files = [it for it in paths("examples/*/*.*") if it.endswith((".out", ".rows", ".sh", ".toml")) and not it.startswith("examples/help/")]
+    for path in sorted(files, key=lambda it: (not it.endswith("codes.rows"), not it.endswith(".rows"), it)):
+        for number, line in enumerate(read(path).split("\n"), 1):
+            if not line.startswith("#") and re.search(pattern, line):
+                yield path, number
+
+
+def index():
+    """Each code, and the first line that shows it."""
+    for code, pattern in patterns():
+        for path, number in examples_of(pattern):
+            name = path.removeprefix("examples/")
+            yield [f"`{code}`", f"[{name}:{number}]({name}#L{number})"]
+            break
+
+
 def tables():
     """The generated tables of each page, by the names of their markers."""
     return {
@@ -137,6 +177,7 @@ def tables():
             "unavailable": table(["Status", "Body", "Sentence"], unavailable()),
         },
         RUNNING: {"advice": table(["Line"], advice())},
+        EXAMPLES: {"index": table(["Code", "Shown in"], index())},
     }
 
 
@@ -164,10 +205,11 @@ def unknown_replies():
 def check(is_check):
     """Writes the pages, or compares them; what is wrong, a line each."""
     written = [line for path, of in tables().items() for line in write_or_compare(path, page(path, of), is_check)]
-    return [*written, *unknown_replies()]
+    unshown = [f"{code} stands in no example" for code, pattern in patterns() if not any(examples_of(pattern))]
+    return [*written, *unknown_replies(), *unshown]
 
 
 if __name__ == "__main__":
     wrong = check("--check" in sys.argv)
-    print("\n".join(wrong) if wrong else f"{HTTP}, {RUNNING}: each code has the sentence of the sources")
+    print("\n".join(wrong) if wrong else f"{HTTP}, {RUNNING}, {EXAMPLES}: each code has the sentence of the sources, and an example")
     sys.exit(1 if wrong else 0)

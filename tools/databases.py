@@ -19,28 +19,12 @@ import tomllib
 sys.path[:0] = [os.path.dirname(os.path.realpath(__file__)), f"{os.path.dirname(os.path.dirname(os.path.realpath(__file__)))}/bench"]
 import files  # noqa: E402
 import wire  # noqa: E402
+from running import connected, copied, read_off, serving, told  # noqa: E402
 
-PROGRAM = f"{files.ROOT}/crates/hall/out/hall"
 FAULT = (503, '{"fault":"hall"}')
 
 with open(f"{files.ROOT}/examples/databases/rows.toml", "rb") as table:
     ROWS = tomllib.load(table)
-
-
-def free_port():
-    with socket.socket() as it:
-        it.bind(("127.0.0.1", 0))
-        return it.getsockname()[1]
-
-
-def connected(server, port):
-    """A connection to the server; none where that ended, as where another program took the port."""
-    while server.poll() is None:
-        try:
-            return socket.create_connection(("127.0.0.1", port), timeout=60)
-        except ConnectionRefusedError:
-            time.sleep(0.003)
-    return None
 
 
 def bytes_of(requests):
@@ -52,23 +36,16 @@ def bytes_of(requests):
     return "".join(asked).encode()
 
 
-def told(reply):
-    """(status, body)"""
-    head, _, body = reply.partition(b"\r\n\r\n")
-    return int(head.split()[1]), body.decode()
-
-
 def served(path, requests, tries=5):
     """What each request is replied."""
-    port = free_port()
-    with subprocess.Popen([PROGRAM, "serve", "--db", path, "--port", str(port), "--connections", "1"]) as server:
+    with serving(path, 1) as (server, port):
         client = connected(server, port)
         if client is None and tries > 1:
             return served(path, requests, tries - 1)
         with client:
             client.sendall(bytes_of(requests))
             client.shutdown(socket.SHUT_WR)
-            written = b"".join(iter(lambda: client.recv(65536), b""))
+            written = read_off(client)
         files.check("the server's status", server.wait(60), 0)
     return [told(reply) for reply in wire.replies(written)]
 
@@ -91,11 +68,7 @@ def first_files(room):
 
 def replies_after(room, scene, statement):
     """What each request of the scene is replied where the statement was run over its file."""
-    path = f"{room}/served.db"
-    for ending in ("", "-wal"):
-        if os.path.exists(path + ending):
-            os.remove(path + ending)
-    shutil.copyfile(f"{room}/{scene['name']}.db", path)
+    path = copied(f"{room}/{scene['name']}.db", f"{room}/served.db")
     changed(path, statement)
     return served(path, scene["requests"])
 

@@ -9,14 +9,15 @@ import lzma
 import os
 import re
 import shutil
-import sqlite3
+import socket
 import sys
 import tempfile
 
 sys.path[:0] = [os.path.dirname(os.path.realpath(__file__))]
 import files  # noqa: E402
-import refusals  # noqa: E402
 from files import PEOPLE, ROOT, check, hall, written  # noqa: E402
+from running import ENDINGS, bytes_of, connected, content_of, library, read_off, removed, serving  # noqa: E402
+from wire import records, replies  # noqa: E402
 
 # The tables of the first version: the seven without the last.
 FIRST_TABLES = files.TABLES[: files.TABLES.index("CREATE TABLE testers")]
@@ -30,45 +31,16 @@ WRITTEN_ROWS = 5 + 1 + 2 + 2 + 3 + 1
 
 def kept(room, name):
     """The file of examples/first_version, as the program of that version left it."""
-    for ending in ("", "-wal"):
+    for ending in ENDINGS:
         with lzma.open(f"{ROOT}/examples/first_version/{name}.db{ending}.xz") as packed, open(f"{room}/{name}.db{ending}", "wb") as it:
             shutil.copyfileobj(packed, it)
     return f"{room}/{name}.db"
 
 
-def bytes_of(path):
-    """The bytes of a database: of its file and of its log."""
-    found = []
-    for ending in ("", "-wal"):
-        if os.path.exists(path + ending):
-            with open(path + ending, "rb") as it:
-                found.append(it.read())
-    return found
-
-
 def rows_of(path, names):
-    """The rows of each table, in the order of their columns; of a copy, since sqlite3 changes the file as it closes it."""
-    with tempfile.TemporaryDirectory(prefix="hall-rows-") as room:
-        for ending in ("", "-wal"):
-            if os.path.exists(path + ending):
-                shutil.copyfile(path + ending, f"{room}/copy.db{ending}")
-        conn = sqlite3.connect(f"{room}/copy.db")
-        found = {name: sorted(conn.execute(f"SELECT * FROM {name}").fetchall()) for name in names}
-        conn.close()
-    return found
-
-
-def content_of(path):
-    """The rows of each table that is there; of no file none."""
-    with tempfile.TemporaryDirectory(prefix="hall-rows-") as room:
-        for ending in ("", "-wal"):
-            if os.path.exists(path + ending):
-                shutil.copyfile(path + ending, f"{room}/copy.db{ending}")
-        conn = sqlite3.connect(f"{room}/copy.db")
-        names = [name for (name,) in conn.execute("SELECT name FROM sqlite_master WHERE type = 'table'")]
-        found = {name: sorted(conn.execute(f"SELECT * FROM {name}").fetchall()) for name in names}
-        conn.close()
-    return found
+    """The rows of these tables, in the order of their columns."""
+    found = content_of(path)
+    return {name: found[name] for name in names}
 
 
 def migrate(source, target):
@@ -112,6 +84,34 @@ def files_of_the_first_program(room):
     check("the bytes of the files of the first version", [bytes_of(people), bytes_of(round_file)], left)
 
 
+def served_at(room, path, asked):
+    """What each record's request is replied, where the file is served and the time of day is the record's moment."""
+    clock, got = f"{room}/clock", []
+    env = {"LD_PRELOAD": library(room, "clock"), "CLOCK": clock}
+    with serving(path, len(asked), env=env) as (server, port):
+        for record in asked:
+            line, request = record.split(b"\n", 1)
+            with open(f"{clock}.next", "w", encoding="ascii") as it:
+                it.write(line[1:].split(b" ")[0].decode())
+            os.replace(f"{clock}.next", clock)
+            with connected(server, port) as client:
+                client.sendall(request)
+                client.shutdown(socket.SHUT_WR)
+                got.append(read_off(client))
+        check("the server's status", server.wait(60), 0)
+    return got
+
+
+def a_round_on_a_migrated_file(room):
+    """The example of a whole round, over a hall whose people came from a file of the first version: each reply is that of a replay."""
+    with open(f"{ROOT}/examples/rounds/round.txt", "rb") as asked, open(f"{ROOT}/examples/rounds/round.out", "rb") as wanted:
+        asked, wanted = records(asked.read()), replies(wanted.read())
+    check("the people's rows", migrate(kept(room, "people"), f"{room}/played.db"), (b"migrated 6\n", 0, False))
+    got = served_at(room, f"{room}/played.db", asked)
+    for number, (one, other) in enumerate(zip(got, wanted, strict=True), 1):
+        check(f"request {number} of the round", one, other)
+
+
 def files_of_sqlite(room):
     source = written(f"{room}/theirs.db", FIRST_TABLES, FIRST_ROWS)
     is_migrated("sqlite3's rows", source, f"{room}/from_theirs.db", WRITTEN_ROWS)
@@ -137,10 +137,8 @@ def files_of_sqlite(room):
         check(name, migrate(bad, f"{room}/from_bad.db"), (b"", 3, True))
         check(f"{name}, the source", content_of(bad), before)
         check(f"{name}, the target", rows_of(f"{room}/from_bad.db", [*NAMES, "testers"]), {it: [] for it in [*NAMES, "testers"]})
-        for ending in ("", "-wal"):
-            for path in (f"{room}/bad.db", f"{room}/from_bad.db"):
-                if os.path.exists(path + ending):
-                    os.remove(path + ending)
+        removed(bad)
+        removed(f"{room}/from_bad.db")
 
 
 def files_that_are_none(room):
@@ -152,36 +150,9 @@ def files_that_are_none(room):
     check("the same file twice", got[1], 3)
 
 
-def refused_allocations(room):
-    """Refuses the first 200 allocations of a migration in turn, and then each 41st: the target then holds nothing or all, and all where that was told; and the
-    source stays as it was."""
-    program = refusals.Program(f"{ROOT}/crates/hall/out/hall", room)
-    source, target = kept(room, "people"), f"{room}/refused.db"
-    before, whole = bytes_of(source), rows_of(source, NAMES)
-    none, wrong, found = {name: [] for name in NAMES}, [], {"none": 0, "all": 0}
-    for number in [*range(1, 200), *range(200, 1_000_000, 41)]:
-        for ending in ("", "-wal"):
-            if os.path.exists(target + ending):
-                os.remove(target + ending)
-        (said, status), was_refused = program.run(["migrate", "--from", source, "--to", target], b"", number)
-        if not was_refused:
-            break
-        try:
-            left = rows_of(target, NAMES)
-        except sqlite3.OperationalError:
-            # no file, or one without tables
-            left = none
-        found["all" if left == whole else "none"] += 1
-        is_told = (said, status) == (b"migrated 6\n", 0)
-        if left not in (none, whole) or is_told and left != whole or not is_told and (said, status) != (b"", 3) or bytes_of(source) != before:
-            wrong.append((number, said, status, left))
-    check(f"refused allocations of a migration, {found}", wrong[:2], [])
-    check("refused allocations that left all rows, and none", [found["all"] > 0, found["none"] > 0], [True, True])
-
-
 def main():
     with tempfile.TemporaryDirectory(prefix="hall-migration-") as room:
-        for of in (files_of_the_first_program, files_of_sqlite, files_that_are_none, refused_allocations):
+        for of in (files_of_the_first_program, a_round_on_a_migrated_file, files_of_sqlite, files_that_are_none):
             of(room)
     print(f"migrations: {files.passed} as wanted, {files.failed} not")
     sys.exit(1 if files.failed else 0)

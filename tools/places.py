@@ -12,6 +12,7 @@ from sources import DEFINITION, PLAIN, ROOT, crate_items, exported, paths, read
 ASKED = {
     "examples/lines/texts.rows": ["hall_grid::parse_puzzle"],
     "examples/lines/judge.rows": ["hall_tool::judge_run", "hall_desk::judge"],
+    "examples/lines/codes.rows": ["hall_desk::judge", "hall_grid::parse_puzzle"],
     "examples/lines/forms.rows": ["hall_grid::parse_answer", "hall_desk::judge"],
     "examples/lines/sudoku.rows": ["hall_sudoku::broken"],
     "examples/lines/slither.rows": ["hall_slither::broken"],
@@ -33,8 +34,8 @@ ASKED = {
     "examples/requests/opening.rows": ["hall_http::answer_bytes"],
     "examples/requests/puzzles.rows": ["hall_http::answer_bytes"],
     "examples/requests/texts.rows": ["hall_grid::write_puzzle", "hall_grid::parse_puzzle"],
-    "examples/heads.txt": ["hall_http::cut_request"],
-    "examples/round.txt": [
+    "examples/requests/heads.txt": ["hall_http::cut_request"],
+    "examples/rounds/round.txt": [
         "hall_desk::Desk::step", "hall_score::table_text", "hall_http::answer_bytes", "hall_desk::law_accepted_answers", "hall_desk::law_accepted_protests",
         "hall_desk::law_rulings", "hall_desk::law_tokens",
     ],
@@ -51,11 +52,17 @@ ASKED = {
     "examples/secrecy/sealed_no_more.rows": ["hall_desk::law_sealed"],
     "examples/databases/rows.toml": ["hall_sql::SqlStore::protests_in", "hall_sql::SqlStore::feed_protests", "hall_tool::task_at"],
     "examples/databases/shapes.toml": ["hall_sql::adopt", "hall_sql::SqlStore::over", "hall_sql::open_at"],
-    "examples/round.sh": ["hall_http::serve_all", "hall_tool::run_command"],
+    "examples/rounds/round.sh": ["hall_http::serve_all", "hall_tool::run_command"],
+    "tools/crowd.py": ["hall_http::serve_all", "hall_http::Crowd::new"],
     "tools/files.py": ["hall_sql::open_at", "hall_sql::open_there", "hall_tool::init_at", "hall_tool::task_at", "hall_tool::run_words"],
     "tools/databases.py": ["hall_http::serve", "hall_tool::task_at"],
     "tools/puzzles.py": ["hall_solve::search", "hall_desk::certify"],
-    "tools/refusals.py": ["hall_tool::run_command"],
+    "examples/requests/worked.rows": ["hall_http::answer_bytes", "hall_desk::Desk::step"],
+    "tools/fronts.py": ["hall_sheet::read_people", "hall_sheet::read_round"],
+    "tools/streams.py": ["hall_tool::run_words", "hall_http::serve", "hall_http::serve_all"],
+    "tools/stops.py": ["hall_tool::run_command", "hall_http::serve"],
+    "tools/fuzz.py": ["hall_http::answer_bytes", "hall_http::serve"],
+    "tools/refusals.py": ["hall_tool::run_command", "hall_http::answer_bytes"],
     "tools/secrecy.py": ["hall_desk::law_others", "hall_desk::law_before_start", "hall_desk::law_sealed", "hall_http::law_bytes"],
 }
 # The codes of forms and texts: what defines them, and the function whose contract says so.
@@ -70,7 +77,6 @@ FORMS = {
 }
 
 
-FAULTS = [f"F{it}" for it in range(1, 9)] + [f"E{it}" for it in range(2, 9)]
 # A function that more tests than these pass through is a part of their setting.
 FEW = 6
 
@@ -228,22 +234,8 @@ def asked():
 
 
 def examples_of(pattern):
-    """The files of examples/ in which a reply or a line has that; pages of help are none."""
-    for path in paths("examples/**/*.*"):
-        if path.endswith((".out", ".rows", ".sh", ".toml")) and not path.endswith("help.out") and re.search(pattern, read(path), re.M):
-            yield link(path)
-
-
-def of_denial(number):
-    return rf'denied\\?"?:? ?{number}\b'
-
-
-def of_name(code):
-    return rf"wrong (?:\w\d )*{code}\b"
-
-
-def of_fault(code):
-    return rf"\b{code}\b"
+    """The files of examples/ in which a reply or a line has that, as links."""
+    yield from (link(path) for path in dict.fromkeys(path for path, _ in codes.examples_of(pattern)))
 
 
 def row(*cells):
@@ -262,7 +254,7 @@ def rules(all_changes):
     for name, number in codes.numbers().items():
         cited = [it for it in re.findall(r"\b[A-Z]\w+", sentences[name])]
         fields = {it for it in re.findall(r"facts\.(\w+)", facts.get(name, ""))} - {"round", "caller"}
-        examples = ", ".join(examples_of(of_denial(number)))
+        examples = ", ".join(examples_of(codes.of_denial(number)))
         yield row(f"`{number}` {name}", ", ".join(f"`{it}`" for it in cited), examples, about(all_changes, {name, *cited, *fields}))
 
 
@@ -271,7 +263,7 @@ def names_of_rules(all_changes):
     yield from (row("Name", "Definition", "Stands in", "Wrong bodies"), "|---|---|---|---|")
     for name, _, _, defined in codes.names():
         code, of = name.strip("`"), defined.strip("`")
-        yield row(name, defined, ", ".join(examples_of(of_name(code))), about(all_changes, {code, of}))
+        yield row(name, defined, ", ".join(examples_of(codes.of_name(code))), about(all_changes, {code, of}))
 
 
 def forms():
@@ -281,8 +273,8 @@ def forms():
         crate, _, name = function.partition("::")
         yield row(code, definition(*defined), f"{promise(crate, name)} of {crate}")
     yield from ("", row("Code", "Stands in"), "|---|---|")
-    for code in FAULTS:
-        yield row(f"`{code}`", ", ".join(examples_of(of_fault(code))))
+    for code in codes.FAULTS:
+        yield row(f"`{code}`", ", ".join(examples_of(codes.of_fault(code))))
 
 
 def promise(crate, name):
@@ -379,9 +371,7 @@ def wrong_rows(libraries, shown):
     for path in paths("examples/*/*.rows") + paths("examples/*/*.toml"):
         if path not in ASKED and not path.startswith(("examples/sheets/", "examples/requests/")):
             yield f"tools/places.py doesn't say what {path} is about"
-    patterns = {f"denied {it}": of_denial(it) for it in codes.numbers().values()} | {it: of_fault(it) for it in FAULTS}
-    patterns |= {it[0].strip("`"): of_name(it[0].strip("`")) for it in codes.names()}
-    yield from (f"{code} stands in no example" for code, pattern in patterns.items() if not any(examples_of(pattern)))
+    yield from (f"{path} stands in no folder of examples/, so ./check doesn't run it" for path in paths("examples/*.txt"))
     for path, names in ASKED.items():
         yield from ([] if paths(path) else [f"tools/places.py names {path}, which isn't there"])
         yield from (f"tools/places.py names {it}, which no crate hands on" for it in names if it not in known)

@@ -1,6 +1,6 @@
 #!/usr/bin/env python3
 """Writes the pages of promises from the contracts and definitions of the crates: docs/promises/CRATE.md and docs/MAP.md, and by tools/codes.py the
-tables of docs/HTTP.md and docs/RUNNING.md.
+tables of docs/HTTP.md, docs/RUNNING.md and examples/README.md.
 
     python3 tools/promises.py [--check]
 
@@ -152,6 +152,9 @@ def wrong_links(page_path, text):
         full = os.path.normpath(os.path.join(os.path.dirname(page_path), path)) if path else page_path
         if not os.path.exists(f"{ROOT}/{full}"):
             yield f"{page_path} leads to {target}, which isn't there"
+        elif re.fullmatch(r"L\d+", anchor) and not full.endswith(".md"):
+            if int(anchor[1:]) > read(full).count("\n"):
+                yield f"{page_path} leads to {target}, where no line is"
         elif anchor and anchor not in anchors(read(full)):
             yield f"{page_path} leads to {target}, where no heading has this name"
 

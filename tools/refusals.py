@@ -1,186 +1,242 @@
 #!/usr/bin/env python3
-"""Refuses memory to the built program, one allocation at a time, by a library (refuse.c) that is loaded before the C library.
+"""Refuses memory to the built program, one request for it at a time, by a library (refuse.c) before the C library.
 
-    python3 tools/refusals.py [--program PATH] [--examples [NAME]]
+    python3 tools/refusals.py [--program PATH] [--all] [--every N] [--examples [FOLDER/NAME]]
 
-By itself it replays one round, of all nine commands that write and the reads that tell the world, and refuses each STEP-th of its allocations. Each reply is
-then the one with ample memory. But one may be 503, and the replies after it are those of a replay without this request: so the world was left as it was. Or the
-program ends with status 3, `fault` and the replies before, each whole.
+Asked so are the rows of judge and solve, lists that are imported, tables, a migration, a served file, and one replay
+in which each of the seventeen actions is allowed, denied and asked again (examples/requests/worked.rows). The gate
+refuses one request for memory in so many (STEPS), with --all each is refused.
 
-With --examples it refuses of each example the first 2,000 allocations, and then each 97th.
+- A command writes what it writes with ample memory. Or it writes nothing and ends with status 3 and `fault`. Its file
+  then holds what it held before or after the command, and given again the command does what is left of it.
+- A reply is the one with ample memory. But one may be 503, or a connection may be hung up before its first reply, and
+  the replies after it are those of a run without these requests: so the world was left as it was. Or a replay ends with
+  status 3, `fault` and the replies before, each whole.
+
+With --examples it refuses of each example, or of FOLDER/NAME, the first 2,000 allocations, and then each 97th.
 """
 import argparse
 import os
-import re
-import subprocess
 import sys
 import tempfile
-import time
+from pathlib import Path
 
-HERE = os.path.dirname(os.path.realpath(__file__))
-ROOT = os.path.dirname(HERE)
-sys.path.insert(0, f"{ROOT}/bench")
-from wire import record, replies, request  # noqa: E402
+sys.path[:0] = [os.path.dirname(os.path.realpath(__file__))]
+import tables  # noqa: E402
+from commands import ask_commands, commands  # noqa: E402
+from running import PATIENCE, PEOPLE, PROGRAM, ROOT, Beside, Counts  # noqa: E402
+from running import connected, content_of, copied, read_off, serving  # noqa: E402
+from wire import records, replies, request  # noqa: E402
 
-UNAVAILABLE = b'HTTP/1.1 503 Service Unavailable\r\nContent-Type: application/json\r\nContent-Length: 16\r\n\r\n{"fault":"hall"}'
-WORDS = ["replay", "--people", "examples/people.csv"]
-STEP = 1
-
-SUDOKU = "sudoku/4/4/123434122143432g"
-SHEET = """version = 1
-title = "Morning"
-start = "2026-05-02T09:00:00Z"
-minutes = 60
-protest_minutes = 30
-mode = "instant"
-penalty = 5
-bonus = 2
-puzzle = [{author = "bob", label = "p1", points = 40}]
-"""
-
-# What is asked of the hall, and what it replies: the nine commands that write, and reads of the world that they leave.
-ROUND = [
-    (0, "dora-key", "POST", "/people", "name,key,roles\nhal,hal-key-1,entrant\nivy,ivy-key-1,entrant\n", '{"added":2}'),
-    (0, "bob-key-1", "PUT", "/puzzles/bob/p1", f'{{"text":"{SUDOKU}"}}', f'{{"state":"new","text":"{SUDOKU}"}}'),
-    (0, "bob-key-1", "POST", "/puzzles/bob/p1/certificate", '{"budget":200000}', '{"state":"one"}'),
-    (0, "dora-key", "PUT", "/rounds/r1", SHEET, '{"round":"r1"}'),
-    (0, "dora-key", "POST", "/rounds/r1/release", "", '{"released":"r1"}'),
-    (1777712400, "eve-key-1", "PUT", "/rounds/r1/answers/1/a", '{"answer":"1234341221434312"}', '{"received":1,"verdict":"wrong U2 U4"}'),
-    (1777712460, "eve-key-1", "PUT", "/rounds/r1/answers/1/b", '{"answer":"1234341221434321"}', '{"received":2,"verdict":"right"}'),
-    (1777712460, "hal-key-1", "PUT", "/rounds/r1/answers/1/a", '{"answer":"1234341221434321"}', '{"received":1,"verdict":"right"}'),
-    (1777716000, "eve-key-1", "PUT", "/rounds/r1/protests/w", '{"number":1,"text":"unclear"}', '{"protest":"w"}'),
-    (1777716000, "rex-key-1", "GET", "/rounds/r1/protests", "",
-     '{"protests":[{"entrant":"eve","number":1,"points":0,"ruling":"open","text":"unclear","token":"w"}]}'),
-    (1777717800, "rex-key-1", "PUT", "/rounds/r1/rulings/eve/w", '{"points":3,"upheld":true}', '{"points":3,"ruled":"upheld"}'),
-    (1777717800, "dora-key", "POST", "/rounds/r1/publish", "", '{"published":"r1"}'),
-    (1777717800, "eve-key-1", "GET", "/rounds/r1/table", "", "   1 hal                           158\n   2 eve                           156\n"),
-]
-
-
-def asked_of(round_):
-    return [record(moment, request(key, method, path, body)).encode() for moment, key, method, path, body, _ in round_]
-
-
-def records(text):
-    """The records of a replay's input."""
-    found = []
-    while text:
-        line, rest = text.split(b"\n", 1)
-        size = int(re.fullmatch(rb"@\d+ (\d+)", line)[1])
-        found.append(line + b"\n" + rest[:size])
-        text = rest[size:]
-    return found
-
-
-class Program:
-    def __init__(self, path, room):
-        self.path, self.library, self.mark = path, f"{room}/refuse.so", f"{room}/mark"
-        subprocess.run(["cc", "-O1", "-shared", "-fPIC", "-o", self.library, f"{HERE}/refuse.c", "-ldl"], check=True)
-
-    def run(self, words, text, refused=0):
-        """The output and status, and whether an allocation was refused."""
-        if os.path.exists(self.mark):
-            os.remove(self.mark)
-        env = {"LD_PRELOAD": self.library, "REFUSE": str(refused), "REFUSE_MARK": self.mark}
-        ran = subprocess.run([self.path, *words], input=text, env=env, cwd=ROOT, capture_output=True, check=False, timeout=120)
-        return (ran.stdout, ran.returncode), os.path.exists(self.mark)
+UNAVAILABLE = tables.reply(503, b'{"fault":"hall"}')
+REPLAY = ["replay", "--people", PEOPLE]
+# More than any run asks for.
+MOST = 10_000_000
 
 
 class Replay:
-    """A run of the program, and what it may write where an allocation is refused."""
+    """A run of the program without files, and what it may write where memory is refused."""
 
     def __init__(self, program, words, text):
         self.program, self.words, self.text = program, words, text
-        self.usual, _ = program.run(words, text)
+        self.usual = program.run(words, text)
         self.asked = records(text) if words[0] == "replay" else []
         # the replies before a fault: all of them, or the first ones
         written = replies(self.usual[0]) if self.asked else []
         self.first = {b"".join(written[:count]) for count in range(len(written) + 1)} | {b""}
-        self.kept = {}
-        self.counts = {"the usual": 0, "503": 0, "fault": 0, "wrong": 0}
-        self.dropped = set()
-        self.wrong = []
+        self.kept, self.dropped = {}, set()
 
     def without(self, place):
         """The output of a replay without the record at this place, with 503 in its place."""
         if place not in self.kept:
-            (output, status), _ = self.program.run(self.words, b"".join(self.asked[:place] + self.asked[place + 1 :]))
-            written = replies(output)
-            self.kept[place] = b"".join(written[:place] + [UNAVAILABLE] + written[place:]), status
+            output, status = self.program.run(self.words, b"".join(self.asked[:place] + self.asked[place + 1 :]))
+            whole = replies(output)
+            self.kept[place] = b"".join(whole[:place] + [UNAVAILABLE] + whole[place:]), status
         return self.kept[place]
 
-    def kind(self, got):
+    def way(self, got):
         if got == self.usual:
-            return "the usual"
+            return "as usual"
         if got[1] == 3 and got[0] in self.first:
-            return "fault"
-        written = replies(got[0])
-        if self.asked and UNAVAILABLE in written:
-            place = written.index(UNAVAILABLE)
+            return "faults after replies" if got[0] else "faults"
+        whole = replies(got[0])
+        if self.asked and UNAVAILABLE in whole:
+            place = whole.index(UNAVAILABLE)
             if got == self.without(place):
                 self.dropped.add(place)
                 return "503"
-        return "wrong"
+        return None
 
-    def refuse(self, numbers):
-        """Refuses these allocations in turn, to the first that isn't made."""
+    def refuse(self, numbers, counts):
+        """Refuses these requests for memory in turn, to the first that isn't made."""
         for number in numbers:
-            got, was_refused = self.program.run(self.words, self.text, number)
-            if not was_refused:
+            got = self.program.run(self.words, self.text, number)
+            if not self.program.was_met():
                 break
-            kind = self.kind(got)
-            self.counts[kind] += 1
-            if kind == "wrong":
-                self.wrong.append((number, got))
+            way = self.way(got)
+            counts.add(way, self.words, self.text[:200], number, got)
 
-    def told(self):
-        return ", ".join(f"{count} {kind}" for kind, count in self.counts.items())
+    def count(self):
+        """How many requests for memory a run makes."""
+        low, high = 0, 1
+        while self.is_made(high):
+            low, high = high, 2 * high
+        while high - low > 1:
+            middle = (low + high) // 2
+            low, high = (middle, high) if self.is_made(middle) else (low, middle)
+        return low
+
+    def is_made(self, number):
+        self.program.run(self.words, self.text, number)
+        return self.program.was_met()
 
 
-def try_round(program):
-    """Whether a round's replay stands each refusal."""
-    began = time.time()
-    replay = Replay(program, WORDS, b"".join(asked_of(ROUND)))
-    bodies = [reply.partition(b"\r\n\r\n")[2].decode() for reply in replies(replay.usual[0])]
-    wanted = [want for *_, want in ROUND]
-    if bodies != wanted or replay.usual[1] != 0:
-        print(f"FAILED a round with ample memory: got {bodies}, wanted {wanted}")
-        return False
-    replay.refuse(range(1, 1_000_000, STEP))
-    # that each request was refused shows that the allocations of each were tried
-    missing = set(range(len(ROUND))) - replay.dropped
-    print(f"refused allocations: {replay.told()}, in {time.time() - began:.0f} s", *replay.wrong[:2])
-    if missing:
-        print(f"FAILED: no refusal met the requests {sorted(missing)}")
-    return not replay.wrong and not missing
+def ask_lines(program, step):
+    """The rows of judge and solve, each wanted as its table tells it."""
+    counts, place = Counts("judge and solve"), 0
+    for path in sorted(Path(ROOT, "examples/lines").glob("*.rows")):
+        # one board and fifty budgets
+        rows = tables.Table(path).rows if path.stem != "budgets" else []
+        for row in rows:
+            words, given, status, output = [*row.cells, b""][:4]
+            replay = Replay(program, words.decode().split(), given)
+            if replay.usual != (output, int(status)):
+                counts.add(None, row.place, "with ample memory", replay.usual)
+            replay.refuse(range(1 + 3 * place % step, MOST, step), counts)
+            place += 1
+    return counts.is_right()
+
+
+def ask_actions(program, step):
+    """One replay of the worked rows, each reply wanted as they tell it."""
+    counts = Counts("requests of the seventeen actions")
+    table = tables.Table(Path(ROOT, "examples/requests/worked.rows"))
+    asked = [tables.of_request(row) for row in table.before + table.rows]
+    replay = Replay(program, REPLAY, b"".join(record for _, record, _ in asked))
+    if replay.usual != (b"".join(reply for *_, reply in asked), 0):
+        counts.add(None, "with ample memory", replay.usual)
+    replay.refuse(range(1, MOST, step), counts)
+    # that each was answered 503 shows that the memory of each was refused, where none is passed over
+    missing = sorted(set(range(len(asked))) - replay.dropped)
+    if missing and step == 1:
+        counts.add(None, "no refusal met the requests", [asked[place][0].place for place in missing])
+    return counts.is_right()
+
+
+def ask_fifty_first(program, step):
+    """The answer past the fiftieth."""
+    counts = Counts("the answer past the fiftieth")
+    text = Path(ROOT, "examples/answers/fifty_answers.txt").read_bytes()
+    last = records(text)[-1]
+    replay = Replay(program, REPLAY, text)
+    first = Replay(program, REPLAY, text[: -len(last)]).count()
+    replay.refuse(range(first + 1, MOST, step), counts)
+    return counts.is_right()
+
+
+def ask_files(program, step):
+    counts = Counts("commands over files")
+    with tempfile.TemporaryDirectory(prefix="hall-refusals-") as room:
+        asked = commands(program, room)
+        ask_commands(asked, program, room, lambda place: range(1 + 3 * place % step, MOST, step), counts)
+    return counts.is_right()
+
+
+def ask_served(program, step):
+    """A file that is served to two clients, one after another."""
+    counts = Counts("a served file")
+    with tempfile.TemporaryDirectory(prefix="hall-refusals-") as room:
+        served = Served(program, room)
+        for number in range(1, MOST, step):
+            got = served.run(number)
+            if not program.was_met():
+                break
+            way = served.way(got)
+            counts.add(way, number, got)
+    return counts.is_right()
+
+
+LISTED = request("dora-key", "GET", "/puzzles")
+PUT = request("bob-key-1", "PUT", "/puzzles/bob/p1", '{"text":"sudoku/4/4/v"}')
+CERTIFY = request("bob-key-1", "POST", "/puzzles/bob/p1/certificate", '{"budget":200000}')
+CLIENTS = [[LISTED, PUT, CERTIFY, LISTED], [LISTED, request("dora-key", "GET", "/rounds")]]
+
+
+class Served:
+    """Two clients of a served file, each of whom sends its requests at once."""
+
+    def __init__(self, program, room):
+        self.program, self.path, self.kept = program, f"{room}/served.db", {}
+        program.run(["init", "--db", f"{room}/first.db", "--people", PEOPLE], b"")
+        self.first = f"{room}/first.db"
+        self.usual = self.without(frozenset())
+
+    def run(self, refused, dropped=frozenset()):
+        """The replies to each client, and the server's status."""
+        copied(self.first, self.path)
+        got = []
+        with serving(self.path, len(CLIENTS), self.program.path, self.program.env(refused)) as (server, port):
+            for place, asked in enumerate(CLIENTS):
+                client = connected(server, port)
+                if client is None:
+                    break
+                with client:
+                    client.sendall("".join(it for n, it in enumerate(asked) if (place, n) not in dropped).encode())
+                    client.shutdown(1)
+                    got.append(replies(read_off(client)))
+            return got, server.wait(PATIENCE)
+
+    def without(self, dropped):
+        if dropped not in self.kept:
+            self.kept[dropped] = self.run(0, dropped)
+        return self.kept[dropped]
+
+    def way(self, got):
+        clients, status = got
+        if got == self.usual:
+            return "as usual"
+        if status == 3:
+            return "faults" if not clients and content_of(self.path) == content_of(self.first) else None
+        told = [(place, n, reply) for place, some in enumerate(clients) for n, reply in enumerate(some)]
+        hung = {place for place, some in enumerate(clients) if not some}
+        dropped = {(place, n) for place, n, reply in told if reply == UNAVAILABLE}
+        dropped |= {(place, n) for place in hung for n in range(len(CLIENTS[place]))}
+        left = [[it for it in told if it != UNAVAILABLE] for told in clients]
+        if (left, status) != self.without(frozenset(dropped)):
+            return None
+        return "hung up" if hung and len(hung) == 1 else "503" if len(dropped) == 1 else None
+
+
+# Of how many requests for memory the gate refuses one: opening a file takes thousands of them.
+STEPS = [(ask_lines, 7), (ask_files, 211), (ask_served, 211), (ask_actions, 17), (ask_fifty_first, 7)]
 
 
 def try_examples(program, only):
     """Whether each example stands the refusals."""
     is_right = True
-    for file in sorted(it for it in os.listdir(f"{ROOT}/examples") if it.endswith(".txt")):
-        name = file[:-4]
-        if only not in ("", name):
-            continue
-        with open(f"{ROOT}/examples/{name}.args", encoding="utf-8") as it:
-            words = it.read().split()
-        with open(f"{ROOT}/examples/{file}", "rb") as it:
-            replay = Replay(program, words, it.read())
-        replay.refuse([*range(1, 2_001), *range(2_001, 2_000_000, 97)])
-        is_right = is_right and not replay.wrong
-        print(f"{name}: {replay.told()}", *replay.wrong[:2], flush=True)
+    for file in sorted(Path(ROOT, "examples").glob("*/*.txt")):
+        name = f"{file.parent.name}/{file.stem}"
+        if only in ("", name):
+            counts = Counts(name)
+            words = file.with_suffix(".args").read_text(encoding="utf-8").split()
+            Replay(program, words, file.read_bytes()).refuse([*range(1, 2_001), *range(2_001, 2_000_000, 97)], counts)
+            is_right = counts.is_right() and is_right
     return is_right
 
 
 def main():
     parser = argparse.ArgumentParser(description=__doc__, formatter_class=argparse.RawDescriptionHelpFormatter)
-    parser.add_argument("--program", default=f"{ROOT}/crates/hall/out/hall")
+    parser.add_argument("--program", default=PROGRAM)
+    parser.add_argument("--all", action="store_true")
+    parser.add_argument("--every", type=int, default=1, help="of those that the gate refuses, one in so many")
     parser.add_argument("--examples", nargs="?", const="")
     args = parser.parse_args()
     with tempfile.TemporaryDirectory(prefix="hall-refusals-") as room:
-        program = Program(os.path.abspath(args.program), room)
-        is_right = try_round(program) if args.examples is None else try_examples(program, args.examples)
-    sys.exit(0 if is_right else 1)
+        program = Beside(args.program, room, "refuse")
+        if args.examples is not None:
+            sys.exit(0 if try_examples(program, args.examples) else 1)
+        went = [ask(program, 1 if args.all else step * args.every) for ask, step in STEPS]
+    sys.exit(0 if all(went) else 1)
 
 
 if __name__ == "__main__":

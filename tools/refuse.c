@@ -1,4 +1,5 @@
-/* Refuses one allocation: the one that REFUSE counts to, from 1. It makes the file REFUSE_MARK then. Made a library that is loaded before the C library. */
+/* Refuses one allocation: the one that CALL counts to, from 1. It makes the file CALL_MARK then. Made a library that is
+   loaded before the C library. */
 #define _GNU_SOURCE
 #include <dlfcn.h>
 #include <fcntl.h>
@@ -8,12 +9,12 @@
 static int is_refused(void) {
     static long count, at = -1;
     if (at < 0) {
-        const char *text = getenv("REFUSE");
+        const char *text = getenv("CALL");
         at = text ? atol(text) : 0;
     }
     if (++count != at)
         return 0;
-    const char *mark = getenv("REFUSE_MARK");
+    const char *mark = getenv("CALL_MARK");
     if (mark)
         close(open(mark, O_CREAT | O_WRONLY, 0600));
     return 1;

@@ -18,7 +18,7 @@ import tempfile
 from pathlib import Path
 
 ROOT = Path(os.path.realpath(__file__)).parent.parent
-sys.path[:0] = [str(ROOT / "bench"), str(ROOT / "examples")]
+sys.path[:0] = [str(ROOT / "bench"), str(ROOT / "examples" / "rounds")]
 from setting import SHEET, compact  # noqa: E402
 from wire import record, replies, request  # noqa: E402
 

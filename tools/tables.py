@@ -148,7 +148,9 @@ def record(moment, key, line, body=b""):
 
 
 def reply(status, body):
-    head = f"HTTP/1.1 {status} {HTTPStatus(status).phrase}\r\nContent-Type: application/json\r\nContent-Length: {len(body)}\r\n\r\n"
+    # the table of a round alone is no JSON
+    form = "application/json" if body.startswith(b"{") else "text/plain"
+    head = f"HTTP/1.1 {status} {HTTPStatus(status).phrase}\r\nContent-Type: {form}\r\nContent-Length: {len(body)}\r\n\r\n"
     return head.encode() + body
 
 

@@ -1,17 +1,17 @@
 """Rounds from their puzzles to their tables, as requests to the hall and what they are answered.
 
-`python3 examples/round.py` writes the requests as records of a replay (examples/round.txt), with `--replies` the
-replies (examples/round.out): they come from the rules in plain words and not from the program. A reply stands beside
-its request, or follows from the rules of answers, protests and points (rules.py); where both are there, they agree.
+`python3 examples/rounds/round.py` writes the requests as records of a replay (round.txt), with `--replies` the replies
+(round.out): they come from the rules in plain words and not from the program. A reply stands beside its request, or
+follows from the rules of answers, protests and points (rules.py); where both are there, they agree.
 
-    python3 examples/round.py | ./hall replay --people examples/people.csv
+    python3 examples/rounds/round.py | ./hall replay --people examples/people.csv
 """
 import sys
 
 from rules import AUTHOR, DIRECTOR, ENTRANT, REFEREE, Hall, Round
-from setting import DRAFTS, MORNING, PUZZLES, SHEET, compact
+from setting import DRAFTS, EXAMPLES, MORNING, PUZZLES, SHEET, compact
 
-LIST = open(__file__.replace("round.py", "people.csv"), encoding="ascii").read()
+LIST = (EXAMPLES / "people.csv").read_text(encoding="ascii")
 DAY_BEFORE, START, END, LATE_END = 1777626000, 1777712400, 1777716000, 1777717800
 REASONS = {200: "OK", 400: "Bad Request", 403: "Forbidden", 404: "Not Found"}
 DORA, ADA, BOB, EVE, FAY, REX = "dora-key", "ada-key-1", "bob-key-1", "eve-key-1", "fay-key-1", "rex-key-1"

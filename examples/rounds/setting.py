@@ -1,14 +1,15 @@
 """Puts three puzzles and three drafts in front of the replays of examples/.
 
-`python3 examples/setting.py NAME..` changes examples/NAME.txt and NAME.out: six records stand in front of the input, by
-which the authors put their puzzles and the director the drafts, and six replies in front of the output. The replies
-come from the rules in plain words and not from the program. A replay that begins with the six records stays as it is.
+`python3 examples/rounds/setting.py FOLDER/NAME..` changes examples/FOLDER/NAME.txt and NAME.out: six records stand in
+front of the input, by which the authors put their puzzles and the director the drafts, and six replies in front of the
+output. The replies come from the rules in plain words and not from the program. A replay that begins with the six
+records stays as it is.
 """
 import json
 import sys
 from pathlib import Path
 
-EXAMPLES = Path(__file__).resolve().parent
+EXAMPLES = Path(__file__).resolve().parent.parent
 MOMENT = 1777699990
 
 SHEET = """version = 1

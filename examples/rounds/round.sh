@@ -1,9 +1,12 @@
 #!/bin/bash
 # The round of README.md, "A round in ten minutes": its commands against a server on a free port of 127.0.0.1, each reply compared with what README.md
 # tells. The moments are the system's, so the round begins a few seconds after now; it ends a minute later, and is closed after one more.
-cd "$(dirname "${BASH_SOURCE[0]}")/.." || exit 1
+# With the words PORT URL [OPTION..] the server listens on that port, and curl is asked at the URL with these options: examples/running/try.py has a proxy there.
+cd "$(dirname "${BASH_SOURCE[0]}")/../.." || exit 1
 room=$(mktemp -d)
-port=$(python3 -c 'import socket; s = socket.socket(); s.bind(("127.0.0.1", 0)); print(s.getsockname()[1])')
+port=${1:-$(python3 -c 'import socket; s = socket.socket(); s.bind(("127.0.0.1", 0)); print(s.getsockname()[1])')}
+url=${2:-http://127.0.0.1:$port}
+options=("${@:3}")
 failed=0
 
 finish() {
@@ -22,7 +25,7 @@ is() {
 
 # ask KEY METHOD PATH [BODY]: the reply's body
 ask() {
-  curl --silent --show-error --max-time 20 --header "Hall-Key: $1" --request "$2" "http://127.0.0.1:$port$3" ${4:+--data-binary "$4"}
+  curl --silent --show-error --max-time 20 "${options[@]}" --header "Hall-Key: $1" --request "$2" "$url$3" ${4:+--data-binary "$4"}
 }
 
 # until_moment SECONDS
@@ -33,7 +36,7 @@ until_moment() {
 is 'hall init' 'added 6' "$(./hall init --db "$room/hall.db" --people examples/people.csv)"
 ./hall serve --db "$room/hall.db" --port "$port" --connections 15 &
 server=$!
-for _ in $(seq 100); do
+for _ in $(seq 600); do
   (exec 3<>"/dev/tcp/127.0.0.1/$port") 2>/dev/null && break
   sleep 0.1
 done

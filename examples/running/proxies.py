@@ -1,0 +1,79 @@
+"""HAProxy and nginx, run with the very files of this folder: only ports, paths and the certificate are replaced."""
+import os
+import subprocess
+
+HERE = os.path.dirname(os.path.realpath(__file__))
+HAPROXY, NGINX = "/usr/sbin/haproxy", "/usr/sbin/nginx"
+
+
+def placed(name, pairs):
+    """The file's text with each of these parts, which stands there once, replaced."""
+    with open(f"{HERE}/{name}", encoding="ascii") as file:
+        text = file.read()
+    for part, other in pairs:
+        if text.count(part) != 1:
+            raise ValueError(f"{name} holds {text.count(part)} times: {part}")
+        text = text.replace(part, other)
+    return text
+
+
+def write(path, text):
+    with open(path, "w", encoding="ascii") as file:
+        file.write(text)
+
+
+def certificate(room):
+    """A certificate of localhost, signed by itself, and its key: hall.pem has both."""
+    subprocess.run(["openssl", "req", "-x509", "-newkey", "ec", "-pkeyopt", "ec_paramgen_curve:prime256v1", "-nodes",
+                    "-days", "2", "-subj", "/CN=localhost", "-addext", "subjectAltName=DNS:localhost",
+                    "-keyout", f"{room}/hall.key", "-out", f"{room}/hall.crt"], check=True, stderr=subprocess.DEVNULL)
+    with open(f"{room}/hall.key", encoding="ascii") as key, open(f"{room}/hall.crt", encoding="ascii") as crt:
+        write(f"{room}/hall.pem", crt.read() + key.read())
+
+
+def haproxy(path, log=subprocess.DEVNULL):
+    return subprocess.Popen([HAPROXY, "-db", "-f", path], stdout=log, stderr=subprocess.DEVNULL)
+
+
+def our_haproxy(front, back, room, tls=False, log=subprocess.DEVNULL):
+    """HAProxy by haproxy.cfg, from the one port to the other; without TLS where none is asked for."""
+    own = os.geteuid() == 0
+    write(f"{room}/haproxy.cfg", placed("haproxy.cfg", [
+        ("log /dev/log local0", "log stdout format raw local0"),
+        ("    chroot /var/lib/haproxy\n", f"    chroot {room}\n" if own else ""),
+        *([] if own else [("    user haproxy\n", ""), ("    group haproxy\n", "")]),
+        ("bind :443", f"bind 127.0.0.1:{front}"),
+        (" ssl crt /etc/haproxy/hall.pem", f" ssl crt {room}/hall.pem" if tls else ""),
+        ("127.0.0.1:8080", f"127.0.0.1:{back}"),
+    ]))
+    return haproxy(f"{room}/haproxy.cfg", log)
+
+
+def nginx(fragment, room):
+    """An nginx whose one fragment this is, with its files in the folder."""
+    paths = "".join(f"{name}_temp_path {room}/{name};\n" for name in
+                    ("client_body", "proxy", "fastcgi", "uwsgi", "scgi"))
+    write(f"{room}/nginx.conf", f"""{'user root;' if os.geteuid() == 0 else ''}
+daemon off;
+pid {room}/nginx.pid;
+error_log {room}/nginx.log;
+worker_processes auto;
+events {{ worker_connections 4096; }}
+http {{
+access_log off;
+{paths}include {fragment};
+}}
+""")
+    return subprocess.Popen([NGINX, "-c", f"{room}/nginx.conf", "-e", f"{room}/nginx.log"])
+
+
+def our_nginx(front, back, room, tls=False):
+    """nginx with nginx.conf, from the one port to the other."""
+    write(f"{room}/fragment.conf", placed("nginx.conf", [
+        ("listen 443 ssl;", f"listen 127.0.0.1:{front}{' ssl' if tls else ''};"),
+        ("    ssl_certificate /etc/nginx/hall.pem;\n", f"    ssl_certificate {room}/hall.crt;\n" if tls else ""),
+        ("    ssl_certificate_key /etc/nginx/hall.key;\n",
+         f"    ssl_certificate_key {room}/hall.key;\n" if tls else ""),
+        ("127.0.0.1:8080", f"127.0.0.1:{back}"),
+    ]))
+    return nginx(f"{room}/fragment.conf", room)
