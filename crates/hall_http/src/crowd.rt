@@ -22,7 +22,7 @@ const MOST_EVENTS: usize = 256;
 /// The most newcomers that are let in at a time.
 const MOST_NEWCOMERS: usize = 64;
 
-/// For how many milliseconds at most none is let in once the system refused one.
+/// For how many milliseconds at most none is let in once there was no place, or the system refused one.
 const RETRY: u64 = 1000;
 
 /// Whether newcomers wait.
@@ -121,7 +121,7 @@ impl<'r, N: time::Clock> Crowd<'r, N> {
             return Some(Duration::from_millis(0));
         }
         let mut until = self.guests.quiet_until();
-        if self.door == Door::Refused {
+        if matches!(self.door, Door::Full | Door::Refused) {
             until = until.min(now.saturating_add(RETRY));
         }
         if until == u64::MAX {
@@ -134,7 +134,7 @@ impl<'r, N: time::Clock> Crowd<'r, N> {
     fn let_in(&mut self, most: u64, now: u64) {
         self.door = Door::Knocks;
         for _newcomer in 0..MOST_NEWCOMERS {
-            let Some(place) = self.guests.find_place(most) else {
+            let Some(place) = self.guests.find_place(most, now) else {
                 self.door = Door::Full;
                 return;
             };

@@ -11,6 +11,9 @@ use std::net::Shutdown;
 /// of the next request.
 const PATIENCE: u64 = 10_000;
 
+/// With more milliseconds left than these an idle guest has only just come, or was only just answered.
+const FRESH: u64 = 9_000;
+
 /// How many milliseconds bytes are read off that are no longer answered.
 const LAST_PATIENCE: u64 = 2_000;
 
@@ -123,9 +126,14 @@ impl Guest {
         self.stage != Stage::Ready
     }
 
-    /// Whether nothing that it asked is unanswered, and nothing unsent.
-    pub(crate) fn is_owed_nothing(&self) -> bool {
-        matches!(self.stage, Stage::Idle | Stage::Leaving)
+    /// Whether it may make room for a newcomer: nothing that it asked is unanswered, and nothing unsent; and it had a
+    /// second to ask.
+    pub(crate) fn may_go(&self, now: u64) -> bool {
+        match self.stage {
+            Stage::Idle => self.until.saturating_sub(now) <= FRESH,
+            Stage::Leaving => true,
+            _ => false,
+        }
     }
 
     /// Hears that more may have come, or may be sent.

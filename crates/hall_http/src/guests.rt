@@ -60,8 +60,8 @@ impl Guests {
 
     /// A place for a newcomer, where no more than so many may be here or have gone untold.
     ///
-    /// Where all places are taken, one is freed whose client is owed nothing, whose patience ends first.
-    pub(crate) fn find_place(&mut self, most: u64) -> Option<usize> {
+    /// Where all places are taken, one is freed whose client may go, whose patience ends first.
+    pub(crate) fn find_place(&mut self, most: u64, now: u64) -> Option<usize> {
         let mut count = self.gone;
         let mut found = None;
         let mut first = u64::MAX;
@@ -71,7 +71,7 @@ impl Guests {
                 None => found = Some(place),
                 Some(guest) => {
                     count = count.saturating_add(1);
-                    if guest.is_owed_nothing() && guest.until() < first {
+                    if guest.may_go(now) && guest.until() < first {
                         first = guest.until();
                         leaves = Some(place);
                     }

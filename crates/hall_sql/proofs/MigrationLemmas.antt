@@ -14,7 +14,7 @@ use Rattle.hall_sql.specs.declared.migration.Migrated.TheVariants.{Done, Occupie
 use Rattle.hall_sql.specs.declared.rows.Rows.{Rows}
 use Rattle.hall_sql.specs.AllRead.{AreAllRead, IsRead}
 use Rattle.hall_sql.specs.Fill.{Fills}
-use Rattle.hall_sql.specs.Migrate.{HasTaken, HoldsOther, Leaves, Migrates, Takes, WasBefore, old_content_of}
+use Rattle.hall_sql.specs.Migrate.{TookWorld, HoldsOther, Leaves, Migrates, Takes, WasBefore, old_content_of}
 use Rattle.hall_sql.specs.Rows.{tester_in, world_of}
 use Rattle.hall_sql.specs.Standing.{IsBare, IsHall, Rested, RestedAny, RestedIn, content_of}
 use Rattle.hall_sql.specs.Statements.{all_testers_text}
@@ -103,7 +103,7 @@ found_bare old new rested told read clean opens =
 pub filled_takes : (old new : State) (world : World) (rows : Rows) (count : ℕ) → AreRowsOf world rows → world.testers ≡ empty
     → count ≡ count_of rows → IsEmptyIn old → Leads (content_of old) (content_of new)
     → (HasCleanDisk new → IsTrue new.is_open × Fills rows old.now new.now)
-    → HasCleanDisk new → HasTaken world count old new
+    → HasCleanDisk new → TookWorld world count old new
 filled_takes old new world rows count are bare is empties leads filled clean =
     let it = filled clean in
     let none : IsBare hall_schema old.now = empties (leads.honest clean) (leads.serves clean it.0) in
@@ -149,7 +149,7 @@ takes_after old mid new world (Err fault) rested serves leaves takes = tt
 -- it held the world already
 pub had_taken : (old new : State) (world : World) → Rested old new
     → (HasCleanDisk new → IsTrue new.is_open × (world_of new.now.trees ≡ world)) → (HasCleanDisk new → AreAllRead hall_schema old.now.trees)
-    → HasCleanDisk new → HasTaken world 0 old new
+    → HasCleanDisk new → TookWorld world 0 old new
 had_taken old new world rested has read clean =
     let it = has clean in
     let same = rested.same clean it.0 in

@@ -40,7 +40,7 @@ WasBefore world count old new =
     ⊎ ((world_of old.now.trees ≡ world) × (count ≡ 0) × Rested old new)
 
 -- The target holds the world, which it was given in so many rows, or which it held before. Each of its rows is a record.
-pub record HasTaken (world : World) (count : ℕ) (old new : State) : Type 0 where
+pub record TookWorld (world : World) (count : ℕ) (old new : State) : Type 0 where
   pub serves : IsTrue new.is_open
   pub held : world_of new.now.trees ≡ world
   pub read : AreAllRead hall_schema new.now.trees
@@ -55,7 +55,7 @@ pub record HoldsOther (world : World) (old : State) : Type 0 where
 -- The target had no row, or held the world already, and holds it now; or it holds another. It is told where its device
 -- was honest to the end.
 abbrev pub Takes : World → State → State → Result Migrated StoreFault → Type 0
-Takes world old new (Ok (Done count)) = HasCleanDisk new → HasTaken world count old new
+Takes world old new (Ok (Done count)) = HasCleanDisk new → TookWorld world count old new
 Takes world old new (Ok Occupied) = HasCleanDisk new → HoldsOther world old
 Takes world old new (Err fault) = Unit {0}
 
