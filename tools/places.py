@@ -159,8 +159,9 @@ class Change:
             found = [it for it in map(DEFINITION.match, before.split("\n")) if it]
             self.definitions |= {(crate, file[6:-5].replace("/", "."), it[1] or it[2]) for it in found[-1:]}
             return
-        place = wrong_bodies.Place(file, text, text.index(old))
-        item = place.name and tree.at(crate, f"crates/{crate}/{file}", place.block, place.name)
+        line = text[: text.index(old)].count("\n")
+        place = next((it for it in wrong_bodies.functions_of(file, text, {}) if it.first <= line <= it.last), None)
+        item = place and tree.at(crate, f"crates/{crate}/{file}", place.block, place.name)
         if item:
             self.functions.append(item)
             return

@@ -4,14 +4,19 @@
     python3 tools/wrong_bodies.py [--further] [--over FOLDER [--after LOG]] [CRATE[/NAME] ..]
 
 An edit is crates/CRATE/must-fail/NAME.edit, in the form of `rt must-fail`; with --further those of must-fail/further.md are tried, which the gate has
-no time for. As long as an edit changes a function's body alone its contract stands, and nothing else can break: so edits of different functions are tried
-in one check of a copy of the crate, which says of each function whether it is proved. Of a function that calls a refused one it says no more than that: it
-is tried again in the next check, over what the checks before proved. An edit of anything else has a check for itself.
+no time for. The function that must be refused is the one whose body it changes, or those that its lines `in: PATH` name, by their path below the crate.
+
+A function's proof rests on the contracts of what it calls, and on no body but its own. So the edits are tried in a copy of the crate that holds only the
+functions which they are of: any other has `unreachable!()` for a body and a hole for a proof. A first check sees that nothing is refused in it as it
+stands. Then edits of different functions are tried in one check, which says of each function whether it is proved. Of a function that calls a refused one
+it says no more than that: it is tried again in the next check, over what the checks before proved. An edit of specs/ has a check for itself. What is not
+refused so, and what the first check refuses, is tried over the whole crate.
 The libraries below must be built, in this checkout (`./hall --version`) or in FOLDER, a copy of it, where `rt ci` may still be building them: LOG is what it
 says. The last line is 'N passed, M failed'.
 """
 import argparse
 import contextlib
+import copy
 import glob
 import importlib.machinery
 import importlib.util
@@ -28,7 +33,9 @@ ROOT = os.path.dirname(os.path.dirname(os.path.realpath(__file__)))
 VISIBLE = r"(?:pub(?:\([^)]*\))? )?(?:unsafe )?"
 FUNCTION = re.compile(rf"^( *){VISIBLE}(?:const )?fn (\w+)")
 BLOCK = re.compile(rf"^{VISIBLE}(?:impl|trait)\b")
-VERDICT = re.compile(r"^fn (\S+): (proved|not proved|no proof: it calls|no proof|could not tell)")
+TYPE = re.compile(rf"^{VISIBLE}(?:struct|enum|trait) (\w+)", re.M)
+VERDICT = re.compile(r"^fn (\S+): (proved|not proved|no proof: it calls|no proof|could not tell|no holes|depends on a hole)")
+REFUSED = ("not proved", "no proof", "could not tell")
 # A proof file that names what the edit took away says little of the contract.
 NAMES = re.compile(r"(has no field|is not in scope|has no `|was not admitted)")
 
@@ -43,6 +50,11 @@ def kit():
     sys.modules["rt"] = made
     loader.exec_module(made)
     return made
+
+
+def read(path):
+    with open(path, encoding="utf-8") as it:
+        return it.read()
 
 
 def without_arguments(text):
@@ -63,72 +75,98 @@ def block_of(head):
     return name + "".join(words), bool(trait)
 
 
-class Place:
-    """Where a text stands: its module, the type or trait whose block it is in, if any, and the function, if any."""
+class Function:
+    """A function of a text: the lines from `fn` to the `}` of its body, and its path below the crate as the prover names it."""
 
-    def __init__(self, file, text, at):
-        self.module = [it for it in file.removesuffix(".rt").split("/")[1:] if it not in ("lib", "main", "mod")]
-        self.name = self.block = None
-        self.is_of_trait = False
-        end = text.find("\n", at)
-        lines = text[: end if end > 0 else len(text)].split("\n")
-        functions = [(number, found) for number, found in enumerate(map(FUNCTION.match, lines)) if found]
-        if not functions or any(it.startswith("}") for it in lines[functions[-1][0] : -1]) or self.ends(lines, *functions[-1]):
-            return
-        number, found = functions[-1]
-        self.name = found[2]
+    def __init__(self, above, block, name, lines):
+        self.path, self.block, self.name = "::".join([*above, *[block] * bool(block), name]), block, name
+        self.first, self.body, self.last = lines
+
+
+def body_of(lines, first, margin):
+    """The line of the `{` that opens the body of the function which begins there, if it has one. Its clauses stand between them, further in."""
+    has_clauses = False
+    for number in range(first, len(lines)):
+        line = lines[number]
+        if line in (f"{margin}{{", f"{margin}{{}}") or not has_clauses and line.endswith(("{", "{}")):
+            return number
+        inside = not line or line.startswith((f"{margin} ", f"{margin})", f"{margin}>", f"{margin}where"))
+        if number > first and not inside:
+            return None
+        has_clauses = has_clauses or re.match(r" *(requires|ensures|ghost)\b", line)
+    return None
+
+
+def functions_of(file, text, homes):
+    """The functions of a file that have bodies. The prover names a method by the module of its type, which is in homes, and one of a trait by that of the
+    impl."""
+    module = [it for it in file.removesuffix(".rt").split("/")[1:] if it not in ("lib", "main", "mod")]
+    lines, number = text.split("\n"), 0
+    while number < len(lines):
+        found = FUNCTION.match(lines[number])
+        body = found and body_of(lines, number, found[1])
+        if body is None:
+            number += 1
+            continue
+        last = body if lines[body].endswith("{}") else body + lines[body:].index(f"{found[1]}}}")
+        above, block = module, None
         if found[1]:
-            first = max(at for at in range(number) if BLOCK.match(lines[at]))
-            self.block, self.is_of_trait = block_of(" ".join(lines[first:number]))
+            head = max(at for at in range(number) if BLOCK.match(lines[at]))
+            block, is_of_trait = block_of(" ".join(lines[head:number]))
+            above = module if is_of_trait else homes.get(block, module)
+        yield Function(above, block, found[2], (number, body, last))
+        number = last + 1
 
-    @staticmethod
-    def ends(lines, number, found):
-        """Whether the function that begins there ends before the last line."""
-        return f"{found[1]}}}" in lines[number:-1]
 
-    def key(self):
-        return (*self.module, self.block, self.name)
-
-    def fits(self, crate, named):
-        """Whether the prover's name is this function's. It names a method by the module of its type, and one of a trait by that of the impl."""
-        *above, name = named.split("::")
-        if self.block and not self.is_of_trait:
-            return above[-1] == self.block and name == self.name
-        return name == self.name and above == [crate, *self.module, *[self.block] * bool(self.block)]
+def sources_of(folder):
+    """The texts of src/, by their path in the crate, and the module of each type."""
+    texts, homes = {}, {}
+    for path in sorted(glob.glob("src/**/*.rt", root_dir=folder, recursive=True)):
+        texts[path] = read(f"{folder}/{path}")
+        module = [it for it in path.removesuffix(".rt").split("/")[1:] if it not in ("lib", "main", "mod")]
+        homes.update((name, module) for name in TYPE.findall(texts[path]))
+    return texts, homes
 
 
 class Edit:
-    """A wrong body: texts in files of the crate, and what stands there in their place."""
+    """A wrong body: texts in files of the crate, what stands there in their place, and the functions of which one must be refused."""
 
     def __init__(self, name, text, folder):
-        self.name, self.pairs, self.folder = name, [], folder
+        self.name, self.pairs, self.own = name, [], set()
         file, was = "", {}
         for line in text.split("\n"):
             if line.startswith("file: "):
                 file = line[6:].strip()
-                was[file] = self.read(file)
+                was[file] = read(f"{folder}/{file}")
+            elif line.startswith("in: "):
+                self.own.add(line[4:].strip())
             elif line.startswith("old: "):
                 old = line[5:]
             elif line.startswith("new:"):
                 self.pairs.append((file, old, line[4:].removeprefix(" ")))
         stands = [was[file].count(old) for file, old, _ in self.pairs]
         self.fault = None if self.pairs and set(stands) == {1} else f"BAD EDIT: its `old:` texts stand {stands} times, and not once each"
-        self.places = []
-        if not self.fault and all(file.startswith("src/") for file in was):
-            self.places = [Place(file, was[file], was[file].index(old)) for file, old, _ in self.pairs]
-        # The modules that have all that it changes.
-        self.modules = {"::".join(it.module) for it in self.places} - {""} if all(it.module for it in self.places) else set()
-        self.is_of_bodies = bool(self.modules) and all(it.name for it in self.places)
+        homes = sources_of(folder)[1]
+        # The files that it changes, and those in which it changes what is of no body; the functions whose bodies it changes.
+        self.files, self.loose, self.bodies = set(was), set(), set()
+        for file, old, _ in () if self.fault else self.pairs:
+            at = was[file][: was[file].index(old)].count("\n")
+            found = functions_of(file, was[file], homes) if file.startswith("src/") else ()
+            within = [it.path for it in found if it.body < at < it.last]
+            self.bodies.update(within)
+            self.loose.update([] if within else [file])
+        self.own |= self.bodies
+        self.is_of_code = all(it.startswith("src/") for it in self.files)
 
-    def read(self, file):
-        with open(f"{self.folder}/{file}", encoding="utf-8") as source:
-            return source.read()
+    def clashes(self, other):
+        """Whether a check that has both could refuse a function of one for the other."""
+        return bool(self.bodies & other.bodies or self.loose & other.files or self.files & other.loose)
 
-    def over(self, texts):
-        """The texts with this edit too, or None where it doesn't fit any more."""
+    def over(self, texts, folder):
+        """The texts with this edit too, of files in the folder, or None where it doesn't fit any more."""
         made = dict(texts)
         for file, old, new in self.pairs:
-            text = made.get(file) or self.read(file)
+            text = made.get(file) or read(f"{folder}/{file}")
             if text.count(old) != 1:
                 return None
             made[file] = text.replace(old, new)
@@ -147,18 +185,46 @@ def texts_of(crate, further):
             yield os.path.basename(path).removesuffix(".edit"), file.read()
 
 
-def next_round(edits):
-    """The first edits of which no two are of one function, with the texts that have them all; or one that is of no function's body."""
-    if not edits[0].is_of_bodies:
-        return edits[:1], edits[0].over({})
-    taken, texts, keys = [], {}, set()
+def next_round(edits, folder):
+    """The first edits of code of which no two clash, with the texts that have them all; or one that is of something else."""
+    if not edits[0].is_of_code:
+        return edits[:1], edits[0].over({}, folder)
+    taken, texts = [], {}
     for edit in edits:
-        own = {it.key() for it in edit.places}
-        with_it = edit.over(texts) if edit.is_of_bodies and not own & keys else None
+        with_it = edit.over(texts, folder) if edit.is_of_code and not any(map(edit.clashes, taken)) else None
         if with_it:
             taken.append(edit)
-            texts, keys = with_it, own | keys
+            texts = with_it
     return taken, texts
+
+
+def held(crate, own, folder):
+    """Makes a copy of the crate that has the bodies and the proofs of these functions alone."""
+    for part in ("src", "specs", "proofs"):
+        if os.path.isdir(f"{crate.folder}/{part}"):
+            shutil.copytree(f"{crate.folder}/{part}", f"{folder}/{part}")
+    texts, homes = sources_of(folder)
+    for file, text in texts.items():
+        lines = text.split("\n")
+        for it in reversed([it for it in functions_of(file, text, homes) if it.path not in own]):
+            if it.body < it.last:
+                lines[it.body + 1 : it.last] = ["unreachable!()"]
+            put_hole(crate.name, it.path.split("::"), folder)
+        with open(f"{folder}/{file}", "w", encoding="utf-8") as source:
+            source.write("\n".join(lines))
+    made = copy.copy(crate)
+    made.folder = folder
+    return made
+
+
+def put_hole(crate, path, folder):
+    """Has the function's proof be a hole, which `--allow-holes` takes by what it is the proof of."""
+    at, name = "/".join([folder, "proofs", *path]), path[-1]
+    shutil.rmtree(at, ignore_errors=True)
+    os.makedirs(at)
+    with open(f"{at}/Proof.antt", "w", encoding="utf-8") as proof:
+        proof.write(f"use Rattle.{crate}.proofs.{'.'.join(path)}.Statement.{{statement}}\n\n")
+        proof.write(f"pub {name}_spec : {{M : Type 1}} → statement M\n{name}_spec = ?\n")
 
 
 class Crate:
@@ -172,65 +238,76 @@ class Crate:
         self.passed, self.failed = self.passed + is_well, self.failed + (not is_well)
         print(f"must-fail {self.crate.name}/{edit.name}: {verdict}", flush=True)
 
-    def check(self, texts, modules=()):
+    def check(self, crate, texts, kept, *words):
         """What a check of the crate with these texts says, and the verdicts of its functions."""
-        only = [word for it in sorted(modules) for word in ("--only", it)]
-        ran = self.rt.checked(self.crate, texts, ["--jobs", "1", *only], self.kept)
+        ran = self.rt.checked(crate, texts, ["--jobs", "1", *words], kept)
         return ran, dict(it.groups() for it in map(VERDICT.match, ran.stdout.split("\n")) if it)
 
-    def note(self, ran, verdict, name):
+    def note(self, ran, verdict, path):
         """What to say of a refusal that says less of the contract."""
-        path = "/".join(name.split("::")[1:])
-        own = re.findall(rf"^(?:note: )?(?:\./)?(?:proofs/{re.escape(path)}/|src/).*: error.*", ran.stdout, re.M)
+        own = re.findall(rf"^(?:note: )?(?:\./)?(?:proofs/{re.escape(path.replace('::', '/'))}/|src/).*: error.*", ran.stdout, re.M)
         if own and all(NAMES.search(it) for it in own):
             return " (only because a proof file names what the edit took away: change a value and keep the names)"
         return " (only by a limit of the prover)" if verdict == "could not tell" else ""
 
+    def try_held(self, edits, texts):
+        """What a check of the functions that the edits are of says, over the copy that holds them, and the verdicts of these functions by their paths."""
+        own = sorted(set().union(*[it.own for it in edits]))
+        ran, said = self.check(self.held, texts, self.kept, "--allow-holes", *[word for it in own for word in ("--only", it)])
+        return ran, {it: said.get(f"{self.crate.name}::{it}") for it in own}
+
     def together(self, edits, texts):
-        """Tries edits in one check of the modules that they change, and returns those that it doesn't settle: functions that call a refused one, and
-        functions that are proved."""
-        ran, verdicts = self.check(texts, set().union(*[it.modules for it in edits]))
-        masked, proved = [], []
+        """Tries edits in one check, and returns those that it doesn't settle: functions that call a refused one, and functions that are not refused."""
+        ran, verdicts = self.try_held(edits, texts)
+        masked, passed = [], []
         for edit in edits:
-            own = {name: it for name, it in verdicts.items() if not edit.is_of_bodies or any(place.fits(self.crate.name, name) for place in edit.places)}
-            refused = [name for name, it in own.items() if it in ("not proved", "no proof", "could not tell")]
+            refused = [it for it in sorted(edit.own) if verdicts[it] in REFUSED]
             if refused:
-                name = refused[0]
-                self.tell(edit, f"refused, as it must be, in {name}{self.note(ran, verdicts[name], name)}", True)
+                path = refused[0]
+                self.tell(edit, f"refused, as it must be, in {self.crate.name}::{path}{self.note(ran, verdicts[path], path)}", True)
             else:
-                (masked if "no proof: it calls" in own.values() else proved).append(edit)
-        return masked, proved
+                (masked if "no proof: it calls" in [verdicts[it] for it in edit.own] else passed).append(edit)
+        return masked, passed
 
     def alone(self, edit):
         """Tries an edit over the whole crate."""
-        texts = edit.over({})
-        ran, verdicts = self.check(texts)
+        texts = edit.over({}, self.crate.folder)
+        own, kept = f"{self.crate.folder}/out/incremental", f"{self.room}/whole"
+        if not os.path.isdir(kept):
+            # What a check kept here says of the crate what a check from nothing would.
+            self.rt.linked(own, kept) if os.path.isdir(own) else os.mkdir(kept)
+        ran, verdicts = self.check(self.crate, texts, kept)
         lines = ran.stdout.rstrip("\n").split("\n")
         refused = [name for name, verdict in verdicts.items() if verdict != "proved"]
         if ran.returncode == 1 and lines[-1].startswith("logic=not-proved") and not any(self.rt.unread(it, texts) for it in lines):
-            self.tell(edit, f"refused, as it must be{f', in {refused[0]}' if refused else ''}", True)
+            self.tell(edit, f"refused, as it must be{f', in {refused[0]}' if refused else ''}, over the whole crate", True)
         else:
             said = "\n  ".join(lines[-6:])
             self.tell(edit, f"{'NOT REFUSED' if ran.returncode == 0 else 'NOT TRIED'}: its check ended with status {ran.returncode}\n  {said}", False)
 
     def run(self):
         begun = time.time()
-        with tempfile.TemporaryDirectory(prefix="hall-edits-") as room:
-            self.kept, own = f"{room}/kept", f"{self.crate.folder}/out/incremental"
-            # What a check kept here says of the crate what a check from nothing would.
-            self.rt.linked(own, self.kept) if os.path.isdir(own) else os.mkdir(self.kept)
+        with tempfile.TemporaryDirectory(prefix="hall-edits-") as self.room:
             for edit in self.edits:
                 if edit.fault:
                     self.tell(edit, edit.fault, False)
-            left = sorted((it for it in self.edits if not it.fault), key=lambda it: not it.is_of_bodies)
+            sound = [it for it in self.edits if not it.fault]
+            left = sorted((it for it in sound if it.own), key=lambda it: not it.is_of_code)
+            self.kept = f"{self.room}/kept"
+            os.mkdir(self.kept)
+            self.held = held(self.crate, set().union(*[it.own for it in left]), f"{self.room}/held")
+            # What the copy refuses as it stands shows nothing of an edit.
+            as_it_stands = self.try_held(left, {})[1] if left else {}
+            alone = [it for it in sound if not it.own or not {as_it_stands[of] for of in it.own} <= {"no holes", "depends on a hole", "proved"}]
+            left = [it for it in left if it not in alone]
             while left:
-                edits, texts = next_round(left)
-                masked, proved = self.together(edits, texts) if edits[0].modules else ([], edits)
+                edits, texts = next_round(left, self.held.folder)
+                masked, passed = self.together(edits, texts)
                 # One that is masked by no other says nothing more in a round of its own.
-                alone = proved + (masked if len(masked) == len(edits) else [])
-                for edit in alone:
-                    self.alone(edit)
+                alone += passed + (masked if len(masked) == len(edits) else [])
                 left = [it for it in left if it not in edits or it in masked and it not in alone]
+            for edit in alone:
+                self.alone(edit)
         print(f"{self.crate.name}: {self.passed} of its wrong bodies refused, {self.failed} not, in {(time.time() - begun) / 60:.1f} minutes", flush=True)
         return self.passed, self.failed
 
