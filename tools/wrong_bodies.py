@@ -88,12 +88,12 @@ def body_of(lines, first, margin):
     has_clauses = False
     for number in range(first, len(lines)):
         line = lines[number]
+        has_clauses = has_clauses or re.match(r" *(requires|ensures|ghost)\b", line)
         if line in (f"{margin}{{", f"{margin}{{}}") or not has_clauses and line.endswith(("{", "{}")):
             return number
         inside = not line or line.startswith((f"{margin} ", f"{margin})", f"{margin}>", f"{margin}where"))
         if number > first and not inside:
             return None
-        has_clauses = has_clauses or re.match(r" *(requires|ensures|ghost)\b", line)
     return None
 
 

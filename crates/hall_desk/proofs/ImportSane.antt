@@ -92,7 +92,7 @@ still_takes_part world person fresh name round (other, there, entrant, no_author
     let differ : name ≢ person.name = λ same. let no : None ≡ Some other = sym fresh ∙ ap (get world.people) (sym same) ∙ there in cc in
     (other, others_stay text_total same_texts world.people person.name person name other differ there, entrant, no_author, no_tester)
 
--- a person with a key of the own who is not director and entrant may be added
+-- a person whose key no other has, and who is not director and entrant may be added
 pub person_sane : (world : World) (person : Person) → Sane world → IsPerson person → get world.people person.name ≡ None → ((name : List ℕ) (other : Person) → get world.people name ≡ Some other → other.key ≢ person.key) →
     (IsTrue person.roles.director → IsTrue person.roles.entrant → ⊥) → Sane (record world { people = insert world.people person.name person })
 person_sane world person sane in_range fresh own_key one_role = record {

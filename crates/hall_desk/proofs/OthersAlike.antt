@@ -61,7 +61,7 @@ pub run_remains : (world : World) (list : List (ℕ × Request)) (replies : List
 run_remains world list replies last run = records_stay world last (events_of list replies) (runs_are_histories world last list replies run)
 
 -- ---- who is called
--- who is found by a key stands under the own name, and has the key
+-- who is found by a key stands under that person's name, and has the key
 pub record IsFoundBy (world : World) (asked : Option (List ℕ)) (person : Person) : Type 0 where
   pub under : get world.people person.name ≡ Some person
   pub key : asked ≡ Some person.key

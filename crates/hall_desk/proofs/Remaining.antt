@@ -204,7 +204,7 @@ find_value-put {X = X} R p k v (e ∷ es) new fails =
       | Greater ↦ λ n. ap (cond (p e.1) (Some e.1)) (find_value-put R p k v es n fails)
     ] new
 
--- a new person is found by the own key alone
+-- a new person is found by that person's key alone
 found_still : (people : FinMap text_cmp Person) (person : Person) (key : List ℕ) → (get people person.name ≡ None → same_text person.key key ≡ false) →
     find (λ p. same_text p.key key) (values (with_person people person)) ≡ find (λ p. same_text p.key key) (values people)
 found_still people person key other =

@@ -42,7 +42,7 @@ use Rattle.hall_desk.proofs.ProtestSane.{protest_step, rule_step}
 use Rattle.hall_desk.proofs.PublishSane.{publish_step}
 use Rattle.hall_desk.proofs.Promises.{verdicts_are_judged}
 
--- the caller is there, under the own name
+-- the caller is there, under the caller's name
 pub caller_there : (world : World) → Sane world → (key : Option (List ℕ)) (person : Person) → caller_of world key ≡ Some person → get world.people person.name ≡ Some person
 caller_there world sane None person e = let no : None ≡ Some person = e in absurd (cc)
 caller_there world sane (Some key) person e =

@@ -12,7 +12,7 @@ use Rattle.hall_policy.specs.declared.record.ProtestKey.{ProtestKey}
 use Rattle.hall_desk.specs.Shown.{is_sealed}
 use Rattle.hall_desk.specs.Secrecy.{HasStarted, TestsPuzzle}
 
--- two worlds look alike to the person at the moment, where rounds and their lists are the same: the own rows show
+-- two worlds look alike to the person at the moment, where rounds and their lists are the same: the person's rows show
 -- alike; a round that hides verdicts is sealed and isn't over; the rows of a published round are the same, and so is
 -- each puzzle of a released round that has started, or of a round of which the person is a tester
 pub record LooksAlike (ex : List ℕ → List ℕ → List ℕ) (hidden : List ℕ → Bool) (person : Person) (t : ℕ)

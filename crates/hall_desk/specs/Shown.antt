@@ -32,7 +32,7 @@ state_name state.NoSolution = name.NoSolution
 state_name state.More = name.More
 state_name state.GaveUp = name.GaveUp
 
--- a director sees every puzzle, an author the own ones
+-- a director sees every puzzle, an author those that the author put
 abbrev pub sees_puzzle : Person → PuzzleRow → Bool
 sees_puzzle person row = person.roles.director || same_text row.key.author person.name
 

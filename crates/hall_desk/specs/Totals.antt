@@ -23,7 +23,7 @@ protests_by world id entrant =
 abbrev pub HasAnswered : World → List ℕ → List ℕ → Type 0
 HasAnswered world id entrant = (row : AnswerRow) × Contains (answers_by world id entrant) row
 
--- the entrants with an answer in the round, each once, each with the total of the own rows
+-- the entrants with an answer in the round, each once, each with the total of that entrant's rows
 pub record AreTotals (world : World) (id : List ℕ) (row : RoundRow) (totals : List (List ℕ × ℤ)) : Type 0 where
   pub each_once : AllPairs (λ a b. ¬ (a.0 ≡ b.0)) totals
   pub listed : (entrant : List ℕ) →

@@ -57,7 +57,7 @@ impl<'a> Handler for ListingProtests<'a> {
     }
 }
 
-/// The protests of the round that the person sees: all of them, or the own ones.
+/// The protests of the round that the person sees: all of them, or those that the person made.
 fn find_protests<S: ReadStore>(
     alloc: Global,
     store: &mut S,

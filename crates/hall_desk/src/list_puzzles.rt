@@ -56,7 +56,7 @@ impl Handler for ListingPuzzles {
     }
 }
 
-/// The puzzles that the person sees: all of them, or the own ones.
+/// The puzzles that the person sees: all of them, or those that the person put.
 fn find_puzzles<S: ReadStore>(
     alloc: Global,
     store: &mut S,

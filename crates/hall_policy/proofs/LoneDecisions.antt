@@ -141,7 +141,7 @@ pub as_it_stands : (a : Action) → exchanged as_is a ≡ a
 as_it_stands (action.Submit id number token answer) = refl
 as_it_stands _ = refl
 
--- the own rows that agree show alike
+-- the person's rows that agree show alike
 own_alike : (person : Person) (world other : World) → OwnRowsAgree person world other → OwnAlike as_is (λ id. false) person world other
 own_alike person world other own = record {
   answers = λ key is. ap (option_map (seen as_is (λ id. false))) (own.answers key is);

@@ -9,15 +9,16 @@ pub enum Rule {
     UnknownKey,
     /// No role of the caller allows the action.
     NoRole,
-    /// A caller who is no director names another author.
+    /// The author named in the request isn't the caller, who is no director.
     OtherAuthor,
-    /// The object isn't there; for PutRound a puzzle of the sheet, or one of its testers as a person with the role
-    /// entrant or referee.
+    /// What the request names isn't there: the puzzle, the round, the number in its list, or the protest. For PutPuzzle
+    /// the author is no person with that role; for PutRound a puzzle of the sheet isn't there, or a tester is no person
+    /// with the role entrant or referee.
     Missing,
-    /// The caller is an entrant, and author of a puzzle of the round or its tester; not asked of a tester who reads
+    /// The caller is an entrant, and is author of a puzzle of the round or its tester; not asked of a tester who reads
     /// the round.
     OwnPuzzle,
-    /// The token stands with other content.
+    /// The token was used before, with another answer or another text.
     TokenTaken,
     /// Before the start; not asked of a director, nor of a tester who reads the round.
     NotStarted,
@@ -41,10 +42,10 @@ pub enum Rule {
     OpenProtest,
     /// The caller has an answer in the round or made the protest.
     Involved,
-    /// The protest is ruled otherwise already.
+    /// The protest was ruled before, in another way.
     RuledOtherwise,
-    /// 50 answers of the caller to the puzzle in the round; 5 protests of the caller in the round;
-    /// 500 puzzles of the author.
+    /// As many as are allowed stand there: 50 answers of the caller to the puzzle in the round, 5 protests of the
+    /// caller in the round, 500 puzzles of the author, where the label is new.
     LimitReached,
     /// The list gives a known name another key or other roles, or gives a key of another person,
     /// or joins director and entrant.

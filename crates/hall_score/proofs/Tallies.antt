@@ -200,7 +200,7 @@ current_less : (before row : AnswerRow) (work : Work) → before.key.number ≡ 
 current_less before row work here up_to (inl lower) = inl (omega (arith, here, lower))
 current_less before row work here up_to (inr fewer) = inr (here ∙ fewer.0, omega (arith, up_to, fewer.1))
 
--- the last entrant's answer that is ahead of the own ones comes after all of them
+-- the last entrant's answer that is ahead of those so far comes after all of them
 ahead_next : (round : RoundRow) (protests : List ProtestRow) (answers : List AnswerRow) (totals : List (List ℕ × ℤ)) (entrant : Entrant) (row : AnswerRow) → IsLastOf round protests answers totals entrant → entrant.name ≡ row.key.entrant → IsAhead entrant.work row → IsNext answers row
 ahead_next round protests answers totals entrant row held named ahead =
     let work = held.work in

@@ -26,7 +26,7 @@ answers_by entrant = filter (λ row. same_text row.key.entrant entrant)
 abbrev pub protests_by : List ℕ → List ProtestRow → List ProtestRow
 protests_by entrant = filter (λ row. same_text row.key.entrant entrant)
 
--- the entrants with an answer among these, each once and in the order of names, each with the total of the own rows
+-- the entrants with an answer among these, each once and in the order of names, each with the total of that entrant's rows
 pub record AreTotalsOf (round : RoundRow) (protests : List ProtestRow) (answers : List AnswerRow)
     (totals : List (List ℕ × ℤ)) : Type 0 where
   pub in_order : AllPairs (λ a b. text_cmp a.0 b.0 ≡ Less) totals
@@ -46,7 +46,7 @@ turn_cmp a b =
 abbrev pub IsNext : List AnswerRow → AnswerRow → Type 0
 IsNext answers row = All (λ before. turn_cmp before row ≡ Less) answers
 
--- what is known of each entrant's protests: the points of the own protests, and how many there are
+-- what is known of each entrant's protests: the points of that entrant's protests, and how many there are
 pub record AreRulingsOf (protests : List ProtestRow) (at : List ℕ → Option Rulings) : Type 0 where
   pub points : (entrant : List ℕ) → points_ruled (at entrant) ≡ protest_points (protests_by entrant protests)
   pub count : (entrant : List ℕ) → count_ruled (at entrant) ≡ length (protests_by entrant protests)
@@ -105,7 +105,7 @@ abbrev pub IsLater : Option Entrant → AnswerRow → Type 0
 IsLater (Some entrant) row = text_cmp entrant.name row.key.entrant ≡ Less
 IsLater None row = Unit {0}
 
--- the answer is the last entrant's, and comes after the own ones
+-- the answer is the last entrant's, and comes after those that the entrant has so far
 abbrev pub IsNextOf : Option Entrant → AnswerRow → Type 0
 IsNextOf (Some entrant) row = (entrant.name ≡ row.key.entrant) × IsAhead entrant.work row
 IsNextOf None row = ⊥

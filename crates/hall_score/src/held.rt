@@ -33,7 +33,7 @@ pub(crate) struct Work {
     ghost few_wrong: { tries.wrong ≤ n },
 }
 
-/// An entrant, and what the own answers give so far.
+/// An entrant, and what that entrant's answers give so far.
 #[derive(Drop)]
 pub(crate) struct Entrant {
     pub(crate) name: Name,

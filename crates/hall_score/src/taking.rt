@@ -21,7 +21,7 @@ use std::cmp::Ordering;
 pub(crate) enum Turn {
     /// It is of a later entrant.
     Later,
-    /// It is the last entrant's, and comes after the own ones.
+    /// It is the last entrant's, and comes after those that the entrant has so far.
     Next,
     /// It comes after them in neither way.
     Past,

@@ -51,5 +51,6 @@ pub record Progress : Type 0 where
   pub visits : ℕ
   pub asked : ℕ
 
+-- a board of which no filling was visited, and about which no rule was asked yet
 abbrev pub begun : Board → Progress
 begun board = record { board = board; visits = 0; asked = 0 }
