@@ -1,6 +1,6 @@
 -- The plan of a table.
-use Rattle.std.proofs.Common.{◌≡◌, ◌≢◌, ℕ, List, Option, Some, None, refl, sym, ap, ◌∙◌, subst}
-use Rattle.hall_policy.specs.World.{World, IsRoundAt}
+use Rattle.std.proofs.Common.{◌≡◌, ℕ, List, Option, Some, None, refl, sym, subst}
+use Rattle.hall_policy.specs.World.{IsRoundAt}
 use Rattle.hall_policy.specs.Facts.{TrueUpTo, IsRoundFound}
 use Rattle.hall_policy.specs.Decided.{IsDecided, IsDecidedUpTo}
 use Rattle.hall_policy.specs.declared.facts.Facts.{Facts}
@@ -13,9 +13,9 @@ use Rattle.hall_policy.specs.declared.rule.Decision.{Decision}
 use Rattle.hall_policy.specs.declared.rule.Decision.TheVariants.{Allow, Deny}
 use Rattle.hall_store.specs.Store.{Content, Kept, Asks, IsRoundKept}
 use Rattle.hall_store.specs.declared.change.Change.TheVariants.{Nothing}
-use Rattle.hall_store.proofs.Knowing.{carried, kept_then}
+use Rattle.hall_store.proofs.Knowing.{carried}
 use Rattle.hall_desk.specs.Found.{IsCaller}
-use Rattle.hall_desk.specs.Totals.{IsTableOf}
+use Rattle.hall_desk.specs.Copied.{IsTableAt}
 use Rattle.hall_desk.specs.Step.{Allowed}
 use Rattle.hall_desk.specs.Plans.{IsPlanFor, HasSearched}
 use Rattle.hall_desk.specs.declared.planned.Plan.{Plan}
@@ -46,14 +46,13 @@ module _ (old mid : Content) (facts : Facts) (t : ℕ) (request : Request) (id :
     )
 
     -- a table that is answered
-    pub table_planned : (new : Content) (row : RoundRow) (text : List ℕ) (plan : Plan) → decision ≡ Allow → facts.round ≡ Some row → Kept mid new →
-        (new.honest → new.serves × IsTableOf new.world id row text) → plan ≡ record { reply = reply.Table text; change = Nothing; visits = None } →
+    pub table_planned : (new : Content) (text : List ℕ) (plan : Plan) → decision ≡ Allow → Kept mid new →
+        (new.honest → new.serves × IsTableAt new.world id text) → plan ≡ record { reply = reply.Table text; change = Nothing; visits = None } →
         new.honest → new.serves × IsPlanFor new.world t request plan
-    table_planned new row text plan allowed seen left served made h =
+    table_planned new text plan allowed left served made h =
         let s : new.serves = (served h).0 in
-        let table = (served h).1 in
-        let at : IsRoundAt new.world id row =
-        carried (λ w. IsRoundAt w id row) mid new left (λ h0 s0. subst (λ (o : Option RoundRow). IsRoundFound mid.world (Some id) o) seen (read h0).1.row) h s in (
+        let at = (served h).1 in
+        let table = at.2 in (
           s,
           subst (λ (p : Plan). IsPlanFor new.world t request p) (sym made)
               (planned facts new.world t request Allow (reply.Table text) Nothing None
@@ -62,6 +61,10 @@ module _ (old mid : Content) (facts : Facts) (t : ℕ) (request : Request) (id :
               (λ h0 s0. subst (λ (d : Decision). IsDecided mid.world facts request.action t d) allowed (decided mid.world (found h0))) h s)
               state.GaveUp
               (subst (λ (a : Action). Allowed new.world facts.caller a t state.GaveUp (reply.Table text) new.world) (sym is)
-              ((row, table.0, text, at, table.1, table.2, refl), refl))
+              ((at.0, table.0, text, at.1, table.1, table.2, refl), refl))
               tt (λ _. refl) (λ allowed. subst (λ (a : Action). HasSearched new.world a (record { reply = reply.Table text; change = Nothing; visits = None })) (sym is) tt)),
         )
+
+    -- the round that an answered table is of
+    pub table_round : (row : RoundRow) → facts.round ≡ Some row → mid.honest → mid.serves × IsRoundAt mid.world id row
+    table_round row seen h = ((read h).0, subst (λ (o : Option RoundRow). IsRoundFound mid.world (Some id) o) seen (read h).1.row)

@@ -2,11 +2,10 @@
 use Rattle.hall_policy.specs.World.{World}
 use Rattle.hall_store.specs.Store.{Content}
 use Rattle.hall_desk.specs.Sane.{Sane}
-use Rattle.hall_desk.specs.declared.desk.Desk.{Desk}
 
--- the store of the desk
-abbrev pub kept_by : {S : Type 0} → Desk S → S
-kept_by desk = desk.store
+-- the store of the desk, which is what a contract sees of it
+abbrev pub kept_by : {S : Type 0} → S → S
+kept_by desk = desk
 
 -- Where the world before was sane, this holds of the world after, as far as that can be told.
 abbrev pub SaneThen : (World → Type 0) → Content → Content → Type 0

@@ -3,6 +3,7 @@ pub mod Found
 pub mod Shown
 pub mod Lines
 pub mod Totals
+pub mod Copied
 pub mod Judged
 pub mod Step
 pub mod Run

@@ -10,7 +10,8 @@ ghost use Rattle.hall_desk.specs.Plan.{planned_reply, planned_change};
 ghost use Rattle.hall_desk.specs.Plans.{Planned, Steps, Seeds, Runs, FailsIn, IsNobodys, AreNobodys, IsAvailable};
 ghost use Rattle.hall_desk.specs.Plans.{IsQuietPlan, IsSeedReply, AreStepped, NobodysAreAnswered, WritesIfAny};
 
-use crate::plan::make_plan;
+use crate::copied::{TableCopy, left_by};
+use crate::plan::plan_with_copy;
 use crate::planned::Plan;
 use crate::reply::Reply;
 use crate::seed::seed;
@@ -18,11 +19,25 @@ use crate::step::{commit, run, step};
 use hall_policy::{Moment, People, Request};
 use hall_store::{ReadStore, Store, StoreFault};
 use std::alloc::{AllocError, Global};
+use std::marker::Model;
 
-/// What answers requests to the hall, one after another, over the world of its store.
+/// What answers requests to the hall, one after another, over the world of its store; a contract sees the store.
+///
+/// It keeps a copy of the table that it made last, until something is changed.
 #[derive(Drop)]
 pub struct Desk<S: ReadStore> {
-    pub(crate) store: S,
+    store: S,
+    copied: Option<TableCopy>,
+}
+
+impl<S: ReadStore> Model for Desk<S> {
+    ghost use Rattle.hall_desk.specs.Copied.{IsCopied};
+
+    ghost Value = { S };
+
+    ghost view = { λ d. d.store };
+
+    ghost invariant = { λ d. IsCopied (S.content d.store) d.copied };
 }
 
 impl<S: ReadStore> Desk<S> {
@@ -30,7 +45,10 @@ impl<S: ReadStore> Desk<S> {
     pub fn new(store: S) -> Desk<S>
         ensures { kept_by result ≡ store }
     {
-        Desk { store }
+        Desk {
+            store,
+            copied: None,
+        }
     }
 
     /// The store that it keeps.
@@ -55,7 +73,7 @@ impl<S: ReadStore> Desk<S> {
         // They are read for the ranges that their types keep.
         let _moment = t.get();
         request.in_range();
-        make_plan(alloc, &mut self.store, t, request)
+        plan_with_copy(alloc, &mut self.store, t, request, &mut self.copied)
     }
 }
 
@@ -72,6 +90,7 @@ impl<S: Store> Desk<S> {
         ensures nothing { planned_change plan ≡ Change.Nothing → IsOk result × (kept_by self.new ≡ kept_by self.old) }
         ensures reply { IfOk result (λ reply. reply ≡ planned_reply plan) }
     {
+        self.copied = left_by(&plan, self.copied.take());
         commit(alloc, &mut self.store, plan)
     }
 
@@ -91,6 +110,7 @@ impl<S: Store> Desk<S> {
         ensures right { SaneThen RightAnswersAreSolutions (S.content (kept_by self.old))
             (S.content (kept_by self.new)) }
     {
+        self.copied = None;
         step(alloc, &mut self.store, t, request)
     }
 
@@ -109,6 +129,7 @@ impl<S: Store> Desk<S> {
         ensures fault { Fails S.can_fail result }
         ensures sane { SaneThen Sane (S.content (kept_by self.old)) (S.content (kept_by self.new)) }
     {
+        self.copied = None;
         seed(alloc, &mut self.store, people)
     }
 
@@ -150,6 +171,7 @@ impl<S: Store> Desk<S> {
             (S.content (kept_by self.new)) }
         ensures refused { OnErr result (kept_by self.new ≡ kept_by self.old) }
     {
+        self.copied = None;
         run(alloc, &mut self.store, requests)
     }
 }

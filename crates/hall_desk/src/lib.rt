@@ -3,6 +3,7 @@
 
 mod answers;
 mod certify_puzzle;
+mod copied;
 mod desk;
 mod entry_fault;
 mod found;

@@ -5,11 +5,14 @@ ghost use Rattle.hall_policy.specs.World.{World};
 ghost use Rattle.hall_policy.specs.Decided.{IsDecidedUpTo, PassesUpTo};
 ghost use Rattle.hall_policy.specs.declared.rule.Decision.TheVariants.{Deny};
 ghost use Rattle.hall_store.specs.Store.{Asks, Kept, Told};
+ghost use Rattle.hall_policy.specs.declared.request.Action.TheVariants.{Table};
+ghost use Rattle.hall_desk.specs.Copied.{IsCopied};
 ghost use Rattle.hall_desk.specs.Found.{IsCaller};
 ghost use Rattle.hall_desk.specs.Plans.{IsPlanFor, Planned, FailsIn, IsNobodys, IsQuietPlan};
 
 use crate::answers::Listing;
 use crate::certify_puzzle::Certifying;
+use crate::copied::TableCopy;
 use crate::handler::Handler;
 use crate::import_people::Importing;
 use crate::list_protests::ListingProtests;
@@ -28,7 +31,7 @@ use crate::reply::Reply;
 use crate::rule_protest::RulingOn;
 use crate::submit::Handed;
 use crate::tell_solutions::TellingSolutions;
-use hall_policy::{Action, Decision, Facts, Moment, Request, Rule, decide_up_to};
+use hall_policy::{Action, Decision, Facts, Moment, Request, RoundId, Rule, decide_up_to};
 use hall_store::{ReadStore, StoreFault};
 use std::alloc::Global;
 
@@ -58,6 +61,78 @@ pub(crate) fn make_plan<S: ReadStore>(
     let plan = plan_with(&Turn { alloc, t, request }, store, &mut facts);
     drop(facts);
     plan
+}
+
+/// The plan as `make_plan` makes it, but for a table, which is the copy where that is the round's.
+pub(crate) fn plan_with_copy<S: ReadStore>(
+    alloc: Global,
+    store: &mut S,
+    t: Moment,
+    request: &Request,
+    copied: &mut Option<TableCopy>,
+) -> Result<Plan, StoreFault>
+    requires copied { IsCopied (S.content store.old) copied.old }
+    ensures kept { Kept (S.content store.old) (S.content store.new) }
+    ensures untouched { IsNobodys request.now → store.new ≡ store.old }
+    ensures keyless { IsNobodys request.now → IsQuietPlan result }
+    ensures fault { FailsIn S.can_fail (S.content store.new) result }
+    ensures planned { Planned (S.content store.new) t request.now result }
+    ensures copied { IsCopied (S.content store.new) copied.new }
+{
+    match &request.action {
+        Action::Table { round } => plan_copied(alloc, store, t, request, round, copied),
+        _ => make_plan(alloc, store, t, request),
+    }
+}
+
+/// The plan for a table, which is the copy where that is the round's.
+fn plan_copied<S: ReadStore>(
+    alloc: Global,
+    store: &mut S,
+    t: Moment,
+    request: &Request,
+    round: &RoundId,
+    copied: &mut Option<TableCopy>,
+) -> Result<Plan, StoreFault>
+    requires action { request.now.action ≡ Table round.now }
+    requires copied { IsCopied (S.content store.old) copied.old }
+    ensures kept { Kept (S.content store.old) (S.content store.new) }
+    ensures fault { FailsIn S.can_fail (S.content store.new) result }
+    ensures planned { Planned (S.content store.new) t request.now result }
+    ensures copied { IsCopied (S.content store.new) copied.new }
+{
+    let mut facts = no_facts();
+    let plan = plan_table_with(
+        &Turn { alloc, t, request },
+        store,
+        round,
+        &mut facts,
+        copied,
+    );
+    drop(facts);
+    plan
+}
+
+/// The plan for a table, with the facts that it rests on.
+fn plan_table_with<S: ReadStore>(
+    turn: &Turn,
+    store: &mut S,
+    round: &RoundId,
+    facts: &mut Facts,
+    copied: &mut Option<TableCopy>,
+) -> Result<Plan, StoreFault>
+    requires facts { facts.old.caller ≡ None }
+    requires action { turn.now.request.now.action ≡ Table round.now }
+    requires copied { IsCopied (S.content store.old) copied.old }
+    ensures kept { Kept (S.content store.old) (S.content store.new) }
+    ensures fault { FailsIn S.can_fail (S.content store.new) result }
+    ensures planned { Planned (S.content store.new) turn.now.t turn.now.request.now result }
+    ensures copied { IsCopied (S.content store.new) copied.new }
+{
+    if let Some(key) = &turn.request.key {
+        facts.caller = store.person_by_key(turn.alloc, key)?;
+    }
+    plan_table(turn, store, round, facts, copied)
 }
 
 /// Facts that tell of nothing.
@@ -123,7 +198,7 @@ fn plan_without_key<S: ReadStore>(
             let Action::Table { round } = &turn.request.action else {
                 unreachable!()
             };
-            plan_table(turn, store, round, facts)
+            plan_table(turn, store, round, facts, &mut None)
         }
     }
 }
@@ -199,7 +274,7 @@ fn dispatch<S: ReadStore>(turn: &Turn, store: &mut S, facts: &mut Facts) -> Resu
             ruling,
         } => turn.handle(store, &RulingOn::of(round, entrant, token, *ruling), facts),
         Action::Publish { round } => turn.handle(store, &Publishing { round }, facts),
-        Action::Table { round } => plan_table(turn, store, round, facts),
+        Action::Table { round } => plan_table(turn, store, round, facts, &mut None),
     }
 }
 

@@ -1,11 +1,14 @@
 //! Table: the totals of a published round, ranked.
 ghost use Rattle.std.specs.Prelude.{◌≡◌};
+ghost use Rattle.hall_policy.specs.World.{IsRoundAt};
 ghost use Rattle.hall_policy.specs.declared.request.Action.TheVariants.{Table};
 ghost use Rattle.hall_store.specs.Store.{Asks, Kept, Served};
 ghost use Rattle.hall_desk.specs.Found.{IsCaller};
-ghost use Rattle.hall_desk.specs.Totals.{AreTotals, IsTableOf};
+ghost use Rattle.hall_desk.specs.Copied.{IsCopied, IsTableAt};
+ghost use Rattle.hall_desk.specs.Totals.{AreTotals};
 ghost use Rattle.hall_desk.specs.Plans.{IsPlanFor, FailsIn};
 
+use crate::copied::{TableCopy, copy_of, text_of};
 use crate::plan::Turn;
 use crate::planned::Plan;
 use crate::reply::{Reply, TableText};
@@ -14,19 +17,22 @@ use hall_score::{Tally, table_text};
 use hall_store::{ReadStore, StoreFault};
 use std::alloc::Global;
 
-/// The plan for the round's table, which is anyone's, with a key or without.
+/// The plan for the round's table, which is anyone's, with a key or without: by the copy, where it is this round's.
 pub(crate) fn plan_table<S: ReadStore>(
     turn: &Turn,
     store: &mut S,
     round: &RoundId,
     facts: &mut Facts,
+    copied: &mut Option<TableCopy>,
 ) -> Result<Plan, StoreFault>
     requires action { turn.now.request.now.action ≡ Table round.now }
+    requires copied { IsCopied (S.content store.old) copied.old }
     requires caller { Asks (S.content store.old) (λ world. IsCaller world turn.now.request.now.key facts.old.caller) }
     ensures kept { Kept (S.content store.old) (S.content store.new) }
     ensures fault { FailsIn S.can_fail (S.content store.new) result }
     ensures served { Served (S.content store.new) result
         (λ world plan. IsPlanFor world turn.now.t turn.now.request.now plan) }
+    ensures copied { IsCopied (S.content store.new) copied.new }
 {
     facts.round = store.round(turn.alloc, round)?;
     match decide(facts, &turn.request.action, turn.t) {
@@ -36,25 +42,35 @@ pub(crate) fn plan_table<S: ReadStore>(
             let Some(row) = &facts.round else {
                 unreachable!()
             };
-            let text = make_table(turn.alloc, store, round, row)?;
+            let text = make_table(turn.alloc, store, round, row, copied)?;
             Ok(Plan::of(Reply::Table(text)))
         }
     }
 }
 
-/// The table of the round.
+/// The table of the round, of which a copy is kept where there is memory for it.
 fn make_table<S: ReadStore>(
     alloc: Global,
     store: &mut S,
     round: &RoundId,
     row: &RoundRow,
+    copied: &mut Option<TableCopy>,
 ) -> Result<TableText, StoreFault>
+    requires row { (S.content store.old).honest → (S.content store.old).serves
+        × IsRoundAt (S.content store.old).world round.now row.now }
+    requires copied { IsCopied (S.content store.old) copied.old }
     ensures kept { Kept (S.content store.old) (S.content store.new) }
     ensures fault { FailsIn S.can_fail (S.content store.new) result }
-    ensures served { Served (S.content store.new) result (λ world text. IsTableOf world round.now row.now text) }
+    ensures served { Served (S.content store.new) result (λ world text. IsTableAt world round.now text) }
+    ensures copied { IsCopied (S.content store.new) copied.new }
 {
+    if let Some(text) = text_of(alloc, copied, round)? {
+        return Ok(text);
+    }
     let totals = find_totals(alloc, store, round, row)?;
-    Ok(TableText::new(table_text(alloc, totals.as_slice())?))
+    let text = table_text(alloc, totals.as_slice())?;
+    *copied = copy_of(alloc, round, text.as_str()).ok();
+    Ok(TableText::new(text))
 }
 
 /// The totals of the round's entrants, from its rows, which are given one at a time.
