@@ -20,7 +20,7 @@ import sys
 from wire import record, replies, request
 
 ROOT = os.path.dirname(os.path.dirname(os.path.abspath(__file__)))
-sys.path.append(os.path.join(ROOT, "tools"))
+sys.path.append(os.path.join(ROOT, "examples", "rounds"))
 import setting  # noqa: E402
 
 PROGRAM = os.path.join(ROOT, "crates", "hall", "out", "hall")

@@ -5,9 +5,9 @@
 
 PROGRAM is the built `hall`, by default the one in crates/hall/out. The round has 25 puzzles of 4 by 4, and each entrant
 a wrong and a right answer to each of them; one entrant in ten has an upheld protest. A run is kept waiting between two
-requests, so what one request alone takes is read from the process: its processor time is the least of nine requests;
-its memory is how far the first one drives the resident memory over what it was before, so what an earlier request gave
-back is not counted. Beside it stands the listing of all these answers, which holds each row.
+requests, so what one request alone takes is read from the process: the processor time of the first request, and the
+least of nine that come after it, which find a table's copy; its memory is how far the first one drives the resident
+memory over what it was before, so what an earlier request gave back is not counted. Beside it stands the listing of all these answers, which holds each row.
 The script checks that every reply is 200 and that the table has a line for each entrant.
 """
 import argparse
@@ -86,10 +86,12 @@ class Hall:
             file.write("5")
 
     def measure(self, asked):
-        """The last body, the least processor time of a request, and the kilobytes that the first one takes more."""
+        """The last body, the processor time of the first request and the least of the others, and the kilobytes that
+        the first one takes more."""
         self.forget_peak()
-        before = self.memory("VmRSS")
+        before, spent = self.memory("VmRSS"), self.seconds()
         body = self.ask([asked])[0]
+        first = self.seconds() - spent
         grown = self.memory("VmHWM") - before
         least = None
         for _ in range(RUNS):
@@ -97,7 +99,7 @@ class Hall:
             body = self.ask([asked])[0]
             spent = self.seconds() - spent
             least = spent if least is None else min(least, spent)
-        return body, least, grown
+        return body, (first, least), grown
 
     def close(self):
         self.process.stdin.close()
@@ -157,7 +159,7 @@ def measure(program, entrants):
             rows = body.count(b"\n") if what == "table" else body.count(b'{"answer":')
             if rows != (entrants if what == "table" else entrants * 2 * len(PUZZLES)):
                 sys.exit(f"the {what} of {entrants} entrants has {rows} rows")
-            told.append(f"{what}: {1e3 * seconds:9.2f} ms, {grown:7} kB more")
+            told.append(f"{what}: {1e3 * seconds[0]:9.2f} ms, then {1e3 * seconds[1]:9.2f} ms, {grown:7} kB more")
         resident = hall.memory("VmRSS")
         hall.close()
     print(f"{entrants:5} entrants   {'   '.join(told)}   resident at the end: {resident} kB", flush=True)
