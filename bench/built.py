@@ -1,17 +1,19 @@
 """Builds a program of bench in a copy of the crates that it stands on.
 
-The copy holds what was proved of them before (their out/; so build the hall first); the program is proved and built there.
+The copy holds their libraries, where ./hall has made them; the program is proved and built there.
 The sources have an ending of their own, since the gate refuses a `.rt` file of no crate.
 """
 import glob
 import os
 import shutil
-import subprocess
 import sys
 import tempfile
 
 BENCH = os.path.dirname(os.path.realpath(__file__))
 ROOT = os.path.dirname(BENCH)
+sys.path.insert(0, f"{ROOT}/tools")
+import build as builder  # noqa: E402
+
 ENDING = ".rattle"
 
 
@@ -26,30 +28,20 @@ def crates_below(stands_on):
     return {name: below_of[name] for name in below_of if name in wanted}
 
 
-def build_in(folder, name, sources, stands_on, words):
-    """Builds the program in a copy of the crates, made in the folder, and leaves it in the sources' folder out/."""
-    crates = crates_below(stands_on)
-    for crate in crates:
-        subprocess.run(["cp", "-a", "--parents", f"crates/{crate}", folder], cwd=ROOT, check=True)
-    os.makedirs(f"{folder}/crates/{name}/src")
-    for source in glob.glob(f"{sources}/*{ENDING}"):
-        shutil.copy(source, f"{folder}/crates/{name}/src/{os.path.basename(source).removesuffix(ENDING)}.rt")
-    with open(f"{folder}/crates.txt", "w", encoding="utf-8") as file:
-        file.writelines(f"{crate}: {' '.join(below)}\n" for crate, below in {**crates, name: stands_on}.items())
-    log = f"{folder}/build.log"
-    with open(log, "wb") as file:
-        run = ["rt", "run", "--", *words]
-        folder_of = f"{folder}/crates/{name}"
-        subprocess.run(run, cwd=folder_of, stdin=subprocess.DEVNULL, stdout=file, stderr=subprocess.STDOUT, check=False)
-    built = f"{folder}/crates/{name}/out/{name}"
-    if not os.access(built, os.X_OK):
-        with open(log, encoding="utf-8", errors="replace") as file:
-            sys.exit("".join(file.readlines()[-40:]) + "the program was not built")
-    os.makedirs(f"{sources}/out", exist_ok=True)
-    return shutil.copy(built, f"{sources}/out/{name}")
-
-
-def build(name, sources, stands_on, words=()):
+def build(name, sources, stands_on):
     """Builds the program, and tells where it is."""
+    crates = crates_below(stands_on)
     with tempfile.TemporaryDirectory(prefix="bench-") as folder:
-        return build_in(folder, name, sources, stands_on, words)
+        for crate in crates:
+            # Not the checks' kept work.
+            ignored = shutil.ignore_patterns("incremental", "must-fail")
+            shutil.copytree(f"{ROOT}/crates/{crate}", f"{folder}/crates/{crate}", ignore=ignored)
+        os.makedirs(f"{folder}/crates/{name}/src")
+        for source in glob.glob(f"{sources}/*{ENDING}"):
+            shutil.copy(source, f"{folder}/crates/{name}/src/{os.path.basename(source).removesuffix(ENDING)}.rt")
+        with open(f"{folder}/crates.txt", "w", encoding="utf-8") as file:
+            file.writelines(f"{crate}: {' '.join(below)}\n" for crate, below in {**crates, name: stands_on}.items())
+        if not builder.build(folder, name):
+            sys.exit(1)
+        os.makedirs(f"{sources}/out", exist_ok=True)
+        return shutil.copy(f"{folder}/crates/{name}/out/{name}", f"{sources}/out/{name}")

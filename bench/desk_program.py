@@ -8,4 +8,4 @@ STANDS_ON = ["hall_grid", "hall_policy", "hall_store", "hall_desk", "hall_http"]
 
 def build():
     """Builds the program, and tells where it is."""
-    return built.build(NAME, SOURCES, STANDS_ON, ["submit", "0", "0", "1"])
+    return built.build(NAME, SOURCES, STANDS_ON)

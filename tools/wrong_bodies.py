@@ -11,8 +11,8 @@ functions which they are of: any other has `unreachable!()` for a body and a hol
 stands. Then edits of different functions are tried in one check, which says of each function whether it is proved. Of a function that calls a refused one
 it says no more than that: it is tried again in the next check, over what the checks before proved. An edit of specs/ has a check for itself. What is not
 refused so, and what the first check refuses, is tried over the whole crate.
-The libraries below must be built, in this checkout (`./hall --version`) or in FOLDER, a copy of it, where `rt ci` may still be building them: LOG is what it
-says. The last line is 'N passed, M failed'.
+The libraries below must be built, in this checkout (`python3 tools/build.py`) or in FOLDER, a copy of it, where `rt ci` may still be building them: LOG is what
+it says. The last line is 'N passed, M failed'.
 """
 import argparse
 import contextlib
@@ -28,6 +28,8 @@ import tempfile
 import threading
 import time
 from concurrent.futures import ThreadPoolExecutor
+
+from build import Made
 
 ROOT = os.path.dirname(os.path.dirname(os.path.realpath(__file__)))
 VISIBLE = r"(?:pub(?:\([^)]*\))? )?(?:unsafe )?"
@@ -75,6 +77,11 @@ def block_of(head):
     return name + "".join(words), bool(trait)
 
 
+def module_of(file):
+    """The names of the module that a file of src/ is."""
+    return [it for it in file.removesuffix(".rt").split("/")[1:] if it not in ("lib", "main", "mod")]
+
+
 class Function:
     """A function of a text: the lines from `fn` to the `}` of its body, and its path below the crate as the prover names it."""
 
@@ -100,7 +107,7 @@ def body_of(lines, first, margin):
 def functions_of(file, text, homes):
     """The functions of a file that have bodies. The prover names a method by the module of its type, which is in homes, and one of a trait by that of the
     impl."""
-    module = [it for it in file.removesuffix(".rt").split("/")[1:] if it not in ("lib", "main", "mod")]
+    module = module_of(file)
     lines, number = text.split("\n"), 0
     while number < len(lines):
         found = FUNCTION.match(lines[number])
@@ -123,7 +130,7 @@ def sources_of(folder):
     texts, homes = {}, {}
     for path in sorted(glob.glob("src/**/*.rt", root_dir=folder, recursive=True)):
         texts[path] = read(f"{folder}/{path}")
-        module = [it for it in path.removesuffix(".rt").split("/")[1:] if it not in ("lib", "main", "mod")]
+        module = module_of(path)
         homes.update((name, module) for name in TYPE.findall(texts[path]))
     return texts, homes
 
@@ -200,9 +207,7 @@ def next_round(edits, folder):
 
 def held(crate, own, folder):
     """Makes a copy of the crate that has the bodies and the proofs of these functions alone."""
-    for part in ("src", "specs", "proofs"):
-        if os.path.isdir(f"{crate.folder}/{part}"):
-            shutil.copytree(f"{crate.folder}/{part}", f"{folder}/{part}")
+    shutil.copytree(crate.folder, folder, ignore=shutil.ignore_patterns("out", "must-fail"))
     texts, homes = sources_of(folder)
     for file, text in texts.items():
         lines = text.split("\n")
@@ -359,7 +364,9 @@ def main():
     os.chdir(words.over)
     rt.rtlib.guarded()
     tries = []
-    for crate in rt.rtlib.crates_below(os.getcwd()):
+    crates = rt.rtlib.crates_below(os.getcwd())
+    made = {it: Made(it) for it in crates} if words.over == ROOT else {}
+    for crate in crates:
         wanted = [it.partition("/")[2] for it in words.names if it.partition("/")[0] == crate.name]
         if words.names and not wanted:
             continue
@@ -372,8 +379,8 @@ def main():
 
     def done(it):
         below = it.crate.below()
-        if beside and not beside.has_proved([dep.name for dep in below]) or not all(os.path.isdir(dep.rlib) for dep in below):
-            print(f"{it.crate.name}: a library below it isn't built (./hall --version builds it)", flush=True)
+        if beside and not beside.has_proved([dep.name for dep in below]) or not all(made[dep].is_made() if made else os.path.isdir(dep.rlib) for dep in below):
+            print(f"{it.crate.name}: a library below it isn't built (python3 tools/build.py builds it)", flush=True)
             return 0, len(it.edits)
         with beside or contextlib.nullcontext():
             return it.run()
