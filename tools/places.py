@@ -34,7 +34,7 @@ ASKED = {
     "examples/requests/opening.rows": ["hall_http::answer_bytes"],
     "examples/requests/puzzles.rows": ["hall_http::answer_bytes"],
     "examples/requests/texts.rows": ["hall_grid::write_puzzle", "hall_grid::parse_puzzle"],
-    "examples/requests/heads.txt": ["hall_http::cut_request"],
+    "examples/requests/heads.txt": ["hall_http::answer_bytes"],
     "examples/rounds/round.txt": [
         "hall_desk::Desk::step", "hall_score::table_text", "hall_http::answer_bytes", "hall_desk::law_accepted_answers", "hall_desk::law_accepted_protests",
         "hall_desk::law_rulings", "hall_desk::law_tokens",
@@ -71,7 +71,7 @@ FORMS = {
     "`F1` to `F5`, `F8` of a round sheet": (("hall_sheet", "Sheet", "sheet_in"), "hall_sheet::read_round"),
     "`F1` to `F3` of a JSON body": (("hall_http", "Request", "RequestOf"), "hall_http::answer_bytes"),
     "`F6`": (("hall_http", "Routes", "route_in"), "hall_http::answer_bytes"),
-    "`F7`": (("hall_http", "Head", "IsWhole"), "hall_http::cut_request"),
+    "`F7`": (("hall_http", "Head", "IsWhole"), "hall_http::answer_bytes"),
     "`E2` to `E8`": (("hall_grid", "Text", "FaultOf"), "hall_grid::parse_puzzle"),
     "`503`": (("hall_desk", "Step", "Step"), "hall_desk::Desk::step"),
 }

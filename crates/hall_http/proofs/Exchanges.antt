@@ -7,20 +7,20 @@ use Rattle.std.proofs.lemmas.List.Elements.{All-nil, All-push}
 use Rattle.std.proofs.KnownBytes.{Appends-nil, Appends-trans, Consumes-nil, Consumes-trans}
 use Rattle.std.specs.Io.KnownBytes.{Appends, Consumes}
 use Rattle.hall_grid.specs.Device.{MadeCalls, Rises}
-use Rattle.hall_http.specs.Head.{IsRequest, IsWhole, IsUnfinished, NeverHas}
+use Rattle.hall_http.specs.Head.{IsLentBy, IsWhole, IsUnfinished, NeverHas}
 use Rattle.hall_http.specs.Reading.{at_first, after_read, after_answer}
 use Rattle.hall_http.proofs.Readings.{one_call_more, session_more}
-use Rattle.httparse.specs.Grammar.{RequestHead}
 use Rattle.hall_http.specs.Device.{WritesPart, NoneFailed, WriteFailed}
 use Rattle.hall_http.specs.Inbox.{ReadsMore}
-use Rattle.hall_http.specs.Connection.{Exchange, Exchanged, Session, AreMoments, requests_of, replies_of, AreOpen, IsOpen, IsClosing, closes}
+use Rattle.hall_http.specs.Connection.{Exchange, Exchanged, Session, AreMoments, requests_of, replies_of, AreOpen, IsOpen, IsClosing}
 use Rattle.hall_http.specs.Served.{IsHandled, Ended, IsNoRequest, MayGoOn, HaveRead, IsLastRequest, refusal}
 use Rattle.hall_http.specs.Sending.{Refuses, EndsInput}
 use Rattle.hall_http.specs.declared.connection.ServeEnd.{ServeEnd}
 use Rattle.hall_http.specs.declared.connection.ServeEnd.TheVariants as end
+use Rattle.hall_http.specs.declared.head.Whole.{Whole}
 use Rattle.hall_http.specs.declared.inbox.ReadFault.{ReadFault}
 use Rattle.hall_http.specs.declared.inbox.ReadFault.TheVariants as fault
-use Rattle.std.specs.Prelude.{Ok, Err, Bool, true, false, All}
+use Rattle.std.specs.Prelude.{Ok, Err, true, false, All}
 
 requests_more : (xs : List Exchange) (x : Exchange) → requests_of (xs ++ x ∷ []) ≡ requests_of xs ++ x.request
 requests_more xs x =
@@ -29,16 +29,12 @@ requests_more xs x =
 pub replies_more : (xs : List Exchange) (x : Exchange) → replies_of (xs ++ x ∷ []) ≡ replies_of xs ++ x.reply
 replies_more xs x = flat_map-append (λ x. x.reply) xs (x ∷ []) ∙ ap (λ s. replies_of xs ++ s) (append-nil x.reply)
 
--- what closes the connection after a whole request, and what doesn't
-pub closing_request : (request : List ℕ) (result : Bool) → IsWhole request
-    → ((head : RequestHead) (body : List ℕ) → IsRequest request head body → result ≡ closes head) → result ≡ true
-    → IsClosing request
-closing_request request result (head, body, is) says shut = (head, body, is, sym (says head body is) ∙ shut)
+-- whether the connection closes after the request that is lent
+pub closing_request : (bytes : List ℕ) (whole : Whole) → IsLentBy bytes whole → whole.closes ≡ true → IsClosing bytes
+closing_request bytes whole (head, is, method, path, key, says) shut = (head, whole.body.now, is, sym says ∙ shut)
 
-pub open_request : (request : List ℕ) (result : Bool) → IsWhole request
-    → ((head : RequestHead) (body : List ℕ) → IsRequest request head body → result ≡ closes head) → result ≡ false
-    → IsOpen request
-open_request request result (head, body, is) says stays = (head, body, is, sym (says head body is) ∙ stays)
+pub open_request : (bytes : List ℕ) (whole : Whole) → IsLentBy bytes whole → whole.closes ≡ false → IsOpen bytes
+open_request bytes whole (head, is, method, path, key, says) stays = (head, whole.body.now, is, sym says ∙ stays)
 
 pub not_nil : (xs : List ℕ) → 0 < length xs → xs ≢ []
 not_nil xs some e = let z : length xs ≡ 0 = ap length e in omega arith

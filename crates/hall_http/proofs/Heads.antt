@@ -1,18 +1,20 @@
 -- The first request of some bytes, by the head at their front.
-use Rattle.std.proofs.Common.{◌≡◌, ◌∙◌, sym, ap, subst, refl, ℕ, ◌+◌, ◌<◌, ◌≤◌, List, [], ◌++◌, length, take, drop, map, arith, append_assoc, length-append, ◌-◌, inl, inr, replicate, Option, Some, None, true, false, if◌then◌else◌}
+use Rattle.std.proofs.Common.{◌≡◌, ◌∙◌, sym, ap, ap₂, subst, refl, ℕ, ◌+◌, ◌<◌, ◌≤◌, List, [], ◌++◌, length, take, drop, map, arith, append_assoc, length-append, ◌-◌, inl, inr, replicate, Option, Some, None, true, false, if◌then◌else◌}
 use Rattle.std.proofs.lemmas.Option.{same_Some}
 use Rattle.std.proofs.lemmas.List.{length-map, length-replicate, length-take-le, append-nil, take-append-le, take-append-drop, take_at}
 use Rattle.std.proofs.Math.Seq.{take-append-add}
 use Rattle.std.proofs.lemmas.Bool.{and_parts}
-use Rattle.std.specs.Prelude.{nat_le, ◌&&◌, Bool}
-use Rattle.hall_http.specs.Head.{named, Header, field_limit}
+use Rattle.std.specs.Prelude.{nat_le, ◌&&◌, ◌||◌, Bool, slice_range}
+use Rattle.std.specs.List.{list_any}
+use Rattle.hall_http.specs.Head.{named, Header, field_limit, first_value, shown_key, says_close, closes}
 use Rattle.std.specs.Prelude.{codes, ◌==◌}
 use Rattle.httparse.specs.Grammar.{RequestHead, ReadsRequest, HasNoRequest, MayBecomeRequest, print_request}
-use Rattle.httparse.specs.Spans.{RequestOverflows, name_and_value, header_bytes, IsRequestAt}
+use Rattle.httparse.specs.Spans.{RequestOverflows, name_and_value, header_bytes, span_bytes, IsRequestAt}
 use Rattle.httparse.specs.declared.spans.HeaderSpan.{HeaderSpan}
 use Rattle.httparse.specs.declared.spans.RequestSpans.{RequestSpans}
+use Rattle.hall_http.specs.declared.head.Whole.{Whole}
 use Rattle.httparse.proofs.GrammarLemmas.{ReadsRequest-append, request_prefix_free}
-use Rattle.hall_http.specs.Head.{body_size, headers_of, IsWhole, HasNone, NeverHas, IsUnfinished, IsUnfinishedBelow, length_in, head_limit, is_accepted, within}
+use Rattle.hall_http.specs.Head.{body_size, headers_of, IsRequest, IsLentBy, IsWhole, HasNone, NeverHas, IsUnfinished, IsUnfinishedBelow, length_in, head_limit, is_accepted, within}
 
 size_of : RequestHead → Option ℕ
 size_of h = body_size (length (print_request h)) (headers_of h)
@@ -32,11 +34,13 @@ never_without bytes h after reads none more front rest split whole =
     let (body, size, front_is) = same_size bytes more front rest h after reads split whole in
     let bad = sym none ∙ size in cc
 
-pub whole_at : (bytes : List ℕ) (h : RequestHead) (after : List ℕ) (n : ℕ) → ReadsRequest bytes h after
-    → body_size (length (print_request h)) (headers_of h) ≡ Some n → n ≤ length after → IsWhole (take (length (print_request h) + n) bytes)
-whole_at bytes h after n reads size fits =
+-- a head at the front, and so many bytes behind it
+request_at : (bytes : List ℕ) (h : RequestHead) (after : List ℕ) (n : ℕ) → ReadsRequest bytes h after
+    → body_size (length (print_request h)) (headers_of h) ≡ Some n → n ≤ length after
+    → IsRequest (take (length (print_request h) + n) bytes) h (take n after)
+request_at bytes h after n reads size fits =
     let cut : take (length (print_request h) + n) bytes ≡ print_request h ++ take n after = rw reads.1 (take-append-add (print_request h) after n) in
-    (h, take n after, record { reads = (reads.0, cut); size = size ∙ ap Some (sym (length-take-le n after fits)) })
+    record { reads = (reads.0, cut); size = size ∙ ap Some (sym (length-take-le n after fits)) }
 
 pub none_yet : (bytes : List ℕ) (h : RequestHead) (after : List ℕ) (n : ℕ) → ReadsRequest bytes h after
     → body_size (length (print_request h)) (headers_of h) ≡ Some n → length after < n → HasNone bytes
@@ -63,6 +67,45 @@ small_head size n headers h =
     let not_coded = and_parts (nat_le size head_limit && nat_le (length headers) field_limit) (length (named (codes "transfer-encoding") headers) == 0) few_keys.0 in
     let both = and_parts (nat_le size head_limit) (nat_le (length headers) field_limit) not_coded.0 in
     (grind (arith, both.0), grind (arith, both.1))
+
+-- the hall takes no head with two keys
+one_key : (size n : ℕ) (headers : List Header) → body_size size headers ≡ Some n
+    → length (named (codes "hall-key") headers) ≤ 1
+one_key size n headers h =
+    let yes = accepted size n headers (is_accepted size headers) _ h in
+    let few_keys = and_parts (nat_le size head_limit && nat_le (length headers) field_limit && (length (named (codes "transfer-encoding") headers) == 0)) (nat_le (length (named (codes "hall-key") headers)) 1) yes in
+    grind (arith, few_keys.1)
+
+-- what is lent is one whole request
+pub lent_whole : (bytes : List ℕ) (whole : Whole) → IsLentBy bytes whole → IsWhole bytes
+lent_whole bytes whole (head, is, method, path, key, closing) = (head, whole.body.now, is)
+
+rest_of : (m n : ℕ) → (m + n) - m ≡ n
+rest_of m n = omega arith
+
+-- what the spans of a head lend, and so many bytes behind it
+pub lent_at : (bytes : List ℕ) (headers : List HeaderSpan) (r : RequestSpans) (h : RequestHead) (n : ℕ)
+    (method path : List ℕ) (shown : Option (List ℕ)) (body : List ℕ) (closing : Bool) → IsRequestAt bytes headers r h
+    → body_size (length (print_request h)) (headers_of h) ≡ Some n → n ≤ length (drop r.len bytes)
+    → method ≡ span_bytes bytes r.method → path ≡ span_bytes bytes r.path
+    → (length (named (codes "hall-key") (map (header_bytes bytes) (take r.headers headers))) ≤ 1
+    → shown ≡ first_value (named (codes "hall-key") (map (header_bytes bytes) (take r.headers headers))))
+    → body ≡ slice_range bytes r.len (r.len + n)
+    → closing ≡ (r.version == 0 || list_any says_close (map (header_bytes bytes) (take r.headers headers)))
+    → (head : RequestHead) × IsRequest (take (r.len + n) bytes) head body × (method ≡ head.method)
+    × (path ≡ head.target) × (shown ≡ shown_key head) × (closing ≡ closes head)
+lent_at bytes headers r h n method path shown body closing found size fits methods paths keys bodies close = (
+  h,
+  subst (IsRequest (take (r.len + n) bytes) h) (sym (bodies ∙ ap (λ k. take k (drop r.len bytes)) (rest_of r.len n)))
+      (subst (λ (len : ℕ). IsRequest (take (len + n) bytes) h (take n (drop r.len bytes))) (sym found.len)
+      (request_at bytes h (drop r.len bytes) n found.reads size fits)),
+  methods ∙ found.method,
+  paths ∙ found.path,
+  subst (λ (fields : List Header). length (named (codes "hall-key") fields) ≤ 1
+      → shown ≡ first_value (named (codes "hall-key") fields)) found.fields keys
+      (one_key (length (print_request h)) n (headers_of h) size),
+  close ∙ ap₂ (λ (version : ℕ) (fields : List Header). version == 0 || list_any says_close fields) found.version found.fields,
+)
 
 pub never_past : (bytes : List ℕ) → HasNoRequest bytes → 8192 ≤ length bytes → NeverHas bytes
 never_past bytes none long more front rest split (k, body, whole) =

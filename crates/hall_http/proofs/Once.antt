@@ -1,6 +1,7 @@
 -- What bytes are as requests and as records, they are in one way.
 use Rattle.std.proofs.Common.{◌≡◌, ◌∙◌, sym, ap, ap₂, subst, refl, arith, ℕ, List, [], ◌∷◌, ◌++◌, length, All}
-use Rattle.std.proofs.Common.{Option, Some, None, append_assoc, flat_map}
+use Rattle.std.proofs.Common.{Option, Some, None, append_assoc, flat_map, ◌≤◌, take, drop}
+use Rattle.std.proofs.lemmas.List.{append-nil, length-take-le, take-append-drop}
 use Rattle.std.proofs.lemmas.List.Elements.{All-head, All-tail}
 use Rattle.httparse.specs.Grammar.{RequestHead, print_request, ReadsRequest}
 use Rattle.httparse.proofs.GrammarLemmas.{request_unique, ReadsRequest-append}
@@ -43,6 +44,14 @@ pub one_first : (one other rest left : List ℕ) → IsWhole one → IsWhole oth
 one_first one other rest left (h, body, is) (k, more, it) same =
     let (heads, bodies, rests) = first_parts one other h k body more rest left is it same in
     (is.reads.1 ∙ ap₂ (λ h s. print_request h ++ s) heads bodies ∙ sym it.reads.1, rests)
+
+-- bytes that are one whole request have no shorter one at their front
+pub whole_front : (bytes : List ℕ) (n : ℕ) → n ≤ length bytes → IsWhole (take n bytes) → IsWhole bytes
+    → n ≡ length bytes
+whole_front bytes n fits front whole =
+    let same = (one_first (take n bytes) bytes (drop n bytes) [] front whole
+    (take-append-drop n bytes ∙ sym (append-nil bytes))).0 in
+    sym (length-take-le n bytes fits) ∙ ap length same
 
 abbrev joined : List (List ℕ) → List ℕ
 joined requests = flat_map (λ request. request) requests

@@ -1,5 +1,5 @@
 -- The answer to a request: of the bytes that asked for it, and what it leaves of a sane world.
-use Rattle.std.proofs.Common.{◌≡◌, sym, subst, refl, ℕ, List, inl, inr}
+use Rattle.std.proofs.Common.{◌≡◌, sym, subst, refl, ℕ, List, inl, inr, Option}
 use Rattle.hall_policy.specs.World.{World}
 use Rattle.hall_policy.specs.declared.request.Request.{Request}
 use Rattle.hall_store.specs.Store.{Content}
@@ -7,11 +7,35 @@ use Rattle.hall_desk.specs.Plans.{IsNobodys, WritesIfAny}
 use Rattle.hall_desk.specs.Run.{IsTimed}
 use Rattle.hall_desk.specs.Sane.{Sane}
 use Rattle.hall_desk.proofs.StepsSane.{step_sane}
-use Rattle.std.specs.Prelude.{Result, Ok}
-use Rattle.hall_http.specs.Answered.{Answers, AnswersRequest, AnswersRequestOver}
-use Rattle.hall_http.specs.Request.{RequestOf, AsksNothing}
+use Rattle.std.specs.Prelude.{Result, Ok, Err}
+use Rattle.hall_http.specs.Answered.{Answers, AnswersOver, AnswersFault, AnswersRequest, AnswersRequestOver}
+use Rattle.hall_http.specs.Head.{IsLentBy, shown_key}
+use Rattle.hall_http.specs.Request.{RequestOf, RoutedOf, AsksFor, AsksNothing}
+use Rattle.hall_http.specs.Routes.{route_in}
+use Rattle.hall_http.specs.declared.head.Whole.{Whole}
 use Rattle.hall_http.specs.declared.form.FormFault.{FormFault}
 use Rattle.hall_http.proofs.Asked.{one_asked}
+
+-- what a request asks for whose parts are lent, the bytes ask for that lend them
+pub asked_of : (bytes : List ℕ) (whole : Whole) (outcome : Result Request FormFault) → IsLentBy bytes whole
+    → AsksFor whole outcome → RequestOf bytes outcome
+asked_of bytes whole outcome (head, is, method, path, key, says) asks =
+    let body = whole.body.now in
+    let by_key = subst (λ (shown : Option (List ℕ)). RoutedOf shown body (route_in whole.method.now whole.path.now) outcome) key asks in
+    let by_path = subst (λ (target : List ℕ). RoutedOf (shown_key head) body (route_in whole.method.now target) outcome) path by_key in
+    inr (
+      head,
+      body,
+      is,
+      subst (λ (name : List ℕ). RoutedOf (shown_key head) body (route_in name head.target) outcome) method by_path,
+    )
+
+-- bytes are answered by their fault, and the store stays
+pub fault_answers : (old : Content) (t : ℕ) (bytes text : List ℕ) (found : FormFault) → RequestOf bytes (Err found)
+    → AnswersFault found text → AnswersOver old t bytes text old
+fault_answers old t bytes text found reads (inl written) =
+    inl ((λ world. (inr (inl (record { found = found; reads = reads; written = written }), refl))), λ s. refl)
+fault_answers old t bytes text found reads (inr unavailable) = inl ((λ world. (inr (inr unavailable, refl))), λ s. refl)
 
 pub answers_bytes : (world : World) (t : ℕ) (bytes : List ℕ) (request : Request) (text : List ℕ) (after : World)
     → RequestOf bytes (Ok request) → IsTimed (t, request) → AnswersRequest world t request text after

@@ -1,18 +1,7 @@
 -- Requests that are answered one after another, each with its reply.
-use Rattle.std.specs.Prelude.{◌≡◌, ◌==◌, ℕ, List, [], ◌∷◌, Bool, true, false, ◌&&◌, ◌||◌, flat_map, All}
-use Rattle.std.specs.Prelude.{Option, codes}
-use Rattle.std.specs.List.{list_any}
-use Rattle.std.specs.Str.{str_eq_ignore_ascii_case}
+use Rattle.std.specs.Prelude.{◌≡◌, ℕ, List, [], ◌∷◌, true, false, flat_map, All, Option}
 use Rattle.httparse.specs.Grammar.{RequestHead}
-use Rattle.hall_http.specs.Head.{Header, headers_of, IsRequest, IsWhole}
-
--- the header is Connection: close, in any case of its letters
-abbrev pub says_close : Header → Bool
-says_close h = str_eq_ignore_ascii_case h.0 (codes "connection") && str_eq_ignore_ascii_case h.1 (codes "close")
-
--- the connection closes after a request with this head: one of HTTP/1.0, or one that says so
-abbrev pub closes : RequestHead → Bool
-closes head = head.minor == 0 || list_any says_close (headers_of head)
+use Rattle.hall_http.specs.Head.{IsRequest, IsWhole, closes}
 
 -- the bytes are one whole request, after which the connection closes
 abbrev pub IsClosing : List ℕ → Type 0

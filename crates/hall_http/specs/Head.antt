@@ -1,8 +1,8 @@
 -- One request on the wire: a head as httparse's grammar has it, and a body as long as the head says.
 use Rattle.std.specs.Prelude.{◌≡◌, ◌≤◌, ◌<◌, ◌+◌, ◌==◌, ◌⊎◌, ℕ, List, [], ◌∷◌, ◌++◌, length, take}
-use Rattle.std.specs.Prelude.{map, filter, Bool, ◌&&◌, if◌then◌else◌}
+use Rattle.std.specs.Prelude.{map, filter, Bool, ◌&&◌, ◌||◌, if◌then◌else◌}
 use Rattle.std.specs.Prelude.{nat_lt, nat_le, Option, Some, None, option_map, codes}
-use Rattle.std.specs.List.{list_all}
+use Rattle.std.specs.List.{list_all, list_any}
 use Rattle.std.specs.Char.{is_ascii_digit}
 use Rattle.std.specs.Str.{str_eq_ignore_ascii_case}
 use Rattle.std.specs.Str.Parse.{digits_value}
@@ -107,11 +107,21 @@ first_value (h ∷ more) = Some h.1
 abbrev pub shown_key : RequestHead → Option (List ℕ)
 shown_key head = first_value (named (codes "hall-key") (headers_of head))
 
--- the parts that the code lends are those of the one request that the bytes are
+-- the header is Connection: close, in any case of its letters
+abbrev pub says_close : Header → Bool
+says_close h = str_eq_ignore_ascii_case h.0 (codes "connection") && str_eq_ignore_ascii_case h.1 (codes "close")
+
+-- the connection closes after a request with this head: one of HTTP/1.0, or one that says so
+abbrev pub closes : RequestHead → Bool
+closes head = head.minor == 0 || list_any says_close (headers_of head)
+
+-- the parts that the code lends are those of the one request that the bytes are, and it tells whether the connection
+-- closes after it
 abbrev pub IsLentBy : List ℕ → Whole → Type 0
 IsLentBy bytes whole =
     (head : RequestHead) × IsRequest bytes head whole.body.now × (whole.method.now ≡ head.method)
     × (whole.path.now ≡ head.target) × (option_map (λ key. key.now) whole.key ≡ shown_key head)
+    × (whole.closes ≡ closes head)
 
 -- the headers of one name are none, one with this value, or many
 abbrev pub Finds : Found → List Header → Type 0
@@ -123,8 +133,9 @@ Finds found.Many headers = 1 < length headers
 abbrev pub IsUnfinishedBelow : ℕ → List ℕ → Type 0
 IsUnfinishedBelow least bytes = (more : List ℕ) → length (bytes ++ more) < least → IsUnfinished (bytes ++ more)
 
--- the first request ends there; it is unfinished, and stays so below so many bytes; or no bytes can make it whole
+-- the first request ends there, and is what is lent; it is unfinished, and stays so below so many bytes; or no bytes
+-- can make it whole
 abbrev pub Cuts : List ℕ → Cut → Type 0
-Cuts bytes (cut.Whole n) = (n ≤ length bytes) × IsWhole (take n bytes)
+Cuts bytes (cut.Whole size request) = (size ≤ length bytes) × IsLentBy (take size bytes) request
 Cuts bytes (cut.More least) = IsUnfinished bytes × IsUnfinishedBelow least bytes
 Cuts bytes cut.Never = NeverHas bytes

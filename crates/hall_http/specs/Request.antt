@@ -1,5 +1,6 @@
 -- What the bytes of one request ask of the hall, or the first fault of their form.
-use Rattle.std.specs.Prelude.{◌≡◌, ◌⊎◌, ℕ, List, if◌then◌else◌, Option, Some, None, option_and_then, Result, Ok, Err}
+use Rattle.std.specs.Prelude.{◌≡◌, ◌⊎◌, ℕ, List, if◌then◌else◌, Option, Some, None, option_and_then, option_map}
+use Rattle.std.specs.Prelude.{Result, Ok, Err}
 use Rattle.httparse.specs.Grammar.{RequestHead}
 use Rattle.hall_grid.specs.declared.fault.TextFault.{TextFault}
 use Rattle.hall_grid.specs.declared.fault.TextFault.TheVariants as text_fault
@@ -23,6 +24,7 @@ use Rattle.hall_http.specs.declared.form.FormFault.{FormFault}
 use Rattle.hall_http.specs.declared.form.FormFault.TheVariants as fault
 use Rattle.hall_http.specs.declared.form.RequestFault.{RequestFault}
 use Rattle.hall_http.specs.declared.form.RequestFault.TheVariants as unread
+use Rattle.hall_http.specs.declared.head.Whole.{Whole}
 use Rattle.hall_http.specs.declared.routes.Route.{Route}
 use Rattle.hall_http.specs.declared.routes.Route.TheVariants as route
 use Rattle.hall_http.specs.Body.{answer_in, text_in, budget_in, protest_in, ruling_in}
@@ -105,6 +107,11 @@ RoutedOf shown body (Ok found) outcome =
 -- what a head and a body ask for
 abbrev pub AskedOf : RequestHead → List ℕ → Result Request FormFault → Type 0
 AskedOf head body outcome = RoutedOf (shown_key head) body (route_in head.method head.target) outcome
+
+-- what a request whose parts the code lends asks for
+abbrev pub AsksFor : Whole → Result Request FormFault → Type 0
+AsksFor whole outcome =
+    RoutedOf (option_map (λ key. key.now) whole.key) whole.body.now (route_in whole.method.now whole.path.now) outcome
 
 -- the bytes are one whole request, which asks for this or has this first fault, or they aren't
 abbrev pub RequestOf : List ℕ → Result Request FormFault → Type 0

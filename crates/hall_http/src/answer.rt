@@ -1,5 +1,5 @@
 //! Bytes to bytes: a request is read, a step of the hall made, and its reply written.
-ghost use Rattle.std.specs.Prelude.{◌≡◌, Ok, IfOk, OnErr, string_bytes};
+ghost use Rattle.std.specs.Prelude.{◌≡◌, ℕ, List, Ok, IfOk, OnErr, string_bytes};
 ghost use Rattle.hall_store.specs.Store.{Leads, WritesOnce};
 ghost use Rattle.hall_desk.specs.Desk.{kept_by, SaneThen};
 ghost use Rattle.hall_desk.specs.Plans.{IsNobodys, WritesIfAny};
@@ -7,10 +7,12 @@ ghost use Rattle.hall_desk.specs.Promises.{HasUniqueSolutions, RightAnswersAreSo
 ghost use Rattle.hall_desk.specs.Run.{IsTimed};
 ghost use Rattle.hall_desk.specs.Sane.{Sane};
 ghost use Rattle.hall_http.specs.Answered.{answer_text, AnswersFault, AnswersOver, AnswersRequestOver, IsStepReplyOver};
+ghost use Rattle.hall_http.specs.Head.{IsLentBy};
 ghost use Rattle.hall_http.specs.Request.{AsksNothing, RequestOf};
 ghost use Rattle.hall_policy.specs.declared.request.Request.{Request as Asked};
 
 use crate::form::{FormFault, RequestFault};
+use crate::head::{Whole, read_whole};
 use crate::reply::{UNAVAILABLE, fault_bytes, reply_bytes};
 use crate::request::request_of;
 use crate::routes::Routes;
@@ -63,7 +65,30 @@ pub fn answer_bytes<S: Store>(
     ensures unique { SaneThen HasUniqueSolutions (S.content (kept_by desk.old)) (S.content (kept_by desk.new)) }
     ensures right { SaneThen RightAnswersAreSolutions (S.content (kept_by desk.old)) (S.content (kept_by desk.new)) }
 {
-    match request_of(alloc, routes, bytes) {
+    match read_whole(bytes) {
+        Some(whole) => answer_whole(alloc, routes, desk, moment, &whole),
+        None => answer_fault(alloc, FormFault::NotWhole),
+    }
+}
+
+/// Answers a whole request at the moment as `answer_bytes` answers the bytes that it is, and makes its change.
+pub(crate) fn answer_whole<S: Store>(
+    alloc: Global,
+    routes: &Routes,
+    desk: &mut Desk<S>,
+    moment: Moment,
+    whole: &Whole<'_>,
+) -> Answer
+    ensures leads { Leads (S.content (kept_by desk.old)) (S.content (kept_by desk.new)) }
+    ensures once { WritesOnce (S.content (kept_by desk.old)) (S.content (kept_by desk.new)) }
+    ensures quiet { (bytes : List ℕ) → IsLentBy bytes whole.now → (asked : Asked) → RequestOf bytes (Ok asked) →
+        WritesIfAny (S.content (kept_by desk.old)) moment asked (S.content (kept_by desk.new)) }
+    ensures answers { (bytes : List ℕ) → IsLentBy bytes whole.now → (S.content (kept_by desk.new)).honest →
+        AnswersOver (S.content (kept_by desk.old)) moment bytes (answer_text result) (S.content (kept_by desk.new)) }
+    ensures untouched { (bytes : List ℕ) → IsLentBy bytes whole.now → AsksNothing bytes → desk.new ≡ desk.old }
+    ensures sane { SaneThen Sane (S.content (kept_by desk.old)) (S.content (kept_by desk.new)) }
+{
+    match request_of(alloc, routes, whole) {
         Ok(request) => answer_request(alloc, desk, moment, &request),
         Err(RequestFault::Form(fault)) => answer_fault(alloc, fault),
         Err(RequestFault::Memory) => Answer::Unavailable,

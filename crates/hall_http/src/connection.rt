@@ -1,16 +1,15 @@
 //! One connection: requests are read, answered and their replies written, one after another.
-ghost use Rattle.std.specs.Prelude.{◌≡◌, [], ℕ, Option, IfOk, OnErr};
+ghost use Rattle.std.specs.Prelude.{◌≡◌, [], ℕ, List, Option, IfOk, OnErr};
 ghost use Rattle.hall_desk.specs.Desk.{kept_by, SaneThen};
 ghost use Rattle.hall_desk.specs.Sane.{Sane};
 ghost use Rattle.hall_desk.specs.Promises.{HasUniqueSolutions, RightAnswersAreSolutions};
-ghost use Rattle.hall_http.specs.Head.{IsWhole};
+ghost use Rattle.hall_http.specs.Head.{IsLentBy};
 ghost use Rattle.hall_http.specs.Sending.{IsTurn, Refuses, EndsInput};
 ghost use Rattle.hall_http.specs.Served.{IsHandled, IsServed};
 
-use crate::closing::closes;
 use crate::device::write_all;
 use crate::handler::Handler;
-use crate::head::{Cut, cut_from};
+use crate::head::{Cut, Whole, cut_from};
 use crate::inbox::{Inbox, ReadFault};
 use crate::routes::Routes;
 use crate::session::{routes_and_inbox, send};
@@ -137,9 +136,8 @@ fn serve_requests<H: Handler, R: Read, W: Write, C: Clock>(
     let mut least = 0;
     while requests < REQUEST_LIMIT {
         match cut_from(inbox.unread(), least) {
-            Cut::Whole(size) => {
-                let request = &inbox.unread()[..size];
-                let turn = exchange(alloc, routes, request, handler, writer, clock);
+            Cut::Whole { size, request } => {
+                let turn = exchange(alloc, routes, &request, handler, writer, clock);
                 inbox.pass(size);
                 requests += 1;
                 least = 0;
@@ -172,20 +170,19 @@ fn serve_requests<H: Handler, R: Read, W: Write, C: Clock>(
 fn exchange<H: Handler, W: Write, C: Clock>(
     alloc: Global,
     routes: &Routes,
-    request: &[u8],
+    request: &Whole<'_>,
     handler: &mut H,
     writer: &mut Counted<W>,
     clock: &mut C,
 ) -> Turn
-    requires { IsWhole request.now }
-    ensures { IsTurn H.answers C.now_gives handler.old clock.old request.now handler.new clock.new
+    ensures { (bytes : List ℕ) → IsLentBy bytes request.now →
+        IsTurn H.answers C.now_gives handler.old clock.old bytes handler.new clock.new
         (W.contents writer.old.device) (W.contents writer.new.device) writer.old.failures writer.new.failures result }
 {
-    let closing = closes(request);
     let moment = clock.now();
     let answer = handler.answer(alloc, routes, moment, request);
     match send(writer, answer) {
-        Ok(()) if closing => Turn::Closing,
+        Ok(()) if request.closes => Turn::Closing,
         Ok(()) => Turn::Open,
         Err(_) => Turn::Failed,
     }

@@ -214,7 +214,7 @@ impl Guest {
         }
         self.size = size;
         match cut_request(self.inbox.unread()) {
-            Cut::Whole(first) => self.size = first,
+            Cut::Whole { size: first, .. } => self.size = first,
             Cut::Never => {}
             Cut::More(_) if self.has_ended => self.is_closing = true,
             Cut::More(_) if size == 0 => return self.wait(Stage::Idle),

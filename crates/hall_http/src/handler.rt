@@ -2,9 +2,11 @@
 ghost use Rattle.std.specs.Prelude.{◌≡◌, ℕ, List, Option};
 ghost use Rattle.hall_desk.specs.Desk.{kept_by};
 ghost use Rattle.hall_http.specs.Answered.{answer_text};
+ghost use Rattle.hall_http.specs.Head.{IsLentBy};
 ghost use Rattle.hall_http.specs.Serving.{IsAnswered};
 
-use crate::answer::{Answer, answer_bytes};
+use crate::answer::{Answer, answer_whole};
+use crate::head::Whole;
 use crate::routes::Routes;
 use hall_desk::Desk;
 use hall_policy::Moment;
@@ -21,9 +23,10 @@ pub(crate) trait Handler {
         alloc: Global,
         routes: &Routes,
         moment: Option<Moment>,
-        request: &[u8],
+        request: &Whole<'_>,
     ) -> Answer
-        ensures { answers self.old moment request.now (answer_text result) self.new };
+        ensures { (bytes : List ℕ) → IsLentBy bytes request.now →
+            answers self.old moment bytes (answer_text result) self.new };
 }
 
 impl<S: Store> Handler for Desk<S> {
@@ -34,10 +37,10 @@ impl<S: Store> Handler for Desk<S> {
         alloc: Global,
         routes: &Routes,
         moment: Option<Moment>,
-        request: &[u8],
+        request: &Whole<'_>,
     ) -> Answer {
         match moment {
-            Some(moment) => answer_bytes(alloc, routes, self, moment, request),
+            Some(moment) => answer_whole(alloc, routes, self, moment, request),
             None => Answer::Unavailable,
         }
     }

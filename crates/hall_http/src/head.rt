@@ -1,9 +1,11 @@
 //! One request on the wire: its head, and how long its body is.
-ghost use Rattle.std.specs.Prelude.{◌≡◌, ◌≤◌, ℕ, List, length, map, All, ◌++◌, ◌∷◌, [], MatchOption, option_map, codes};
+ghost use Rattle.std.specs.Prelude.{◌≡◌, ◌≤◌, ◌==◌, ◌||◌, ℕ, List, length, map, All, ◌++◌, ◌∷◌, []};
+ghost use Rattle.std.specs.Prelude.{MatchOption, option_map, codes};
+ghost use Rattle.std.specs.List.{list_any};
 ghost use Rattle.std.specs.Str.{str_eq_ignore_ascii_case};
 ghost use Rattle.httparse.specs.Spans.{IsHeaderWithin, header_bytes, span_bytes};
 ghost use Rattle.hall_http.specs.Head.{named, Header, Finds, Cuts, IsWhole, IsUnfinishedBelow, first_value};
-ghost use Rattle.hall_http.specs.Head.{IsLentBy, length_of_text, body_size};
+ghost use Rattle.hall_http.specs.Head.{IsLentBy, length_of_text, body_size, says_close};
 
 use httparse::Status;
 use httparse::spans::{EMPTY_HEADER_SPAN, HeaderSpan, parse_request};
@@ -14,11 +16,21 @@ const HEAD_LIMIT: usize = 8192;
 /// The most bytes of a body.
 const BODY_LIMIT: usize = 65_536;
 
+/// A whole request: what of its head asks for something, its body, and whether the connection closes after it.
+#[derive(Clone, Copy)]
+pub(crate) struct Whole<'b> {
+    pub(crate) method: &'b [u8],
+    pub(crate) path: &'b [u8],
+    pub(crate) key: Option<&'b [u8]>,
+    pub(crate) body: &'b [u8],
+    pub(crate) closes: bool,
+}
+
 /// Where the first request of some bytes ends.
 #[derive(Clone, Copy)]
-pub enum Cut {
-    /// After so many bytes.
-    Whole(usize),
+pub(crate) enum Cut<'b> {
+    /// After so many bytes, which are this request.
+    Whole { size: usize, request: Whole<'b> },
     /// It is unfinished, and needn't be looked at again before so many bytes are there.
     More(usize),
     /// No bytes can make it whole.
@@ -111,21 +123,74 @@ fn body_room(bytes: &[u8], headers: &[HeaderSpan], size: usize) -> Option<usize>
     Some(length)
 }
 
-/// Finds the end of the first request of the bytes: a head as `httparse` reads it, of at most 8,192 bytes and 32
-/// headers, and a body as long as the head says.
-pub fn cut_request(bytes: &[u8]) -> Cut
+/// Whether the header is `Connection: close`, in any case of its letters.
+fn is_close(bytes: &[u8], header: &HeaderSpan) -> bool
+    requires { IsHeaderWithin (length bytes.now) header.now }
+    ensures { result ≡ says_close (header_bytes bytes.now header.now) }
+{
+    header.name.of(bytes).eq_ignore_ascii_case(b"connection")
+        && header.value.of(bytes).eq_ignore_ascii_case(b"close")
+}
+
+/// Whether one of the headers is `Connection: close`.
+fn have_close(bytes: &[u8], headers: &[HeaderSpan]) -> bool
+    requires { All (IsHeaderWithin (length bytes.now)) headers.now }
+    ensures { result ≡ list_any says_close (map (header_bytes bytes.now) headers.now) }
+{
+    let mut found = false;
+    for header in headers {
+        if is_close(bytes, header) {
+            found = true;
+        }
+    }
+    found
+}
+
+/// Whether the connection closes after a request of this version with these headers.
+fn closes_after(bytes: &[u8], headers: &[HeaderSpan], version: u8) -> bool
+    requires { All (IsHeaderWithin (length bytes.now)) headers.now }
+    ensures { result ≡ (version == 0 || list_any says_close (map (header_bytes bytes.now) headers.now)) }
+{
+    version == 0 || have_close(bytes, headers)
+}
+
+/// The value of the key's header, where there is one.
+fn shown_key<'b>(bytes: &'b [u8], headers: &[HeaderSpan]) -> Option<&'b [u8]>
+    requires { All (IsHeaderWithin (length bytes.now)) headers.now }
+    ensures { length (named (codes "hall-key") (map (header_bytes bytes.now) headers.now)) ≤ 1 →
+        option_map (λ value. value.now) result
+        ≡ first_value (named (codes "hall-key") (map (header_bytes bytes.now) headers.now)) }
+{
+    match find_value(bytes, headers, b"hall-key") {
+        Found::One(value) => Some(value),
+        Found::None | Found::Many => None,
+    }
+}
+
+/// Finds the end of the first request of the bytes, and reads it: a head as `httparse` reads it, of at most 8,192 bytes
+/// and 32 headers, and a body as long as the head says.
+pub(crate) fn cut_request(bytes: &[u8]) -> Cut<'_>
     ensures { Cuts bytes.now result }
 {
     let mut headers = [EMPTY_HEADER_SPAN; 32];
     match parse_request(bytes, &mut headers) {
         Ok(Status::Complete(head)) => {
-            let Some(room) = body_room(bytes, &headers[..head.headers], head.len) else {
+            let fields = &headers[..head.headers];
+            let Some(room) = body_room(bytes, fields, head.len) else {
                 return Cut::Never;
             };
             if bytes.len() - head.len < room {
                 return Cut::More(head.len + room);
             }
-            Cut::Whole(head.len + room)
+            let size = head.len + room;
+            let request = Whole {
+                method: head.method.of(bytes),
+                path: head.path.of(bytes),
+                key: shown_key(bytes, fields),
+                body: &bytes[head.len..size],
+                closes: closes_after(bytes, fields, head.version),
+            };
+            Cut::Whole { size, request }
         }
         Ok(Status::Partial) if bytes.len() < HEAD_LIMIT => Cut::More(0),
         _ => Cut::Never,
@@ -133,7 +198,7 @@ pub fn cut_request(bytes: &[u8]) -> Cut
 }
 
 /// The same, where the bytes are known to be unfinished below so many: no head is read anew for each piece of a body.
-pub(crate) fn cut_from(bytes: &[u8], least: usize) -> Cut
+pub(crate) fn cut_from(bytes: &[u8], least: usize) -> Cut<'_>
     requires { IsUnfinishedBelow least bytes.now }
     ensures { Cuts bytes.now result }
 {
@@ -143,45 +208,18 @@ pub(crate) fn cut_from(bytes: &[u8], least: usize) -> Cut
     cut_request(bytes)
 }
 
-/// A whole request: what of its head asks for something, and its body.
-#[derive(Clone, Copy)]
-pub(crate) struct Whole<'b> {
-    pub(crate) method: &'b [u8],
-    pub(crate) path: &'b [u8],
-    pub(crate) key: Option<&'b [u8]>,
-    pub(crate) body: &'b [u8],
-}
-
 /// The request that the bytes are, where they are one and no more.
 pub(crate) fn read_whole(bytes: &[u8]) -> Option<Whole<'_>>
     ensures { MatchOption result (¬ (IsWhole bytes.now)) (IsLentBy bytes.now) }
 {
-    let mut headers = [EMPTY_HEADER_SPAN; 32];
-    let Ok(Status::Complete(head)) = parse_request(bytes, &mut headers) else {
-        return None;
-    };
-    let fields = &headers[..head.headers];
-    let room = body_room(bytes, fields, head.len)?;
-    if bytes.len() - head.len != room {
-        return None;
-    }
-    Some(Whole {
-        method: head.method.of(bytes),
-        path: head.path.of(bytes),
-        key: key_of(bytes, fields),
-        body: &bytes[head.len..],
-    })
-}
-
-/// The value of the key's header, where there is one.
-fn key_of<'b>(bytes: &'b [u8], headers: &[HeaderSpan]) -> Option<&'b [u8]>
-    requires { All (IsHeaderWithin (length bytes.now)) headers.now }
-    ensures { length (named (codes "hall-key") (map (header_bytes bytes.now) headers.now)) ≤ 1 →
-        option_map (λ value. value.now) result
-        ≡ first_value (named (codes "hall-key") (map (header_bytes bytes.now) headers.now)) }
-{
-    match find_value(bytes, headers, b"hall-key") {
-        Found::One(value) => Some(value),
-        Found::None | Found::Many => None,
+    match cut_request(bytes) {
+        Cut::Whole { size, request } => {
+            if size != bytes.len() {
+                return None;
+            }
+            Some(request)
+        }
+        Cut::More(_) => None,
+        Cut::Never => None,
     }
 }

@@ -4,7 +4,6 @@
 mod answer;
 mod body;
 mod clock;
-mod closing;
 mod connection;
 mod crowd;
 mod device;
@@ -36,7 +35,6 @@ pub use connection::{Clock, ServeEnd, serve};
 pub use crowd::Crowd;
 pub use device::write_all;
 pub use fault::{DeviceFault, ReplayFault};
-pub use head::{Cut, cut_request};
 pub use host::{Host, SystemHost};
 pub use law::{law_bytes, law_requests, law_runs};
 pub use line::Line;

@@ -1,19 +1,17 @@
-//! The bytes of one request, read as what it asks for.
+//! One request, read as what it asks for.
 ghost use Rattle.std.specs.Prelude.{◌≡◌, IfOk, Ok, option_and_then, option_map};
 ghost use Rattle.hall_http.specs.Given.{Finds};
-ghost use Rattle.hall_http.specs.Request.{key_in, ActionOf, PutOf, RequestOf};
+ghost use Rattle.hall_http.specs.Request.{key_in, ActionOf, PutOf, AsksFor};
 
 use crate::body::{read_answer, read_budget, read_protest, read_ruling, read_text};
 use crate::form::{FormFault, RequestFault, puzzle_fault};
-use crate::head::read_whole;
+use crate::head::Whole;
 use crate::routes::{Route, Routes, route_of};
 use crate::words::checked;
 use hall_grid::parse_puzzle;
 use hall_policy::{Action, Key, Name, PuzzleKey, PuzzleNumber, Request, RoundId, Token};
 use hall_sheet::{read_people, read_round};
 use std::alloc::{AllocError, Global};
-
-const NOT_WHOLE: RequestFault = RequestFault::Form(FormFault::NotWhole);
 
 /// The caller's key; none where none is shown, or what is shown isn't of a key's form.
 fn key_of(alloc: Global, shown: Option<&[u8]>) -> Result<Option<Key>, AllocError>
@@ -135,15 +133,14 @@ fn action_of(alloc: Global, route: Route, body: &[u8]) -> Result<Action, Request
     }
 }
 
-/// The request that the bytes are.
+/// What a whole request asks for.
 pub(crate) fn request_of(
     alloc: Global,
     routes: &Routes,
-    bytes: &[u8],
+    whole: &Whole<'_>,
 ) -> Result<Request, RequestFault>
-    ensures { Finds result (RequestOf bytes.now) }
+    ensures { Finds result (AsksFor whole.now) }
 {
-    let whole = read_whole(bytes).ok_or(NOT_WHOLE)?;
     let route = route_of(alloc, routes, whole.method, whole.path)?;
     let action = action_of(alloc, route, whole.body)?;
     let key = key_of(alloc, whole.key)?;

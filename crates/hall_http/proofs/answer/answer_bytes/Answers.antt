@@ -1,59 +1,34 @@
-use Rattle.std.proofs.Common.{refl, inl, inr, List, ℕ}
+use Rattle.std.proofs.Common.{refl, inl}
 use Rattle.hall_desk.specs.Desk.{kept_by}
 use Rattle.hall_desk.proofs.Promises.{unique_solutions, right_answers}
-use Rattle.hall_http.specs.Answered.{answer_text, Answers, AnswersRequest}
-use Rattle.hall_http.proofs.Refusals.{unavailable_reply}
-use Rattle.hall_http.proofs.Requests.{answers_bytes, request_sane, nobodys, quiet_bytes}
-use Rattle.hall_store.proofs.Knowing.{over_turn}
+use Rattle.hall_http.specs.declared.form.FormFault.TheVariants as fault
+use Rattle.hall_http.proofs.Requests.{fault_answers}
 use Rattle.hall_http.proofs.answer.answer_bytes.Goals as goal
 
-pub returns-in-Ok-clause-answers : goal.returns-in-Ok-clause-answers
-returns-in-Ok-clause-answers g c =
-    let t = c.args.moment in
-    let request = c.in-Ok.request in
-    let text : List ℕ = answer_text c.answer_request.result in
-    λ h. over_turn (λ before after. AnswersRequest before t request text after) (λ before after. Answers before t c.args.bytes.now text after)
-    (g.S.ReadStore.content (kept_by c.args.desk.now)) (g.S.ReadStore.content (kept_by c.answer_request.new.desk))
-    (λ before after says. answers_bytes before t c.args.bytes.now request text after c.in-Ok.ensures c.answer_request.ensures.timed says)
-    (c.answer_request.ensures.answers h)
+pub returns-in-Some-clause-quiet : goal.returns-in-Some-clause-quiet
+returns-in-Some-clause-quiet g c = c.answer_whole.ensures.quiet c.args.bytes.now c.in-Some.ensures
 
-pub returns-in-Ok-clause-untouched : goal.returns-in-Ok-clause-untouched
-returns-in-Ok-clause-untouched g c = λ nothing.
-    c.answer_request.ensures.untouched (nobodys c.args.bytes.now c.in-Ok.request c.in-Ok.ensures nothing)
+pub returns-in-Some-clause-answers : goal.returns-in-Some-clause-answers
+returns-in-Some-clause-answers g c = c.answer_whole.ensures.answers c.args.bytes.now c.in-Some.ensures
 
-pub returns-in-Ok-clause-quiet : goal.returns-in-Ok-clause-quiet
-returns-in-Ok-clause-quiet g c =
-    quiet_bytes (g.S.ReadStore.content (kept_by c.args.desk.now)) (g.S.ReadStore.content (kept_by c.answer_request.new.desk))
-    c.args.moment c.args.bytes.now c.in-Ok.request c.in-Ok.ensures c.answer_request.ensures.quiet
+pub returns-in-Some-clause-untouched : goal.returns-in-Some-clause-untouched
+returns-in-Some-clause-untouched g c = c.answer_whole.ensures.untouched c.args.bytes.now c.in-Some.ensures
 
-pub returns-in-Ok-clause-sane : goal.returns-in-Ok-clause-sane
-returns-in-Ok-clause-sane g c = λ h s sane.
-    request_sane (g.S.ReadStore.content (kept_by c.args.desk.now)) (g.S.ReadStore.content (kept_by c.answer_request.new.desk))
-    c.args.moment c.in-Ok.request _ c.answer_request.ensures.timed (c.answer_request.ensures.answers h) s sane
+pub returns-in-Some-clause-unique : goal.returns-in-Some-clause-unique
+returns-in-Some-clause-unique g c = λ h s sane.
+    unique_solutions (g.S.ReadStore.content (kept_by c.answer_whole.new.desk)).world (c.answer_whole.ensures.sane h s sane)
 
-pub returns-in-Ok-clause-unique : goal.returns-in-Ok-clause-unique
-returns-in-Ok-clause-unique g c = λ h s sane.
-    unique_solutions (g.S.ReadStore.content (kept_by c.answer_request.new.desk)).world
-    (request_sane (g.S.ReadStore.content (kept_by c.args.desk.now)) (g.S.ReadStore.content (kept_by c.answer_request.new.desk))
-    c.args.moment c.in-Ok.request _ c.answer_request.ensures.timed (c.answer_request.ensures.answers h) s sane)
+pub returns-in-Some-clause-right : goal.returns-in-Some-clause-right
+returns-in-Some-clause-right g c = λ h s sane.
+    right_answers (g.S.ReadStore.content (kept_by c.answer_whole.new.desk)).world (c.answer_whole.ensures.sane h s sane)
 
-pub returns-in-Ok-clause-right : goal.returns-in-Ok-clause-right
-returns-in-Ok-clause-right g c = λ h s sane.
-    right_answers (g.S.ReadStore.content (kept_by c.answer_request.new.desk)).world
-    (request_sane (g.S.ReadStore.content (kept_by c.args.desk.now)) (g.S.ReadStore.content (kept_by c.answer_request.new.desk))
-    c.args.moment c.in-Ok.request _ c.answer_request.ensures.timed (c.answer_request.ensures.answers h) s sane)
+pub returns-in-None-clause-answers : goal.returns-in-None-clause-answers
+returns-in-None-clause-answers g c = λ h.
+    fault_answers (g.S.ReadStore.content (kept_by c.args.desk.now)) c.args.moment c.args.bytes.now _ fault.NotWhole
+    (inl (c.in-None.ensures, refl)) c.answer_fault.ensures
 
-pub returns-in-Err-Form-clause-unique : goal.returns-in-Err-Form-clause-unique
-returns-in-Err-Form-clause-unique g c = λ h s sane. unique_solutions (g.S.ReadStore.content (kept_by c.args.desk.now)).world sane
+pub returns-in-None-clause-unique : goal.returns-in-None-clause-unique
+returns-in-None-clause-unique g c = λ h s sane. unique_solutions (g.S.ReadStore.content (kept_by c.args.desk.now)).world sane
 
-pub returns-in-Err-Form-clause-right : goal.returns-in-Err-Form-clause-right
-returns-in-Err-Form-clause-right g c = λ h s sane. right_answers (g.S.ReadStore.content (kept_by c.args.desk.now)).world sane
-
-pub returns-in-Err-Memory-clause-answers : goal.returns-in-Err-Memory-clause-answers
-returns-in-Err-Memory-clause-answers g c = λ h. inl ((λ world. inr (inr unavailable_reply, refl)), λ s. refl)
-
-pub returns-in-Err-Memory-clause-unique : goal.returns-in-Err-Memory-clause-unique
-returns-in-Err-Memory-clause-unique g c = λ h s sane. unique_solutions (g.S.ReadStore.content (kept_by c.args.desk.now)).world sane
-
-pub returns-in-Err-Memory-clause-right : goal.returns-in-Err-Memory-clause-right
-returns-in-Err-Memory-clause-right g c = λ h s sane. right_answers (g.S.ReadStore.content (kept_by c.args.desk.now)).world sane
+pub returns-in-None-clause-right : goal.returns-in-None-clause-right
+returns-in-None-clause-right g c = λ h s sane. right_answers (g.S.ReadStore.content (kept_by c.args.desk.now)).world sane

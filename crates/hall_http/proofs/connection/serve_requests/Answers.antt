@@ -7,7 +7,7 @@ use Rattle.hall_http.proofs.connection.serve_requests.Goals as goal
 
 pub loop-requests-preserved-in-Open : goal.loop-requests-preserved-in-Open
 loop-requests-preserved-in-Open g c =
-    let turn = c.exchange-turn.ensures in
+    let turn = c.exchange-turn.ensures _ (rw c.unread.ensures at c.in-Whole.ensures).1 in
     let (stays, wrote, same) = rw c.in-Open.is at turn.sent in
     record {
       few = omega arith;
@@ -16,24 +16,24 @@ loop-requests-preserved-in-Open g c =
       writer = same ∙ c.loop-requests.invariant.writer;
       below = below_none _;
       kept = rw c.pass.ensures (kept_answered _ _ _ _ _ _ _ _ _ _ _ _ _ _ _ c.loop-requests.invariant.kept turn.exchange _ _ c.in-Whole.size
-          (rw c.unread-in-Whole.ensures at turn.asked) turn.exchanged _ stays wrote);
+          turn.asked turn.exchanged _ stays wrote);
     }
 
 pub returns-in-Closing : goal.returns-in-Closing
 returns-in-Closing g c =
-    let turn = c.exchange-turn.ensures in
+    let turn = c.exchange-turn.ensures _ (rw c.unread.ensures at c.in-Whole.ensures).1 in
     let (shut, wrote, same) = rw c.in-Closing.is at turn.sent in
     closes_last _ _ _ _ _ _ _ _ _ _ _ _ _ _ _ c.loop-requests.invariant.kept turn.exchange _ _ c.in-Whole.size
-    (rw c.unread-in-Whole.ensures at turn.asked) turn.exchanged _ _ _ _ c.loop-requests-test.true
+    turn.asked turn.exchanged _ _ _ _ c.loop-requests-test.true
     c.loop-requests.invariant.seldom _ shut wrote
     (c.loop-requests.invariant.reader, same ∙ c.loop-requests.invariant.writer)
 
 pub returns-in-Failed : goal.returns-in-Failed
 returns-in-Failed g c =
-    let turn = c.exchange-turn.ensures in
+    let turn = c.exchange-turn.ensures _ (rw c.unread.ensures at c.in-Whole.ensures).1 in
     let (part, rose) = rw c.in-Failed.is at turn.sent in
     unsent _ _ _ _ _ _ _ _ _ _ _ _ _ _ _ c.loop-requests.invariant.kept turn.exchange _ _ c.in-Whole.size
-    (rw c.unread-in-Whole.ensures at turn.asked) turn.exchanged _ _ _ _ c.loop-requests-test.true
+    turn.asked turn.exchanged _ _ _ _ c.loop-requests-test.true
     c.loop-requests.invariant.seldom _ part
     (c.loop-requests.invariant.reader, rw c.loop-requests.invariant.writer at rose)
 

@@ -6,13 +6,14 @@ use Rattle.hall_http.proofs.Runs.{answered_at}
 use Rattle.hall_http.proofs.handler.DeskHandler.answer.Goals as goal
 
 pub returns-in-Some : goal.returns-in-Some
-returns-in-Some g c =
+returns-in-Some g c = λ bytes lent.
     rw c.in-Some.is
-    (answered_at (λ desk. g.S.ReadStore.content (kept_by desk)) _ _ _ _ _ c.answer_bytes.ensures.leads
-    c.answer_bytes.ensures.once c.answer_bytes.ensures.quiet c.answer_bytes.ensures.answers c.answer_bytes.ensures.untouched)
+    (answered_at (λ desk. g.S.ReadStore.content (kept_by desk)) _ _ bytes _ _ c.answer_whole.ensures.leads
+    c.answer_whole.ensures.once (c.answer_whole.ensures.quiet bytes lent) (c.answer_whole.ensures.answers bytes lent)
+    (c.answer_whole.ensures.untouched bytes lent))
 
 pub returns-in-None : goal.returns-in-None
-returns-in-None g c = rw c.in-None.is (record {
+returns-in-None g c = λ bytes lent. rw c.in-None.is (record {
   leads = leads_same _;
   once = omega arith;
   quiet = λ t asked at. absurd cc;
