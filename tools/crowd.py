@@ -314,7 +314,7 @@ def main():
             finally:
                 server.terminate()
                 told = server.communicate()[1].decode()
-            files.check("what is told", told, f"hall: serving 127.0.0.1:{port} from {room}/hall.db\n")
+            files.check("what is told", told, f"hall: serving 127.0.0.1:{port} from {room}/hall.db, people {5 + ENTRANTS}, rounds 2\n")
             last_connections(words.program, f"{room}/hall.db")
     print(f"many clients: {files.passed} as wanted, {files.failed} not")
     sys.exit(1 if files.failed else 0)

@@ -139,7 +139,7 @@ module _ (world : World) (typed : IsWorld world) where
       (told ∙ sym says, stored ∙ ap (λ (r : ProtestRow). record world { protests = insert world.protests key (record r { ruling = Some ruling }) }) rows ∙ sym after)
 
   one_table_read : (id : List ℕ) (given other : Reply) → IsTableRead world id given → IsTableRead world id other → given ≡ other
-  one_table_read id given other (row, totals, text, at, are, written, told) (same, others, script, there, also, writes, says) =
+  one_table_read id given other (text, (row, at, (totals, are, written)), told) (script, (same, there, (others, also, writes)), says) =
       let rows : row ≡ tested_by same row.testers = one_round_row world world id row same refl refl at there in
       let texts : text ≡ script =
       one_table world world id same totals others text script (λ entrant. refl) (λ entrant. refl) (totals_tested world id same row.testers totals (subst (λ (r : RoundRow). AreTotals world id r totals) rows are)) also written writes in

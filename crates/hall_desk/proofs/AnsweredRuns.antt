@@ -55,7 +55,7 @@ allowed_serves world caller (action.Protest id token number text) t found given 
 allowed_serves world caller (action.Protests id) t found given new h = told given _ tt h.2.0
 allowed_serves world caller (action.Rule id entrant token ruling) t found given new h = told given _ tt h.2
 allowed_serves world caller (action.Publish id) t found given new h = told given _ tt h.2
-allowed_serves world caller (action.Table id) t found given new h = told given _ tt h.0.6
+allowed_serves world caller (action.Table id) t found given new h = told given _ tt h.0.2
 
 first_serves : (world : World) (caller : Option Person) (a : Action) (given : Reply) → FirstReply world caller a given → given ≢ reply.Unavailable
 unfolding serves

@@ -290,7 +290,7 @@ module _ (ex : List ℕ → List ℕ → List ℕ) (hidden : List ℕ → Bool) 
     -- a table of a published round: anyone's
     pub table_read : (caller : Option Person) (id : List ℕ) (found again : PuzzleState) (given answered : Reply) (new changed : World) → NoneBelow 21 world caller (action.Table id) t →
         Allowed world caller (action.Table id) t found given new → Allowed later caller (action.Table id) t again answered changed → answered ≡ given
-    table_read caller id found again given answered new changed none ((row, totals, text, at, are, is, told), same) ((row', totals', text', at', are', is', told'), same') =
+    table_read caller id found again given answered new changed none ((text, (row, at, (totals, are, is)), told), same) ((text', (row', at', (totals', are', is')), told'), same') =
         let one : row' ≡ tested_by row row'.testers = one_round_row later world id row' row refl refl at' at in
         let published : row.round.published ≡ true = true_unless row.round.published (λ no. (none rule.Published (lit< tt)).0 ((1, lit< tt, refl), (id, row.round, refl, at.head, no))) in
         let by_answers : (entrant : List ℕ) → answers_by world id entrant ≡ answers_by later id entrant = λ entrant.

@@ -15,7 +15,7 @@ use Rattle.hall_store.specs.Store.{Content, Kept, Asks, IsRoundKept}
 use Rattle.hall_store.specs.declared.change.Change.TheVariants.{Nothing}
 use Rattle.hall_store.proofs.Knowing.{carried}
 use Rattle.hall_desk.specs.Found.{IsCaller}
-use Rattle.hall_desk.specs.Copied.{IsTableAt}
+use Rattle.hall_desk.specs.Totals.{IsTableAt}
 use Rattle.hall_desk.specs.Step.{Allowed}
 use Rattle.hall_desk.specs.Plans.{IsPlanFor, HasSearched}
 use Rattle.hall_desk.specs.declared.planned.Plan.{Plan}
@@ -51,8 +51,7 @@ module _ (old mid : Content) (facts : Facts) (t : ℕ) (request : Request) (id :
         new.honest → new.serves × IsPlanFor new.world t request plan
     table_planned new text plan allowed left served made h =
         let s : new.serves = (served h).0 in
-        let at = (served h).1 in
-        let table = at.2 in (
+        let table = (served h).1 in (
           s,
           subst (λ (p : Plan). IsPlanFor new.world t request p) (sym made)
               (planned facts new.world t request Allow (reply.Table text) Nothing None
@@ -61,7 +60,7 @@ module _ (old mid : Content) (facts : Facts) (t : ℕ) (request : Request) (id :
               (λ h0 s0. subst (λ (d : Decision). IsDecided mid.world facts request.action t d) allowed (decided mid.world (found h0))) h s)
               state.GaveUp
               (subst (λ (a : Action). Allowed new.world facts.caller a t state.GaveUp (reply.Table text) new.world) (sym is)
-              ((at.0, table.0, text, at.1, table.1, table.2, refl), refl))
+              ((text, table, refl), refl))
               tt (λ _. refl) (λ allowed. subst (λ (a : Action). HasSearched new.world a (record { reply = reply.Table text; change = Nothing; visits = None })) (sym is) tt)),
         )
 

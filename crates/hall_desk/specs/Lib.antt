@@ -1,3 +1,4 @@
+pub mod Census
 pub mod Desk
 pub mod Found
 pub mod Shown

@@ -1,5 +1,5 @@
 -- A step of the hall: one request, answered.
-use Rattle.std.specs.Prelude.{◌≡◌, ◌≢◌, ◌+◌, ◌⊎◌, ℕ, ℤ, Bool, true, false, not, List, Option, Some, None, map, count_by}
+use Rattle.std.specs.Prelude.{◌≡◌, ◌≢◌, ◌+◌, ◌⊎◌, ℕ, Bool, true, false, not, List, Option, Some, None, map, count_by}
 use Rattle.std.specs.List.{filter}
 use Rattle.std.specs.FinMap.{get, contains_key, insert, values}
 use Rattle.hall_grid.specs.Board.{Board}
@@ -32,8 +32,7 @@ use Rattle.hall_policy.specs.declared.rule.Decision.TheVariants.{Allow, Repeat, 
 use Rattle.hall_store.specs.Caller.{caller_of}
 use Rattle.hall_store.specs.Change.{with_people, relisted, retested}
 use Rattle.hall_store.specs.Store.{IsListing}
-use Rattle.hall_score.specs.Table.{IsTable}
-use Rattle.hall_desk.specs.Totals.{AreTotals}
+use Rattle.hall_desk.specs.Totals.{IsTableAt}
 use Rattle.hall_desk.specs.Judged.{IsVerdictOn}
 use Rattle.hall_desk.specs.Shown.{state_name, sees_puzzle, puzzle_line, sees_round, round_line, ShowsRound}
 use Rattle.hall_desk.specs.Shown.{sees_answer, shows_verdict, answer_line, told_verdict, AreSolutions}
@@ -223,9 +222,7 @@ IsPublishedBy world id given new =
 
 -- the reply is the table of the entrants with an answer in the round, by their totals
 abbrev pub IsTableRead : World → List ℕ → Reply → Type 0
-IsTableRead world id given =
-    (row : RoundRow) × (totals : List (List ℕ × ℤ)) × (text : List ℕ) × IsRoundAt world id row
-    × AreTotals world id row totals × IsTable totals text × (given ≡ reply.Table text)
+IsTableRead world id given = (text : List ℕ) × IsTableAt world id text × (given ≡ reply.Table text)
 
 -- what an allowed action answers and changes; `found` is what the search would find if the action ran it
 abbrev pub Allowed : World → Option Person → Action → ℕ → PuzzleState → Reply → World → Type 0

@@ -2,7 +2,7 @@
 use Rattle.std.specs.Prelude.{◌≡◌, ◌↔◌, ◌&&◌, ℕ, ℤ, List, Contains, AllPairs}
 use Rattle.std.specs.List.{filter}
 use Rattle.std.specs.FinMap.{values}
-use Rattle.hall_policy.specs.World.{World, same_text}
+use Rattle.hall_policy.specs.World.{World, same_text, IsRoundAt}
 use Rattle.hall_policy.specs.declared.record.AnswerRow.{AnswerRow}
 use Rattle.hall_policy.specs.declared.record.ProtestRow.{ProtestRow}
 use Rattle.hall_policy.specs.declared.record.RoundRow.{RoundRow}
@@ -34,3 +34,7 @@ pub record AreTotals (world : World) (id : List ℕ) (row : RoundRow) (totals : 
 -- the text is the table of the round's totals
 abbrev pub IsTableOf : World → List ℕ → RoundRow → List ℕ → Type 0
 IsTableOf world id row text = (totals : List (List ℕ × ℤ)) × AreTotals world id row totals × IsTable totals text
+
+-- the text is the table of the round that is kept under the id
+abbrev pub IsTableAt : World → List ℕ → List ℕ → Type 0
+IsTableAt world id text = (row : RoundRow) × IsRoundAt world id row × IsTableOf world id row text

@@ -1,8 +1,9 @@
 //! The desk: requests, answered over the world of a store.
 ghost use Rattle.std.specs.Prelude.{◌≡◌, ◌⊎◌, ◌≤◌, ◌+◌, length, IfOk, IsOk, OnErr};
-ghost use Rattle.hall_store.specs.Store.{Kept, Left, Leads, Made, WritesOnce, Asks, Fails};
+ghost use Rattle.hall_store.specs.Store.{Kept, Served, Left, Leads, Made, WritesOnce, Asks, Fails};
 ghost use Rattle.hall_store.specs.Change.{changed, CanMake};
 ghost use Rattle.hall_store.specs.declared.change.Change.{Change};
+ghost use Rattle.hall_desk.specs.Census.{census_of};
 ghost use Rattle.hall_desk.specs.Desk.{kept_by, SaneThen};
 ghost use Rattle.hall_desk.specs.Sane.{Sane};
 ghost use Rattle.hall_desk.specs.Promises.{HasUniqueSolutions, RightAnswersAreSolutions};
@@ -10,8 +11,9 @@ ghost use Rattle.hall_desk.specs.Plan.{planned_reply, planned_change};
 ghost use Rattle.hall_desk.specs.Plans.{Planned, Steps, Seeds, Runs, FailsIn, IsNobodys, AreNobodys, IsAvailable};
 ghost use Rattle.hall_desk.specs.Plans.{IsQuietPlan, IsSeedReply, AreStepped, NobodysAreAnswered, WritesIfAny};
 
+use crate::census::Census;
 use crate::copied::{TableCopy, left_by};
-use crate::plan::plan_with_copy;
+use crate::plan::make_plan;
 use crate::planned::Plan;
 use crate::reply::Reply;
 use crate::seed::seed;
@@ -73,7 +75,16 @@ impl<S: ReadStore> Desk<S> {
         // They are read for the ranges that their types keep.
         let _moment = t.get();
         request.in_range();
-        plan_with_copy(alloc, &mut self.store, t, request, &mut self.copied)
+        make_plan(alloc, &mut self.store, t, request, &mut self.copied)
+    }
+
+    /// How many people and rounds the hall knows. Want of memory apart, it fails only over a store that can.
+    pub fn census(&mut self, alloc: Global) -> Result<Census, StoreFault>
+        ensures kept { Kept (S.content (kept_by self.old)) (S.content (kept_by self.new)) }
+        ensures served { Served (S.content (kept_by self.new)) result (λ world census. census ≡ census_of world) }
+        ensures fault { Fails S.can_fail result }
+    {
+        Census::of(alloc, &mut self.store)
     }
 }
 

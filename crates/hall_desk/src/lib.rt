@@ -2,6 +2,7 @@
 #![tactic(auto)]
 
 mod answers;
+mod census;
 mod certify_puzzle;
 mod copied;
 mod desk;
@@ -33,6 +34,7 @@ mod submit;
 mod tell_solutions;
 mod verdict;
 
+pub use census::Census;
 pub use desk::Desk;
 pub use law::{
     law_accepted_answers, law_accepted_protests, law_before_start, law_others, law_records,

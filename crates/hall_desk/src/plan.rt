@@ -1,14 +1,15 @@
 //! From a request to its plan: the caller, what the rules read, the decision, and what an allowed action answers and
 //! changes.
-ghost use Rattle.std.specs.Prelude.{◌≡◌, IfSome, IfNone, None};
+ghost use Rattle.std.specs.Prelude.{◌≡◌, ◌≢◌, ℕ, List, IfSome, IfNone, None};
 ghost use Rattle.hall_policy.specs.World.{World};
 ghost use Rattle.hall_policy.specs.Decided.{IsDecidedUpTo, PassesUpTo};
+ghost use Rattle.hall_policy.specs.declared.request.Action.TheVariants.{Table};
 ghost use Rattle.hall_policy.specs.declared.rule.Decision.TheVariants.{Deny};
 ghost use Rattle.hall_store.specs.Store.{Asks, Kept, Told};
-ghost use Rattle.hall_policy.specs.declared.request.Action.TheVariants.{Table};
+ghost use Rattle.hall_store.specs.declared.change.Change.{Change};
 ghost use Rattle.hall_desk.specs.Copied.{IsCopied};
 ghost use Rattle.hall_desk.specs.Found.{IsCaller};
-ghost use Rattle.hall_desk.specs.Plans.{IsPlanFor, Planned, FailsIn, IsNobodys, IsQuietPlan};
+ghost use Rattle.hall_desk.specs.Plans.{IsPlanFor, Planned, FailsIn, IsAvailable, IsNobodys, IsQuietPlan};
 
 use crate::answers::Listing;
 use crate::certify_puzzle::Certifying;
@@ -44,34 +45,15 @@ pub(crate) struct Turn<'a> {
 }
 
 /// What the request will be answered, and what it will change. Reads only, and for a denial nothing that a later rule
-/// asks.
+/// asks. A table is the copy, where that is the round's.
 pub(crate) fn make_plan<S: ReadStore>(
     alloc: Global,
     store: &mut S,
     t: Moment,
     request: &Request,
-) -> Result<Plan, StoreFault>
-    ensures kept { Kept (S.content store.old) (S.content store.new) }
-    ensures untouched { IsNobodys request.now → store.new ≡ store.old }
-    ensures keyless { IsNobodys request.now → IsQuietPlan result }
-    ensures fault { FailsIn S.can_fail (S.content store.new) result }
-    ensures planned { Planned (S.content store.new) t request.now result }
-{
-    let mut facts = no_facts();
-    let plan = plan_with(&Turn { alloc, t, request }, store, &mut facts);
-    drop(facts);
-    plan
-}
-
-/// The plan as `make_plan` makes it, but for a table, which is the copy where that is the round's.
-pub(crate) fn plan_with_copy<S: ReadStore>(
-    alloc: Global,
-    store: &mut S,
-    t: Moment,
-    request: &Request,
     copied: &mut Option<TableCopy>,
 ) -> Result<Plan, StoreFault>
-    requires copied { IsCopied (S.content store.old) copied.old }
+    requires { IsCopied (S.content store.old) copied.old }
     ensures kept { Kept (S.content store.old) (S.content store.new) }
     ensures untouched { IsNobodys request.now → store.new ≡ store.old }
     ensures keyless { IsNobodys request.now → IsQuietPlan result }
@@ -79,60 +61,14 @@ pub(crate) fn plan_with_copy<S: ReadStore>(
     ensures planned { Planned (S.content store.new) t request.now result }
     ensures copied { IsCopied (S.content store.new) copied.new }
 {
-    match &request.action {
-        Action::Table { round } => plan_copied(alloc, store, t, request, round, copied),
-        _ => make_plan(alloc, store, t, request),
-    }
-}
-
-/// The plan for a table, which is the copy where that is the round's.
-fn plan_copied<S: ReadStore>(
-    alloc: Global,
-    store: &mut S,
-    t: Moment,
-    request: &Request,
-    round: &RoundId,
-    copied: &mut Option<TableCopy>,
-) -> Result<Plan, StoreFault>
-    requires action { request.now.action ≡ Table round.now }
-    requires copied { IsCopied (S.content store.old) copied.old }
-    ensures kept { Kept (S.content store.old) (S.content store.new) }
-    ensures fault { FailsIn S.can_fail (S.content store.new) result }
-    ensures planned { Planned (S.content store.new) t request.now result }
-    ensures copied { IsCopied (S.content store.new) copied.new }
-{
     let mut facts = no_facts();
-    let plan = plan_table_with(
-        &Turn { alloc, t, request },
-        store,
-        round,
-        &mut facts,
-        copied,
-    );
+    let turn = Turn { alloc, t, request };
+    let plan = match &request.action {
+        Action::Table { round } => plan_for_anyone(&turn, store, round, &mut facts, copied),
+        _ => plan_by_key(&turn, store, &mut facts),
+    };
     drop(facts);
     plan
-}
-
-/// The plan for a table, with the facts that it rests on.
-fn plan_table_with<S: ReadStore>(
-    turn: &Turn,
-    store: &mut S,
-    round: &RoundId,
-    facts: &mut Facts,
-    copied: &mut Option<TableCopy>,
-) -> Result<Plan, StoreFault>
-    requires facts { facts.old.caller ≡ None }
-    requires action { turn.now.request.now.action ≡ Table round.now }
-    requires copied { IsCopied (S.content store.old) copied.old }
-    ensures kept { Kept (S.content store.old) (S.content store.new) }
-    ensures fault { FailsIn S.can_fail (S.content store.new) result }
-    ensures planned { Planned (S.content store.new) turn.now.t turn.now.request.now result }
-    ensures copied { IsCopied (S.content store.new) copied.new }
-{
-    if let Some(key) = &turn.request.key {
-        facts.caller = store.person_by_key(turn.alloc, key)?;
-    }
-    plan_table(turn, store, round, facts, copied)
 }
 
 /// Facts that tell of nothing.
@@ -156,13 +92,36 @@ fn no_facts() -> Facts
     }
 }
 
-/// The plan, with the facts that it rests on.
-fn plan_with<S: ReadStore>(
+/// The plan for a table, which anyone may ask for, with a key or without.
+fn plan_for_anyone<S: ReadStore>(
+    turn: &Turn,
+    store: &mut S,
+    round: &RoundId,
+    facts: &mut Facts,
+    copied: &mut Option<TableCopy>,
+) -> Result<Plan, StoreFault>
+    requires facts { facts.old.caller ≡ None }
+    requires action { turn.now.request.now.action ≡ Table round.now }
+    requires copied { IsCopied (S.content store.old) copied.old }
+    ensures kept { Kept (S.content store.old) (S.content store.new) }
+    ensures fault { FailsIn S.can_fail (S.content store.new) result }
+    ensures planned { Planned (S.content store.new) turn.now.t turn.now.request.now result }
+    ensures copied { IsCopied (S.content store.new) copied.new }
+{
+    if let Some(key) = &turn.request.key {
+        facts.caller = store.person_by_key(turn.alloc, key)?;
+    }
+    plan_table(turn, store, round, facts, copied)
+}
+
+/// The plan for a request that its key decides first, with the facts that it rests on.
+fn plan_by_key<S: ReadStore>(
     turn: &Turn,
     store: &mut S,
     facts: &mut Facts,
 ) -> Result<Plan, StoreFault>
-    requires { facts.old.caller ≡ None }
+    requires facts { facts.old.caller ≡ None }
+    requires action { (round : List ℕ) → turn.now.request.now.action ≢ Table round }
     ensures kept { Kept (S.content store.old) (S.content store.new) }
     ensures untouched { IsNobodys turn.now.request.now → store.new ≡ store.old }
     ensures keyless { IsNobodys turn.now.request.now → IsQuietPlan result }
@@ -174,32 +133,22 @@ fn plan_with<S: ReadStore>(
             facts.caller = store.person_by_key(turn.alloc, key)?;
             plan_for_caller(turn, store, facts)
         }
-        None => plan_without_key(turn, store, facts),
+        None => Ok(deny_without_key(turn, facts)),
     }
 }
 
-/// The plan for a request without a key: a denial, which asks nothing of the store, or a table.
-fn plan_without_key<S: ReadStore>(
-    turn: &Turn,
-    store: &mut S,
-    facts: &mut Facts,
-) -> Result<Plan, StoreFault>
+/// The plan for a request without a key: a denial, which asks nothing of the store.
+fn deny_without_key(turn: &Turn, facts: &Facts) -> Plan
     requires key { turn.now.request.now.key ≡ None }
-    requires caller { facts.old.caller ≡ None }
-    ensures kept { Kept (S.content store.old) (S.content store.new) }
-    ensures untouched { IsNobodys turn.now.request.now → store.new ≡ store.old }
-    ensures keyless { IsNobodys turn.now.request.now → IsQuietPlan result }
-    ensures fault { FailsIn S.can_fail (S.content store.new) result }
-    ensures planned { Planned (S.content store.new) turn.now.t turn.now.request.now result }
+    requires caller { facts.now.caller ≡ None }
+    requires action { (round : List ℕ) → turn.now.request.now.action ≢ Table round }
+    ensures change { result.change ≡ Change.Nothing }
+    ensures available { IsAvailable result.reply }
+    ensures planned { (world : World) → IsPlanFor world turn.now.t turn.now.request.now result }
 {
     match caller_rule(facts, &turn.request.action, turn.t) {
-        Some(rule) => Ok(Plan::of(Reply::Denied(rule))),
-        None => {
-            let Action::Table { round } = &turn.request.action else {
-                unreachable!()
-            };
-            plan_table(turn, store, round, facts, &mut None)
-        }
+        Some(rule) => Plan::of(Reply::Denied(rule)),
+        None => unreachable!(),
     }
 }
 
@@ -221,7 +170,8 @@ fn plan_for_caller<S: ReadStore>(
     store: &mut S,
     facts: &mut Facts,
 ) -> Result<Plan, StoreFault>
-    requires { Asks (S.content store.old) (λ world. IsCaller world turn.now.request.now.key facts.old.caller) }
+    requires caller { Asks (S.content store.old) (λ world. IsCaller world turn.now.request.now.key facts.old.caller) }
+    requires action { (round : List ℕ) → turn.now.request.now.action ≢ Table round }
     ensures kept { Kept (S.content store.old) (S.content store.new) }
     ensures fault { FailsIn S.can_fail (S.content store.new) result }
     ensures told { Told (S.content store.old) (S.content store.new) result
@@ -233,10 +183,11 @@ fn plan_for_caller<S: ReadStore>(
     }
 }
 
-/// The plan of the request's action, by its handler.
+/// The plan of the request's action, by its handler. (A table has none.)
 fn dispatch<S: ReadStore>(turn: &Turn, store: &mut S, facts: &mut Facts) -> Result<Plan, StoreFault>
     requires caller { Asks (S.content store.old) (λ world. IsCaller world turn.now.request.now.key facts.old.caller) }
     requires passed { PassesUpTo 3 facts.old turn.now.request.now.action turn.now.t }
+    requires action { (round : List ℕ) → turn.now.request.now.action ≢ Table round }
     ensures kept { Kept (S.content store.old) (S.content store.new) }
     ensures fault { FailsIn S.can_fail (S.content store.new) result }
     ensures told { Told (S.content store.old) (S.content store.new) result
@@ -274,7 +225,7 @@ fn dispatch<S: ReadStore>(turn: &Turn, store: &mut S, facts: &mut Facts) -> Resu
             ruling,
         } => turn.handle(store, &RulingOn::of(round, entrant, token, *ruling), facts),
         Action::Publish { round } => turn.handle(store, &Publishing { round }, facts),
-        Action::Table { round } => plan_table(turn, store, round, facts, &mut None),
+        Action::Table { .. } => unreachable!(),
     }
 }
 

@@ -4,8 +4,8 @@ ghost use Rattle.hall_policy.specs.World.{IsRoundAt};
 ghost use Rattle.hall_policy.specs.declared.request.Action.TheVariants.{Table};
 ghost use Rattle.hall_store.specs.Store.{Asks, Kept, Served};
 ghost use Rattle.hall_desk.specs.Found.{IsCaller};
-ghost use Rattle.hall_desk.specs.Copied.{IsCopied, IsTableAt};
-ghost use Rattle.hall_desk.specs.Totals.{AreTotals};
+ghost use Rattle.hall_desk.specs.Copied.{IsCopied};
+ghost use Rattle.hall_desk.specs.Totals.{AreTotals, IsTableAt};
 ghost use Rattle.hall_desk.specs.Plans.{IsPlanFor, FailsIn};
 
 use crate::copied::{TableCopy, copy_of, text_of};

@@ -83,7 +83,8 @@ fn make_step<S: Store>(alloc: Global, store: &mut S, t: Moment, request: &Reques
     ensures answered { IsNobodys request.now → IsAvailable result }
     ensures untouched { IsNobodys request.now → store.new ≡ store.old }
 {
-    match make_plan(alloc, store, t, request) {
+    let made = make_plan(alloc, store, t, request, &mut None);
+    match made {
         Ok(plan) => match commit(alloc, store, plan) {
             Ok(reply) => reply,
             Err(_) => Reply::Unavailable,

@@ -1,5 +1,6 @@
 //! The machine that a hall is served on.
-ghost use Rattle.std.specs.Prelude.{◌≡◌, ℕ, List, IfOk, OnErr};
+ghost use Rattle.std.specs.Prelude.{◌≡◌, ℕ, List, Option, IfOk, OnErr};
+ghost use Rattle.hall_desk.specs.declared.census.Census.{Census};
 ghost use Rattle.hall_http.specs.Host.{told_on, uncalled};
 ghost use Rattle.hall_http.specs.Notice.{IsNotified};
 
@@ -8,6 +9,7 @@ use crate::connection::Clock;
 use crate::crowd::Crowd;
 use crate::listener::Listener;
 use crate::notice::notify;
+use hall_desk::Census;
 use hall_grid::Counted;
 use std::io::{ErrorKind, Write};
 use std::net::{Ipv4Addr, Net, SocketAddr};
@@ -25,8 +27,8 @@ pub trait Host {
     /// Asked to listen on the port, it refuses.
     ghost refuses: { Self → ℕ → Self → Type 0 };
 
-    /// It was told that the hall in the file at the path is served on the port.
-    ghost tells: { Self → ℕ → List ℕ → Self → Type 0 };
+    /// It was told that the hall in the file at the path, which knows so many people and rounds, is served on the port.
+    ghost tells: { Self → ℕ → List ℕ → Option Census → Self → Type 0 };
 
     ghost shows: { Self → Self.Clock → Type 0 };
 
@@ -35,9 +37,10 @@ pub trait Host {
         ensures listening { IfOk result (λ listener. listens self.old port listener self.new) }
         ensures refused { OnErr result (refuses self.old port self.new) };
 
-    /// Tells whoever runs the machine that the hall in the file at the path is served on the port.
-    fn tell(&mut self, port: u64, path: &str)
-        ensures { tells self.old port path.now self.new };
+    /// Tells whoever runs the machine that the hall in the file at the path is served on the port, and how many people
+    /// and rounds it knows, where they were counted.
+    fn tell(&mut self, port: u64, path: &str, census: Option<Census>)
+        ensures { tells self.old port path.now census self.new };
 
     /// The machine's clock.
     fn clock(&self) -> Self::Clock
@@ -73,7 +76,8 @@ impl<'r, N: Net + AllocGlobal + time::Clock, E: Write + Drop> Host for SystemHos
 
     ghost refuses = { λ _ _ _. Unit {0} };
 
-    ghost tells = { λ old port path new. IsNotified E.contents port path (told_on old) (told_on new) };
+    ghost tells = { λ old port path census new.
+        IsNotified E.contents port path census (told_on old) (told_on new) };
 
     ghost shows = { λ _ _. Unit {0} };
 
@@ -84,8 +88,8 @@ impl<'r, N: Net + AllocGlobal + time::Clock, E: Write + Drop> Host for SystemHos
         Crowd::new(self.rt, SocketAddr::from((Ipv4Addr::LOCALHOST, port)))
     }
 
-    fn tell(&mut self, port: u64, path: &str) {
-        notify(self.rt.alloc(), port, path, &mut self.error)
+    fn tell(&mut self, port: u64, path: &str, census: Option<Census>) {
+        notify(self.rt.alloc(), port, path, census, &mut self.error)
     }
 
     fn clock(&self) -> SystemClock<&'r N> {

@@ -76,6 +76,12 @@ impl<S: ReadStore> ReadStore for CachedStore<S> {
         told
     }
 
+    fn people(&mut self, alloc: Global) -> Result<Vec<Person>, StoreFault> {
+        let told = self.store.people(alloc);
+        self.cache.forget_if_refused(&told);
+        told
+    }
+
     fn puzzle(&mut self, alloc: Global, key: &PuzzleKey) -> Result<Option<PuzzleRow>, StoreFault> {
         if let Some(row) = self.cache.puzzle(key) {
             return Ok(Some(row));

@@ -16,7 +16,7 @@ use crate::answers::{
 };
 use crate::feed::{feed_answers, feed_protests};
 use crate::migration::{Migrated, take_rows};
-use crate::people::{import, person, person_by_key};
+use crate::people::{all_people, import, person, person_by_key};
 use crate::protests::{
     add_protest, has_open_protest, protest, protests_in, protests_made, protests_of, rule_protest,
 };
@@ -115,7 +115,8 @@ impl<S: Alter + Drop> ReadStore for SqlStore<S> {
     ghost use Rattle.hall_store.specs.Store.{Fed, IsRefusedNext};
     ghost use Rattle.hall_store.specs.declared.fault.StoreFault.TheVariants.{Failed};
     ghost use Rattle.hall_sql.specs.Rows.{person_in, puzzle_row_in, round_in, place_in, tester_in, answer_in, protest_in};
-    ghost use Rattle.hall_sql.specs.Statements.{person_text, person_by_key_text, puzzle_text, all_puzzles_text};
+    ghost use Rattle.hall_sql.specs.Statements.{person_text, person_by_key_text, all_people_text};
+    ghost use Rattle.hall_sql.specs.Statements.{puzzle_text, all_puzzles_text};
     ghost use Rattle.hall_sql.specs.Statements.{puzzles_of_text, testers_of_text, all_rounds_text};
     ghost use Rattle.hall_sql.specs.Statements.{places_with_text, answer_text, answers_given_text, number_taken_text};
     ghost use Rattle.hall_sql.specs.Statements.{answers_of_text, answers_in_text, protest_text, protests_of_text};
@@ -158,6 +159,21 @@ impl<S: Alter + Drop> ReadStore for SqlStore<S> {
             (state S.Store self.new)) result }
     {
         person(&mut self.conn, alloc, name)
+    }
+
+    fn people(&mut self, alloc: Global) -> Result<Vec<Person>, StoreFault>
+        ensures kept { Kept (content_of (state S.Store self.old)) (content_of (state S.Store self.new)) }
+        ensures rested { Rested (state S.Store self.old) (state S.Store self.new) }
+        ensures served { Served (content_of (state S.Store self.new)) result
+            (λ world people. people.items ≡ values world.people) }
+        ensures fault { Fails (Unit {0}) result }
+        ensures whole { HasCleanDisk (state S.Store self.new) → IfOk result (λ _.
+            AreRecords person_in all_people_text [] (state S.Store self.old)
+            (state S.Store self.new)) }
+        ensures cause { HasCleanDisk (state S.Store self.new) → Fails
+            (ReadFails person_in all_people_text [] (state S.Store self.old) (state S.Store self.new)) result }
+    {
+        all_people(&mut self.conn, alloc)
     }
 
     fn puzzle(&mut self, alloc: Global, key: &PuzzleKey) -> Result<Option<PuzzleRow>, StoreFault>

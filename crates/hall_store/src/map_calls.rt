@@ -10,8 +10,8 @@ use crate::change::RoundFlag;
 use crate::fault::StoreFault;
 use crate::map_adds::{index_people, index_round, put_round, with_people};
 use crate::map_reads::{
-    all_puzzle_rows, count_puzzles, first_label, first_use, heads, holder, ids_using, own_key,
-    person_at, puzzle_at, puzzle_rows, round_at, testers_at,
+    all_people, all_puzzle_rows, count_puzzles, first_label, first_use, heads, holder, ids_using,
+    own_key, person_at, puzzle_at, puzzle_rows, round_at, testers_at,
 };
 use crate::map_store::MapStore;
 use crate::protest_reads::{
@@ -41,6 +41,10 @@ impl ReadStore for MapStore {
 
     fn person(&mut self, _alloc: Global, name: &Name) -> Result<Option<Person>, StoreFault> {
         Ok(person_at(&self.people, name)?)
+    }
+
+    fn people(&mut self, alloc: Global) -> Result<Vec<Person>, StoreFault> {
+        Ok(all_people(alloc, &self.people)?)
     }
 
     fn puzzle(&mut self, _alloc: Global, key: &PuzzleKey) -> Result<Option<PuzzleRow>, StoreFault> {

@@ -59,6 +59,21 @@ pub(crate) fn person_at(
     }
 }
 
+/// Copies of all people, in the order of their names.
+pub(crate) fn all_people(
+    alloc: Global,
+    people: &BTreeMap<Name, Person>,
+) -> Result<Vec<Person>, AllocError>
+    ensures people { IfOk result (λ all. all.items ≡ tree.values people.now) }
+    ensures ordered { tree.IsOrdered text_cmp people.now }
+{
+    let mut all = Vec::new(alloc);
+    for person in people.values() {
+        push(&mut all, person.clone()?)?;
+    }
+    Ok(all)
+}
+
 /// A copy of the puzzle under the key.
 pub(crate) fn puzzle_at(
     puzzles: &BTreeMap<PuzzleKey, PuzzleRow>,

@@ -42,6 +42,12 @@ pub trait ReadStore: Drop {
         ensures served { Served (content self.new) result (λ world found. found ≡ get world.people name.now) }
         ensures fault { Fails can_fail result };
 
+    /// All people, in the order of their names.
+    fn people(&mut self, alloc: Global) -> Result<Vec<Person>, StoreFault>
+        ensures kept { Kept (content self.old) (content self.new) }
+        ensures served { Served (content self.new) result (λ world people. people.items ≡ values world.people) }
+        ensures fault { Fails can_fail result };
+
     /// The puzzle under the key.
     fn puzzle(&mut self, alloc: Global, key: &PuzzleKey) -> Result<Option<PuzzleRow>, StoreFault>
         ensures kept { Kept (content self.old) (content self.new) }

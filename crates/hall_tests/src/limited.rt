@@ -46,6 +46,11 @@ impl ReadStore for LimitedStore {
         self.store.person(alloc, name)
     }
 
+    fn people(&mut self, alloc: Global) -> Result<Vec<Person>, StoreFault> {
+        self.spend()?;
+        self.store.people(alloc)
+    }
+
     fn puzzle(&mut self, alloc: Global, key: &PuzzleKey) -> Result<Option<PuzzleRow>, StoreFault> {
         self.spend()?;
         self.store.puzzle(alloc, key)

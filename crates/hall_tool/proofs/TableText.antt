@@ -40,7 +40,7 @@ table_told new round plan t none planned =
 no_other : (world : World) (round : List ℕ) (given : Reply) → IsTableReply world round given → IsOtherReply given → ⊥
 no_other world round given (found, (Deny rule, first, decided)) other = other.1 rule decided.0
 no_other world round given (found, (Repeat, first, decided)) other = decided.0
-no_other world round given (found, (Allow, first, decided)) other = other.0 decided.0.2 decided.0.6
+no_other world round given (found, (Allow, first, decided)) other = other.0 decided.0.0 decided.0.2
 
 -- so another reply was told by a device that wasn't honest
 pub other_fails : (can_fail : Type 0) (new : Content) (round : List ℕ) (given : Reply) → IsTableOver new round given

@@ -1,8 +1,10 @@
 -- What is done with a hall, on a machine, over stores with some content, readers and writers: where it leads, and how
 -- it ends.
-use Rattle.std.specs.Prelude.{◌≡◌, ◌⊎◌, ℕ, List, Option, Result, Ok, Err}
+use Rattle.std.specs.Prelude.{◌≡◌, ◌⊎◌, ℕ, List, Option, Some, None, Result, Ok, Err}
 use Rattle.hall_grid.specs.Device.{Tally}
-use Rattle.hall_store.specs.Store.{Content}
+use Rattle.hall_store.specs.Store.{Content, Kept}
+use Rattle.hall_desk.specs.Census.{census_of}
+use Rattle.hall_desk.specs.declared.census.Census.{Census}
 use Rattle.hall_http.specs.declared.listener.ServeAllEnd.{ServeAllEnd}
 use Rattle.hall_http.specs.declared.listener.ServeAllEnd.TheVariants as end
 use Rattle.hall_tool.specs.InitText.{IsInitRun}
@@ -46,16 +48,24 @@ serve_end end.Served = Ok 0
 serve_end end.Refused = Err Client
 serve_end end.Memory = Err (Tool Memory)
 
+-- The people and the rounds of the store were counted, and its world stayed; or, where nothing is told, that alone.
+abbrev pub IsCensusTaken : Content → Content → Option Census → Type 0
+IsCensusTaken old new (Some census) = Kept old new × (new.honest → new.serves × (census ≡ census_of new.world))
+IsCensusTaken old new None = Kept old new
+
 -- The machine was asked once to listen, on the port. It listened there, was told that the hall in the file at the path is
--- served, and showed a clock; and then so many connections were served over the store, line after line. Or it refused,
--- and the store is as it was. Neither reader nor writer is asked.
-abbrev pub DoesServe : {N L C S R W : Type 0} → (N → ℕ → L → N → Type 0) → (N → ℕ → N → Type 0)
-    → (N → ℕ → List ℕ → N → Type 0) → (N → C → Type 0) → (ℕ → L → S → C → L → S → C → ServeAllEnd → Type 0)
+-- served, and how many people and rounds it knows or nothing of that, and showed a clock; and then so many connections
+-- were served over the store, line after line. Or it refused, and the store is as it was. Neither reader nor writer is
+-- asked.
+abbrev pub DoesServe : {N L C S R W : Type 0} → (S → Content) → (N → ℕ → L → N → Type 0) → (N → ℕ → N → Type 0)
+    → (N → ℕ → List ℕ → Option Census → N → Type 0) → (N → C → Type 0)
+    → (ℕ → L → S → C → L → S → C → ServeAllEnd → Type 0)
     → List ℕ → ℕ → ℕ → N → N → S → S → Tally R → Tally R → Tally W → Tally W → Result ℕ CommandFault → Type 0
-DoesServe {N} {L} {C} listens refuses tells shows served path port connections host asked old new reader read writer
-    written result =
-    (((listening : N) × (listener left : L) × (clock later : C) × (end : ServeAllEnd)
-    × listens host port listener listening × tells listening port path asked × shows asked clock
-    × served connections listener old clock left new later end × (result ≡ serve_end end))
+DoesServe {N} {L} {C} {S} content listens refuses tells shows served path port connections host asked old new reader
+    read writer written result =
+    (((listening : N) × (later : S) × (census : Option Census) × (listener left : L) × (clock after : C)
+    × (end : ServeAllEnd) × listens host port listener listening
+    × IsCensusTaken (content old) (content later) census × tells listening port path census asked × shows asked clock
+    × served connections listener later clock left new after end × (result ≡ serve_end end))
     ⊎ (refuses host port asked × (new ≡ old) × (result ≡ Err Port)))
     × (read ≡ reader) × (written ≡ writer)

@@ -102,11 +102,12 @@ const SERVE: &str = "\
 Serves the database file over HTTP on 127.0.0.1: one request after another, each once it is there whole.
 
 The moment of a request is the system's. At most 500 connections are open at once; where one more comes, the one with
-nothing asked and nothing unsent that has the least time left is closed. A connection is closed where a request isn't
-whole within 10 seconds of its first byte, a reply isn't taken within 10 seconds, or nothing comes for 10 seconds; and
-after 1000 requests.
+nothing asked for a second and nothing unsent that has the least time left is closed. A connection is closed where a
+request isn't whole within 10 seconds of its first byte, a reply isn't taken within 10 seconds, or nothing comes for
+10 seconds; and after 1000 requests.
 
-Once it listens, it writes a line on standard error: `hall: serving`, the address and the file.
+Once it listens, it writes a line on standard error: `hall: serving`, the address, the file, and how many people and
+rounds the hall knows.
 
 Usage: hall serve --db F --port N [--connections N]
 

@@ -48,7 +48,7 @@ pub fn run_command<
         (OpensAt S.Store F.image_at F.opens) (IsCauseAt S.Store F.image_at F.refuses F.opens F.closes)
         (OpensThere S.Store F.image_at F.tells F.opens)
         (IsCauseThere S.Store F.image_at F.tells F.refuses F.opens F.closes) F.closes
-        (DoesServe H.listens H.refuses H.tells H.shows
+        (DoesServe (λ s. content_of (state S.Store s)) H.listens H.refuses H.tells H.shows
         (AreServed H.Listener.accepts H.Listener.lets_go H.Listener.Line.hands_out H.Listener.Line.refuses
         H.Listener.Line.hears H.Listener.Line.Reader.remaining H.Listener.Line.Writer.contents
         (λ s. content_of (state S.Store s)) H.Clock.now_gives))

@@ -133,7 +133,7 @@ impl<N> Task<N> for Replay<'_> {
 }
 
 /// Serves so many connections on the host's port, line after line, however each ends, and tells before the first that the
-/// hall in the file at the path is served.
+/// hall in the file at the path is served, and how many people and rounds it knows.
 #[derive(Clone, Copy)]
 pub struct Serve<'a> {
     pub path: &'a str,
@@ -145,7 +145,8 @@ impl<H: Host> Task<H> for Serve<'_> {
     ghost use Rattle.hall_http.specs.Listener.{AreServed};
     ghost use Rattle.hall_tool.specs.Tasks.{DoesServe};
 
-    ghost does = { λ S R W content can_fail remaining contents task. DoesServe H.listens H.refuses H.tells H.shows
+    ghost does = { λ S R W content can_fail remaining contents task.
+        DoesServe content H.listens H.refuses H.tells H.shows
         (AreServed H.Listener.accepts H.Listener.lets_go H.Listener.Line.hands_out H.Listener.Line.refuses
         H.Listener.Line.hears H.Listener.Line.Reader.remaining H.Listener.Line.Writer.contents content
         H.Clock.now_gives)
@@ -162,7 +163,8 @@ impl<H: Host> Task<H> for Serve<'_> {
         let Ok(mut listener) = host.listen(self.port) else {
             return Err(CommandFault::Port);
         };
-        host.tell(self.port, self.path);
+        // It is served too where they can't be counted.
+        host.tell(self.port, self.path, desk.census(alloc).ok());
         let mut clock = host.clock();
         serve_end(serve_all(alloc, desk, &mut listener, &mut clock, self.connections))
     }

@@ -42,6 +42,11 @@ impl ReadStore for LimitedStore<'_> {
         self.store.person(alloc, name)
     }
 
+    fn people(&mut self, alloc: Global) -> Result<Vec<Person>, StoreFault> {
+        spend(&mut self.left)?;
+        self.store.people(alloc)
+    }
+
     fn puzzle(&mut self, alloc: Global, key: &PuzzleKey) -> Result<Option<PuzzleRow>, StoreFault> {
         spend(&mut self.left)?;
         self.store.puzzle(alloc, key)

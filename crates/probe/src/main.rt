@@ -45,7 +45,7 @@ enum Kind {
     Call(Call),
 }
 
-const KINDS: [(&str, Kind); 27] = [
+const KINDS: [(&str, Kind); 28] = [
     ("decide", Kind::Decide),
     ("text", Kind::Text),
     ("number", Kind::Number),
@@ -60,6 +60,7 @@ const KINDS: [(&str, Kind); 27] = [
     ("then", Kind::Then),
     ("calls", Kind::Calls),
     ("person", Kind::Call(Call::Person)),
+    ("people", Kind::Call(Call::People)),
     ("count", Kind::Call(Call::Count)),
     ("labels", Kind::Call(Call::Labels)),
     ("puzzle", Kind::Call(Call::Puzzle)),

@@ -13,6 +13,7 @@ use std::alloc::{AllocError, Global};
 #[derive(Clone, Copy)]
 pub(crate) enum Call {
     Person,
+    People,
     Count,
     Labels,
     Puzzle,
@@ -298,6 +299,12 @@ fn push_of_puzzles(
 ) -> Result<(), Fault> {
     match (call, words) {
         (Call::Person, [name, key]) => people(alloc, store, name, key, text),
+        (Call::People, []) => {
+            for person in &store.people(alloc)? {
+                push_word(text, person.name.as_str())?;
+            }
+            Ok(())
+        }
         (Call::Count, [author]) => {
             let count = store.puzzles_put(alloc, &checked(alloc, author)?)?;
             Ok(write!(text, "{count}")?)
@@ -364,8 +371,13 @@ fn push_call(
     text: &mut String,
 ) -> Result<(), Fault> {
     match call {
-        Call::Person | Call::Count | Call::Labels | Call::Puzzle | Call::Puzzles | Call::Using =>
-            push_of_puzzles(alloc, store, call, words, text),
+        Call::Person
+        | Call::People
+        | Call::Count
+        | Call::Labels
+        | Call::Puzzle
+        | Call::Puzzles
+        | Call::Using => push_of_puzzles(alloc, store, call, words, text),
         _ => push_of_rounds(alloc, store, call, words, text),
     }
 }

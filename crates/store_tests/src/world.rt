@@ -1,5 +1,4 @@
 //! The world that a store tells, as a text.
-use crate::fixtures::text;
 use hall_grid::write_puzzle;
 use hall_policy::{
     AnswerRow, Entry, Mode, Person, ProtestRow, PuzzleRow, PuzzleState, Round, RoundId, Ruling,
@@ -9,7 +8,7 @@ use hall_store::ReadStore;
 use std::alloc::AllocGlobal;
 use std::process::Abort;
 
-/// Those of these names are told.
+/// The testers of these names are told.
 const NAMES: [&str; 9] = [
     "ada", "bob", "dora", "eve", "fay", "gil", "hal", "ivy", "rex",
 ];
@@ -47,10 +46,10 @@ fn add_person(rt: &impl Abort, words: &mut String, person: &Person) {
 }
 
 fn add_people<S: ReadStore>(rt: &(impl AllocGlobal + Abort), words: &mut String, store: &mut S) {
-    for name in NAMES {
-        let found = store.person(rt.alloc(), &text(rt, name));
-        if let Some(person) = found.expect(rt, "person") {
-            add_person(rt, words, &person);
+    let people = store.people(rt.alloc()).expect(rt, "people");
+    for person in people.as_slice() {
+        if let Some(found) = store.person(rt.alloc(), &person.name).expect(rt, "person") {
+            add_person(rt, words, &found);
         }
     }
 }
