@@ -7,7 +7,8 @@ PROGRAM is the built `hall`, by default the one in crates/hall/out. The round ha
 a wrong and a right answer to each of them; one entrant in ten has an upheld protest. A run is kept waiting between two
 requests, so what one request alone takes is read from the process: the processor time of the first request, and the
 least of nine that come after it, which find a table's copy; its memory is how far the first one drives the resident
-memory over what it was before, so what an earlier request gave back is not counted. Beside it stands the listing of all these answers, which holds each row.
+memory over what it was before, so what an earlier request gave back is not counted. Beside it stands the listing of all
+these answers, which holds each row.
 The script checks that every reply is 200 and that the table has a line for each entrant.
 """
 import argparse
