@@ -60,7 +60,7 @@ const KINDS: [(&str, Kind); 28] = [
     ("then", Kind::Then),
     ("calls", Kind::Calls),
     ("person", Kind::Call(Call::Person)),
-    ("people", Kind::Call(Call::People)),
+    ("everyone", Kind::Call(Call::People)),
     ("count", Kind::Call(Call::Count)),
     ("labels", Kind::Call(Call::Labels)),
     ("puzzle", Kind::Call(Call::Puzzle)),
