@@ -293,6 +293,19 @@ def last_connections(program, path):
     files.check("the end after the last connection", server.wait(timeout=PATIENCE), 0)
 
 
+def told_by(program, path, ask):
+    """Serves the file while `ask` asks its port. The port, and what the hall tells on standard error."""
+    port = free_port()
+    server = subprocess.Popen([program, "serve", "--db", path, "--port", str(port)], stderr=subprocess.PIPE)
+    try:
+        wait_for(port)
+        ask(port)
+    finally:
+        server.terminate()
+        told = server.communicate()[1].decode()
+    return port, told
+
+
 def main():
     parser = argparse.ArgumentParser(description=__doc__, formatter_class=argparse.RawDescriptionHelpFormatter)
     parser.add_argument("--program", default=f"{files.ROOT}/crates/hall/out/hall")
@@ -304,18 +317,14 @@ def main():
         asyncio.run(all_at_once(words.port))
     else:
         with tempfile.TemporaryDirectory(prefix="hall-crowd-") as room:
-            hall_file(f"{room}/hall.db")
-            port = free_port()
-            serve = [words.program, "serve", "--db", f"{room}/hall.db", "--port", str(port)]
-            server = subprocess.Popen(serve, stderr=subprocess.PIPE)
-            try:
-                wait_for(port)
-                asyncio.run(all_at_once(port))
-            finally:
-                server.terminate()
-                told = server.communicate()[1].decode()
-            files.check("what is told", told, f"hall: serving 127.0.0.1:{port} from {room}/hall.db, people {5 + ENTRANTS}, rounds 2\n")
-            last_connections(words.program, f"{room}/hall.db")
+            path = f"{room}/hall.db"
+            hall_file(path)
+            port, told = told_by(words.program, path, lambda port: asyncio.run(all_at_once(port)))
+            files.check("what is told", told, f"hall: serving 127.0.0.1:{port} from {path}, people {5 + ENTRANTS}, rounds 2\n")
+            last_connections(words.program, path)
+            files.written(path, "UPDATE people SET roles = 0 WHERE name = 'e1'")
+            port, told = told_by(words.program, path, lambda _: None)
+            files.check("what is told where a row is no record", told, f"hall: serving 127.0.0.1:{port} from {path}\n")
     print(f"many clients: {files.passed} as wanted, {files.failed} not")
     sys.exit(1 if files.failed else 0)
 

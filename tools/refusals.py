@@ -1,11 +1,11 @@
 #!/usr/bin/env python3
 """Refuses memory to the built program, one request for it at a time, by a library (refuse.c) before the C library.
 
-    python3 tools/refusals.py [--program PATH] [--all] [--every N] [--examples [FOLDER/NAME]]
+    python3 tools/refusals.py [--program PATH] [--all] [--jobs N] [--every N] [--examples [FOLDER/NAME]]
 
 Asked so are the rows of judge and solve, lists that are imported, tables, a migration, a served file, and one replay
 in which each of the seventeen actions is allowed, denied and asked again (examples/requests/worked.rows). The gate
-refuses one request for memory in so many (STEPS), with --all each is refused.
+refuses one request for memory in so many (STEPS). With --all each is refused, by as many processes as --jobs says.
 
 - A command writes what it writes with ample memory. Or it writes nothing and ends with status 3 and `fault`. Its file
   then holds what it held before or after the command, and given again the command does what is left of it.
@@ -19,6 +19,7 @@ import argparse
 import os
 import sys
 import tempfile
+from concurrent.futures import ProcessPoolExecutor
 from pathlib import Path
 
 sys.path[:0] = [os.path.dirname(os.path.realpath(__file__))]
@@ -32,6 +33,16 @@ UNAVAILABLE = tables.reply(503, b'{"fault":"hall"}')
 REPLAY = ["replay", "--people", PEOPLE]
 # More than any run asks for.
 MOST = 10_000_000
+
+
+class Numbers:
+    """Which requests for memory are refused: one in so many, from another one on at each place."""
+
+    def __init__(self, step, first=0):
+        self.step, self.first = step, first
+
+    def at(self, place=0, least=1):
+        return range(least + (self.first + 3 * place) % self.step, MOST, self.step)
 
 
 class Replay:
@@ -91,7 +102,7 @@ class Replay:
         return self.program.was_met()
 
 
-def ask_lines(program, step):
+def ask_lines(program, numbers):
     """The rows of judge and solve, each wanted as its table tells it."""
     counts, place = Counts("judge and solve"), 0
     for path in sorted(Path(ROOT, "examples/lines").glob("*.rows")):
@@ -102,12 +113,12 @@ def ask_lines(program, step):
             replay = Replay(program, words.decode().split(), given)
             if replay.usual != (output, int(status)):
                 counts.add(None, row.place, "with ample memory", replay.usual)
-            replay.refuse(range(1 + 3 * place % step, MOST, step), counts)
+            replay.refuse(numbers.at(place), counts)
             place += 1
     return counts.is_right()
 
 
-def ask_actions(program, step):
+def ask_actions(program, numbers):
     """One replay of the worked rows, each reply wanted as they tell it."""
     counts = Counts("requests of the seventeen actions")
     table = tables.Table(Path(ROOT, "examples/requests/worked.rows"))
@@ -115,39 +126,39 @@ def ask_actions(program, step):
     replay = Replay(program, REPLAY, b"".join(record for _, record, _ in asked))
     if replay.usual != (b"".join(reply for *_, reply in asked), 0):
         counts.add(None, "with ample memory", replay.usual)
-    replay.refuse(range(1, MOST, step), counts)
+    replay.refuse(numbers.at(), counts)
     # that each was answered 503 shows that the memory of each was refused, where none is passed over
     missing = sorted(set(range(len(asked))) - replay.dropped)
-    if missing and step == 1:
+    if missing and numbers.step == 1:
         counts.add(None, "no refusal met the requests", [asked[place][0].place for place in missing])
     return counts.is_right()
 
 
-def ask_fifty_first(program, step):
+def ask_fifty_first(program, numbers):
     """The answer past the fiftieth."""
     counts = Counts("the answer past the fiftieth")
     text = Path(ROOT, "examples/answers/fifty_answers.txt").read_bytes()
     last = records(text)[-1]
     replay = Replay(program, REPLAY, text)
     first = Replay(program, REPLAY, text[: -len(last)]).count()
-    replay.refuse(range(first + 1, MOST, step), counts)
+    replay.refuse(numbers.at(least=first + 1), counts)
     return counts.is_right()
 
 
-def ask_files(program, step):
+def ask_files(program, numbers):
     counts = Counts("commands over files")
     with tempfile.TemporaryDirectory(prefix="hall-refusals-") as room:
         asked = commands(program, room)
-        ask_commands(asked, program, room, lambda place: range(1 + 3 * place % step, MOST, step), counts)
+        ask_commands(asked, program, room, numbers.at, counts)
     return counts.is_right()
 
 
-def ask_served(program, step):
+def ask_served(program, numbers):
     """A file that is served to two clients, one after another."""
     counts = Counts("a served file")
     with tempfile.TemporaryDirectory(prefix="hall-refusals-") as room:
         served = Served(program, room)
-        for number in range(1, MOST, step):
+        for number in numbers.at():
             got = served.run(number)
             if not program.was_met():
                 break
@@ -211,6 +222,20 @@ class Served:
 STEPS = [(ask_lines, 7), (ask_files, 211), (ask_served, 211), (ask_actions, 17), (ask_fifty_first, 7)]
 
 
+def ask(number, path, numbers):
+    """Asks the program at the path as the function of that number does, in a process of its own."""
+    with tempfile.TemporaryDirectory(prefix="hall-refusals-") as room:
+        return STEPS[number][0](Beside(path, room, "refuse"), numbers)
+
+
+def shares(args):
+    """What is asked, shared by the jobs; the requests stay together, since each must have been refused memory."""
+    for number, (asks, step) in enumerate(STEPS):
+        step, jobs = 1 if args.all else step * args.every, 1 if asks is ask_actions else args.jobs
+        for share in range(jobs):
+            yield number, args.program, Numbers(step * jobs, step * share)
+
+
 def try_examples(program, only):
     """Whether each example stands the refusals."""
     is_right = True
@@ -228,14 +253,15 @@ def main():
     parser = argparse.ArgumentParser(description=__doc__, formatter_class=argparse.RawDescriptionHelpFormatter)
     parser.add_argument("--program", default=PROGRAM)
     parser.add_argument("--all", action="store_true")
+    parser.add_argument("--jobs", type=int, default=1)
     parser.add_argument("--every", type=int, default=1, help="of those that the gate refuses, one in so many")
     parser.add_argument("--examples", nargs="?", const="")
     args = parser.parse_args()
-    with tempfile.TemporaryDirectory(prefix="hall-refusals-") as room:
-        program = Beside(args.program, room, "refuse")
-        if args.examples is not None:
-            sys.exit(0 if try_examples(program, args.examples) else 1)
-        went = [ask(program, 1 if args.all else step * args.every) for ask, step in STEPS]
+    if args.examples is not None:
+        with tempfile.TemporaryDirectory(prefix="hall-refusals-") as room:
+            sys.exit(0 if try_examples(Beside(args.program, room, "refuse"), args.examples) else 1)
+    with ProcessPoolExecutor(args.jobs) as pool:
+        went = [it.result() for it in [pool.submit(ask, *share) for share in shares(args)]]
     sys.exit(0 if all(went) else 1)
 
 
