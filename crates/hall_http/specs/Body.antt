@@ -6,7 +6,7 @@ use Rattle.std.specs.Str.{bytes_eq, is_utf8}
 use Rattle.serde_json.specs.Data.{Members, no_members, member}
 use Rattle.serde_json.specs.Read.{read}
 use Rattle.serde_json.specs.Find.{get_member, as_object, as_bool, as_str, as_number, as_integer}
-use Rattle.hall_policy.specs.Text.{is_printable}
+use Rattle.hall_policy.specs.Text.{as_answer, as_puzzle_text, as_protest_text}
 use Rattle.hall_policy.specs.declared.record.Ruling.{Ruling}
 use Rattle.hall_policy.specs.declared.record.Ruling.TheVariants.{Upheld, Rejected}
 use Rattle.hall_policy.specs.Reading.{◌>>=◌, or_fault, unless, of_kind}
@@ -47,7 +47,7 @@ flag_at f name ms = or_fault (fault.Missing f) (option_and_then as_bool (get_mem
 
 -- the answer text among the members: 0 to 4,000 printable bytes
 abbrev pub answer_among : Members → Result (List ℕ) FormFault
-answer_among ms = text_at field.Answer (codes "answer") ms >>= of_kind (fault.Range field.Answer) 0 4000 is_printable
+answer_among ms = text_at field.Answer (codes "answer") ms >>= as_answer (of_kind (fault.Range field.Answer))
 
 -- the answer text of a body
 abbrev pub answer_in : List ℕ → Result (List ℕ) FormFault
@@ -55,7 +55,7 @@ answer_in body = object_in (codes "answer" ∷ []) body >>= answer_among
 
 -- the puzzle text among the members: 1 to 8,000 printable bytes
 abbrev pub text_among : Members → Result (List ℕ) FormFault
-text_among ms = text_at field.Text (codes "text") ms >>= of_kind (fault.Range field.Text) 1 8000 is_printable
+text_among ms = text_at field.Text (codes "text") ms >>= as_puzzle_text (of_kind (fault.Range field.Text))
 
 -- the puzzle text of a body
 abbrev pub text_in : List ℕ → Result (List ℕ) FormFault
@@ -75,7 +75,7 @@ protest_among ms =
     integer_at field.Number (codes "number") ms
     >>= in_range (fault.Range field.Number) 1 99
     >>= (λ number. text_at field.Text (codes "text") ms
-    >>= of_kind (fault.Range field.Text) 1 200 is_printable
+    >>= as_protest_text (of_kind (fault.Range field.Text))
     >>= (λ text. Ok (number, text)))
 
 -- the number and the text of a protest of a body

@@ -6,7 +6,7 @@ use Rattle.hall_grid.specs.declared.fault.TextFault.{TextFault}
 use Rattle.hall_grid.specs.declared.fault.TextFault.TheVariants as text_fault
 use Rattle.hall_grid.specs.Board.{Board}
 use Rattle.hall_grid.specs.Text.{SpellsText, FaultOf}
-use Rattle.hall_policy.specs.Text.{is_key_byte, is_kind}
+use Rattle.hall_policy.specs.Text.{is_kind, as_key}
 use Rattle.hall_policy.specs.Reading.{◌>>=◌}
 use Rattle.hall_policy.specs.declared.record.PuzzleKey.{PuzzleKey}
 use Rattle.hall_policy.specs.declared.request.Action.{Action}
@@ -92,7 +92,7 @@ ActionOf (route.Table id) body outcome = outcome ≡ Ok (action.Table id)
 
 -- the caller's key: none where the text isn't of a key's form
 abbrev pub key_in : List ℕ → Option (List ℕ)
-key_in text = if is_kind 8 64 is_key_byte text then Some text else None
+key_in text = if as_key is_kind text then Some text else None
 
 -- the action under the caller's key
 abbrev pub asked_by : Option (List ℕ) → Result Action FormFault → Result Request FormFault

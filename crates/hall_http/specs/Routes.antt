@@ -12,7 +12,7 @@ use Rattle.std.specs.Prelude.{nat_le}
 use Rattle.std.specs.List.{list_all}
 use Rattle.std.specs.Char.{is_ascii}
 use Rattle.std.specs.Str.{bytes_eq}
-use Rattle.hall_policy.specs.Text.{is_word_byte}
+use Rattle.hall_policy.specs.Text.{as_word, as_token}
 use Rattle.hall_policy.specs.Reading.{◌>>=◌, or_fault, unless, of_kind}
 use Rattle.hall_policy.specs.declared.record.PuzzleKey.{PuzzleKey}
 use Rattle.hall_http.specs.Words.{number_in}
@@ -73,11 +73,11 @@ routes = rows_from [] patterns
 
 -- a path parameter that is a name, a label or a round's id
 abbrev pub word_in : List ℕ → Result (List ℕ) FormFault
-word_in text = of_kind fault.NoRoute 1 24 is_word_byte text
+word_in text = as_word (of_kind fault.NoRoute) text
 
 -- a path parameter that is a token
 abbrev pub token_in : List ℕ → Result (List ℕ) FormFault
-token_in text = of_kind fault.NoRoute 1 32 is_word_byte text
+token_in text = as_token (of_kind fault.NoRoute) text
 
 -- a puzzle's number: 1 to 99 in decimal
 abbrev pub puzzle_number : List ℕ → Result ℕ FormFault

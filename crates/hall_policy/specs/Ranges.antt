@@ -2,7 +2,7 @@
 use Rattle.std.specs.Prelude.{◌≡◌, ◌≢◌, ◌<◌, ◌≤◌, ◌^◌, ◌≤ℤ◌, ℕ, pos, negsuc, List, Some, None, IfSome, All}
 use Rattle.std.specs.FinMap.{get}
 use Rattle.hall_grid.specs.Board.{IsBoard}
-use Rattle.hall_policy.specs.Text.{IsOfKind, is_word_byte, is_key_byte, is_printable}
+use Rattle.hall_policy.specs.Text.{IsOfKind, as_word, as_token, as_key, as_title, as_protest_text, as_answer}
 use Rattle.hall_policy.specs.HasRole.{HasRole}
 use Rattle.hall_policy.specs.Lists.{ArePeople, AreEntries, AreTesters}
 use Rattle.hall_policy.specs.World.{World, IsRoundAt}
@@ -32,35 +32,35 @@ use Rattle.hall_policy.specs.declared.request.Request.{Request}
 
 -- a person's name
 abbrev pub IsName : List ℕ → Type 0
-IsName = IsOfKind 1 24 is_word_byte
+IsName = as_word IsOfKind
 
 -- an author's label of a puzzle
 abbrev pub IsLabel : List ℕ → Type 0
-IsLabel = IsOfKind 1 24 is_word_byte
+IsLabel = as_word IsOfKind
 
 -- a round's id
 abbrev pub IsRoundId : List ℕ → Type 0
-IsRoundId = IsOfKind 1 24 is_word_byte
+IsRoundId = as_word IsOfKind
 
 -- what tells a repeated request from a new one
 abbrev pub IsToken : List ℕ → Type 0
-IsToken = IsOfKind 1 32 is_word_byte
+IsToken = as_token IsOfKind
 
 -- the secret by which a caller is known
 abbrev pub IsKey : List ℕ → Type 0
-IsKey = IsOfKind 8 64 is_key_byte
+IsKey = as_key IsOfKind
 
 -- a round's title
 abbrev pub IsTitle : List ℕ → Type 0
-IsTitle = IsOfKind 1 60 is_printable
+IsTitle = as_title IsOfKind
 
 -- what an entrant protests
 abbrev pub IsProtestText : List ℕ → Type 0
-IsProtestText = IsOfKind 1 200 is_printable
+IsProtestText = as_protest_text IsOfKind
 
 -- what an entrant hands in
 abbrev pub IsAnswer : List ℕ → Type 0
-IsAnswer = IsOfKind 0 4000 is_printable
+IsAnswer = as_answer IsOfKind
 
 -- a number from the least to the most
 abbrev pub IsWithin : ℕ → ℕ → ℕ → Type 0

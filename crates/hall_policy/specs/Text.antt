@@ -30,3 +30,34 @@ is_key_byte b = (nat_le 65 b && nat_le b 90) || is_word_byte b
 -- bytes 32 to 126
 abbrev pub is_printable : ℕ → Bool
 is_printable b = nat_le 32 b && nat_le b 126
+
+-- The limits of each kind of texts, as whoever reads a text or speaks of one is told them: the fewest bytes, the most,
+-- and which may stand in it.
+
+-- a name, a label or the id of a round
+abbrev pub as_word {ℓ} : {A : Type ℓ} → (ℕ → ℕ → (ℕ → Bool) → A) → A
+as_word told = told 1 24 is_word_byte
+
+-- what tells a repeated request from a new one
+abbrev pub as_token {ℓ} : {A : Type ℓ} → (ℕ → ℕ → (ℕ → Bool) → A) → A
+as_token told = told 1 32 is_word_byte
+
+-- the secret by which a caller is known
+abbrev pub as_key {ℓ} : {A : Type ℓ} → (ℕ → ℕ → (ℕ → Bool) → A) → A
+as_key told = told 8 64 is_key_byte
+
+-- a round's title
+abbrev pub as_title {ℓ} : {A : Type ℓ} → (ℕ → ℕ → (ℕ → Bool) → A) → A
+as_title told = told 1 60 is_printable
+
+-- what an entrant protests
+abbrev pub as_protest_text {ℓ} : {A : Type ℓ} → (ℕ → ℕ → (ℕ → Bool) → A) → A
+as_protest_text told = told 1 200 is_printable
+
+-- what an entrant hands in
+abbrev pub as_answer {ℓ} : {A : Type ℓ} → (ℕ → ℕ → (ℕ → Bool) → A) → A
+as_answer told = told 0 4000 is_printable
+
+-- the text of a puzzle
+abbrev pub as_puzzle_text {ℓ} : {A : Type ℓ} → (ℕ → ℕ → (ℕ → Bool) → A) → A
+as_puzzle_text told = told 1 8000 is_printable

@@ -144,239 +144,117 @@ impl<K: TextKind> Ord for Checked<K> {
     }
 }
 
-/// The kind of a [`Name`].
-pub struct NameText {}
+/// Which bytes may stand in a text.
+pub trait Alphabet {
+    ghost allows: { ℕ → Bool };
 
-impl TextKind for NameText {
+    /// Whether the byte may stand in a text.
+    fn allows(byte: u8) -> bool
+        ensures { result ≡ allows byte };
+}
+
+/// `a` to `z`, `0` to `9` and the dash.
+pub struct Word {}
+
+impl Alphabet for Word {
     ghost use Rattle.hall_policy.specs.Text.{is_word_byte};
 
     ghost allows = { is_word_byte };
 
-    ghost LEAST = { 1 };
-
-    ghost MOST = { 24 };
-
-    const LEAST: usize = 1;
-
-    const MOST: usize = 24;
-
     fn allows(byte: u8) -> bool {
-        is_word_byte(byte)
+        byte.is_ascii_lowercase() || byte.is_ascii_digit() || byte == b'-'
     }
 }
 
-/// The kind of a [`Label`].
-pub struct LabelText {}
+/// Letters, digits and the dash.
+pub struct Letters {}
 
-impl TextKind for LabelText {
-    ghost use Rattle.hall_policy.specs.Text.{is_word_byte};
-
-    ghost allows = { is_word_byte };
-
-    ghost LEAST = { 1 };
-
-    ghost MOST = { 24 };
-
-    const LEAST: usize = 1;
-
-    const MOST: usize = 24;
-
-    fn allows(byte: u8) -> bool {
-        is_word_byte(byte)
-    }
-}
-
-/// The kind of a [`RoundId`].
-pub struct RoundText {}
-
-impl TextKind for RoundText {
-    ghost use Rattle.hall_policy.specs.Text.{is_word_byte};
-
-    ghost allows = { is_word_byte };
-
-    ghost LEAST = { 1 };
-
-    ghost MOST = { 24 };
-
-    const LEAST: usize = 1;
-
-    const MOST: usize = 24;
-
-    fn allows(byte: u8) -> bool {
-        is_word_byte(byte)
-    }
-}
-
-/// The kind of a [`Token`].
-pub struct TokenText {}
-
-impl TextKind for TokenText {
-    ghost use Rattle.hall_policy.specs.Text.{is_word_byte};
-
-    ghost allows = { is_word_byte };
-
-    ghost LEAST = { 1 };
-
-    ghost MOST = { 32 };
-
-    const LEAST: usize = 1;
-
-    const MOST: usize = 32;
-
-    fn allows(byte: u8) -> bool {
-        is_word_byte(byte)
-    }
-}
-
-/// The kind of a [`Key`].
-pub struct KeyText {}
-
-impl TextKind for KeyText {
+impl Alphabet for Letters {
     ghost use Rattle.hall_policy.specs.Text.{is_key_byte};
 
     ghost allows = { is_key_byte };
 
-    ghost LEAST = { 8 };
-
-    ghost MOST = { 64 };
-
-    const LEAST: usize = 8;
-
-    const MOST: usize = 64;
-
     fn allows(byte: u8) -> bool {
-        is_key_byte(byte)
+        byte.is_ascii_uppercase() || Word::allows(byte)
     }
-}
-
-/// The kind of a [`Title`].
-pub struct TitleText {}
-
-impl TextKind for TitleText {
-    ghost use Rattle.hall_policy.specs.Text.{is_printable};
-
-    ghost allows = { is_printable };
-
-    ghost LEAST = { 1 };
-
-    ghost MOST = { 60 };
-
-    const LEAST: usize = 1;
-
-    const MOST: usize = 60;
-
-    fn allows(byte: u8) -> bool {
-        is_printable(byte)
-    }
-}
-
-/// The kind of a [`ProtestText`].
-pub struct ProtestWords {}
-
-impl TextKind for ProtestWords {
-    ghost use Rattle.hall_policy.specs.Text.{is_printable};
-
-    ghost allows = { is_printable };
-
-    ghost LEAST = { 1 };
-
-    ghost MOST = { 200 };
-
-    const LEAST: usize = 1;
-
-    const MOST: usize = 200;
-
-    fn allows(byte: u8) -> bool {
-        is_printable(byte)
-    }
-}
-
-/// The kind of an [`AnswerText`].
-pub struct AnswerWords {}
-
-impl TextKind for AnswerWords {
-    ghost use Rattle.hall_policy.specs.Text.{is_printable};
-
-    ghost allows = { is_printable };
-
-    ghost LEAST = { 0 };
-
-    ghost MOST = { 4000 };
-
-    const LEAST: usize = 0;
-
-    const MOST: usize = 4000;
-
-    fn allows(byte: u8) -> bool {
-        is_printable(byte)
-    }
-}
-
-/// The kind of a [`PuzzleText`].
-pub struct PuzzleWords {}
-
-impl TextKind for PuzzleWords {
-    ghost use Rattle.hall_policy.specs.Text.{is_printable};
-
-    ghost allows = { is_printable };
-
-    ghost LEAST = { 1 };
-
-    ghost MOST = { 8000 };
-
-    const LEAST: usize = 1;
-
-    const MOST: usize = 8000;
-
-    fn allows(byte: u8) -> bool {
-        is_printable(byte)
-    }
-}
-
-/// A person's name: 1 to 24 of `a` to `z`, `0` to `9` and `-`.
-pub type Name = Checked<NameText>;
-
-/// The label that an author gives to a puzzle: 1 to 24 of `a` to `z`, `0` to `9` and `-`.
-pub type Label = Checked<LabelText>;
-
-/// A round's id: 1 to 24 of `a` to `z`, `0` to `9` and `-`.
-pub type RoundId = Checked<RoundText>;
-
-/// What tells a repeated request from a new one: 1 to 32 of `a` to `z`, `0` to `9` and `-`.
-pub type Token = Checked<TokenText>;
-
-/// The secret by which a caller is known: 8 to 64 letters, digits and `-`.
-pub type Key = Checked<KeyText>;
-
-/// A round's title: 1 to 60 printable bytes.
-pub type Title = Checked<TitleText>;
-
-/// What an entrant protests: 1 to 200 printable bytes.
-pub type ProtestText = Checked<ProtestWords>;
-
-/// What an entrant hands in: 0 to 4,000 printable bytes.
-pub type AnswerText = Checked<AnswerWords>;
-
-/// The text of a puzzle: 1 to 8,000 printable bytes.
-pub type PuzzleText = Checked<PuzzleWords>;
-
-/// `a` to `z`, `0` to `9` and the dash.
-fn is_word_byte(byte: u8) -> bool
-    ensures { result ≡ is_word_byte byte }
-{
-    byte.is_ascii_lowercase() || byte.is_ascii_digit() || byte == b'-'
-}
-
-/// Letters, digits and the dash.
-fn is_key_byte(byte: u8) -> bool
-    ensures { result ≡ is_key_byte byte }
-{
-    byte.is_ascii_uppercase() || is_word_byte(byte)
 }
 
 /// Printable ASCII.
-fn is_printable(byte: u8) -> bool
-    ensures { result ≡ is_printable byte }
-{
-    32 <= byte && byte <= 126
+pub struct Printable {}
+
+impl Alphabet for Printable {
+    ghost use Rattle.hall_policy.specs.Text.{is_printable};
+
+    ghost allows = { is_printable };
+
+    fn allows(byte: u8) -> bool {
+        32 <= byte && byte <= 126
+    }
 }
+
+/// The texts of FEWEST to MOST bytes of an alphabet. Its tag tells a kind from another one with the same limits.
+pub struct Kind<T, A: Alphabet, const FEWEST: usize, const MOST: usize> {
+    tag: PhantomData<T>,
+    alphabet: PhantomData<A>,
+}
+
+impl<T, A: Alphabet, const FEWEST: usize, const MOST: usize> TextKind for Kind<T, A, FEWEST, MOST> {
+    ghost allows = { A.allows };
+
+    ghost LEAST = { FEWEST };
+
+    ghost MOST = { MOST };
+
+    const LEAST: usize = FEWEST;
+
+    const MOST: usize = MOST;
+
+    fn allows(byte: u8) -> bool {
+        A::allows(byte)
+    }
+}
+
+pub struct NameTag {}
+
+pub struct LabelTag {}
+
+pub struct RoundTag {}
+
+pub struct TokenTag {}
+
+pub struct KeyTag {}
+
+pub struct TitleTag {}
+
+pub struct ProtestTag {}
+
+pub struct AnswerTag {}
+
+pub struct PuzzleTag {}
+
+/// A person's name: 1 to 24 of `a` to `z`, `0` to `9` and `-`.
+pub type Name = Checked<Kind<NameTag, Word, 1, 24>>;
+
+/// The label that an author gives to a puzzle: 1 to 24 of `a` to `z`, `0` to `9` and `-`.
+pub type Label = Checked<Kind<LabelTag, Word, 1, 24>>;
+
+/// A round's id: 1 to 24 of `a` to `z`, `0` to `9` and `-`.
+pub type RoundId = Checked<Kind<RoundTag, Word, 1, 24>>;
+
+/// What tells a repeated request from a new one: 1 to 32 of `a` to `z`, `0` to `9` and `-`.
+pub type Token = Checked<Kind<TokenTag, Word, 1, 32>>;
+
+/// The secret by which a caller is known: 8 to 64 letters, digits and `-`.
+pub type Key = Checked<Kind<KeyTag, Letters, 8, 64>>;
+
+/// A round's title: 1 to 60 printable bytes.
+pub type Title = Checked<Kind<TitleTag, Printable, 1, 60>>;
+
+/// What an entrant protests: 1 to 200 printable bytes.
+pub type ProtestText = Checked<Kind<ProtestTag, Printable, 1, 200>>;
+
+/// What an entrant hands in: 0 to 4,000 printable bytes.
+pub type AnswerText = Checked<Kind<AnswerTag, Printable, 0, 4000>>;
+
+/// The text of a puzzle: 1 to 8,000 printable bytes.
+pub type PuzzleText = Checked<Kind<PuzzleTag, Printable, 1, 8000>>;

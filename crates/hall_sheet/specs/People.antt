@@ -4,7 +4,7 @@ use Rattle.std.specs.Prelude.{if◌then◌else◌, Option, Some, None, Result, O
 use Rattle.std.specs.List.{list_all, list_any, slice_split}
 use Rattle.std.specs.Str.{bytes_eq, is_utf8}
 use Rattle.csv.specs.Reading.{default_config, strip_bom, records}
-use Rattle.hall_policy.specs.Text.{is_word_byte, is_key_byte}
+use Rattle.hall_policy.specs.Text.{as_word, as_key}
 use Rattle.hall_policy.specs.Reading.{◌>>=◌, or_fault, unless, of_kind}
 use Rattle.hall_policy.specs.declared.record.Person.{Person}
 use Rattle.hall_policy.specs.declared.record.Roles.{Roles}
@@ -74,8 +74,8 @@ roles_in text =
 abbrev pub spelled_in : Fields → Result Person Refusal
 spelled_in line =
     filled_in line
-    >>= (λ _. of_kind (Range field.Name) 1 24 is_word_byte line.name)
-    >>= (λ name. of_kind (Range field.Key) 8 64 is_key_byte line.key
+    >>= (λ _. as_word (of_kind (Range field.Name)) line.name)
+    >>= (λ name. as_key (of_kind (Range field.Key)) line.key
     >>= (λ key. or_fault (Range field.Roles) (roles_in line.roles)
     >>= (λ roles. Ok (record { name = name; key = key; roles = roles }))))
 

@@ -6,7 +6,7 @@ use Rattle.std.specs.List.{list_any, list_all}
 use Rattle.std.specs.Str.{bytes_eq, is_utf8}
 use Rattle.toml.specs.Data.{Members}
 use Rattle.toml.specs.Parse.{parse_document}
-use Rattle.hall_policy.specs.Text.{is_kind, is_word_byte, is_printable}
+use Rattle.hall_policy.specs.Text.{is_kind, is_printable, as_word, as_title}
 use Rattle.hall_policy.specs.Reading.{◌>>=◌, or_fault, unless}
 use Rattle.hall_policy.specs.declared.record.Entry.{Entry}
 use Rattle.hall_policy.specs.declared.record.Mode.{Mode}
@@ -65,7 +65,7 @@ mode_in ms = text_at field.Mode ms >>= mode_of
 
 -- the texts, where each of them is a name
 abbrev pub names_in : List (List ℕ) → Result (List (List ℕ)) Refusal
-names_in texts = unless (refusal.Range field.Testers) (list_all (is_kind 1 24 is_word_byte) texts) >>= (λ _. Ok texts)
+names_in texts = unless (refusal.Range field.Testers) (list_all (as_word is_kind) texts) >>= (λ _. Ok texts)
 
 -- those whom the sheet names as testers: at most twenty names, none twice
 unfoldable pub named_testers_in : Members → Result (List (List ℕ)) Refusal
@@ -85,8 +85,8 @@ testers_in Third ms = named_testers_in ms
 -- a puzzle of the round, and the points for it
 unfoldable pub entry_in : Members → Result Entry Refusal
 entry_in ms = do
-  author ← text_in field.Author 1 24 is_word_byte ms
-  label ← text_in field.Label 1 24 is_word_byte ms
+  author ← as_word (text_in field.Author) ms
+  label ← as_word (text_in field.Label) ms
   points ← number_in field.Points 1 1000 ms
   Ok (record { puzzle = record { author = author; label = label }; points = points })
 
@@ -114,7 +114,7 @@ list_in ms = do
 unfoldable pub fields_in : Members → Result Sheet Refusal
 fields_in ms = do
   version ← version_in ms
-  title ← text_in field.Title 1 60 is_printable ms
+  title ← as_title (text_in field.Title) ms
   start ← starts_in version ms
   minutes ← number_in field.Minutes 1 1440 ms
   protest_minutes ← number_in field.ProtestMinutes 0 10080 ms

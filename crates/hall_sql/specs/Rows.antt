@@ -7,7 +7,7 @@ use Rattle.sqlite.specs.Order.{Row}
 use Rattle.sqlite.specs.Tree.{Trees}
 use Rattle.sqlite_value.specs.Order.{column}
 use Rattle.hall_grid.specs.FormReading.{◌>>=◌}
-use Rattle.hall_policy.specs.Text.{text_cmp, is_printable}
+use Rattle.hall_policy.specs.Text.{text_cmp, as_title, as_answer, as_protest_text}
 use Rattle.hall_policy.specs.World.{World, puzzle_cmp, answer_cmp, protest_cmp}
 use Rattle.hall_policy.specs.declared.record.Person.{Person}
 use Rattle.hall_policy.specs.declared.record.PuzzleRow.{PuzzleRow}
@@ -56,7 +56,7 @@ puzzle_row_of row = puzzle_row_in (columns_from 1 5 row)
 abbrev pub round_in : Row → Option Round
 round_in columns = do
   id ← name_in (column columns 0)
-  title ← kind_in 1 60 is_printable (column columns 1)
+  title ← as_title kind_in (column columns 1)
   start ← within 0 4102444800 (column columns 2)
   minutes ← within 1 1440 (column columns 3)
   protest_minutes ← within 0 10080 (column columns 4)
@@ -108,7 +108,7 @@ answer_in columns = do
   token ← token_in (column columns 3)
   n ← within 1 50 (column columns 4)
   moment ← within 0 4102444800 (column columns 5)
-  answer ← kind_in 0 4000 is_printable (column columns 6)
+  answer ← as_answer kind_in (column columns 6)
   verdict ← within 0 65535 (column columns 7)
   Some (record {
     key = record { entrant = entrant; round = round; number = number; token = token };
@@ -136,7 +136,7 @@ protest_in columns = do
   round ← name_in (column columns 1)
   token ← token_in (column columns 2)
   number ← within 1 99 (column columns 3)
-  text ← kind_in 1 200 is_printable (column columns 4)
+  text ← as_protest_text kind_in (column columns 4)
   ruling ← ruling_in (column columns 5) (column columns 6)
   Some (record {
     key = record { entrant = entrant; round = round; token = token };

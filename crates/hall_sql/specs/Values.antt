@@ -8,7 +8,7 @@ use Rattle.sqlite.specs.declared.types.Value.TheVariants.{Null, Int, Real, Text,
 use Rattle.hall_grid.specs.Board.{Board}
 use Rattle.hall_grid.specs.FormReading.{◌>>=◌}
 use Rattle.hall_grid.proofs.SpellsOrHasFault.{spells_or_fault}
-use Rattle.hall_policy.specs.Text.{is_kind, is_word_byte, is_key_byte, is_printable}
+use Rattle.hall_policy.specs.Text.{is_kind, as_word, as_token, as_key, as_answer}
 use Rattle.hall_policy.specs.declared.record.Roles.{Roles}
 use Rattle.hall_policy.specs.declared.record.Mode as mode
 use Rattle.hall_policy.specs.declared.record.Mode.TheVariants.{Instant, Sealed}
@@ -60,15 +60,15 @@ AreAscii allows = (byte : ℕ) → IsTrue (allows byte) → byte < 128
 
 -- the name, label or id: 1 to 24 bytes
 abbrev pub name_in : Value → Option (List ℕ)
-name_in = kind_in 1 24 is_word_byte
+name_in = as_word kind_in
 
 -- the token: 1 to 32 bytes
 abbrev pub token_in : Value → Option (List ℕ)
-token_in = kind_in 1 32 is_word_byte
+token_in = as_token kind_in
 
 -- the key of a person
 abbrev pub key_in : Value → Option (List ℕ)
-key_in = kind_in 8 64 is_key_byte
+key_in = as_key kind_in
 
 -- the roles of a sum of 1 director, 2 author, 4 referee, 8 entrant
 abbrev pub roles_of : ℕ → Roles
@@ -115,7 +115,7 @@ state_of code solution =
 abbrev pub state_in : Value → Value → Option PuzzleState
 state_in code solution = do
   n ← number_in code
-  text ← kind_in 0 4000 is_printable solution
+  text ← as_answer kind_in solution
   state_of n text
 
 -- the mode of a code: 0 instant, 1 sealed

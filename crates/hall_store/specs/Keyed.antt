@@ -6,7 +6,8 @@ use Rattle.std.specs.Ordering.{eq_by_cmp, nat_cmp, ordering_then}
 use Rattle.std.specs.List.{IsDistinct, list_any, filter}
 use Rattle.std.specs.Map.{lookup}
 use Rattle.std.specs.BTreeMap.{is_at}
-use Rattle.hall_policy.specs.Text.{text_cmp, is_word_byte, IsOfKind}
+use Rattle.hall_policy.specs.Text.{text_cmp}
+use Rattle.hall_policy.specs.Ranges.{IsLabel, IsRoundId, IsName, IsToken}
 use Rattle.hall_policy.specs.World.{answer_cmp, same_text}
 use Rattle.hall_policy.specs.declared.record.Person.{Person}
 use Rattle.hall_policy.specs.declared.record.PuzzleKey.{PuzzleKey}
@@ -73,7 +74,7 @@ holder_of people keys key = holder_under people key (lookup (is_at (text_cmp key
 -- the puzzle stands under its own key, whose label is a word
 pub record IsPuzzleKept (key : PuzzleKey) (row : PuzzleRow) : Type 0 where
   pub own : row.key ≡ key
-  pub label : IsOfKind 1 24 is_word_byte key.label
+  pub label : IsLabel key.label
 
 -- the least key that a puzzle of the author can have
 abbrev pub first_label : List ℕ → PuzzleKey
@@ -95,7 +96,7 @@ is_use_of key used = same_text used.author key.author && same_text used.label ke
 
 -- the use's round is a word
 abbrev pub IsUseKept : UseKey → Unit {0} → Type 0
-IsUseKept used _ = IsOfKind 1 24 is_word_byte used.round
+IsUseKept used _ = IsRoundId used.round
 
 -- the index has each puzzle of the round
 abbrev pub IsRoundIndexed : List (UseKey × Unit {0}) → List ℕ → RoundRow → Type 0
@@ -154,7 +155,7 @@ AreKeysDistinct entries = IsDistinct (eq_by_cmp answer_cmp) (map (λ entry. entr
 -- the answer stands in its own slot, whose parts are in their limits
 pub record IsAnswerKept (slot : AnswerSlot) (row : AnswerRow) : Type 0 where
   pub own : slot_of row ≡ slot
-  pub entrant : IsOfKind 1 24 is_word_byte slot.entrant
+  pub entrant : IsName slot.entrant
   pub number : 1 ≤ slot.number
   pub n : 1 ≤ slot.n
 
@@ -178,7 +179,7 @@ IsFirst Puzzle slot = slot.n ≡ 1
 -- the protest stands under its own key, whose token is a word
 pub record IsProtestKept (key : ProtestKey) (row : ProtestRow) : Type 0 where
   pub own : row.key ≡ key
-  pub token : IsOfKind 1 32 is_word_byte key.token
+  pub token : IsToken key.token
 
 -- the least key that a protest of the entrant in the round can have
 abbrev pub first_protest : List ℕ → List ℕ → ProtestKey
