@@ -10,8 +10,8 @@ use crate::planned::Plan;
 use crate::reply::{AnswerLine, Reply};
 use crate::rows::{Rows, push};
 use hall_policy::{
-    Action, AnswerRow, AnswerSink, Decision, Facts, Mode, Moment, Name, Person, Round, RoundId,
-    SinkFault, decide,
+    Action, AnswerRow, Decision, Facts, Mode, Moment, Name, Person, Round, RoundId, Sink, SinkFault,
+    decide,
 };
 use hall_store::{ReadStore, StoreFault};
 use std::alloc::{AllocError, Global};
@@ -97,7 +97,7 @@ struct Lines {
     shows: bool,
 }
 
-impl AnswerSink for Lines {
+impl Sink<AnswerRow> for Lines {
     ghost use Rattle.hall_desk.specs.Lines.{IsLineAdded};
 
     ghost takes = { IsLineAdded };

@@ -4,9 +4,8 @@ use crate::change::RoundFlag;
 use crate::fault::StoreFault;
 use crate::store::{ReadStore, Store};
 use hall_policy::{
-    AnswerKey, AnswerNumber, AnswerRow, AnswerSink, Key, Name, People, Person, ProtestKey,
-    ProtestRow, ProtestSink, PuzzleKey, PuzzleNumber, PuzzleRow, PuzzleState, Round, RoundId,
-    RoundRow, Ruling,
+    AnswerKey, AnswerNumber, AnswerRow, Key, Name, People, Person, ProtestKey, ProtestRow,
+    PuzzleKey, PuzzleNumber, PuzzleRow, PuzzleState, Round, RoundId, RoundRow, Ruling, Sink,
 };
 use std::alloc::Global;
 use std::marker::Model;
@@ -196,7 +195,7 @@ impl<S: ReadStore> ReadStore for CachedStore<S> {
         told
     }
 
-    fn feed_answers<K: AnswerSink>(
+    fn feed_answers<K: Sink<AnswerRow>>(
         &mut self,
         alloc: Global,
         round: &RoundId,
@@ -266,7 +265,7 @@ impl<S: ReadStore> ReadStore for CachedStore<S> {
         told
     }
 
-    fn feed_protests<K: ProtestSink>(
+    fn feed_protests<K: Sink<ProtestRow>>(
         &mut self,
         alloc: Global,
         round: &RoundId,

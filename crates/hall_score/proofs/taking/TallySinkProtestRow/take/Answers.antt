@@ -1,7 +1,7 @@
 use Rattle.std.proofs.Common.{◌∙◌, ◌+◌, ◌+ℤ◌, ap, refl, sym}
 use Rattle.hall_policy.specs.World.{ruling_points}
 use Rattle.hall_score.proofs.Tallies.{protest_takes, none_last, late_refuses}
-use Rattle.hall_score.proofs.taking.TallyProtestSink.take.Goals as goal
+use Rattle.hall_score.proofs.taking.TallySinkProtestRow.take.Goals as goal
 
 pub returns-then-is_some-clause-refused : goal.returns-then-is_some-clause-refused
 returns-then-is_some-clause-refused c = λ _. late_refuses c.args.self.now c.args.row.now (sym c.is_some.ensures ∙ c.if-is_some.true)
