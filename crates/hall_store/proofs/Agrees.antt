@@ -1,5 +1,5 @@
 -- A cache agrees with its store after each call.
-use Rattle.std.proofs.Common.{◌≡◌, ◌↔◌, ◌⊎◌, Contains, inl, inr, List, [], Option, Some, None, Result, Ok, Err, IfOk, OnOk, OnErr, refl, sym, ap, subst, ◌∙◌, ℕ}
+use Rattle.std.proofs.Common.{◌≡◌, ◌↔◌, ◌⊎◌, Contains, inl, inr, List, [], Option, Some, None, Result, Ok, Err, IfOk, OnOk, OnErr, refl, sym, ap, subst, ◌∙◌, ℕ, ◌≤◌, length, arith}
 use Rattle.std.specs.declared.cmp.Ordering.{Ordering}
 use Rattle.std.specs.FinMap.{FinMap, IsAntisymmetric, get}
 use Rattle.std.specs.Map.{lookup}
@@ -22,7 +22,7 @@ use Rattle.hall_store.specs.Store.{Content, Kept, Served, Makes, Fed, IsRoundKep
 use Rattle.hall_store.specs.declared.change.Change.{Change}
 use Rattle.hall_store.specs.declared.change.Change.TheVariants.{RuleProtest}
 use Rattle.hall_store.specs.declared.fault.StoreFault.{StoreFault}
-use Rattle.hall_store.specs.Cache.{Stands, Agrees, IsEmptied, IsNoted}
+use Rattle.hall_store.specs.Cache.{Stands, Agrees, IsBounded, IsEmptied, IsNoted}
 use Rattle.hall_store.specs.declared.cache.Cache.{Cache}
 
 -- the worlds differ in answers and protests at most
@@ -77,10 +77,18 @@ agrees_on old new cache honest goes agrees = record {
       (λ h s. ((goes h s).0, round_alike old.world new.world (goes h s).1.rounds (goes h s).1.places (goes h s).1.testers id row)) (agrees.rounds id row found);
   puzzles = λ key row found. stands_on old new (λ world. get world.puzzles key ≡ Some row) honest
       (λ h s. ((goes h s).0, λ was. ap (λ (m : FinMap puzzle_cmp PuzzleRow). get m key) (goes h s).1.puzzles ∙ was)) (agrees.puzzles key row found);
+  bounded = agrees.bounded;
 }
 
 none_found : {K X : Type 0} (R : K → K → Ordering) (es : List (K × X)) (P : K → X → Type 0) → es ≡ [] → Each R es P
 none_found R es P none key row found = absurd (let no = subst (λ list. lookup (tree.is_at (R key)) list ≡ Some row) none found in cc)
+
+emptied_bounded : (cache : Cache) → IsEmptied cache → IsBounded cache
+emptied_bounded cache none = record {
+  people = subst (λ (es : List (List ℕ × Person)). length es ≤ 5000) (sym none.people) (omega arith);
+  rounds = subst (λ (es : List (List ℕ × RoundRow)). length es ≤ 1000) (sym none.rounds) (omega arith);
+  puzzles = subst (λ (es : List (PuzzleKey × PuzzleRow)). length es ≤ 1000) (sym none.puzzles) (omega arith);
+}
 
 -- an empty cache agrees with any store
 pub empty_agrees : (content : Content) (cache : Cache) → IsEmptied cache → Agrees content cache
@@ -88,6 +96,7 @@ empty_agrees content cache none = record {
   people = none_found text_cmp cache.people.entries _ none.people;
   rounds = none_found text_cmp cache.rounds.entries _ none.rounds;
   puzzles = none_found puzzle_cmp cache.puzzles.entries _ none.puzzles;
+  bounded = emptied_bounded cache none;
 }
 
 settled : {R : Type 0} (result : Result R StoreFault) (old new : Content) (before after : Cache) → Agrees old before
@@ -169,28 +178,43 @@ noted_each same old new key value P noted own each k x found = elim (noted k x f
 ]
 
 module _ (content : Content) (before after : Cache) (agrees : Agrees content before) where
-  pub noted_person : (key : List ℕ) (person : Person) → IsNoted text_cmp before.people after.people key person → after.rounds ≡ before.rounds → after.puzzles ≡ before.puzzles
+  pub noted_person : (key : List ℕ) (person : Person) → IsNoted text_cmp before.people after.people key person → (length before.people.entries ≤ 5000 → length after.people.entries ≤ 5000) → after.rounds ≡ before.rounds → after.puzzles ≡ before.puzzles
       → Stands content (λ world. IsKeyHolder world key (Some person)) → Agrees content after
-  noted_person key person noted rounds puzzles stands = record {
+  noted_person key person noted few rounds puzzles stands = record {
     people = noted_each same_texts before.people after.people key person _ noted stands agrees.people;
     rounds = subst (λ (m : tree.BTreeMap (List ℕ) RoundRow). Each text_cmp m.entries (λ k x. Stands content (λ world. IsRoundKept world k (Some x)))) (sym rounds) agrees.rounds;
     puzzles = subst (λ (m : tree.BTreeMap PuzzleKey PuzzleRow). Each puzzle_cmp m.entries (λ k x. Stands content (λ world. get world.puzzles k ≡ Some x))) (sym puzzles) agrees.puzzles;
+    bounded = record {
+      people = few agrees.bounded.people;
+      rounds = subst (λ (m : tree.BTreeMap (List ℕ) RoundRow). length m.entries ≤ 1000) (sym rounds) agrees.bounded.rounds;
+      puzzles = subst (λ (m : tree.BTreeMap PuzzleKey PuzzleRow). length m.entries ≤ 1000) (sym puzzles) agrees.bounded.puzzles;
+    };
   }
 
-  pub noted_round : (id : List ℕ) (row : RoundRow) → IsNoted text_cmp before.rounds after.rounds id row → after.people ≡ before.people → after.puzzles ≡ before.puzzles
+  pub noted_round : (id : List ℕ) (row : RoundRow) → IsNoted text_cmp before.rounds after.rounds id row → (length before.rounds.entries ≤ 1000 → length after.rounds.entries ≤ 1000) → after.people ≡ before.people → after.puzzles ≡ before.puzzles
       → Stands content (λ world. IsRoundKept world id (Some row)) → Agrees content after
-  noted_round id row noted people puzzles stands = record {
+  noted_round id row noted few people puzzles stands = record {
     people = subst (λ (m : tree.BTreeMap (List ℕ) Person). Each text_cmp m.entries (λ k x. Stands content (λ world. IsKeyHolder world k (Some x)))) (sym people) agrees.people;
     rounds = noted_each same_texts before.rounds after.rounds id row _ noted stands agrees.rounds;
     puzzles = subst (λ (m : tree.BTreeMap PuzzleKey PuzzleRow). Each puzzle_cmp m.entries (λ k x. Stands content (λ world. get world.puzzles k ≡ Some x))) (sym puzzles) agrees.puzzles;
+    bounded = record {
+      people = subst (λ (m : tree.BTreeMap (List ℕ) Person). length m.entries ≤ 5000) (sym people) agrees.bounded.people;
+      rounds = few agrees.bounded.rounds;
+      puzzles = subst (λ (m : tree.BTreeMap PuzzleKey PuzzleRow). length m.entries ≤ 1000) (sym puzzles) agrees.bounded.puzzles;
+    };
   }
 
-  pub noted_puzzle : (key : PuzzleKey) (row : PuzzleRow) → IsNoted puzzle_cmp before.puzzles after.puzzles key row → after.people ≡ before.people → after.rounds ≡ before.rounds
+  pub noted_puzzle : (key : PuzzleKey) (row : PuzzleRow) → IsNoted puzzle_cmp before.puzzles after.puzzles key row → (length before.puzzles.entries ≤ 1000 → length after.puzzles.entries ≤ 1000) → after.people ≡ before.people → after.rounds ≡ before.rounds
       → Stands content (λ world. get world.puzzles key ≡ Some row) → Agrees content after
-  noted_puzzle key row noted people rounds stands = record {
+  noted_puzzle key row noted few people rounds stands = record {
     people = subst (λ (m : tree.BTreeMap (List ℕ) Person). Each text_cmp m.entries (λ k x. Stands content (λ world. IsKeyHolder world k (Some x)))) (sym people) agrees.people;
     rounds = subst (λ (m : tree.BTreeMap (List ℕ) RoundRow). Each text_cmp m.entries (λ k x. Stands content (λ world. IsRoundKept world k (Some x)))) (sym rounds) agrees.rounds;
     puzzles = noted_each same_puzzle_keys before.puzzles after.puzzles key row _ noted stands agrees.puzzles;
+    bounded = record {
+      people = subst (λ (m : tree.BTreeMap (List ℕ) Person). length m.entries ≤ 5000) (sym people) agrees.bounded.people;
+      rounds = subst (λ (m : tree.BTreeMap (List ℕ) RoundRow). length m.entries ≤ 1000) (sym rounds) agrees.bounded.rounds;
+      puzzles = few agrees.bounded.puzzles;
+    };
   }
 
 -- after a look into the cache

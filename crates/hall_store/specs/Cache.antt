@@ -1,5 +1,5 @@
 -- What a cache before a store holds of it.
-use Rattle.std.specs.Prelude.{◌≡◌, ◌⊎◌, [], Some}
+use Rattle.std.specs.Prelude.{◌≡◌, ◌≤◌, ◌⊎◌, [], Some, length}
 use Rattle.std.specs.declared.cmp.Ordering.{Ordering}
 use Rattle.std.specs.declared.cmp.Ordering.TheVariants.{Equal}
 use Rattle.std.specs.FinMap.{get}
@@ -15,7 +15,13 @@ use Rattle.hall_store.specs.declared.cache.Cache.{Cache}
 abbrev pub Stands : Content → (World → Type 0) → Type 0
 Stands content Holds = content.honest → content.serves × Holds content.world
 
--- each copy is what the store would tell
+-- at most 5,000 copies of people, and 1,000 of either other kind
+pub record IsBounded (cache : Cache) : Type 0 where
+  pub people : length cache.people.entries ≤ 5000
+  pub rounds : length cache.rounds.entries ≤ 1000
+  pub puzzles : length cache.puzzles.entries ≤ 1000
+
+-- each copy is what the store would tell, and there are at most so many of each kind
 pub record Agrees (content : Content) (cache : Cache) : Type 0 where
   pub people : Each text_cmp cache.people.entries
       (λ key person. Stands content (λ world. IsKeyHolder world key (Some person)))
@@ -23,6 +29,7 @@ pub record Agrees (content : Content) (cache : Cache) : Type 0 where
       (λ id row. Stands content (λ world. IsRoundKept world id (Some row)))
   pub puzzles : Each puzzle_cmp cache.puzzles.entries
       (λ key row. Stands content (λ world. get world.puzzles key ≡ Some row))
+  pub bounded : IsBounded cache
 
 -- there is no copy
 pub record IsEmptied (cache : Cache) : Type 0 where

@@ -1,5 +1,5 @@
 //! Copies of what a store told of people, rounds and puzzles.
-ghost use Rattle.std.specs.Prelude.{◌≡◌, ◌⊎◌, IfOk, IfSome, OnErr, Some};
+ghost use Rattle.std.specs.Prelude.{◌≡◌, ◌<◌, ◌≤◌, ◌⊎◌, length, IfOk, IfSome, OnErr, Some};
 ghost use Rattle.std.specs.BTreeMap as tree;
 ghost use Rattle.hall_policy.specs.Text.{text_cmp};
 ghost use Rattle.hall_policy.specs.World.{puzzle_cmp};
@@ -102,6 +102,7 @@ impl Cache {
     /// Keeps a copy of the person with the key; an error is want of memory for it.
     pub(crate) fn keep_person(&mut self, key: &Key, person: &Person) -> Result<(), AllocError>
         ensures people { IsNoted text_cmp self.old.people self.new.people key.now person.now }
+        ensures few { length self.old.people.entries ≤ 5000 → length self.new.people.entries ≤ 5000 }
         ensures rounds { self.new.rounds ≡ self.old.rounds }
         ensures puzzles { self.new.puzzles ≡ self.old.puzzles }
     {
@@ -112,6 +113,7 @@ impl Cache {
     /// Keeps a copy of the round; an error is want of memory for it.
     pub(crate) fn keep_round(&mut self, id: &RoundId, row: &RoundRow) -> Result<(), AllocError>
         ensures rounds { IsNoted text_cmp self.old.rounds self.new.rounds id.now row.now }
+        ensures few { length self.old.rounds.entries ≤ 1000 → length self.new.rounds.entries ≤ 1000 }
         ensures people { self.new.people ≡ self.old.people }
         ensures puzzles { self.new.puzzles ≡ self.old.puzzles }
     {
@@ -122,6 +124,7 @@ impl Cache {
     /// Keeps a copy of the puzzle; an error is want of memory for it.
     pub(crate) fn keep_puzzle(&mut self, key: &PuzzleKey, row: &PuzzleRow) -> Result<(), AllocError>
         ensures puzzles { IsNoted puzzle_cmp self.old.puzzles self.new.puzzles key.now row.now }
+        ensures few { length self.old.puzzles.entries ≤ 1000 → length self.new.puzzles.entries ≤ 1000 }
         ensures people { self.new.people ≡ self.old.people }
         ensures rounds { self.new.rounds ≡ self.old.rounds }
     {
@@ -172,7 +175,9 @@ fn entry_of(key: &PuzzleKey, row: &PuzzleRow) -> Result<(PuzzleKey, PuzzleRow), 
 
 /// Forgets what the map has where it has so much.
 fn make_room<K: Ord + Drop, V: Drop>(map: &mut BTreeMap<K, V>, most: usize)
-    ensures { (map.new ≡ map.old) ⊎ tree.IsEmpty map.new }
+    requires { 0 < most }
+    ensures kept { (map.new ≡ map.old) ⊎ tree.IsEmpty map.new }
+    ensures room { length map.new.entries < most }
 {
     if map.len() >= most {
         map.clear();
@@ -186,7 +191,9 @@ fn note<K: Ord + Drop, V: Drop>(
     key: K,
     value: V,
 ) -> Result<(), AllocError>
-    ensures { IsNoted K.cmp map.old map.new key value }
+    requires { 0 < most }
+    ensures noted { IsNoted K.cmp map.old map.new key value }
+    ensures few { length map.new.entries ≤ most }
 {
     make_room(map, most);
     map.insert(key, value)?;

@@ -20,5 +20,5 @@ invariant_of-self-in-Some-found g c =
     let settled = read_agrees c.person_by_key-told.result (g.S.ReadStore.content c.self.inside.store) (g.S.ReadStore.content c.person_by_key-told.new.self) c.person.new.self c.forget_if_refused.new.self _
     looked c.person_by_key-told.ensures.kept c.person_by_key-told.ensures.served c.forget_if_refused.ensures.kept c.forget_if_refused.ensures.forgot in
     noted_person (g.S.ReadStore.content c.person_by_key-told.new.self) c.forget_if_refused.new.self c.keep_person.new.self settled c.args.key.now c.in-Some-found.person
-    c.keep_person.ensures.people c.keep_person.ensures.rounds c.keep_person.ensures.puzzles
+    c.keep_person.ensures.people c.keep_person.ensures.few c.keep_person.ensures.rounds c.keep_person.ensures.puzzles
     (found_stands c.person_by_key-told.result c.in_ok-found.found c.in-Some-found.person (g.S.ReadStore.content c.person_by_key-told.new.self) (λ world found. IsKeyHolder world c.args.key.now found) c.in_ok-found.was c.in-Some-found.is c.person_by_key-told.ensures.served)

@@ -17,5 +17,5 @@ invariant_of-self-in-Some-found g c =
     let settled = read_agrees c.round-told.result (g.S.ReadStore.content c.self.inside.store) (g.S.ReadStore.content c.round-told.new.self) c.round.new.self c.forget_if_refused.new.self _
     looked c.round-told.ensures.kept c.round-told.ensures.served c.forget_if_refused.ensures.kept c.forget_if_refused.ensures.forgot in
     noted_round (g.S.ReadStore.content c.round-told.new.self) c.forget_if_refused.new.self c.keep_round.new.self settled c.args.id.now c.in-Some-found.row
-    c.keep_round.ensures.rounds c.keep_round.ensures.people c.keep_round.ensures.puzzles
+    c.keep_round.ensures.rounds c.keep_round.ensures.few c.keep_round.ensures.people c.keep_round.ensures.puzzles
     (found_stands c.round-told.result c.in_ok-found.found c.in-Some-found.row (g.S.ReadStore.content c.round-told.new.self) (λ world found. IsRoundKept world c.args.id.now found) c.in_ok-found.was c.in-Some-found.is c.round-told.ensures.served)
