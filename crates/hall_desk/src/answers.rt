@@ -10,8 +10,8 @@ use crate::planned::Plan;
 use crate::reply::{AnswerLine, Reply};
 use crate::rows::{Rows, push};
 use hall_policy::{
-    Action, AnswerRow, Decision, Facts, Mode, Moment, Name, Person, Round, RoundId, Sink, SinkFault,
-    decide,
+    Action, AnswerRow, Decision, Facts, Mode, Moment, Name, Person, Round, RoundId, Sink,
+    SinkFault, decide,
 };
 use hall_store::{ReadStore, StoreFault};
 use std::alloc::{AllocError, Global};

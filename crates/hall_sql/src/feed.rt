@@ -24,12 +24,12 @@ use sqlite::{Alter, Connection, Rows, params};
 use std::alloc::Global;
 
 /// Gives the sink the record. Refused, the sink stays as it was.
-fn give<K: Sink<T>, T>(sink: &mut K, record: &T) -> Result<(), StoreFault>
-    ensures took { OnOk result (K.takes sink.old record.now sink.new) }
+fn give<K: Sink<T>, T>(sink: &mut K, row: &T) -> Result<(), StoreFault>
+    ensures took { OnOk result (K.takes sink.old row.now sink.new) }
     ensures same { OnErr result (sink.new ≡ sink.old) }
-    ensures refused { Fails (K.refuses sink.old record.now) result }
+    ensures refused { Fails (K.refuses sink.old row.now) result }
 {
-    Ok(sink.take(record)?)
+    Ok(sink.take(row)?)
 }
 
 /// Reads one row more, and gives the sink its record. False where there is none.

@@ -30,12 +30,7 @@ fn author_of(rt: &(impl AllocGlobal + Abort), n: u64) -> String {
 }
 
 /// Adds the people from one number up to another.
-fn add_people(
-    rt: &(impl AllocGlobal + Abort),
-    desk: &mut Desk<MapStore>,
-    first: u64,
-    end: u64,
-) {
+fn add_people(rt: &(impl AllocGlobal + Abort), desk: &mut Desk<MapStore>, first: u64, end: u64) {
     let mut list = String::from_str(rt.alloc(), "name,key,roles\n").expect(rt, "memory");
     for n in first..end {
         let line = format!(in rt.alloc(); "n{n},key-of-n{n},author\n").expect(rt, "memory");
@@ -47,12 +42,7 @@ fn add_people(
 }
 
 /// Puts the n-th puzzle and the n-th round.
-fn put_next(
-    rt: &(impl AllocGlobal + Abort),
-    routes: &Routes,
-    desk: &mut Desk<MapStore>,
-    n: u64,
-) {
+fn put_next(rt: &(impl AllocGlobal + Abort), routes: &Routes, desk: &mut Desk<MapStore>, n: u64) {
     let author = author_of(rt, n);
     let key = format!(in rt.alloc(); "key-of-{}", author.as_str()).expect(rt, "memory");
     let line = format!(in rt.alloc(); "PUT /puzzles/{}/n{n}", author.as_str()).expect(rt, "memory");
@@ -124,12 +114,7 @@ fn is_told<S: ReadStore>(
 }
 
 /// Asks for so many of the kind, and sees that they are told.
-fn see_told<S: ReadStore>(
-    rt: &(impl AllocGlobal + Abort),
-    store: &mut S,
-    kind: Kind,
-    count: u64,
-) {
+fn see_told<S: ReadStore>(rt: &(impl AllocGlobal + Abort), store: &mut S, kind: Kind, count: u64) {
     for n in 0..count {
         let is_told = is_told(rt, store, kind, n);
         assert!(rt; is_told, "{n}");
