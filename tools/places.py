@@ -108,8 +108,8 @@ class Tree:
     def at(self, crate, file, block, name):
         """The function of that place."""
         for item in self.items[crate]:
-            own = item.block and item.block.name + (item.block.trait or "")
-            if item.file == file and item.name == name and (own == block or own and item.block.trait and block and block.startswith(own)):
+            own = item.block and wrong_bodies.block_of(item.block.head)[0]
+            if item.file == file and item.name == name and own == block:
                 return item
         return None
 
@@ -315,7 +315,7 @@ def functions(libraries, tree, all_changes, shown):
         yield from (f"### {crate}", "", row("Function", "Definitions", "Tests", "Wrong bodies"), "|---|---|---|---|")
         for item in tree.public[crate]:
             key = (crate, item.full_name())
-            name = promise(*key) if item.full_name() in on_page else f"`{item.full_name()}` (`{item.block.trait}`)"
+            name = promise(*key) if item.full_name() in on_page else f"`{item.full_name()}` (`{item.block.implemented()}`)"
             tests, wrong = tests_of(key, by_table, by_test), wrong_of(item, near.get(key, {}).values())
             cited = ", ".join(f"`{it}`" for it in tree.definitions(item))
             if tests or wrong or (cited and item.full_name() in on_page):

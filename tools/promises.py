@@ -45,7 +45,7 @@ def shown(crate):
 
 def title(item):
     if item.kind == "impl":
-        return f"{item.of_block.trait} of {item.name}" if item.of_block.trait else f"of {item.name}"
+        return f"{item.of_block.implemented()} of {item.name}" if item.of_block.trait else f"of {item.name}"
     return item.full_name()
 
 

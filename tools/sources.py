@@ -3,6 +3,7 @@
 A module for tools/codes.py and tools/promises.py.
 """
 import glob
+import itertools
 import os
 import re
 
@@ -158,6 +159,13 @@ class Block:
         self.trait = words[1] if self.kind == "impl" and "for" in words else None
         self.name = words[words.index("for") + 1] if self.trait else words[1]
         self.head = re.sub(r"\s+", " ", head.split("{")[0]).strip()
+
+    def implemented(self):
+        """The trait with its arguments, of an impl that has one."""
+        before = self.head.partition(" where ")[0].rpartition(" for ")[0]
+        depths = itertools.accumulate((it == "<") - (it == ">") for it in before)
+        behind = next(at for at, (depth, it) in enumerate(zip(depths, before)) if it == " " and depth == 0)
+        return re.sub(r"\w+::", "", before[behind:].strip())
 
 
 def end_of_head(lines, at):

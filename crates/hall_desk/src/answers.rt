@@ -10,7 +10,7 @@ use crate::planned::Plan;
 use crate::reply::{AnswerLine, Reply};
 use crate::rows::{Rows, push};
 use hall_policy::{
-    Action, AnswerRow, AnswerSink, Decision, Facts, Mode, Moment, Name, Person, Round, RoundId,
+    Action, AnswerRow, Decision, Facts, Mode, Moment, Name, Person, Round, RoundId, Sink,
     SinkFault, decide,
 };
 use hall_store::{ReadStore, StoreFault};
@@ -97,7 +97,7 @@ struct Lines {
     shows: bool,
 }
 
-impl AnswerSink for Lines {
+impl Sink<AnswerRow> for Lines {
     ghost use Rattle.hall_desk.specs.Lines.{IsLineAdded};
 
     ghost takes = { IsLineAdded };

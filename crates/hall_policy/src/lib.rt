@@ -30,7 +30,7 @@ pub use record::{
 pub use request::{Action, Request, Sheet};
 pub use roles::SomeRoles;
 pub use rule::{Decision, Rule};
-pub use sink::{AnswerSink, ProtestSink, SinkFault};
+pub use sink::{Sink, SinkFault};
 pub use text::{
     AnswerText, Checked, Key, Label, Name, ProtestText, PuzzleText, RoundId, TextKind, Title, Token,
 };

@@ -12,7 +12,7 @@ use crate::held::{Entrant, Work};
 use crate::ruled::Ruled;
 use crate::tally::Tally;
 use crate::totals::Totals;
-use hall_policy::{AnswerRow, AnswerSink, Name, ProtestRow, ProtestSink, RoundRow, SinkFault};
+use hall_policy::{AnswerRow, Name, ProtestRow, RoundRow, Sink, SinkFault};
 use std::alloc::{AllocError, Global};
 use std::cmp::Ordering;
 
@@ -111,7 +111,7 @@ impl Tally {
     }
 }
 
-impl AnswerSink for Tally {
+impl Sink<AnswerRow> for Tally {
     ghost use Rattle.hall_score.specs.Tally.{TakesAnswer, RefusesAnswer};
 
     ghost takes = { TakesAnswer };
@@ -133,7 +133,7 @@ impl AnswerSink for Tally {
     }
 }
 
-impl ProtestSink for Tally {
+impl Sink<ProtestRow> for Tally {
     ghost use Rattle.hall_score.specs.Tally.{TakesProtest, RefusesProtest};
 
     ghost takes = { TakesProtest };

@@ -72,7 +72,6 @@ pub mod FeedLemmas
 pub mod FillLemmas
 pub mod SelectedLemmas
 pub mod FeedListings
-pub mod Agrees
 pub mod EachLemmas
 pub mod OpenedLemmas
 pub mod RecordParts

@@ -13,7 +13,6 @@ pub mod Testers
 pub mod Scan
 pub mod Made
 pub mod Feed
-pub mod Cache
 pub mod Opened
 pub mod Whole
 pub mod Asked

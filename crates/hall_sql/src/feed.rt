@@ -17,49 +17,23 @@ use crate::answers::ANSWERS_IN;
 use crate::calls::fault_of;
 use crate::protests::PROTESTS_IN;
 use crate::record::Record;
-use hall_policy::{AnswerRow, AnswerSink, ProtestRow, ProtestSink, RoundId};
+use hall_policy::{AnswerRow, ProtestRow, RoundId, Sink};
 use hall_store::StoreFault;
 use sqlite::types::ValueRef;
 use sqlite::{Alter, Connection, Rows, params};
 use std::alloc::Global;
 
-/// A record that a sink takes.
-pub(crate) trait GivenTo<K>: Record {
-    // The sink before, the record, the sink after.
-    ghost takes: { K → Self → K → Type 0 };
-
-    // The sink, and a record that it refuses.
-    ghost refuses: { K → Self → Type 0 };
-
-    /// Gives it to the sink. Refused, the sink stays as it was.
-    fn give_to(&self, sink: &mut K) -> Result<(), StoreFault>
-        ensures took { OnOk result (takes sink.old self.now sink.new) }
-        ensures same { OnErr result (sink.new ≡ sink.old) }
-        ensures refused { Fails (refuses sink.old self.now) result };
-}
-
-impl<K: AnswerSink> GivenTo<K> for AnswerRow {
-    ghost takes = { K.AnswerSink.takes };
-
-    ghost refuses = { K.AnswerSink.refuses };
-
-    fn give_to(&self, sink: &mut K) -> Result<(), StoreFault> {
-        Ok(sink.take(self)?)
-    }
-}
-
-impl<K: ProtestSink> GivenTo<K> for ProtestRow {
-    ghost takes = { K.ProtestSink.takes };
-
-    ghost refuses = { K.ProtestSink.refuses };
-
-    fn give_to(&self, sink: &mut K) -> Result<(), StoreFault> {
-        Ok(sink.take(self)?)
-    }
+/// Gives the sink the record. Refused, the sink stays as it was.
+fn give<K: Sink<T>, T>(sink: &mut K, row: &T) -> Result<(), StoreFault>
+    ensures took { OnOk result (K.takes sink.old row.now sink.new) }
+    ensures same { OnErr result (sink.new ≡ sink.old) }
+    ensures refused { Fails (K.refuses sink.old row.now) result }
+{
+    Ok(sink.take(row)?)
 }
 
 /// Reads one row more, and gives the sink its record. False where there is none.
-fn step<S: Alter, K, T: GivenTo<K> + Drop>(
+fn step<S: Alter, K: Sink<T>, T: Record + Drop>(
     rows: &mut Rows<'_, S>,
     alloc: Global,
     sink: &mut K,
@@ -69,10 +43,10 @@ fn step<S: Alter, K, T: GivenTo<K> + Drop>(
     ensures rests { HasCleanDisk (state S.Store rows.new.conn.now) →
         Rests (state S.Store rows.old.conn.now) (state S.Store rows.new.conn.now) }
     ensures stepped { IfOk result
-        (Steps S.Store T.read T.takes rows.old.conn.now rows.new.conn.now sink.old sink.new) }
+        (Steps S.Store T.read K.takes rows.old.conn.now rows.new.conn.now sink.old sink.new) }
     ensures same { OnErr result (sink.new ≡ sink.old) }
     ensures cause { HasCleanDisk (state S.Store rows.new.conn.now) → Fails
-        (StepFails S.Store T.read T.refuses rows.old.conn.now rows.new.conn.now sink.old) result }
+        (StepFails S.Store T.read K.refuses rows.old.conn.now rows.new.conn.now sink.old) result }
 {
     if let Err(error) = rows.advance() {
         return Err(fault_of(&error));
@@ -80,12 +54,12 @@ fn step<S: Alter, K, T: GivenTo<K> + Drop>(
     let Some(row) = rows.get() else {
         return Ok(false);
     };
-    T::from_row(alloc, row)?.give_to(sink)?;
+    give(sink, &T::from_row(alloc, row)?)?;
     Ok(true)
 }
 
 /// Gives the sink the records that the rows of a query are, one after another.
-fn feed<S: Alter, K, T: GivenTo<K> + Drop>(
+fn feed<S: Alter, K: Sink<T>, T: Record + Drop>(
     conn: &mut Connection<S>,
     alloc: Global,
     sql: &str,
@@ -95,9 +69,9 @@ fn feed<S: Alter, K, T: GivenTo<K> + Drop>(
     requires asks { IsAsked sql.now (bound params.now) }
     requires hall { IsHall (state S.Store conn.old) }
     ensures rested { Rested (state S.Store conn.old) (state S.Store conn.new) }
-    ensures fed { FedRows S.Store T.read T.takes sql.now (bound params.now)
+    ensures fed { FedRows S.Store T.read K.takes sql.now (bound params.now)
         (state S.Store conn.old) (state S.Store conn.new) sink.old result sink.new }
-    ensures cause { HasCleanDisk (state S.Store conn.new) → Fails (FeedFails T.read T.takes T.refuses sql.now
+    ensures cause { HasCleanDisk (state S.Store conn.new) → Fails (FeedFails T.read K.takes K.refuses sql.now
         (bound params.now) (state S.Store conn.old) (state S.Store conn.new) sink.old sink.new) result }
 {
     let mut rows = match conn.query(sql, params) {
@@ -115,7 +89,7 @@ fn feed<S: Alter, K, T: GivenTo<K> + Drop>(
 
 /// Gives the sink the answers of the round, by entrant, number, then n. Where it refuses one, it has taken those
 /// before.
-pub(crate) fn feed_answers<S: Alter, K: AnswerSink>(
+pub(crate) fn feed_answers<S: Alter, K: Sink<AnswerRow>>(
     conn: &mut Connection<S>,
     alloc: Global,
     round: &RoundId,
@@ -136,7 +110,7 @@ pub(crate) fn feed_answers<S: Alter, K: AnswerSink>(
 }
 
 /// Gives the sink the protests of the round, by entrant, then token. Where it refuses one, it has taken those before.
-pub(crate) fn feed_protests<S: Alter, K: ProtestSink>(
+pub(crate) fn feed_protests<S: Alter, K: Sink<ProtestRow>>(
     conn: &mut Connection<S>,
     alloc: Global,
     round: &RoundId,

@@ -1,10 +1,8 @@
-//! The hall's world in SQL tables, and a cache before it.
+//! The hall's world in SQL tables.
 #![tactic(auto)]
 
 mod adoption;
 mod answers;
-mod cache;
-mod cached_store;
 mod calls;
 mod feed;
 mod fill;
@@ -29,7 +27,6 @@ mod tables;
 mod testers;
 
 pub use adoption::{adopt, adopt_old};
-pub use cached_store::CachedStore;
 pub use migration::{Migrated, migrate};
 pub use old_store::{OldStore, Taken};
 pub use open::{OpenFault, PathFiles, law_opened, open_at, open_in_memory, open_old, open_there};

@@ -26,9 +26,8 @@ use crate::rounds::{round, rounds, rounds_using};
 use crate::rows::Rows;
 use crate::testers::testers_of;
 use hall_policy::{
-    AnswerKey, AnswerNumber, AnswerRow, AnswerSink, Key, Name, People, Person, ProtestKey,
-    ProtestRow, ProtestSink, PuzzleKey, PuzzleNumber, PuzzleRow, PuzzleState, Round, RoundId,
-    RoundRow, Ruling,
+    AnswerKey, AnswerNumber, AnswerRow, Key, Name, People, Person, ProtestKey, ProtestRow,
+    PuzzleKey, PuzzleNumber, PuzzleRow, PuzzleState, Round, RoundId, RoundRow, Ruling, Sink,
 };
 use hall_store::{ReadStore, RoundFlag, Store, StoreFault};
 use sqlite::{Alter, Connection};
@@ -405,7 +404,7 @@ impl<S: Alter + Drop> ReadStore for SqlStore<S> {
         answers_in(&mut self.conn, alloc, round)
     }
 
-    fn feed_answers<K: AnswerSink>(
+    fn feed_answers<K: Sink<AnswerRow>>(
         &mut self,
         alloc: Global,
         round: &RoundId,
@@ -540,7 +539,7 @@ impl<S: Alter + Drop> ReadStore for SqlStore<S> {
         protests_in(&mut self.conn, alloc, round)
     }
 
-    fn feed_protests<K: ProtestSink>(
+    fn feed_protests<K: Sink<ProtestRow>>(
         &mut self,
         alloc: Global,
         round: &RoundId,

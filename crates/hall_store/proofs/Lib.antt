@@ -12,3 +12,4 @@ pub mod Changes
 pub mod Imports
 pub mod Feeds
 pub mod ProtestWorlds
+pub mod Agrees

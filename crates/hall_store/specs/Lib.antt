@@ -2,4 +2,5 @@ pub mod Change
 pub mod Store
 pub mod Caller
 pub mod Keyed
+pub mod Cache
 pub mod Maps

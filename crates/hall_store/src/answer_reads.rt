@@ -11,9 +11,7 @@ ghost use Rattle.hall_store.specs.declared.slot.Part.TheVariants.{Entrant as ToE
 
 use crate::slot::{AnswerSlot, Part};
 use crate::writes::push;
-use hall_policy::{
-    AnswerNumber, AnswerRow, AnswerSink, Name, PuzzleNumber, RoundId, SinkFault, Token,
-};
+use hall_policy::{AnswerNumber, AnswerRow, Name, PuzzleNumber, RoundId, Sink, SinkFault, Token};
 use std::alloc::{AllocError, Global};
 use std::collections::BTreeMap;
 
@@ -178,7 +176,7 @@ pub(crate) fn is_taken(answers: &BTreeMap<AnswerSlot, AnswerRow>, slot: &AnswerS
 }
 
 /// Gives the sink the round's answers, one after another, from its first slot on.
-pub(crate) fn feed_answers<K: AnswerSink>(
+pub(crate) fn feed_answers<K: Sink<AnswerRow>>(
     answers: &BTreeMap<AnswerSlot, AnswerRow>,
     first: &AnswerSlot,
     sink: &mut K,

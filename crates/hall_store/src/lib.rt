@@ -1,7 +1,9 @@
-//! What keeps the hall's world: a trait of its reads, a trait of the whole, and ordered maps.
+//! What keeps the hall's world: a trait of its reads, a trait of the whole, ordered maps, and a cache before a store.
 #![tactic(auto)]
 
 mod answer_reads;
+mod cache;
+mod cached_store;
 mod change;
 mod fault;
 mod map_adds;
@@ -13,6 +15,7 @@ mod slot;
 mod store;
 mod writes;
 
+pub use cached_store::CachedStore;
 pub use change::{Change, RoundFlag};
 pub use fault::StoreFault;
 pub use map_store::MapStore;

@@ -22,9 +22,8 @@ use crate::slot::Part;
 use crate::store::{ReadStore, Store};
 use crate::writes::put;
 use hall_policy::{
-    AnswerKey, AnswerNumber, AnswerRow, AnswerSink, Key, Name, People, Person, ProtestKey,
-    ProtestRow, ProtestSink, PuzzleKey, PuzzleNumber, PuzzleRow, PuzzleState, Round, RoundId,
-    RoundRow, Ruling,
+    AnswerKey, AnswerNumber, AnswerRow, Key, Name, People, Person, ProtestKey, ProtestRow,
+    PuzzleKey, PuzzleNumber, PuzzleRow, PuzzleState, Round, RoundId, RoundRow, Ruling, Sink,
 };
 use std::alloc::Global;
 
@@ -125,7 +124,7 @@ impl ReadStore for MapStore {
         Ok(answer_rows(alloc, &self.answers, Part::Round, &first)?)
     }
 
-    fn feed_answers<K: AnswerSink>(
+    fn feed_answers<K: Sink<AnswerRow>>(
         &mut self,
         alloc: Global,
         round: &RoundId,
@@ -185,7 +184,7 @@ impl ReadStore for MapStore {
         Ok(protest_rows_in(alloc, &self.protests, round)?)
     }
 
-    fn feed_protests<K: ProtestSink>(
+    fn feed_protests<K: Sink<ProtestRow>>(
         &mut self,
         _alloc: Global,
         round: &RoundId,

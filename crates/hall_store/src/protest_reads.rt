@@ -8,7 +8,7 @@ ghost use Rattle.hall_policy.specs.Sink.{HasTaken};
 ghost use Rattle.hall_store.specs.Keyed.{Each, IsProtestKept, IsOpenIn, HasOpen, first_protest, least_word};
 
 use crate::writes::push;
-use hall_policy::{Name, ProtestKey, ProtestRow, ProtestSink, RoundId, SinkFault, Token};
+use hall_policy::{Name, ProtestKey, ProtestRow, RoundId, Sink, SinkFault, Token};
 use std::alloc::{AllocError, Global};
 use std::collections::BTreeMap;
 
@@ -143,7 +143,7 @@ pub(crate) fn protest_rows_in(
 }
 
 /// Gives the sink the round's protests, one after another, in the order of their keys.
-pub(crate) fn feed_protests<K: ProtestSink>(
+pub(crate) fn feed_protests<K: Sink<ProtestRow>>(
     protests: &BTreeMap<ProtestKey, ProtestRow>,
     round: &RoundId,
     sink: &mut K,

@@ -2,9 +2,8 @@
 use crate::change::RoundFlag;
 use crate::fault::StoreFault;
 use hall_policy::{
-    AnswerKey, AnswerNumber, AnswerRow, AnswerSink, Key, Name, People, Person, ProtestKey,
-    ProtestRow, ProtestSink, PuzzleKey, PuzzleNumber, PuzzleRow, PuzzleState, Round, RoundId,
-    RoundRow, Ruling,
+    AnswerKey, AnswerNumber, AnswerRow, Key, Name, People, Person, ProtestKey, ProtestRow,
+    PuzzleKey, PuzzleNumber, PuzzleRow, PuzzleState, Round, RoundId, RoundRow, Ruling, Sink,
 };
 use std::alloc::Global;
 
@@ -149,7 +148,7 @@ pub trait ReadStore: Drop {
 
     /// Gives the sink the answers of the round, one after another, by entrant, number, then n. It fails where the sink
     /// refuses one, and has then taken those before.
-    fn feed_answers<K: AnswerSink>(
+    fn feed_answers<K: Sink<AnswerRow>>(
         &mut self,
         alloc: Global,
         round: &RoundId,
@@ -219,7 +218,7 @@ pub trait ReadStore: Drop {
 
     /// Gives the sink the protests of the round, one after another, by entrant, then token. It fails where the sink
     /// refuses one, and has then taken those before.
-    fn feed_protests<K: ProtestSink>(
+    fn feed_protests<K: Sink<ProtestRow>>(
         &mut self,
         alloc: Global,
         round: &RoundId,

@@ -18,4 +18,6 @@ mod opening;
 #[cfg(test)]
 mod socket;
 #[cfg(test)]
+mod store;
+#[cfg(test)]
 mod tool;

@@ -2,9 +2,8 @@
 ghost use Rattle.std.specs.Prelude.{◌≡◌, ⊤};
 
 use hall_policy::{
-    AnswerKey, AnswerNumber, AnswerRow, AnswerSink, Key, Name, People, Person, ProtestKey,
-    ProtestRow, ProtestSink, PuzzleKey, PuzzleNumber, PuzzleRow, PuzzleState, Round, RoundId,
-    RoundRow, Ruling,
+    AnswerKey, AnswerNumber, AnswerRow, Key, Name, People, Person, ProtestKey, ProtestRow,
+    PuzzleKey, PuzzleNumber, PuzzleRow, PuzzleState, Round, RoundId, RoundRow, Ruling, Sink,
 };
 use hall_store::{MapStore, ReadStore, RoundFlag, Store, StoreFault};
 use std::alloc::Global;
@@ -134,7 +133,7 @@ impl ReadStore for LimitedStore {
         self.store.answers_in(alloc, round)
     }
 
-    fn feed_answers<K: AnswerSink>(
+    fn feed_answers<K: Sink<AnswerRow>>(
         &mut self,
         alloc: Global,
         round: &RoundId,
@@ -197,7 +196,7 @@ impl ReadStore for LimitedStore {
         self.store.protests_in(alloc, round)
     }
 
-    fn feed_protests<K: ProtestSink>(
+    fn feed_protests<K: Sink<ProtestRow>>(
         &mut self,
         alloc: Global,
         round: &RoundId,

@@ -18,7 +18,7 @@ const PEOPLE: &str = "\
     rex,rex-key-1,referee\n";
 
 /// From nine o'clock on 2 May 2026.
-const MORNING: &str = "\
+pub(crate) const MORNING: &str = "\
     version = 1\n\
     title = \"Morning\"\n\
     start = \"2026-05-02T09:00:00Z\"\n\
@@ -75,6 +75,21 @@ const PUTS: [(&str, &str, &str); 6] = [
     ("dora-key", "PUT /rounds/r3", UNCERTAIN),
 ];
 
+/// Puts what the line and the body say, for who has the key.
+pub(crate) fn put(
+    rt: &(impl AllocGlobal + Abort),
+    routes: &Routes,
+    desk: &mut Desk<MapStore>,
+    key: &str,
+    line: &str,
+    body: &str,
+) {
+    let put = request(rt, key, line, body);
+    let t = Moment::new(0).expect(rt, "moment");
+    let answer = answer_bytes(rt.alloc(), routes, desk, t, put.as_bytes());
+    assert!(rt; answer.as_bytes().starts_with(b"HTTP/1.1 200 OK"), "{line}");
+}
+
 /// A hall in ordered maps.
 pub(crate) fn opening_desk(rt: &(impl AllocGlobal + Abort)) -> Desk<MapStore> {
     let mut desk = Desk::new(MapStore::new(rt.alloc()));
@@ -82,11 +97,8 @@ pub(crate) fn opening_desk(rt: &(impl AllocGlobal + Abort)) -> Desk<MapStore> {
     let reply = desk.seed(rt.alloc(), &people);
     assert!(rt; matches!(&reply, Reply::Imported(6)));
     let routes = Routes::new(rt.alloc()).expect(rt, "memory");
-    let t = Moment::new(0).expect(rt, "moment");
     for (key, line, body) in &PUTS {
-        let put = request(rt, key, line, body);
-        let answer = answer_bytes(rt.alloc(), &routes, &mut desk, t, put.as_bytes());
-        assert!(rt; answer.as_bytes().starts_with(b"HTTP/1.1 200 OK"), "{line}");
+        put(rt, &routes, &mut desk, key, line, body);
     }
     desk
 }

@@ -2,9 +2,8 @@
 ghost use Rattle.std.specs.Prelude.{⊤};
 
 use hall_policy::{
-    AnswerKey, AnswerNumber, AnswerRow, AnswerSink, Key, Name, People, Person, ProtestKey,
-    ProtestRow, ProtestSink, PuzzleKey, PuzzleNumber, PuzzleRow, PuzzleState, Round, RoundId,
-    RoundRow, Ruling,
+    AnswerKey, AnswerNumber, AnswerRow, Key, Name, People, Person, ProtestKey, ProtestRow,
+    PuzzleKey, PuzzleNumber, PuzzleRow, PuzzleState, Round, RoundId, RoundRow, Ruling, Sink,
 };
 use hall_store::{MapStore, ReadStore, RoundFlag, Store, StoreFault};
 use std::alloc::Global;
@@ -130,7 +129,7 @@ impl ReadStore for LimitedStore<'_> {
         self.store.answers_in(alloc, round)
     }
 
-    fn feed_answers<K: AnswerSink>(
+    fn feed_answers<K: Sink<AnswerRow>>(
         &mut self,
         alloc: Global,
         round: &RoundId,
@@ -193,7 +192,7 @@ impl ReadStore for LimitedStore<'_> {
         self.store.protests_in(alloc, round)
     }
 
-    fn feed_protests<K: ProtestSink>(
+    fn feed_protests<K: Sink<ProtestRow>>(
         &mut self,
         alloc: Global,
         round: &RoundId,

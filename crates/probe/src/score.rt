@@ -1,9 +1,7 @@
 //! Rows of points: the total of one entrant, what a tally takes and its table, a table of totals.
 use crate::records::{Progress, answer_row, protest_row, round_row, upheld};
 use crate::words::{Fault, checked, fields_of, named, number_of, push_word, signed_of, words_of};
-use hall_policy::{
-    AnswerRow, AnswerSink, Mode, Name, ProtestRow, ProtestSink, RoundRow, SinkFault,
-};
+use hall_policy::{AnswerRow, Mode, Name, ProtestRow, RoundRow, Sink, SinkFault};
 use hall_score::{Line, Tally, standings, table_text, total};
 use std::alloc::{AllocError, Global};
 
@@ -100,12 +98,12 @@ pub(crate) fn total_row(alloc: Global, row: &str) -> Result<String, Fault> {
 }
 
 /// Gives the sink the answer.
-fn take_answer<K: AnswerSink>(sink: &mut K, row: &AnswerRow) -> Result<(), SinkFault> {
+fn take_answer<K: Sink<AnswerRow>>(sink: &mut K, row: &AnswerRow) -> Result<(), SinkFault> {
     sink.take(row)
 }
 
 /// Gives the sink the protest.
-fn take_protest<K: ProtestSink>(sink: &mut K, row: &ProtestRow) -> Result<(), SinkFault> {
+fn take_protest<K: Sink<ProtestRow>>(sink: &mut K, row: &ProtestRow) -> Result<(), SinkFault> {
     sink.take(row)
 }
 

@@ -2,8 +2,7 @@
 use crate::opening::{Asked, answered, number_of, open, request_told, routes};
 use crate::tables::{Ask, ask_over, connection};
 use hall_http::Answer;
-use hall_sql::CachedStore;
-use hall_store::{MapStore, Store};
+use hall_store::{CachedStore, MapStore, Store};
 use std::alloc::AllocGlobal;
 use std::process::Abort;
 

@@ -45,12 +45,12 @@ feed-preserved g c =
     let so = c.feed.invariant.2 in
     let is : c.in_ok-step.field-0 ≡ true = search rules in
     let lasts = last_then old (state g.S.Store before) (state g.S.Store after) c.feed.invariant.1 c.step.ensures.lasts in
-    let stepped = subst (Steps g.S.Store g.T.Record.read g.T.GivenTo.takes before after c.feed.sink c.step.new.sink) is c.in_ok-step.ensures.stepped in (
+    let stepped = subst (Steps g.S.Store g.T.Record.read g.K.Sink.takes before after c.feed.sink c.step.new.sink) is c.in_ok-step.ensures.stepped in (
       c.step.ensures.same_reference ∙ c.feed.invariant.0,
       lasts,
       (
         so.0 ++ stepped.0 ∷ [],
-        taken_more g.T.GivenTo.takes c.args.sink.now c.feed.sink c.step.new.sink so.0 stepped.0 so.1 stepped.1,
+        taken_more g.K.Sink.takes c.args.sink.now c.feed.sink c.step.new.sink so.0 stepped.0 so.1 stepped.1,
         λ clean.
             let mid : HasCleanDisk (state g.S.Store before) = omega (arith, c.step.ensures.lasts.clean, clean) in
             let row = stepped.2 clean in
@@ -66,9 +66,9 @@ returns-then-not-branch-clause-fed g c =
     let so = c.feed.invariant.2 in
     let same : c.conn-then-not-branch-1.given.0 ≡ after = search rules in
     let none : c.in_ok-step.field-0 ≡ false = search rules in
-    let stepped = subst (Steps g.S.Store g.T.Record.read g.T.GivenTo.takes before after c.feed.sink c.step.new.sink) none c.in_ok-step.ensures.stepped in (
+    let stepped = subst (Steps g.S.Store g.T.Record.read g.K.Sink.takes before after c.feed.sink c.step.new.sink) none c.in_ok-step.ensures.stepped in (
       so.0,
-      subst (HasTaken g.T.GivenTo.takes c.args.sink.now so.0) (sym stepped.0) so.1,
+      subst (HasTaken g.K.Sink.takes c.args.sink.now so.0) (sym stepped.0) so.1,
       λ clean.
           let late : HasCleanDisk (state g.S.Store after) = subst (λ h. HasCleanDisk (state g.S.Store h)) same clean in
           let mid : HasCleanDisk (state g.S.Store before) = omega (arith, c.step.ensures.lasts.clean, late) in
@@ -100,9 +100,9 @@ returns-in_err-step-clause-fed g c =
     let after = c.step.new.rows.conn.now in
     let so = c.feed.invariant.2 in
     let same : c.conn-in_err-step-1.given.0 ≡ after = search rules in
-    fed_first g.S.Store g.T.Record.read g.T.GivenTo.takes c.args.sql.now (bound c.args.params.now) (state g.S.Store c.args.conn.now) (state g.S.Store c.conn-in_err-step-1.given.0)
+    fed_first g.S.Store g.T.Record.read g.K.Sink.takes c.args.sql.now (bound c.args.params.now) (state g.S.Store c.args.conn.now) (state g.S.Store c.conn-in_err-step-1.given.0)
     c.args.sink.now c.step.new.sink c.from_residual.result _ c.from_residual.ensures.1 so.0
-    (subst (HasTaken g.T.GivenTo.takes c.args.sink.now so.0) (sym c.in_err-step.ensures.same) so.1)
+    (subst (HasTaken g.K.Sink.takes c.args.sink.now so.0) (sym c.in_err-step.ensures.same) so.1)
     (λ clean.
     let late : HasCleanDisk (state g.S.Store after) = subst (λ h. HasCleanDisk (state g.S.Store h)) same clean in
     let mid : HasCleanDisk (state g.S.Store before) = omega (arith, c.step.ensures.lasts.clean, late) in
@@ -130,10 +130,10 @@ returns-in_err-step-clause-cause g c clean =
     let sql = c.args.sql.now in
     let params = bound c.args.params.now in
     fails_as c.from_residual.result _ _ c.from_residual.ensures.1 (λ failed.
-    subst (λ h. FeedFails g.T.Record.read g.T.GivenTo.takes g.T.GivenTo.refuses sql params old (state g.S.Store h) c.args.sink.now c.step.new.sink)
+    subst (λ h. FeedFails g.T.Record.read g.K.Sink.takes g.K.Sink.refuses sql params old (state g.S.Store h) c.args.sink.now c.step.new.sink)
     (sym same)
-    (subst (FeedFails g.T.Record.read g.T.GivenTo.takes g.T.GivenTo.refuses sql params old (state g.S.Store after) c.args.sink.now)
+    (subst (FeedFails g.T.Record.read g.K.Sink.takes g.K.Sink.refuses sql params old (state g.S.Store after) c.args.sink.now)
     (sym c.in_err-step.ensures.same)
-    (feed_cause g.S.Store g.T.Record.read g.T.GivenTo.takes g.T.GivenTo.refuses sql params c.requires.asks old c.requires.hall before after
+    (feed_cause g.S.Store g.T.Record.read g.K.Sink.takes g.K.Sink.refuses sql params c.requires.asks old c.requires.hall before after
     c.args.sink.now c.feed.sink c.feed.invariant.1 mid c.step.ensures.lasts so.0 so.1 (so.2 mid)
     (c.in_err-step.ensures.cause late failed))))

@@ -11,4 +11,4 @@ invariant-feed g l =
     let old = state g.S.Store l.fn.conn in
     let now = state g.S.Store l.rows.conn.now in
     (l.rows.conn.ghost_name ≡ l.initial.rows.conn.ghost_name) × Lasts old now
-    × Taking g.S.Store g.T.Record.read g.T.GivenTo.takes l.sql (bound l.params) old l.rows.conn.now l.fn.sink l.sink
+    × Taking g.S.Store g.T.Record.read g.K.Sink.takes l.sql (bound l.params) old l.rows.conn.now l.fn.sink l.sink

@@ -18,14 +18,14 @@ returns-clause-fed g c =
     let old = state g.S.Store c.args.conn.now in
     let params = Text c.args.round.now ∷ [] in
     fed_rows g.S.Store answer_in answers_in_text params 9 (equals 2 0 ∷ []) answer_columns listing_order _
-    answers_in_is.0 answers_in_is.1 answers_in_is.2 (λ db. refl) g.K.AnswerSink.takes (λ world rows. IsListing world (is_in c.args.round.now) rows)
+    answers_in_is.0 answers_in_is.1 answers_in_is.2 (λ db. refl) g.K.Sink.takes (λ world rows. IsListing world (is_in c.args.round.now) rows)
     old (state g.S.Store c.feed.new.conn) c.args.sink.now c.feed.new.sink c.feed.result c.requires.hall c.feed.ensures.rested
     (λ opened. (c.schema-schema.ensures.live opened).0) (answers_in_selected old c.args.round.now)
     (rw (c.params-to_sql.ensures, c.as_str.ensures.text) at c.feed.ensures.fed)
 
 pub returns-clause-whole : goal.returns-clause-whole
 returns-clause-whole g c clean =
-    fed_whole g.S.Store answer_in g.K.AnswerSink.takes answers_in_text (Text c.args.round.now ∷ []) (state g.S.Store c.args.conn.now)
+    fed_whole g.S.Store answer_in g.K.Sink.takes answers_in_text (Text c.args.round.now ∷ []) (state g.S.Store c.args.conn.now)
     (state g.S.Store c.feed.new.conn) c.args.sink.now c.feed.new.sink c.feed.result clean
     (rw (c.params-to_sql.ensures, c.as_str.ensures.text) at c.feed.ensures.fed)
 

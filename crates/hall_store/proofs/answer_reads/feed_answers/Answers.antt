@@ -37,7 +37,7 @@ returns-in_err-take-clause-stopped g c =
     let entry : AnswerSlot × AnswerRow = (c.in-Some.slot.now, c.in-Some.row.now) in
     let rest : List (AnswerSlot × AnswerRow) = c.next.new.self in
     let passes : test entry ≡ true = search rules in
-    feeding_stopped g.K.AnswerSink.refuses c.args.sink.now c.loop-slot.sink c.take.new.self (filter (λ row. agree Round (slot_of row) c.args.first.now) (values_of es))
+    feeding_stopped g.K.Sink.refuses c.args.sink.now c.loop-slot.sink c.take.new.self (filter (λ row. agree Round (slot_of row) c.args.first.now) (values_of es))
     (values_of (take_while test c.loop-slot.slot-iterator)) (values_of (take_while test rest)) entry.1 c.in_err-take.field-0.0 c.from_residual.result
     (ap values_of (ap (take_while test) c.in-Some.ensures.steps ∙ taken test entry rest passes)) c.loop-slot.invariant c.in_err-take.ensures.same c.in_err-take.ensures.refused c.from_residual.ensures.1
 

@@ -29,7 +29,7 @@ returns-in_err-feed_answers-clause-fed g c =
     let store = c.args.self.now in
     let round = c.args.round.now in
     let first = c.in_ok-first.first in
-    (fed_or_refused g.K.AnswerSink.refuses (λ world rows. IsListing world (is_in round) rows) (content_of store) c.args.sink.now c.feed_answers.new.sink (rows_from store first)
+    (fed_or_refused g.K.Sink.refuses (λ world rows. IsListing world (is_in round) rows) (content_of store) c.args.sink.now c.feed_answers.new.sink (rows_from store first)
     (listed_from store round first c.in_ok-first.ensures c.feed_answers.ensures.ordered) tt c.in_err-feed_answers.field-0.0 c.from_residual-in_err-feed_answers.result
     c.in_err-feed_answers.ensures.stopped c.from_residual-in_err-feed_answers.ensures.1).0
 
@@ -38,7 +38,7 @@ returns-in_err-feed_answers-clause-fault g c =
     let store = c.args.self.now in
     let round = c.args.round.now in
     let first = c.in_ok-first.first in
-    (fed_or_refused g.K.AnswerSink.refuses (λ world rows. IsListing world (is_in round) rows) (content_of store) c.args.sink.now c.feed_answers.new.sink (rows_from store first)
+    (fed_or_refused g.K.Sink.refuses (λ world rows. IsListing world (is_in round) rows) (content_of store) c.args.sink.now c.feed_answers.new.sink (rows_from store first)
     (listed_from store round first c.in_ok-first.ensures c.feed_answers.ensures.ordered) tt c.in_err-feed_answers.field-0.0 c.from_residual-in_err-feed_answers.result
     c.in_err-feed_answers.ensures.stopped c.from_residual-in_err-feed_answers.ensures.1).1
 
@@ -47,5 +47,5 @@ returns-clause-fed g c =
     let store = c.args.self.now in
     let round = c.args.round.now in
     let first = c.in_ok-first.first in
-    fed_whole g.K.AnswerSink.refuses (λ world rows. IsListing world (is_in round) rows) (content_of store) c.args.sink.now c.feed_answers.new.sink (rows_from store first)
+    fed_whole g.K.Sink.refuses (λ world rows. IsListing world (is_in round) rows) (content_of store) c.args.sink.now c.feed_answers.new.sink (rows_from store first)
     (listed_from store round first c.in_ok-first.ensures c.feed_answers.ensures.ordered) tt c.in_ok-feed_answers.ensures.fed

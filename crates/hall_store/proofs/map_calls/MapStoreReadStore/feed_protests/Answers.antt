@@ -25,19 +25,19 @@ pub returns-in_err-feed_protests-clause-fed : goal.returns-in_err-feed_protests-
 returns-in_err-feed_protests-clause-fed g c =
     let store = c.args.self.now in
     let round = c.args.round.now in
-    (fed_or_refused g.K.ProtestSink.refuses (λ world rows. rows ≡ protests_in world round) (content_of store) c.args.sink.now c.feed_protests.new.sink (rows_in store round)
+    (fed_or_refused g.K.Sink.refuses (λ world rows. rows ≡ protests_in world round) (content_of store) c.args.sink.now c.feed_protests.new.sink (rows_in store round)
     (made store round c.feed_protests.ensures.ordered) tt c.in_err-feed_protests.field-0.0 c.from_residual.result c.in_err-feed_protests.ensures.stopped c.from_residual.ensures.1).0
 
 pub returns-in_err-feed_protests-clause-fault : goal.returns-in_err-feed_protests-clause-fault
 returns-in_err-feed_protests-clause-fault g c =
     let store = c.args.self.now in
     let round = c.args.round.now in
-    (fed_or_refused g.K.ProtestSink.refuses (λ world rows. rows ≡ protests_in world round) (content_of store) c.args.sink.now c.feed_protests.new.sink (rows_in store round)
+    (fed_or_refused g.K.Sink.refuses (λ world rows. rows ≡ protests_in world round) (content_of store) c.args.sink.now c.feed_protests.new.sink (rows_in store round)
     (made store round c.feed_protests.ensures.ordered) tt c.in_err-feed_protests.field-0.0 c.from_residual.result c.in_err-feed_protests.ensures.stopped c.from_residual.ensures.1).1
 
 pub returns-clause-fed : goal.returns-clause-fed
 returns-clause-fed g c =
     let store = c.args.self.now in
     let round = c.args.round.now in
-    fed_whole g.K.ProtestSink.refuses (λ world rows. rows ≡ protests_in world round) (content_of store) c.args.sink.now c.feed_protests.new.sink (rows_in store round)
+    fed_whole g.K.Sink.refuses (λ world rows. rows ≡ protests_in world round) (content_of store) c.args.sink.now c.feed_protests.new.sink (rows_in store round)
     (made store round c.feed_protests.ensures.ordered) tt c.in_ok-feed_protests.ensures.fed
