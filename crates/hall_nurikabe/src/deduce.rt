@@ -32,9 +32,16 @@ pub(crate) struct Deductions<'a> {
 }
 
 impl Deduce for Deductions<'_> {
+    type Scratch = ();
+
     ghost question = { λ deductions. question_of Nurikabe deductions.puzzle.now };
 
-    fn pass(&self, alloc: Global, partial: &mut Partial) -> Result<Pass, AllocError> {
+    fn pass(
+        &self,
+        alloc: Global,
+        partial: &mut Partial,
+        _scratch: &mut (),
+    ) -> Result<Pass, AllocError> {
         let news = partial.trail().len().saturating_sub(self.settled);
         let blocks = Blocks {
             puzzle: self.puzzle,

@@ -88,7 +88,7 @@ impl<'a> Rules for NurikabeRules<'a> {
             settled: self.settled.min(partial.trail().len().saturating_sub(1)),
             tries: self.visits > PLAIN_VISITS,
         };
-        match settle(alloc, &deductions, partial)? {
+        match settle(alloc, &deductions, partial, &mut ())? {
             Step::Dead => Ok(Step::Dead),
             Step::Live => {
                 self.settled = partial.trail().len();

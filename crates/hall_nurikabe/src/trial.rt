@@ -38,7 +38,7 @@ fn try_value(
 {
     let mark = partial.mark();
     partial.set(cell, value);
-    let step = settle(alloc, deductions, partial);
+    let step = settle(alloc, deductions, partial, &mut ());
     partial.undo_to(mark);
     step
 }
@@ -104,14 +104,21 @@ pub(crate) struct DeductionsAndTrials<'a> {
 }
 
 impl Deduce for DeductionsAndTrials<'_> {
+    type Scratch = ();
+
     ghost question = { λ deductions. question_of Nurikabe deductions.puzzle.now };
 
-    fn pass(&self, alloc: Global, partial: &mut Partial) -> Result<Pass, AllocError> {
+    fn pass(
+        &self,
+        alloc: Global,
+        partial: &mut Partial,
+        scratch: &mut (),
+    ) -> Result<Pass, AllocError> {
         let plain = Deductions {
             puzzle: self.puzzle,
             settled: self.settled,
         };
-        match plain.pass(alloc, partial)? {
+        match plain.pass(alloc, partial, scratch)? {
             Pass::Settled if self.tries => sweep_trials(alloc, self.puzzle, partial),
             pass => Ok(pass),
         }

@@ -1,5 +1,5 @@
 -- What is known of the chains of a puzzle, and the sides that would close one.
-use Rattle.std.specs.Prelude.{◌≡◌, ◌↔◌, ◌⊎◌, ℕ, Bool, IsTrue, List, Option, length, slice_index, slice_index_or}
+use Rattle.std.specs.Prelude.{◌≡◌, ◌↔◌, ◌⊎◌, ℕ, Bool, IsTrue, List, Option, Some, None, length, slice_index, slice_index_or, slice_set}
 use Rattle.hall_grid.specs.declared.board.Kind.TheVariants.{Slither}
 use Rattle.hall_grid.specs.Board.{Board, IsBoard}
 use Rattle.hall_grid.specs.Slither.{all_sides, dots, ends, HasOtherCount}
@@ -46,6 +46,11 @@ pub record IsLayout (layout : Layout) : Type 0 where
 abbrev pub HasWrongLoop : Layout → Type 0
 HasWrongLoop layout = HasLoop layout.labels layout.ends
     × (LabelsDiffer layout.labels ⊎ HasOtherCount layout.board layout.lines)
+
+-- the lines, with one more where it is given
+abbrev pub with_line : List ℕ → Option ℕ → List ℕ
+with_line lines None = lines
+with_line lines (Some side) = slice_set lines side 1
 
 -- the filling has the lines
 abbrev pub HasLines : List ℕ → List ℕ → Type 0

@@ -1,6 +1,6 @@
 //! Loops: a side that would close one too early has no line, and beside a loop there is no other line.
-ghost use Rattle.std.specs.Prelude.{◌≡◌, ◌<◌, ◌↔◌, ℕ, IsTrue, IfOk, OnErr, List, Option, length, slice_set};
-ghost use Rattle.hall_grid.specs.Slither.{all_sides, HasOtherCount};
+ghost use Rattle.std.specs.Prelude.{◌≡◌, ◌<◌, ◌↔◌, ℕ, IsTrue, IfOk, OnErr, List, Option, length};
+ghost use Rattle.hall_grid.specs.Slither.{all_sides};
 ghost use Rattle.hall_solve.specs.Question.{IsPartial, IsHopeless, Narrows};
 ghost use Rattle.hall_solve.specs.Deduction.{IsDeduced};
 ghost use Rattle.hall_solve.specs.Puzzle.{question_of};
@@ -55,23 +55,6 @@ fn has_loop(labels: &[Option<usize>], ends: &[Ends]) -> bool
     false
 }
 
-/// Whether with one more line a number differs from the count of lines on its cell's sides.
-fn misses_number(
-    alloc: Global,
-    puzzle: &Puzzle,
-    lines: &[u8],
-    side: usize,
-) -> Result<bool, AllocError>
-    requires kind { puzzle.now.kind ≡ Kind.Slither }
-    requires lines { length lines.now ≡ all_sides puzzle.now.size }
-    requires side { side < all_sides puzzle.now.size }
-    ensures { IfOk result (λ misses. IsTrue misses ↔ HasOtherCount puzzle.now (slice_set lines.now side 1)) }
-{
-    let mut closed = Vec::from_slice(alloc, lines)?;
-    closed[side] = 1;
-    Ok(has_other_count(puzzle, &closed))
-}
-
 impl<'a> Chains<'a> {
     ghost use Rattle.hall_slither.specs.Close.{Closes, HasWrongLoop, layout_question};
     ghost use Rattle.hall_slither.specs.Chain.{AreLines};
@@ -104,7 +87,7 @@ impl<'a> Chains<'a> {
         ensures wrong { IsTrue result ↔ HasWrongLoop self.now }
         ensures hopeless { IsTrue result → (p : List (Option ℕ)) → IsHopeless (layout_question self.now) p }
     {
-        self.closed && (self.apart || has_other_count(self.puzzle, &self.lines))
+        self.closed && (self.apart || has_other_count(self.puzzle, &self.lines, None))
     }
 
     /// Whether the side joins the two ends of one chain.
@@ -141,7 +124,7 @@ impl<'a> Look for Chains<'a> {
 
     fn look(
         &self,
-        alloc: Global,
+        _alloc: Global,
         partial: &mut Partial,
         spot: usize,
     ) -> Result<Finding, AllocError> {
@@ -154,7 +137,7 @@ impl<'a> Look for Chains<'a> {
         if !self.closes(spot) {
             return Ok(Finding::Nothing);
         }
-        if self.apart || misses_number(alloc, self.puzzle, &self.lines, spot)? {
+        if self.apart || has_other_count(self.puzzle, &self.lines, Some(spot)) {
             return Ok(Finding::Must(spot, 0));
         }
         Ok(Finding::Nothing)

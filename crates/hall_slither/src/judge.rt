@@ -3,6 +3,7 @@ ghost use Rattle.std.specs.Prelude.{◌≡◌, ◌<◌, ◌↔◌, IsTrue, IfOk,
 ghost use Rattle.hall_grid.specs.Board.{IsSize, Board};
 ghost use Rattle.hall_grid.specs.Answer.{IsFilling, AreBroken};
 ghost use Rattle.hall_grid.specs.Slither.{all_sides, is_line, HasNoLine, HasLooseEnd, HasCrossing, HasOtherCount};
+ghost use Rattle.hall_slither.specs.Close.{with_line};
 
 use crate::dot::{degree, dot_count};
 use crate::lines::has_lines_apart;
@@ -45,24 +46,38 @@ fn has_crossing(size: Size, lines: &[u8]) -> bool
     false
 }
 
-/// How many of the sides are lines.
-fn count_lines(lines: &[u8], sides: &[usize]) -> usize
-    requires { All (λ side. side < length lines.now) sides.now }
-    ensures { result ≡ count_by (is_line lines.now) sides.now }
+/// Whether the side is a line or the one more.
+fn is_line(lines: &[u8], more: Option<usize>, side: usize) -> bool
+    requires { side < length lines.now }
+    ensures { result ≡ is_line (with_line lines.now more) side }
 {
-    sides.iter().filter(|side| lines[**side] == 1).count()
+    match more {
+        Some(other) => side == other || lines[side] == 1,
+        None => lines[side] == 1,
+    }
 }
 
-/// Whether a number differs from the count of lines on its cell's four sides.
-pub(crate) fn has_other_count(puzzle: &Puzzle, lines: &[u8]) -> bool
+/// How many of the sides are lines or the one more.
+fn count_lines(lines: &[u8], more: Option<usize>, sides: &[usize]) -> usize
+    requires { All (λ side. side < length lines.now) sides.now }
+    ensures { result ≡ count_by (is_line (with_line lines.now more)) sides.now }
+{
+    sides
+        .iter()
+        .filter(|side| is_line(lines, more, **side))
+        .count()
+}
+
+/// Whether a number differs from the count of lines on its cell's four sides, with one more where it is given.
+pub(crate) fn has_other_count(puzzle: &Puzzle, lines: &[u8], more: Option<usize>) -> bool
     requires kind { puzzle.now.kind ≡ Kind.Slither }
     requires lines { length lines.now ≡ all_sides puzzle.now.size }
-    ensures { IsTrue result ↔ HasOtherCount puzzle.now lines.now }
+    ensures { IsTrue result ↔ HasOtherCount puzzle.now (with_line lines.now more) }
 {
     let size = puzzle.size();
     for cell in 0..puzzle.cells() {
         if let Clue::Number(number) = puzzle.clue(cell) {
-            if count_lines(lines, &sides(size, cell)) != number as usize {
+            if count_lines(lines, more, &sides(size, cell)) != number as usize {
                 return true;
             }
         }
@@ -85,7 +100,7 @@ pub fn broken(alloc: Global, puzzle: &Puzzle, filling: &Filling) -> Result<Broke
     broken.insert_if(Rule::S1, has_no_line(size, lines));
     broken.insert_if(Rule::S2, has_loose_end(size, lines));
     broken.insert_if(Rule::S3, has_crossing(size, lines));
-    broken.insert_if(Rule::S4, has_other_count(puzzle, lines));
+    broken.insert_if(Rule::S4, has_other_count(puzzle, lines, None));
     broken.insert_if(Rule::S5, has_lines_apart(alloc, size, lines)?);
     Ok(broken)
 }

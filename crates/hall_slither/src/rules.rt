@@ -13,12 +13,43 @@ use crate::judge::broken;
 use crate::scratch::{Scratch, best_open, note_failure};
 use crate::trial::try_waiting;
 use hall_grid::{Filling, Kind, Puzzle};
-use hall_solve::{Partial, Pass, Rules, Step};
+use hall_solve::{Deduce, Partial, Pass, Rules, Step, settle};
 use std::alloc::{AllocError, Global};
 use std::marker::Model;
 
-/// One pass of deductions: counts and colours at all dots and cells, then loops, then trials of the sides that wait.
-fn pass(
+/// All deductions about a puzzle.
+#[derive(Drop)]
+struct Deductions<'a> {
+    puzzle: &'a Puzzle,
+    ghost kind: { puzzle.now.kind ≡ Slither },
+}
+
+impl Deduce for Deductions<'_> {
+    type Scratch = Scratch;
+
+    ghost question = { λ deductions. question_of Slither deductions.puzzle.now };
+
+    ghost settled = { λ deductions. AreSilent deductions.puzzle.now };
+
+    fn pass(
+        &self,
+        alloc: Global,
+        partial: &mut Partial,
+        scratch: &mut Scratch,
+    ) -> Result<Pass, AllocError> {
+        let mark = partial.mark();
+        let pass = deduce(alloc, self.puzzle, partial, scratch)?;
+        if let Pass::Advanced = pass {
+            scratch
+                .queue
+                .put_beside_all(self.puzzle.size(), partial.since(mark));
+        }
+        Ok(pass)
+    }
+}
+
+/// Counts and colours at all dots and cells, then loops, then trials of the sides that wait.
+fn deduce(
     alloc: Global,
     puzzle: &Puzzle,
     partial: &mut Partial,
@@ -48,42 +79,6 @@ fn pass(
     match close_chains(alloc, puzzle, partial)? {
         Pass::Settled => try_waiting(alloc, puzzle, partial, scratch),
         pass => Ok(pass),
-    }
-}
-
-/// Makes passes until nothing more follows. Tried are the sides beside the one that was set last, or all where `all`
-/// says so, and those beside what a pass sets.
-fn settle_sides(
-    alloc: Global,
-    puzzle: &Puzzle,
-    partial: &mut Partial,
-    scratch: &mut Scratch,
-    all: bool,
-) -> Result<Step, AllocError>
-    requires kind { puzzle.now.kind ≡ Kind.Slither }
-    requires partial { IsPartial (question_of Kind.Slither puzzle.now) partial.old.places }
-    ensures live { IfOk result (λ step. step ≡ Step.Live
-        → Narrows (question_of Kind.Slither puzzle.now) partial.old.places partial.new.places) }
-    ensures settled { IfOk result (λ step. step ≡ Step.Live → AreSilent puzzle.now partial.new.places) }
-    ensures dead { IfOk result (λ step. step ≡ Step.Dead
-        → IsHopeless (question_of Kind.Slither puzzle.now) partial.old.places) }
-    ensures err { OnErr result (Narrows (question_of Kind.Slither puzzle.now) partial.old.places partial.new.places) }
-    ensures grows { Grows partial.old partial.new }
-{
-    scratch.queue.start_over(puzzle.size(), partial, all);
-    let chosen = partial.trail().last().copied();
-    'settling: loop {
-        let mark = partial.mark();
-        match pass(alloc, puzzle, partial, scratch)? {
-            Pass::Settled => return Ok(Step::Live),
-            Pass::Advanced => scratch
-                .queue
-                .put_beside_all(puzzle.size(), partial.since(mark)),
-            Pass::Dead => {
-                note_failure(&mut scratch.failures, chosen);
-                return Ok(Step::Dead);
-            }
-        }
     }
 }
 
@@ -157,7 +152,18 @@ impl<'a> Rules for SlitherRules<'a> {
             Some(scratch) => scratch,
             None => Scratch::new(alloc, self.puzzle)?,
         };
-        let step = settle_sides(alloc, self.puzzle, partial, &mut scratch, self.visits == 1);
+        // Tried are the sides beside the one that was set last, or all at the first visit.
+        let chosen = partial.trail().last().copied();
+        scratch
+            .queue
+            .start_over(self.puzzle.size(), partial, self.visits == 1);
+        let deductions = Deductions {
+            puzzle: self.puzzle,
+        };
+        let step = settle(alloc, &deductions, partial, &mut scratch);
+        if matches!(step, Ok(Step::Dead)) {
+            note_failure(&mut scratch.failures, chosen);
+        }
         self.scratch = Some(scratch);
         step
     }

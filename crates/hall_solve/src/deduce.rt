@@ -56,6 +56,9 @@ pub trait Look {
 
 /// Deductions about a partial filling.
 pub trait Deduce {
+    /// What passes work in, kept from one to the next. No promise rests on it.
+    type Scratch;
+
     /// What is to be solved.
     ghost question: { Self → Question };
 
@@ -63,7 +66,12 @@ pub trait Deduce {
     ghost settled: { Self → List (Option ℕ) → Type 0 } = { λ _ _. Unit {0} };
 
     /// One pass: sets places that follow.
-    fn pass(&self, alloc: Global, partial: &mut Partial) -> Result<Pass, AllocError>
+    fn pass(
+        &self,
+        alloc: Global,
+        partial: &mut Partial,
+        scratch: &mut Self::Scratch,
+    ) -> Result<Pass, AllocError>
         requires { IsPartial (question self.now) partial.old.places }
         ensures deduced { IfOk result (IsDeduced (question self.now) partial.old.places partial.new.places) }
         ensures settled { IfOk result (λ pass. pass ≡ Pass.Settled → settled self.now partial.new.places) }
@@ -101,6 +109,7 @@ pub fn settle<D: Deduce>(
     alloc: Global,
     deductions: &D,
     partial: &mut Partial,
+    scratch: &mut D::Scratch,
 ) -> Result<Step, AllocError>
     requires { IsPartial (D.question deductions.now) partial.old.places }
     ensures live { IfOk result (λ step. step ≡ Step.Live
@@ -111,7 +120,7 @@ pub fn settle<D: Deduce>(
     ensures grows { Grows partial.old partial.new }
 {
     'settling: loop {
-        match deductions.pass(alloc, partial)? {
+        match deductions.pass(alloc, partial, scratch)? {
             Pass::Settled => return Ok(Step::Live),
             Pass::Advanced => {}
             Pass::Dead => return Ok(Step::Dead),

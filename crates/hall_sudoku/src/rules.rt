@@ -85,7 +85,7 @@ impl<'a> Rules for SudokuRules<'a> {
 
     fn propagate(&mut self, alloc: Global, partial: &mut Partial) -> Result<Step, AllocError> {
         self.visits += 1;
-        settle(alloc, &self.units, partial)
+        settle(alloc, &self.units, partial, &mut ())
     }
 
     fn accepts(&mut self, _alloc: Global, filling: &Filling) -> Result<bool, AllocError> {

@@ -220,11 +220,18 @@ fn pass_in<const CELLS: usize>(units: &Units, partial: &mut Partial) -> Pass
 }
 
 impl Deduce for Units {
+    type Scratch = ();
+
     ghost question = { units_question };
 
     ghost settled = { IsSettled };
 
-    fn pass(&self, _alloc: Global, partial: &mut Partial) -> Result<Pass, AllocError> {
+    fn pass(
+        &self,
+        _alloc: Global,
+        partial: &mut Partial,
+        _scratch: &mut (),
+    ) -> Result<Pass, AllocError> {
         Ok(match self.room() {
             Room::Nine => pass_in::<81>(self, partial),
             Room::Sixteen => pass_in::<256>(self, partial),

@@ -45,9 +45,16 @@ impl Look for Below {
 }
 
 impl Deduce for Below {
+    type Scratch = ();
+
     ghost question = { λ s. first_below s.cells s.values s.limit };
 
-    fn pass(&self, alloc: Global, partial: &mut Partial) -> Result<Pass, AllocError> {
+    fn pass(
+        &self,
+        alloc: Global,
+        partial: &mut Partial,
+        _scratch: &mut (),
+    ) -> Result<Pass, AllocError> {
         sweep(alloc, self, partial)
     }
 }
@@ -88,7 +95,7 @@ impl Rules for Kind {
         if !self.deduces {
             return Ok(Step::Live);
         }
-        settle(alloc, &self.below, partial)
+        settle(alloc, &self.below, partial, &mut ())
     }
 
     fn accepts(&mut self, _alloc: Global, filling: &Filling) -> Result<bool, AllocError> {
@@ -212,10 +219,10 @@ fn advances_until_settled(rt: HostRuntime) -> Result<(), Fail> {
     );
     assert_eq!(rt; board.get(0), Some(0));
     assert_eq!(rt; sweep(rt.alloc(), &rules.below, &mut board)?, Pass::Settled);
-    assert_eq!(rt; settle(rt.alloc(), &rules.below, &mut board)?, Step::Live);
+    assert_eq!(rt; settle(rt.alloc(), &rules.below, &mut board, &mut ())?, Step::Live);
     assert_eq!(rt; rules.branch_place(&board), Some(1));
     let none = make_kind(2, 3, 0, true);
     let mut other = Partial::new(rt.alloc(), 2)?;
-    assert_eq!(rt; settle(rt.alloc(), &none.below, &mut other)?, Step::Dead);
+    assert_eq!(rt; settle(rt.alloc(), &none.below, &mut other, &mut ())?, Step::Dead);
     Ok(())
 }

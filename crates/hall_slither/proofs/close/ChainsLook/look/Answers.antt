@@ -6,7 +6,7 @@ use Rattle.hall_solve.specs.Question.{IsOpen}
 use Rattle.hall_slither.specs.Close.{Layout, IsLayout, Closes}
 use Rattle.hall_slither.proofs.IsLayout.{forced_beside, forced_closing, none_from}
 use Rattle.hall_slither.proofs.close.ChainsLook.look.Goals as goal
-use Rattle.hall_slither.proofs.close.ChainsLook.look.Goals.{then-self-2-via-then-self-2, then-self-2-via-else-self-2+in_ok-misses_number+then-branch}
+use Rattle.hall_slither.proofs.close.ChainsLook.look.Goals.{then-self-2-via-then-self-2, then-self-2-via-else-self-2+then-has_other_count}
 
 pub returns-then-self-clause-sound : goal.returns-then-self-clause-sound
 returns-then-self-clause-sound c =
@@ -37,8 +37,8 @@ returns-then-self-2-clause-sound c =
     forced_closing now is c.args.partial.now.places c.args.spot closes unset c.requires.spot off
     (elim c.then-self-2.branch [
       | then-self-2-via-then-self-2 w ↦ inl (is.apart.0 (sym (ap (λ (l : Layout). l.apart) c.self.view_is) ∙ w.if-self-2.true))
-      | then-self-2-via-else-self-2+in_ok-misses_number+then-branch w ↦
-          let other = w.in_ok-misses_number.ensures.0 w.if-branch.true in
+      | then-self-2-via-else-self-2+then-has_other_count w ↦
+          let other = w.has_other_count.ensures.0 w.if-has_other_count.true in
           let inside = subst (λ xs. HasOtherCount c.self.inside.puzzle.now (set xs c.args.spot 1)) w.deref.ensures.value other in
           inr (subst (λ (l : Layout). HasOtherCount l.board (set l.lines c.args.spot 1)) c.self.view_is inside)
     ])

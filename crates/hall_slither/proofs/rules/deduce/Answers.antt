@@ -7,7 +7,7 @@ use Rattle.hall_solve.specs.Deduction.{IsDeduced}
 use Rattle.hall_solve.specs.Puzzle.{question_of}
 use Rattle.hall_slither.specs.Count.{AreSilent}
 use Rattle.hall_slither.proofs.AreSilent.{silent_still}
-use Rattle.hall_slither.proofs.rules.pass.Goals as goal
+use Rattle.hall_slither.proofs.rules.deduce.Goals as goal
 
 pub returns-in-Settled-2-clause-silent : goal.returns-in-Settled-2-clause-silent
 returns-in-Settled-2-clause-silent c =
