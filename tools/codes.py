@@ -17,6 +17,7 @@ RUNNING = "docs/RUNNING.md"
 EXAMPLES = "examples/README.md"
 ACTIONS = "crates/hall_policy/specs/Actions.antt"
 RULES = "crates/hall_policy/specs/Rules.antt"
+REQUEST = "crates/hall_http/specs/Request.antt"
 
 FAULTS = [f"F{it}" for it in range(1, 9)] + [f"E{it}" for it in range(2, 9)]
 # A sentence that is so many bytes longer than another one says more.
@@ -55,10 +56,28 @@ def roles():
         yield name, ", ".join(found) or ("anyone, with or without a key" if name == "Table" else "every role")
 
 
+def right_sides(module):
+    """What stands behind the sign `=` in the cases of each definition of a module, on one line."""
+    for name, block in re.findall(r"^abbrev pub (\w+) : (.*?)(?:\n\n|\Z)", read(module), re.M | re.S):
+        yield name, " ".join(line.partition(" = ")[2] for line in re.sub(r"\n +", " ", block).split("\n")[1:])
+
+
+def asked_at():
+    """The methods that are served at each place, each with the action that it asks for, as the definition of that says. What a word stands for is put
+    behind its arguments, so that a method stands before its action."""
+    of = dict(right_sides(REQUEST))
+    for place, right in clauses("ActionAt", REQUEST):
+        while words := [it for it in re.findall(r"\w+", right) if it in of]:
+            right = re.sub(rf"\b{words[0]}\b((?: [\w.]+| \((?:[^()]|\([^()]*\))*\))*)", lambda it: f"{it[1]} {of[words[0]]}", right)
+        yield place, re.findall(r'codes "([A-Z]+)".*?action\.(\w+)', right)
+
+
 def routes():
     may, rules, number = dict(roles()), asked(), numbers()
-    for name, route in variants("crates/hall_http/src/routes.rt", "Route"):
-        yield [f"`{route}`", name, may[name], ", ".join(str(number[it]) for it in rules[name])]
+    path_of = {place: path for path, place in re.findall(r'\("(/.*?)", Place::(\w+)\)', read("crates/hall_http/src/routes.rt"))}
+    route = {action: f"{method} {path_of[place]}" for place, served in asked_at() for method, action in served}
+    for name, _ in variants("crates/hall_policy/src/request.rt", "Action"):
+        yield [f"`{route[name]}`", name, may[name], ", ".join(str(number[it]) for it in rules[name])]
 
 
 def denials():

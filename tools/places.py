@@ -70,7 +70,7 @@ FORMS = {
     "`F1` to `F5`, `F8` of an entry list": (("hall_sheet", "People", "people_in"), "hall_sheet::read_people"),
     "`F1` to `F5`, `F8` of a round sheet": (("hall_sheet", "Sheet", "sheet_in"), "hall_sheet::read_round"),
     "`F1` to `F3` of a JSON body": (("hall_http", "Request", "RequestOf"), "hall_http::answer_bytes"),
-    "`F6`": (("hall_http", "Routes", "route_in"), "hall_http::answer_bytes"),
+    "`F6`": (("hall_http", "Request", "ActionOf"), "hall_http::answer_bytes"),
     "`F7`": (("hall_http", "Head", "IsWhole"), "hall_http::answer_bytes"),
     "`E2` to `E8`": (("hall_grid", "Text", "FaultOf"), "hall_grid::parse_puzzle"),
     "`503`": (("hall_desk", "Step", "Step"), "hall_desk::Desk::step"),

@@ -1,5 +1,5 @@
 -- What bytes ask for is one thing.
-use Rattle.std.proofs.Common.{◌≡◌, ◌∙◌, sym, ap, subst, ℕ, inl, inr, List, Option, Some}
+use Rattle.std.proofs.Common.{◌≡◌, ◌∙◌, sym, ap, subst, ℕ, inl, inr, Bool, true, false, List, Option, Some}
 use Rattle.std.specs.Prelude.{Result, Ok, Err}
 use Rattle.httparse.specs.Grammar.{RequestHead}
 use Rattle.hall_grid.proofs.SpellsOnePuzzle.{one_puzzle, no_text_fault, one_text_fault}
@@ -9,12 +9,12 @@ use Rattle.hall_policy.specs.declared.request.Action.TheVariants as action
 use Rattle.hall_policy.specs.declared.request.Request.{Request}
 use Rattle.hall_http.specs.declared.form.FormFault.{FormFault}
 use Rattle.hall_http.specs.declared.form.FormFault.TheVariants as fault
-use Rattle.hall_http.specs.declared.routes.Route.{Route}
-use Rattle.hall_http.specs.declared.routes.Route.TheVariants as route
-use Rattle.hall_http.specs.Body.{text_in}
+use Rattle.hall_http.specs.declared.routes.Place.{Place}
+use Rattle.hall_http.specs.declared.routes.Place.TheVariants as place
 use Rattle.hall_http.specs.Head.{shown_key}
-use Rattle.hall_http.specs.Routes.{route_in}
-use Rattle.hall_http.specs.Request.{puzzle_fault, PutOf, PutFrom, ActionOf, asked_by, RoutedOf, AskedOf, RequestOf}
+use Rattle.hall_http.specs.Routes.{Parts, place_in}
+use Rattle.hall_http.specs.Request.{puzzle_fault, PutOf, PutFrom, PuzzleAt, ActionAt, ActionFrom, asked_by, AsksBy}
+use Rattle.hall_http.specs.Request.{AskedOf, RequestOf}
 use Rattle.hall_http.proofs.Once.{one_request}
 
 put_once : (key : PuzzleKey) (text : List ℕ) (a b : Result Action FormFault) → PutOf key text a → PutOf key text b
@@ -27,25 +27,34 @@ put_once key text (Err a) (Err b) (first, told, f, is, g) (second, tell, h, it, 
     let same : Some told ≡ Some tell = sym is ∙ ap puzzle_fault (one_text_fault text first second f h) ∙ it in
     let faults : told ≡ tell = cc in ap (λ z. Err z) (g ∙ ap (λ p. fault.Puzzle p) faults ∙ sym k)
 
-put_from_once : (key : PuzzleKey) (text : Result (List ℕ) FormFault) (a b : Result Action FormFault)
-    → PutFrom key text a → PutFrom key text b → a ≡ b
-put_from_once key (Err f) a b e g = e ∙ sym g
-put_from_once key (Ok text) a b e g = put_once key text a b e g
+put_from_once : (put : Result (PuzzleKey × List ℕ) FormFault) (a b : Result Action FormFault) → PutFrom put a
+    → PutFrom put b → a ≡ b
+put_from_once (Err f) a b e g = e ∙ sym g
+put_from_once (Ok put) a b e g = put_once put.0 put.1 a b e g
 
-action_once : (r : Route) (body : List ℕ) (a b : Result Action FormFault) → ActionOf r body a → ActionOf r body b
-    → a ≡ b
-action_once (route.PutPuzzle key) body a b e g = put_from_once key (text_in body) a b e g
-action_once _ body a b e g = e ∙ sym g
+puzzle_once : (puts : Bool) (method : List ℕ) (p : Parts) (body : List ℕ) (a b : Result Action FormFault)
+    → PuzzleAt puts method p body a → PuzzleAt puts method p body b → a ≡ b
+puzzle_once true method p body a b e g = put_from_once _ a b e g
+puzzle_once false method p body a b e g = e ∙ sym g
 
-routed_once : (shown : Option (List ℕ)) (body : List ℕ) (found : Result Route FormFault) (a b : Result Request FormFault)
-    → RoutedOf shown body found a → RoutedOf shown body found b → a ≡ b
-routed_once shown body (Err f) a b e g = e ∙ sym g
-routed_once shown body (Ok r) a b (x, of, e) (y, on, g) =
-    e ∙ ap (λ z. asked_by shown z) (action_once r body x y of on) ∙ sym g
+action_once : (method : List ℕ) (at : Place) (p : Parts) (body : List ℕ) (a b : Result Action FormFault)
+    → ActionAt method at p body a → ActionAt method at p body b → a ≡ b
+action_once method place.Puzzle p body a b e g = puzzle_once _ method p body a b e g
+action_once method _ p body a b e g = e ∙ sym g
+
+found_once : (method : List ℕ) (found : Result (Place × Parts) FormFault) (body : List ℕ) (a b : Result Action FormFault)
+    → ActionFrom method found body a → ActionFrom method found body b → a ≡ b
+found_once method (Err f) body a b e g = e ∙ sym g
+found_once method (Ok at) body a b e g = action_once method at.0 at.1 body a b e g
+
+asks_once : (shown : Option (List ℕ)) (method path body : List ℕ) (a b : Result Request FormFault)
+    → AsksBy shown method path body a → AsksBy shown method path body b → a ≡ b
+asks_once shown method path body a b (x, of, e) (y, on, g) =
+    e ∙ ap (λ z. asked_by shown z) (found_once method (place_in path) body x y of on) ∙ sym g
 
 asked_once : (head : RequestHead) (body : List ℕ) (a b : Result Request FormFault) → AskedOf head body a
     → AskedOf head body b → a ≡ b
-asked_once head body a b e g = routed_once (shown_key head) body (route_in head.method head.target) a b e g
+asked_once head body a b e g = asks_once (shown_key head) head.method head.target body a b e g
 
 pub one_asked : (bytes : List ℕ) (a b : Result Request FormFault) → RequestOf bytes a → RequestOf bytes b → a ≡ b
 one_asked bytes a b (inl (none, e)) (inl (nil, g)) = e ∙ sym g

@@ -17,7 +17,7 @@ use Rattle.hall_http.specs.Served.{IsHandled, Ended, IsNoRequest, MayGoOn, HaveR
 use Rattle.hall_http.specs.Sending.{Refuses, EndsInput}
 use Rattle.hall_http.specs.declared.connection.ServeEnd.{ServeEnd}
 use Rattle.hall_http.specs.declared.connection.ServeEnd.TheVariants as end
-use Rattle.hall_http.specs.declared.head.Whole.{Whole}
+use Rattle.hall_http.specs.declared.head.RawRequest.{RawRequest}
 use Rattle.hall_http.specs.declared.inbox.ReadFault.{ReadFault}
 use Rattle.hall_http.specs.declared.inbox.ReadFault.TheVariants as fault
 use Rattle.std.specs.Prelude.{Ok, Err, true, false, All}
@@ -30,11 +30,11 @@ pub replies_more : (xs : List Exchange) (x : Exchange) → replies_of (xs ++ x �
 replies_more xs x = flat_map-append (λ x. x.reply) xs (x ∷ []) ∙ ap (λ s. replies_of xs ++ s) (append-nil x.reply)
 
 -- whether the connection closes after the request that is lent
-pub closing_request : (bytes : List ℕ) (whole : Whole) → IsLentBy bytes whole → whole.closes ≡ true → IsClosing bytes
-closing_request bytes whole (head, is, method, path, key, says) shut = (head, whole.body.now, is, sym says ∙ shut)
+pub closing_request : (bytes : List ℕ) (raw : RawRequest) → IsLentBy bytes raw → raw.closes ≡ true → IsClosing bytes
+closing_request bytes raw (head, is, method, path, key, says) shut = (head, raw.body.now, is, sym says ∙ shut)
 
-pub open_request : (bytes : List ℕ) (whole : Whole) → IsLentBy bytes whole → whole.closes ≡ false → IsOpen bytes
-open_request bytes whole (head, is, method, path, key, says) stays = (head, whole.body.now, is, sym says ∙ stays)
+pub open_request : (bytes : List ℕ) (raw : RawRequest) → IsLentBy bytes raw → raw.closes ≡ false → IsOpen bytes
+open_request bytes raw (head, is, method, path, key, says) stays = (head, raw.body.now, is, sym says ∙ stays)
 
 pub not_nil : (xs : List ℕ) → 0 < length xs → xs ≢ []
 not_nil xs some e = let z : length xs ≡ 0 = ap length e in omega arith

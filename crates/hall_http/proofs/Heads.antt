@@ -12,7 +12,7 @@ use Rattle.httparse.specs.Grammar.{RequestHead, ReadsRequest, HasNoRequest, MayB
 use Rattle.httparse.specs.Spans.{RequestOverflows, name_and_value, header_bytes, span_bytes, IsRequestAt}
 use Rattle.httparse.specs.declared.spans.HeaderSpan.{HeaderSpan}
 use Rattle.httparse.specs.declared.spans.RequestSpans.{RequestSpans}
-use Rattle.hall_http.specs.declared.head.Whole.{Whole}
+use Rattle.hall_http.specs.declared.head.RawRequest.{RawRequest}
 use Rattle.httparse.proofs.GrammarLemmas.{ReadsRequest-append, request_prefix_free}
 use Rattle.hall_http.specs.Head.{body_size, headers_of, IsRequest, IsLentBy, IsWhole, HasNone, NeverHas, IsUnfinished, IsUnfinishedBelow, length_in, head_limit, is_accepted, within}
 
@@ -77,8 +77,8 @@ one_key size n headers h =
     grind (arith, few_keys.1)
 
 -- what is lent is one whole request
-pub lent_whole : (bytes : List ℕ) (whole : Whole) → IsLentBy bytes whole → IsWhole bytes
-lent_whole bytes whole (head, is, method, path, key, closing) = (head, whole.body.now, is)
+pub lent_whole : (bytes : List ℕ) (raw : RawRequest) → IsLentBy bytes raw → IsWhole bytes
+lent_whole bytes raw (head, is, method, path, key, closing) = (head, raw.body.now, is)
 
 rest_of : (m n : ℕ) → (m + n) - m ≡ n
 rest_of m n = omega arith

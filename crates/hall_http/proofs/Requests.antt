@@ -10,24 +10,23 @@ use Rattle.hall_desk.proofs.StepsSane.{step_sane}
 use Rattle.std.specs.Prelude.{Result, Ok, Err}
 use Rattle.hall_http.specs.Answered.{Answers, AnswersOver, AnswersFault, AnswersRequest, AnswersRequestOver}
 use Rattle.hall_http.specs.Head.{IsLentBy, shown_key}
-use Rattle.hall_http.specs.Request.{RequestOf, RoutedOf, AsksFor, AsksNothing}
-use Rattle.hall_http.specs.Routes.{route_in}
-use Rattle.hall_http.specs.declared.head.Whole.{Whole}
+use Rattle.hall_http.specs.Request.{RequestOf, AsksBy, AsksFor, AsksNothing}
+use Rattle.hall_http.specs.declared.head.RawRequest.{RawRequest}
 use Rattle.hall_http.specs.declared.form.FormFault.{FormFault}
 use Rattle.hall_http.proofs.Asked.{one_asked}
 
 -- what a request asks for whose parts are lent, the bytes ask for that lend them
-pub asked_of : (bytes : List ℕ) (whole : Whole) (outcome : Result Request FormFault) → IsLentBy bytes whole
-    → AsksFor whole outcome → RequestOf bytes outcome
-asked_of bytes whole outcome (head, is, method, path, key, says) asks =
-    let body = whole.body.now in
-    let by_key = subst (λ (shown : Option (List ℕ)). RoutedOf shown body (route_in whole.method.now whole.path.now) outcome) key asks in
-    let by_path = subst (λ (target : List ℕ). RoutedOf (shown_key head) body (route_in whole.method.now target) outcome) path by_key in
+pub asked_of : (bytes : List ℕ) (raw : RawRequest) (outcome : Result Request FormFault) → IsLentBy bytes raw
+    → AsksFor raw outcome → RequestOf bytes outcome
+asked_of bytes raw outcome (head, is, method, path, key, says) asks =
+    let body = raw.body.now in
+    let by_key = subst (λ (shown : Option (List ℕ)). AsksBy shown raw.method.now raw.path.now body outcome) key asks in
+    let by_path = subst (λ (target : List ℕ). AsksBy (shown_key head) raw.method.now target body outcome) path by_key in
     inr (
       head,
       body,
       is,
-      subst (λ (name : List ℕ). RoutedOf (shown_key head) body (route_in name head.target) outcome) method by_path,
+      subst (λ (name : List ℕ). AsksBy (shown_key head) name head.target body outcome) method by_path,
     )
 
 -- bytes are answered by their fault, and the store stays

@@ -11,7 +11,7 @@ use Rattle.httparse.specs.Spans.{name_and_value}
 use Rattle.hall_http.specs.declared.head.Found.{Found}
 use Rattle.hall_http.specs.declared.head.Found.TheVariants as found
 use Rattle.hall_http.specs.declared.head.Cut.{Cut}
-use Rattle.hall_http.specs.declared.head.Whole.{Whole}
+use Rattle.hall_http.specs.declared.head.RawRequest.{RawRequest}
 use Rattle.hall_http.specs.declared.head.Cut.TheVariants as cut
 
 -- the most bytes of a head
@@ -117,11 +117,11 @@ closes head = head.minor == 0 || list_any says_close (headers_of head)
 
 -- the parts that the code lends are those of the one request that the bytes are, and it tells whether the connection
 -- closes after it
-abbrev pub IsLentBy : List ℕ → Whole → Type 0
-IsLentBy bytes whole =
-    (head : RequestHead) × IsRequest bytes head whole.body.now × (whole.method.now ≡ head.method)
-    × (whole.path.now ≡ head.target) × (option_map (λ key. key.now) whole.key ≡ shown_key head)
-    × (whole.closes ≡ closes head)
+abbrev pub IsLentBy : List ℕ → RawRequest → Type 0
+IsLentBy bytes raw =
+    (head : RequestHead) × IsRequest bytes head raw.body.now × (raw.method.now ≡ head.method)
+    × (raw.path.now ≡ head.target) × (option_map (λ key. key.now) raw.key ≡ shown_key head)
+    × (raw.closes ≡ closes head)
 
 -- the headers of one name are none, one with this value, or many
 abbrev pub Finds : Found → List Header → Type 0

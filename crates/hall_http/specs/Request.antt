@@ -1,6 +1,7 @@
 -- What the bytes of one request ask of the hall, or the first fault of their form.
-use Rattle.std.specs.Prelude.{◌≡◌, ◌⊎◌, ℕ, List, if◌then◌else◌, Option, Some, None, option_and_then, option_map}
-use Rattle.std.specs.Prelude.{Result, Ok, Err}
+use Rattle.std.specs.Prelude.{◌≡◌, ◌⊎◌, ℕ, Bool, true, false, List, if◌then◌else◌, Option, Some, None}
+use Rattle.std.specs.Prelude.{option_and_then, option_map, Result, Ok, Err, codes}
+use Rattle.std.specs.Str.{bytes_eq}
 use Rattle.httparse.specs.Grammar.{RequestHead}
 use Rattle.hall_grid.specs.declared.fault.TextFault.{TextFault}
 use Rattle.hall_grid.specs.declared.fault.TextFault.TheVariants as text_fault
@@ -24,12 +25,13 @@ use Rattle.hall_http.specs.declared.form.FormFault.{FormFault}
 use Rattle.hall_http.specs.declared.form.FormFault.TheVariants as fault
 use Rattle.hall_http.specs.declared.form.RequestFault.{RequestFault}
 use Rattle.hall_http.specs.declared.form.RequestFault.TheVariants as unread
-use Rattle.hall_http.specs.declared.head.Whole.{Whole}
-use Rattle.hall_http.specs.declared.routes.Route.{Route}
-use Rattle.hall_http.specs.declared.routes.Route.TheVariants as route
+use Rattle.hall_http.specs.declared.head.RawRequest.{RawRequest}
+use Rattle.hall_http.specs.declared.routes.Place.{Place}
+use Rattle.hall_http.specs.declared.routes.Place.TheVariants as place
 use Rattle.hall_http.specs.Body.{answer_in, text_in, budget_in, protest_in, ruling_in}
 use Rattle.hall_http.specs.Head.{IsRequest, IsWhole, shown_key}
-use Rattle.hall_http.specs.Routes.{route_in}
+use Rattle.hall_http.specs.Routes.{Parts, word_in, token_in, puzzle_number, puzzle_key_in}
+use Rattle.hall_http.specs.Routes.{by_method, puzzle_by, round_by, place_in}
 
 -- what is wrong with a text that is no puzzle; want of memory says nothing of it
 abbrev pub puzzle_fault : TextFault → Option PuzzleFault
@@ -54,41 +56,89 @@ PutOf key text (Err found) =
     (first : TextFault) × (told : PuzzleFault) × FaultOf text first × (puzzle_fault first ≡ Some told)
     × (found ≡ fault.Puzzle told)
 
--- the same, where the body has a text, else the body's fault
-abbrev pub PutFrom : PuzzleKey → Result (List ℕ) FormFault → Result Action FormFault → Type 0
-PutFrom key (Err f) outcome = outcome ≡ Err f
-PutFrom key (Ok text) outcome = PutOf key text outcome
+-- the same, where there are a key and a text, else the first fault
+abbrev pub PutFrom : Result (PuzzleKey × List ℕ) FormFault → Result Action FormFault → Type 0
+PutFrom (Err f) outcome = outcome ≡ Err f
+PutFrom (Ok put) outcome = PutOf put.0 put.1 outcome
+
+-- the puzzle that the body's text spells, to be put under the key of the path's parts
+abbrev pub PutPuzzleAt : Parts → List ℕ → Result Action FormFault → Type 0
+PutPuzzleAt p body outcome =
+    PutFrom (puzzle_key_in p >>= (λ key. text_in body >>= (λ text. Ok (key, text)))) outcome
+
+-- what is asked of a puzzle: PUT stores it, GET reads it
+abbrev pub PuzzleAt : Bool → List ℕ → Parts → List ℕ → Result Action FormFault → Type 0
+PuzzleAt true method p body outcome = PutPuzzleAt p body outcome
+PuzzleAt false method p body outcome =
+    outcome ≡ (puzzle_by method (codes "GET") p >>= (λ key. Ok (action.ReadPuzzle key)))
 
 -- what an entry list or a round sheet spells; its refusal is the body's first fault
 abbrev pub of_sheet : {A : Type 0} → Result A Refusal → Result A FormFault
 of_sheet (Ok x) = Ok x
 of_sheet (Err r) = Err (fault.Sheet r)
 
--- what a route and a body ask for, or the body's first fault
-abbrev pub ActionOf : Route → List ℕ → Result Action FormFault → Type 0
-ActionOf route.Import body outcome =
-    outcome ≡ (of_sheet (people_in body) >>= (λ people. Ok (action.Import people)))
-ActionOf (route.PutPuzzle key) body outcome = PutFrom key (text_in body) outcome
-ActionOf (route.ReadPuzzle key) body outcome = outcome ≡ Ok (action.ReadPuzzle key)
-ActionOf route.ListPuzzles body outcome = outcome ≡ Ok action.ListPuzzles
-ActionOf (route.Certify key) body outcome =
-    outcome ≡ (budget_in body >>= (λ budget. Ok (action.Certify key budget)))
-ActionOf (route.PutRound id) body outcome =
-    outcome ≡ (of_sheet (sheet_in body) >>= (λ sheet. Ok (action.PutRound id sheet)))
-ActionOf route.ListRounds body outcome = outcome ≡ Ok action.ListRounds
-ActionOf (route.ReadRound id) body outcome = outcome ≡ Ok (action.ReadRound id)
-ActionOf (route.Release id) body outcome = outcome ≡ Ok (action.Release id)
-ActionOf (route.Submit id number token) body outcome =
-    outcome ≡ (answer_in body >>= (λ answer. Ok (action.Submit id number token answer)))
-ActionOf (route.Answers id) body outcome = outcome ≡ Ok (action.Answers id)
-ActionOf (route.Solutions id) body outcome = outcome ≡ Ok (action.Solutions id)
-ActionOf (route.Protest id token) body outcome =
-    outcome ≡ (protest_in body >>= (λ protest. Ok (action.Protest id token protest.0 protest.1)))
-ActionOf (route.Protests id) body outcome = outcome ≡ Ok (action.Protests id)
-ActionOf (route.Rule id entrant token) body outcome =
-    outcome ≡ (ruling_in body >>= (λ ruling. Ok (action.Rule id entrant token ruling)))
-ActionOf (route.Publish id) body outcome = outcome ≡ Ok (action.Publish id)
-ActionOf (route.Table id) body outcome = outcome ≡ Ok (action.Table id)
+-- the draft of the round of the path's parts, by the sheet that the body spells
+abbrev pub put_round_at : Parts → List ℕ → Result Action FormFault
+put_round_at p body =
+    word_in p.first >>= (λ id. of_sheet (sheet_in body) >>= (λ sheet. Ok (action.PutRound id sheet)))
+
+-- what a method asks at a place, with the path's parts and the body: the first fault of method and parts, then the
+-- body's
+abbrev pub ActionAt : List ℕ → Place → Parts → List ℕ → Result Action FormFault → Type 0
+ActionAt method place.People p body outcome =
+    outcome ≡ (by_method method (codes "POST")
+    >>= (λ _. of_sheet (people_in body)
+    >>= (λ people. Ok (action.Import people))))
+ActionAt method place.Puzzles p body outcome =
+    outcome ≡ (by_method method (codes "GET") >>= (λ _. Ok action.ListPuzzles))
+ActionAt method place.Puzzle p body outcome = PuzzleAt (bytes_eq method (codes "PUT")) method p body outcome
+ActionAt method place.Certificate p body outcome =
+    outcome ≡ (puzzle_by method (codes "POST") p
+    >>= (λ key. budget_in body
+    >>= (λ budget. Ok (action.Certify key budget))))
+ActionAt method place.Rounds p body outcome =
+    outcome ≡ (by_method method (codes "GET") >>= (λ _. Ok action.ListRounds))
+ActionAt method place.Round p body outcome =
+    outcome ≡ (if bytes_eq method (codes "PUT") then put_round_at p body
+    else (round_by method (codes "GET") p >>= (λ id. Ok (action.ReadRound id))))
+ActionAt method place.Release p body outcome =
+    outcome ≡ (round_by method (codes "POST") p >>= (λ id. Ok (action.Release id)))
+ActionAt method place.Answers p body outcome =
+    outcome ≡ (round_by method (codes "GET") p >>= (λ id. Ok (action.Answers id)))
+ActionAt method place.Answer p body outcome =
+    outcome ≡ (round_by method (codes "PUT") p
+    >>= (λ id. puzzle_number p.second
+    >>= (λ number. token_in p.third
+    >>= (λ token. answer_in body
+    >>= (λ answer. Ok (action.Submit id number token answer))))))
+ActionAt method place.Solutions p body outcome =
+    outcome ≡ (round_by method (codes "GET") p >>= (λ id. Ok (action.Solutions id)))
+ActionAt method place.Protests p body outcome =
+    outcome ≡ (round_by method (codes "GET") p >>= (λ id. Ok (action.Protests id)))
+ActionAt method place.Protest p body outcome =
+    outcome ≡ (round_by method (codes "PUT") p
+    >>= (λ id. token_in p.second
+    >>= (λ token. protest_in body
+    >>= (λ protest. Ok (action.Protest id token protest.0 protest.1)))))
+ActionAt method place.Ruling p body outcome =
+    outcome ≡ (round_by method (codes "PUT") p
+    >>= (λ id. word_in p.second
+    >>= (λ entrant. token_in p.third
+    >>= (λ token. ruling_in body
+    >>= (λ ruling. Ok (action.Rule id entrant token ruling))))))
+ActionAt method place.Publish p body outcome =
+    outcome ≡ (round_by method (codes "POST") p >>= (λ id. Ok (action.Publish id)))
+ActionAt method place.Table p body outcome =
+    outcome ≡ (round_by method (codes "GET") p >>= (λ id. Ok (action.Table id)))
+
+-- the same at the place that was found, or the path's fault
+abbrev pub ActionFrom : List ℕ → Result (Place × Parts) FormFault → List ℕ → Result Action FormFault → Type 0
+ActionFrom method (Err f) body outcome = outcome ≡ Err f
+ActionFrom method (Ok at) body outcome = ActionAt method at.0 at.1 body outcome
+
+-- what a method, a path and a body ask for, or their first fault: what method and path name comes before the body
+abbrev pub ActionOf : List ℕ → List ℕ → List ℕ → Result Action FormFault → Type 0
+ActionOf method path body outcome = ActionFrom method (place_in path) body outcome
 
 -- the caller's key: none where the text isn't of a key's form
 abbrev pub key_in : List ℕ → Option (List ℕ)
@@ -98,20 +148,19 @@ key_in text = if as_key is_kind text then Some text else None
 abbrev pub asked_by : Option (List ℕ) → Result Action FormFault → Result Request FormFault
 asked_by shown outcome = outcome >>= (λ asked. Ok (record { key = option_and_then key_in shown; action = asked }))
 
--- the route with the body's action, or the route's fault
-abbrev pub RoutedOf : Option (List ℕ) → List ℕ → Result Route FormFault → Result Request FormFault → Type 0
-RoutedOf shown body (Err f) outcome = outcome ≡ Err f
-RoutedOf shown body (Ok found) outcome =
-    (asked : Result Action FormFault) × ActionOf found body asked × (outcome ≡ asked_by shown asked)
+-- what method, path and body ask for, by whoever shows this as the key
+abbrev pub AsksBy : Option (List ℕ) → List ℕ → List ℕ → List ℕ → Result Request FormFault → Type 0
+AsksBy shown method path body outcome =
+    (asked : Result Action FormFault) × ActionOf method path body asked × (outcome ≡ asked_by shown asked)
 
 -- what a head and a body ask for
 abbrev pub AskedOf : RequestHead → List ℕ → Result Request FormFault → Type 0
-AskedOf head body outcome = RoutedOf (shown_key head) body (route_in head.method head.target) outcome
+AskedOf head body outcome = AsksBy (shown_key head) head.method head.target body outcome
 
 -- what a request whose parts the code lends asks for
-abbrev pub AsksFor : Whole → Result Request FormFault → Type 0
-AsksFor whole outcome =
-    RoutedOf (option_map (λ key. key.now) whole.key) whole.body.now (route_in whole.method.now whole.path.now) outcome
+abbrev pub AsksFor : RawRequest → Result Request FormFault → Type 0
+AsksFor raw outcome =
+    AsksBy (option_map (λ key. key.now) raw.key) raw.method.now raw.path.now raw.body.now outcome
 
 -- the bytes are one whole request, which asks for this or has this first fault, or they aren't
 abbrev pub RequestOf : List ℕ → Result Request FormFault → Type 0

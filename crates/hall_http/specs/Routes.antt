@@ -1,6 +1,6 @@
--- The patterns of the hall, and the route of a path.
+-- The patterns of the hall, the place of a path, and what the path and the method name there.
 use Rattle.std.specs.Prelude.{ℕ, List, [], ◌∷◌, Bool, true, false, ◌&&◌, not}
-use Rattle.std.specs.Prelude.{if◌then◌else◌, Option, is_some, Result, Ok, Err, codes, option_map}
+use Rattle.std.specs.Prelude.{Option, is_some, Result, Ok, Err, codes, option_map}
 use Rattle.matchit.specs.Rows.{RowsOf}
 use Rattle.matchit.specs.Order.{placed}
 use Rattle.matchit.specs.Router.{RouteOf, route_from, nearest}
@@ -18,8 +18,6 @@ use Rattle.hall_policy.specs.declared.record.PuzzleKey.{PuzzleKey}
 use Rattle.hall_http.specs.Words.{number_in}
 use Rattle.hall_http.specs.declared.form.FormFault.{FormFault}
 use Rattle.hall_http.specs.declared.form.FormFault.TheVariants as fault
-use Rattle.hall_http.specs.declared.routes.Route.{Route}
-use Rattle.hall_http.specs.declared.routes.Route.TheVariants as route
 use Rattle.hall_http.specs.declared.routes.Place.{Place}
 use Rattle.hall_http.specs.declared.routes.Place.TheVariants as place
 
@@ -84,9 +82,9 @@ abbrev pub puzzle_number : List ℕ → Result ℕ FormFault
 puzzle_number text =
     or_fault fault.NoRoute (number_in text) >>= (λ n. unless fault.NoRoute (nat_le 1 n && nat_le n 99) >>= (λ _. Ok n))
 
--- the route, where the method is this one
-abbrev pub by_method : List ℕ → List ℕ → Route → Result Route FormFault
-by_method method name found = if bytes_eq method name then Ok found else Err fault.NoRoute
+-- nothing, where the method is this one
+abbrev pub by_method : List ℕ → List ℕ → Result (Unit {0}) FormFault
+by_method method name = unless fault.NoRoute (bytes_eq method name)
 
 -- what the parameters of a route took of the path, each with its name
 abbrev pub parameters : List ℕ → RouteOf Place → List (List ℕ × List ℕ)
@@ -121,63 +119,18 @@ abbrev pub puzzle_key_in : Parts → Result PuzzleKey FormFault
 puzzle_key_in p =
     word_in p.first >>= (λ author. word_in p.second >>= (λ label. Ok (record { author = author; label = label })))
 
--- what a method asks of a puzzle: PUT stores it, GET reads it
-abbrev pub puzzle_route : List ℕ → PuzzleKey → Result Route FormFault
-puzzle_route method key =
-    if bytes_eq method (codes "PUT") then Ok (route.PutPuzzle key)
-    else by_method method (codes "GET") (route.ReadPuzzle key)
+-- the same, where the method is this one
+abbrev pub puzzle_by : List ℕ → List ℕ → Parts → Result PuzzleKey FormFault
+puzzle_by method name p = by_method method name >>= (λ _. puzzle_key_in p)
 
--- what a method asks of a round: PUT stores its draft, GET reads it
-abbrev pub round_route : List ℕ → List ℕ → Result Route FormFault
-round_route method id =
-    if bytes_eq method (codes "PUT") then Ok (route.PutRound id)
-    else by_method method (codes "GET") (route.ReadRound id)
-
--- the answer to be handed in: its round, its puzzle's number and its token
-abbrev pub answer_route : Parts → Result Route FormFault
-answer_route p =
-    word_in p.first
-    >>= (λ id. puzzle_number p.second
-    >>= (λ number. token_in p.third
-    >>= (λ token. Ok (route.Submit id number token))))
-
--- the protest to be made: its round and its token
-abbrev pub protest_route : Parts → Result Route FormFault
-protest_route p =
-    word_in p.first >>= (λ id. token_in p.second >>= (λ token. Ok (route.Protest id token)))
-
--- the protest to be ruled: its round, its entrant and its token
-abbrev pub ruling_route : Parts → Result Route FormFault
-ruling_route p =
-    word_in p.first
-    >>= (λ id. word_in p.second
-    >>= (λ entrant. token_in p.third
-    >>= (λ token. Ok (route.Rule id entrant token))))
-
--- what the place and its parts name, by the method
-abbrev pub route_at : List ℕ → Place → Parts → Result Route FormFault
-route_at method place.People p = by_method method (codes "POST") route.Import
-route_at method place.Puzzles p = by_method method (codes "GET") route.ListPuzzles
-route_at method place.Puzzle p = puzzle_key_in p >>= puzzle_route method
-route_at method place.Certificate p =
-    puzzle_key_in p >>= (λ key. by_method method (codes "POST") (route.Certify key))
-route_at method place.Rounds p = by_method method (codes "GET") route.ListRounds
-route_at method place.Round p = word_in p.first >>= round_route method
-route_at method place.Release p = word_in p.first >>= (λ id. by_method method (codes "POST") (route.Release id))
-route_at method place.Answers p = word_in p.first >>= (λ id. by_method method (codes "GET") (route.Answers id))
-route_at method place.Answer p = answer_route p >>= by_method method (codes "PUT")
-route_at method place.Solutions p = word_in p.first >>= (λ id. by_method method (codes "GET") (route.Solutions id))
-route_at method place.Protests p = word_in p.first >>= (λ id. by_method method (codes "GET") (route.Protests id))
-route_at method place.Protest p = protest_route p >>= by_method method (codes "PUT")
-route_at method place.Ruling p = ruling_route p >>= by_method method (codes "PUT")
-route_at method place.Publish p = word_in p.first >>= (λ id. by_method method (codes "POST") (route.Publish id))
-route_at method place.Table p = word_in p.first >>= (λ id. by_method method (codes "GET") (route.Table id))
+-- the round's id, where the method is this one
+abbrev pub round_by : List ℕ → List ℕ → Parts → Result (List ℕ) FormFault
+round_by method name p = by_method method name >>= (λ _. word_in p.first)
 
 -- the path, where it is ASCII
 abbrev pub ascii_path : List ℕ → Result (List ℕ) FormFault
 ascii_path path = unless fault.NoRoute (list_all is_ascii path) >>= (λ _. Ok path)
 
--- what a method and a path name; a path that isn't ASCII names nothing
-abbrev pub route_in : List ℕ → List ℕ → Result Route FormFault
-route_in method path =
-    ascii_path path >>= (λ text. or_fault fault.NoRoute (found text) >>= (λ at. route_at method at.0 at.1))
+-- the place of a path, with its parts; a path that isn't ASCII has none
+abbrev pub place_in : List ℕ → Result (Place × Parts) FormFault
+place_in path = ascii_path path >>= (λ text. or_fault fault.NoRoute (found text))

@@ -12,7 +12,7 @@ ghost use Rattle.hall_http.specs.Request.{AsksNothing, RequestOf};
 ghost use Rattle.hall_policy.specs.declared.request.Request.{Request as Asked};
 
 use crate::form::{FormFault, RequestFault};
-use crate::head::{Whole, read_whole};
+use crate::head::{RawRequest, read_raw_request};
 use crate::reply::{UNAVAILABLE, fault_bytes, reply_bytes};
 use crate::request::request_of;
 use crate::routes::Routes;
@@ -65,30 +65,30 @@ pub fn answer_bytes<S: Store>(
     ensures unique { SaneThen HasUniqueSolutions (S.content (kept_by desk.old)) (S.content (kept_by desk.new)) }
     ensures right { SaneThen RightAnswersAreSolutions (S.content (kept_by desk.old)) (S.content (kept_by desk.new)) }
 {
-    match read_whole(bytes) {
-        Some(whole) => answer_whole(alloc, routes, desk, moment, &whole),
+    match read_raw_request(bytes) {
+        Some(raw) => answer_raw_request(alloc, routes, desk, moment, &raw),
         None => answer_fault(alloc, FormFault::NotWhole),
     }
 }
 
-/// Answers a whole request at the moment as `answer_bytes` answers the bytes that it is, and makes its change.
-pub(crate) fn answer_whole<S: Store>(
+/// Answers a raw request at the moment as `answer_bytes` answers its bytes, and makes its change.
+pub(crate) fn answer_raw_request<S: Store>(
     alloc: Global,
     routes: &Routes,
     desk: &mut Desk<S>,
     moment: Moment,
-    whole: &Whole<'_>,
+    raw: &RawRequest<'_>,
 ) -> Answer
     ensures leads { Leads (S.content (kept_by desk.old)) (S.content (kept_by desk.new)) }
     ensures once { WritesOnce (S.content (kept_by desk.old)) (S.content (kept_by desk.new)) }
-    ensures quiet { (bytes : List ℕ) → IsLentBy bytes whole.now → (asked : Asked) → RequestOf bytes (Ok asked) →
+    ensures quiet { (bytes : List ℕ) → IsLentBy bytes raw.now → (asked : Asked) → RequestOf bytes (Ok asked) →
         WritesIfAny (S.content (kept_by desk.old)) moment asked (S.content (kept_by desk.new)) }
-    ensures answers { (bytes : List ℕ) → IsLentBy bytes whole.now → (S.content (kept_by desk.new)).honest →
+    ensures answers { (bytes : List ℕ) → IsLentBy bytes raw.now → (S.content (kept_by desk.new)).honest →
         AnswersOver (S.content (kept_by desk.old)) moment bytes (answer_text result) (S.content (kept_by desk.new)) }
-    ensures untouched { (bytes : List ℕ) → IsLentBy bytes whole.now → AsksNothing bytes → desk.new ≡ desk.old }
+    ensures untouched { (bytes : List ℕ) → IsLentBy bytes raw.now → AsksNothing bytes → desk.new ≡ desk.old }
     ensures sane { SaneThen Sane (S.content (kept_by desk.old)) (S.content (kept_by desk.new)) }
 {
-    match request_of(alloc, routes, whole) {
+    match request_of(alloc, routes, raw) {
         Ok(request) => answer_request(alloc, desk, moment, &request),
         Err(RequestFault::Form(fault)) => answer_fault(alloc, fault),
         Err(RequestFault::Memory) => Answer::Unavailable,

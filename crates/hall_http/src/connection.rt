@@ -9,7 +9,7 @@ ghost use Rattle.hall_http.specs.Served.{IsHandled, IsServed};
 
 use crate::device::write_all;
 use crate::handler::Handler;
-use crate::head::{Cut, Whole, cut_from};
+use crate::head::{Cut, RawRequest, cut_from};
 use crate::inbox::{Inbox, ReadFault};
 use crate::routes::Routes;
 use crate::session::{routes_and_inbox, send};
@@ -170,7 +170,7 @@ fn serve_requests<H: Handler, R: Read, W: Write, C: Clock>(
 fn exchange<H: Handler, W: Write, C: Clock>(
     alloc: Global,
     routes: &Routes,
-    request: &Whole<'_>,
+    request: &RawRequest<'_>,
     handler: &mut H,
     writer: &mut Counted<W>,
     clock: &mut C,

@@ -5,8 +5,8 @@ ghost use Rattle.hall_http.specs.Answered.{answer_text};
 ghost use Rattle.hall_http.specs.Head.{IsLentBy};
 ghost use Rattle.hall_http.specs.Serving.{IsAnswered};
 
-use crate::answer::{Answer, answer_whole};
-use crate::head::Whole;
+use crate::answer::{Answer, answer_raw_request};
+use crate::head::RawRequest;
 use crate::routes::Routes;
 use hall_desk::Desk;
 use hall_policy::Moment;
@@ -23,7 +23,7 @@ pub(crate) trait Handler {
         alloc: Global,
         routes: &Routes,
         moment: Option<Moment>,
-        request: &Whole<'_>,
+        request: &RawRequest<'_>,
     ) -> Answer
         ensures { (bytes : List ℕ) → IsLentBy bytes request.now →
             answers self.old moment bytes (answer_text result) self.new };
@@ -37,10 +37,10 @@ impl<S: Store> Handler for Desk<S> {
         alloc: Global,
         routes: &Routes,
         moment: Option<Moment>,
-        request: &Whole<'_>,
+        request: &RawRequest<'_>,
     ) -> Answer {
         match moment {
-            Some(moment) => answer_whole(alloc, routes, self, moment, request),
+            Some(moment) => answer_raw_request(alloc, routes, self, moment, request),
             None => Answer::Unavailable,
         }
     }

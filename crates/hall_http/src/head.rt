@@ -16,9 +16,9 @@ const HEAD_LIMIT: usize = 8192;
 /// The most bytes of a body.
 const BODY_LIMIT: usize = 65_536;
 
-/// A whole request: what of its head asks for something, its body, and whether the connection closes after it.
+/// A request as its bytes: what of its head asks for something, its body, and whether the connection closes after it.
 #[derive(Clone, Copy)]
-pub(crate) struct Whole<'b> {
+pub(crate) struct RawRequest<'b> {
     pub(crate) method: &'b [u8],
     pub(crate) path: &'b [u8],
     pub(crate) key: Option<&'b [u8]>,
@@ -30,7 +30,10 @@ pub(crate) struct Whole<'b> {
 #[derive(Clone, Copy)]
 pub(crate) enum Cut<'b> {
     /// After so many bytes, which are this request.
-    Whole { size: usize, request: Whole<'b> },
+    Whole {
+        size: usize,
+        request: RawRequest<'b>,
+    },
     /// It is unfinished, and needn't be looked at again before so many bytes are there.
     More(usize),
     /// No bytes can make it whole.
@@ -183,7 +186,7 @@ pub(crate) fn cut_request(bytes: &[u8]) -> Cut<'_>
                 return Cut::More(head.len + room);
             }
             let size = head.len + room;
-            let request = Whole {
+            let request = RawRequest {
                 method: head.method.of(bytes),
                 path: head.path.of(bytes),
                 key: shown_key(bytes, fields),
@@ -209,7 +212,7 @@ pub(crate) fn cut_from(bytes: &[u8], least: usize) -> Cut<'_>
 }
 
 /// The request that the bytes are, where they are one and no more.
-pub(crate) fn read_whole(bytes: &[u8]) -> Option<Whole<'_>>
+pub(crate) fn read_raw_request(bytes: &[u8]) -> Option<RawRequest<'_>>
     ensures { MatchOption result (¬ (IsWhole bytes.now)) (IsLentBy bytes.now) }
 {
     match cut_request(bytes) {

@@ -1,15 +1,19 @@
 //! One request, read as what it asks for.
-ghost use Rattle.std.specs.Prelude.{◌≡◌, IfOk, Ok, option_and_then, option_map};
+ghost use Rattle.std.specs.Prelude.{◌≡◌, IfOk, Ok, codes, option_and_then, option_map};
+ghost use Rattle.std.specs.Str.{bytes_eq};
 ghost use Rattle.hall_http.specs.Given.{Finds};
-ghost use Rattle.hall_http.specs.Request.{key_in, ActionOf, PutOf, AsksFor};
+ghost use Rattle.hall_http.specs.Parts.{parts_seen};
+ghost use Rattle.hall_http.specs.Request.{key_in, PutOf, PutPuzzleAt, PuzzleAt, put_round_at, ActionAt, ActionOf, AsksFor};
 
 use crate::body::{read_answer, read_budget, read_protest, read_ruling, read_text};
 use crate::form::{FormFault, RequestFault, puzzle_fault};
-use crate::head::Whole;
-use crate::routes::{Route, Routes, route_of};
+use crate::head::RawRequest;
+use crate::routes::{
+    Parts, Place, Routes, by_method, place_of, puzzle_by, puzzle_key, puzzle_number, round_by, word,
+};
 use crate::words::checked;
 use hall_grid::parse_puzzle;
-use hall_policy::{Action, Key, Name, PuzzleKey, PuzzleNumber, Request, RoundId, Token};
+use hall_policy::{Action, Key, PuzzleKey, Request};
 use hall_sheet::{read_people, read_round};
 use std::alloc::{AllocError, Global};
 
@@ -40,16 +44,83 @@ fn put_of(alloc: Global, key: PuzzleKey, text: &[u8]) -> Result<Action, RequestF
     }
 }
 
-/// The answer that a body tells, for the place and under the token.
-fn submit_of(
+/// The puzzle that the body's text spells, to be put under the key that the path names.
+fn put_puzzle_at(alloc: Global, parts: &Parts, body: &[u8]) -> Result<Action, RequestFault>
+    ensures { Finds result (PutPuzzleAt (parts_seen parts.now) body.now) }
+{
+    let key = puzzle_key(alloc, parts)?;
+    let text = read_text(alloc, body)?;
+    put_of(alloc, key, text.as_str().as_bytes())
+}
+
+/// What is asked of a puzzle: PUT stores it, GET reads it.
+fn puzzle_at(
     alloc: Global,
-    round: RoundId,
-    number: PuzzleNumber,
-    token: Token,
+    method: &[u8],
+    parts: &Parts,
     body: &[u8],
 ) -> Result<Action, RequestFault>
-    ensures { Finds result (ActionOf (Route.Submit round number token) body.now) }
+    ensures { Finds result
+        (PuzzleAt (bytes_eq method.now (codes "PUT")) method.now (parts_seen parts.now) body.now) }
 {
+    if method == b"PUT".as_slice() {
+        return put_puzzle_at(alloc, parts, body);
+    }
+    let key = puzzle_by(alloc, method, b"GET", parts)?;
+    Ok(Action::ReadPuzzle { key })
+}
+
+/// A search of the puzzle that the path names, within the budget that the body tells.
+fn certify_at(
+    alloc: Global,
+    method: &[u8],
+    parts: &Parts,
+    body: &[u8],
+) -> Result<Action, RequestFault>
+    ensures { Finds result (ActionAt method.now Place.Certificate (parts_seen parts.now) body.now) }
+{
+    let key = puzzle_by(alloc, method, b"POST", parts)?;
+    let budget = read_budget(alloc, body)?;
+    Ok(Action::Certify { key, budget })
+}
+
+/// The draft of the round that the path names, by the sheet that the body is.
+fn put_round_at(alloc: Global, parts: &Parts, body: &[u8]) -> Result<Action, RequestFault>
+    ensures { Finds result (λ outcome. outcome ≡ put_round_at (parts_seen parts.now) body.now) }
+{
+    let round = word(alloc, parts.first)?;
+    let sheet = read_round(alloc, body)?;
+    Ok(Action::PutRound { round, sheet })
+}
+
+/// What is asked of a round: PUT stores its draft, GET reads it.
+fn round_at(
+    alloc: Global,
+    method: &[u8],
+    parts: &Parts,
+    body: &[u8],
+) -> Result<Action, RequestFault>
+    ensures { Finds result (ActionAt method.now Place.Round (parts_seen parts.now) body.now) }
+{
+    if method == b"PUT".as_slice() {
+        return put_round_at(alloc, parts, body);
+    }
+    let round = round_by(alloc, method, b"GET", parts)?;
+    Ok(Action::ReadRound { round })
+}
+
+/// The answer that the body tells, for the place and under the token that the path names.
+fn submit_at(
+    alloc: Global,
+    method: &[u8],
+    parts: &Parts,
+    body: &[u8],
+) -> Result<Action, RequestFault>
+    ensures { Finds result (ActionAt method.now Place.Answer (parts_seen parts.now) body.now) }
+{
+    let round = round_by(alloc, method, b"PUT", parts)?;
+    let number = puzzle_number(parts.second)?;
+    let token = word(alloc, parts.third)?;
     let answer = read_answer(alloc, body)?;
     Ok(Action::Submit {
         round,
@@ -59,15 +130,17 @@ fn submit_of(
     })
 }
 
-/// The protest that a body tells, in the round and under the token.
-fn protest_of(
+/// The protest that the body tells, in the round and under the token that the path names.
+fn protest_at(
     alloc: Global,
-    round: RoundId,
-    token: Token,
+    method: &[u8],
+    parts: &Parts,
     body: &[u8],
 ) -> Result<Action, RequestFault>
-    ensures { Finds result (ActionOf (Route.Protest round token) body.now) }
+    ensures { Finds result (ActionAt method.now Place.Protest (parts_seen parts.now) body.now) }
 {
+    let round = round_by(alloc, method, b"PUT", parts)?;
+    let token = word(alloc, parts.second)?;
     let (number, text) = read_protest(alloc, body)?;
     Ok(Action::Protest {
         round,
@@ -77,16 +150,13 @@ fn protest_of(
     })
 }
 
-/// The ruling that a body tells, of the entrant's protest with the token.
-fn rule_of(
-    alloc: Global,
-    round: RoundId,
-    entrant: Name,
-    token: Token,
-    body: &[u8],
-) -> Result<Action, RequestFault>
-    ensures { Finds result (ActionOf (Route.Rule round entrant token) body.now) }
+/// The ruling that the body tells, of the entrant's protest with the token that the path names.
+fn rule_at(alloc: Global, method: &[u8], parts: &Parts, body: &[u8]) -> Result<Action, RequestFault>
+    ensures { Finds result (ActionAt method.now Place.Ruling (parts_seen parts.now) body.now) }
 {
+    let round = round_by(alloc, method, b"PUT", parts)?;
+    let entrant = word(alloc, parts.second)?;
+    let token = word(alloc, parts.third)?;
     let ruling = read_ruling(alloc, body)?;
     Ok(Action::Rule {
         round,
@@ -96,53 +166,80 @@ fn rule_of(
     })
 }
 
-/// What a route and a body ask for.
-fn action_of(alloc: Global, route: Route, body: &[u8]) -> Result<Action, RequestFault>
-    ensures { Finds result (ActionOf route body.now) }
+/// What a method asks at a place, with the path's parts and the body. The body is read last.
+fn action_at(
+    alloc: Global,
+    method: &[u8],
+    place: Place,
+    parts: &Parts,
+    body: &[u8],
+) -> Result<Action, RequestFault>
+    ensures { Finds result (ActionAt method.now place (parts_seen parts.now) body.now) }
 {
-    match route {
-        Route::Import => {
+    match place {
+        Place::People => {
+            by_method(method, b"POST")?;
             let people = read_people(alloc, body)?;
             Ok(Action::Import { people })
         }
-        Route::PutPuzzle(key) => {
-            let text = read_text(alloc, body)?;
-            put_of(alloc, key, text.as_str().as_bytes())
+        Place::Puzzles => {
+            by_method(method, b"GET")?;
+            Ok(Action::ListPuzzles)
         }
-        Route::ReadPuzzle(key) => Ok(Action::ReadPuzzle { key }),
-        Route::ListPuzzles => Ok(Action::ListPuzzles),
-        Route::Certify(key) => {
-            let budget = read_budget(alloc, body)?;
-            Ok(Action::Certify { key, budget })
+        Place::Puzzle => puzzle_at(alloc, method, parts, body),
+        Place::Certificate => certify_at(alloc, method, parts, body),
+        Place::Rounds => {
+            by_method(method, b"GET")?;
+            Ok(Action::ListRounds)
         }
-        Route::PutRound(round) => {
-            let sheet = read_round(alloc, body)?;
-            Ok(Action::PutRound { round, sheet })
-        }
-        Route::ListRounds => Ok(Action::ListRounds),
-        Route::ReadRound(round) => Ok(Action::ReadRound { round }),
-        Route::Release(round) => Ok(Action::Release { round }),
-        Route::Submit(round, number, token) => submit_of(alloc, round, number, token, body),
-        Route::Answers(round) => Ok(Action::Answers { round }),
-        Route::Solutions(round) => Ok(Action::Solutions { round }),
-        Route::Protest(round, token) => protest_of(alloc, round, token, body),
-        Route::Protests(round) => Ok(Action::Protests { round }),
-        Route::Rule(round, entrant, token) => rule_of(alloc, round, entrant, token, body),
-        Route::Publish(round) => Ok(Action::Publish { round }),
-        Route::Table(round) => Ok(Action::Table { round }),
+        Place::Round => round_at(alloc, method, parts, body),
+        Place::Release => Ok(Action::Release {
+            round: round_by(alloc, method, b"POST", parts)?,
+        }),
+        Place::Answers => Ok(Action::Answers {
+            round: round_by(alloc, method, b"GET", parts)?,
+        }),
+        Place::Answer => submit_at(alloc, method, parts, body),
+        Place::Solutions => Ok(Action::Solutions {
+            round: round_by(alloc, method, b"GET", parts)?,
+        }),
+        Place::Protests => Ok(Action::Protests {
+            round: round_by(alloc, method, b"GET", parts)?,
+        }),
+        Place::Protest => protest_at(alloc, method, parts, body),
+        Place::Ruling => rule_at(alloc, method, parts, body),
+        Place::Publish => Ok(Action::Publish {
+            round: round_by(alloc, method, b"POST", parts)?,
+        }),
+        Place::Table => Ok(Action::Table {
+            round: round_by(alloc, method, b"GET", parts)?,
+        }),
     }
 }
 
-/// What a whole request asks for.
+/// What a method, a path and a body ask for.
+fn action_of(
+    alloc: Global,
+    routes: &Routes,
+    method: &[u8],
+    path: &[u8],
+    body: &[u8],
+) -> Result<Action, RequestFault>
+    ensures { Finds result (ActionOf method.now path.now body.now) }
+{
+    let (place, parts) = place_of(routes, path)?;
+    action_at(alloc, method, place, &parts, body)
+}
+
+/// What a request asks for.
 pub(crate) fn request_of(
     alloc: Global,
     routes: &Routes,
-    whole: &Whole<'_>,
+    raw: &RawRequest<'_>,
 ) -> Result<Request, RequestFault>
-    ensures { Finds result (AsksFor whole.now) }
+    ensures { Finds result (AsksFor raw.now) }
 {
-    let route = route_of(alloc, routes, whole.method, whole.path)?;
-    let action = action_of(alloc, route, whole.body)?;
-    let key = key_of(alloc, whole.key)?;
+    let action = action_of(alloc, routes, raw.method, raw.path, raw.body)?;
+    let key = key_of(alloc, raw.key)?;
     Ok(Request { key, action })
 }

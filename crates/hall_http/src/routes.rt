@@ -5,58 +5,18 @@ ghost use Rattle.std.specs.Char.{is_ascii};
 ghost use Rattle.matchit.specs.Params.{walk};
 ghost use Rattle.hall_policy.specs.Reading.{of_kind};
 ghost use Rattle.hall_http.specs.Given.{Gives};
-ghost use Rattle.hall_http.specs.Routes.{routes, found, rows_from, are_free, parts_of, route_at, route_in};
-ghost use Rattle.hall_http.specs.Routes.{puzzle_key_in, puzzle_number, puzzle_route, round_route, answer_route};
-ghost use Rattle.hall_http.specs.Routes.{protest_route, ruling_route, by_method, ascii_path};
+ghost use Rattle.hall_http.specs.Routes.{routes, found, rows_from, are_free, parts_of, place_in, ascii_path};
+ghost use Rattle.hall_http.specs.Routes.{by_method, puzzle_number, puzzle_key_in, puzzle_by, round_by};
 ghost use Rattle.hall_http.specs.Parts.{parts_seen, AllAscii};
 
 use crate::form::{FormFault, RequestFault};
 use crate::words::{checked, read_decimal};
-use hall_policy::{Checked, Name, PuzzleKey, PuzzleNumber, RoundId, TextKind, Token};
+use hall_policy::{Checked, PuzzleKey, PuzzleNumber, RoundId, TextKind};
 use matchit::{InsertError, Params, Router};
 use std::alloc::{AllocError, Global};
 use std::marker::Model;
 
 const NO_ROUTE: RequestFault = RequestFault::Form(FormFault::NoRoute);
-
-/// What a method and a path name.
-#[derive(Drop)]
-pub(crate) enum Route {
-    /// POST /people
-    Import,
-    /// PUT /puzzles/{author}/{label}
-    PutPuzzle(PuzzleKey),
-    /// GET /puzzles/{author}/{label}
-    ReadPuzzle(PuzzleKey),
-    /// GET /puzzles
-    ListPuzzles,
-    /// POST /puzzles/{author}/{label}/certificate
-    Certify(PuzzleKey),
-    /// PUT /rounds/{round}
-    PutRound(RoundId),
-    /// GET /rounds
-    ListRounds,
-    /// GET /rounds/{round}
-    ReadRound(RoundId),
-    /// POST /rounds/{round}/release
-    Release(RoundId),
-    /// PUT /rounds/{round}/answers/{number}/{token}
-    Submit(RoundId, PuzzleNumber, Token),
-    /// GET /rounds/{round}/answers
-    Answers(RoundId),
-    /// GET /rounds/{round}/solutions
-    Solutions(RoundId),
-    /// PUT /rounds/{round}/protests/{token}
-    Protest(RoundId, Token),
-    /// GET /rounds/{round}/protests
-    Protests(RoundId),
-    /// PUT /rounds/{round}/rulings/{entrant}/{token}
-    Rule(RoundId, Name, Token),
-    /// POST /rounds/{round}/publish
-    Publish(RoundId),
-    /// GET /rounds/{round}/table
-    Table(RoundId),
-}
 
 /// The place that a pattern names.
 #[derive(Clone, Copy, Debug, PartialEq, Eq)]
@@ -149,10 +109,10 @@ fn new_router(alloc: Global) -> Result<Router<Place>, InsertError>
 
 /// The texts of a path's first three parameters; the empty text for one that isn't there.
 #[derive(Clone, Copy)]
-struct Parts<'p> {
-    first: &'p str,
-    second: &'p str,
-    third: &'p str,
+pub(crate) struct Parts<'p> {
+    pub(crate) first: &'p str,
+    pub(crate) second: &'p str,
+    pub(crate) third: &'p str,
 }
 
 /// What the parameters took of the path. What comes after a missing one isn't told, so each is asked only behind
@@ -202,121 +162,6 @@ fn find<'p>(routes: &Routes, path: &'p str) -> Option<(Place, Parts<'p>)>
     }
 }
 
-/// The route, where the method is this one.
-fn by_method(method: &[u8], name: &[u8], route: Route) -> Result<Route, RequestFault>
-    ensures { Gives (λ r. r) result (by_method method.now name.now route) }
-{
-    if method == name {
-        Ok(route)
-    } else {
-        Err(NO_ROUTE)
-    }
-}
-
-/// The number of a puzzle in a round.
-fn puzzle_number(text: &str) -> Result<PuzzleNumber, RequestFault>
-    ensures { Gives (λ n. n) result (puzzle_number text.now) }
-{
-    let number = read_decimal(text.as_bytes()).ok_or(NO_ROUTE)?;
-    PuzzleNumber::new(number).ok_or(NO_ROUTE)
-}
-
-/// The parameter that is a text of this kind.
-fn word<K: TextKind>(alloc: Global, text: &str) -> Result<Checked<K>, RequestFault>
-    requires { (byte : ℕ) → IsTrue (K.allows byte) → byte < 128 }
-    ensures { Gives (λ t. t) result (of_kind FormFault.NoRoute K.LEAST K.MOST K.allows text.now) }
-{
-    checked(alloc, text.as_bytes(), FormFault::NoRoute)
-}
-
-fn puzzle_key(alloc: Global, parts: &Parts) -> Result<PuzzleKey, RequestFault>
-    ensures { Gives (λ key. key) result (puzzle_key_in (parts_seen parts.now)) }
-{
-    Ok(PuzzleKey {
-        author: word(alloc, parts.first)?,
-        label: word(alloc, parts.second)?,
-    })
-}
-
-/// What the method asks of the puzzle.
-fn puzzle_route(method: &[u8], key: PuzzleKey) -> Result<Route, RequestFault>
-    ensures { Gives (λ r. r) result (puzzle_route method.now key) }
-{
-    if method == b"PUT".as_slice() {
-        Ok(Route::PutPuzzle(key))
-    } else {
-        by_method(method, b"GET", Route::ReadPuzzle(key))
-    }
-}
-
-/// What the method asks of the round.
-fn round_route(method: &[u8], round: RoundId) -> Result<Route, RequestFault>
-    ensures { Gives (λ r. r) result (round_route method.now round) }
-{
-    if method == b"PUT".as_slice() {
-        Ok(Route::PutRound(round))
-    } else {
-        by_method(method, b"GET", Route::ReadRound(round))
-    }
-}
-
-/// The answer to be handed in.
-fn answer_route(alloc: Global, parts: &Parts) -> Result<Route, RequestFault>
-    ensures { Gives (λ r. r) result (answer_route (parts_seen parts.now)) }
-{
-    let round = word(alloc, parts.first)?;
-    let number = puzzle_number(parts.second)?;
-    let token = word(alloc, parts.third)?;
-    Ok(Route::Submit(round, number, token))
-}
-
-/// The protest to be made.
-fn protest_route(alloc: Global, parts: &Parts) -> Result<Route, RequestFault>
-    ensures { Gives (λ r. r) result (protest_route (parts_seen parts.now)) }
-{
-    let round = word(alloc, parts.first)?;
-    let token = word(alloc, parts.second)?;
-    Ok(Route::Protest(round, token))
-}
-
-/// The protest to be ruled.
-fn ruling_route(alloc: Global, parts: &Parts) -> Result<Route, RequestFault>
-    ensures { Gives (λ r. r) result (ruling_route (parts_seen parts.now)) }
-{
-    let round = word(alloc, parts.first)?;
-    let entrant = word(alloc, parts.second)?;
-    let token = word(alloc, parts.third)?;
-    Ok(Route::Rule(round, entrant, token))
-}
-
-/// What the place and its parts name, by the method.
-fn route_at(
-    alloc: Global,
-    method: &[u8],
-    place: Place,
-    parts: &Parts,
-) -> Result<Route, RequestFault>
-    ensures { Gives (λ r. r) result (route_at method.now place (parts_seen parts.now)) }
-{
-    match place {
-        Place::People => by_method(method, b"POST", Route::Import),
-        Place::Puzzles => by_method(method, b"GET", Route::ListPuzzles),
-        Place::Puzzle => puzzle_route(method, puzzle_key(alloc, parts)?),
-        Place::Certificate => by_method(method, b"POST", Route::Certify(puzzle_key(alloc, parts)?)),
-        Place::Rounds => by_method(method, b"GET", Route::ListRounds),
-        Place::Round => round_route(method, word(alloc, parts.first)?),
-        Place::Release => by_method(method, b"POST", Route::Release(word(alloc, parts.first)?)),
-        Place::Answers => by_method(method, b"GET", Route::Answers(word(alloc, parts.first)?)),
-        Place::Answer => by_method(method, b"PUT", answer_route(alloc, parts)?),
-        Place::Solutions => by_method(method, b"GET", Route::Solutions(word(alloc, parts.first)?)),
-        Place::Protests => by_method(method, b"GET", Route::Protests(word(alloc, parts.first)?)),
-        Place::Protest => by_method(method, b"PUT", protest_route(alloc, parts)?),
-        Place::Ruling => by_method(method, b"PUT", ruling_route(alloc, parts)?),
-        Place::Publish => by_method(method, b"POST", Route::Publish(word(alloc, parts.first)?)),
-        Place::Table => by_method(method, b"GET", Route::Table(word(alloc, parts.first)?)),
-    }
-}
-
 /// Whether each byte is ASCII.
 fn is_ascii(path: &[u8]) -> bool
     ensures { result ≡ list_all is_ascii path.now }
@@ -337,16 +182,76 @@ fn path_text(path: &[u8]) -> Result<&str, RequestFault>
     }
 }
 
-/// What the method and the path name. A path that isn't ASCII names nothing.
-pub(crate) fn route_of(
-    alloc: Global,
+/// The place of a path, with its parts. A path that isn't ASCII has none.
+pub(crate) fn place_of<'p>(
     routes: &Routes,
-    method: &[u8],
-    path: &[u8],
-) -> Result<Route, RequestFault>
-    ensures { Gives (λ r. r) result (route_in method.now path.now) }
+    path: &'p [u8],
+) -> Result<(Place, Parts<'p>), RequestFault>
+    ensures { Gives (λ at. (at.0, parts_seen at.1)) result (place_in path.now) }
 {
     let path = path_text(path)?;
-    let (place, parts) = find(routes, path).ok_or(NO_ROUTE)?;
-    route_at(alloc, method, place, &parts)
+    find(routes, path).ok_or(NO_ROUTE)
+}
+
+/// Nothing, where the method is this one.
+pub(crate) fn by_method(method: &[u8], name: &[u8]) -> Result<(), RequestFault>
+    ensures { Gives (λ u. u) result (by_method method.now name.now) }
+{
+    if method == name {
+        Ok(())
+    } else {
+        Err(NO_ROUTE)
+    }
+}
+
+/// The number of a puzzle in a round.
+pub(crate) fn puzzle_number(text: &str) -> Result<PuzzleNumber, RequestFault>
+    ensures { Gives (λ n. n) result (puzzle_number text.now) }
+{
+    let number = read_decimal(text.as_bytes()).ok_or(NO_ROUTE)?;
+    PuzzleNumber::new(number).ok_or(NO_ROUTE)
+}
+
+/// The parameter that is a text of this kind.
+pub(crate) fn word<K: TextKind>(alloc: Global, text: &str) -> Result<Checked<K>, RequestFault>
+    requires { (byte : ℕ) → IsTrue (K.allows byte) → byte < 128 }
+    ensures { Gives (λ t. t) result (of_kind FormFault.NoRoute K.LEAST K.MOST K.allows text.now) }
+{
+    checked(alloc, text.as_bytes(), FormFault::NoRoute)
+}
+
+/// The key of the puzzle that the path names.
+pub(crate) fn puzzle_key(alloc: Global, parts: &Parts) -> Result<PuzzleKey, RequestFault>
+    ensures { Gives (λ key. key) result (puzzle_key_in (parts_seen parts.now)) }
+{
+    Ok(PuzzleKey {
+        author: word(alloc, parts.first)?,
+        label: word(alloc, parts.second)?,
+    })
+}
+
+/// The same, where the method is this one.
+pub(crate) fn puzzle_by(
+    alloc: Global,
+    method: &[u8],
+    name: &[u8],
+    parts: &Parts,
+) -> Result<PuzzleKey, RequestFault>
+    ensures { Gives (λ key. key) result (puzzle_by method.now name.now (parts_seen parts.now)) }
+{
+    by_method(method, name)?;
+    puzzle_key(alloc, parts)
+}
+
+/// The round that the path names, where the method is this one.
+pub(crate) fn round_by(
+    alloc: Global,
+    method: &[u8],
+    name: &[u8],
+    parts: &Parts,
+) -> Result<RoundId, RequestFault>
+    ensures { Gives (λ id. id) result (round_by method.now name.now (parts_seen parts.now)) }
+{
+    by_method(method, name)?;
+    word(alloc, parts.first)
 }

@@ -6,21 +6,21 @@ use Rattle.hall_http.proofs.Requests.{fault_answers}
 use Rattle.hall_http.proofs.answer.answer_bytes.Goals as goal
 
 pub returns-in-Some-clause-quiet : goal.returns-in-Some-clause-quiet
-returns-in-Some-clause-quiet g c = c.answer_whole.ensures.quiet c.args.bytes.now c.in-Some.ensures
+returns-in-Some-clause-quiet g c = c.answer_raw_request.ensures.quiet c.args.bytes.now c.in-Some.ensures
 
 pub returns-in-Some-clause-answers : goal.returns-in-Some-clause-answers
-returns-in-Some-clause-answers g c = c.answer_whole.ensures.answers c.args.bytes.now c.in-Some.ensures
+returns-in-Some-clause-answers g c = c.answer_raw_request.ensures.answers c.args.bytes.now c.in-Some.ensures
 
 pub returns-in-Some-clause-untouched : goal.returns-in-Some-clause-untouched
-returns-in-Some-clause-untouched g c = c.answer_whole.ensures.untouched c.args.bytes.now c.in-Some.ensures
+returns-in-Some-clause-untouched g c = c.answer_raw_request.ensures.untouched c.args.bytes.now c.in-Some.ensures
 
 pub returns-in-Some-clause-unique : goal.returns-in-Some-clause-unique
 returns-in-Some-clause-unique g c = λ h s sane.
-    unique_solutions (g.S.ReadStore.content (kept_by c.answer_whole.new.desk)).world (c.answer_whole.ensures.sane h s sane)
+    unique_solutions (g.S.ReadStore.content (kept_by c.answer_raw_request.new.desk)).world (c.answer_raw_request.ensures.sane h s sane)
 
 pub returns-in-Some-clause-right : goal.returns-in-Some-clause-right
 returns-in-Some-clause-right g c = λ h s sane.
-    right_answers (g.S.ReadStore.content (kept_by c.answer_whole.new.desk)).world (c.answer_whole.ensures.sane h s sane)
+    right_answers (g.S.ReadStore.content (kept_by c.answer_raw_request.new.desk)).world (c.answer_raw_request.ensures.sane h s sane)
 
 pub returns-in-None-clause-answers : goal.returns-in-None-clause-answers
 returns-in-None-clause-answers g c = λ h.

@@ -8,9 +8,9 @@ use Rattle.hall_http.proofs.handler.DeskHandler.answer.Goals as goal
 pub returns-in-Some : goal.returns-in-Some
 returns-in-Some g c = λ bytes lent.
     rw c.in-Some.is
-    (answered_at (λ desk. g.S.ReadStore.content (kept_by desk)) _ _ bytes _ _ c.answer_whole.ensures.leads
-    c.answer_whole.ensures.once (c.answer_whole.ensures.quiet bytes lent) (c.answer_whole.ensures.answers bytes lent)
-    (c.answer_whole.ensures.untouched bytes lent))
+    (answered_at (λ desk. g.S.ReadStore.content (kept_by desk)) _ _ bytes _ _ c.answer_raw_request.ensures.leads
+    c.answer_raw_request.ensures.once (c.answer_raw_request.ensures.quiet bytes lent) (c.answer_raw_request.ensures.answers bytes lent)
+    (c.answer_raw_request.ensures.untouched bytes lent))
 
 pub returns-in-None : goal.returns-in-None
 returns-in-None g c = λ bytes lent. rw c.in-None.is (record {

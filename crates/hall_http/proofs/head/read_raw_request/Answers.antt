@@ -1,14 +1,14 @@
 use Rattle.std.proofs.Common.{◌≡◌, ℕ, List, [], arith, length, take, refl, subst, sym}
 use Rattle.std.proofs.lemmas.List.{append-nil, take_all}
 use Rattle.hall_http.specs.Head.{IsLentBy}
-use Rattle.hall_http.specs.declared.head.Whole.{Whole}
+use Rattle.hall_http.specs.declared.head.RawRequest.{RawRequest}
 use Rattle.hall_http.proofs.Heads.{lent_whole}
 use Rattle.hall_http.proofs.Once.{whole_front}
-use Rattle.hall_http.proofs.head.read_whole.Goals as goal
+use Rattle.hall_http.proofs.head.read_raw_request.Goals as goal
 
-lent_all : (bytes : List ℕ) (n : ℕ) (whole : Whole) → n ≡ length bytes → IsLentBy (take n bytes) whole
-    → IsLentBy bytes whole
-lent_all bytes n whole all lent = subst (λ (front : List ℕ). IsLentBy front whole) (take_all n bytes (omega arith)) lent
+lent_all : (bytes : List ℕ) (n : ℕ) (raw : RawRequest) → n ≡ length bytes → IsLentBy (take n bytes) raw
+    → IsLentBy bytes raw
+lent_all bytes n raw all lent = subst (λ (front : List ℕ). IsLentBy front raw) (take_all n bytes (omega arith)) lent
 
 pub returns-then-size-bytes : goal.returns-then-size-bytes
 returns-then-size-bytes c = λ whole.

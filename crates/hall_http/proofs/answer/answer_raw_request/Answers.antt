@@ -6,7 +6,7 @@ use Rattle.hall_http.specs.Request.{AsksFor}
 use Rattle.hall_http.proofs.Refusals.{unavailable_reply}
 use Rattle.hall_http.proofs.Requests.{asked_of, fault_answers, answers_bytes, request_sane, nobodys, quiet_bytes}
 use Rattle.hall_store.proofs.Knowing.{over_turn}
-use Rattle.hall_http.proofs.answer.answer_whole.Goals as goal
+use Rattle.hall_http.proofs.answer.answer_raw_request.Goals as goal
 
 pub returns-in-Ok-clause-answers : goal.returns-in-Ok-clause-answers
 returns-in-Ok-clause-answers g c =
@@ -16,18 +16,18 @@ returns-in-Ok-clause-answers g c =
     λ bytes lent h. over_turn (λ before after. AnswersRequest before t request text after) (λ before after. Answers before t bytes text after)
     (g.S.ReadStore.content (kept_by c.args.desk.now)) (g.S.ReadStore.content (kept_by c.answer_request.new.desk))
     (λ before after says. answers_bytes before t bytes request text after
-    (asked_of bytes c.args.whole.now (Ok request) lent c.in-Ok.ensures) c.answer_request.ensures.timed says)
+    (asked_of bytes c.args.raw.now (Ok request) lent c.in-Ok.ensures) c.answer_request.ensures.timed says)
     (c.answer_request.ensures.answers h)
 
 pub returns-in-Ok-clause-untouched : goal.returns-in-Ok-clause-untouched
 returns-in-Ok-clause-untouched g c = λ bytes lent nothing.
     c.answer_request.ensures.untouched
-    (nobodys bytes c.in-Ok.request (asked_of bytes c.args.whole.now (Ok c.in-Ok.request) lent c.in-Ok.ensures) nothing)
+    (nobodys bytes c.in-Ok.request (asked_of bytes c.args.raw.now (Ok c.in-Ok.request) lent c.in-Ok.ensures) nothing)
 
 pub returns-in-Ok-clause-quiet : goal.returns-in-Ok-clause-quiet
 returns-in-Ok-clause-quiet g c = λ bytes lent.
     quiet_bytes (g.S.ReadStore.content (kept_by c.args.desk.now)) (g.S.ReadStore.content (kept_by c.answer_request.new.desk))
-    c.args.moment bytes c.in-Ok.request (asked_of bytes c.args.whole.now (Ok c.in-Ok.request) lent c.in-Ok.ensures)
+    c.args.moment bytes c.in-Ok.request (asked_of bytes c.args.raw.now (Ok c.in-Ok.request) lent c.in-Ok.ensures)
     c.answer_request.ensures.quiet
 
 pub returns-in-Ok-clause-sane : goal.returns-in-Ok-clause-sane
@@ -37,12 +37,12 @@ returns-in-Ok-clause-sane g c = λ h s sane.
 
 pub returns-in-Err-Form-clause-answers : goal.returns-in-Err-Form-clause-answers
 returns-in-Err-Form-clause-answers g c =
-    let says : AsksFor c.args.whole.now (Err c.in-Err-Form.fault) = rw c.in-Err-Form.field-0-is at c.in-Err-Form.ensures in
+    let says : AsksFor c.args.raw.now (Err c.in-Err-Form.fault) = rw c.in-Err-Form.field-0-is at c.in-Err-Form.ensures in
     let written : AnswersFault c.in-Err-Form.fault (answer_text c.answer_fault.result) =
     rw c.in-Err-Form.field-0-is at c.answer_fault.ensures in
     λ bytes lent h.
     fault_answers (g.S.ReadStore.content (kept_by c.args.desk.now)) c.args.moment bytes _ c.in-Err-Form.fault
-    (asked_of bytes c.args.whole.now (Err c.in-Err-Form.fault) lent says) written
+    (asked_of bytes c.args.raw.now (Err c.in-Err-Form.fault) lent says) written
 
 pub returns-in-Err-Memory-clause-answers : goal.returns-in-Err-Memory-clause-answers
 returns-in-Err-Memory-clause-answers g c = λ bytes lent h. inl ((λ world. inr (inr unavailable_reply, refl)), λ s. refl)
