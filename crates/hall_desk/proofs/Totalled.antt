@@ -24,7 +24,7 @@ use Rattle.hall_policy.specs.declared.record.ProtestRow.{ProtestRow}
 use Rattle.hall_policy.specs.declared.record.RoundRow.{RoundRow}
 use Rattle.hall_policy.proofs.Maps.{get_is_lookup, get_of_value, strictly_sorted}
 use Rattle.hall_policy.proofs.Orders.{text_total, same_texts, tied_then, answer_total}
-use Rattle.hall_score.specs.Tally.{AreTotalsOf, IsTallyOf, TakesAnswer, RefusesAnswer, TakesProtest, RefusesProtest, IsNext, turn_cmp}
+use Rattle.hall_score.specs.Tally.{AreTotalsOf, IsTallyOf, TakesAnswer, RefusesAnswer, TakesProtest, RefusesProtest, IsNext, taking_cmp}
 use Rattle.hall_score.specs.Tally as tally
 use Rattle.hall_score.specs.declared.tally.Tally.{Tally}
 use Rattle.hall_store.specs.Store.{Content, Kept, IsListing, IsRefusedNext, listing_cmp, is_in, is_of, is_protest_in, protests_in}
@@ -66,7 +66,7 @@ took_answers round protests done (row ∷ rows) before after held (next, takes, 
 
 -- ---- an answer that is refused
 -- the order of turns is total
-turn_total : IsTotalOrder turn_cmp
+turn_total : IsTotalOrder taking_cmp
 turn_total =
     then_total (on_total (λ row. row.key.entrant) text_total) (then_total (on_total (λ row. row.key.number) nat_cmp_total) (on_total (λ row. row.n) nat_cmp_total))
 
@@ -80,17 +80,17 @@ then_more Equal Equal Greater t h = let no : Greater ≡ Less = h in cc
 then_more Equal Greater m t h = let no : Greater ≡ Less = h in cc
 then_more Greater n m t h = let no : Greater ≡ Less = h in cc
 
-listed_before : (a b : AnswerRow) → turn_cmp a b ≡ Less → listing_cmp a b ≡ Less
+listed_before : (a b : AnswerRow) → taking_cmp a b ≡ Less → listing_cmp a b ≡ Less
 listed_before a b h =
     then_more (text_cmp a.key.entrant b.key.entrant) (nat_cmp a.key.number b.key.number) (nat_cmp a.n b.n) (text_cmp a.key.token b.key.token) h
 
 -- a row that isn't listed after another, and differs from it by its turn, comes before it
-turn_before : (a b : AnswerRow) → is_lt (listing_cmp b a) ≡ false → (turn_cmp a b ≡ Equal → ⊥) → turn_cmp a b ≡ Less
-turn_before a b not_after apart = elim (turn_cmp a b) as (λ o. turn_cmp a b ≡ o → o ≡ Less) [
+turn_before : (a b : AnswerRow) → is_lt (listing_cmp b a) ≡ false → (taking_cmp a b ≡ Equal → ⊥) → taking_cmp a b ≡ Less
+turn_before a b not_after apart = elim (taking_cmp a b) as (λ o. taking_cmp a b ≡ o → o ≡ Less) [
   | Less ↦ λ e. refl
   | Equal ↦ λ e. absurd (apart e)
   | Greater ↦ λ e.
-      let back : turn_cmp b a ≡ Less = turn_total.antisymm b a ∙ ap ordering_reverse e in
+      let back : taking_cmp b a ≡ Less = turn_total.antisymm b a ∙ ap ordering_reverse e in
       let no : true ≡ false = sym (ap is_lt (listed_before b a back)) ∙ not_after in cc
 ] refl
 
@@ -156,7 +156,7 @@ module _ (world : World) (sane : Sane world) (id : List ℕ) where
         (subst (λ (k : AnswerKey). get world.answers k ≡ Some row) (sym (sane.typed.answers at.0 row at.1)) at.1, (text_decides row.key.round id).0 kept.1)
 
     -- two rows of one turn are one
-    one_turn : (a b : AnswerRow) → Contains rows a → Contains rows b → turn_cmp a b ≡ Equal → a.key ≡ b.key
+    one_turn : (a b : AnswerRow) → Contains rows a → Contains rows b → taking_cmp a b ≡ Equal → a.key ≡ b.key
     one_turn a b has_a has_b tie =
         let t = tied_then (text_cmp a.key.entrant b.key.entrant) (ordering_then (nat_cmp a.key.number b.key.number) (nat_cmp a.n b.n)) tie in
         let u = tied_then (nat_cmp a.key.number b.key.number) (nat_cmp a.n b.n) t.1 in

@@ -3,8 +3,8 @@ pub mod Gains
 pub mod Apart
 pub mod Scores
 pub mod Tried
-pub mod Works
-pub mod Tallies
+pub mod ProgressLemmas
+pub mod TallyLemmas
 pub mod Permuted
 pub mod Ranks
 pub mod Once

@@ -9,8 +9,8 @@ use Rattle.hall_policy.specs.declared.record.Entry.{Entry}
 use Rattle.hall_policy.specs.declared.record.AnswerRow.{AnswerRow}
 use Rattle.hall_policy.specs.declared.record.RoundRow.{RoundRow}
 use Rattle.hall_score.specs.Total.{same_puzzle, does_score, points_for}
-use Rattle.hall_score.specs.Work.{IsScoreOf}
-use Rattle.hall_score.specs.declared.held.Score.{Score}
+use Rattle.hall_score.specs.Progress.{IsScoreOf}
+use Rattle.hall_score.specs.declared.entrant.Score.{Score}
 use Rattle.hall_score.proofs.Gains.{IsGain, gain_append, gain_none, gain_one, gain_agree, solved_by, solved_none}
 use Rattle.hall_score.proofs.Apart.{IsSameFor, same_for, untouched_left, untouched_right}
 

@@ -10,9 +10,9 @@ use Rattle.hall_policy.specs.declared.record.AnswerRow.{AnswerRow}
 use Rattle.hall_policy.specs.declared.record.RoundRow.{RoundRow}
 use Rattle.hall_policy.specs.declared.record.Mode.TheVariants.{Instant, Sealed}
 use Rattle.hall_score.specs.Total.{is_right, same_puzzle, has_right_before, has_later, does_count, wrong_before, cost_of, does_score, points_for, points_of}
-use Rattle.hall_score.specs.Work.{Gives, IsScoreOf, AreTriesOf, AreTriedBefore}
-use Rattle.hall_score.specs.declared.held.Score.{Score}
-use Rattle.hall_score.specs.declared.held.Tries.{Tries}
+use Rattle.hall_score.specs.Progress.{Gives, IsScoreOf, AreTriesOf, AreTriedBefore}
+use Rattle.hall_score.specs.declared.entrant.Score.{Score}
+use Rattle.hall_score.specs.declared.entrant.Tries.{Tries}
 use Rattle.hall_score.proofs.Gains.{gain_append, gain_none, gain_agree, solved_by, one_if, solved_none}
 use Rattle.hall_score.proofs.Apart.{IsSameFor, IsUntouched, same_for, any_left, count_left}
 use Rattle.hall_score.proofs.Scores.{only_last, none_scores, numbers, gain_of, score_of, no_points, true_false}

@@ -1,7 +1,7 @@
 pub mod Total
 pub mod Standings
 pub mod Table
-pub mod Work
-pub mod Ruled
+pub mod Progress
+pub mod Rulings
 pub mod Tally
 pub mod Laws

@@ -10,13 +10,13 @@ use Rattle.hall_policy.specs.declared.record.RoundRow.{RoundRow}
 use Rattle.hall_policy.specs.declared.record.AnswerRow.{AnswerRow}
 use Rattle.hall_policy.specs.declared.record.ProtestRow.{ProtestRow}
 use Rattle.hall_score.specs.Total.{protest_points, total_of}
-use Rattle.hall_score.specs.Work.{IsWorkOf, IsAhead}
-use Rattle.hall_score.specs.declared.held.Entrant.{Entrant}
-use Rattle.hall_score.specs.declared.held.Rulings.{Rulings}
-use Rattle.hall_score.specs.Ruled.{ruled_at, points_ruled, count_ruled}
+use Rattle.hall_score.specs.Progress.{IsProgressOf, IsAhead}
+use Rattle.hall_score.specs.declared.entrant.Entrant.{Entrant}
+use Rattle.hall_score.specs.declared.entrant.Rulings.{Rulings}
+use Rattle.hall_score.specs.Rulings.{rulings_at, points_ruled, count_ruled}
 use Rattle.hall_score.specs.declared.tally.Tally.{Tally}
-use Rattle.hall_score.specs.declared.taking.Turn.{Turn}
-use Rattle.hall_score.specs.declared.taking.Turn.TheVariants.{Later, Next, Past}
+use Rattle.hall_score.specs.declared.tally.Following.{Following}
+use Rattle.hall_score.specs.declared.tally.Following.TheVariants.{Later, Next, Past}
 
 -- the entrant's answers among these
 abbrev pub answers_by : List ℕ → List AnswerRow → List AnswerRow
@@ -37,14 +37,14 @@ pub record AreTotalsOf (round : RoundRow) (protests : List ProtestRow) (answers 
       total ≡ total_of round (answers_by entrant answers) (protests_by entrant protests)
 
 -- the order in which a tally takes answers: by entrant, number, then n
-abbrev pub turn_cmp : AnswerRow → AnswerRow → Ordering
-turn_cmp a b =
+abbrev pub taking_cmp : AnswerRow → AnswerRow → Ordering
+taking_cmp a b =
     ordering_then (text_cmp a.key.entrant b.key.entrant)
     (ordering_then (nat_cmp a.key.number b.key.number) (nat_cmp a.n b.n))
 
 -- the answer comes after each of these
 abbrev pub IsNext : List AnswerRow → AnswerRow → Type 0
-IsNext answers row = All (λ before. turn_cmp before row ≡ Less) answers
+IsNext answers row = All (λ before. taking_cmp before row ≡ Less) answers
 
 -- what is known of each entrant's protests: the points of that entrant's protests, and how many there are
 pub record AreRulingsOf (protests : List ProtestRow) (at : List ℕ → Option Rulings) : Type 0 where
@@ -59,7 +59,7 @@ pub record IsLastOf (round : RoundRow) (protests : List ProtestRow) (answers : L
   pub whole : answers ≡ earlier ++ own
   pub before : All (λ row. text_cmp row.key.entrant entrant.name ≡ Less) earlier
   pub is_own : All (λ row. row.key.entrant ≡ entrant.name) own
-  pub work : IsWorkOf round own entrant.work
+  pub progress : IsProgressOf round own entrant.progress
   pub totals_are : AreTotalsOf round protests earlier totals
 
 -- these answers are the last entrant's and those of the ones before; without a last one there are none
@@ -70,7 +70,7 @@ AreHeld round protests answers totals None = (answers ≡ []) × (totals ≡ [])
 -- the tally of the round has taken these protests and then these answers
 pub record IsTallyOf (round : RoundRow) (protests : List ProtestRow) (answers : List AnswerRow) (tally : Tally) : Type 0 where
   pub round_is : tally.round ≡ round
-  pub rulings_are : AreRulingsOf protests (ruled_at tally.ruled)
+  pub rulings_are : AreRulingsOf protests (rulings_at tally.rulings)
   pub answers_are : AreHeld round protests answers tally.totals tally.last
 
 -- whatever answers the tally has taken, this one comes after each of them, and the tally has now taken it too
@@ -107,18 +107,18 @@ IsLater None row = Unit {0}
 
 -- the answer is the last entrant's, and comes after those that the entrant has so far
 abbrev pub IsNextOf : Option Entrant → AnswerRow → Type 0
-IsNextOf (Some entrant) row = (entrant.name ≡ row.key.entrant) × IsAhead entrant.work row
+IsNextOf (Some entrant) row = (entrant.name ≡ row.key.entrant) × IsAhead entrant.progress row
 IsNextOf None row = ⊥
 
 -- the answer comes before the last entrant's answers, or not after all of them
 abbrev pub IsPastOf : Option Entrant → AnswerRow → Type 0
 IsPastOf (Some entrant) row =
     (text_cmp entrant.name row.key.entrant ≡ Greater)
-    ⊎ ((entrant.name ≡ row.key.entrant) × (¬ (IsAhead entrant.work row)))
+    ⊎ ((entrant.name ≡ row.key.entrant) × (¬ (IsAhead entrant.progress row)))
 IsPastOf None row = ⊥
 
 -- how the answer follows those taken
-abbrev pub IsTurn : Option Entrant → AnswerRow → Turn → Type 0
-IsTurn last row Later = IsLater last row
-IsTurn last row Next = IsNextOf last row
-IsTurn last row Past = IsPastOf last row
+abbrev pub IsFollowing : Option Entrant → AnswerRow → Following → Type 0
+IsFollowing last row Later = IsLater last row
+IsFollowing last row Next = IsNextOf last row
+IsFollowing last row Past = IsPastOf last row

@@ -1,17 +1,16 @@
 //! The points of a contest round: an entrant's total, the standings, and their table.
 #![tactic(auto)]
 
-mod held;
+mod entrant;
 mod law;
 mod points;
+mod progress;
 mod ranking;
-mod ruled;
+mod rulings;
 mod table;
-mod taking;
 mod tally;
 mod totals;
 mod tries;
-mod work;
 
 pub use law::law_totals;
 pub use points::total;

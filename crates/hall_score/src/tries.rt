@@ -5,9 +5,9 @@ ghost use Rattle.hall_policy.specs.declared.record.AnswerRow.{AnswerRow};
 ghost use Rattle.hall_policy.specs.declared.record.RoundRow.{RoundRow};
 ghost use Rattle.hall_policy.specs.declared.record.Mode.TheVariants.{Instant, Sealed};
 ghost use Rattle.hall_score.specs.Total.{points_of};
-ghost use Rattle.hall_score.specs.Work.{Gives, IsScoreOf, AreTriesOf, AreTriedBefore};
+ghost use Rattle.hall_score.specs.Progress.{Gives, IsScoreOf, AreTriesOf, AreTriedBefore};
 
-use crate::held::{Score, Tries};
+use crate::entrant::{Score, Tries};
 use crate::points::{entry_at, is_right};
 use hall_policy::{AnswerRow, Mode, RoundRow};
 

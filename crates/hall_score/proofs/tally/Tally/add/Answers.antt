@@ -1,5 +1,5 @@
 use Rattle.std.proofs.Common.{refl}
-use Rattle.hall_score.proofs.Tallies.{next_takes, next_at}
+use Rattle.hall_score.proofs.TallyLemmas.{next_takes, next_at}
 use Rattle.hall_score.proofs.tally.Tally.add.Goals as goal
 
 pub returns-in-Some : goal.returns-in-Some

@@ -1,6 +1,6 @@
 use Rattle.std.proofs.Common.{◌≡◌, ◌≤◌, ◌+ℤ◌, ℤ, unsigned_abs, to_z, of_z, w64, arith}
 use Rattle.std.proofs.lemmas.Int.{ints}
-use Rattle.hall_score.proofs.Tallies.{closed_last}
+use Rattle.hall_score.proofs.TallyLemmas.{closed_last}
 use Rattle.hall_score.proofs.tally.Tally.close.Goals as goal
 
 -- a small sum fits

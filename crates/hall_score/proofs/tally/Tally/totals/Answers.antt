@@ -1,6 +1,6 @@
 use Rattle.std.proofs.Common.{[], subst, sym}
 use Rattle.hall_score.specs.Tally.{AreTotalsOf}
-use Rattle.hall_score.proofs.Tallies.{took_answers, took_protests}
+use Rattle.hall_score.proofs.TallyLemmas.{took_answers, took_protests}
 use Rattle.hall_score.proofs.tally.Tally.totals.Goals as goal
 
 pub returns : goal.returns

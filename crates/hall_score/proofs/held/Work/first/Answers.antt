@@ -1,8 +1,0 @@
-use Rattle.std.proofs.Common.{refl, [], arith}
-use Rattle.hall_score.proofs.Works.{first_work}
-use Rattle.hall_score.proofs.held.Work.first.Goals as goal
-
-pub returns : goal.returns
-returns c =
-    first_work c.args.round.now c.args.row.now _ refl refl c.no_score.ensures
-    (c.with.ensures.tries [] (λ k d within. absurd (omega arith)) (c.none.ensures.tries c.args.round.now))

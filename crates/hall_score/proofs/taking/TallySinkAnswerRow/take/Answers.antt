@@ -1,7 +1,0 @@
-use Rattle.std.proofs.Common.{subst}
-use Rattle.hall_score.specs.Tally.{IsTurn}
-use Rattle.hall_score.proofs.Tallies.{turn_refuses}
-use Rattle.hall_score.proofs.taking.TallySinkAnswerRow.take.Goals as goal
-
-pub returns-in-Past-clause-refused : goal.returns-in-Past-clause-refused
-returns-in-Past-clause-refused c = λ same. turn_refuses c.args.self.now c.args.row.now (subst (IsTurn c.args.self.now.last c.args.row.now) c.in-Past.is c.turn_of.ensures)
