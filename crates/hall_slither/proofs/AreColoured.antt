@@ -1,11 +1,11 @@
 -- What sides and colours tell of each other.
-use Rattle.std.proofs.Common.{◌≡◌, ◌<◌, ◌+◌, ◌∙◌, ℕ, Bool, true, false, cond, eqb, List, length, get_or, Option, Some, None, refl, sym, ap, subst, inl, inr, arith}
+use Rattle.std.proofs.Common.{◌≡◌, ◌<◌, ◌+◌, ◌∙◌, ℕ, Bool, true, false, cond, eqb, List, length, get_or, Option, Some, None, refl, sym, subst, inl, inr, arith}
 use Rattle.std.specs.Prelude.{slice_index}
-use Rattle.std.proofs.lemmas.Bool.{cases_Bool, cases_eq, eq-eqb, eqb-true}
+use Rattle.std.proofs.lemmas.Bool.{cases_eq, eq-eqb, eqb-true}
 use Rattle.hall_grid.specs.Board.{Board, IsBoard, cells}
 use Rattle.hall_grid.specs.declared.board.Kind.TheVariants.{Slither}
 use Rattle.hall_grid.specs.Slither.{all_sides, is_line}
-use Rattle.hall_solve.specs.Question.{Question, Solves, Keeps, IsHopeless, IsOpen}
+use Rattle.hall_solve.specs.Question.{Solves, Keeps, IsHopeless, IsOpen}
 use Rattle.hall_solve.specs.Deduction.{IsForced}
 use Rattle.hall_solve.specs.Puzzle.{question_of}
 use Rattle.hall_solve.proofs.Boards.{Solves-keeps}

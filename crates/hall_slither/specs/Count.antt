@@ -16,10 +16,18 @@ use Rattle.hall_slither.specs.declared.count.Consequence.{Consequence}
 use Rattle.hall_slither.specs.declared.count.Consequence.TheVariants.{Nothing, AllBe, Impossible}
 use Rattle.hall_slither.specs.Dot.{sides_at, count_at}
 
+-- the number of a dot or a cell, and how many there are of its kind
+abbrev pub number_of : Centre → ℕ
+number_of (Dot d) = d
+number_of (Cell cell) = cell
+
+abbrev pub count_of : Size → Centre → ℕ
+count_of size (Dot d) = dots size
+count_of size (Cell cell) = cells size
+
 -- the spot is on the board
 abbrev pub IsCentre : Size → Centre → Type 0
-IsCentre size (Dot d) = d < dots size
-IsCentre size (Cell cell) = cell < cells size
+IsCentre size centre = number_of centre < count_of size centre
 
 -- the sides at a dot or round a cell
 abbrev pub sides_round : Size → Centre → List (Option ℕ)

@@ -10,11 +10,12 @@ ghost use Rattle.hall_solve.specs.Trail.{Grows};
 ghost use Rattle.hall_slither.specs.Colour.{AreColoured};
 ghost use Rattle.hall_slither.specs.Dot.{AreBelow};
 ghost use Rattle.hall_slither.specs.Count.{IsCentre, IsSilent, IsTold, AreSilent};
-ghost use Rattle.hall_slither.specs.Follow.{IsFollowed, AreSet, HasAll, work};
+ghost use Rattle.hall_slither.specs.Follow.{IsSamePosition, IsFollowed, AreSet, HasAll, work};
 
 use crate::colour::{Colours, cells_by};
 use crate::count::{Centre, Consequence, consequence_at, sides_round};
 use crate::dot::dot_count;
+use crate::position::Position;
 use crate::setting::Setting;
 use hall_grid::{Kind, Puzzle, Size, dot_ends};
 use hall_solve::{Partial, Pass, Step};
@@ -24,7 +25,7 @@ use std::alloc::{AllocError, Global};
 fn push_cell(size: Size, cell: usize, stack: &mut Vec<Centre>) -> Result<(), AllocError>
     requires size { IsSize size }
     requires centres { All (IsCentre size) stack.old.items }
-    ensures centres { OnOk result (All (IsCentre size) stack.new.items) }
+    ensures centres { All (IsCentre size) stack.new.items }
     ensures few { OnOk result (length stack.new.items ≤ length stack.old.items + 1) }
 {
     if cell < size.cells() {
@@ -38,7 +39,7 @@ fn push_beside(size: Size, side: usize, stack: &mut Vec<Centre>) -> Result<(), A
     requires size { IsSize size }
     requires side { side < all_sides size }
     requires centres { All (IsCentre size) stack.old.items }
-    ensures centres { OnOk result (All (IsCentre size) stack.new.items) }
+    ensures centres { All (IsCentre size) stack.new.items }
     ensures few { OnOk result (length stack.new.items ≤ length stack.old.items + 4) }
 {
     let (first, second) = dot_ends(size, side);
@@ -67,82 +68,54 @@ fn learn_side(puzzle: &Puzzle, partial: &Partial, colours: &mut Colours, setting
 }
 
 /// Sets an open side, learns what that says of colours, and puts the dots and cells at it onto the stack.
-pub(crate) fn set_and_learn(
-    puzzle: &Puzzle,
-    partial: &mut Partial,
-    colours: &mut Colours,
-    stack: &mut Vec<Centre>,
-    setting: Setting,
-) -> Result<Step, AllocError>
-    requires kind { puzzle.now.kind ≡ Kind.Slither }
-    requires partial { IsPartial (question_of Kind.Slither puzzle.now) partial.old.places }
-    requires coloured { AreColoured puzzle.now partial.old.places colours.old }
-    requires centres { All (IsCentre puzzle.now.size) stack.old.items }
-    requires side { IsOpen partial.old.places setting.side }
+pub(crate) fn set_and_learn(position: &mut Position, setting: Setting) -> Result<Step, AllocError>
+    requires side { IsOpen position.old.partial.now.places setting.side }
     requires value { setting.value < 2 }
-    ensures places { partial.new.places ≡ slice_set partial.old.places setting.side (Some setting.value) }
-    ensures grows { Grows partial.old partial.new }
-    ensures coloured { AreColoured puzzle.now partial.new.places colours.new }
+    ensures same { IsSamePosition position.old position.new }
+    ensures places { position.new.partial.now.places
+        ≡ slice_set position.old.partial.now.places setting.side (Some setting.value) }
+    ensures grows { Grows position.old.partial.now position.new.partial.now }
     ensures dead { IfOk result (λ step. step ≡ Step.Dead
-        → IsHopeless (question_of Kind.Slither puzzle.now) partial.new.places) }
-    ensures centres { OnOk result (All (IsCentre puzzle.now.size) stack.new.items) }
-    ensures few { OnOk result (length stack.new.items ≤ length stack.old.items + 4) }
+        → IsHopeless (question_of Kind.Slither position.old.puzzle.now) position.new.partial.now.places) }
+    ensures few { OnOk result (length position.new.stack.now.items ≤ length position.old.stack.now.items + 4) }
 {
-    partial.set(setting.side, setting.value);
-    push_beside(puzzle.size(), setting.side, stack)?;
-    Ok(learn_side(puzzle, partial, colours, setting))
+    position.partial.set(setting.side, setting.value);
+    push_beside(position.puzzle.size(), setting.side, position.stack)?;
+    Ok(learn_side(position.puzzle, position.partial, position.colours, setting))
 }
 
 /// Sets an open side to the value that every solution has there.
-pub(crate) fn set_side(
-    puzzle: &Puzzle,
-    partial: &mut Partial,
-    colours: &mut Colours,
-    stack: &mut Vec<Centre>,
-    setting: Setting,
-) -> Result<Pass, AllocError>
-    requires kind { puzzle.now.kind ≡ Kind.Slither }
-    requires partial { IsPartial (question_of Kind.Slither puzzle.now) partial.old.places }
-    requires coloured { AreColoured puzzle.now partial.old.places colours.old }
-    requires centres { All (IsCentre puzzle.now.size) stack.old.items }
-    requires forced { IsForced (question_of Kind.Slither puzzle.now) partial.old.places setting.side setting.value }
-    ensures followed { IsFollowed puzzle.now partial.old partial.new colours.new result }
+pub(crate) fn set_side(position: &mut Position, setting: Setting) -> Result<Pass, AllocError>
+    requires { IsForced (question_of Kind.Slither position.old.puzzle.now) position.old.partial.now.places
+        setting.side setting.value }
+    ensures followed { IsFollowed position.old.puzzle.now position.old.partial.now position.new.partial.now result }
+    ensures same { IsSamePosition position.old position.new }
     ensures advanced { IfOk result (λ pass. pass ≢ Pass.Settled) }
-    ensures centres { OnOk result (All (IsCentre puzzle.now.size) stack.new.items) }
-    ensures work { OnOk result (work partial.new.places stack.new.items ≤ work partial.old.places stack.old.items) }
+    ensures work { OnOk result (work position.new.partial.now.places position.new.stack.now.items
+        ≤ work position.old.partial.now.places position.old.stack.now.items) }
 {
-    match set_and_learn(puzzle, partial, colours, stack, setting)? {
+    match set_and_learn(position, setting)? {
         Step::Live => Ok(Pass::Advanced),
         Step::Dead => Ok(Pass::Dead),
     }
 }
 
 /// Sets the open ones of the sides to the value that every solution has there.
-fn set_open(
-    puzzle: &Puzzle,
-    partial: &mut Partial,
-    colours: &mut Colours,
-    stack: &mut Vec<Centre>,
-    sides: &[Option<usize>],
-    value: u8,
-) -> Result<Pass, AllocError>
-    requires kind { puzzle.now.kind ≡ Kind.Slither }
-    requires partial { IsPartial (question_of Kind.Slither puzzle.now) partial.old.places }
-    requires coloured { AreColoured puzzle.now partial.old.places colours.old }
-    requires centres { All (IsCentre puzzle.now.size) stack.old.items }
-    requires below { AreBelow (all_sides puzzle.now.size) sides.now }
-    requires told { IsTold (question_of Kind.Slither puzzle.now) partial.old.places sides.now
+fn set_open(position: &mut Position, sides: &[Option<usize>], value: u8) -> Result<Pass, AllocError>
+    requires below { AreBelow (all_sides position.old.puzzle.now.size) sides.now }
+    requires told { IsTold (question_of Kind.Slither position.old.puzzle.now) position.old.partial.now.places sides.now
         (Consequence.AllBe value) }
-    ensures followed { IsFollowed puzzle.now partial.old partial.new colours.new result }
+    ensures followed { IsFollowed position.old.puzzle.now position.old.partial.now position.new.partial.now result }
+    ensures same { IsSamePosition position.old position.new }
     ensures advanced { IfOk result (λ pass. pass ≢ Pass.Settled) }
-    ensures centres { OnOk result (All (IsCentre puzzle.now.size) stack.new.items) }
-    ensures work { OnOk result (work partial.new.places stack.new.items ≤ work partial.old.places stack.old.items) }
+    ensures work { OnOk result (work position.new.partial.now.places position.new.stack.now.items
+        ≤ work position.old.partial.now.places position.old.stack.now.items) }
 {
     let mut pass = Pass::Settled;
     for side in sides {
         if let Some(side) = *side {
-            if partial.get(side).is_none() {
-                match set_side(puzzle, partial, colours, stack, Setting { side, value })? {
+            if position.partial.get(side).is_none() {
+                match set_side(position, Setting { side, value })? {
                     Pass::Dead => return Ok(Pass::Dead),
                     Pass::Settled | Pass::Advanced => pass = Pass::Advanced,
                 }
@@ -153,25 +126,17 @@ fn set_open(
 }
 
 /// The first open one of the sides whose value the colours tell.
-fn told_side(
-    puzzle: &Puzzle,
-    partial: &Partial,
-    colours: &Colours,
-    sides: &[Option<usize>],
-) -> Option<Setting>
-    requires kind { puzzle.now.kind ≡ Kind.Slither }
-    requires partial { IsPartial (question_of Kind.Slither puzzle.now) partial.now.places }
-    requires coloured { AreColoured puzzle.now partial.now.places colours.now }
-    requires below { AreBelow (all_sides puzzle.now.size) sides.now }
-    ensures { IfSome result
-        (λ s. IsForced (question_of Kind.Slither puzzle.now) partial.now.places s.side s.value) }
+fn told_side(position: &Position, sides: &[Option<usize>]) -> Option<Setting>
+    requires { AreBelow (all_sides position.now.puzzle.now.size) sides.now }
+    ensures { IfSome result (λ s. IsForced (question_of Kind.Slither position.now.puzzle.now)
+        position.now.partial.now.places s.side s.value) }
 {
-    let size = puzzle.size();
+    let size = position.puzzle.size();
     for side in sides {
         if let Some(side) = *side {
-            if partial.get(side).is_none() {
+            if position.partial.get(side).is_none() {
                 let (first, second) = cells_by(size, side);
-                if let Some(differs) = colours.differ(first, second) {
+                if let Some(differs) = position.colours.differ(first, second) {
                     let value = if differs { 1 } else { 0 };
                     return Some(Setting { side, value });
                 }
@@ -182,31 +147,24 @@ fn told_side(
 }
 
 /// Sets what the count at a dot or a cell says; where it says nothing, one side that the colours tell.
-fn follow_centre(
-    puzzle: &Puzzle,
-    partial: &mut Partial,
-    colours: &mut Colours,
-    stack: &mut Vec<Centre>,
-    centre: Centre,
-) -> Result<Pass, AllocError>
-    requires kind { puzzle.now.kind ≡ Kind.Slither }
-    requires partial { IsPartial (question_of Kind.Slither puzzle.now) partial.old.places }
-    requires coloured { AreColoured puzzle.now partial.old.places colours.old }
-    requires centres { All (IsCentre puzzle.now.size) stack.old.items }
-    requires centre { IsCentre puzzle.now.size centre }
-    ensures followed { IsFollowed puzzle.now partial.old partial.new colours.new result }
-    ensures silent { IfOk result (λ pass. pass ≡ Pass.Settled → IsSilent puzzle.now partial.old.places centre) }
-    ensures still { IfOk result (λ pass. pass ≡ Pass.Settled → stack.new.items ≡ stack.old.items) }
-    ensures centres { OnOk result (All (IsCentre puzzle.now.size) stack.new.items) }
-    ensures work { OnOk result (work partial.new.places stack.new.items ≤ work partial.old.places stack.old.items) }
+fn follow_centre(position: &mut Position, centre: Centre) -> Result<Pass, AllocError>
+    requires { IsCentre position.old.puzzle.now.size centre }
+    ensures followed { IsFollowed position.old.puzzle.now position.old.partial.now position.new.partial.now result }
+    ensures same { IsSamePosition position.old position.new }
+    ensures silent { IfOk result (λ pass. pass ≡ Pass.Settled
+        → IsSilent position.old.puzzle.now position.old.partial.now.places centre) }
+    ensures still { IfOk result (λ pass. pass ≡ Pass.Settled
+        → position.new.stack.now.items ≡ position.old.stack.now.items) }
+    ensures work { OnOk result (work position.new.partial.now.places position.new.stack.now.items
+        ≤ work position.old.partial.now.places position.old.stack.now.items) }
 {
-    let sides = sides_round(puzzle.size(), centre);
-    match consequence_at(puzzle, partial, centre) {
-        Consequence::Nothing => match told_side(puzzle, partial, colours, &sides) {
+    let sides = sides_round(position.puzzle.size(), centre);
+    match consequence_at(position.puzzle, position.partial, centre) {
+        Consequence::Nothing => match told_side(position, &sides) {
             None => Ok(Pass::Settled),
-            Some(setting) => set_side(puzzle, partial, colours, stack, setting),
+            Some(setting) => set_side(position, setting),
         },
-        Consequence::AllBe(value) => set_open(puzzle, partial, colours, stack, &sides, value),
+        Consequence::AllBe(value) => set_open(position, &sides, value),
         Consequence::Impossible => Ok(Pass::Dead),
     }
 }
@@ -215,7 +173,7 @@ fn follow_centre(
 fn push_all(size: Size, stack: &mut Vec<Centre>) -> Result<(), AllocError>
     requires size { IsSize size }
     requires centres { All (IsCentre size) stack.old.items }
-    ensures centres { OnOk result (All (IsCentre size) stack.new.items) }
+    ensures centres { All (IsCentre size) stack.new.items }
     ensures all { OnOk result (HasAll size stack.new.items) }
 {
     for dot in 0..dot_count(size) {
@@ -229,23 +187,16 @@ fn push_all(size: Size, stack: &mut Vec<Centre>) -> Result<(), AllocError>
 
 /// Sets what the counts and the colours at the dots and cells of the stack say, until they say no more; that is all
 /// that any count says where all dots and cells are on the stack.
-pub(crate) fn follow_stack(
-    puzzle: &Puzzle,
-    partial: &mut Partial,
-    colours: &mut Colours,
-    stack: &mut Vec<Centre>,
-) -> Result<Pass, AllocError>
-    requires kind { puzzle.now.kind ≡ Kind.Slither }
-    requires partial { IsPartial (question_of Kind.Slither puzzle.now) partial.old.places }
-    requires coloured { AreColoured puzzle.now partial.old.places colours.old }
-    requires centres { All (IsCentre puzzle.now.size) stack.old.items }
-    ensures silent { HasAll puzzle.now.size stack.old.items
-        → IfOk result (λ pass. pass ≡ Pass.Settled → AreSilent puzzle.now partial.new.places) }
-    ensures followed { IsFollowed puzzle.now partial.old partial.new colours.new result }
+pub(crate) fn follow_stack(position: &mut Position) -> Result<Pass, AllocError>
+    ensures silent { HasAll position.old.puzzle.now.size position.old.stack.now.items
+        → IfOk result (λ pass. pass ≡ Pass.Settled
+        → AreSilent position.old.puzzle.now position.new.partial.now.places) }
+    ensures followed { IsFollowed position.old.puzzle.now position.old.partial.now position.new.partial.now result }
+    ensures same { IsSamePosition position.old position.new }
 {
     let mut pass = Pass::Settled;
-    while let Some(centre) = stack.pop() {
-        match follow_centre(puzzle, partial, colours, stack, centre)? {
+    while let Some(centre) = position.stack.pop() {
+        match follow_centre(position, centre)? {
             Pass::Settled => {}
             Pass::Advanced => pass = Pass::Advanced,
             Pass::Dead => return Ok(Pass::Dead),
@@ -255,21 +206,14 @@ pub(crate) fn follow_stack(
 }
 
 /// Sets what the counts and the colours at all dots and cells say, until they say no more.
-pub(crate) fn follow_all(
-    puzzle: &Puzzle,
-    partial: &mut Partial,
-    colours: &mut Colours,
-    stack: &mut Vec<Centre>,
-) -> Result<Pass, AllocError>
-    requires kind { puzzle.now.kind ≡ Kind.Slither }
-    requires partial { IsPartial (question_of Kind.Slither puzzle.now) partial.old.places }
-    requires coloured { AreColoured puzzle.now partial.old.places colours.old }
-    ensures silent { IfOk result (λ pass. pass ≡ Pass.Settled → AreSilent puzzle.now partial.new.places) }
-    ensures followed { IsFollowed puzzle.now partial.old partial.new colours.new result }
+pub(crate) fn follow_all(position: &mut Position) -> Result<Pass, AllocError>
+    ensures silent { IfOk result (λ pass. pass ≡ Pass.Settled
+        → AreSilent position.old.puzzle.now position.new.partial.now.places) }
+    ensures followed { IsFollowed position.old.puzzle.now position.old.partial.now position.new.partial.now result }
+    ensures same { IsSamePosition position.old position.new }
 {
-    stack.clear();
-    push_all(puzzle.size(), stack)?;
-    follow_stack(puzzle, partial, colours, stack)
+    push_all(position.puzzle.size(), position.stack)?;
+    follow_stack(position)
 }
 
 /// Learns anew what the sides that are set say of colours, and whether they contradict each other.

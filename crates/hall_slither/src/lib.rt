@@ -11,6 +11,7 @@ mod ends;
 mod follow;
 mod judge;
 mod lines;
+mod position;
 mod queue;
 mod rules;
 mod scratch;

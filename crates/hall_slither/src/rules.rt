@@ -1,7 +1,7 @@
 //! The rules of a Slitherlink puzzle, as a search asks them.
 ghost use Rattle.std.specs.Prelude.{◌≡◌, ◌<◌, IsTrue, IfOk, OnErr, Some, slice_set};
 ghost use Rattle.hall_grid.specs.declared.board.Kind.TheVariants.{Slither};
-ghost use Rattle.hall_solve.specs.Question.{IsPartial, IsOpen, IsHopeless, Narrows};
+ghost use Rattle.hall_solve.specs.Question.{IsPartial, IsOpen, Narrows};
 ghost use Rattle.hall_solve.specs.Deduction.{IsDeduced};
 ghost use Rattle.hall_solve.specs.Puzzle.{question_of, start_of, AllExtend};
 ghost use Rattle.hall_solve.specs.Trail.{Grows};
@@ -10,6 +10,7 @@ ghost use Rattle.hall_slither.specs.Count.{AreSilent};
 use crate::close::close_chains;
 use crate::follow::{follow_all, learn_all};
 use crate::judge::broken;
+use crate::position::Position;
 use crate::scratch::{Scratch, best_open, note_failure};
 use crate::trial::try_waiting;
 use hall_grid::{Filling, Kind, Puzzle};
@@ -67,12 +68,14 @@ fn deduce(
         Step::Live => {}
         Step::Dead => return Ok(Pass::Dead),
     }
-    match follow_all(
+    scratch.trial.stack.clear();
+    let mut position = Position {
         puzzle,
         partial,
-        &mut scratch.colours,
-        &mut scratch.trial.stack,
-    )? {
+        colours: &mut scratch.colours,
+        stack: &mut scratch.trial.stack,
+    };
+    match follow_all(&mut position)? {
         Pass::Settled => {}
         pass => return Ok(pass),
     }

@@ -11,6 +11,17 @@ use hall_grid::{Kind, Puzzle};
 use hall_solve::Partial;
 use std::alloc::{AllocError, Global};
 
+/// What is kept to find sides that would close a loop too early.
+#[derive(Drop)]
+pub(crate) struct Hints {
+    /// The loose ends of the chains of lines.
+    pub(crate) ends: LooseEnds,
+    /// The sides that were passed on the way along a chain.
+    pub(crate) passed: Vec<usize>,
+    /// The sides that would close a loop too early.
+    pub(crate) early: Vec<Setting>,
+}
+
 /// What a trial works in.
 #[derive(Drop)]
 pub(crate) struct Trial {
@@ -18,12 +29,7 @@ pub(crate) struct Trial {
     pub(crate) stack: Vec<Centre>,
     /// What is known of colours where the tried value stands.
     pub(crate) colours: Colours,
-    /// The loose ends of the chains of lines.
-    pub(crate) ends: LooseEnds,
-    /// The sides that were passed on the way along a chain.
-    pub(crate) passed: Vec<usize>,
-    /// The sides that would close a loop too early.
-    pub(crate) early: Vec<Setting>,
+    pub(crate) hints: Hints,
 }
 
 /// What a search works in.
@@ -59,9 +65,11 @@ impl Scratch {
             trial: Trial {
                 stack: Vec::new(alloc),
                 colours: Colours::new(alloc),
-                ends: LooseEnds::new(alloc, size)?,
-                passed: Vec::new(alloc),
-                early: Vec::new(alloc),
+                hints: Hints {
+                    ends: LooseEnds::new(alloc, size)?,
+                    passed: Vec::new(alloc),
+                    early: Vec::new(alloc),
+                },
             },
             with_line: Vec::new(alloc),
             without: Vec::new(alloc),

@@ -5,17 +5,16 @@ ghost use Rattle.hall_solve.specs.Question.{IsPartial, IsOpen};
 ghost use Rattle.hall_solve.specs.Puzzle.{question_of};
 ghost use Rattle.hall_solve.specs.Trail.{Grows};
 ghost use Rattle.hall_slither.specs.Colour.{AreColoured};
-ghost use Rattle.hall_slither.specs.Count.{IsCentre};
-ghost use Rattle.hall_slither.specs.Follow.{IsFollowed};
+ghost use Rattle.hall_slither.specs.Follow.{IsSamePosition, IsFollowed};
 ghost use Rattle.hall_slither.specs.Trial.{IsHeld, AreKnown, AreIn, IsStep, IsTried, step_after};
 
 use crate::close::close_chains;
 use crate::colour::Colours;
-use crate::count::Centre;
 use crate::early::find_early;
 use crate::ends::LooseEnds;
 use crate::follow::{follow_stack, set_and_learn, set_side};
-use crate::scratch::{Scratch, Trial};
+use crate::position::Position;
+use crate::scratch::{Hints, Scratch, Trial};
 use crate::setting::Setting;
 use hall_grid::{Kind, Puzzle};
 use hall_solve::{Mark, Partial, Pass, Step};
@@ -50,76 +49,50 @@ fn step_after(pass: Pass) -> Step
 }
 
 /// Sets an open side, and what follows from it.
-fn follow_side(
-    puzzle: &Puzzle,
-    partial: &mut Partial,
-    colours: &mut Colours,
-    stack: &mut Vec<Centre>,
-    setting: Setting,
-) -> Result<Step, AllocError>
-    requires kind { puzzle.now.kind ≡ Kind.Slither }
-    requires partial { IsPartial (question_of Kind.Slither puzzle.now) partial.old.places }
-    requires coloured { AreColoured puzzle.now partial.old.places colours.old }
-    requires side { IsOpen partial.old.places setting.side }
+fn follow_side(position: &mut Position, setting: Setting) -> Result<Step, AllocError>
+    requires side { IsOpen position.old.partial.now.places setting.side }
     requires value { setting.value < 2 }
-    ensures step { IfOk result (IsStep (question_of Kind.Slither puzzle.now)
-        (slice_set partial.old.places setting.side (Some setting.value)) partial.new.places) }
-    ensures grows { Grows partial.old partial.new }
-    ensures coloured { AreColoured puzzle.now partial.new.places colours.new }
+    ensures step { IfOk result (IsStep (question_of Kind.Slither position.old.puzzle.now)
+        (slice_set position.old.partial.now.places setting.side (Some setting.value)) position.new.partial.now.places) }
+    ensures grows { Grows position.old.partial.now position.new.partial.now }
+    ensures same { IsSamePosition position.old position.new }
 {
-    stack.clear();
-    match set_and_learn(puzzle, partial, colours, stack, setting)? {
+    match set_and_learn(position, setting)? {
         Step::Dead => Ok(Step::Dead),
         Step::Live => {
-            let pass = follow_stack(puzzle, partial, colours, stack)?;
+            let pass = follow_stack(position)?;
             Ok(step_after(pass))
         }
     }
 }
 
 /// Clears the sides that would close a loop too early with the lines since the mark, and sets what follows from that.
-fn clear_found(
-    puzzle: &Puzzle,
-    partial: &mut Partial,
-    trial: &mut Trial,
-    mark: Mark,
-) -> Result<Pass, AllocError>
-    requires kind { puzzle.now.kind ≡ Kind.Slither }
-    requires partial { IsPartial (question_of Kind.Slither puzzle.now) partial.old.places }
-    requires coloured { AreColoured puzzle.now partial.old.places trial.old.colours }
-    requires mark { mark ≤ length partial.old.trail }
-    ensures followed { IsFollowed puzzle.now partial.old partial.new trial.new.colours result }
+fn clear_found(position: &mut Position, hints: &mut Hints, mark: Mark) -> Result<Pass, AllocError>
+    requires { mark ≤ length position.old.partial.now.trail }
+    ensures followed { IsFollowed position.old.puzzle.now position.old.partial.now position.new.partial.now result }
+    ensures same { IsSamePosition position.old position.new }
 {
-    let Trial {
-        stack,
-        colours,
+    let Hints {
         ends,
         passed,
         early,
-    } = trial;
-    join_since(puzzle, partial, mark, ends);
-    let found = find_early(puzzle, partial, ends, passed, early);
+    } = hints;
+    join_since(position.puzzle, position.partial, mark, ends);
+    let found = find_early(position.puzzle, position.partial, ends, passed, early);
     ends.undo();
     found?;
-    set_and_follow(puzzle, partial, colours, stack, early)
+    set_and_follow(position, early)
 }
 
 /// The same, until there is no such side.
-fn clear_early(
-    puzzle: &Puzzle,
-    partial: &mut Partial,
-    trial: &mut Trial,
-    mark: Mark,
-) -> Result<Pass, AllocError>
-    requires kind { puzzle.now.kind ≡ Kind.Slither }
-    requires partial { IsPartial (question_of Kind.Slither puzzle.now) partial.old.places }
-    requires coloured { AreColoured puzzle.now partial.old.places trial.old.colours }
-    requires mark { mark ≤ length partial.old.trail }
-    ensures followed { IsFollowed puzzle.now partial.old partial.new trial.new.colours result }
+fn clear_early(position: &mut Position, hints: &mut Hints, mark: Mark) -> Result<Pass, AllocError>
+    requires { mark ≤ length position.old.partial.now.trail }
+    ensures followed { IsFollowed position.old.puzzle.now position.old.partial.now position.new.partial.now result }
+    ensures same { IsSamePosition position.old position.new }
 {
     let mut pass = Pass::Settled;
     for _ in 0..u64::MAX {
-        match clear_found(puzzle, partial, trial, mark)? {
+        match clear_found(position, hints, mark)? {
             Pass::Settled => return Ok(pass),
             Pass::Advanced => pass = Pass::Advanced,
             Pass::Dead => return Ok(Pass::Dead),
@@ -128,34 +101,30 @@ fn clear_early(
     Ok(pass)
 }
 
-/// What follows from loops that the lines since the mark would close, or have closed.
-fn follow_loop(
-    alloc: Global,
-    puzzle: &Puzzle,
-    partial: &mut Partial,
-    trial: &mut Trial,
-    mark: Mark,
+/// Sets an open side, what follows from it, and what follows from loops that its lines would close.
+fn follow_early(
+    position: &mut Position,
+    hints: &mut Hints,
+    setting: Setting,
 ) -> Result<Step, AllocError>
-    requires kind { puzzle.now.kind ≡ Kind.Slither }
-    requires partial { IsPartial (question_of Kind.Slither puzzle.now) partial.old.places }
-    requires coloured { AreColoured puzzle.now partial.old.places trial.old.colours }
-    requires mark { mark ≤ length partial.old.trail }
-    ensures step { IfOk result
-        (IsStep (question_of Kind.Slither puzzle.now) partial.old.places partial.new.places) }
-    ensures grows { Grows partial.old partial.new }
+    requires side { IsOpen position.old.partial.now.places setting.side }
+    requires value { setting.value < 2 }
+    ensures step { IfOk result (IsStep (question_of Kind.Slither position.old.puzzle.now)
+        (slice_set position.old.partial.now.places setting.side (Some setting.value)) position.new.partial.now.places) }
+    ensures grows { Grows position.old.partial.now position.new.partial.now }
+    ensures same { IsSamePosition position.old position.new }
 {
-    match clear_early(puzzle, partial, trial, mark)? {
-        Pass::Settled | Pass::Advanced => {}
-        Pass::Dead => return Ok(Step::Dead),
+    let mark = position.partial.mark();
+    match follow_side(position, setting)? {
+        Step::Dead => Ok(Step::Dead),
+        Step::Live => {
+            let pass = clear_early(position, hints, mark)?;
+            Ok(step_after(pass))
+        }
     }
-    if !trial.ends.closed {
-        return Ok(Step::Live);
-    }
-    let pass = close_chains(alloc, puzzle, partial)?;
-    Ok(step_after(pass))
 }
 
-/// Sets an open side and what follows from it, also from loops.
+/// Sets an open side and what follows from it, also from loops that its lines have closed.
 fn follow_value(
     alloc: Global,
     puzzle: &Puzzle,
@@ -172,17 +141,27 @@ fn follow_value(
         (slice_set partial.old.places setting.side (Some setting.value)) partial.new.places) }
     ensures grows { Grows partial.old partial.new }
 {
-    let mark = partial.mark();
-    match follow_side(
+    let Trial {
+        stack,
+        colours,
+        hints,
+    } = trial;
+    stack.clear();
+    let mut position = Position {
         puzzle,
         partial,
-        &mut trial.colours,
-        &mut trial.stack,
-        setting,
-    )? {
-        Step::Dead => Ok(Step::Dead),
-        Step::Live => follow_loop(alloc, puzzle, partial, trial, mark),
+        colours,
+        stack,
+    };
+    match follow_early(&mut position, hints, setting)? {
+        Step::Dead => return Ok(Step::Dead),
+        Step::Live => {}
     }
+    if !hints.ends.closed {
+        return Ok(Step::Live);
+    }
+    let pass = close_chains(alloc, puzzle, partial)?;
+    Ok(step_after(pass))
 }
 
 /// The settings since the mark.
@@ -316,26 +295,23 @@ fn rate(scores: &mut [usize], side: usize, with_line: usize, without: usize) {
     }
 }
 
+/// Whether the side is open.
+fn is_open_in(position: &Position, side: usize) -> bool
+    ensures { IsTrue result → IsOpen position.now.partial.now.places side }
+{
+    side < position.partial.len() && position.partial.get(side).is_none()
+}
+
 /// Sets those that are open, and puts the dots and cells at them onto the stack.
-fn set_known(
-    puzzle: &Puzzle,
-    partial: &mut Partial,
-    colours: &mut Colours,
-    stack: &mut Vec<Centre>,
-    known: &[Setting],
-) -> Result<Pass, AllocError>
-    requires kind { puzzle.now.kind ≡ Kind.Slither }
-    requires partial { IsPartial (question_of Kind.Slither puzzle.now) partial.old.places }
-    requires coloured { AreColoured puzzle.now partial.old.places colours.old }
-    requires centres { All (IsCentre puzzle.now.size) stack.old.items }
-    requires known { AreKnown (question_of Kind.Slither puzzle.now) partial.old.places known.now }
-    ensures followed { IsFollowed puzzle.now partial.old partial.new colours.new result }
-    ensures centres { OnOk result (All (IsCentre puzzle.now.size) stack.new.items) }
+fn set_known(position: &mut Position, known: &[Setting]) -> Result<Pass, AllocError>
+    requires { AreKnown (question_of Kind.Slither position.old.puzzle.now) position.old.partial.now.places known.now }
+    ensures followed { IsFollowed position.old.puzzle.now position.old.partial.now position.new.partial.now result }
+    ensures same { IsSamePosition position.old position.new }
 {
     let mut pass = Pass::Settled;
     for setting in known {
-        if setting.side < partial.len() && partial.get(setting.side).is_none() {
-            match set_side(puzzle, partial, colours, stack, *setting)? {
+        if is_open_in(position, setting.side) {
+            match set_side(position, *setting)? {
                 Pass::Dead => return Ok(Pass::Dead),
                 Pass::Settled | Pass::Advanced => pass = Pass::Advanced,
             }
@@ -345,26 +321,18 @@ fn set_known(
 }
 
 /// Sets what is known and open, and what follows from that.
-fn set_and_follow(
-    puzzle: &Puzzle,
-    partial: &mut Partial,
-    colours: &mut Colours,
-    stack: &mut Vec<Centre>,
-    known: &[Setting],
-) -> Result<Pass, AllocError>
-    requires kind { puzzle.now.kind ≡ Kind.Slither }
-    requires partial { IsPartial (question_of Kind.Slither puzzle.now) partial.old.places }
-    requires coloured { AreColoured puzzle.now partial.old.places colours.old }
-    requires known { AreKnown (question_of Kind.Slither puzzle.now) partial.old.places known.now }
-    ensures followed { IsFollowed puzzle.now partial.old partial.new colours.new result }
+fn set_and_follow(position: &mut Position, known: &[Setting]) -> Result<Pass, AllocError>
+    requires { AreKnown (question_of Kind.Slither position.old.puzzle.now) position.old.partial.now.places known.now }
+    ensures followed { IsFollowed position.old.puzzle.now position.old.partial.now position.new.partial.now result }
+    ensures same { IsSamePosition position.old position.new }
 {
-    stack.clear();
-    match set_known(puzzle, partial, colours, stack, known)? {
+    position.stack.clear();
+    match set_known(position, known)? {
         Pass::Settled => return Ok(Pass::Settled),
         Pass::Dead => return Ok(Pass::Dead),
         Pass::Advanced => {}
     }
-    match follow_stack(puzzle, partial, colours, stack)? {
+    match follow_stack(position)? {
         Pass::Dead => Ok(Pass::Dead),
         Pass::Settled | Pass::Advanced => Ok(Pass::Advanced),
     }
@@ -383,7 +351,8 @@ fn try_side(
     requires partial { IsPartial (question_of Kind.Slither puzzle.now) partial.old.places }
     requires coloured { AreColoured puzzle.now partial.old.places scratch.old.colours }
     requires side { side < length partial.old.places }
-    ensures followed { IsFollowed puzzle.now partial.old partial.new scratch.new.colours result }
+    ensures followed { IsFollowed puzzle.now partial.old partial.new result }
+    ensures coloured { AreColoured puzzle.now partial.new.places scratch.new.colours }
 {
     if partial.get(side).is_some() {
         return Ok(Pass::Settled);
@@ -397,10 +366,17 @@ fn try_side(
         queue,
         ..
     } = scratch;
-    let pass = set_and_follow(puzzle, partial, colours, &mut trial.stack, known)?;
+    trial.stack.clear();
+    let mut position = Position {
+        puzzle,
+        partial,
+        colours,
+        stack: &mut trial.stack,
+    };
+    let pass = set_and_follow(&mut position, known)?;
     queue.put_beside_all(puzzle.size(), partial.since(mark));
-    join_since(puzzle, partial, mark, &mut trial.ends);
-    trial.ends.keep();
+    join_since(puzzle, partial, mark, &mut trial.hints.ends);
+    trial.hints.ends.keep();
     Ok(pass)
 }
 
@@ -414,9 +390,10 @@ pub(crate) fn try_waiting(
     requires kind { puzzle.now.kind ≡ Kind.Slither }
     requires partial { IsPartial (question_of Kind.Slither puzzle.now) partial.old.places }
     requires coloured { AreColoured puzzle.now partial.old.places scratch.old.colours }
-    ensures followed { IsFollowed puzzle.now partial.old partial.new scratch.new.colours result }
+    ensures followed { IsFollowed puzzle.now partial.old partial.new result }
+    ensures coloured { AreColoured puzzle.now partial.new.places scratch.new.colours }
 {
-    scratch.trial.ends.start_over(puzzle.size(), partial);
+    scratch.trial.hints.ends.start_over(puzzle.size(), partial);
     let mut pass = Pass::Settled;
     for _ in 0..u64::MAX {
         let Some(side) = scratch.queue.take() else {

@@ -219,10 +219,16 @@ fn advances_until_settled(rt: HostRuntime) -> Result<(), Fail> {
     );
     assert_eq!(rt; board.get(0), Some(0));
     assert_eq!(rt; sweep(rt.alloc(), &rules.below, &mut board)?, Pass::Settled);
-    assert_eq!(rt; settle(rt.alloc(), &rules.below, &mut board, &mut ())?, Step::Live);
+    assert_eq!(rt;
+        settle(rt.alloc(), &rules.below, &mut board, &mut ())?,
+        Step::Live
+    );
     assert_eq!(rt; rules.branch_place(&board), Some(1));
     let none = make_kind(2, 3, 0, true);
     let mut other = Partial::new(rt.alloc(), 2)?;
-    assert_eq!(rt; settle(rt.alloc(), &none.below, &mut other, &mut ())?, Step::Dead);
+    assert_eq!(rt;
+        settle(rt.alloc(), &none.below, &mut other, &mut ())?,
+        Step::Dead
+    );
     Ok(())
 }

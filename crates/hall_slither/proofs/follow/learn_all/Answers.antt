@@ -1,6 +1,4 @@
 use Rattle.std.proofs.lemmas.Result.{IfOk-from_err}
-use Rattle.std.proofs.Common.{◌≡◌, ◌+◌, ◌∙◌, length, ap}
-use Rattle.hall_grid.specs.Board.{cells}
 use Rattle.hall_slither.proofs.AreColoured.{AreColoured-free}
 use Rattle.hall_slither.proofs.follow.learn_all.Goals as goal
 

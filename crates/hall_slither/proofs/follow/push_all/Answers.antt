@@ -52,14 +52,8 @@ pub returns-clause-all : goal.returns-clause-all
 returns-clause-all c =
     HasAll-from c.args.size c.loop-cell.stack.items c.loop-cell.invariant.dots_in (λ k low. c.loop-cell.invariant.cells_in k (omega arith))
 
-pub returns-in_err-push-clause-centres : goal.returns-in_err-push-clause-centres
-returns-in_err-push-clause-centres c = IfOk-from_err c.from_residual.result _ c.from_residual.ensures.0
-
 pub returns-in_err-push-clause-all : goal.returns-in_err-push-clause-all
 returns-in_err-push-clause-all c = IfOk-from_err c.from_residual.result _ c.from_residual.ensures.0
-
-pub returns-in_err-push-2-clause-centres : goal.returns-in_err-push-2-clause-centres
-returns-in_err-push-2-clause-centres c = IfOk-from_err c.from_residual-in_err-push-2.result _ c.from_residual-in_err-push-2.ensures.0
 
 pub returns-in_err-push-2-clause-all : goal.returns-in_err-push-2-clause-all
 returns-in_err-push-2-clause-all c = IfOk-from_err c.from_residual-in_err-push-2.result _ c.from_residual-in_err-push-2.ensures.0

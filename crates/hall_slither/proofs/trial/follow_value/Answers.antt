@@ -1,29 +1,39 @@
 use Rattle.std.proofs.lemmas.Result.{IfOk-from_err}
-use Rattle.std.proofs.Common.{Some, set, subst}
-use Rattle.std.specs.Prelude.{Result, Ok, Err, IfOk, List, Option, ℕ}
-use Rattle.hall_solve.specs.declared.rules.Step.{Step}
-use Rattle.hall_solve.specs.Question.{Question, Narrows}
-use Rattle.hall_solve.proofs.Trails.{Grows-twice}
-use Rattle.hall_solve.specs.Puzzle.{question_of}
+use Rattle.std.proofs.Common.{◌≡◌, ℕ, List, Option, Some, set, subst, rules}
 use Rattle.hall_grid.specs.declared.board.Kind.TheVariants.{Slither}
-use Rattle.hall_slither.specs.Trial.{IsStep}
-use Rattle.hall_slither.proofs.Trials.{IsStep-twice}
+use Rattle.hall_solve.specs.Question.{Question, Narrows}
+use Rattle.hall_solve.specs.Deduction.{IsDeduced}
+use Rattle.hall_solve.specs.declared.deduce.Pass.{Pass}
+use Rattle.hall_solve.specs.Puzzle.{question_of}
+use Rattle.hall_solve.specs.declared.rules.Step.{Step}
+use Rattle.hall_slither.specs.Trial.{IsStep, step_after}
+use Rattle.hall_slither.proofs.IsFollowed.{Grows-lent}
+use Rattle.hall_slither.proofs.Trials.{IsStep-deduced, IsStep-twice}
 use Rattle.hall_slither.proofs.trial.follow_value.Goals as goal
 
-after : {E : Type 0} (q : Question) (a b c : List (Option ℕ)) (r : Result Step E) → Narrows q a b → IfOk r (IsStep q b c) → IfOk r (IsStep q a c)
-after q a b c (Ok step) n h = IsStep-twice q a b c step n h
-after q a b c (Err x) n h = tt
+step_after_pass : (q : Question) (start there x after : List (Option ℕ)) (pass : Pass) (step : Step) → Narrows q start there
+    → step ≡ step_after pass → IsDeduced q x after pass → x ≡ there → IsStep q start after step
+step_after_pass q start there x after pass step narrows e deduced same =
+    IsStep-twice q start there after step narrows (IsStep-deduced q there after pass step narrows.partial e (subst (λ p. IsDeduced q p after pass) same deduced))
 
-pub returns-in-Live-clause-step : goal.returns-in-Live-clause-step
-returns-in-Live-clause-step c =
-    after (question_of Slither c.args.puzzle.now) (set c.args.partial.now.places c.args.setting.side (Some c.args.setting.value))
-    c.follow_side.new.partial.places c.follow_loop.new.partial.places c.follow_loop.result
-    (subst (λ x. IsStep (question_of Slither c.args.puzzle.now) (set c.args.partial.now.places c.args.setting.side (Some c.args.setting.value)) c.follow_side.new.partial.places x)
-    c.in-Live.is c.in_ok-follow_side.ensures.step) c.follow_loop.ensures.step
+pub returns-clause-step : goal.returns-clause-step
+returns-clause-step c =
+    let q = question_of Slither c.args.puzzle.now in
+    let start = set c.args.partial.now.places c.args.setting.side (Some c.args.setting.value) in
+    let there = c.follow_early.new.position.partial.now in
+    let narrows : Narrows q start there.places = subst (λ (x : Step). IsStep q start there.places x) c.in-Live.is c.in_ok-follow_early.ensures.step in
+    step_after_pass q start there.places _ c.close_chains.new.partial.places c.in_ok-pass.pass c.step_after.result narrows c.step_after.ensures c.in_ok-pass.ensures.deduced (search rules)
 
-pub returns-in-Live-clause-grows : goal.returns-in-Live-clause-grows
-returns-in-Live-clause-grows c =
-    Grows-twice c.args.partial.now c.follow_side.new.partial c.follow_loop.new.partial c.follow_side.ensures.grows c.follow_loop.ensures.grows
+pub returns-clause-grows : goal.returns-clause-grows
+returns-clause-grows c =
+    Grows-lent c.args.partial.now c.follow_early.new.position.partial.now _ c.close_chains.new.partial c.follow_early.ensures.grows c.close_chains.ensures.grows (search rules)
 
-pub returns-in_err-follow_side-clause-step : goal.returns-in_err-follow_side-clause-step
-returns-in_err-follow_side-clause-step c = IfOk-from_err c.from_residual.result _ c.from_residual.ensures.0
+pub returns-in_err-pass-clause-grows : goal.returns-in_err-pass-clause-grows
+returns-in_err-pass-clause-grows c =
+    Grows-lent c.args.partial.now c.follow_early.new.position.partial.now _ c.close_chains.new.partial c.follow_early.ensures.grows c.close_chains.ensures.grows (search rules)
+
+pub returns-in_err-pass-clause-step : goal.returns-in_err-pass-clause-step
+returns-in_err-pass-clause-step c = IfOk-from_err c.from_residual-in_err-pass.result _ c.from_residual-in_err-pass.ensures.0
+
+pub returns-in_err-follow_early-clause-step : goal.returns-in_err-follow_early-clause-step
+returns-in_err-follow_early-clause-step c = IfOk-from_err c.from_residual.result _ c.from_residual.ensures.0

@@ -1,5 +1,5 @@
 use Rattle.std.proofs.Common.{◌≡◌, ◌∙◌, ℕ, Bool, sym, ap, subst}
-use Rattle.hall_slither.specs.Colour.{turned, Obeys, AreTurned}
+use Rattle.hall_slither.specs.Colour.{turned, AreTurned}
 use Rattle.hall_slither.proofs.Turned.{AreTurned-twice, AreTurned-back, unlike_itself}
 use Rattle.hall_slither.proofs.colour.Colours.learn.Goals as goal
 
