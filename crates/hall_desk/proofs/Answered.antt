@@ -46,12 +46,12 @@ module _ (world later : World) (remains : Remains world later) (t u : ℕ) (key 
     none_before,
   )
 
-  module _ (first : Reply) (told : first ≡ reply.Received row.n (told_verdict round row.verdict)) where
+  module _ (first : Reply) (told : first ≡ reply.Submit row.n (told_verdict round row.verdict)) where
     -- the first reply is still that of the row: its round's mode is the same
     replies_again : FirstReply later (caller_of later key) (action.Submit id number token again) first
     replies_again =
         let now = remains.rounds id round found (was_released world later remains (caller_of later key) t u id number token answer again round found none) in
-        (person, is, (now.after, row, now.found, stands, told ∙ ap (reply.Received row.n) (same_told round now.after row.verdict (ap (λ (x : Round). x.mode) (sym now.same)))))
+        (person, is, (now.after, row, now.found, stands, told ∙ ap (reply.Submit row.n) (same_told round now.after row.verdict (ap (λ (x : Round). x.mode) (sym now.same)))))
 
     -- so there is a step that answers it
     answers_again : (answer ≡ again → Step later u (record { key = key; action = action.Submit id number token again }) first later)
@@ -63,8 +63,8 @@ pub retries_are_answered : RetriesAreAnswered
 retries_are_answered world kept later t u key id number token answer again n told events first life =
     let h = accepted world kept t key id number token answer n told first in
     let between : Remains kept later = records_stay kept later events life in
-    let remains : Remains world later = remains_on world kept later (step_remains world t (record { key = key; action = action.Submit id number token answer }) (reply.Received n told) kept first) between in
+    let remains : Remains world later = remains_on world kept later (step_remains world t (record { key = key; action = action.Submit id number token answer }) (reply.Submit n told) kept first) between in
     let same : caller_of later key ≡ caller_of world key = same_caller world later key h.person remains h.is in
     answers_again world later remains t u key id number token answer again h.round h.found
     (subst (λ (c : Option Person). NoneBelow 6 world c (action.Submit id number token answer) t) (sym same) h.none)
-    h.person (same ∙ h.is) h.row (between.answers _ h.row h.stands) h.text (reply.Received n told) h.told
+    h.person (same ∙ h.is) h.row (between.answers _ h.row h.stands) h.text (reply.Submit n told) h.told

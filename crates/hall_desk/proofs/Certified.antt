@@ -67,7 +67,7 @@ module _ (world other : World) (puzzles : world.puzzles ≡ other.puzzles) (call
   by_decision Allow found given answered next after (row, at, inl p) (twin, there, inl q) = p.told ∙ sym q.told
   by_decision Allow found given answered next after (row, at, inr p) (twin, there, inr q) =
       let rows : row ≡ twin = one_row (get other.puzzles key) row twin (ap (λ (m : FinMap puzzle_cmp PuzzleRow). get m key) (sym puzzles) ∙ at) there in
-      p.told ∙ ap (λ (r : PuzzleRow). reply.Certified (state_name r.state)) rows ∙ sym q.told
+      p.told ∙ ap (λ (r : PuzzleRow). reply.Certify (state_name r.state)) rows ∙ sym q.told
   by_decision Allow found given answered next after (row, at, inl p) (twin, there, inr q) =
       let rows : row ≡ twin = one_row (get other.puzzles key) row twin (ap (λ (m : FinMap puzzle_cmp PuzzleRow). get m key) (sym puzzles) ∙ at) there in
       absurd (false≢true (sym q.settled ∙ ap (λ (r : PuzzleRow). is_open r.state) (sym rows) ∙ p.unsettled))

@@ -30,7 +30,7 @@ use Rattle.hall_desk.specs.Plans.{IsPlanFor, IsAllowedPlan, IsMadePlan, HasNothi
 use Rattle.hall_desk.specs.declared.planned.Plan.{Plan}
 use Rattle.hall_solve.specs.declared.searched.Visits.{Visits}
 use Rattle.hall_desk.specs.declared.reply.Reply.{Reply}
-use Rattle.hall_desk.specs.declared.reply.Reply.TheVariants.{PuzzlePut, Published, Released, AnswerList}
+use Rattle.hall_desk.specs.declared.reply.Reply.TheVariants as reply
 use Rattle.hall_desk.specs.declared.reply.AnswerLine.{AnswerLine}
 use Rattle.hall_desk.specs.Shown.{sees_all, shows_verdict, answer_line}
 use Rattle.hall_desk.specs.Lines.{AreLinesOf}
@@ -67,10 +67,10 @@ planned facts world t request decision given change visits caller is outcome dec
 pub put_new : (world : World) (facts : Facts) (t : ℕ) (key copied_key : PuzzleKey) (puzzle copied : Board) (text : List ℕ) →
     copied_key ≡ key → copied ≡ puzzle → CanonicalText text puzzle → TrueUpTo 20 facts world (action.PutPuzzle key puzzle) → IsTrue facts.author_is_there →
     ((row : PuzzleRow) → facts.puzzle ≡ Some row → row.puzzle ≢ puzzle) →
-    IsAllowedPlan world facts.caller (action.PutPuzzle key puzzle) t (record { reply = PuzzlePut name.New text; change = change.PutPuzzle (record { key = copied_key; puzzle = copied; state = state.New }); visits = None })
+    IsAllowedPlan world facts.caller (action.PutPuzzle key puzzle) t (record { reply = reply.PutPuzzle name.New text; change = change.PutPuzzle (record { key = copied_key; puzzle = copied; state = state.New }); visits = None })
 put_new world facts t key copied_key puzzle copied text same_key same_puzzle canonical told there differ =
-    subst (λ (k : PuzzleKey). TrueUpTo 20 facts world (action.PutPuzzle key puzzle) → IsAllowedPlan world facts.caller (action.PutPuzzle key puzzle) t (record { reply = PuzzlePut name.New text; change = change.PutPuzzle (record { key = k; puzzle = copied; state = state.New }); visits = None })) (sym same_key)
-    (subst (λ (p : Board). TrueUpTo 20 facts world (action.PutPuzzle key puzzle) → IsAllowedPlan world facts.caller (action.PutPuzzle key puzzle) t (record { reply = PuzzlePut name.New text; change = change.PutPuzzle (record { key = key; puzzle = p; state = state.New }); visits = None })) (sym same_puzzle)
+    subst (λ (k : PuzzleKey). TrueUpTo 20 facts world (action.PutPuzzle key puzzle) → IsAllowedPlan world facts.caller (action.PutPuzzle key puzzle) t (record { reply = reply.PutPuzzle name.New text; change = change.PutPuzzle (record { key = k; puzzle = copied; state = state.New }); visits = None })) (sym same_key)
+    (subst (λ (p : Board). TrueUpTo 20 facts world (action.PutPuzzle key puzzle) → IsAllowedPlan world facts.caller (action.PutPuzzle key puzzle) t (record { reply = reply.PutPuzzle name.New text; change = change.PutPuzzle (record { key = key; puzzle = p; state = state.New }); visits = None })) (sym same_puzzle)
     (λ all. record {
       allowed = λ found. (text, canonical, inr ((λ row kept. differ row (all.1.1.1.1.1.0.0 ∙ kept)), refl, refl));
       can = let author = all.1.1.1.0.0 there in (author.0, author.1);
@@ -126,10 +126,10 @@ flags_same world caller asked t says set id shown kept same_shown same_kept plan
 -- the plan of a round that is released
 pub released : (world : World) (facts : Facts) (t : ℕ) (id shown kept : List ℕ) (row : RoundRow) →
     shown ≡ id → kept ≡ id → TrueUpTo 20 facts world (action.Release id) → facts.round ≡ Some row →
-    IsAllowedPlan world facts.caller (action.Release id) t (record { reply = Released shown; change = change.SetRoundFlag kept flag.Released; visits = None })
+    IsAllowedPlan world facts.caller (action.Release id) t (record { reply = reply.Release shown; change = change.SetRoundFlag kept flag.Released; visits = None })
 released world facts t id shown kept row same_shown same_kept told seen =
     let at : IsRoundAt world id row = subst (λ (o : Option RoundRow). IsRoundFound world (Some id) o) seen told.1.1.0 in
-    flags_same world facts.caller (action.Release id) t Released flag.Released id shown kept same_shown same_kept (record {
+    flags_same world facts.caller (action.Release id) t reply.Release flag.Released id shown kept same_shown same_kept (record {
       allowed = λ found. (row.round, at.head, refl, ap (with_flag world id flag.Released) at.head);
       can = (row.round, at.head);
       quiet = λ nothing. absurd nothing;
@@ -139,10 +139,10 @@ released world facts t id shown kept row same_shown same_kept told seen =
 -- the plan of a round that is published
 pub published : (world : World) (facts : Facts) (t : ℕ) (id shown kept : List ℕ) (row : RoundRow) →
     shown ≡ id → kept ≡ id → TrueUpTo 20 facts world (action.Publish id) → facts.round ≡ Some row →
-    IsAllowedPlan world facts.caller (action.Publish id) t (record { reply = Published shown; change = change.SetRoundFlag kept flag.Published; visits = None })
+    IsAllowedPlan world facts.caller (action.Publish id) t (record { reply = reply.Publish shown; change = change.SetRoundFlag kept flag.Published; visits = None })
 published world facts t id shown kept row same_shown same_kept told seen =
     let at : IsRoundAt world id row = subst (λ (o : Option RoundRow). IsRoundFound world (Some id) o) seen told.1.1.0 in
-    flags_same world facts.caller (action.Publish id) t Published flag.Published id shown kept same_shown same_kept (record {
+    flags_same world facts.caller (action.Publish id) t reply.Publish flag.Published id shown kept same_shown same_kept (record {
       allowed = λ found. (row.round, at.head, refl, ap (with_flag world id flag.Published) at.head);
       can = (row.round, at.head);
       quiet = λ nothing. absurd nothing;
@@ -163,7 +163,7 @@ pub listing_plan : (world : World) (facts : Facts) (id : List ℕ) (t : ℕ) (pe
     TrueUpTo 20 facts world (action.Answers id) → facts.caller ≡ Some person → facts.round ≡ Some row →
     all ≡ sees_all person row.round t → shows ≡ shows_verdict person row.round t →
     AreLinesOf world (λ answer. same_text answer.key.round id && (all || same_text answer.key.entrant person.name)) shows lines →
-    plan ≡ record { reply = AnswerList lines; change = Nothing; visits = None } → IsMadePlan world facts.caller (action.Answers id) t plan
+    plan ≡ record { reply = reply.Answers lines; change = Nothing; visits = None } → IsMadePlan world facts.caller (action.Answers id) t plan
 listing_plan world facts id t person row all shows lines plan told caller found same_all same listed is =
     let at : IsRoundAt world id row = subst (λ (o : Option RoundRow). IsRoundFound world (Some id) o) found told.1.1.0 in
     let rows : List AnswerRow = listed.0 in
@@ -178,7 +178,7 @@ listing_plan world facts id t person row all shows lines plan told caller found 
             rows,
             at.head,
             subst (λ (a : Bool). IsListing world (λ answer. same_text answer.key.round id && (a || same_text answer.key.entrant person.name)) rows) same_all listed.1,
-            ap AnswerList (listed.2 ∙ ap (λ (s : Bool). map (answer_line s) rows) same),
+            ap reply.Answers (listed.2 ∙ ap (λ (s : Bool). map (answer_line s) rows) same),
           ),
           refl,
         ),

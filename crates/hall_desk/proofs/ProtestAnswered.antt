@@ -70,7 +70,7 @@ module _ (world later : World) (remains : Remains world later) (t u : ℕ) (key 
 
   -- so there is a step that answers it
   answers_again : let again : Request = record { key = key; action = action.Protest id token again_number again_text } in
-      (IsAgain number text again_number again_text → Step later u again (reply.Protested token) later)
+      (IsAgain number text again_number again_text → Step later u again (reply.Protest token) later)
       × (place_of later id again_number ≡ None → Step later u again (reply.Denied 4) later)
       × (¬ (IsAgain number text again_number again_text) → place_of later id again_number ≢ None → Step later u again (reply.Denied 6) later)
   answers_again = (
@@ -84,7 +84,7 @@ pub protest_retries_are_answered : ProtestRetriesAreAnswered
 protest_retries_are_answered world kept later t u key id token number text again_number again_text events first life =
     let h = accepted world kept t key id token number text first in
     let between : Remains kept later = records_stay kept later events life in
-    let remains : Remains world later = remains_on world kept later (step_remains world t (record { key = key; action = action.Protest id token number text }) (reply.Protested token) kept first) between in
+    let remains : Remains world later = remains_on world kept later (step_remains world t (record { key = key; action = action.Protest id token number text }) (reply.Protest token) kept first) between in
     let same : caller_of later key ≡ caller_of world key = same_caller world later key h.person remains h.is in
     let stays = between.protests (record { entrant = h.person.name; round = id; token = token }) h.row h.stands in
     answers_again world later remains t u key id token number text again_number again_text

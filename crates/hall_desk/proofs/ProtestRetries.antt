@@ -45,7 +45,7 @@ repeats_at_six world caller id token number text _ h = absurd h.1
 
 -- a protest is accepted by a step that stores it, or finds it stored
 pub accepted : (world kept : World) (t : ℕ) (key : Option (List ℕ)) (id token : List ℕ) (number : ℕ) (text : List ℕ) →
-    Step world t (record { key = key; action = action.Protest id token number text }) (reply.Protested token) kept →
+    Step world t (record { key = key; action = action.Protest id token number text }) (reply.Protest token) kept →
     IsAcceptedProtest world kept t (caller_of world key) id token number text
 accepted world kept t key id token number text (inl (other, left)) = absurd (cc)
 accepted world kept t key id token number text (inr (found, (Deny k, first, (other, left)))) = absurd (cc)
@@ -193,14 +193,14 @@ module _ (world later : World) (remains : Remains world later) (caller : Option 
 
 -- a retry of an accepted protest changes nothing, and is answered as one
 protests_stay : (world kept later : World) (t : ℕ) (key : Option (List ℕ)) (id token : List ℕ) (number : ℕ) (text : List ℕ) →
-    Step world t (record { key = key; action = action.Protest id token number text }) (reply.Protested token) kept → Remains kept later →
+    Step world t (record { key = key; action = action.Protest id token number text }) (reply.Protest token) kept → Remains kept later →
     (u again_number : ℕ) (again_text : List ℕ) (given : Reply) (new : World) →
     Step later u (record { key = key; action = action.Protest id token again_number again_text }) given new →
     (new ≡ later) × IsProtestRetryOf later id token number text again_number again_text given
 protests_stay world kept later t key id token number text first between u again_number again_text given new (inl (says, left)) = (left, inl says)
 protests_stay world kept later t key id token number text first between u again_number again_text given new (inr (found, (decision, decides, decided))) =
     let h = accepted world kept t key id token number text first in
-    let remains : Remains world later = remains_on world kept later (step_remains world t (record { key = key; action = action.Protest id token number text }) (reply.Protested token) kept first) between in
+    let remains : Remains world later = remains_on world kept later (step_remains world t (record { key = key; action = action.Protest id token number text }) (reply.Protest token) kept first) between in
     let same : caller_of later key ≡ caller_of world key = same_caller world later key h.person remains h.is in
     let stays = between.protests (record { entrant = h.person.name; round = id; token = token }) h.row h.stands in
     retried world later remains (caller_of later key) t u id token number text again_number again_text

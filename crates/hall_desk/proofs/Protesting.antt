@@ -14,13 +14,13 @@ use Rattle.hall_desk.specs.Found.{IsThere}
 use Rattle.hall_desk.specs.Handler.{protest_action, protest_row}
 use Rattle.hall_desk.specs.Plans.{IsMadePlan}
 use Rattle.hall_desk.specs.declared.planned.Plan.{Plan}
-use Rattle.hall_desk.specs.declared.protest.Protesting.{Protesting}
-use Rattle.hall_desk.specs.declared.reply.Reply.TheVariants.{Protested}
+use Rattle.hall_desk.specs.declared.protest.Protest.{Protest}
+use Rattle.hall_desk.specs.declared.reply.Reply.TheVariants as reply
 
 -- the protest's row may be stored, and makes the plan
-pub protested : (world : World) (facts : Facts) (asked : Protesting) (person : Person) (t : ℕ) (plan : Plan) → facts.caller ≡ Some person →
+pub protested : (world : World) (facts : Facts) (asked : Protest) (person : Person) (t : ℕ) (plan : Plan) → facts.caller ≡ Some person →
     facts.protest ≡ None → PlaceIsThere facts (protest_action asked) asked.number → TrueUpTo 20 facts world (protest_action asked) → IsThere world facts.caller →
-    plan.reply ≡ Protested asked.token.now → plan.change ≡ AddProtest (protest_row person asked) → IsMadePlan world facts.caller (protest_action asked) t plan
+    plan.reply ≡ reply.Protest asked.token.now → plan.change ≡ AddProtest (protest_row person asked) → IsMadePlan world facts.caller (protest_action asked) t plan
 protested world facts asked person t plan caller fresh place told there replied changes =
     let id : List ℕ = asked.round.now in
     let row : RoundRow = place.round.row in

@@ -147,9 +147,9 @@ module _ (ex : List ℕ → List ℕ → List ℕ) (hidden : List ℕ → Bool) 
         (subst (λ (text : List ℕ). IsVerdictOn puzzle text verdict') (plain id plainly answer) (subst (λ (p : PuzzleRow). IsVerdictOn p (ex id answer) verdict') same_puzzle judged'))
         judged in
         told'
-        ∙ ap (λ (r : Round). reply.Received (answers_given later person'.name id number + 1) (told_verdict r verdict')) same_round
-        ∙ ap (λ (told : Option ℕ). reply.Received (answers_given later person'.name id number + 1) told) (told_alike id round verdict' verdict kept verdicts)
-        ∙ ap (λ m. reply.Received (m + 1) (told_verdict round verdict)) n
+        ∙ ap (λ (r : Round). reply.Submit (answers_given later person'.name id number + 1) (told_verdict r verdict')) same_round
+        ∙ ap (λ (told : Option ℕ). reply.Submit (answers_given later person'.name id number + 1) told) (told_alike id round verdict' verdict kept verdicts)
+        ∙ ap (λ m. reply.Submit (m + 1) (told_verdict round verdict)) n
         ∙ sym told
 
     told_again : (id : List ℕ) (number : ℕ) (token answer : List ℕ) (given answered : Reply) →
@@ -170,9 +170,9 @@ module _ (ex : List ℕ → List ℕ → List ℕ) (hidden : List ℕ → Bool) 
         ∙ ap (λ (r : AnswerRow). r.verdict) (sym alike)
         ∙ ap (λ (b : Bool). if b then 0 else row.verdict) (ap hidden own ∙ plainly) in
         told'
-        ∙ ap (λ (r : Round). reply.Received row'.n (told_verdict r row'.verdict)) same_round
-        ∙ ap (λ (told : Option ℕ). reply.Received row'.n told) (told_alike id round row'.verdict row.verdict kept verdicts)
-        ∙ ap (λ m. reply.Received m (told_verdict round row.verdict)) n
+        ∙ ap (λ (r : Round). reply.Submit row'.n (told_verdict r row'.verdict)) same_round
+        ∙ ap (λ (told : Option ℕ). reply.Submit row'.n told) (told_alike id round row'.verdict row.verdict kept verdicts)
+        ∙ ap (λ m. reply.Submit m (told_verdict round row.verdict)) n
         ∙ sym told
 
     -- ---- listings
@@ -239,11 +239,11 @@ module _ (ex : List ℕ → List ℕ → List ℕ) (hidden : List ℕ → Bool) 
         let lines : map view rows ≡ map late rows' =
         same_listing world later id (sees_answer e round id t) view late rows rows' typed (λ r passes. (text_decides r.key.round id).0 (and_first _ _ passes)) (λ a b. refl) (λ a b. refl) left first second in
         told'
-        ∙ ap (λ (r : Round). reply.AnswerList (map (answer_line (shows_verdict person' r t)) rows')) same_round
-        ∙ ap (λ (p : Person). reply.AnswerList (map (answer_line (shows_verdict p round t)) rows')) also
-        ∙ ap reply.AnswerList (sym lines)
-        ∙ ap reply.AnswerList (sym (mapped_twice (exchanged_line (ex id)) (answer_line (shows_verdict e round t)) rows))
-        ∙ ap (λ (p : Person). exchanged_reply ex (action.Answers id) (reply.AnswerList (map (answer_line (shows_verdict p round t)) rows))) (sym one)
+        ∙ ap (λ (r : Round). reply.Answers (map (answer_line (shows_verdict person' r t)) rows')) same_round
+        ∙ ap (λ (p : Person). reply.Answers (map (answer_line (shows_verdict p round t)) rows')) also
+        ∙ ap reply.Answers (sym lines)
+        ∙ ap reply.Answers (sym (mapped_twice (exchanged_line (ex id)) (answer_line (shows_verdict e round t)) rows))
+        ∙ ap (λ (p : Person). exchanged_reply ex (action.Answers id) (reply.Answers (map (answer_line (shows_verdict p round t)) rows))) (sym one)
         ∙ ap (exchanged_reply ex (action.Answers id)) (sym told)
 
     read : (id : List ℕ) (found again : PuzzleState) (given answered : Reply) (new changed : World) → NoneBelow 21 world (Some e) (action.ReadRound id) t →
@@ -253,7 +253,7 @@ module _ (ex : List ℕ → List ℕ → List ℕ) (hidden : List ℕ → Bool) 
         let released = is_released a id row.round (λ missing. (none rule.Missing (lit< tt)).0 ((2, lit< tt, refl), missing)) at.head in
         let one : row' ≡ tested_by row row'.testers = one_round_row later world id row' row refl refl at' at in
         let shown_same = same_shown world later typed row shown shown' (read_alike id row at released none) shows (shows_tested later row row'.testers shown' (subst (λ (r : RoundRow). ShowsRound later r shown') one shows')) in
-        told' ∙ ap reply.RoundRead (sym shown_same) ∙ sym told
+        told' ∙ ap reply.ReadRound (sym shown_same) ∙ sym told
 
     solved : (id : List ℕ) (found again : PuzzleState) (given answered : Reply) (new changed : World) → NoneBelow 21 world (Some e) (action.Solutions id) t →
         Allowed world (Some e) (action.Solutions id) t found given new → Allowed later (Some e) (action.Solutions id) t again answered changed → answered ≡ given
@@ -264,7 +264,7 @@ module _ (ex : List ℕ → List ℕ → List ℕ) (hidden : List ℕ → Bool) 
         let started : row.round.start ≤ t = omega (arith, over) in
         let one : row' ≡ tested_by row row'.testers = one_round_row later world id row' row refl refl at' at in
         let texts_same = same_solutions world later typed row.puzzles texts texts' (kept_alike id row at released started) are (subst (λ (r : RoundRow). AreSolutions later r.puzzles texts') one are') in
-        told' ∙ ap reply.SolutionList (sym texts_same) ∙ sym told
+        told' ∙ ap reply.Solutions (sym texts_same) ∙ sym told
 
     protests_listed : (id : List ℕ) (found again : PuzzleState) (given answered : Reply) (new changed : World) →
         Allowed world (Some e) (action.Protests id) t found given new → Allowed later (Some e) (action.Protests id) t again answered changed → answered ≡ given
@@ -275,16 +275,16 @@ module _ (ex : List ℕ → List ℕ → List ℕ) (hidden : List ℕ → Bool) 
         (λ k r at. ap (λ (x : ProtestKey). same_text x.round id && same_text x.entrant name) (retyped.protests k r at))
         (λ k passes. look.own.protests k ((text_decides k.entrant name).0 (and_second _ _ passes))) in
         told'
-        ∙ ap (λ (p : Person). reply.ProtestList (map protest_line (filter (sees_protest p id) (values protests)))) (is_e person' is')
-        ∙ ap (λ (rows : List ProtestRow). reply.ProtestList (map protest_line rows)) (sym left)
-        ∙ ap (λ (p : Person). reply.ProtestList (map protest_line (filter (sees_protest p id) (values world.protests)))) (sym (is_e person is))
+        ∙ ap (λ (p : Person). reply.Protests (map protest_line (filter (sees_protest p id) (values protests)))) (is_e person' is')
+        ∙ ap (λ (rows : List ProtestRow). reply.Protests (map protest_line rows)) (sym left)
+        ∙ ap (λ (p : Person). reply.Protests (map protest_line (filter (sees_protest p id) (values world.protests)))) (sym (is_e person is))
         ∙ sym told
 
     rounds_listed : (found again : PuzzleState) (given answered : Reply) (new changed : World) →
         Allowed world (Some e) action.ListRounds t found given new → Allowed later (Some e) action.ListRounds t again answered changed → answered ≡ given
     rounds_listed found again given answered new changed (person, is, (told, same)) (person', is', (told', same')) =
         told'
-        ∙ ap (λ (p : Person). reply.RoundList (map round_line (filter (sees_round p) (values world.rounds)))) (is_e person' is' ∙ sym (is_e person is))
+        ∙ ap (λ (p : Person). reply.ListRounds (map round_line (filter (sees_round p) (values world.rounds)))) (is_e person' is' ∙ sym (is_e person is))
         ∙ sym told
 
     -- a table of a published round: anyone's
@@ -469,7 +469,7 @@ lines_stand [] id = refl
 lines_stand (line ∷ lines) id = ap (λ ls. line ∷ ls) (lines_stand lines id)
 
 reply_of : (id : List ℕ) (given : Reply) → exchanged_reply as_is (action.Answers id) given ≡ given
-reply_of id (reply.AnswerList lines) = ap reply.AnswerList (lines_stand lines id)
+reply_of id (reply.Answers lines) = ap reply.Answers (lines_stand lines id)
 reply_of id _ = refl
 
 pub reply_stands : (a : Action) (given : Reply) → exchanged_reply as_is a given ≡ given

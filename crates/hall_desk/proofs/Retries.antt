@@ -36,7 +36,7 @@ pub record IsAccepted (world kept : World) (t : ℕ) (caller : Option Person) (i
   pub row : AnswerRow
   pub stands : get kept.answers (record { entrant = person.name; round = id; number = number; token = token }) ≡ Some row
   pub text : row.answer ≡ answer
-  pub told : given ≡ reply.Received row.n (told_verdict round row.verdict)
+  pub told : given ≡ reply.Submit row.n (told_verdict round row.verdict)
   pub since : (get world.answers (record { entrant = person.name; round = id; number = number; token = token }) ≡ Some row) ⊎ IsAcceptedNow world t person.name id number token row
   pub none : NoneBelow 6 world caller (action.Submit id number token answer) t
 
@@ -48,8 +48,8 @@ repeats_at_six world caller id number token answer _ h = absurd h.1
 
 -- an answer is accepted by a step that stores it, or finds it stored
 pub accepted : (world kept : World) (t : ℕ) (key : Option (List ℕ)) (id : List ℕ) (number : ℕ) (token answer : List ℕ) (n : ℕ) (told : Option ℕ) →
-    Step world t (record { key = key; action = action.Submit id number token answer }) (reply.Received n told) kept →
-    IsAccepted world kept t (caller_of world key) id number token answer (reply.Received n told)
+    Step world t (record { key = key; action = action.Submit id number token answer }) (reply.Submit n told) kept →
+    IsAccepted world kept t (caller_of world key) id number token answer (reply.Submit n told)
 accepted world kept t key id number token answer n told (inl (other, left)) = absurd (cc)
 accepted world kept t key id number token answer n told (inr (found, (Deny k, first, (other, left)))) = absurd (cc)
 accepted world kept t key id number token answer n told (inr (found, (Repeat, (r, repeated, none), ((person, is, (round, row, at, stands, says)), left)))) = record {
@@ -162,7 +162,7 @@ module _ (world later : World) (remains : Remains world later) (caller : Option 
 
   module _ (person : Person) (is : caller ≡ Some person) (row : AnswerRow)
       (stands : get later.answers (record { entrant = person.name; round = id; number = number; token = token }) ≡ Some row)
-      (text : row.answer ≡ answer) (first : Reply) (told : first ≡ reply.Received row.n (told_verdict round row.verdict)) where
+      (text : row.answer ≡ answer) (first : Reply) (told : first ≡ reply.Submit row.n (told_verdict round row.verdict)) where
     -- the first reply is told again: the row and its round's mode are the same
     told_again : (given : Reply) → IsToldAgain later id row again given → (again ≡ answer) × (given ≡ first)
     told_again given h =
@@ -170,7 +170,7 @@ module _ (world later : World) (remains : Remains world later) (caller : Option 
         let both : Some h.round ≡ Some now.after = sym h.kept ∙ now.found in
         let one : h.round ≡ now.after = cc in
         let mode : h.round.mode ≡ round.mode = ap (λ (x : Round). x.mode) (one ∙ now.same) in
-        (sym h.same_answer ∙ text, h.told ∙ ap (reply.Received row.n) (same_told h.round round row.verdict mode) ∙ sym told)
+        (sym h.same_answer ∙ text, h.told ∙ ap (reply.Submit row.n) (same_told h.round round row.verdict mode) ∙ sym told)
 
     -- a denial of the retry is that of the token's rule, for another text
     denied_again : (r : Rule) (k : ℕ) (given : Reply) → number_of r ≡ k → Forbids r later caller (action.Submit id number token again) u →
@@ -190,24 +190,24 @@ module _ (world later : World) (remains : Remains world later) (caller : Option 
 
 -- a retry of an accepted answer changes nothing, and is answered as one
 answers_stay : (world kept later : World) (t : ℕ) (key : Option (List ℕ)) (id : List ℕ) (number : ℕ) (token answer : List ℕ) (n : ℕ) (told : Option ℕ) →
-    Step world t (record { key = key; action = action.Submit id number token answer }) (reply.Received n told) kept → Remains kept later →
+    Step world t (record { key = key; action = action.Submit id number token answer }) (reply.Submit n told) kept → Remains kept later →
     (u : ℕ) (again : List ℕ) (given : Reply) (new : World) → Step later u (record { key = key; action = action.Submit id number token again }) given new →
-    (new ≡ later) × IsRetryOf answer again (reply.Received n told) given
+    (new ≡ later) × IsRetryOf answer again (reply.Submit n told) given
 answers_stay world kept later t key id number token answer n told first between u again given new (inl (says, left)) = (left, inl says)
 answers_stay world kept later t key id number token answer n told first between u again given new (inr (found, (decision, decides, decided))) =
     let h = accepted world kept t key id number token answer n told first in
-    let remains : Remains world later = remains_on world kept later (step_remains world t (record { key = key; action = action.Submit id number token answer }) (reply.Received n told) kept first) between in
+    let remains : Remains world later = remains_on world kept later (step_remains world t (record { key = key; action = action.Submit id number token answer }) (reply.Submit n told) kept first) between in
     let same : caller_of later key ≡ caller_of world key = same_caller world later key h.person remains h.is in
     retried world later remains (caller_of later key) t u id number token answer again h.round h.found
     (subst (λ (c : Option Person). NoneBelow 6 world c (action.Submit id number token answer) t) (sym same) h.none)
-    h.person (same ∙ h.is) h.row (between.answers _ h.row h.stands) h.text (reply.Received n told) h.told found given new decision decides decided
+    h.person (same ∙ h.is) h.row (between.answers _ h.row h.stands) h.text (reply.Submit n told) h.told found given new decision decides decided
 
 -- an accepted answer stays accepted
 pub accepted_answers_stay : AcceptedAnswersStay
 accepted_answers_stay world kept later t key id number token answer n told events first life =
     let h = accepted world kept t key id number token answer n told first in
     let between : Remains kept later = records_stay kept later events life in
-    let accepted_row : IsAcceptedRow world t h.person.name id number token answer (reply.Received n told) h.row = record {
+    let accepted_row : IsAcceptedRow world t h.person.name id number token answer (reply.Submit n told) h.row = record {
       told = record { round = h.round; kept = h.found; same_answer = h.text; told = h.told };
       since = h.since;
     } in (

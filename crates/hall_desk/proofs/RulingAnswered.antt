@@ -73,7 +73,7 @@ module _ (world : World) (by : Option (List ℕ)) (u : ℕ) (id entrant token : 
   )
 
   -- so there is a step that answers it
-  answers_again : (again ≡ ruled → Step world u (record { key = by; action = action.Rule id entrant token again }) (reply.Ruled ruled) world)
+  answers_again : (again ≡ ruled → Step world u (record { key = by; action = action.Rule id entrant token again }) (reply.RuleProtest ruled) world)
       × (again ≢ ruled → Step world u (record { key = by; action = action.Rule id entrant token again }) (reply.Denied 18) world)
   answers_again = (
     λ same. inr (state.New, (Repeat, repeats same, ((row, ruled, stands, so, refl), refl))),

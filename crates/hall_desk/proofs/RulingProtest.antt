@@ -9,17 +9,17 @@ use Rattle.hall_policy.specs.declared.record.ProtestRow.{ProtestRow}
 use Rattle.hall_policy.specs.declared.record.PuzzleState.TheVariants as state
 use Rattle.hall_store.specs.Change.{changed, with_ruling, CanMake}
 use Rattle.hall_store.specs.declared.change.Change.{Change}
-use Rattle.hall_store.specs.declared.change.Change.TheVariants.{RuleProtest}
-use Rattle.hall_desk.specs.Handler.{rule_action, ruled_key}
+use Rattle.hall_store.specs.declared.change.Change.TheVariants as change
+use Rattle.hall_desk.specs.Handler.{rule_protest_action, ruled_key}
 use Rattle.hall_desk.specs.Plans.{IsMadePlan}
 use Rattle.hall_desk.specs.declared.planned.Plan.{Plan}
-use Rattle.hall_desk.specs.declared.reply.Reply.TheVariants.{Ruled}
-use Rattle.hall_desk.specs.declared.rule_protest.RulingOn.{RulingOn}
+use Rattle.hall_desk.specs.declared.reply.Reply.TheVariants as reply
+use Rattle.hall_desk.specs.declared.rule_protest.RuleProtest.{RuleProtest}
 
 -- the protest may be ruled, and its ruling makes the plan
-pub ruled : (world : World) (facts : Facts) (asked : RulingOn) (t : ℕ) (plan : Plan) → ProtestIsThere facts (rule_action asked) →
-    TrueUpTo 20 facts world (rule_action asked) → plan.reply ≡ Ruled asked.ruling → plan.change ≡ RuleProtest (ruled_key asked) asked.ruling →
-    IsMadePlan world facts.caller (rule_action asked) t plan
+pub ruled : (world : World) (facts : Facts) (asked : RuleProtest) (t : ℕ) (plan : Plan) → ProtestIsThere facts (rule_protest_action asked) →
+    TrueUpTo 20 facts world (rule_protest_action asked) → plan.reply ≡ reply.RuleProtest asked.ruling → plan.change ≡ change.RuleProtest (ruled_key asked) asked.ruling →
+    IsMadePlan world facts.caller (rule_protest_action asked) t plan
 ruled world facts asked t plan there told replied changes =
     let row : ProtestRow = there.row in
     let kept : get world.protests (ruled_key asked) ≡ Some row = sym told.1.1.0.1 ∙ there.found in

@@ -80,7 +80,7 @@ module _ (world : World) (caller : Option Person) (t : ℕ) (id entrant token : 
 
   -- the first reply tells the ruling that stands
   told_again : (given : Reply) → ruled ≡ ruling → FirstReply world caller (action.Rule id entrant token ruling) given → IsRulingRetryAnswered ruled ruling given
-  told_again given same (found, other, at, is, told) = inr (inr (same, told ∙ ap reply.Ruled (one_ruling found other at is)))
+  told_again given same (found, other, at, is, told) = inr (inr (same, told ∙ ap reply.RuleProtest (one_ruling found other at is)))
 
 -- a ruling acts once
 pub rulings_act_once : RulingsActOnce

@@ -41,7 +41,7 @@ repeats_at_eighteen world caller id entrant token ruling _ h = absurd h.1
 
 -- a ruling is told by a step that makes it, or finds it made
 ruled_in : (world kept : World) (t : ℕ) (key : Option (List ℕ)) (id entrant token : List ℕ) (ruling told : Ruling) →
-    Step world t (record { key = key; action = action.Rule id entrant token ruling }) (reply.Ruled told) kept → IsRuledIn world kept id entrant token ruling told
+    Step world t (record { key = key; action = action.Rule id entrant token ruling }) (reply.RuleProtest told) kept → IsRuledIn world kept id entrant token ruling told
 ruled_in world kept t key id entrant token ruling told (inl (other, left)) = absurd (cc)
 ruled_in world kept t key id entrant token ruling told (inr (found, (Deny k, first, (other, left)))) = absurd (cc)
 ruled_in world kept t key id entrant token ruling told (inr (found, (Repeat, (r, repeated, none), ((row, ruled, stands, has, says), left)))) =
@@ -75,12 +75,12 @@ pub record IsRuledLater (later : World) (id entrant token : List ℕ) (ruling to
   pub released : IsReleasedRound later id
 
 pub ruled_later : (world kept later : World) (t : ℕ) (key : Option (List ℕ)) (id entrant token : List ℕ) (ruling told : Ruling) (events : List Event) →
-    Step world t (record { key = key; action = action.Rule id entrant token ruling }) (reply.Ruled told) kept → History kept events later → IsRuledLater later id entrant token ruling told
+    Step world t (record { key = key; action = action.Rule id entrant token ruling }) (reply.RuleProtest told) kept → History kept events later → IsRuledLater later id entrant token ruling told
 ruled_later world kept later t key id entrant token ruling told events first life =
     let h = ruled_in world kept t key id entrant token ruling told first in
     let between : Remains kept later = records_stay kept later events life in
     let stays = between.protests (record { entrant = entrant; round = id; token = token }) h.row h.stands in
-    let remains : Remains world later = remains_on world kept later (step_remains world t (record { key = key; action = action.Rule id entrant token ruling }) (reply.Ruled told) kept first) between in
+    let remains : Remains world later = remains_on world kept later (step_remains world t (record { key = key; action = action.Rule id entrant token ruling }) (reply.RuleProtest told) kept first) between in
     let round = remains.rounds id h.released.0 h.released.1 h.released.2 in
     record {
       same = h.same;

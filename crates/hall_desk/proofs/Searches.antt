@@ -17,7 +17,7 @@ use Rattle.hall_policy.specs.declared.rule.Decision.{Decision}
 use Rattle.hall_policy.specs.declared.rule.Decision.TheVariants.{Allow, Repeat, Deny}
 use Rattle.hall_store.specs.Caller.{caller_of}
 use Rattle.hall_desk.specs.Shown.{state_name}
-use Rattle.hall_desk.specs.Step.{is_open, IsFound, IsSearched, IsCertifiedBy, Asked, Allowed, Decided, IsAnswered}
+use Rattle.hall_desk.specs.Step.{is_open, IsFound, IsSearched, IsCertifyStep, Asked, Allowed, Decided, IsAnswered}
 use Rattle.hall_desk.specs.Without.{is_certify}
 use Rattle.hall_desk.specs.declared.reply.StateName.TheVariants as name
 use Rattle.hall_desk.specs.declared.reply.Reply.{Reply}
@@ -51,11 +51,11 @@ module _ (world other : World) (puzzles : world.puzzles ≡ other.puzzles) (foun
   same_found : (caller : Option Person) (key : PuzzleKey) (budget : ℕ) (t : ℕ) (d : Decision) (row : PuzzleRow) → given ≡ answered → get other.puzzles key ≡ Some row →
       Decided d world caller (action.Certify key budget) t found given next → IsSearched other key row budget again answered after → again ≡ found
   same_found caller key budget t (Deny k) row same at first h =
-      let none : reply.Denied k ≡ reply.Certified (state_name again) = sym first.0 ∙ same ∙ h.told in absurd (cc)
+      let none : reply.Denied k ≡ reply.Certify (state_name again) = sym first.0 ∙ same ∙ h.told in absurd (cc)
   same_found caller key budget t Repeat row same at first h = absurd first.0
   same_found caller key budget t Allow row same at (own, here, inl g) h =
       let rows : own ≡ row = one_row (get other.puzzles key) own row (ap (λ (m : FinMap puzzle_cmp PuzzleRow). get m key) (sym puzzles) ∙ here) at in
-      let told : reply.Certified (state_name found) ≡ reply.Certified (state_name again) = sym g.told ∙ same ∙ h.told in
+      let told : reply.Certify (state_name found) ≡ reply.Certify (state_name again) = sym g.told ∙ same ∙ h.told in
       let names : state_name found ≡ state_name again = cc in
       sym (found_once row.puzzle budget found again (subst (λ (r : PuzzleRow). IsFound r.puzzle budget found) rows g.is_found) h.is_found names)
   same_found caller key budget t Allow row same at (own, here, inr g) h =
@@ -64,10 +64,10 @@ module _ (world other : World) (puzzles : world.puzzles ≡ other.puzzles) (foun
 
   -- the second search may be said to have found what the first did
   same_search : (caller : Option Person) (key : PuzzleKey) (budget : ℕ) (t : ℕ) (d : Decision) → given ≡ answered →
-      Decided d world caller (action.Certify key budget) t found given next → IsCertifiedBy other key budget again answered after → IsCertifiedBy other key budget found answered after
+      Decided d world caller (action.Certify key budget) t found given next → IsCertifyStep other key budget again answered after → IsCertifyStep other key budget found answered after
   same_search caller key budget t d same first (row, at, inr h) = (row, at, inr h)
   same_search caller key budget t d same first (row, at, inl h) =
-      subst (λ (s : PuzzleState). IsCertifiedBy other key budget s answered after) (same_found caller key budget t d row same at first h) (row, at, inl h)
+      subst (λ (s : PuzzleState). IsCertifyStep other key budget s answered after) (same_found caller key budget t d row same at first h) (row, at, inl h)
 
   same_allowed : (ex : List ℕ → List ℕ → List ℕ) (caller also : Option Person) (a : Action) (t u : ℕ) (d : Decision) → (is_certify a ≡ true → given ≡ answered) →
       Decided d world caller a t found given next → Allowed other also (exchanged ex a) u again answered after → Allowed other also (exchanged ex a) u found answered after

@@ -60,7 +60,7 @@ module _ (world : World) (caller : Option Person) (t : ℕ) (person : Person) (i
     round = round;
     kept = kept;
     same_answer = same;
-    told = subst (λ (r : AnswerRow). given ≡ reply.Received r.n (told_verdict round r.verdict)) (one_row other found also at) told;
+    told = subst (λ (r : AnswerRow). given ≡ reply.Submit r.n (told_verdict round r.verdict)) (one_row other found also at) told;
   }
 
   -- a rule that denies comes before the token's, or is the token's, for another text

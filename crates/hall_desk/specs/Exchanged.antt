@@ -32,7 +32,7 @@ exchanged_line ex line = record line { answer = ex line.answer }
 
 -- the reply, with the texts read by `ex` where it lists the answers to a round
 abbrev pub exchanged_reply : (List ℕ → List ℕ → List ℕ) → Action → Reply → Reply
-exchanged_reply ex (Answers round) (reply.AnswerList lines) = reply.AnswerList (map (exchanged_line (ex round)) lines)
+exchanged_reply ex (Answers round) (reply.Answers lines) = reply.Answers (map (exchanged_line (ex round)) lines)
 exchanged_reply ex _ given = given
 
 -- the replies to the list, where a stands for b and b for a wherever one of them is listed as an answer to the round r

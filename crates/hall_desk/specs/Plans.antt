@@ -60,7 +60,7 @@ HasNothingToWrite world _ = ⊥
 -- at most the budget's visits were made, and all of them where it is told that the search gave up
 pub record HasSpent (budget : ℕ) (told : Reply) (visits : Visits) : Type 0 where
   pub within : visits_made visits ≤ budget
-  pub whole : told ≡ reply.Certified name.GaveUp → visits_made visits ≡ budget
+  pub whole : told ≡ reply.Certify name.GaveUp → visits_made visits ≡ budget
 
 -- where the action certifies a puzzle of which no search came to an end yet, a search was made for the plan: within the
 -- budget, and with all its visits where it gave up
@@ -110,7 +110,7 @@ IsSearchPlanOf facts action plan =
 
 -- the plan counts and adds the people of the list whose names are unknown
 pub record IsImportPlan (world : World) (people : List Person) (plan : Plan) : Type 0 where
-  pub counted : plan.reply ≡ reply.Imported (unknown_people world people)
+  pub counted : plan.reply ≡ reply.Import (unknown_people world people)
   pub change : plan.change ≡ change.Import people
 
 -- the plan's reply and change are those of the people who stand before any request, and the change may be made
@@ -188,7 +188,7 @@ Seeds old people given new = Over (λ before after. Seed before people given aft
 
 -- so many people were added, or the rule on lists denies
 abbrev pub IsSeedReply : Reply → Type 0
-IsSeedReply given = ((count : ℕ) × (given ≡ reply.Imported count)) ⊎ (given ≡ reply.Denied 20)
+IsSeedReply given = ((count : ℕ) × (given ≡ reply.Import count)) ⊎ (given ≡ reply.Denied 20)
 
 -- The request was stepped over a store: at most one write was made, and none where it has nothing to write.
 pub record IsStepped {S : Type 0} (content : S → Content) (old : S) (asked : ℕ × Request) (given : Reply) (new : S)

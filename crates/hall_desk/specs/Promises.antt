@@ -93,7 +93,7 @@ pub record IsToldAgain (world : World) (id : List ℕ) (row : AnswerRow) (answer
   pub round : Round
   pub kept : get world.rounds id ≡ Some round
   pub same_answer : row.answer ≡ answer
-  pub told : given ≡ reply.Received row.n (told_verdict round row.verdict)
+  pub told : given ≡ reply.Submit row.n (told_verdict round row.verdict)
 
 -- what an answer gets that comes under a token that stands, where no earlier rule denies it: no service; the denial of
 -- the token's rule, which is for another text alone; or the first reply, which is for the same text alone
@@ -133,7 +133,7 @@ abbrev pub IsProtestRetryAnswered : ProtestRow → List ℕ → ℕ → List ℕ
 IsProtestRetryAnswered row token number text given =
     (given ≡ reply.Unavailable)
     ⊎ (((given ≡ reply.Denied 6) × ¬ (IsSameProtest row number text))
-    ⊎ (IsSameProtest row number text × (given ≡ reply.Protested token)))
+    ⊎ (IsSameProtest row number text × (given ≡ reply.Protest token)))
 
 -- a token whose protest was stored acts once: a protest that comes under a token that stands changes nothing, at
 -- whatever moment it comes
@@ -170,7 +170,7 @@ IsRulerDenied world caller action t given =
 abbrev pub IsRulingRetryAnswered : Ruling → Ruling → Reply → Type 0
 IsRulingRetryAnswered ruled ruling given =
     (given ≡ reply.Unavailable)
-    ⊎ (((given ≡ reply.Denied 18) × (ruled ≢ ruling)) ⊎ ((ruled ≡ ruling) × (given ≡ reply.Ruled ruled)))
+    ⊎ (((given ≡ reply.Denied 18) × (ruled ≢ ruling)) ⊎ ((ruled ≡ ruling) × (given ≡ reply.RuleProtest ruled)))
 
 -- a ruling acts once: a ruling of a protest that is ruled changes nothing, at whatever moment it comes
 abbrev pub RulingsActOnce : Type 0
@@ -213,7 +213,7 @@ abbrev pub AcceptedAnswersStay : Type 0
 AcceptedAnswersStay =
     (world kept later : World) (t : ℕ) (key : Option (List ℕ)) (id : List ℕ) (number : ℕ)
     (token answer : List ℕ) (n : ℕ) (told : Option ℕ) (events : List Event) →
-    let first : Reply = reply.Received n told in
+    let first : Reply = reply.Submit n told in
     Step world t (record { key = key; action = Submit id number token answer }) first kept →
     History kept events later →
     ((person : Person) × (row : AnswerRow) × (caller_of world key ≡ Some person)
@@ -229,9 +229,9 @@ abbrev pub RetriesAreAnswered : Type 0
 RetriesAreAnswered =
     (world kept later : World) (t u : ℕ) (key : Option (List ℕ)) (id : List ℕ) (number : ℕ)
     (token answer again : List ℕ) (n : ℕ) (told : Option ℕ) (events : List Event) →
-    Step world t (record { key = key; action = Submit id number token answer }) (reply.Received n told) kept →
+    Step world t (record { key = key; action = Submit id number token answer }) (reply.Submit n told) kept →
     History kept events later →
     (answer ≡ again →
-    Step later u (record { key = key; action = Submit id number token again }) (reply.Received n told) later)
+    Step later u (record { key = key; action = Submit id number token again }) (reply.Submit n told) later)
     × (answer ≢ again →
     Step later u (record { key = key; action = Submit id number token again }) (reply.Denied 6) later)

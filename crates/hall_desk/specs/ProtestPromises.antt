@@ -28,7 +28,7 @@ IsProtestRetryOf world id token number text again_number again_text given =
     ⊎ (((given ≡ reply.Denied 4) × (number ≢ again_number) × (place_of world id again_number ≡ None))
     ⊎ (((given ≡ reply.Denied 6) × ¬ (IsAgain number text again_number again_text)
     × (place_of world id again_number ≢ None))
-    ⊎ ((given ≡ reply.Protested token) × IsAgain number text again_number again_text)))
+    ⊎ ((given ≡ reply.Protest token) × IsAgain number text again_number again_text)))
 
 -- an accepted protest stays accepted: whatever happens between, it stands with its number and text, and at whatever
 -- moment its token comes again, the world stays, and the retry is answered as one
@@ -36,7 +36,7 @@ abbrev pub AcceptedProtestsStay : Type 0
 AcceptedProtestsStay =
     (world kept later : World) (t : ℕ) (key : Option (List ℕ)) (id token : List ℕ) (number : ℕ) (text : List ℕ)
     (events : List Event) →
-    Step world t (record { key = key; action = Protest id token number text }) (reply.Protested token) kept →
+    Step world t (record { key = key; action = Protest id token number text }) (reply.Protest token) kept →
     History kept events later →
     ((person : Person) × (row : ProtestRow) × (caller_of world key ≡ Some person)
     × (protest_of later person.name id token ≡ Some row) × IsSameProtest row number text)
@@ -52,10 +52,10 @@ ProtestRetriesAreAnswered =
     (world kept later : World) (t u : ℕ) (key : Option (List ℕ)) (id token : List ℕ)
     (number : ℕ) (text : List ℕ) (again_number : ℕ) (again_text : List ℕ)
     (events : List Event) →
-    Step world t (record { key = key; action = Protest id token number text }) (reply.Protested token) kept →
+    Step world t (record { key = key; action = Protest id token number text }) (reply.Protest token) kept →
     History kept events later →
     let again : Request = record { key = key; action = Protest id token again_number again_text } in
-    (IsAgain number text again_number again_text → Step later u again (reply.Protested token) later)
+    (IsAgain number text again_number again_text → Step later u again (reply.Protest token) later)
     × (place_of later id again_number ≡ None → Step later u again (reply.Denied 4) later)
     × (¬ (IsAgain number text again_number again_text) → place_of later id again_number ≢ None →
     Step later u again (reply.Denied 6) later)
@@ -67,7 +67,7 @@ abbrev pub RulingsStay : Type 0
 RulingsStay =
     (world kept later : World) (t : ℕ) (key : Option (List ℕ)) (id entrant token : List ℕ) (ruling told : Ruling)
     (events : List Event) →
-    Step world t (record { key = key; action = Rule id entrant token ruling }) (reply.Ruled told) kept →
+    Step world t (record { key = key; action = Rule id entrant token ruling }) (reply.RuleProtest told) kept →
     History kept events later →
     (told ≡ ruling)
     × ((row : ProtestRow) × (protest_of later entrant id token ≡ Some row) × (row.ruling ≡ Some ruling))
@@ -84,8 +84,8 @@ RulingRetriesAreAnswered =
     (world kept later : World) (t u : ℕ) (key by : Option (List ℕ)) (id entrant token : List ℕ)
     (ruling told again : Ruling) (referee : Person) (events : List Event) →
     let action : Action = Rule id entrant token again in
-    Step world t (record { key = key; action = Rule id entrant token ruling }) (reply.Ruled told) kept →
+    Step world t (record { key = key; action = Rule id entrant token ruling }) (reply.RuleProtest told) kept →
     History kept events later →
     caller_of later by ≡ Some referee → IsTrue referee.roles.referee → ¬ (IsInvolved later (Some referee) action) →
-    (again ≡ ruling → Step later u (record { key = by; action = action }) (reply.Ruled ruling) later)
+    (again ≡ ruling → Step later u (record { key = by; action = action }) (reply.RuleProtest ruling) later)
     × (again ≢ ruling → Step later u (record { key = by; action = action }) (reply.Denied 18) later)

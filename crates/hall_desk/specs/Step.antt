@@ -46,9 +46,9 @@ abbrev pub unknown_people : World → List Person → ℕ
 unknown_people world people = count_by (λ person. not (contains_key world.people person.name)) people
 
 -- the people whose names are unknown are added, and counted
-abbrev pub IsImported : World → List Person → Reply → World → Type 0
-IsImported world people given new =
-    (given ≡ reply.Imported (unknown_people world people))
+abbrev pub IsImportStep : World → List Person → Reply → World → Type 0
+IsImportStep world people given new =
+    (given ≡ reply.Import (unknown_people world people))
     × (new ≡ record world { people = with_people world.people people })
 
 -- a puzzle as it is first stored: new, without a solution
@@ -59,25 +59,31 @@ new_row key puzzle = record { key = key; puzzle = puzzle; state = state.New }
 abbrev pub StandsAlready : World → PuzzleKey → Board → List ℕ → Reply → World → Type 0
 StandsAlready world key puzzle text given new =
     (row : PuzzleRow) × (get world.puzzles key ≡ Some row) × (row.puzzle ≡ puzzle)
-    × (given ≡ reply.PuzzlePut (state_name row.state) text) × (new ≡ world)
+    × (given ≡ reply.PutPuzzle (state_name row.state) text) × (new ≡ world)
 
 -- no puzzle stands under the key, or another one: this one is stored
-abbrev pub IsPut : World → PuzzleKey → Board → List ℕ → Reply → World → Type 0
-IsPut world key puzzle text given new =
+abbrev pub IsPutAnew : World → PuzzleKey → Board → List ℕ → Reply → World → Type 0
+IsPutAnew world key puzzle text given new =
     ((row : PuzzleRow) → get world.puzzles key ≡ Some row → row.puzzle ≢ puzzle)
-    × (given ≡ reply.PuzzlePut (state_name state.New) text)
+    × (given ≡ reply.PutPuzzle (state_name state.New) text)
     × (new ≡ record world { puzzles = insert world.puzzles key (new_row key puzzle) })
 
+-- the puzzle stands already, or is stored; the reply tells its state, and its text as the writer writes it
+abbrev pub IsPutPuzzleStep : World → PuzzleKey → Board → Reply → World → Type 0
+IsPutPuzzleStep world key puzzle given new =
+    (text : List ℕ) × CanonicalText text puzzle
+    × (StandsAlready world key puzzle text given new ⊎ IsPutAnew world key puzzle text given new)
+
 -- the puzzle is read: its state, and its text as the writer writes it
-abbrev pub IsPuzzleRead : World → PuzzleKey → Reply → Type 0
-IsPuzzleRead world key given =
+abbrev pub IsReadPuzzleStep : World → PuzzleKey → Reply → Type 0
+IsReadPuzzleStep world key given =
     (row : PuzzleRow) × (text : List ℕ) × (get world.puzzles key ≡ Some row) × CanonicalText text row.puzzle
-    × (given ≡ reply.PuzzleRead key (state_name row.state) text)
+    × (given ≡ reply.ReadPuzzle key (state_name row.state) text)
 
 -- the reply lists all puzzles that the caller sees, by author, then label, and no other
-abbrev pub ArePuzzlesListed : World → Person → Reply → Type 0
-ArePuzzlesListed world person given =
-    given ≡ reply.PuzzleList (map puzzle_line (filter (sees_puzzle person) (values world.puzzles)))
+abbrev pub IsListPuzzlesStep : World → Person → Reply → Type 0
+IsListPuzzlesStep world person given =
+    given ≡ reply.ListPuzzles (map puzzle_line (filter (sees_puzzle person) (values world.puzzles)))
 
 -- whether the puzzle was never searched, or the search came to no end
 abbrev pub is_open : PuzzleState → Bool
@@ -101,18 +107,18 @@ pub record IsSearched (world : World) (key : PuzzleKey) (row : PuzzleRow) (budge
     (given : Reply) (new : World) : Type 0 where
   pub unsettled : is_open row.state ≡ true
   pub is_found : IsFound row.puzzle budget found
-  pub told : given ≡ reply.Certified (state_name found)
+  pub told : given ≡ reply.Certify (state_name found)
   pub stored : new ≡ record world { puzzles = insert world.puzzles key (record row { state = found }) }
 
 -- a search of the puzzle came to an end before: nothing changes
 pub record IsSettled (world : World) (row : PuzzleRow) (given : Reply) (new : World) : Type 0 where
   pub settled : is_open row.state ≡ false
-  pub told : given ≡ reply.Certified (state_name row.state)
+  pub told : given ≡ reply.Certify (state_name row.state)
   pub same : new ≡ world
 
 -- the puzzle's state is told; the puzzle is searched before where no search came to an end yet
-abbrev pub IsCertifiedBy : World → PuzzleKey → ℕ → PuzzleState → Reply → World → Type 0
-IsCertifiedBy world key budget found given new =
+abbrev pub IsCertifyStep : World → PuzzleKey → ℕ → PuzzleState → Reply → World → Type 0
+IsCertifyStep world key budget found given new =
     (row : PuzzleRow) × (get world.puzzles key ≡ Some row)
     × (IsSearched world key row budget found given new ⊎ IsSettled world row given new)
 
@@ -133,24 +139,30 @@ draft_of id sheet = record {
 
 -- the draft of the sheet stands under the id, with the sheet's puzzles as its list and the sheet's testers as its own;
 -- what stood there before is gone
-abbrev pub IsRoundPut : World → List ℕ → Sheet → Reply → World → Type 0
-IsRoundPut world id sheet given new =
-    (given ≡ reply.RoundPut id) × (new ≡ record world {
+abbrev pub IsPutRoundStep : World → List ℕ → Sheet → Reply → World → Type 0
+IsPutRoundStep world id sheet given new =
+    (given ≡ reply.PutRound id) × (new ≡ record world {
       rounds = insert world.rounds id (draft_of id sheet);
       places = relisted world.places id sheet.puzzles;
       testers = retested world.testers id sheet.testers;
     })
 
 -- the reply lists all rounds that the caller sees, by id, and no other
-abbrev pub AreRoundsListed : World → Person → Reply → Type 0
-AreRoundsListed world person given =
-    given ≡ reply.RoundList (map round_line (filter (sees_round person) (values world.rounds)))
+abbrev pub IsListRoundsStep : World → Person → Reply → Type 0
+IsListRoundsStep world person given =
+    given ≡ reply.ListRounds (map round_line (filter (sees_round person) (values world.rounds)))
 
 -- the draft is released
-abbrev pub IsReleasedBy : World → List ℕ → Reply → World → Type 0
-IsReleasedBy world id given new =
-    (round : Round) × (get world.rounds id ≡ Some round) × (given ≡ reply.Released id)
+abbrev pub IsReleaseStep : World → List ℕ → Reply → World → Type 0
+IsReleaseStep world id given new =
+    (round : Round) × (get world.rounds id ≡ Some round) × (given ≡ reply.Release id)
     × (new ≡ record world { rounds = insert world.rounds id (record round { released = true }) })
+
+-- the round is read, with its puzzles' texts
+abbrev pub IsReadRoundStep : World → List ℕ → Reply → World → Type 0
+IsReadRoundStep world id given new =
+    (row : RoundRow) × (shown : ShownRound) × IsRoundAt world id row × ShowsRound world row shown
+    × (given ≡ reply.ReadRound shown) × (new ≡ world)
 
 -- the answer's row: numbered after those of its entrant to the puzzle in the round
 abbrev pub answer_row : World → Person → List ℕ → ℕ → List ℕ → List ℕ → ℕ → ℕ → AnswerRow
@@ -164,28 +176,28 @@ answer_row world person round number token answer t verdict = record {
 
 -- the answer has its verdict by the round's puzzle of that number and stored; the reply tells its number and, in an instant
 -- round, its verdict
-abbrev pub IsSubmitted : World → Person → List ℕ → ℕ → List ℕ → List ℕ → ℕ → Reply → World → Type 0
-IsSubmitted world person id number token answer t given new =
+abbrev pub IsSubmitStep : World → Person → List ℕ → ℕ → List ℕ → List ℕ → ℕ → Reply → World → Type 0
+IsSubmitStep world person id number token answer t given new =
     (round : Round) × (entry : Entry) × (puzzle : PuzzleRow) × (verdict : ℕ)
     × (get world.rounds id ≡ Some round) × (get world.places (record { round = id; number = number }) ≡ Some entry)
     × (get world.puzzles entry.puzzle ≡ Some puzzle)
     × IsVerdictOn puzzle answer verdict
     × (let row : AnswerRow = answer_row world person id number token answer t verdict in
-    (given ≡ reply.Received row.n (told_verdict round verdict))
+    (given ≡ reply.Submit row.n (told_verdict round verdict))
     × (new ≡ record world { answers = insert world.answers row.key row }))
 
 -- the reply lists all answers that the caller sees, in order, and no other
-abbrev pub IsListed : World → Person → List ℕ → ℕ → Reply → Type 0
-IsListed world person id t given =
+abbrev pub IsAnswersStep : World → Person → List ℕ → ℕ → Reply → Type 0
+IsAnswersStep world person id t given =
     (round : Round) × (rows : List AnswerRow) × (get world.rounds id ≡ Some round)
     × IsListing world (sees_answer person round id t) rows
-    × (given ≡ reply.AnswerList (map (answer_line (shows_verdict person round t)) rows))
+    × (given ≡ reply.Answers (map (answer_line (shows_verdict person round t)) rows))
 
 -- the solutions of the round's puzzles are told, in the list's order
-abbrev pub AreSolutionsTold : World → List ℕ → Reply → Type 0
-AreSolutionsTold world id given =
+abbrev pub IsSolutionsStep : World → List ℕ → Reply → Type 0
+IsSolutionsStep world id given =
     (row : RoundRow) × (texts : List (List ℕ)) × IsRoundAt world id row × AreSolutions world row.puzzles texts
-    × (given ≡ reply.SolutionList texts)
+    × (given ≡ reply.Solutions texts)
 
 -- a protest as it is first stored: open
 abbrev pub open_protest : Person → List ℕ → List ℕ → ℕ → List ℕ → ProtestRow
@@ -197,76 +209,73 @@ open_protest person round token number text = record {
 }
 
 -- the protest is stored as open
-abbrev pub IsProtested : World → Person → List ℕ → List ℕ → ℕ → List ℕ → Reply → World → Type 0
-IsProtested world person round token number text given new =
+abbrev pub IsProtestStep : World → Person → List ℕ → List ℕ → ℕ → List ℕ → Reply → World → Type 0
+IsProtestStep world person round token number text given new =
     let row : ProtestRow = open_protest person round token number text in
-    (given ≡ reply.Protested token) × (new ≡ record world { protests = insert world.protests row.key row })
+    (given ≡ reply.Protest token) × (new ≡ record world { protests = insert world.protests row.key row })
 
 -- the reply lists all protests that the caller sees, by entrant, then token, and no other
-abbrev pub AreProtestsListed : World → Person → List ℕ → Reply → Type 0
-AreProtestsListed world person id given =
-    given ≡ reply.ProtestList (map protest_line (filter (sees_protest person id) (values world.protests)))
+abbrev pub IsProtestsStep : World → Person → List ℕ → Reply → Type 0
+IsProtestsStep world person id given =
+    given ≡ reply.Protests (map protest_line (filter (sees_protest person id) (values world.protests)))
 
 -- the protest is ruled, and the ruling is told
-abbrev pub IsRuledBy : World → List ℕ → List ℕ → List ℕ → Ruling → Reply → World → Type 0
-IsRuledBy world round entrant token ruling given new =
-    (row : ProtestRow) × (protest_of world entrant round token ≡ Some row) × (given ≡ reply.Ruled ruling)
+abbrev pub IsRuleProtestStep : World → List ℕ → List ℕ → List ℕ → Ruling → Reply → World → Type 0
+IsRuleProtestStep world round entrant token ruling given new =
+    (row : ProtestRow) × (protest_of world entrant round token ≡ Some row) × (given ≡ reply.RuleProtest ruling)
     × (let key : ProtestKey = record { entrant = entrant; round = round; token = token } in
     new ≡ record world { protests = insert world.protests key (record row { ruling = Some ruling }) })
 
 -- the round is published
-abbrev pub IsPublishedBy : World → List ℕ → Reply → World → Type 0
-IsPublishedBy world id given new =
-    (round : Round) × (get world.rounds id ≡ Some round) × (given ≡ reply.Published id)
+abbrev pub IsPublishStep : World → List ℕ → Reply → World → Type 0
+IsPublishStep world id given new =
+    (round : Round) × (get world.rounds id ≡ Some round) × (given ≡ reply.Publish id)
     × (new ≡ record world { rounds = insert world.rounds id (record round { published = true }) })
 
 -- the reply is the table of the entrants with an answer in the round, by their totals
-abbrev pub IsTableRead : World → List ℕ → Reply → Type 0
-IsTableRead world id given = (text : List ℕ) × IsTableAt world id text × (given ≡ reply.Table text)
+abbrev pub IsTableStep : World → List ℕ → Reply → Type 0
+IsTableStep world id given = (text : List ℕ) × IsTableAt world id text × (given ≡ reply.Table text)
 
 -- what an allowed action answers and changes; `found` is what the search would find if the action ran it
 abbrev pub Allowed : World → Option Person → Action → ℕ → PuzzleState → Reply → World → Type 0
 Allowed world caller (PutPuzzle key puzzle) t found given new =
-    (text : List ℕ) × CanonicalText text puzzle
-    × (StandsAlready world key puzzle text given new ⊎ IsPut world key puzzle text given new)
-Allowed world caller (Certify key budget) t found given new = IsCertifiedBy world key budget found given new
-Allowed world caller (Release id) t found given new = IsReleasedBy world id given new
-Allowed world caller (ReadRound id) t found given new =
-    (row : RoundRow) × (shown : ShownRound) × IsRoundAt world id row × ShowsRound world row shown
-    × (given ≡ reply.RoundRead shown) × (new ≡ world)
+    IsPutPuzzleStep world key puzzle given new
+Allowed world caller (Certify key budget) t found given new = IsCertifyStep world key budget found given new
+Allowed world caller (Release id) t found given new = IsReleaseStep world id given new
+Allowed world caller (ReadRound id) t found given new = IsReadRoundStep world id given new
 Allowed world caller (Submit id number token answer) t found given new =
-    TheCaller caller (λ person. IsSubmitted world person id number token answer t given new)
+    TheCaller caller (λ person. IsSubmitStep world person id number token answer t given new)
 Allowed world caller (Answers id) t found given new =
-    TheCaller caller (λ person. IsListed world person id t given × (new ≡ world))
-Allowed world caller (Import people) t found given new = IsImported world people given new
-Allowed world caller (ReadPuzzle key) t found given new = IsPuzzleRead world key given × (new ≡ world)
+    TheCaller caller (λ person. IsAnswersStep world person id t given × (new ≡ world))
+Allowed world caller (Import people) t found given new = IsImportStep world people given new
+Allowed world caller (ReadPuzzle key) t found given new = IsReadPuzzleStep world key given × (new ≡ world)
 Allowed world caller ListPuzzles t found given new =
-    TheCaller caller (λ person. ArePuzzlesListed world person given × (new ≡ world))
-Allowed world caller (PutRound id sheet) t found given new = IsRoundPut world id sheet given new
+    TheCaller caller (λ person. IsListPuzzlesStep world person given × (new ≡ world))
+Allowed world caller (PutRound id sheet) t found given new = IsPutRoundStep world id sheet given new
 Allowed world caller ListRounds t found given new =
-    TheCaller caller (λ person. AreRoundsListed world person given × (new ≡ world))
-Allowed world caller (Solutions id) t found given new = AreSolutionsTold world id given × (new ≡ world)
+    TheCaller caller (λ person. IsListRoundsStep world person given × (new ≡ world))
+Allowed world caller (Solutions id) t found given new = IsSolutionsStep world id given × (new ≡ world)
 Allowed world caller (Protest id token number text) t found given new =
-    TheCaller caller (λ person. IsProtested world person id token number text given new)
+    TheCaller caller (λ person. IsProtestStep world person id token number text given new)
 Allowed world caller (Protests id) t found given new =
-    TheCaller caller (λ person. AreProtestsListed world person id given × (new ≡ world))
+    TheCaller caller (λ person. IsProtestsStep world person id given × (new ≡ world))
 Allowed world caller (Rule id entrant token ruling) t found given new =
-    IsRuledBy world id entrant token ruling given new
-Allowed world caller (Publish id) t found given new = IsPublishedBy world id given new
-Allowed world caller (Table id) t found given new = IsTableRead world id given × (new ≡ world)
+    IsRuleProtestStep world id entrant token ruling given new
+Allowed world caller (Publish id) t found given new = IsPublishStep world id given new
+Allowed world caller (Table id) t found given new = IsTableStep world id given × (new ≡ world)
 
 -- the first reply, from the row that stands
 abbrev pub FirstReply : World → Option Person → Action → Reply → Type 0
 FirstReply world caller (Submit id number token answer) given =
     TheCaller caller (λ person. (round : Round) × (row : AnswerRow) × (get world.rounds id ≡ Some round)
     × (get world.answers (record { entrant = person.name; round = id; number = number; token = token }) ≡ Some row)
-    × (given ≡ reply.Received row.n (told_verdict round row.verdict)))
+    × (given ≡ reply.Submit row.n (told_verdict round row.verdict)))
 FirstReply world caller (Protest id token number text) given =
     TheCaller caller (λ person. (row : ProtestRow) × (protest_of world person.name id token ≡ Some row)
-    × (given ≡ reply.Protested token))
+    × (given ≡ reply.Protest token))
 FirstReply world caller (Rule id entrant token ruling) given =
     (row : ProtestRow) × (ruled : Ruling) × (protest_of world entrant id token ≡ Some row) × (row.ruling ≡ Some ruled)
-    × (given ≡ reply.Ruled ruled)
+    × (given ≡ reply.RuleProtest ruled)
 FirstReply world caller (Import people) given = ⊥
 FirstReply world caller (PutPuzzle key puzzle) given = ⊥
 FirstReply world caller (ReadPuzzle key) given = ⊥
@@ -313,4 +322,4 @@ abbrev pub Seed : World → List Person → Reply → World → Type 0
 Seed world people given new =
     ((given ≡ reply.Unavailable) × (new ≡ world))
     ⊎ ((HasConflict world (Import people) × (given ≡ reply.Denied 20) × (new ≡ world))
-    ⊎ (¬ (HasConflict world (Import people)) × IsImported world people given new))
+    ⊎ (¬ (HasConflict world (Import people)) × IsImportStep world people given new))

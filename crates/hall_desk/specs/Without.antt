@@ -13,7 +13,7 @@ use Rattle.hall_desk.specs.declared.reply.Reply.TheVariants as reply
 
 -- the reply grants no publication
 abbrev pub GrantsNoPublication : Reply → Type 0
-GrantsNoPublication given = (round : List ℕ) → given ≢ reply.Published round
+GrantsNoPublication given = (round : List ℕ) → given ≢ reply.Publish round
 
 -- the person is another one than e, and holds the role entrant alone
 abbrev pub is_other_person : Person → Option Person → Bool

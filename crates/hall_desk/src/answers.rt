@@ -18,14 +18,14 @@ use std::alloc::{AllocError, Global};
 
 /// What is listed: the answers of the round of this id.
 #[derive(Clone, Copy)]
-pub(crate) struct Listing<'a> {
+pub(crate) struct Answers<'a> {
     pub(crate) round: &'a RoundId,
 }
 
-impl<'a> Handler for Listing<'a> {
-    ghost use Rattle.hall_desk.specs.Handler.{list_action};
+impl<'a> Handler for Answers<'a> {
+    ghost use Rattle.hall_desk.specs.Handler.{answers_action};
 
-    ghost action_of = { list_action };
+    ghost action_of = { answers_action };
 
     fn decision<S: ReadStore>(
         &self,
@@ -60,7 +60,7 @@ impl<'a> Handler for Listing<'a> {
         let all = sees_all(person, &row.round, t);
         let shows = shows_verdict(person, &row.round, t);
         let lines = list_answers(alloc, store, self.round, &person.name, all, shows)?;
-        Ok(Plan::of(Reply::AnswerList(lines)))
+        Ok(Plan::of(Reply::Answers(lines)))
     }
 }
 

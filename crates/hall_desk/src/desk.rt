@@ -125,7 +125,7 @@ impl<S: Store> Desk<S> {
         step(alloc, &mut self.store, t, request)
     }
 
-    /// Imports the people before any request: the rule on lists alone is asked. It answers `Reply::Imported`, or
+    /// Imports the people before any request: the rule on lists alone is asked. It answers `Reply::Import`, or
     /// `Reply::Denied` by that rule. It makes at most one write, and none where it denies. Refused, it has left the world
     /// while the store serves; want of memory apart, it fails only over a store that can.
     pub fn try_seed(&mut self, alloc: Global, people: &People) -> Result<Reply, StoreFault>

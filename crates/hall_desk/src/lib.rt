@@ -3,35 +3,35 @@
 
 mod answers;
 mod census;
-mod certify_puzzle;
+mod certify;
 mod copied;
 mod desk;
 mod entry_fault;
 mod found;
 mod handler;
-mod import_people;
+mod import;
 mod law;
-mod list_protests;
 mod list_puzzles;
 mod list_rounds;
 mod plan;
 mod planned;
 mod protest;
+mod protests;
 mod publish;
 mod put_puzzle;
 mod put_round;
 mod read_puzzle;
 mod read_round;
-mod read_table;
 mod release;
 mod reply;
 mod rows;
 mod rule_protest;
 mod search;
 mod seed;
+mod solutions;
 mod step;
 mod submit;
-mod tell_solutions;
+mod table;
 mod verdict;
 
 pub use census::Census;
@@ -46,5 +46,5 @@ pub use reply::{
     TableText,
 };
 pub use rows::Rows;
-pub use search::certify;
+pub use search::search_puzzle;
 pub use verdict::judge;

@@ -16,12 +16,12 @@ use std::alloc::{AllocError, Global};
 
 /// What is listed: puzzles.
 #[derive(Clone, Copy)]
-pub(crate) struct ListingPuzzles {}
+pub(crate) struct ListPuzzles {}
 
-impl Handler for ListingPuzzles {
-    ghost use Rattle.hall_desk.specs.Handler.{puzzles_list_action};
+impl Handler for ListPuzzles {
+    ghost use Rattle.hall_desk.specs.Handler.{list_puzzles_action};
 
-    ghost action_of = { puzzles_list_action };
+    ghost action_of = { list_puzzles_action };
 
     /// The rules read the caller alone.
     fn decision<S: ReadStore>(
@@ -52,7 +52,7 @@ impl Handler for ListingPuzzles {
         };
         let rows = find_puzzles(alloc, store, person)?;
         let lines = show_puzzles(alloc, rows.as_slice())?;
-        Ok(Plan::of(Reply::PuzzleList(lines)))
+        Ok(Plan::of(Reply::ListPuzzles(lines)))
     }
 }
 

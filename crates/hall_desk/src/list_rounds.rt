@@ -13,12 +13,12 @@ use std::alloc::{AllocError, Global};
 
 /// What is listed: rounds.
 #[derive(Clone, Copy)]
-pub(crate) struct ListingRounds {}
+pub(crate) struct ListRounds {}
 
-impl Handler for ListingRounds {
-    ghost use Rattle.hall_desk.specs.Handler.{rounds_list_action};
+impl Handler for ListRounds {
+    ghost use Rattle.hall_desk.specs.Handler.{list_rounds_action};
 
-    ghost action_of = { rounds_list_action };
+    ghost action_of = { list_rounds_action };
 
     /// The rules read the caller alone.
     fn decision<S: ReadStore>(
@@ -49,7 +49,7 @@ impl Handler for ListingRounds {
         };
         let rounds = store.rounds(alloc)?;
         let lines = show_rounds(alloc, person, rounds.as_slice())?;
-        Ok(Plan::of(Reply::RoundList(lines)))
+        Ok(Plan::of(Reply::ListRounds(lines)))
     }
 }
 

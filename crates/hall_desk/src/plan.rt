@@ -11,27 +11,27 @@ ghost use Rattle.hall_desk.specs.Copied.{IsCopied};
 ghost use Rattle.hall_desk.specs.Found.{IsCaller};
 ghost use Rattle.hall_desk.specs.Plans.{IsPlanFor, Planned, FailsIn, IsAvailable, IsNobodys, IsQuietPlan};
 
-use crate::answers::Listing;
-use crate::certify_puzzle::Certifying;
+use crate::answers::Answers;
+use crate::certify::Certify;
 use crate::copied::TableCopy;
 use crate::handler::Handler;
-use crate::import_people::Importing;
-use crate::list_protests::ListingProtests;
-use crate::list_puzzles::ListingPuzzles;
-use crate::list_rounds::ListingRounds;
+use crate::import::Import;
+use crate::list_puzzles::ListPuzzles;
+use crate::list_rounds::ListRounds;
 use crate::planned::Plan;
-use crate::protest::Protesting;
-use crate::publish::Publishing;
-use crate::put_puzzle::Putting;
-use crate::put_round::Drafting;
-use crate::read_puzzle::ReadingPuzzle;
-use crate::read_round::Reading;
-use crate::read_table::plan_table;
-use crate::release::Releasing;
+use crate::protest::Protest;
+use crate::protests::Protests;
+use crate::publish::Publish;
+use crate::put_puzzle::PutPuzzle;
+use crate::put_round::PutRound;
+use crate::read_puzzle::ReadPuzzle;
+use crate::read_round::ReadRound;
+use crate::release::Release;
 use crate::reply::Reply;
-use crate::rule_protest::RulingOn;
-use crate::submit::Handed;
-use crate::tell_solutions::TellingSolutions;
+use crate::rule_protest::RuleProtest;
+use crate::solutions::Solutions;
+use crate::submit::Submit;
+use crate::table::plan_table;
 use hall_policy::{Action, Decision, Facts, Moment, Request, RoundId, Rule, decide_up_to};
 use hall_store::{ReadStore, StoreFault};
 use std::alloc::Global;
@@ -194,37 +194,41 @@ fn dispatch<S: ReadStore>(turn: &Turn, store: &mut S, facts: &mut Facts) -> Resu
         (λ world plan. IsPlanFor world turn.now.t turn.now.request.now plan) }
 {
     match &turn.request.action {
-        Action::Import { people } => turn.handle(store, &Importing { people }, facts),
-        Action::PutPuzzle { key, puzzle } => turn.handle(store, &Putting { key, puzzle }, facts),
-        Action::ReadPuzzle { key } => turn.handle(store, &ReadingPuzzle { key }, facts),
-        Action::ListPuzzles => turn.handle(store, &ListingPuzzles {}, facts),
-        Action::Certify { key, budget } => turn.handle(store, &Certifying::of(key, *budget), facts),
-        Action::PutRound { round, sheet } => turn.handle(store, &Drafting { round, sheet }, facts),
-        Action::Release { round } => turn.handle(store, &Releasing { round }, facts),
-        Action::ListRounds => turn.handle(store, &ListingRounds {}, facts),
-        Action::ReadRound { round } => turn.handle(store, &Reading { round }, facts),
+        Action::Import { people } => turn.handle(store, &Import { people }, facts),
+        Action::PutPuzzle { key, puzzle } => turn.handle(store, &PutPuzzle { key, puzzle }, facts),
+        Action::ReadPuzzle { key } => turn.handle(store, &ReadPuzzle { key }, facts),
+        Action::ListPuzzles => turn.handle(store, &ListPuzzles {}, facts),
+        Action::Certify { key, budget } => turn.handle(store, &Certify::of(key, *budget), facts),
+        Action::PutRound { round, sheet } => turn.handle(store, &PutRound { round, sheet }, facts),
+        Action::Release { round } => turn.handle(store, &Release { round }, facts),
+        Action::ListRounds => turn.handle(store, &ListRounds {}, facts),
+        Action::ReadRound { round } => turn.handle(store, &ReadRound { round }, facts),
         Action::Submit {
             round,
             number,
             token,
             answer,
-        } => turn.handle(store, &Handed::of(round, *number, token, answer), facts),
-        Action::Answers { round } => turn.handle(store, &Listing { round }, facts),
-        Action::Solutions { round } => turn.handle(store, &TellingSolutions { round }, facts),
+        } => turn.handle(store, &Submit::of(round, *number, token, answer), facts),
+        Action::Answers { round } => turn.handle(store, &Answers { round }, facts),
+        Action::Solutions { round } => turn.handle(store, &Solutions { round }, facts),
         Action::Protest {
             round,
             token,
             number,
             text,
-        } => turn.handle(store, &Protesting::of(round, token, *number, text), facts),
-        Action::Protests { round } => turn.handle(store, &ListingProtests { round }, facts),
+        } => turn.handle(store, &Protest::of(round, token, *number, text), facts),
+        Action::Protests { round } => turn.handle(store, &Protests { round }, facts),
         Action::Rule {
             round,
             entrant,
             token,
             ruling,
-        } => turn.handle(store, &RulingOn::of(round, entrant, token, *ruling), facts),
-        Action::Publish { round } => turn.handle(store, &Publishing { round }, facts),
+        } => turn.handle(
+            store,
+            &RuleProtest::of(round, entrant, token, *ruling),
+            facts,
+        ),
+        Action::Publish { round } => turn.handle(store, &Publish { round }, facts),
         Action::Table { .. } => unreachable!(),
     }
 }

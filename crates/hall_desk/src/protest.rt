@@ -1,6 +1,6 @@
 //! Protest: a protest about a puzzle of a round is stored.
 ghost use Rattle.std.specs.Prelude.{◌≡◌, IfOk};
-ghost use Rattle.hall_policy.specs.declared.request.Action.TheVariants.{Protest};
+ghost use Rattle.hall_policy.specs.declared.request.Action.{Action};
 ghost use Rattle.hall_store.specs.Store.{Kept, Told, Fails};
 ghost use Rattle.hall_store.specs.declared.change.Change.{Change};
 ghost use Rattle.hall_desk.specs.Handler.{protest_action, protest_key, protest_row, IsProtestOf, IsProtestCountOf};
@@ -17,24 +17,24 @@ use std::alloc::{AllocError, Global};
 
 /// What is protested: about the round's puzzle of that number, under a token.
 #[derive(Clone, Copy)]
-pub(crate) struct Protesting<'a> {
+pub(crate) struct Protest<'a> {
     pub(crate) round: &'a RoundId,
     pub(crate) token: &'a Token,
     pub(crate) number: PuzzleNumber,
     pub(crate) text: &'a ProtestText,
 }
 
-impl<'a> Protesting<'a> {
+impl<'a> Protest<'a> {
     /// A protest about the round's puzzle of that number, under a token.
     pub(crate) fn of(
         round: &'a RoundId,
         token: &'a Token,
         number: PuzzleNumber,
         text: &'a ProtestText,
-    ) -> Protesting<'a>
-        ensures { protest_action result ≡ Protest round.now token.now number text.now }
+    ) -> Protest<'a>
+        ensures { protest_action result ≡ Action.Protest round.now token.now number text.now }
     {
-        Protesting {
+        Protest {
             round,
             token,
             number,
@@ -43,7 +43,7 @@ impl<'a> Protesting<'a> {
     }
 }
 
-impl<'a> Handler for Protesting<'a> {
+impl<'a> Handler for Protest<'a> {
     ghost use Rattle.hall_desk.specs.Handler.{protest_action};
 
     ghost action_of = { protest_action };
@@ -72,7 +72,7 @@ impl<'a> Handler for Protesting<'a> {
 
     fn first_reply(&self, facts: &Facts) -> Result<Option<Reply>, AllocError> {
         match &facts.protest {
-            Some(_) => Ok(Some(Reply::Protested(self.token.clone()?))),
+            Some(_) => Ok(Some(Reply::Protest(self.token.clone()?))),
             None => Ok(None),
         }
     }
@@ -96,7 +96,7 @@ fn find_protest<S: ReadStore>(
     alloc: Global,
     store: &mut S,
     facts: &Facts,
-    asked: &Protesting,
+    asked: &Protest,
 ) -> Result<Option<ProtestRow>, StoreFault>
     ensures kept { Kept (S.content store.old) (S.content store.new) }
     ensures fault { Fails S.can_fail result }
@@ -117,7 +117,7 @@ fn count_protests<S: ReadStore>(
     alloc: Global,
     store: &mut S,
     facts: &Facts,
-    asked: &Protesting,
+    asked: &Protest,
 ) -> Result<u64, StoreFault>
     ensures kept { Kept (S.content store.old) (S.content store.new) }
     ensures fault { Fails S.can_fail result }
@@ -131,8 +131,8 @@ fn count_protests<S: ReadStore>(
 }
 
 /// The plan that stores the protest, open.
-fn protested(person: &Person, asked: &Protesting) -> Result<Plan, AllocError>
-    ensures reply { IfOk result (λ plan. plan.reply ≡ Reply.Protested asked.now.token.now) }
+fn protested(person: &Person, asked: &Protest) -> Result<Plan, AllocError>
+    ensures reply { IfOk result (λ plan. plan.reply ≡ Reply.Protest asked.now.token.now) }
     ensures change { IfOk result (λ plan. plan.change ≡ Change.AddProtest (protest_row person.now asked.now)) }
 {
     let stored = ProtestRow {
@@ -142,14 +142,14 @@ fn protested(person: &Person, asked: &Protesting) -> Result<Plan, AllocError>
         ruling: None,
     };
     Ok(Plan {
-        reply: Reply::Protested(asked.token.clone()?),
+        reply: Reply::Protest(asked.token.clone()?),
         change: Change::AddProtest(stored),
         visits: None,
     })
 }
 
 /// Where the protest is kept.
-fn key_of(person: &Person, asked: &Protesting) -> Result<ProtestKey, AllocError>
+fn key_of(person: &Person, asked: &Protest) -> Result<ProtestKey, AllocError>
     ensures { IfOk result (λ key. key ≡ protest_key person.now asked.now) }
 {
     Ok(ProtestKey {

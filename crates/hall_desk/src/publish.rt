@@ -1,7 +1,7 @@
 //! Publish: a round is published.
 ghost use Rattle.std.specs.Prelude.{IfOk};
 ghost use Rattle.hall_policy.specs.Implies.{IsAllowable};
-ghost use Rattle.hall_policy.specs.declared.request.Action.TheVariants.{Publish};
+ghost use Rattle.hall_policy.specs.declared.request.Action.{Action};
 ghost use Rattle.hall_desk.specs.Plans.{IsPlanOf};
 
 use crate::handler::Handler;
@@ -13,11 +13,11 @@ use std::alloc::{AllocError, Global};
 
 /// What is published: the round of this id.
 #[derive(Clone, Copy)]
-pub(crate) struct Publishing<'a> {
+pub(crate) struct Publish<'a> {
     pub(crate) round: &'a RoundId,
 }
 
-impl<'a> Handler for Publishing<'a> {
+impl<'a> Handler for Publish<'a> {
     ghost use Rattle.hall_desk.specs.Handler.{publish_action};
 
     ghost action_of = { publish_action };
@@ -56,8 +56,8 @@ impl<'a> Handler for Publishing<'a> {
 
 /// The plan of an allowed Publish.
 fn publish_round(facts: &Facts, round: &RoundId) -> Result<Plan, AllocError>
-    requires { IsAllowable facts.now (Publish round.now) }
-    ensures { IfOk result (IsPlanOf facts.now (Publish round.now)) }
+    requires { IsAllowable facts.now (Action.Publish round.now) }
+    ensures { IfOk result (IsPlanOf facts.now (Action.Publish round.now)) }
 {
     let Some(_row) = &facts.round else {
         unreachable!()
@@ -65,7 +65,7 @@ fn publish_round(facts: &Facts, round: &RoundId) -> Result<Plan, AllocError>
     let shown = round.clone()?;
     let kept = round.clone()?;
     Ok(Plan {
-        reply: Reply::Published(shown),
+        reply: Reply::Publish(shown),
         change: Change::SetRoundFlag {
             round: kept,
             flag: RoundFlag::Published,

@@ -3,7 +3,7 @@ ghost use Rattle.std.specs.Prelude.{◌≡◌, IfOk, None};
 ghost use Rattle.hall_grid.specs.Canonical.{CanonicalText};
 ghost use Rattle.hall_policy.specs.Rules.{puzzles_put};
 ghost use Rattle.hall_policy.specs.Implies.{IsAllowable};
-ghost use Rattle.hall_policy.specs.declared.request.Action.TheVariants.{PutPuzzle};
+ghost use Rattle.hall_policy.specs.declared.request.Action.{Action};
 ghost use Rattle.hall_store.specs.Store.{Kept, Told, Fails};
 ghost use Rattle.hall_desk.specs.Shown.{state_name};
 ghost use Rattle.hall_desk.specs.Plans.{IsPlanOf, StandsAs};
@@ -22,15 +22,15 @@ use std::alloc::{AllocError, Global};
 
 /// What is put: a puzzle under its author and label.
 #[derive(Clone, Copy)]
-pub(crate) struct Putting<'a> {
+pub(crate) struct PutPuzzle<'a> {
     pub(crate) key: &'a PuzzleKey,
     pub(crate) puzzle: &'a Puzzle,
 }
 
-impl<'a> Handler for Putting<'a> {
-    ghost use Rattle.hall_desk.specs.Handler.{put_action};
+impl<'a> Handler for PutPuzzle<'a> {
+    ghost use Rattle.hall_desk.specs.Handler.{put_puzzle_action};
 
-    ghost action_of = { put_action };
+    ghost action_of = { put_puzzle_action };
 
     /// The author is looked for, then the rounds that have the puzzle, then the puzzle; puzzles are counted where it
     /// is a new one.
@@ -96,13 +96,13 @@ fn put_puzzle(
     key: &PuzzleKey,
     puzzle: &Puzzle,
 ) -> Result<Plan, AllocError>
-    requires { IsAllowable facts.now (PutPuzzle key.now puzzle.now) }
-    ensures { IfOk result (IsPlanOf facts.now (PutPuzzle key.now puzzle.now)) }
+    requires { IsAllowable facts.now (Action.PutPuzzle key.now puzzle.now) }
+    ensures { IfOk result (IsPlanOf facts.now (Action.PutPuzzle key.now puzzle.now)) }
 {
     let text = text_of(alloc, puzzle)?;
     match standing_state(facts, puzzle) {
         Some(state) => Ok(Plan {
-            reply: Reply::PuzzlePut { state, text },
+            reply: Reply::PutPuzzle { state, text },
             change: Change::Nothing,
             visits: None,
         }),
@@ -113,7 +113,7 @@ fn put_puzzle(
                 state: PuzzleState::New,
             };
             Ok(Plan {
-                reply: Reply::PuzzlePut {
+                reply: Reply::PutPuzzle {
                     state: StateName::New,
                     text,
                 },

@@ -16,15 +16,15 @@ use std::alloc::{AllocError, Global};
 
 /// What is drafted: the round of this id, by a sheet.
 #[derive(Clone, Copy)]
-pub(crate) struct Drafting<'a> {
+pub(crate) struct PutRound<'a> {
     pub(crate) round: &'a RoundId,
     pub(crate) sheet: &'a Sheet,
 }
 
-impl<'a> Handler for Drafting<'a> {
-    ghost use Rattle.hall_desk.specs.Handler.{draft_action};
+impl<'a> Handler for PutRound<'a> {
+    ghost use Rattle.hall_desk.specs.Handler.{put_round_action};
 
-    ghost action_of = { draft_action };
+    ghost action_of = { put_round_action };
 
     /// The sheet's puzzles are looked for, then its testers, then the round.
     fn decision<S: ReadStore>(
@@ -57,7 +57,7 @@ impl<'a> Handler for Drafting<'a> {
         let shown = self.round.clone()?;
         let row = draft_row(self.round, self.sheet)?;
         Ok(Plan {
-            reply: Reply::RoundPut(shown),
+            reply: Reply::PutRound(shown),
             change: Change::PutRound(row),
             visits: None,
         })

@@ -1,7 +1,7 @@
 //! ReadPuzzle: a puzzle with its state and text.
 ghost use Rattle.std.specs.Prelude.{IfOk};
 ghost use Rattle.hall_policy.specs.Implies.{IsAllowable};
-ghost use Rattle.hall_policy.specs.declared.request.Action.TheVariants.{ReadPuzzle};
+ghost use Rattle.hall_policy.specs.declared.request.Action.{Action};
 ghost use Rattle.hall_desk.specs.Plans.{IsPlanOf};
 
 use crate::handler::Handler;
@@ -14,14 +14,14 @@ use std::alloc::{AllocError, Global};
 
 /// What is read: the puzzle under this key.
 #[derive(Clone, Copy)]
-pub(crate) struct ReadingPuzzle<'a> {
+pub(crate) struct ReadPuzzle<'a> {
     pub(crate) key: &'a PuzzleKey,
 }
 
-impl<'a> Handler for ReadingPuzzle<'a> {
-    ghost use Rattle.hall_desk.specs.Handler.{puzzle_read_action};
+impl<'a> Handler for ReadPuzzle<'a> {
+    ghost use Rattle.hall_desk.specs.Handler.{read_puzzle_action};
 
-    ghost action_of = { puzzle_read_action };
+    ghost action_of = { read_puzzle_action };
 
     fn decision<S: ReadStore>(
         &self,
@@ -53,13 +53,13 @@ impl<'a> Handler for ReadingPuzzle<'a> {
 
 /// The plan of an allowed ReadPuzzle.
 fn read_puzzle(alloc: Global, facts: &Facts, key: &PuzzleKey) -> Result<Plan, AllocError>
-    requires { IsAllowable facts.now (ReadPuzzle key.now) }
-    ensures { IfOk result (IsPlanOf facts.now (ReadPuzzle key.now)) }
+    requires { IsAllowable facts.now (Action.ReadPuzzle key.now) }
+    ensures { IfOk result (IsPlanOf facts.now (Action.ReadPuzzle key.now)) }
 {
     let Some(row) = &facts.puzzle else {
         unreachable!()
     };
-    Ok(Plan::of(Reply::PuzzleRead {
+    Ok(Plan::of(Reply::ReadPuzzle {
         key: key.clone()?,
         state: state_name(&row.state),
         text: text_of(alloc, &row.puzzle)?,

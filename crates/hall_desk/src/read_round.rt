@@ -19,14 +19,14 @@ use std::alloc::{AllocError, Global};
 
 /// What is read: the round of this id.
 #[derive(Clone, Copy)]
-pub(crate) struct Reading<'a> {
+pub(crate) struct ReadRound<'a> {
     pub(crate) round: &'a RoundId,
 }
 
-impl<'a> Handler for Reading<'a> {
-    ghost use Rattle.hall_desk.specs.Handler.{read_action};
+impl<'a> Handler for ReadRound<'a> {
+    ghost use Rattle.hall_desk.specs.Handler.{read_round_action};
 
-    ghost action_of = { read_action };
+    ghost action_of = { read_round_action };
 
     fn decision<S: ReadStore>(
         &self,
@@ -56,7 +56,7 @@ impl<'a> Handler for Reading<'a> {
             unreachable!()
         };
         let shown = show_round(alloc, store, row)?;
-        Ok(Plan::of(Reply::RoundRead(shown)))
+        Ok(Plan::of(Reply::ReadRound(shown)))
     }
 }
 

@@ -1,7 +1,7 @@
 //! Release: a draft is released.
 ghost use Rattle.std.specs.Prelude.{IfOk};
 ghost use Rattle.hall_policy.specs.Implies.{IsAllowable};
-ghost use Rattle.hall_policy.specs.declared.request.Action.TheVariants.{Release};
+ghost use Rattle.hall_policy.specs.declared.request.Action.{Action};
 ghost use Rattle.hall_desk.specs.Plans.{IsPlanOf};
 
 use crate::entry_fault::{EntryFault, find_fault};
@@ -14,11 +14,11 @@ use std::alloc::{AllocError, Global};
 
 /// What is released: the round of this id.
 #[derive(Clone, Copy)]
-pub(crate) struct Releasing<'a> {
+pub(crate) struct Release<'a> {
     pub(crate) round: &'a RoundId,
 }
 
-impl<'a> Handler for Releasing<'a> {
+impl<'a> Handler for Release<'a> {
     ghost use Rattle.hall_desk.specs.Handler.{release_action};
 
     ghost action_of = { release_action };
@@ -67,8 +67,8 @@ impl<'a> Handler for Releasing<'a> {
 
 /// The plan of an allowed Release.
 fn release_round(facts: &Facts, round: &RoundId) -> Result<Plan, AllocError>
-    requires { IsAllowable facts.now (Release round.now) }
-    ensures { IfOk result (IsPlanOf facts.now (Release round.now)) }
+    requires { IsAllowable facts.now (Action.Release round.now) }
+    ensures { IfOk result (IsPlanOf facts.now (Action.Release round.now)) }
 {
     let Some(_row) = &facts.round else {
         unreachable!()
@@ -76,7 +76,7 @@ fn release_round(facts: &Facts, round: &RoundId) -> Result<Plan, AllocError>
     let shown = round.clone()?;
     let kept = round.clone()?;
     Ok(Plan {
-        reply: Reply::Released(shown),
+        reply: Reply::Release(shown),
         change: Change::SetRoundFlag {
             round: kept,
             flag: RoundFlag::Released,

@@ -123,47 +123,47 @@ pub enum Reply {
     /// No memory was left, or the store refused; nothing is changed.
     Unavailable,
     /// How many people were added.
-    Imported(u64),
+    Import(u64),
     /// The puzzle's state and text, after it was put.
-    PuzzlePut {
+    PutPuzzle {
         state: StateName,
         text: PuzzleText,
     },
     /// The puzzle that was read, with its state and text.
-    PuzzleRead {
+    ReadPuzzle {
         key: PuzzleKey,
         state: StateName,
         text: PuzzleText,
     },
     /// The puzzles that the caller sees, by author, then label.
-    PuzzleList(Rows<PuzzleLine>),
+    ListPuzzles(Rows<PuzzleLine>),
     /// The puzzle's state, after it was certified.
-    Certified(StateName),
+    Certify(StateName),
     /// The id of the draft that was stored or replaced.
-    RoundPut(RoundId),
+    PutRound(RoundId),
     /// The id of the round that was released.
-    Released(RoundId),
+    Release(RoundId),
     /// The rounds that the caller sees, by id.
-    RoundList(Rows<RoundLine>),
+    ListRounds(Rows<RoundLine>),
     /// The round that was read.
-    RoundRead(ShownRound),
+    ReadRound(ShownRound),
     /// An accepted answer's number and, in an instant round, its verdict.
-    Received {
+    Submit {
         n: AnswerNumber,
         verdict: Option<Broken>,
     },
     /// The answers that the caller sees, by entrant, number, then n.
-    AnswerList(Rows<AnswerLine>),
+    Answers(Rows<AnswerLine>),
     /// The solutions of the round's puzzles, by number.
-    SolutionList(Rows<AnswerText>),
+    Solutions(Rows<AnswerText>),
     /// The token of the protest that was stored.
-    Protested(Token),
+    Protest(Token),
     /// The protests that the caller sees, by entrant, then token.
-    ProtestList(Rows<ProtestLine>),
+    Protests(Rows<ProtestLine>),
     /// How the protest was ruled.
-    Ruled(Ruling),
+    RuleProtest(Ruling),
     /// The id of the round that was published.
-    Published(RoundId),
+    Publish(RoundId),
     /// The table of a round.
     Table(TableText),
 }

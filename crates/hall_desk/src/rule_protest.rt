@@ -1,10 +1,10 @@
-//! Rule: a protest is ruled.
+//! RuleProtest: a protest is ruled.
 ghost use Rattle.std.specs.Prelude.{◌≡◌, ◌↔◌, IfOk, IsTrue};
 ghost use Rattle.hall_policy.specs.Rules.{IsInvolved};
 ghost use Rattle.hall_policy.specs.declared.request.Action.{Action};
 ghost use Rattle.hall_store.specs.Store.{Kept, Told, Fails};
 ghost use Rattle.hall_store.specs.declared.change.Change.{Change};
-ghost use Rattle.hall_desk.specs.Handler.{rule_action, ruled_key};
+ghost use Rattle.hall_desk.specs.Handler.{rule_protest_action, ruled_key};
 
 use crate::handler::Handler;
 use crate::planned::Plan;
@@ -18,24 +18,24 @@ use std::alloc::{AllocError, Global};
 
 /// What is ruled, and how: the entrant's protest in the round under the token.
 #[derive(Clone, Copy)]
-pub(crate) struct RulingOn<'a> {
+pub(crate) struct RuleProtest<'a> {
     pub(crate) round: &'a RoundId,
     pub(crate) entrant: &'a Name,
     pub(crate) token: &'a Token,
     pub(crate) ruling: Ruling,
 }
 
-impl<'a> RulingOn<'a> {
+impl<'a> RuleProtest<'a> {
     /// A ruling of the entrant's protest in the round under the token.
     pub(crate) fn of(
         round: &'a RoundId,
         entrant: &'a Name,
         token: &'a Token,
         ruling: Ruling,
-    ) -> RulingOn<'a>
-        ensures { rule_action result ≡ Action.Rule round.now entrant.now token.now ruling }
+    ) -> RuleProtest<'a>
+        ensures { rule_protest_action result ≡ Action.Rule round.now entrant.now token.now ruling }
     {
-        RulingOn {
+        RuleProtest {
             round,
             entrant,
             token,
@@ -44,10 +44,10 @@ impl<'a> RulingOn<'a> {
     }
 }
 
-impl<'a> Handler for RulingOn<'a> {
-    ghost use Rattle.hall_desk.specs.Handler.{rule_action};
+impl<'a> Handler for RuleProtest<'a> {
+    ghost use Rattle.hall_desk.specs.Handler.{rule_protest_action};
 
-    ghost action_of = { rule_action };
+    ghost action_of = { rule_protest_action };
 
     /// The referee's answers are looked up where the round and the protest are there.
     fn decision<S: ReadStore>(
@@ -73,7 +73,7 @@ impl<'a> Handler for RulingOn<'a> {
             return Ok(None);
         };
         match &row.ruling {
-            Some(ruling) => Ok(Some(Reply::Ruled(*ruling))),
+            Some(ruling) => Ok(Some(Reply::RuleProtest(*ruling))),
             None => Ok(None),
         }
     }
@@ -94,12 +94,12 @@ fn is_involved<S: ReadStore>(
     alloc: Global,
     store: &mut S,
     facts: &Facts,
-    asked: &RulingOn,
+    asked: &RuleProtest,
 ) -> Result<bool, StoreFault>
     ensures kept { Kept (S.content store.old) (S.content store.new) }
     ensures fault { Fails S.can_fail result }
     ensures told { Told (S.content store.old) (S.content store.new) result
-        (λ world involved. IsTrue involved ↔ IsInvolved world facts.now.caller (rule_action asked.now)) }
+        (λ world involved. IsTrue involved ↔ IsInvolved world facts.now.caller (rule_protest_action asked.now)) }
 {
     match &facts.caller {
         Some(person) if asked.entrant.is_same(&person.name) => Ok(true),
@@ -109,12 +109,12 @@ fn is_involved<S: ReadStore>(
 }
 
 /// The plan that rules the protest.
-fn ruled(asked: &RulingOn) -> Result<Plan, AllocError>
-    ensures reply { IfOk result (λ plan. plan.reply ≡ Reply.Ruled asked.now.ruling) }
+fn ruled(asked: &RuleProtest) -> Result<Plan, AllocError>
+    ensures reply { IfOk result (λ plan. plan.reply ≡ Reply.RuleProtest asked.now.ruling) }
     ensures change { IfOk result (λ plan. plan.change ≡ Change.RuleProtest (ruled_key asked.now) asked.now.ruling) }
 {
     Ok(Plan {
-        reply: Reply::Ruled(asked.ruling),
+        reply: Reply::RuleProtest(asked.ruling),
         change: Change::RuleProtest {
             key: key_of(asked)?,
             ruling: asked.ruling,
@@ -124,7 +124,7 @@ fn ruled(asked: &RulingOn) -> Result<Plan, AllocError>
 }
 
 /// Where the protest is kept.
-fn key_of(asked: &RulingOn) -> Result<ProtestKey, AllocError>
+fn key_of(asked: &RuleProtest) -> Result<ProtestKey, AllocError>
     ensures { IfOk result (λ key. key ≡ ruled_key asked.now) }
 {
     Ok(ProtestKey {

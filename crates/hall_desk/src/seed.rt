@@ -6,7 +6,7 @@ ghost use Rattle.hall_desk.specs.Desk.{SaneThen};
 ghost use Rattle.hall_desk.specs.Sane.{Sane};
 ghost use Rattle.hall_desk.specs.Plans.{IsSeedPlan, IsSeedReply, Seeds};
 
-use crate::import_people::{any_conflict, plan_import};
+use crate::import::{any_conflict, plan_import};
 use crate::planned::Plan;
 use crate::reply::Reply;
 use crate::step::commit;

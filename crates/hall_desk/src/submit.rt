@@ -3,13 +3,13 @@ ghost use Rattle.std.specs.Prelude.{◌≡◌, ◌+◌, ◌<◌, IfOk, Some};
 ghost use Rattle.hall_policy.specs.World.{entry_at};
 ghost use Rattle.hall_policy.specs.Implies.{EntryIsThere};
 ghost use Rattle.hall_policy.specs.declared.record.Entry.{Entry};
-ghost use Rattle.hall_policy.specs.declared.request.Action.TheVariants.{Submit};
+ghost use Rattle.hall_policy.specs.declared.request.Action.{Action};
 ghost use Rattle.hall_store.specs.Store.{Asks, Kept, Served, Told, Fails};
 ghost use Rattle.hall_store.specs.declared.change.Change.{Change};
 ghost use Rattle.hall_desk.specs.Judged.{is_solution, IsVerdictOn};
 ghost use Rattle.hall_desk.specs.Sane.{Sane};
 ghost use Rattle.hall_desk.specs.Shown.{told_verdict};
-ghost use Rattle.hall_desk.specs.Handler.{handed_action, handed_key, handed_row, IsAnswerOf, IsCountOf};
+ghost use Rattle.hall_desk.specs.Handler.{submit_action, submitted_key, submitted_row, IsAnswerOf, IsCountOf};
 ghost use Rattle.hall_desk.specs.Plans.{IsJudgedAt, FailsIn, AreKept};
 
 use crate::handler::Handler;
@@ -27,24 +27,24 @@ use std::alloc::{AllocError, Global};
 
 /// What is handed in: an answer to the round's puzzle of that number, under a token.
 #[derive(Clone, Copy)]
-pub(crate) struct Handed<'a> {
+pub(crate) struct Submit<'a> {
     pub(crate) round: &'a RoundId,
     pub(crate) number: PuzzleNumber,
     pub(crate) token: &'a Token,
     pub(crate) answer: &'a AnswerText,
 }
 
-impl<'a> Handed<'a> {
+impl<'a> Submit<'a> {
     /// An answer to the round's puzzle of that number, under a token.
     pub(crate) fn of(
         round: &'a RoundId,
         number: PuzzleNumber,
         token: &'a Token,
         answer: &'a AnswerText,
-    ) -> Handed<'a>
-        ensures { handed_action result ≡ Submit round.now number token.now answer.now }
+    ) -> Submit<'a>
+        ensures { submit_action result ≡ Action.Submit round.now number token.now answer.now }
     {
-        Handed {
+        Submit {
             round,
             number,
             token,
@@ -53,10 +53,10 @@ impl<'a> Handed<'a> {
     }
 }
 
-impl<'a> Handler for Handed<'a> {
-    ghost use Rattle.hall_desk.specs.Handler.{handed_action};
+impl<'a> Handler for Submit<'a> {
+    ghost use Rattle.hall_desk.specs.Handler.{submit_action};
 
-    ghost action_of = { handed_action };
+    ghost action_of = { submit_action };
 
     /// The token is looked up where the round lets the request pass, and answers are counted where nothing else
     /// forbids it.
@@ -82,7 +82,7 @@ impl<'a> Handler for Handed<'a> {
 
     fn first_reply(&self, facts: &Facts) -> Result<Option<Reply>, AllocError> {
         match (&facts.round, &facts.answer) {
-            (Some(row), Some(answer)) => Ok(Some(received(&row.round, answer.n, answer.verdict))),
+            (Some(row), Some(answer)) => Ok(Some(reply_of(&row.round, answer.n, answer.verdict))),
             _ => Ok(None),
         }
     }
@@ -112,16 +112,16 @@ fn find_answer<S: ReadStore>(
     alloc: Global,
     store: &mut S,
     facts: &Facts,
-    handed: &Handed,
+    asked: &Submit,
 ) -> Result<Option<AnswerRow>, StoreFault>
     ensures kept { Kept (S.content store.old) (S.content store.new) }
     ensures fault { Fails S.can_fail result }
     ensures told { Told (S.content store.old) (S.content store.new) result
-        (λ world found. IsAnswerOf world facts.now.caller handed.now found) }
+        (λ world found. IsAnswerOf world facts.now.caller asked.now found) }
 {
     match &facts.caller {
         Some(person) => {
-            let key = key_of(person, handed)?;
+            let key = key_of(person, asked)?;
             store.answer(alloc, &key)
         }
         None => Ok(None),
@@ -133,15 +133,15 @@ fn count_answers<S: ReadStore>(
     alloc: Global,
     store: &mut S,
     facts: &Facts,
-    handed: &Handed,
+    asked: &Submit,
 ) -> Result<u64, StoreFault>
     ensures kept { Kept (S.content store.old) (S.content store.new) }
     ensures fault { Fails S.can_fail result }
     ensures told { Told (S.content store.old) (S.content store.new) result
-        (λ world count. IsCountOf world facts.now.caller handed.now count) }
+        (λ world count. IsCountOf world facts.now.caller asked.now count) }
 {
     match &facts.caller {
-        Some(person) => store.answers_given(alloc, &person.name, handed.round, handed.number),
+        Some(person) => store.answers_given(alloc, &person.name, asked.round, asked.number),
         None => Ok(0),
     }
 }
@@ -162,50 +162,50 @@ fn submitted(
     t: Moment,
     person: &Person,
     row: &RoundRow,
-    handed: &Handed,
+    asked: &Submit,
     n: AnswerNumber,
     verdict: Broken,
 ) -> Result<Plan, AllocError>
-    ensures reply { IfOk result (λ plan. plan.reply ≡ Reply.Received n (told_verdict row.now.round verdict)) }
+    ensures reply { IfOk result (λ plan. plan.reply ≡ Reply.Submit n (told_verdict row.now.round verdict)) }
     ensures change { IfOk result
-        (λ plan. plan.change ≡ Change.AddAnswer (handed_row person.now handed.now n t verdict)) }
+        (λ plan. plan.change ≡ Change.AddAnswer (submitted_row person.now asked.now n t verdict)) }
 {
     let stored = AnswerRow {
-        answer: handed.answer.clone()?,
-        key: key_of(person, handed)?,
+        answer: asked.answer.clone()?,
+        key: key_of(person, asked)?,
         n,
         moment: t,
         verdict,
     };
     Ok(Plan {
-        reply: received(&row.round, n, verdict),
+        reply: reply_of(&row.round, n, verdict),
         change: Change::AddAnswer(stored),
         visits: None,
     })
 }
 
 /// Where the answer is kept.
-fn key_of(person: &Person, handed: &Handed) -> Result<AnswerKey, AllocError>
-    ensures { IfOk result (λ key. key ≡ handed_key person.now handed.now) }
+fn key_of(person: &Person, asked: &Submit) -> Result<AnswerKey, AllocError>
+    ensures { IfOk result (λ key. key ≡ submitted_key person.now asked.now) }
 {
     Ok(AnswerKey {
         entrant: person.name.clone()?,
-        round: handed.round.clone()?,
-        number: handed.number,
-        token: handed.token.clone()?,
+        round: asked.round.clone()?,
+        number: asked.number,
+        token: asked.token.clone()?,
     })
 }
 
 /// What is told of an accepted answer.
-fn received(round: &Round, n: AnswerNumber, verdict: Broken) -> Reply
-    ensures { result ≡ Reply.Received n (told_verdict round.now verdict) }
+fn reply_of(round: &Round, n: AnswerNumber, verdict: Broken) -> Reply
+    ensures { result ≡ Reply.Submit n (told_verdict round.now verdict) }
 {
     match round.mode {
-        Mode::Instant => Reply::Received {
+        Mode::Instant => Reply::Submit {
             n,
             verdict: Some(verdict),
         },
-        Mode::Sealed => Reply::Received { n, verdict: None },
+        Mode::Sealed => Reply::Submit { n, verdict: None },
     }
 }
 

@@ -83,20 +83,20 @@ abbrev pub flag_member : List ℕ → Bool → Members → Members
 flag_member name flag more = member name (boolean flag) more
 
 -- {"added":N}
-abbrev pub imported_data : ℕ → Data
-imported_data added = object (number_member (codes "added") added no_members)
+abbrev pub import_data : ℕ → Data
+import_data added = object (number_member (codes "added") added no_members)
 
 -- {"state":S,"text":T}
-abbrev pub put_data : StateName → List ℕ → Data
-put_data s text = object (text_member (codes "state") (state_text s) (text_member (codes "text") text no_members))
+abbrev pub put_puzzle_data : StateName → List ℕ → Data
+put_puzzle_data s text = object (text_member (codes "state") (state_text s) (text_member (codes "text") text no_members))
 
 -- the members of a puzzle that its author and label name, before further members
 abbrev pub key_members : PuzzleKey → Members → Members
 key_members key more = text_member (codes "author") key.author (text_member (codes "label") key.label more)
 
 -- {"author":A,"label":L,"state":S,"text":T}
-abbrev pub read_data : PuzzleKey → StateName → List ℕ → Data
-read_data key s text =
+abbrev pub read_puzzle_data : PuzzleKey → StateName → List ℕ → Data
+read_puzzle_data key s text =
     object (key_members key (text_member (codes "state") (state_text s) (text_member (codes "text") text no_members)))
 
 -- {"author":A,"label":L,"state":S}
@@ -105,20 +105,20 @@ listed_puzzle_data line =
     object (key_members line.key (text_member (codes "state") (state_text line.state) no_members))
 
 -- {"puzzles":[P,..]}
-abbrev pub puzzles_data : List PuzzleLine → Data
-puzzles_data lines = object (member (codes "puzzles") (array (items_of (map listed_puzzle_data lines))) no_members)
+abbrev pub list_puzzles_data : List PuzzleLine → Data
+list_puzzles_data lines = object (member (codes "puzzles") (array (items_of (map listed_puzzle_data lines))) no_members)
 
 -- {"state":S}
-abbrev pub certified_data : StateName → Data
-certified_data s = object (text_member (codes "state") (state_text s) no_members)
+abbrev pub certify_data : StateName → Data
+certify_data s = object (text_member (codes "state") (state_text s) no_members)
 
 -- {"round":R}
-abbrev pub drafted_data : List ℕ → Data
-drafted_data id = object (text_member (codes "round") id no_members)
+abbrev pub put_round_data : List ℕ → Data
+put_round_data id = object (text_member (codes "round") id no_members)
 
 -- {"released":R}
-abbrev pub released_data : List ℕ → Data
-released_data id = object (text_member (codes "released") id no_members)
+abbrev pub release_data : List ℕ → Data
+release_data id = object (text_member (codes "released") id no_members)
 
 -- a listed round's members in the order of their names, the last being its title
 abbrev pub listed_round_data : RoundLine → Data
@@ -132,8 +132,8 @@ listed_round_data r = object (
     text_member (codes "title") r.title no_members)))))))
 
 -- {"rounds":[R,..]}
-abbrev pub rounds_data : List RoundLine → Data
-rounds_data lines = object (member (codes "rounds") (array (items_of (map listed_round_data lines))) no_members)
+abbrev pub list_rounds_data : List RoundLine → Data
+list_rounds_data lines = object (member (codes "rounds") (array (items_of (map listed_round_data lines))) no_members)
 
 -- {"number":N,"points":N,"text":T}
 abbrev pub puzzle_data : ShownPuzzle → Data
@@ -142,8 +142,8 @@ puzzle_data p =
     object (number_member (codes "number") p.number (number_member (codes "points") p.points text))
 
 -- the round's members in the order of their names, the last being its title
-abbrev pub round_data : ShownRound → Data
-round_data r = object (
+abbrev pub read_round_data : ShownRound → Data
+read_round_data r = object (
     number_member (codes "bonus") r.bonus (
     text_member (codes "id") r.id (
     number_member (codes "minutes") r.minutes (
@@ -160,12 +160,12 @@ verdict_member None = no_members
 verdict_member (Some names) = text_member (codes "verdict") (verdict_text names) no_members
 
 -- {"received":N,"verdict":V}
-abbrev pub received_data : ℕ → Option ℕ → Data
-received_data n verdict = object (number_member (codes "received") n (verdict_member verdict))
+abbrev pub submit_data : ℕ → Option ℕ → Data
+submit_data n verdict = object (number_member (codes "received") n (verdict_member verdict))
 
 -- an answer's members in the order of their names, the last being its verdict
-abbrev pub answer_data : AnswerLine → Data
-answer_data a = object (
+abbrev pub listed_answer_data : AnswerLine → Data
+listed_answer_data a = object (
     text_member (codes "answer") a.answer (
     text_member (codes "entrant") a.entrant (
     number_member (codes "moment") a.moment (
@@ -176,15 +176,15 @@ answer_data a = object (
 
 -- {"answers":[A,..]}
 abbrev pub answers_data : List AnswerLine → Data
-answers_data lines = object (member (codes "answers") (array (items_of (map answer_data lines))) no_members)
+answers_data lines = object (member (codes "answers") (array (items_of (map listed_answer_data lines))) no_members)
 
 -- {"solutions":[T,..]}
 abbrev pub solutions_data : List (List ℕ) → Data
 solutions_data texts = object (member (codes "solutions") (array (items_of (map string texts))) no_members)
 
 -- {"protest":K}
-abbrev pub protested_data : List ℕ → Data
-protested_data token = object (text_member (codes "protest") token no_members)
+abbrev pub protest_data : List ℕ → Data
+protest_data token = object (text_member (codes "protest") token no_members)
 
 -- what a ruling is called, and an open protest
 abbrev pub ruling_text : Option Ruling → List ℕ
@@ -197,8 +197,8 @@ abbrev pub integer_member : List ℕ → ℤ → Members → Members
 integer_member name n more = member name (number (of_integer n)) more
 
 -- a protest's members in the order of their names, the last being its token
-abbrev pub protest_data : ProtestLine → Data
-protest_data p = object (
+abbrev pub listed_protest_data : ProtestLine → Data
+listed_protest_data p = object (
     text_member (codes "entrant") p.entrant (
     number_member (codes "number") p.number (
     integer_member (codes "points") (ruling_points p.ruling) (
@@ -208,17 +208,17 @@ protest_data p = object (
 
 -- {"protests":[P,..]}
 abbrev pub protests_data : List ProtestLine → Data
-protests_data lines = object (member (codes "protests") (array (items_of (map protest_data lines))) no_members)
+protests_data lines = object (member (codes "protests") (array (items_of (map listed_protest_data lines))) no_members)
 
 -- {"points":N,"ruled":U}
-abbrev pub ruled_data : Ruling → Data
-ruled_data ruling = object (
+abbrev pub rule_protest_data : Ruling → Data
+rule_protest_data ruling = object (
     integer_member (codes "points") (ruling_points (Some ruling)) (
     text_member (codes "ruled") (ruling_text (Some ruling)) no_members))
 
 -- {"published":R}
-abbrev pub published_data : List ℕ → Data
-published_data id = object (text_member (codes "published") id no_members)
+abbrev pub publish_data : List ℕ → Data
+publish_data id = object (text_member (codes "published") id no_members)
 
 -- {"denied":K}
 abbrev pub denied_data : ℕ → Data
@@ -232,22 +232,22 @@ unavailable_data = object (text_member (codes "fault") (codes "hall") no_members
 abbrev pub reply_data : Reply → Data
 reply_data (reply.Denied rule) = denied_data rule
 reply_data reply.Unavailable = unavailable_data
-reply_data (reply.Imported added) = imported_data added
-reply_data (reply.PuzzlePut s text) = put_data s text
-reply_data (reply.PuzzleRead key s text) = read_data key s text
-reply_data (reply.PuzzleList lines) = puzzles_data lines
-reply_data (reply.Certified s) = certified_data s
-reply_data (reply.RoundPut id) = drafted_data id
-reply_data (reply.Released id) = released_data id
-reply_data (reply.RoundList lines) = rounds_data lines
-reply_data (reply.RoundRead round) = round_data round
-reply_data (reply.Received n verdict) = received_data n verdict
-reply_data (reply.AnswerList lines) = answers_data lines
-reply_data (reply.SolutionList texts) = solutions_data texts
-reply_data (reply.Protested token) = protested_data token
-reply_data (reply.ProtestList lines) = protests_data lines
-reply_data (reply.Ruled ruling) = ruled_data ruling
-reply_data (reply.Published id) = published_data id
+reply_data (reply.Import added) = import_data added
+reply_data (reply.PutPuzzle s text) = put_puzzle_data s text
+reply_data (reply.ReadPuzzle key s text) = read_puzzle_data key s text
+reply_data (reply.ListPuzzles lines) = list_puzzles_data lines
+reply_data (reply.Certify s) = certify_data s
+reply_data (reply.PutRound id) = put_round_data id
+reply_data (reply.Release id) = release_data id
+reply_data (reply.ListRounds lines) = list_rounds_data lines
+reply_data (reply.ReadRound round) = read_round_data round
+reply_data (reply.Submit n verdict) = submit_data n verdict
+reply_data (reply.Answers lines) = answers_data lines
+reply_data (reply.Solutions texts) = solutions_data texts
+reply_data (reply.Protest token) = protest_data token
+reply_data (reply.Protests lines) = protests_data lines
+reply_data (reply.RuleProtest ruling) = rule_protest_data ruling
+reply_data (reply.Publish id) = publish_data id
 reply_data (reply.Table text) = null
 
 -- 404 where the object isn't there, 403 for any other denial

@@ -2,12 +2,12 @@
 ghost use Rattle.std.specs.Prelude.{◌≡◌, ◌≢◌, ◌++◌, [], false, IfOk, OnOk, string_bytes};
 ghost use Rattle.serde_json.specs.View.{view};
 ghost use Rattle.serde_json.specs.Written.{has_float, compact_text};
-ghost use Rattle.hall_http.specs.Reply.{state_text, mode_text, imported_data, put_data, read_data, certified_data};
-ghost use Rattle.hall_http.specs.Reply.{puzzles_data, drafted_data, released_data};
-ghost use Rattle.hall_http.specs.Reply.{rounds_data, solutions_data, sheet_fault_data};
-ghost use Rattle.hall_http.specs.Reply.{protested_data, ruling_text, protests_data};
-ghost use Rattle.hall_http.specs.Reply.{ruled_data, published_data};
-ghost use Rattle.hall_http.specs.Reply.{round_data, received_data, answers_data, denied_data};
+ghost use Rattle.hall_http.specs.Reply.{state_text, mode_text, import_data, put_puzzle_data, read_puzzle_data, certify_data};
+ghost use Rattle.hall_http.specs.Reply.{list_puzzles_data, put_round_data, release_data};
+ghost use Rattle.hall_http.specs.Reply.{list_rounds_data, solutions_data, sheet_fault_data};
+ghost use Rattle.hall_http.specs.Reply.{protest_data, ruling_text, protests_data};
+ghost use Rattle.hall_http.specs.Reply.{rule_protest_data, publish_data};
+ghost use Rattle.hall_http.specs.Reply.{read_round_data, submit_data, answers_data, denied_data};
 ghost use Rattle.hall_http.specs.Reply.{reply_data, reply_status, denied_status, field_text};
 ghost use Rattle.hall_http.specs.Reply.{form_data, field_data, place_data, puzzle_fault_data, fault_data, fault_status};
 ghost use Rattle.hall_http.specs.Reply.{head_bytes, wire_bytes, IsJson, BytesOf, FaultBytesOf};
@@ -99,22 +99,22 @@ fn reply_status(reply: &Reply) -> Status
     match reply {
         Reply::Denied(rule) => denied_status(*rule),
         Reply::Unavailable => unreachable!(),
-        Reply::Imported(_)
-        | Reply::PuzzlePut { .. }
-        | Reply::PuzzleRead { .. }
-        | Reply::PuzzleList(_)
-        | Reply::Certified(_)
-        | Reply::RoundPut(_)
-        | Reply::Released(_)
-        | Reply::RoundList(_)
-        | Reply::RoundRead(_)
-        | Reply::Received { .. }
-        | Reply::AnswerList(_)
-        | Reply::SolutionList(_)
-        | Reply::Protested(_)
-        | Reply::ProtestList(_)
-        | Reply::Ruled(_)
-        | Reply::Published(_) => Status::Ok,
+        Reply::Import(_)
+        | Reply::PutPuzzle { .. }
+        | Reply::ReadPuzzle { .. }
+        | Reply::ListPuzzles(_)
+        | Reply::Certify(_)
+        | Reply::PutRound(_)
+        | Reply::Release(_)
+        | Reply::ListRounds(_)
+        | Reply::ReadRound(_)
+        | Reply::Submit { .. }
+        | Reply::Answers(_)
+        | Reply::Solutions(_)
+        | Reply::Protest(_)
+        | Reply::Protests(_)
+        | Reply::RuleProtest(_)
+        | Reply::Publish(_) => Status::Ok,
         Reply::Table(_) => unreachable!(),
     }
 }
@@ -153,22 +153,27 @@ fn reply_body(alloc: Global, reply: &Reply) -> Result<Value, AllocError>
     match reply {
         Reply::Denied(rule) => denied_body(alloc, *rule),
         Reply::Unavailable => unreachable!(),
-        Reply::Imported(added) => imported_body(alloc, *added),
-        Reply::PuzzlePut { state, text } => put_body(alloc, *state, text.as_str()),
-        Reply::PuzzleRead { key, state, text } => read_body(alloc, key, *state, text.as_str()),
-        Reply::PuzzleList(lines) => puzzles_body(alloc, lines.as_slice()),
-        Reply::Certified(state) => certified_body(alloc, *state),
-        Reply::RoundPut(round) => drafted_body(alloc, round.as_str()),
-        Reply::Released(round) => released_body(alloc, round.as_str()),
-        Reply::RoundList(lines) => rounds_body(alloc, lines.as_slice()),
-        Reply::RoundRead(round) => round_body(alloc, round),
-        Reply::Received { n, verdict } => received_body(alloc, *n, *verdict),
-        Reply::AnswerList(lines) => answers_body(alloc, lines.as_slice()),
-        Reply::SolutionList(texts) => solutions_body(alloc, texts.as_slice()),
-        Reply::Protested(token) => protested_body(alloc, token.as_str()),
-        Reply::ProtestList(lines) => protests_body(alloc, lines.as_slice()),
-        Reply::Ruled(ruling) => ruled_body(alloc, *ruling),
-        Reply::Published(round) => published_body(alloc, round.as_str()),
+        Reply::Import(added) => import_body(alloc, *added),
+        Reply::PutPuzzle { state, text } => put_puzzle_body(alloc, *state, text.as_str()),
+        Reply::ReadPuzzle { key, state, text } => read_puzzle_body(
+            alloc,
+            key,
+            *state,
+            text.as_str(),
+        ),
+        Reply::ListPuzzles(lines) => list_puzzles_body(alloc, lines.as_slice()),
+        Reply::Certify(state) => certify_body(alloc, *state),
+        Reply::PutRound(round) => put_round_body(alloc, round.as_str()),
+        Reply::Release(round) => release_body(alloc, round.as_str()),
+        Reply::ListRounds(lines) => list_rounds_body(alloc, lines.as_slice()),
+        Reply::ReadRound(round) => read_round_body(alloc, round),
+        Reply::Submit { n, verdict } => submit_body(alloc, *n, *verdict),
+        Reply::Answers(lines) => answers_body(alloc, lines.as_slice()),
+        Reply::Solutions(texts) => solutions_body(alloc, texts.as_slice()),
+        Reply::Protest(token) => protest_body(alloc, token.as_str()),
+        Reply::Protests(lines) => protests_body(alloc, lines.as_slice()),
+        Reply::RuleProtest(ruling) => rule_protest_body(alloc, *ruling),
+        Reply::Publish(round) => publish_body(alloc, round.as_str()),
         Reply::Table(_) => unreachable!(),
     }
 }
@@ -202,25 +207,25 @@ pub(crate) fn mode_text(mode: Mode) -> &'static str
     }
 }
 
-fn imported_body(alloc: Global, added: u64) -> Result<Value, AllocError>
-    ensures { IfOk result (λ body. view body ≡ imported_data added) }
+fn import_body(alloc: Global, added: u64) -> Result<Value, AllocError>
+    ensures { IfOk result (λ body. view body ≡ import_data added) }
 {
     json!(in alloc; {"added": added})
 }
 
-fn put_body(alloc: Global, state: StateName, text: &str) -> Result<Value, AllocError>
-    ensures { IfOk result (λ body. view body ≡ put_data state text.now) }
+fn put_puzzle_body(alloc: Global, state: StateName, text: &str) -> Result<Value, AllocError>
+    ensures { IfOk result (λ body. view body ≡ put_puzzle_data state text.now) }
 {
     json!(in alloc; {"state": (state_text(state)), "text": text})
 }
 
-fn read_body(
+fn read_puzzle_body(
     alloc: Global,
     key: &PuzzleKey,
     state: StateName,
     text: &str,
 ) -> Result<Value, AllocError>
-    ensures { IfOk result (λ body. view body ≡ read_data key.now state text.now) }
+    ensures { IfOk result (λ body. view body ≡ read_puzzle_data key.now state text.now) }
 {
     json!(in alloc; {
         "author": (key.author.as_str()),
@@ -230,40 +235,40 @@ fn read_body(
     })
 }
 
-fn puzzles_body(alloc: Global, lines: &[PuzzleLine]) -> Result<Value, AllocError>
-    ensures { IfOk result (λ body. view body ≡ puzzles_data lines.now) }
+fn list_puzzles_body(alloc: Global, lines: &[PuzzleLine]) -> Result<Value, AllocError>
+    ensures { IfOk result (λ body. view body ≡ list_puzzles_data lines.now) }
 {
     let puzzles = row_bodies(alloc, lines)?;
     json!(in alloc; {"puzzles": puzzles})
 }
 
-fn certified_body(alloc: Global, state: StateName) -> Result<Value, AllocError>
-    ensures { IfOk result (λ body. view body ≡ certified_data state) }
+fn certify_body(alloc: Global, state: StateName) -> Result<Value, AllocError>
+    ensures { IfOk result (λ body. view body ≡ certify_data state) }
 {
     json!(in alloc; {"state": (state_text(state))})
 }
 
-fn drafted_body(alloc: Global, round: &str) -> Result<Value, AllocError>
-    ensures { IfOk result (λ body. view body ≡ drafted_data round.now) }
+fn put_round_body(alloc: Global, round: &str) -> Result<Value, AllocError>
+    ensures { IfOk result (λ body. view body ≡ put_round_data round.now) }
 {
     json!(in alloc; {"round": round})
 }
 
-fn released_body(alloc: Global, round: &str) -> Result<Value, AllocError>
-    ensures { IfOk result (λ body. view body ≡ released_data round.now) }
+fn release_body(alloc: Global, round: &str) -> Result<Value, AllocError>
+    ensures { IfOk result (λ body. view body ≡ release_data round.now) }
 {
     json!(in alloc; {"released": round})
 }
 
-fn rounds_body(alloc: Global, lines: &[RoundLine]) -> Result<Value, AllocError>
-    ensures { IfOk result (λ body. view body ≡ rounds_data lines.now) }
+fn list_rounds_body(alloc: Global, lines: &[RoundLine]) -> Result<Value, AllocError>
+    ensures { IfOk result (λ body. view body ≡ list_rounds_data lines.now) }
 {
     let rounds = row_bodies(alloc, lines)?;
     json!(in alloc; {"rounds": rounds})
 }
 
-fn round_body(alloc: Global, round: &ShownRound) -> Result<Value, AllocError>
-    ensures { IfOk result (λ body. view body ≡ round_data round.now) }
+fn read_round_body(alloc: Global, round: &ShownRound) -> Result<Value, AllocError>
+    ensures { IfOk result (λ body. view body ≡ read_round_data round.now) }
 {
     let puzzles = row_bodies(alloc, round.puzzles.as_slice())?;
     json!(in alloc; {
@@ -279,12 +284,8 @@ fn round_body(alloc: Global, round: &ShownRound) -> Result<Value, AllocError>
     })
 }
 
-fn received_body(
-    alloc: Global,
-    n: AnswerNumber,
-    verdict: Option<Broken>,
-) -> Result<Value, AllocError>
-    ensures { IfOk result (λ body. view body ≡ received_data n verdict) }
+fn submit_body(alloc: Global, n: AnswerNumber, verdict: Option<Broken>) -> Result<Value, AllocError>
+    ensures { IfOk result (λ body. view body ≡ submit_data n verdict) }
 {
     match verdict {
         None => json!(in alloc; {"received": (n.get())}),
@@ -309,8 +310,8 @@ fn solutions_body(alloc: Global, texts: &[AnswerText]) -> Result<Value, AllocErr
     json!(in alloc; {"solutions": solutions})
 }
 
-fn protested_body(alloc: Global, token: &str) -> Result<Value, AllocError>
-    ensures { IfOk result (λ body. view body ≡ protested_data token.now) }
+fn protest_body(alloc: Global, token: &str) -> Result<Value, AllocError>
+    ensures { IfOk result (λ body. view body ≡ protest_data token.now) }
 {
     json!(in alloc; {"protest": token})
 }
@@ -333,8 +334,8 @@ fn protests_body(alloc: Global, lines: &[ProtestLine]) -> Result<Value, AllocErr
     json!(in alloc; {"protests": protests})
 }
 
-fn ruled_body(alloc: Global, ruling: Ruling) -> Result<Value, AllocError>
-    ensures { IfOk result (λ body. view body ≡ ruled_data ruling) }
+fn rule_protest_body(alloc: Global, ruling: Ruling) -> Result<Value, AllocError>
+    ensures { IfOk result (λ body. view body ≡ rule_protest_data ruling) }
 {
     json!(in alloc; {
         "points": (ruling_points(&Some(ruling))),
@@ -342,8 +343,8 @@ fn ruled_body(alloc: Global, ruling: Ruling) -> Result<Value, AllocError>
     })
 }
 
-fn published_body(alloc: Global, round: &str) -> Result<Value, AllocError>
-    ensures { IfOk result (λ body. view body ≡ published_data round.now) }
+fn publish_body(alloc: Global, round: &str) -> Result<Value, AllocError>
+    ensures { IfOk result (λ body. view body ≡ publish_data round.now) }
 {
     json!(in alloc; {"published": round})
 }

@@ -80,9 +80,9 @@ impl Row for ShownPuzzle {
 }
 
 impl Row for AnswerLine {
-    ghost use Rattle.hall_http.specs.Reply.{answer_data};
+    ghost use Rattle.hall_http.specs.Reply.{listed_answer_data};
 
-    ghost data_of = { answer_data };
+    ghost data_of = { listed_answer_data };
 
     fn body(&self, alloc: Global) -> Result<Value, AllocError> {
         match self.verdict {
@@ -121,9 +121,9 @@ impl Row for AnswerText {
 }
 
 impl Row for ProtestLine {
-    ghost use Rattle.hall_http.specs.Reply.{protest_data};
+    ghost use Rattle.hall_http.specs.Reply.{listed_protest_data};
 
-    ghost data_of = { protest_data };
+    ghost data_of = { listed_protest_data };
 
     fn body(&self, alloc: Global) -> Result<Value, AllocError> {
         json!(in alloc; {

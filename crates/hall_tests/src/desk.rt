@@ -44,7 +44,7 @@ fn answer(rt: &(impl AllocGlobal + Abort), token: &str) -> Request {
 /// What an answer is answered: its number, where it is right.
 fn right_number(reply: &Reply) -> Option<u64> {
     match reply {
-        Reply::Received {
+        Reply::Submit {
             n,
             verdict: Some(names),
         } if names.is_empty() => Some(n.get()),
@@ -69,15 +69,15 @@ fn requests(rt: &(impl AllocGlobal + Abort)) -> Vec<(Moment, Request)> {
 fn certified(rt: &(impl AllocGlobal + Abort), desk: &mut Desk<MapStore>, t: Moment) -> bool {
     let request = certificate(rt);
     let plan = desk.plan(rt.alloc(), t, &request).expect(rt, "plan");
-    let is_planned = matches!(plan.reply(), Reply::Certified(StateName::One));
+    let is_planned = matches!(plan.reply(), Reply::Certify(StateName::One));
     let reply = desk.commit(rt.alloc(), plan).expect(rt, "commit");
-    is_planned && matches!(&reply, Reply::Certified(StateName::One))
+    is_planned && matches!(&reply, Reply::Certify(StateName::One))
 }
 
 /// Releases the round by a step, and says whether it is answered so.
 fn released(rt: &(impl AllocGlobal + Abort), desk: &mut Desk<MapStore>, t: Moment) -> bool {
     let reply = desk.step(rt.alloc(), t, &release(rt));
-    matches!(&reply, Reply::Released(_))
+    matches!(&reply, Reply::Release(_))
 }
 
 /// Dora's publication of the round r1.
@@ -104,7 +104,7 @@ pub(crate) fn published_desk(rt: &(impl AllocGlobal + Abort)) -> Desk<MapStore> 
     let replies = desk.run(rt.alloc(), &requests(rt)).expect(rt, "run");
     assert!(rt; replies.len() == 4);
     let reply = desk.step(rt.alloc(), number(rt, 1_777_717_800), &publication(rt));
-    assert!(rt; matches!(&reply, Reply::Published(_)));
+    assert!(rt; matches!(&reply, Reply::Publish(_)));
     desk
 }
 

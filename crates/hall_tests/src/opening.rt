@@ -95,7 +95,7 @@ pub(crate) fn opening_desk(rt: &(impl AllocGlobal + Abort)) -> Desk<MapStore> {
     let mut desk = Desk::new(MapStore::new(rt.alloc()));
     let people = read_people(rt.alloc(), PEOPLE.as_bytes()).expect(rt, "people");
     let reply = desk.seed(rt.alloc(), &people);
-    assert!(rt; matches!(&reply, Reply::Imported(6)));
+    assert!(rt; matches!(&reply, Reply::Import(6)));
     let routes = Routes::new(rt.alloc()).expect(rt, "memory");
     for (key, line, body) in &PUTS {
         put(rt, &routes, &mut desk, key, line, body);

@@ -35,7 +35,7 @@ seeded_is list old new given (Denied rule) is answered known quiet =
     (subst (IsAnswered list old new) is answered, quiet (denied_20 given rule known is))
 seeded_is list old new given (Added count) is answered known quiet = subst (IsAnswered list old new) is answered
 
-left_by : (old new : Content) (people : List Person) (given : Reply) → ((n : ℕ) → given ≢ reply.Imported n)
+left_by : (old new : Content) (people : List Person) (given : Reply) → ((n : ℕ) → given ≢ reply.Import n)
     → Over (λ before after. Seed before people given after) old new → new.serves → new.world ≡ old.world
 left_by old new people given none (inl stays) serves = stays.1 serves
 left_by old new people given none (inr (_, _, inl fault)) serves = fault.1

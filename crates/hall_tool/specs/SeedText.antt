@@ -20,13 +20,13 @@ IsAnswered list old new given =
 abbrev pub IsSeeded : List ℕ → Content → Content → Seeded → Type 0
 IsSeeded list old new (Refused refusal) = (people_in list ≡ Err refusal) × Kept old new
 IsSeeded list old new (Denied rule) = IsAnswered list old new (reply.Denied rule) × (new.writes ≤ old.writes)
-IsSeeded list old new (Added count) = IsAnswered list old new (reply.Imported count)
+IsSeeded list old new (Added count) = IsAnswered list old new (reply.Import count)
 
 -- so the desk answered a list that came to this
 abbrev pub IsToldBy : Reply → Seeded → Type 0
 IsToldBy given (Refused refusal) = ⊥
 IsToldBy given (Denied rule) = given ≡ reply.Denied rule
-IsToldBy given (Added count) = given ≡ reply.Imported count
+IsToldBy given (Added count) = given ≡ reply.Import count
 
 -- the list was refused or denied
 abbrev pub AddsNobody : Seeded → Type 0

@@ -38,7 +38,7 @@ fn seeded_of(reply: &Reply) -> Seeded
     ensures { IsToldBy reply.now result }
 {
     match reply {
-        Reply::Imported(added) => Seeded::Added(*added),
+        Reply::Import(added) => Seeded::Added(*added),
         Reply::Denied(rule) => Seeded::Denied(*rule),
         _ => unreachable!(),
     }

@@ -34,7 +34,7 @@ fn seeded(alloc: Global, store: &mut MapStore, left: u64, list: &str) -> Result<
     let people = read_people(alloc, list.as_bytes())?;
     let mut desk = Desk::new(LimitedStore { store, left });
     match desk.seed(alloc, &people) {
-        Reply::Imported(added) => Ok(format!(in alloc; "added {added}")?),
+        Reply::Import(added) => Ok(format!(in alloc; "added {added}")?),
         Reply::Unavailable => Ok(String::from_str(alloc, UNAVAILABLE)?),
         _ => Err(Fault::Row),
     }

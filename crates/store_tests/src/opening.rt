@@ -106,7 +106,7 @@ pub(crate) fn seeded<S: Store>(rt: &(impl AllocGlobal + Abort), store: S) -> Des
     let mut desk = Desk::new(store);
     let people = read_people(rt.alloc(), PEOPLE.as_bytes()).expect(rt, "people");
     let reply = desk.seed(rt.alloc(), &people);
-    assert!(rt; matches!(&reply, Reply::Imported(7)));
+    assert!(rt; matches!(&reply, Reply::Import(7)));
     desk
 }
 

@@ -1,0 +1,173 @@
+//! Certify: a puzzle is searched, and what is found becomes its state.
+ghost use Rattle.std.specs.Prelude.{◌≡◌, IfOk, Some};
+ghost use Rattle.hall_grid.specs.Answer.{AnswerText as Says, IsFilling};
+ghost use Rattle.hall_policy.specs.Implies.{IsAllowable};
+ghost use Rattle.hall_policy.specs.declared.request.Action.{Action};
+ghost use Rattle.hall_desk.specs.Handler.{certify_action};
+ghost use Rattle.hall_desk.specs.Step.{is_open, IsFound};
+ghost use Rattle.hall_desk.specs.Plans.{IsSearchPlanOf, HasSpent};
+ghost use Rattle.hall_desk.specs.Shown.{state_name};
+
+use crate::handler::Handler;
+use crate::planned::Plan;
+use crate::put_puzzle::state_name;
+use crate::reply::Reply;
+use crate::search::search_puzzle;
+use hall_grid::{Filling, Puzzle, write_answer};
+use hall_policy::{
+    Action, AnswerText, Budget, Decision, Facts, Moment, PuzzleKey, PuzzleState, decide,
+};
+use hall_solve::{Outcome, Visits};
+use hall_store::{Change, ReadStore, StoreFault};
+use std::alloc::{AllocError, Global};
+
+/// What is certified: the puzzle under the key, by a search of at most so many visits.
+#[derive(Clone, Copy)]
+pub(crate) struct Certify<'a> {
+    pub(crate) key: &'a PuzzleKey,
+    pub(crate) budget: Budget,
+}
+
+impl<'a> Certify<'a> {
+    /// The puzzle under the key, by a search of at most so many visits.
+    pub(crate) fn of(key: &'a PuzzleKey, budget: Budget) -> Certify<'a>
+        ensures { certify_action result ≡ Action.Certify key.now budget }
+    {
+        Certify { key, budget }
+    }
+}
+
+impl<'a> Handler for Certify<'a> {
+    ghost use Rattle.hall_desk.specs.Handler.{certify_action};
+
+    ghost action_of = { certify_action };
+
+    fn decision<S: ReadStore>(
+        &self,
+        alloc: Global,
+        store: &mut S,
+        t: Moment,
+        action: &Action,
+        facts: &mut Facts,
+    ) -> Result<Decision, StoreFault> {
+        facts.puzzle = store.puzzle(alloc, self.key)?;
+        Ok(decide(facts, action, t))
+    }
+
+    fn first_reply(&self, _facts: &Facts) -> Result<Option<Reply>, AllocError> {
+        Ok(None)
+    }
+
+    /// The puzzle is searched where no search of it came to an end yet.
+    fn plan<S: ReadStore>(
+        &self,
+        alloc: Global,
+        _store: &mut S,
+        _t: Moment,
+        facts: &Facts,
+    ) -> Result<Plan, StoreFault> {
+        Ok(certify_puzzle(alloc, facts, self.key, self.budget)?)
+    }
+}
+
+/// The plan of an allowed Certify.
+fn certify_puzzle(
+    alloc: Global,
+    facts: &Facts,
+    key: &PuzzleKey,
+    budget: Budget,
+) -> Result<Plan, AllocError>
+    requires { IsAllowable facts.now (Action.Certify key.now budget) }
+    ensures { IfOk result (IsSearchPlanOf facts.now (Action.Certify key.now budget)) }
+{
+    let Some(row) = &facts.puzzle else {
+        unreachable!()
+    };
+    if !is_open(&row.state) {
+        return Ok(Plan {
+            reply: Reply::Certify(state_name(&row.state)),
+            change: Change::Nothing,
+            visits: None,
+        });
+    }
+    let key = key.clone()?;
+    let found = find_state(alloc, &row.puzzle, budget.get())?;
+    Ok(searched(key, found))
+}
+
+/// The plan that stores what a search found.
+fn searched(key: PuzzleKey, found: FoundState) -> Plan
+    ensures reply { result.reply ≡ Reply.Certify (state_name found.state) }
+    ensures change { result.change ≡ Change.SetState key found.state }
+    ensures visits { result.visits ≡ Some found.visits }
+{
+    let FoundState { state, visits } = found;
+    Plan {
+        reply: Reply::Certify(state_name(&state)),
+        change: Change::SetState { key, state },
+        visits: Some(visits),
+    }
+}
+
+/// Whether the puzzle was never searched, or the search came to no end.
+fn is_open(state: &PuzzleState) -> bool
+    ensures { result ≡ is_open state.now }
+{
+    match state {
+        PuzzleState::New => true,
+        PuzzleState::One(_) => false,
+        PuzzleState::NoSolution => false,
+        PuzzleState::More => false,
+        PuzzleState::GaveUp => true,
+    }
+}
+
+/// What a search found, as a state, and the visits that it made.
+#[derive(Drop)]
+struct FoundState {
+    state: PuzzleState,
+    visits: Visits,
+}
+
+/// What the search of the puzzle finds in at most `budget` visits.
+fn find_state(alloc: Global, puzzle: &Puzzle, budget: u64) -> Result<FoundState, AllocError>
+    ensures state { IfOk result (λ found. IsFound puzzle.now budget found.state) }
+    ensures spent { IfOk result (λ found. HasSpent budget (Reply.Certify (state_name found.state)) found.visits) }
+{
+    let searched = search_puzzle(alloc, puzzle, budget)?;
+    let visits = searched.visits();
+    match searched.outcome() {
+        Outcome::None => Ok(FoundState {
+            state: PuzzleState::NoSolution,
+            visits,
+        }),
+        Outcome::One(solution) => Ok(FoundState {
+            state: PuzzleState::One(solution_text(alloc, puzzle, &solution)?),
+            visits,
+        }),
+        Outcome::More(_first, _second) => Ok(FoundState {
+            state: PuzzleState::More,
+            visits,
+        }),
+        Outcome::GaveUp => Ok(FoundState {
+            state: PuzzleState::GaveUp,
+            visits,
+        }),
+    }
+}
+
+/// The solution as an answer text.
+fn solution_text(
+    alloc: Global,
+    puzzle: &Puzzle,
+    solution: &Filling,
+) -> Result<AnswerText, AllocError>
+    requires { IsFilling puzzle.now solution.now }
+    ensures { IfOk result (λ text. Says puzzle.now text solution.now) }
+{
+    let text = write_answer(alloc, puzzle, solution)?;
+    match AnswerText::new(text) {
+        Some(text) => Ok(text),
+        None => unreachable!(),
+    }
+}
