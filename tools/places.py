@@ -137,7 +137,7 @@ class Tree:
     def definitions(self, item):
         """The definitions that its contract cites, and the one that it has of a trait."""
         of_trait = item.block and item.block.trait and self.traits.get((item.block.trait, item.name))
-        return dict.fromkeys(it[2] for it in [*item.definitions(), *(of_trait.definitions() if of_trait else [])])
+        return dict.fromkeys(it[2] for it in [*item.definitions(), *item.constants(), *(of_trait.definitions() if of_trait else [])])
 
 
 class Change:

@@ -14,7 +14,7 @@ import sys
 
 import codes
 import places
-from sources import ROOT, crate_items, crates, definitions, exported, introduction, paths, read, sentence, write_or_compare
+from sources import ROOT, crate_items, crates, definitions, exported, introduction, items_of, paths, read, sentence, write_or_compare
 from sources import PLAIN, TEST_CRATES
 
 MARK = "<!-- What follows is written by tools/promises.py from the contracts and definitions. -->"
@@ -94,6 +94,15 @@ def words(crate, known):
         path = f"crates/{of}/specs/{module.replace('.', '/')}.antt"
         text = sentence(known.get((of, module, name), "")).replace("|", "\\|")
         yield f"| `{name}` | {text} | [{of} {module}]({relative(path)}) |"
+    yield from constants(crate)
+
+
+def constants(crate):
+    """The rows of the constants that a crate's contracts cite, which stand in its code."""
+    for of, module, name in sorted({it for item in shown(crate) for it in item.constants()}, key=lambda it: (it[2], it[0], it[1])):
+        path = f"crates/{of}/src/{module.replace('.', '/')}.rt"
+        doc = next(" ".join(item.doc) for item in items_of(path) if item.name == name)
+        yield f"| `{name}` | {doc} | [{of} {module}.rt]({relative(path)}) |"
 
 
 def words_of_the_kit(crate):

@@ -131,6 +131,13 @@ class Item:
             if found:
                 yield found[1], found[2], name
 
+    def constants(self):
+        """The constants of the hall's code that its contract cites: crate, module and name."""
+        for name, path in self.words().items():
+            found = re.fullmatch(r"Rattle\.(hall_\w+)\.specs\.declared\.([\w.]+)\.TheConstants", path)
+            if found:
+                yield found[1], found[2], name
+
     def calls(self):
         """The names of what its body calls."""
         return {name for _, name in self.called()}

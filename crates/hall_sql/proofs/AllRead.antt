@@ -31,7 +31,13 @@ use Rattle.hall_store.specs.Maps.{empty_world}
 use Rattle.hall_sql.specs.AllRead.{AreAllRead, IsRead, StaysRead, is_record}
 use Rattle.hall_sql.specs.Rows.{answer_in, answer_of, columns_from, entry, kept, person_in, person_of, place_in, place_of, protest_in, protest_of, puzzle_row_in, puzzle_row_of, round_in, round_of, tester_in, tester_of, world_of}
 use Rattle.hall_sql.specs.Standing.{HasAdded, IsBare, IsOver, IsSelection, RestedAny}
-use Rattle.hall_sql.specs.Statements.{all_answers_text, all_people_text, all_places_text, all_protests_text, all_puzzles_text, all_rounds_text, all_testers_text, plain_query}
+use Rattle.hall_sql.specs.Statements.{plain_query}
+use Rattle.hall_sql.specs.declared.people.TheConstants.{ALL_PEOPLE}
+use Rattle.hall_sql.specs.declared.puzzles.TheConstants.{ALL_PUZZLES}
+use Rattle.hall_sql.specs.declared.rounds.TheConstants.{ALL_PLACES, ALL_ROUNDS}
+use Rattle.hall_sql.specs.declared.answers.TheConstants.{ALL_ANSWERS}
+use Rattle.hall_sql.specs.declared.protests.TheConstants.{ALL_PROTESTS}
+use Rattle.hall_sql.specs.declared.testers.TheConstants.{ALL_TESTERS}
 use Rattle.hall_sql.specs.Tables.{hall_schema}
 use Rattle.hall_sql.specs.Versions.{IsAnyHall}
 use Rattle.hall_sql.specs.Whole.{AreRecords}
@@ -102,27 +108,27 @@ module _ {Fits : Schema → Type 0} {text : List ℕ} {tree : ℕ} {project : Li
   read_all it = to_table it.rows it.shown (all_some read it.rows it.records it.reads)
 
 module _ (old new : State) (clean : HasCleanDisk old) where
-  pub people_read : IsAnyHall old → AreRecords person_in all_people_text [] old new → IsRead old.now.trees 0
+  pub people_read : IsAnyHall old → AreRecords person_in ALL_PEOPLE.now [] old new → IsRead old.now.trees 0
   people_read hall = read_all all_people_are person_in 3 (λ db. refl) (λ r. refl) (λ r. refl) old new hall clean
 
-  pub puzzles_read : IsAnyHall old → AreRecords puzzle_row_in all_puzzles_text [] old new → IsRead old.now.trees 3
+  pub puzzles_read : IsAnyHall old → AreRecords puzzle_row_in ALL_PUZZLES.now [] old new → IsRead old.now.trees 3
   puzzles_read hall = read_all all_puzzles_are puzzle_row_in 5 (λ db. refl) (λ r. refl) (λ r. refl) old new hall clean
 
-  pub rounds_read : IsAnyHall old → AreRecords round_in all_rounds_text [] old new → IsRead old.now.trees 5
+  pub rounds_read : IsAnyHall old → AreRecords round_in ALL_ROUNDS.now [] old new → IsRead old.now.trees 5
   rounds_read hall = read_all all_rounds_are round_in 10 (λ db. refl) (λ r. refl) (λ r. refl) old new hall clean
 
-  pub places_read : IsAnyHall old → AreRecords place_in all_places_text [] old new → IsRead old.now.trees 7
+  pub places_read : IsAnyHall old → AreRecords place_in ALL_PLACES.now [] old new → IsRead old.now.trees 7
   places_read hall = read_all all_places_are place_in 5 (λ db. refl) (λ r. refl) (λ r. refl) old new hall clean
 
-  pub answers_read : IsAnyHall old → AreRecords answer_in all_answers_text [] old new → IsRead old.now.trees 9
+  pub answers_read : IsAnyHall old → AreRecords answer_in ALL_ANSWERS.now [] old new → IsRead old.now.trees 9
   answers_read hall = read_all all_answers_are answer_in 8 (λ db. refl) (λ r. refl) (λ r. refl) old new hall clean
 
-  pub protests_read : IsAnyHall old → AreRecords protest_in all_protests_text [] old new → IsRead old.now.trees 12
+  pub protests_read : IsAnyHall old → AreRecords protest_in ALL_PROTESTS.now [] old new → IsRead old.now.trees 12
   protests_read hall = read_all all_protests_are protest_in 7 (λ db. refl) (λ r. refl) (λ r. refl) old new hall clean
 
-  pub testers_read : IsOver (λ schema. schema ≡ hall_schema) old → AreRecords tester_in all_testers_text [] old new → IsRead old.now.trees 14
+  pub testers_read : IsOver (λ schema. schema ≡ hall_schema) old → AreRecords tester_in ALL_TESTERS.now [] old new → IsRead old.now.trees 14
   testers_read hall =
-      read_all (λ schema is. subst (AsksAll all_testers_text 14 _ _ _) (sym is) all_testers_are) tester_in 2 (λ db. refl) (λ r. refl) (λ r. refl) old new hall clean
+      read_all (λ schema is. subst (AsksAll ALL_TESTERS.now 14 _ _ _) (sym is) all_testers_are) tester_in 2 (λ db. refl) (λ r. refl) (λ r. refl) old new hall clean
 
 -- a table that rests was read before, where it is
 pub read_before : (tree : ℕ) (old new : State) → IsAnyHall old → RestedAny old new → HasCleanDisk new → IsTrue new.is_open

@@ -23,7 +23,7 @@ use Rattle.hall_store.specs.Store.{IsListing, IsNumberTaken, HasSubmitted, is_of
 use Rattle.hall_sql.specs.Tables.{hall_schema}
 use Rattle.hall_sql.specs.Rows.{answer_in, answer_of, world_of}
 use Rattle.hall_sql.specs.Standing.{AreKeyed}
-use Rattle.hall_sql.specs.Statements.{answers_given_text, number_taken_text}
+use Rattle.hall_sql.specs.declared.answers.TheConstants.{ANSWERS_GIVEN, NUMBER_TAKEN}
 use Rattle.hall_sql.proofs.AmongLemmas.{kept_value, counted, one_passes, any_there, any_is}
 use Rattle.hall_sql.proofs.AnswerLemmas.{has_columns, answers_listed}
 use Rattle.hall_sql.proofs.AnswerTexts.{answer_columns, place_terms, nth_terms, answers_given_is, number_taken_is}
@@ -145,11 +145,11 @@ module _ (old new : State) (has : old.now.schema ≡ hall_schema) (keyed : AreKe
       (and_true _ ∙ column_counts (column r 3) x.key.number number it.number))
 
   pub answers_counted : (entrant round : List ℕ) (number : ℕ)
-      → Shown answers_given_text (Text entrant ∷ Text round ∷ Int (pos number) ∷ []) old new rows
+      → Shown ANSWERS_GIVEN.now (Text entrant ∷ Text round ∷ Int (pos number) ∷ []) old new rows
       → length out ≡ answers_given (world_of old.now.trees) entrant round number
   answers_counted entrant round number shown =
       counted (is_to entrant round number) (values (world_of old.now.trees).answers) out
-      (records_asked answer_in 8 answers_given_text (Text entrant ∷ Text round ∷ Int (pos number) ∷ []) 9 place_terms
+      (records_asked answer_in 8 ANSWERS_GIVEN.now (Text entrant ∷ Text round ∷ Int (pos number) ∷ []) 9 place_terms
       answer_columns [] _ answers_given_is.0 answers_given_is.1 answers_given_is.2 (λ db. refl) (λ r. refl)
       (is_to entrant round number) (to_agrees entrant round number) old new rows out has shown is _ whole)
 
@@ -164,12 +164,12 @@ module _ (old new : State) (has : old.now.schema ≡ hall_schema) (keyed : AreKe
       (and_true _ ∙ column_counts (column r 5) x.n n it.n)))
 
   pub number_told : (entrant round : List ℕ) (number n : ℕ) (empty : Bool) → empty ≡ (length out == 0)
-      → Shown number_taken_text (Text entrant ∷ Text round ∷ Int (pos number) ∷ Int (pos n) ∷ []) old new rows
+      → Shown NUMBER_TAKEN.now (Text entrant ∷ Text round ∷ Int (pos number) ∷ Int (pos n) ∷ []) old new rows
       → IsTrue (not empty) ↔ IsNumberTaken (world_of old.now.trees) entrant round number n
   number_told entrant round number n empty none shown =
       let db = old.now.trees in
       let test = is_nth entrant round number n in
-      let same = records_asked answer_in 8 number_taken_text (Text entrant ∷ Text round ∷ Int (pos number) ∷ Int (pos n) ∷ []) 9
+      let same = records_asked answer_in 8 NUMBER_TAKEN.now (Text entrant ∷ Text round ∷ Int (pos number) ∷ Int (pos n) ∷ []) 9
       nth_terms answer_columns [] _ number_taken_is.0 number_taken_is.1 number_taken_is.2 (λ db. refl) (λ r. refl) test
       (nth_agrees entrant round number n) old new rows out has shown is (values (world_of db).answers) whole in
       any_is (length out) empty _ none

@@ -26,10 +26,11 @@ use Rattle.sqlite.specs.Table.{Table}
 use Rattle.sqlite.specs.Term.{Term}
 use Rattle.sqlite.specs.Tree.{Trees}
 use Rattle.hall_store.specs.Store.{IsListing, listing_cmp, is_in, is_of}
-use Rattle.hall_sql.specs.Tables.{answers_table}
+use Rattle.hall_sql.specs.Tables.{table_at}
 use Rattle.hall_sql.specs.Rows.{columns_from}
 use Rattle.hall_sql.specs.Standing.{AreKeyed, AreKeyedIn, IsSelection}
-use Rattle.hall_sql.specs.Statements.{plain_query, answers_in_text, answers_of_text}
+use Rattle.hall_sql.specs.Statements.{plain_query}
+use Rattle.hall_sql.specs.declared.answers.TheConstants.{ANSWERS_IN, ANSWERS_OF, ALL_ANSWERS, ANSWER}
 use Rattle.hall_sql.proofs.AnswerTexts.{listing_order, answers_in_is, answers_of_is}
 use Rattle.hall_sql.proofs.CallLemmas.{answers_selection}
 use Rattle.hall_sql.proofs.ColumnLemmas.{int_as_nat, and_true, column_same}
@@ -40,7 +41,6 @@ use Rattle.hall_policy.proofs.Orders.{answer_total, same_answer_keys}
 use Rattle.hall_policy.specs.declared.record.AnswerKey.{AnswerKey}
 use Rattle.hall_policy.specs.declared.record.AnswerRow.{AnswerRow}
 use Rattle.hall_sql.specs.Tables.{hall_schema}
-use Rattle.hall_sql.specs.Statements.{all_answers_text, answer_text}
 use Rattle.hall_sql.specs.Values.{name_in, token_in, within, kind_in}
 use Rattle.hall_sql.specs.Rows.{answer_in, answer_of, world_of}
 use Rattle.hall_sql.proofs.AnswerTexts.{all_answers_are, key_order, key_terms, answer_columns, answer_is}
@@ -87,10 +87,10 @@ agrees key r row is =
     (last_equal _ _ (column_equals (column r 4) row.key.token key.token it.token))))
 
 pub answer_found : (key : AnswerKey) (old new : State) (rows : List Row) (out : List AnswerRow) → old.now.schema ≡ hall_schema
-    → Shown answer_text (key_params key) old new rows → map answer_in rows ≡ map Some out → length out ≤ 1
+    → Shown ANSWER.now (key_params key) old new rows → map answer_in rows ≡ map Some out → length out ≤ 1
     → slice_get out 0 ≡ get (world_of old.now.trees).answers key
 answer_found key =
-    asked_found answer_total same_answer_keys (λ (row : AnswerRow). row.key) answer_in 8 key answer_text (key_params key) 9 key_terms answer_columns _
+    asked_found answer_total same_answer_keys (λ (row : AnswerRow). row.key) answer_in 8 key ANSWER.now (key_params key) 9 key_terms answer_columns _
     answer_is.0 answer_is.1 answer_is.2 (λ db. refl) (λ r. refl) (agrees key)
 
 -- ---- listings
@@ -118,7 +118,7 @@ agreeing r y x z p q e =
     )
 
 abbrev pub answers_there : Table
-answers_there = record answers_table { tree = 9 }
+answers_there = table_at Answers
 
 -- the table's records are the world's answers, each once
 pub answers_listed : {schema : Schema} → IsVersion schema → (db : Trees) → AreKeyed (db 9) → IsDatabase (record { schema = schema; trees = db })
@@ -182,7 +182,7 @@ by_key a b x y p q =
     )
 
 pub all_answers_listed : (schema : Schema) → IsVersion schema → (old new : State) → old.now.schema ≡ schema → AreKeyedIn schema old.now.trees
-    → IsDatabase old.now → (rows : List Row) (out : List AnswerRow) → map answer_in rows ≡ map Some out → Shown all_answers_text [] old new rows
+    → IsDatabase old.now → (rows : List Row) (out : List AnswerRow) → map answer_in rows ≡ map Some out → Shown ALL_ANSWERS.now [] old new rows
     → out ≡ values (world_of old.now.trees).answers
 all_answers_listed schema version old new has keyed sound =
     let db = old.now.trees in
@@ -220,14 +220,14 @@ module _ (old new : State) (has : old.now.schema ≡ hall_schema) (keyed : AreKe
       ap (λ b. b && (list_all (holds ((Text entrant ∷ Text round ∷ []) ∷ r ∷ [])) (equals 1 0 ∷ []))) (column_same (column r 2) x.key.round round it.round)
       ∙ ap (λ b. is_in round x && b) (and_true _ ∙ column_same (column r 1) x.key.entrant entrant it.entrant)
 
-  pub answers_in_listed : (round : List ℕ) → Shown answers_in_text (Text round ∷ []) old new rows
+  pub answers_in_listed : (round : List ℕ) → Shown ANSWERS_IN.now (Text round ∷ []) old new rows
       → IsListing (world_of old.now.trees) (is_in round) out
   answers_in_listed round shown =
       listed_by (Text round ∷ []) (equals 2 0 ∷ []) (is_in round) (in_agrees round)
-      (answers_selection answers_in_text (Text round ∷ []) old new 9 (equals 2 0 ∷ []) answer_columns listing_order _ answers_in_is.0 answers_in_is.1 answers_in_is.2 refl has rows shown)
+      (answers_selection ANSWERS_IN.now (Text round ∷ []) old new 9 (equals 2 0 ∷ []) answer_columns listing_order _ answers_in_is.0 answers_in_is.1 answers_in_is.2 refl has rows shown)
 
-  pub answers_of_listed : (entrant round : List ℕ) → Shown answers_of_text (Text entrant ∷ Text round ∷ []) old new rows
+  pub answers_of_listed : (entrant round : List ℕ) → Shown ANSWERS_OF.now (Text entrant ∷ Text round ∷ []) old new rows
       → IsListing (world_of old.now.trees) (is_of entrant round) out
   answers_of_listed entrant round shown =
       listed_by (Text entrant ∷ Text round ∷ []) (equals 2 1 ∷ equals 1 0 ∷ []) (is_of entrant round) (of_agrees entrant round)
-      (answers_selection answers_of_text (Text entrant ∷ Text round ∷ []) old new 9 (equals 2 1 ∷ equals 1 0 ∷ []) answer_columns listing_order _ answers_of_is.0 answers_of_is.1 answers_of_is.2 refl has rows shown)
+      (answers_selection ANSWERS_OF.now (Text entrant ∷ Text round ∷ []) old new 9 (equals 2 1 ∷ equals 1 0 ∷ []) answer_columns listing_order _ answers_of_is.0 answers_of_is.1 answers_of_is.2 refl has rows shown)

@@ -1,5 +1,5 @@
 -- What the statements on answers mean under the hall's tables.
-use Rattle.std.proofs.Common.{◌≡◌, List, ℕ, codes, refl, pos, true, false, [], ◌∷◌}
+use Rattle.std.proofs.Common.{◌≡◌, List, ℕ, refl, pos, true, false, [], ◌∷◌}
 use Rattle.sqlite_tied.specs.Compute.{everything}
 use Rattle.sqlite_value.specs.declared.keys.Key.{Key}
 use Rattle.sqlite.specs.Term.{Term, lit, col}
@@ -8,10 +8,12 @@ use Rattle.sqlite.specs.Source.TheVariants.{Values}
 use Rattle.sqlite.specs.Listing.{understood, reads_listing}
 use Rattle.sqlite.specs.Command.TheVariants.{Select, Insert}
 use Rattle.sqlite.proofs.Callers.{IsPlain, command_of}
+use Rattle.hall_sql.specs.declared.tables.HallTable.TheVariants.{Answers}
 use Rattle.hall_sql.specs.Tables.{hall_schema}
-use Rattle.hall_sql.specs.Statements.{plain_query, answer_text, answers_in_text, answers_of_text, add_answer_text}
-use Rattle.hall_sql.specs.Statements.{answers_given_text, number_taken_text, all_answers_text}
-use Rattle.hall_sql.proofs.PeopleTexts.{equals, rising}
+use Rattle.hall_sql.specs.Statements.{plain_query}
+use Rattle.hall_sql.specs.declared.answers.TheConstants.{ANSWER, ANSWERS_IN, ANSWERS_OF}
+use Rattle.hall_sql.specs.declared.answers.TheConstants.{ADD_ANSWER, ANSWERS_GIVEN, NUMBER_TAKEN, ALL_ANSWERS}
+use Rattle.hall_sql.proofs.PeopleTexts.{equals, rising, names_of}
 use Rattle.hall_sql.specs.Asked.{IsAsked, is_whole}
 use Rattle.hall_sql.proofs.AskedLemmas.{asked}
 use Rattle.hall_sql.specs.Versions.{IsVersion}
@@ -27,83 +29,81 @@ abbrev pub key_terms : List Term
 key_terms = equals 1 0 ∷ equals 2 1 ∷ equals 3 2 ∷ equals 4 3 ∷ []
 
 abbrev pub answer_names : List (List ℕ)
-answer_names =
-    codes "entrant" ∷ codes "round" ∷ codes "number" ∷ codes "token" ∷ codes "n" ∷ codes "moment" ∷ codes "answer"
-    ∷ codes "verdict" ∷ []
+answer_names = names_of Answers
 
-pub answer_is : (command_of (understood hall_schema answer_text)
+pub answer_is : (command_of (understood hall_schema ANSWER.now)
     ≡ Select (record { lets = []; body = plain_query 9 key_terms answer_columns [] }) answer_names)
-    × (reads_listing hall_schema answer_text ≡ false) × IsPlain (understood hall_schema answer_text)
-    × (is_whole answer_text 4 (understood hall_schema answer_text) ≡ true)
+    × (reads_listing hall_schema ANSWER.now ≡ false) × IsPlain (understood hall_schema ANSWER.now)
+    × (is_whole ANSWER.now 4 (understood hall_schema ANSWER.now) ≡ true)
 unfolding understood everything
 answer_is = (refl, refl, (refl, refl), refl)
 
-pub answer_asked : (entrant round : List ℕ) (number : ℕ) (token : List ℕ) → IsAsked answer_text (Text entrant ∷ Text round ∷ Int (pos number) ∷ Text token ∷ [])
+pub answer_asked : (entrant round : List ℕ) (number : ℕ) (token : List ℕ) → IsAsked ANSWER.now (Text entrant ∷ Text round ∷ Int (pos number) ∷ Text token ∷ [])
 answer_asked entrant round number token =
-    asked answer_text (Text entrant ∷ Text round ∷ Int (pos number) ∷ Text token ∷ []) 9 key_terms answer_columns [] _ answer_is.0 answer_is.1 answer_is.2 answer_is.3 refl
+    asked ANSWER.now (Text entrant ∷ Text round ∷ Int (pos number) ∷ Text token ∷ []) 9 key_terms answer_columns [] _ answer_is.0 answer_is.1 answer_is.2 answer_is.3 refl
 
 -- entrant, number, n, token
 abbrev pub listing_order : List (Term × Key)
 listing_order = (col 1 1, rising) ∷ (col 1 3, rising) ∷ (col 1 5, rising) ∷ (col 1 4, rising) ∷ []
 
-pub answers_in_is : (command_of (understood hall_schema answers_in_text)
+pub answers_in_is : (command_of (understood hall_schema ANSWERS_IN.now)
     ≡ Select (record { lets = []; body = plain_query 9 (equals 2 0 ∷ []) answer_columns listing_order }) answer_names)
-    × (reads_listing hall_schema answers_in_text ≡ false) × IsPlain (understood hall_schema answers_in_text)
-    × (is_whole answers_in_text 1 (understood hall_schema answers_in_text) ≡ true)
+    × (reads_listing hall_schema ANSWERS_IN.now ≡ false) × IsPlain (understood hall_schema ANSWERS_IN.now)
+    × (is_whole ANSWERS_IN.now 1 (understood hall_schema ANSWERS_IN.now) ≡ true)
 unfolding understood everything
 answers_in_is = (refl, refl, (refl, refl), refl)
 
-pub answers_in_asked : (round : List ℕ) → IsAsked answers_in_text (Text round ∷ [])
+pub answers_in_asked : (round : List ℕ) → IsAsked ANSWERS_IN.now (Text round ∷ [])
 answers_in_asked round =
-    asked answers_in_text (Text round ∷ []) 9 (equals 2 0 ∷ []) answer_columns listing_order _ answers_in_is.0 answers_in_is.1 answers_in_is.2 answers_in_is.3 refl
+    asked ANSWERS_IN.now (Text round ∷ []) 9 (equals 2 0 ∷ []) answer_columns listing_order _ answers_in_is.0 answers_in_is.1 answers_in_is.2 answers_in_is.3 refl
 
-pub answers_of_is : (command_of (understood hall_schema answers_of_text)
+pub answers_of_is : (command_of (understood hall_schema ANSWERS_OF.now)
     ≡ Select (record { lets = []; body = plain_query 9 (equals 2 1 ∷ equals 1 0 ∷ []) answer_columns listing_order }) answer_names)
-    × (reads_listing hall_schema answers_of_text ≡ false) × IsPlain (understood hall_schema answers_of_text)
-    × (is_whole answers_of_text 2 (understood hall_schema answers_of_text) ≡ true)
+    × (reads_listing hall_schema ANSWERS_OF.now ≡ false) × IsPlain (understood hall_schema ANSWERS_OF.now)
+    × (is_whole ANSWERS_OF.now 2 (understood hall_schema ANSWERS_OF.now) ≡ true)
 unfolding understood everything
 answers_of_is = (refl, refl, (refl, refl), refl)
 
-pub answers_of_asked : (entrant round : List ℕ) → IsAsked answers_of_text (Text entrant ∷ Text round ∷ [])
+pub answers_of_asked : (entrant round : List ℕ) → IsAsked ANSWERS_OF.now (Text entrant ∷ Text round ∷ [])
 answers_of_asked entrant round =
-    asked answers_of_text (Text entrant ∷ Text round ∷ []) 9 (equals 2 1 ∷ equals 1 0 ∷ []) answer_columns listing_order _ answers_of_is.0 answers_of_is.1 answers_of_is.2 answers_of_is.3 refl
+    asked ANSWERS_OF.now (Text entrant ∷ Text round ∷ []) 9 (equals 2 1 ∷ equals 1 0 ∷ []) answer_columns listing_order _ answers_of_is.0 answers_of_is.1 answers_of_is.2 answers_of_is.3 refl
 
 -- entrant = ?1 AND round = ?2 AND number = ?3
 abbrev pub place_terms : List Term
 place_terms = equals 1 0 ∷ equals 2 1 ∷ equals 3 2 ∷ []
 
-pub answers_given_is : (command_of (understood hall_schema answers_given_text)
+pub answers_given_is : (command_of (understood hall_schema ANSWERS_GIVEN.now)
     ≡ Select (record { lets = []; body = plain_query 9 place_terms answer_columns [] }) answer_names)
-    × (reads_listing hall_schema answers_given_text ≡ false) × IsPlain (understood hall_schema answers_given_text)
-    × (is_whole answers_given_text 3 (understood hall_schema answers_given_text) ≡ true)
+    × (reads_listing hall_schema ANSWERS_GIVEN.now ≡ false) × IsPlain (understood hall_schema ANSWERS_GIVEN.now)
+    × (is_whole ANSWERS_GIVEN.now 3 (understood hall_schema ANSWERS_GIVEN.now) ≡ true)
 unfolding understood everything
 answers_given_is = (refl, refl, (refl, refl), refl)
 
-pub answers_given_asked : (entrant round : List ℕ) (number : ℕ) → IsAsked answers_given_text (Text entrant ∷ Text round ∷ Int (pos number) ∷ [])
+pub answers_given_asked : (entrant round : List ℕ) (number : ℕ) → IsAsked ANSWERS_GIVEN.now (Text entrant ∷ Text round ∷ Int (pos number) ∷ [])
 answers_given_asked entrant round number =
-    asked answers_given_text (Text entrant ∷ Text round ∷ Int (pos number) ∷ []) 9 place_terms answer_columns [] _ answers_given_is.0 answers_given_is.1 answers_given_is.2 answers_given_is.3 refl
+    asked ANSWERS_GIVEN.now (Text entrant ∷ Text round ∷ Int (pos number) ∷ []) 9 place_terms answer_columns [] _ answers_given_is.0 answers_given_is.1 answers_given_is.2 answers_given_is.3 refl
 
 -- entrant = ?1 AND round = ?2 AND number = ?3 AND n = ?4
 abbrev pub nth_terms : List Term
 nth_terms = equals 1 0 ∷ equals 2 1 ∷ equals 3 2 ∷ equals 5 3 ∷ []
 
-pub number_taken_is : (command_of (understood hall_schema number_taken_text)
+pub number_taken_is : (command_of (understood hall_schema NUMBER_TAKEN.now)
     ≡ Select (record { lets = []; body = plain_query 9 nth_terms answer_columns [] }) answer_names)
-    × (reads_listing hall_schema number_taken_text ≡ false) × IsPlain (understood hall_schema number_taken_text)
-    × (is_whole number_taken_text 4 (understood hall_schema number_taken_text) ≡ true)
+    × (reads_listing hall_schema NUMBER_TAKEN.now ≡ false) × IsPlain (understood hall_schema NUMBER_TAKEN.now)
+    × (is_whole NUMBER_TAKEN.now 4 (understood hall_schema NUMBER_TAKEN.now) ≡ true)
 unfolding understood everything
 number_taken_is = (refl, refl, (refl, refl), refl)
 
-pub number_taken_asked : (entrant round : List ℕ) (number n : ℕ) → IsAsked number_taken_text (Text entrant ∷ Text round ∷ Int (pos number) ∷ Int (pos n) ∷ [])
+pub number_taken_asked : (entrant round : List ℕ) (number n : ℕ) → IsAsked NUMBER_TAKEN.now (Text entrant ∷ Text round ∷ Int (pos number) ∷ Int (pos n) ∷ [])
 number_taken_asked entrant round number n =
-    asked number_taken_text (Text entrant ∷ Text round ∷ Int (pos number) ∷ Int (pos n) ∷ []) 9 nth_terms answer_columns [] _ number_taken_is.0 number_taken_is.1 number_taken_is.2 number_taken_is.3 refl
+    asked NUMBER_TAKEN.now (Text entrant ∷ Text round ∷ Int (pos number) ∷ Int (pos n) ∷ []) 9 nth_terms answer_columns [] _ number_taken_is.0 number_taken_is.1 number_taken_is.2 number_taken_is.3 refl
 
 -- the rowid that is chosen, and each parameter
 abbrev pub added_terms : List Term
 added_terms = lit Null ∷ col 0 0 ∷ col 0 1 ∷ col 0 2 ∷ col 0 3 ∷ col 0 4 ∷ col 0 5 ∷ col 0 6 ∷ col 0 7 ∷ []
 
-pub add_answer_is : (command_of (understood hall_schema add_answer_text) ≡ Insert 4 (Values added_terms 9))
-    × IsPlain (understood hall_schema add_answer_text)
+pub add_answer_is : (command_of (understood hall_schema ADD_ANSWER.now) ≡ Insert 4 (Values added_terms 9))
+    × IsPlain (understood hall_schema ADD_ANSWER.now)
 unfolding understood everything
 add_answer_is = (refl, (refl, refl))
 
@@ -111,9 +111,9 @@ add_answer_is = (refl, (refl, refl))
 abbrev pub key_order : List (Term × Key)
 key_order = (col 1 1, rising) ∷ (col 1 2, rising) ∷ (col 1 3, rising) ∷ (col 1 4, rising) ∷ []
 
-pub all_answers_are : (schema : Schema) → IsVersion schema → AsksAll all_answers_text 9 answer_columns key_order answer_names schema
+pub all_answers_are : (schema : Schema) → IsVersion schema → AsksAll ALL_ANSWERS.now 9 answer_columns key_order answer_names schema
 unfolding understood everything
 all_answers_are =
-    by_version (AsksAll all_answers_text 9 answer_columns key_order answer_names)
+    by_version (AsksAll ALL_ANSWERS.now 9 answer_columns key_order answer_names)
     (record { is = refl; unlisted = refl; plain = (refl, refl); whole = refl; typed = refl })
     (record { is = refl; unlisted = refl; plain = (refl, refl); whole = refl; typed = refl })

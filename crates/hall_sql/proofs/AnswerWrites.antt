@@ -28,7 +28,7 @@ use Rattle.hall_policy.proofs.Orders.{answer_total, same_answer_keys}
 use Rattle.hall_policy.proofs.Reading.{kind_holds}
 use Rattle.hall_store.specs.declared.change.Change.TheVariants.{AddAnswer}
 use Rattle.hall_sql.specs.Tables.{hall_schema}
-use Rattle.hall_sql.specs.Statements.{add_answer_text}
+use Rattle.hall_sql.specs.declared.answers.TheConstants.{ADD_ANSWER}
 use Rattle.hall_sql.specs.Columns.{answer_params}
 use Rattle.hall_sql.specs.Rows.{kept, person_of, puzzle_row_of, round_of, place_of, answer_of, protest_of, tester_of, world_of}
 use Rattle.hall_sql.specs.Spared.{may_write}
@@ -86,9 +86,9 @@ answers_alone old new answers others is =
 
 -- what the INSERT of an answer adds
 module _ (row : AnswerRow) (is : IsAnswerRow row) (old new : State) (count : ℕ) (has : old.now.schema ≡ hall_schema)
-    (ran : Executes add_answer_text (answer_params row) old new (Ok count)) where
-  writes : Writes old new None (Insert 4 (Values added_terms 9)) (statement_of add_answer_text (understood hall_schema add_answer_text)) (answer_params row) count
-  writes = runs_as add_answer_text (answer_params row) old new hall_schema has (Insert 4 (Values added_terms 9)) add_answer_is.0 add_answer_is.1 count ran
+    (ran : Executes ADD_ANSWER.now (answer_params row) old new (Ok count)) where
+  writes : Writes old new None (Insert 4 (Values added_terms 9)) (statement_of ADD_ANSWER.now (understood hall_schema ADD_ANSWER.now)) (answer_params row) count
+  writes = runs_as ADD_ANSWER.now (answer_params row) old new hall_schema has (Insert 4 (Values added_terms 9)) add_answer_is.0 add_answer_is.1 count ran
 
   adds : HasAdded hall_schema 9 (answer_params row) old.now new.now
   adds =
@@ -102,7 +102,7 @@ module _ (row : AnswerRow) (is : IsAnswerRow row) (old new : State) (count : ℕ
       (put_new answer_total same_answer_keys (λ (x : AnswerRow). x.key) answer_of row (id ∷ answer_params row) (old.now.trees 9) (new.now.trees 9) adds.put (answer_reads row is id) adds.free fresh)
 
 -- the INSERT of an answer inside a transaction
-pub answer_put : (row : AnswerRow) → IsAnswerRow row → (old new : State) (count : ℕ) → Executes add_answer_text (answer_params row) old new (Ok count)
+pub answer_put : (row : AnswerRow) → IsAnswerRow row → (old new : State) (count : ℕ) → Executes ADD_ANSWER.now (answer_params row) old new (Ok count)
     → IsHallData old.now → IsHallData new.now × AddsAnswer old.now row new.now
 answer_put row is old new count ran held =
     let it = adds row is old new count held.schema ran in (
@@ -117,11 +117,11 @@ answer_put row is old new count ran held =
 -- and outside of one, under a new key
 pub answer_added : (row : AnswerRow) → IsAnswerRow row → (old new : State) (count : ℕ) → IsHall old → HasCleanDisk old
     → (IsTrue old.is_open → get (world_of old.now.trees).answers row.key ≡ None)
-    → Executes add_answer_text (answer_params row) old new (Ok count) → HasMade (AddAnswer row) old new
+    → Executes ADD_ANSWER.now (answer_params row) old new (Ok count) → HasMade (AddAnswer row) old new
 answer_added row is old new count hall clean fresh ran =
     let params = answer_params row in
     let mode = hall.autocommit clean in
-    let was = executed_open old new add_answer_text params count mode ran in
+    let was = executed_open old new ADD_ANSWER.now params count mode ran in
     let held : IsHallData old.now = record { schema = (hall.settled clean was).1; keyed = hall.keyed clean was } in
     let w = writes row is old new count held.schema ran in
     let it = adds row is old new count held.schema ran in

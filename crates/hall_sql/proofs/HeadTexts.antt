@@ -10,8 +10,11 @@ use Rattle.sqlite.specs.Program.{overlay}
 use Rattle.sqlite.specs.Listing.{understood, reads_listing}
 use Rattle.sqlite.specs.Command.TheVariants.{Select, Insert, Update}
 use Rattle.sqlite.proofs.Callers.{IsPlain, command_of}
-use Rattle.hall_sql.specs.Tables.{hall_schema, rounds_table}
-use Rattle.hall_sql.specs.Statements.{plain_query, head_text, look_head_text, add_head_text, replace_head_text}
+use Rattle.hall_sql.specs.Tables.{hall_schema, table_at}
+use Rattle.hall_sql.specs.declared.tables.HallTable.TheVariants.{Rounds}
+use Rattle.hall_sql.specs.Statements.{plain_query}
+use Rattle.hall_sql.specs.declared.rounds.TheConstants.{HEAD}
+use Rattle.hall_sql.specs.declared.round_writes.TheConstants.{LOOK_HEAD, ADD_HEAD, REPLACE_HEAD}
 use Rattle.hall_sql.proofs.UpdateLemmas.{update}
 use Rattle.hall_sql.proofs.PeopleTexts.{equals}
 use Rattle.hall_sql.proofs.RoundTexts.{round_columns, round_names}
@@ -24,22 +27,22 @@ id_terms = equals 1 0 ∷ []
 
 -- as the schema has it
 abbrev pub rounds_there : Table
-rounds_there = record rounds_table { tree = 5 }
+rounds_there = table_at Rounds
 
-pub head_is : (command_of (understood hall_schema head_text)
+pub head_is : (command_of (understood hall_schema HEAD.now)
     ≡ Select (record { lets = []; body = plain_query 5 id_terms round_columns [] }) round_names)
-    × (reads_listing hall_schema head_text ≡ false) × IsPlain (understood hall_schema head_text)
-    × (is_whole head_text 1 (understood hall_schema head_text) ≡ true)
+    × (reads_listing hall_schema HEAD.now ≡ false) × IsPlain (understood hall_schema HEAD.now)
+    × (is_whole HEAD.now 1 (understood hall_schema HEAD.now) ≡ true)
 unfolding understood everything
 head_is = (refl, refl, (refl, refl), refl)
 
-pub head_asked : (id : List ℕ) → IsAsked head_text (Text id ∷ [])
+pub head_asked : (id : List ℕ) → IsAsked HEAD.now (Text id ∷ [])
 head_asked id =
-    asked head_text (Text id ∷ []) 5 id_terms round_columns [] _ head_is.0 head_is.1 head_is.2 head_is.3 refl
+    asked HEAD.now (Text id ∷ []) 5 id_terms round_columns [] _ head_is.0 head_is.1 head_is.2 head_is.3 refl
 
-pub look_head_is : (command_of (understood hall_schema look_head_text)
+pub look_head_is : (command_of (understood hall_schema LOOK_HEAD.now)
     ≡ Select (record { lets = []; body = plain_query 5 id_terms (col 1 1 ∷ []) [] }) (codes "id" ∷ []))
-    × (reads_listing hall_schema look_head_text ≡ false) × IsPlain (understood hall_schema look_head_text)
+    × (reads_listing hall_schema LOOK_HEAD.now ≡ false) × IsPlain (understood hall_schema LOOK_HEAD.now)
 unfolding understood everything
 look_head_is = (refl, refl, (refl, refl))
 
@@ -48,8 +51,8 @@ abbrev pub added_terms : List Term
 added_terms =
     lit Null ∷ col 0 0 ∷ col 0 1 ∷ col 0 2 ∷ col 0 3 ∷ col 0 4 ∷ col 0 5 ∷ col 0 6 ∷ col 0 7 ∷ col 0 8 ∷ col 0 9 ∷ []
 
-pub add_head_is : (command_of (understood hall_schema add_head_text) ≡ Insert 2 (Values added_terms 11))
-    × IsPlain (understood hall_schema add_head_text)
+pub add_head_is : (command_of (understood hall_schema ADD_HEAD.now) ≡ Insert 2 (Values added_terms 11))
+    × IsPlain (understood hall_schema ADD_HEAD.now)
 unfolding understood everything
 add_head_is = (refl, (refl, refl))
 
@@ -61,8 +64,8 @@ replaced_terms =
 pub apart : (db : Trees) → overlay db [] rounds_there.tree ≡ db rounds_there.tree
 apart db = refl
 
-pub replace_head_is : (command_of (understood hall_schema replace_head_text)
+pub replace_head_is : (command_of (understood hall_schema REPLACE_HEAD.now)
     ≡ Update 2 (update hall_schema rounds_there id_terms replaced_terms apart))
-    × IsPlain (understood hall_schema replace_head_text)
+    × IsPlain (understood hall_schema REPLACE_HEAD.now)
 unfolding understood everything
 replace_head_is = (refl, (refl, refl))

@@ -39,7 +39,8 @@ use Rattle.hall_sql.specs.declared.tables.HallTable.{HallTable}
 use Rattle.hall_sql.specs.declared.tables.HallTable.TheVariants.{People, Puzzles, Rounds, Places, Answers, Protests, Testers}
 use Rattle.hall_sql.specs.Asked.{is_whole}
 use Rattle.hall_sql.specs.Cause.{IsStoreCause}
-use Rattle.hall_sql.specs.Made.{table_text, shape_of, schema_before}
+use Rattle.hall_sql.specs.Made.{table_text, schema_before}
+use Rattle.hall_sql.specs.Tables.{shape_of}
 use Rattle.hall_sql.proofs.AskedLemmas.{not_run, store_cause}
 use Rattle.hall_sql.proofs.MakeLemmas.{same_table}
 use Rattle.hall_sql.proofs.TableTexts.{table_is, making_is}

@@ -6,7 +6,8 @@ use Rattle.sqlite.specs.State.{Executes}
 use Rattle.sqlite.proofs.Callers.{runs_as}
 use Rattle.hall_sql.specs.declared.tables.HallTable.{HallTable}
 use Rattle.hall_sql.specs.declared.tables.HallTable.TheVariants.{People, Puzzles, Rounds, Places, Answers, Protests, Testers}
-use Rattle.hall_sql.specs.Made.{table_text, shape_of, schema_before, Awaits}
+use Rattle.hall_sql.specs.Made.{table_text, schema_before, Awaits}
+use Rattle.hall_sql.specs.Tables.{shape_of}
 use Rattle.hall_sql.proofs.TableTexts.{table_is, making_is}
 use Rattle.sqlite_resolve.specs.declared.error.CompileError.{CompileError}
 use Rattle.sqlite.specs.Table.{Table}

@@ -17,7 +17,7 @@ use Rattle.hall_sql.specs.Fill.{Fills}
 use Rattle.hall_sql.specs.Migrate.{TookWorld, HoldsOther, Leaves, Migrates, Takes, WasBefore, old_content_of}
 use Rattle.hall_sql.specs.Rows.{tester_in, world_of}
 use Rattle.hall_sql.specs.Standing.{IsBare, IsHall, Rested, RestedAny, RestedIn, content_of}
-use Rattle.hall_sql.specs.Statements.{all_testers_text}
+use Rattle.hall_sql.specs.declared.testers.TheConstants.{ALL_TESTERS}
 use Rattle.hall_sql.specs.Tables.{hall_schema, old_schema}
 use Rattle.hall_sql.specs.Whole.{AreRecords}
 use Rattle.hall_sql.specs.WholeRows.{AreRowsOf, AreSameRows, IsEmptyIn, count_of, without_testers}
@@ -82,7 +82,7 @@ all_seven trees six testers = (six.0, (six.1.0, (six.1.1.0, (six.1.1.1.0, (six.1
 -- the rows were read, and then the testers
 pub compared : (old mid new : State) → IsHall old → RestedAny old mid → (HasCleanDisk mid → IsTrue mid.is_open)
     → (HasCleanDisk mid → AreAllRead old_schema old.now.trees) → Rested mid new
-    → (HasCleanDisk new → AreRecords tester_in all_testers_text [] mid new) → HasCleanDisk new → AreAllRead hall_schema old.now.trees
+    → (HasCleanDisk new → AreRecords tester_in ALL_TESTERS.now [] mid new) → HasCleanDisk new → AreAllRead hall_schema old.now.trees
 compared old mid new hall rested serves six after testers clean =
     let was : HasCleanDisk mid = omega (arith, after.follows.lasts.clean, clean) in
     let over = over_hall hall (inr refl) in

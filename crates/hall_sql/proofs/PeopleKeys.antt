@@ -23,7 +23,7 @@ use Rattle.hall_store.specs.Caller.{IsKeyHolder, with_key}
 use Rattle.hall_sql.specs.Tables.{hall_schema}
 use Rattle.hall_sql.specs.Rows.{person_in, person_of, world_of}
 use Rattle.hall_sql.specs.Standing.{AreKeyed, AreKeyedIn}
-use Rattle.hall_sql.specs.Statements.{person_by_key_text, all_people_text}
+use Rattle.hall_sql.specs.declared.people.TheConstants.{PERSON_BY_KEY, ALL_PEOPLE}
 use Rattle.hall_sql.proofs.AmongLemmas.{kept_value, is_among, only_found, only_one}
 use Rattle.hall_sql.proofs.ColumnLemmas.{and_true, column_same}
 use Rattle.hall_sql.proofs.ListedLemmas.{by_order, records_asked}
@@ -81,12 +81,12 @@ holder db key out same short =
 
 pub key_holder : (old new : State) → old.now.schema ≡ hall_schema → AreKeyed (old.now.trees 0) → IsDatabase old.now
     → (rows : List Row) (out : List Person) → map person_in rows ≡ map Some out → length out ≤ 1 → (key : List ℕ)
-    → Shown person_by_key_text (Text key ∷ []) old new rows → IsKeyHolder (world_of old.now.trees) key (slice_get out 0)
+    → Shown PERSON_BY_KEY.now (Text key ∷ []) old new rows → IsKeyHolder (world_of old.now.trees) key (slice_get out 0)
 key_holder old new has keyed sound rows out is short key shown =
     let db = old.now.trees in
     let whole = people_listed (inr refl) db keyed (subst (λ s. IsDatabase (record { schema = s; trees = db })) has sound) in
     holder db key out
-    (records_asked person_in 3 person_by_key_text (Text key ∷ []) 0 (equals 2 0 ∷ []) person_columns [] _ person_by_key_is.0
+    (records_asked person_in 3 PERSON_BY_KEY.now (Text key ∷ []) 0 (equals 2 0 ∷ []) person_columns [] _ person_by_key_is.0
     person_by_key_is.1 person_by_key_is.2 (λ db. refl) (λ r. refl) (λ p. same_text p.key key) (keyed_so key) old new rows
     out has shown is (values (world_of db).people) whole) short
 
@@ -97,7 +97,7 @@ same_order a b x y p q =
     rw (name_column a x p, name_column b y q, value_cmp-Text x.name y.name, then-Equal (text_cmp x.name y.name))
 
 pub all_people_listed : (schema : Schema) → IsVersion schema → (old new : State) → old.now.schema ≡ schema → AreKeyedIn schema old.now.trees
-    → IsDatabase old.now → (rows : List Row) (out : List Person) → map person_in rows ≡ map Some out → Shown all_people_text [] old new rows
+    → IsDatabase old.now → (rows : List Row) (out : List Person) → map person_in rows ≡ map Some out → Shown ALL_PEOPLE.now [] old new rows
     → out ≡ values (world_of old.now.trees).people
 all_people_listed schema version old new has keyed sound =
     let db = old.now.trees in

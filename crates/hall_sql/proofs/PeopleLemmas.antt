@@ -11,7 +11,7 @@ use Rattle.sqlite.specs.State.{State, Shown}
 use Rattle.hall_policy.specs.Text.{text_cmp, is_word_byte, is_key_byte}
 use Rattle.hall_policy.specs.declared.record.Person.{Person}
 use Rattle.hall_sql.specs.Tables.{hall_schema}
-use Rattle.hall_sql.specs.Statements.{person_text}
+use Rattle.hall_sql.specs.declared.people.TheConstants.{PERSON}
 use Rattle.hall_sql.specs.Values.{name_in, key_in, roles_in}
 use Rattle.hall_sql.specs.Rows.{person_in, person_of, world_of}
 use Rattle.hall_sql.proofs.PeopleTexts.{equals, person_columns, person_is}
@@ -32,8 +32,8 @@ named : (name : List ℕ) (r : Row) (p : Person) → person_of r ≡ Some p
 named name r p is = last_equal _ _ (column_equals (column r 1) p.name name (name_column r p is))
 
 pub person_found : (name : List ℕ) (old new : State) (rows : List Row) (out : List Person) → old.now.schema ≡ hall_schema
-    → Shown person_text (Text name ∷ []) old new rows → map person_in rows ≡ map Some out → length out ≤ 1
+    → Shown PERSON.now (Text name ∷ []) old new rows → map person_in rows ≡ map Some out → length out ≤ 1
     → slice_get out 0 ≡ get (world_of old.now.trees).people name
 person_found name =
-    asked_found text_total same_texts (λ (p : Person). p.name) person_in 3 name person_text (Text name ∷ []) 0 (equals 1 0 ∷ []) person_columns _
+    asked_found text_total same_texts (λ (p : Person). p.name) person_in 3 name PERSON.now (Text name ∷ []) 0 (equals 1 0 ∷ []) person_columns _
     person_is.0 person_is.1 person_is.2 (λ db. refl) (λ r. refl) (named name)

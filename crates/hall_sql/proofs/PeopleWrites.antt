@@ -25,8 +25,9 @@ use Rattle.hall_policy.specs.declared.record.Person.{Person}
 use Rattle.hall_policy.specs.declared.record.Roles.{Roles}
 use Rattle.hall_policy.proofs.Orders.{text_total, same_texts}
 use Rattle.hall_policy.proofs.Reading.{kind_holds}
-use Rattle.hall_sql.specs.Tables.{hall_schema, people_table}
-use Rattle.hall_sql.specs.Statements.{add_person_text}
+use Rattle.hall_sql.specs.Tables.{hall_schema, table_at}
+use Rattle.hall_sql.specs.declared.tables.HallTable.TheVariants.{People}
+use Rattle.hall_sql.specs.declared.people.TheConstants.{ADD_PERSON}
 use Rattle.hall_sql.specs.Values.{roles_in}
 use Rattle.hall_sql.specs.Columns.{person_params, roles_code}
 use Rattle.hall_sql.specs.Rows.{kept, person_of, puzzle_row_of, round_of, place_of, answer_of, protest_of, tester_of, world_of}
@@ -75,7 +76,7 @@ person_reads person is id = rw (
 )
 
 abbrev people_there : Table
-people_there = record people_table { tree = 0 }
+people_there = table_at People
 
 person_casts : (person : Person) → cast_row people_there (Null ∷ person_params person) ≡ Null ∷ person_params person
 person_casts person = rw (cast_null, cast_number (roles_code person.roles))
@@ -101,11 +102,11 @@ people_alone old new people others is =
     (ap (λ rows. from_entries (flat_map (λ row. option_to_list (tester_of row)) rows)) (others.1.1.1.1.1.1.0 (λ same. absurd (omega (arith, same)))))
 
 -- the INSERT of a person adds the person, where the name is unknown
-pub person_added : (person : Person) → IsPerson person → (old new : State) (count : ℕ) → Executes add_person_text (person_params person) old new (Ok count)
+pub person_added : (person : Person) → IsPerson person → (old new : State) (count : ℕ) → Executes ADD_PERSON.now (person_params person) old new (Ok count)
     → IsHallData old.now → IsHallData new.now × AddsPerson person old.now new.now
 person_added person is old new count ran it =
     let params = person_params person in
-    let w = runs_as add_person_text params old new hall_schema it.schema (Insert 0 (Values added_terms 4)) add_person_is.0 add_person_is.1 count ran in
+    let w = runs_as ADD_PERSON.now params old new hall_schema it.schema (Insert 0 (Values added_terms 4)) add_person_is.0 add_person_is.1 count ran in
     let put = inserts hall_schema 0 people_there refl refl added_terms 4 params (Null ∷ params) params refl refl (person_casts person) quiet old new _ count it.schema w in
     let id = next_rowid (old.now.trees 0) in
     let after = added_keyed id params (old.now.trees 0) (new.now.trees 0) put.put put.free it.keyed.0 in

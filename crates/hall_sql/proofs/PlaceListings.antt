@@ -34,7 +34,7 @@ use Rattle.hall_sql.specs.Values.{name_in, within}
 use Rattle.hall_sql.specs.Rows.{kept, place_in, place_of, world_of}
 use Rattle.hall_sql.specs.Places.{has_puzzle, is_in_round, number_cmp, round_cmp, ArePlaces, ArePlacesWith, AreListed}
 use Rattle.hall_sql.specs.Standing.{AreKeyed, AreKeyedIn}
-use Rattle.hall_sql.specs.Statements.{places_with_text, places_of_text, all_places_text}
+use Rattle.hall_sql.specs.declared.rounds.TheConstants.{PLACES_WITH, PLACES_OF, ALL_PLACES}
 use Rattle.hall_sql.proofs.AmongLemmas.{mapped, mapped_from}
 use Rattle.hall_sql.proofs.ColumnLemmas.{int_as_nat, kind_column, number_column, column_same, and_true}
 use Rattle.hall_sql.proofs.EntryListings.{are_entries, rise_strictly}
@@ -145,15 +145,15 @@ module _ (old new : State) (has : old.now.schema ≡ hall_schema) (keyed : AreKe
         then-Equal (text_cmp x.0.round y.0.round),
       )
 
-  pub places_with_told : (key : PuzzleKey) → Shown places_with_text (Text key.author ∷ Text key.label ∷ []) old new rows
+  pub places_with_told : (key : PuzzleKey) → Shown PLACES_WITH.now (Text key.author ∷ Text key.label ∷ []) old new rows
       → ArePlacesWith (world_of old.now.trees) key out
   places_with_told key shown = record {
     whole = are_places old.now.trees (has_puzzle key) out
-        (records_asked place_in 5 places_with_text (Text key.author ∷ Text key.label ∷ []) 7 puzzle_terms place_columns
+        (records_asked place_in 5 PLACES_WITH.now (Text key.author ∷ Text key.label ∷ []) 7 puzzle_terms place_columns
         round_order _ places_with_is.0 places_with_is.1 places_with_is.2 (λ db. refl) (λ r. refl) (has_puzzle key)
         (with_agrees key) old new rows out has shown is _ whole);
     in_order =
-        records_sorted place_in 5 places_with_text (Text key.author ∷ Text key.label ∷ []) 7 puzzle_terms place_columns
+        records_sorted place_in 5 PLACES_WITH.now (Text key.author ∷ Text key.label ∷ []) 7 puzzle_terms place_columns
         round_order _ places_with_is.0 places_with_is.1 places_with_is.2 (λ db. refl) (λ r. refl) (has_puzzle key)
         (with_agrees key) old new rows out has shown is round_cmp (same_rounds key);
   }
@@ -174,12 +174,12 @@ module _ (old new : State) (has : old.now.schema ≡ hall_schema) (keyed : AreKe
         then-Equal (nat_cmp x.0.number y.0.number),
       )
 
-  pub places_of_told : (id : List ℕ) → Shown places_of_text (Text id ∷ []) old new rows → AreListed (world_of old.now.trees) id out
+  pub places_of_told : (id : List ℕ) → Shown PLACES_OF.now (Text id ∷ []) old new rows → AreListed (world_of old.now.trees) id out
   places_of_told id shown =
-      let same = records_asked place_in 5 places_of_text (Text id ∷ []) 7 first_terms place_columns number_order _ places_of_is.0
+      let same = records_asked place_in 5 PLACES_OF.now (Text id ∷ []) 7 first_terms place_columns number_order _ places_of_is.0
       places_of_is.1 places_of_is.2 (λ db. refl) (λ r. refl) (is_in_round id) (in_agrees id) old new rows out has shown
       is _ whole in
-      let sorted = records_sorted place_in 5 places_of_text (Text id ∷ []) 7 first_terms place_columns number_order _ places_of_is.0
+      let sorted = records_sorted place_in 5 PLACES_OF.now (Text id ∷ []) 7 first_terms place_columns number_order _ places_of_is.0
       places_of_is.1 places_of_is.2 (λ db. refl) (λ r. refl) (is_in_round id) (in_agrees id) old new rows out has shown
       is number_cmp (same_order id) in
       record {
@@ -207,7 +207,7 @@ by_place a b x y p q =
     )
 
 pub all_places_listed : (schema : Schema) → IsVersion schema → (old new : State) → old.now.schema ≡ schema → AreKeyedIn schema old.now.trees
-    → IsDatabase old.now → (rows : List Row) (out : List Place) → map place_in rows ≡ map Some out → Shown all_places_text [] old new rows
+    → IsDatabase old.now → (rows : List Row) (out : List Place) → map place_in rows ≡ map Some out → Shown ALL_PLACES.now [] old new rows
     → out ≡ entries (world_of old.now.trees).places
 all_places_listed schema version old new has keyed sound rows out is shown =
     let db = old.now.trees in

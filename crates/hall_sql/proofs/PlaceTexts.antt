@@ -15,14 +15,15 @@ use Rattle.sqlite_value.specs.Keys.{joined}
 use Rattle.sqlite_schema.specs.Names.{same_name}
 use Rattle.sqlite_schema.specs.declared.schema.Keys.TheVariants.{Enforced}
 use Rattle.sqlite_rules.specs.Action.{works}
-use Rattle.hall_sql.specs.Tables.{hall_schema, round_puzzles_table}
-use Rattle.hall_sql.specs.Statements.{drop_places_text, add_place_text}
+use Rattle.hall_sql.specs.Tables.{hall_schema, table_at}
+use Rattle.hall_sql.specs.declared.tables.HallTable.TheVariants.{Places}
+use Rattle.hall_sql.specs.declared.round_writes.TheConstants.{DROP_PLACES, ADD_PLACE}
 use Rattle.hall_sql.proofs.PeopleTexts.{equals}
 use Rattle.hall_sql.proofs.RestrictLemmas.{Restricts, refusing_works}
 use Rattle.hall_sql.proofs.DeleteLemmas.{deletion}
 
 abbrev pub places_there : Table
-places_there = record round_puzzles_table { tree = 7 }
+places_there = table_at Places
 
 pub places_apart : (db : Trees) → overlay db [] places_there.tree ≡ db places_there.tree
 places_apart db = refl
@@ -33,9 +34,9 @@ unfolding same_name joined
 places_restricted olds =
     refusing_works hall_schema Enforced 0 7 olds [] (tt, ((inl refl, tt), (tt, ((inl refl, (inl refl, tt)), ((inl refl, (inr refl, tt)), ((inl refl, (inr refl, tt)), ((inl refl, (inl refl, tt)), tt)))))))
 
-pub drop_places_is : (command_of (understood hall_schema drop_places_text)
+pub drop_places_is : (command_of (understood hall_schema DROP_PLACES.now)
     ≡ Delete 3 (deletion hall_schema places_there (equals 1 0 ∷ []) places_apart places_restricted))
-    × IsPlain (understood hall_schema drop_places_text)
+    × IsPlain (understood hall_schema DROP_PLACES.now)
 unfolding understood everything
 drop_places_is = (refl, (refl, refl))
 
@@ -43,7 +44,7 @@ drop_places_is = (refl, (refl, refl))
 abbrev pub added_terms : List Term
 added_terms = lit Null ∷ col 0 0 ∷ col 0 1 ∷ col 0 2 ∷ col 0 3 ∷ col 0 4 ∷ []
 
-pub add_place_is : (command_of (understood hall_schema add_place_text) ≡ Insert 3 (Values added_terms 6))
-    × IsPlain (understood hall_schema add_place_text)
+pub add_place_is : (command_of (understood hall_schema ADD_PLACE.now) ≡ Insert 3 (Values added_terms 6))
+    × IsPlain (understood hall_schema ADD_PLACE.now)
 unfolding understood everything
 add_place_is = (refl, (refl, refl))

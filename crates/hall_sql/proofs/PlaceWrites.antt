@@ -34,7 +34,7 @@ use Rattle.hall_policy.proofs.Orders.{text_total, place_total, same_place_keys}
 use Rattle.hall_policy.proofs.Reading.{kind_holds}
 use Rattle.hall_store.specs.Change.{without_list, with_list}
 use Rattle.hall_sql.specs.Tables.{hall_schema}
-use Rattle.hall_sql.specs.Statements.{drop_places_text, add_place_text}
+use Rattle.hall_sql.specs.declared.round_writes.TheConstants.{DROP_PLACES, ADD_PLACE}
 use Rattle.hall_sql.specs.Values.{name_in, within}
 use Rattle.hall_sql.specs.RoundColumns.{place_params, is_under}
 use Rattle.hall_sql.specs.Rows.{kept, person_of, puzzle_row_of, round_of, place_of, answer_of, protest_of, tester_of, world_of}
@@ -92,12 +92,12 @@ quiet new = refl
 
 module _ (id : List ℕ) (old new : State) (count : ℕ) (held : IsHallData old.now) where
   -- the DELETE of the places of a round
-  pub places_dropped : Executes drop_places_text (Text id ∷ []) old new (Ok count) → IsHallData new.now × DropsPlaces id old.now new.now
+  pub places_dropped : Executes DROP_PLACES.now (Text id ∷ []) old new (Ok count) → IsHallData new.now × DropsPlaces id old.now new.now
   places_dropped ran =
       let given = Text id ∷ [] in
       let keyed = held.keyed.1.1.1.0 in
       let rows = old.now.trees 7 in
-      let w = runs_as drop_places_text given old new hall_schema held.schema _ drop_places_is.0 drop_places_is.1 count ran in
+      let w = runs_as DROP_PLACES.now given old new hall_schema held.schema _ drop_places_is.0 drop_places_is.1 count ran in
       let it = deletes hall_schema places_there (equals 1 0 ∷ []) places_apart places_restricted 3 refl given old new _ count held.schema w in
       let ids : ids_of (map (λ r. eval_all (col 1 0 ∷ []) (given ∷ r ∷ [])) it.1.found) ≡ ids_of it.1.found = map-map (λ r. id_in (rowid r)) (λ r. eval_all (col 1 0 ∷ []) (given ∷ r ∷ [])) it.1.found in
       let left : new.now.trees 7 ≡ filter (λ r. not (is_under id r)) rows = it.1.cut ∙ ap (without_all rows) ids ∙ cut_rows (is_under id) rows it.1.found keyed it.1.same in
@@ -113,11 +113,11 @@ module _ (id : List ℕ) (old new : State) (count : ℕ) (held : IsHallData old.
       )
 
   -- the INSERT of an entry at its place
-  pub place_added : (number : ℕ) (entry : Entry) → IsRoundId id → IsWithin 1 99 number → IsEntry entry → Executes add_place_text (place_params id number entry) old new (Ok count)
+  pub place_added : (number : ℕ) (entry : Entry) → IsRoundId id → IsWithin 1 99 number → IsEntry entry → Executes ADD_PLACE.now (place_params id number entry) old new (Ok count)
       → IsHallData new.now × PutsPlace id number entry old.now new.now
   place_added number entry is_id is_number is ran =
       let given = place_params id number entry in
-      let w = runs_as add_place_text given old new hall_schema held.schema (Insert 3 (Values added_terms 6)) add_place_is.0 add_place_is.1 count ran in
+      let w = runs_as ADD_PLACE.now given old new hall_schema held.schema (Insert 3 (Values added_terms 6)) add_place_is.0 add_place_is.1 count ran in
       let casts : cast_row places_there (Null ∷ given) ≡ Null ∷ given = rw (cast_null, cast_number number, cast_number entry.points) in
       let it = inserts hall_schema 3 places_there refl refl added_terms 6 given (Null ∷ given) given refl refl casts quiet old new _ count held.schema w in
       let at = next_rowid (old.now.trees 7) in

@@ -27,7 +27,7 @@ use Rattle.hall_sql.specs.Values.{name_in, token_in, within, kind_in, ruling_in}
 use Rattle.hall_sql.specs.Rows.{protest_in, protest_of, world_of}
 use Rattle.hall_sql.specs.Columns.{IsAlone}
 use Rattle.hall_sql.specs.Standing.{AreKeyed, AreKeyedIn}
-use Rattle.hall_sql.specs.Statements.{all_protests_text, protest_text, protests_of_text, protests_in_text}
+use Rattle.hall_sql.specs.declared.protests.TheConstants.{ALL_PROTESTS, PROTEST, PROTESTS_OF, PROTESTS_IN}
 use Rattle.hall_sql.proofs.ColumnLemmas.{kind_column, number_column, column_equals, column_same, and_true, last_equal, more_equal}
 use Rattle.hall_sql.proofs.FoundLemmas.{asked_found, asked_alone}
 use Rattle.hall_sql.proofs.ListedLemmas.{by_order, values_asked}
@@ -75,21 +75,21 @@ agrees key r row is =
     (last_equal _ _ (column_equals (column r 3) row.key.token key.token it.token)))
 
 pub protest_found : (key : ProtestKey) (old new : State) (rows : List Row) (out : List ProtestRow)
-    → old.now.schema ≡ hall_schema → Shown protest_text (key_params key) old new rows
+    → old.now.schema ≡ hall_schema → Shown PROTEST.now (key_params key) old new rows
     → map protest_in rows ≡ map Some out → length out ≤ 1
     → slice_get out 0 ≡ get (world_of old.now.trees).protests key
 protest_found key =
-    asked_found protest_total same_protest_keys (λ (row : ProtestRow). row.key) protest_in 7 key protest_text
+    asked_found protest_total same_protest_keys (λ (row : ProtestRow). row.key) protest_in 7 key PROTEST.now
     (key_params key) 12 key_terms protest_columns _
     protest_is.0 protest_is.1 protest_is.2 (λ db. refl) (λ r. refl) (agrees key)
 
 -- the protest that it gives stands alone under the key
 pub protest_alone : (key : ProtestKey) (old new : State) (rows : List Row) (out : List ProtestRow)
-    → old.now.schema ≡ hall_schema → Shown protest_text (key_params key) old new rows
+    → old.now.schema ≡ hall_schema → Shown PROTEST.now (key_params key) old new rows
     → map protest_in rows ≡ map Some out → length out ≤ 1 → IfSome (slice_get out 0) (IsAlone key old)
 protest_alone key old new rows out has shown is short =
     IfSome_then (slice_get out 0)
-    (asked_alone protest_total same_protest_keys (λ (row : ProtestRow). row.key) protest_in 7 key protest_text
+    (asked_alone protest_total same_protest_keys (λ (row : ProtestRow). row.key) protest_in 7 key PROTEST.now
     (key_params key) 12 key_terms protest_columns _
     protest_is.0 protest_is.1 protest_is.2 (λ db. refl) (λ r. refl) (agrees key) old new rows out has shown is short)
     (λ row it. record { one = it.0; found = it.1; reads = it.2 })
@@ -144,7 +144,7 @@ same_order params terms a b x y p q =
     )
 
 pub all_protests_listed : (schema : Schema) → IsVersion schema → (old new : State) → old.now.schema ≡ schema → AreKeyedIn schema old.now.trees
-    → IsDatabase old.now → (rows : List Row) (out : List ProtestRow) → map protest_in rows ≡ map Some out → Shown all_protests_text [] old new rows
+    → IsDatabase old.now → (rows : List Row) (out : List ProtestRow) → map protest_in rows ≡ map Some out → Shown ALL_PROTESTS.now [] old new rows
     → out ≡ values (world_of old.now.trees).protests
 all_protests_listed schema version old new has keyed sound =
     let db = old.now.trees in
@@ -174,18 +174,18 @@ module _ (old new : State) (has : old.now.schema ≡ hall_schema) (keyed : AreKe
       (column_same (column r 2) x.key.round round it.round)
       ∙ ap (λ b. is_protest_in round x && b) (and_true _ ∙ column_same (column r 1) x.key.entrant entrant it.entrant)
 
-  pub protests_in_listed : (round : List ℕ) → Shown protests_in_text (Text round ∷ []) old new rows
+  pub protests_in_listed : (round : List ℕ) → Shown PROTESTS_IN.now (Text round ∷ []) old new rows
       → out ≡ protests_in (world_of old.now.trees) round
   protests_in_listed round shown =
-      values_asked protest_in 7 protests_in_text (Text round ∷ []) 12 (equals 2 0 ∷ []) protest_columns key_order _
+      values_asked protest_in 7 PROTESTS_IN.now (Text round ∷ []) 12 (equals 2 0 ∷ []) protest_columns key_order _
       protests_in_is.0 protests_in_is.1 protests_in_is.2 (λ db. refl) (λ r. refl) (is_protest_in round) (in_agrees round)
       old new rows out has shown is protest_total same_protest_keys (λ (row : ProtestRow). row.key) whole
       (same_order (Text round ∷ []) (equals 2 0 ∷ []))
 
-  pub protests_of_listed : (entrant round : List ℕ) → Shown protests_of_text (Text entrant ∷ Text round ∷ []) old new rows
+  pub protests_of_listed : (entrant round : List ℕ) → Shown PROTESTS_OF.now (Text entrant ∷ Text round ∷ []) old new rows
       → out ≡ protests_of (world_of old.now.trees) entrant round
   protests_of_listed entrant round shown =
-      values_asked protest_in 7 protests_of_text (Text entrant ∷ Text round ∷ []) 12 (equals 2 1 ∷ equals 1 0 ∷ [])
+      values_asked protest_in 7 PROTESTS_OF.now (Text entrant ∷ Text round ∷ []) 12 (equals 2 1 ∷ equals 1 0 ∷ [])
       protest_columns key_order _ protests_of_is.0 protests_of_is.1 protests_of_is.2 (λ db. refl) (λ r. refl)
       (is_protest_of entrant round) (of_agrees entrant round) old new rows out has shown is protest_total same_protest_keys
       (λ (row : ProtestRow). row.key) whole (same_order (Text entrant ∷ Text round ∷ []) (equals 2 1 ∷ equals 1 0 ∷ []))

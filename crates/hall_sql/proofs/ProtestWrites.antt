@@ -35,7 +35,7 @@ use Rattle.hall_policy.proofs.Reading.{kind_holds}
 use Rattle.hall_store.specs.Change.{changed, with_ruling}
 use Rattle.hall_store.specs.declared.change.Change.TheVariants.{AddProtest, RuleProtest}
 use Rattle.hall_sql.specs.Tables.{hall_schema}
-use Rattle.hall_sql.specs.Statements.{add_protest_text, rule_protest_text}
+use Rattle.hall_sql.specs.declared.protests.TheConstants.{ADD_PROTEST, RULE_PROTEST}
 use Rattle.hall_sql.specs.Values.{ruling_in}
 use Rattle.hall_sql.specs.Columns.{protest_params, ruling_params, ruling_code, is_protest_under, IsAlone}
 use Rattle.hall_sql.specs.Rows.{kept, person_of, puzzle_row_of, round_of, place_of, answer_of, protest_of, tester_of, world_of}
@@ -101,9 +101,9 @@ protests_alone old new protests others is =
 
 -- what the INSERT of a protest adds
 module _ (row : ProtestRow) (is : IsProtestRow row) (old new : State) (count : ℕ) (has : old.now.schema ≡ hall_schema)
-    (ran : Executes add_protest_text (protest_params row) old new (Ok count)) where
-  writes : Writes old new None (Insert 5 (Values added_terms 8)) (statement_of add_protest_text (understood hall_schema add_protest_text)) (protest_params row) count
-  writes = runs_as add_protest_text (protest_params row) old new hall_schema has (Insert 5 (Values added_terms 8)) add_protest_is.0 add_protest_is.1 count ran
+    (ran : Executes ADD_PROTEST.now (protest_params row) old new (Ok count)) where
+  writes : Writes old new None (Insert 5 (Values added_terms 8)) (statement_of ADD_PROTEST.now (understood hall_schema ADD_PROTEST.now)) (protest_params row) count
+  writes = runs_as ADD_PROTEST.now (protest_params row) old new hall_schema has (Insert 5 (Values added_terms 8)) add_protest_is.0 add_protest_is.1 count ran
 
   adds : HasAdded hall_schema 12 (protest_params row) old.now new.now
   adds =
@@ -117,7 +117,7 @@ module _ (row : ProtestRow) (is : IsProtestRow row) (old new : State) (count : �
       (put_new protest_total same_protest_keys (λ (x : ProtestRow). x.key) protest_of row (id ∷ protest_params row) (old.now.trees 12) (new.now.trees 12) adds.put (protest_reads row is id) adds.free fresh)
 
 -- the INSERT of a protest inside a transaction
-pub protest_put : (row : ProtestRow) → IsProtestRow row → (old new : State) (count : ℕ) → Executes add_protest_text (protest_params row) old new (Ok count)
+pub protest_put : (row : ProtestRow) → IsProtestRow row → (old new : State) (count : ℕ) → Executes ADD_PROTEST.now (protest_params row) old new (Ok count)
     → IsHallData old.now → IsHallData new.now × AddsProtest old.now row new.now
 protest_put row is old new count ran held =
     let it = adds row is old new count held.schema ran in (
@@ -132,11 +132,11 @@ protest_put row is old new count ran held =
 -- and outside of one, under a new key
 pub protest_added : (row : ProtestRow) → IsProtestRow row → (old new : State) (count : ℕ) → IsHall old → HasCleanDisk old
     → (IsTrue old.is_open → get (world_of old.now.trees).protests row.key ≡ None)
-    → Executes add_protest_text (protest_params row) old new (Ok count) → HasMade (AddProtest row) old new
+    → Executes ADD_PROTEST.now (protest_params row) old new (Ok count) → HasMade (AddProtest row) old new
 protest_added row is old new count hall clean fresh ran =
     let params = protest_params row in
     let mode = hall.autocommit clean in
-    let was = executed_open old new add_protest_text params count mode ran in
+    let was = executed_open old new ADD_PROTEST.now params count mode ran in
     let held : IsHallData old.now = record { schema = (hall.settled clean was).1; keyed = hall.keyed clean was } in
     let w = writes row is old new count held.schema ran in
     let it = adds row is old new count held.schema ran in
@@ -199,13 +199,13 @@ module _ (key : ProtestKey) (row : ProtestRow) (ruling : Ruling) (in_row : IsPro
         sym (one_found protest_total same_protest_keys (λ (x : ProtestRow). x.key) protest_of key (is_protest_under key) (agrees key) (old.now.trees 12) (alone.one ∷ []) (row ∷ [])
         (subst (λ l. IsPermutation l (alone.one ∷ [])) (sym alone.found) (IsPermutation-refl _)) (ap (λ o. o ∷ []) alone.reads) (omega arith))
 
-    pub protest_ruled : IsAlone key old row → Executes rule_protest_text params old new (Ok count) → HasMade (RuleProtest key ruling) old new
+    pub protest_ruled : IsAlone key old row → Executes RULE_PROTEST.now params old new (Ok count) → HasMade (RuleProtest key ruling) old new
     protest_ruled alone ran =
         let mode = hall.autocommit clean in
-        let was = executed_open old new rule_protest_text params count mode ran in
+        let was = executed_open old new RULE_PROTEST.now params count mode ran in
         let has = (hall.settled clean was).1 in
         let keyed = hall.keyed clean was in
-        let w = runs_as rule_protest_text params old new hall_schema has (Update 5 (update hall_schema protests_there key_terms ruled_terms apart)) rule_protest_is.0 rule_protest_is.1 count ran in
+        let w = runs_as RULE_PROTEST.now params old new hall_schema has (Update 5 (update hall_schema protests_there key_terms ruled_terms apart)) rule_protest_is.0 rule_protest_is.1 count ran in
         let it = updates hall_schema protests_there key_terms ruled_terms apart 5 refl params ruled_quiet old new _ count has keyed.1.1.1.1.1.0 w (ap length alone.found) in
         let there = ruled_there alone in
         let own : row.key ≡ key = kept_keyed protest_total same_protest_keys (λ (x : ProtestRow). x.key) protest_of (old.now.trees 12) key row there in

@@ -14,7 +14,7 @@ use Rattle.hall_policy.proofs.Orders.{puzzle_total, same_puzzle_keys}
 use Rattle.hall_policy.specs.declared.record.PuzzleKey.{PuzzleKey}
 use Rattle.hall_policy.specs.declared.record.PuzzleRow.{PuzzleRow}
 use Rattle.hall_sql.specs.Tables.{hall_schema}
-use Rattle.hall_sql.specs.Statements.{puzzle_text}
+use Rattle.hall_sql.specs.declared.puzzles.TheConstants.{PUZZLE}
 use Rattle.hall_sql.specs.Values.{name_in, puzzle_in, state_in}
 use Rattle.hall_sql.specs.Rows.{puzzle_row_in, puzzle_row_of, world_of}
 use Rattle.hall_sql.proofs.PuzzleTexts.{key_terms, puzzle_columns, puzzle_is}
@@ -40,8 +40,8 @@ agrees key r row is =
     (last_equal _ _ (column_equals (column r 2) row.key.label key.label columns.1))
 
 pub puzzle_found : (key : PuzzleKey) (old new : State) (rows : List Row) (out : List PuzzleRow) → old.now.schema ≡ hall_schema
-    → Shown puzzle_text (key_params key) old new rows → map puzzle_row_in rows ≡ map Some out → length out ≤ 1
+    → Shown PUZZLE.now (key_params key) old new rows → map puzzle_row_in rows ≡ map Some out → length out ≤ 1
     → slice_get out 0 ≡ get (world_of old.now.trees).puzzles key
 puzzle_found key =
-    asked_found puzzle_total same_puzzle_keys (λ (row : PuzzleRow). row.key) puzzle_row_in 5 key puzzle_text (key_params key) 3 key_terms puzzle_columns _
+    asked_found puzzle_total same_puzzle_keys (λ (row : PuzzleRow). row.key) puzzle_row_in 5 key PUZZLE.now (key_params key) 3 key_terms puzzle_columns _
     puzzle_is.0 puzzle_is.1 puzzle_is.2 (λ db. refl) (λ r. refl) (agrees key)

@@ -26,7 +26,7 @@ use Rattle.std.proofs.lemmas.List.Sums.{length-filter}
 use Rattle.hall_sql.specs.Tables.{hall_schema}
 use Rattle.hall_sql.specs.Rows.{puzzle_row_in, puzzle_row_of, world_of}
 use Rattle.hall_sql.specs.Standing.{AreKeyed, AreKeyedIn}
-use Rattle.hall_sql.specs.Statements.{all_puzzles_text, puzzles_of_text}
+use Rattle.hall_sql.specs.declared.puzzles.TheConstants.{ALL_PUZZLES, PUZZLES_OF}
 use Rattle.hall_sql.proofs.ColumnLemmas.{and_true, column_same}
 use Rattle.hall_sql.proofs.ListedLemmas.{by_order, values_asked}
 use Rattle.hall_sql.proofs.PeopleTexts.{equals}
@@ -81,7 +81,7 @@ same_order params terms a b x y p q =
 
 pub all_puzzles_listed : (schema : Schema) → IsVersion schema → (old new : State) → old.now.schema ≡ schema → AreKeyedIn schema old.now.trees
     → IsDatabase old.now → (rows : List Row) (out : List PuzzleRow) → map puzzle_row_in rows ≡ map Some out
-    → Shown all_puzzles_text [] old new rows → out ≡ values (world_of old.now.trees).puzzles
+    → Shown ALL_PUZZLES.now [] old new rows → out ≡ values (world_of old.now.trees).puzzles
 all_puzzles_listed schema version old new has keyed sound =
     let db = old.now.trees in
     let whole = puzzles_listed version db (keyed_in schema Puzzles db version keyed) (subst (λ s. IsDatabase (record { schema = s; trees = db })) has sound) in
@@ -106,10 +106,10 @@ module _ (old new : State) (has : old.now.schema ≡ hall_schema) (keyed : AreKe
       → list_all (holds ((Text author ∷ []) ∷ r ∷ [])) (equals 1 0 ∷ []) ≡ same_text x.key.author author
   by_author author r x h = and_true _ ∙ column_same (column r 1) x.key.author author (key_columns r x h).0
 
-  pub puzzles_of_listed : (author : List ℕ) → Shown puzzles_of_text (Text author ∷ []) old new rows
+  pub puzzles_of_listed : (author : List ℕ) → Shown PUZZLES_OF.now (Text author ∷ []) old new rows
       → out ≡ puzzles_of (world_of old.now.trees) author
   puzzles_of_listed author shown =
-      values_asked puzzle_row_in 5 puzzles_of_text (Text author ∷ []) 3 (equals 1 0 ∷ []) puzzle_columns key_order _
+      values_asked puzzle_row_in 5 PUZZLES_OF.now (Text author ∷ []) 3 (equals 1 0 ∷ []) puzzle_columns key_order _
       puzzles_of_is.0 puzzles_of_is.1 puzzles_of_is.2 (λ db. refl) (λ r. refl) (λ row. same_text row.key.author author)
       (by_author author) old new rows out has shown is puzzle_total same_puzzle_keys (λ (row : PuzzleRow). row.key) whole
       (same_order (Text author ∷ []) (equals 1 0 ∷ []))

@@ -11,11 +11,13 @@ use Rattle.sqlite.specs.Program.{overlay}
 use Rattle.sqlite.specs.Listing.{understood, reads_listing}
 use Rattle.sqlite.specs.Command.TheVariants.{Select, Insert, Update}
 use Rattle.sqlite.proofs.Callers.{IsPlain, command_of}
-use Rattle.hall_sql.specs.Tables.{hall_schema, puzzles_table}
-use Rattle.hall_sql.specs.Statements.{plain_query, puzzle_text, all_puzzles_text, puzzles_of_text, look_puzzle_text}
-use Rattle.hall_sql.specs.Statements.{add_puzzle_text, replace_puzzle_text}
+use Rattle.hall_sql.specs.Tables.{hall_schema, table_at}
+use Rattle.hall_sql.specs.declared.tables.HallTable.TheVariants.{Puzzles}
+use Rattle.hall_sql.specs.Statements.{plain_query}
+use Rattle.hall_sql.specs.declared.puzzles.TheConstants.{PUZZLE, ALL_PUZZLES, PUZZLES_OF}
+use Rattle.hall_sql.specs.declared.puzzles.TheConstants.{LOOK_PUZZLE, ADD_PUZZLE, REPLACE_PUZZLE}
 use Rattle.hall_sql.proofs.UpdateLemmas.{update}
-use Rattle.hall_sql.proofs.PeopleTexts.{equals, rising}
+use Rattle.hall_sql.proofs.PeopleTexts.{equals, rising, names_of}
 use Rattle.hall_sql.specs.Asked.{IsAsked, is_whole}
 use Rattle.hall_sql.proofs.AskedLemmas.{asked}
 use Rattle.hall_sql.specs.Versions.{IsVersion}
@@ -30,48 +32,48 @@ abbrev pub key_terms : List Term
 key_terms = equals 1 0 ∷ equals 2 1 ∷ []
 
 abbrev pub puzzle_names : List (List ℕ)
-puzzle_names = codes "author" ∷ codes "label" ∷ codes "body" ∷ codes "state" ∷ codes "solution" ∷ []
+puzzle_names = names_of Puzzles
 
-pub puzzle_is : (command_of (understood hall_schema puzzle_text)
+pub puzzle_is : (command_of (understood hall_schema PUZZLE.now)
     ≡ Select (record { lets = []; body = plain_query 3 key_terms puzzle_columns [] }) puzzle_names)
-    × (reads_listing hall_schema puzzle_text ≡ false) × IsPlain (understood hall_schema puzzle_text)
-    × (is_whole puzzle_text 2 (understood hall_schema puzzle_text) ≡ true)
+    × (reads_listing hall_schema PUZZLE.now ≡ false) × IsPlain (understood hall_schema PUZZLE.now)
+    × (is_whole PUZZLE.now 2 (understood hall_schema PUZZLE.now) ≡ true)
 unfolding understood everything
 puzzle_is = (refl, refl, (refl, refl), refl)
 
-pub puzzle_asked : (author label : List ℕ) → IsAsked puzzle_text (Text author ∷ Text label ∷ [])
+pub puzzle_asked : (author label : List ℕ) → IsAsked PUZZLE.now (Text author ∷ Text label ∷ [])
 puzzle_asked author label =
-    asked puzzle_text (Text author ∷ Text label ∷ []) 3 key_terms puzzle_columns [] _ puzzle_is.0 puzzle_is.1 puzzle_is.2 puzzle_is.3 refl
+    asked PUZZLE.now (Text author ∷ Text label ∷ []) 3 key_terms puzzle_columns [] _ puzzle_is.0 puzzle_is.1 puzzle_is.2 puzzle_is.3 refl
 
 -- the order of keys: author, label
 abbrev pub key_order : List (Term × Key)
 key_order = (col 1 1, rising) ∷ (col 1 2, rising) ∷ []
 
-pub all_puzzles_are : (schema : Schema) → IsVersion schema → AsksAll all_puzzles_text 3 puzzle_columns key_order puzzle_names schema
+pub all_puzzles_are : (schema : Schema) → IsVersion schema → AsksAll ALL_PUZZLES.now 3 puzzle_columns key_order puzzle_names schema
 unfolding understood everything
 all_puzzles_are =
-    by_version (AsksAll all_puzzles_text 3 puzzle_columns key_order puzzle_names)
+    by_version (AsksAll ALL_PUZZLES.now 3 puzzle_columns key_order puzzle_names)
     (record { is = refl; unlisted = refl; plain = (refl, refl); whole = refl; typed = refl })
     (record { is = refl; unlisted = refl; plain = (refl, refl); whole = refl; typed = refl })
 
-pub puzzles_of_is : (command_of (understood hall_schema puzzles_of_text)
+pub puzzles_of_is : (command_of (understood hall_schema PUZZLES_OF.now)
     ≡ Select (record { lets = []; body = plain_query 3 (equals 1 0 ∷ []) puzzle_columns key_order }) puzzle_names)
-    × (reads_listing hall_schema puzzles_of_text ≡ false) × IsPlain (understood hall_schema puzzles_of_text)
-    × (is_whole puzzles_of_text 1 (understood hall_schema puzzles_of_text) ≡ true)
+    × (reads_listing hall_schema PUZZLES_OF.now ≡ false) × IsPlain (understood hall_schema PUZZLES_OF.now)
+    × (is_whole PUZZLES_OF.now 1 (understood hall_schema PUZZLES_OF.now) ≡ true)
 unfolding understood everything
 puzzles_of_is = (refl, refl, (refl, refl), refl)
 
-pub puzzles_of_asked : (author : List ℕ) → IsAsked puzzles_of_text (Text author ∷ [])
+pub puzzles_of_asked : (author : List ℕ) → IsAsked PUZZLES_OF.now (Text author ∷ [])
 puzzles_of_asked author =
-    asked puzzles_of_text (Text author ∷ []) 3 (equals 1 0 ∷ []) puzzle_columns key_order _ puzzles_of_is.0 puzzles_of_is.1 puzzles_of_is.2 puzzles_of_is.3 refl
+    asked PUZZLES_OF.now (Text author ∷ []) 3 (equals 1 0 ∷ []) puzzle_columns key_order _ puzzles_of_is.0 puzzles_of_is.1 puzzles_of_is.2 puzzles_of_is.3 refl
 
 -- as the schema has it
 abbrev pub puzzles_there : Table
-puzzles_there = record puzzles_table { tree = 3 }
+puzzles_there = table_at Puzzles
 
-pub look_puzzle_is : (command_of (understood hall_schema look_puzzle_text)
+pub look_puzzle_is : (command_of (understood hall_schema LOOK_PUZZLE.now)
     ≡ Select (record { lets = []; body = plain_query 3 key_terms (col 1 1 ∷ []) [] }) (codes "author" ∷ []))
-    × (reads_listing hall_schema look_puzzle_text ≡ false) × IsPlain (understood hall_schema look_puzzle_text)
+    × (reads_listing hall_schema LOOK_PUZZLE.now ≡ false) × IsPlain (understood hall_schema LOOK_PUZZLE.now)
 unfolding understood everything
 look_puzzle_is = (refl, refl, (refl, refl))
 
@@ -79,8 +81,8 @@ look_puzzle_is = (refl, refl, (refl, refl))
 abbrev pub added_terms : List Term
 added_terms = lit Null ∷ col 0 0 ∷ col 0 1 ∷ col 0 2 ∷ col 0 3 ∷ col 0 4 ∷ []
 
-pub add_puzzle_is : (command_of (understood hall_schema add_puzzle_text) ≡ Insert 1 (Values added_terms 6))
-    × IsPlain (understood hall_schema add_puzzle_text)
+pub add_puzzle_is : (command_of (understood hall_schema ADD_PUZZLE.now) ≡ Insert 1 (Values added_terms 6))
+    × IsPlain (understood hall_schema ADD_PUZZLE.now)
 unfolding understood everything
 add_puzzle_is = (refl, (refl, refl))
 
@@ -91,8 +93,8 @@ replaced_terms = col 1 0 ∷ col 1 1 ∷ col 1 2 ∷ col 0 2 ∷ col 0 3 ∷ col
 pub apart : (db : Trees) → overlay db [] puzzles_there.tree ≡ db puzzles_there.tree
 apart db = refl
 
-pub replace_puzzle_is : (command_of (understood hall_schema replace_puzzle_text)
+pub replace_puzzle_is : (command_of (understood hall_schema REPLACE_PUZZLE.now)
     ≡ Update 1 (update hall_schema puzzles_there key_terms replaced_terms apart))
-    × IsPlain (understood hall_schema replace_puzzle_text)
+    × IsPlain (understood hall_schema REPLACE_PUZZLE.now)
 unfolding understood everything
 replace_puzzle_is = (refl, (refl, refl))

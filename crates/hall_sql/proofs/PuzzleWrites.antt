@@ -44,7 +44,7 @@ use Rattle.hall_store.specs.Change.{changed, with_state}
 use Rattle.hall_store.specs.declared.change.Change.TheVariants.{PutPuzzle, SetState}
 use Rattle.hall_sql.proofs.UniqueLemmas.{kept_keyed}
 use Rattle.hall_sql.specs.Tables.{hall_schema}
-use Rattle.hall_sql.specs.Statements.{look_puzzle_text, add_puzzle_text, replace_puzzle_text}
+use Rattle.hall_sql.specs.declared.puzzles.TheConstants.{LOOK_PUZZLE, ADD_PUZZLE, REPLACE_PUZZLE}
 use Rattle.hall_sql.specs.Values.{state_in}
 use Rattle.hall_sql.specs.Columns.{puzzle_params, HasSoMany, state_code, solution_of}
 use Rattle.hall_sql.specs.Rows.{kept, person_of, puzzle_row_of, round_of, place_of, answer_of, protest_of, tester_of, world_of}
@@ -107,10 +107,10 @@ no_rows (x ∷ xs) e = absurd (omega (arith, e))
 
 -- how many rows the look finds
 pub puzzle_looked : (key : PuzzleKey) (old new : State) (rows : List Row) → old.now.schema ≡ hall_schema
-    → Shown look_puzzle_text (Text key.author ∷ Text key.label ∷ []) old new rows → HasSoMany key old (length rows)
+    → Shown LOOK_PUZZLE.now (Text key.author ∷ Text key.label ∷ []) old new rows → HasSoMany key old (length rows)
 puzzle_looked key old new rows has shown =
     let given = Text key.author ∷ Text key.label ∷ [] in
-    let sel = answers_selection look_puzzle_text given old new 3 key_terms (col 1 1 ∷ []) [] _ look_puzzle_is.0 look_puzzle_is.1 look_puzzle_is.2 refl has rows shown in
+    let sel = answers_selection LOOK_PUZZLE.now given old new 3 key_terms (col 1 1 ∷ []) [] _ look_puzzle_is.0 look_puzzle_is.1 look_puzzle_is.2 refl has rows shown in
     sym (length_permutation _ sel.found sel.same) ∙ sym (length-map sel.found (λ r. eval_all (col 1 1 ∷ []) (given ∷ r ∷ []))) ∙ ap length (sym sel.shown)
 
 module _ (text : List ℕ) (row : PuzzleRow) (spells : SpellsText text row.puzzle) (in_key : IsPuzzleKey row.key) (in_state : IsState row.state) where
@@ -176,9 +176,9 @@ module _ (text : List ℕ) (row : PuzzleRow) (spells : SpellsText text row.puzzl
         no_works hall_schema Enforced 0 3 (r ∷ []) (made r ∷ []) (tt, ((refl, tt), (tt, ((refl, (stays, tt)), ((refl, (refl, tt)), ((refl, (refl, tt)), ((refl, (refl, tt)), tt)))))))
 
   -- what the INSERT of a puzzle adds
-  module _ (old new : State) (count : ℕ) (has : old.now.schema ≡ hall_schema) (ran : Executes add_puzzle_text params old new (Ok count)) where
-    writes : Writes old new None (Insert 1 (Values added_terms 6)) (statement_of add_puzzle_text (understood hall_schema add_puzzle_text)) params count
-    writes = runs_as add_puzzle_text params old new hall_schema has (Insert 1 (Values added_terms 6)) add_puzzle_is.0 add_puzzle_is.1 count ran
+  module _ (old new : State) (count : ℕ) (has : old.now.schema ≡ hall_schema) (ran : Executes ADD_PUZZLE.now params old new (Ok count)) where
+    writes : Writes old new None (Insert 1 (Values added_terms 6)) (statement_of ADD_PUZZLE.now (understood hall_schema ADD_PUZZLE.now)) params count
+    writes = runs_as ADD_PUZZLE.now params old new hall_schema has (Insert 1 (Values added_terms 6)) add_puzzle_is.0 add_puzzle_is.1 count ran
 
     adds : HasAdded hall_schema 3 params old.now new.now
     adds = inserts hall_schema 1 puzzles_there refl refl added_terms 6 params (Null ∷ params) params refl refl puzzle_casts quiet old new _ count has writes
@@ -190,7 +190,7 @@ module _ (text : List ℕ) (row : PuzzleRow) (spells : SpellsText text row.puzzl
         (put_new puzzle_total same_puzzle_keys (λ (x : PuzzleRow). x.key) puzzle_row_of row (id ∷ params) (old.now.trees 3) (new.now.trees 3) adds.put (puzzle_reads id) adds.free fresh)
 
   -- the INSERT of a puzzle inside a transaction
-  pub puzzle_put : (old new : State) (count : ℕ) → Executes add_puzzle_text params old new (Ok count)
+  pub puzzle_put : (old new : State) (count : ℕ) → Executes ADD_PUZZLE.now params old new (Ok count)
       → IsHallData old.now → IsHallData new.now × AddsRow 3 WithPuzzle params old.now row new.now
   puzzle_put old new count ran held =
       let it = adds old new count held.schema ran in (
@@ -204,10 +204,10 @@ module _ (text : List ℕ) (row : PuzzleRow) (spells : SpellsText text row.puzzl
 
   module _ (old new : State) (count : ℕ) (hall : IsHall old) (clean : HasCleanDisk old) where
     -- and outside of one, under a new key
-    pub puzzle_added : (IsTrue old.is_open → HasSoMany row.key old 0) → Executes add_puzzle_text params old new (Ok count) → HasMade (PutPuzzle row) old new
+    pub puzzle_added : (IsTrue old.is_open → HasSoMany row.key old 0) → Executes ADD_PUZZLE.now params old new (Ok count) → HasMade (PutPuzzle row) old new
     puzzle_added nobody ran =
         let mode = hall.autocommit clean in
-        let was = executed_open old new add_puzzle_text params count mode ran in
+        let was = executed_open old new ADD_PUZZLE.now params count mode ran in
         let held : IsHallData old.now = record { schema = (hall.settled clean was).1; keyed = hall.keyed clean was } in
         let w = writes old new count held.schema ran in
         let it = adds old new count held.schema ran in
@@ -224,13 +224,13 @@ module _ (text : List ℕ) (row : PuzzleRow) (spells : SpellsText text row.puzzl
         }
 
     -- the UPDATE of the puzzle under the key
-    pub puzzle_replaced : (IsTrue old.is_open → HasSoMany row.key old 1) → Executes replace_puzzle_text params old new (Ok count) → HasMade (PutPuzzle row) old new
+    pub puzzle_replaced : (IsTrue old.is_open → HasSoMany row.key old 1) → Executes REPLACE_PUZZLE.now params old new (Ok count) → HasMade (PutPuzzle row) old new
     puzzle_replaced single ran =
         let mode = hall.autocommit clean in
-        let was = executed_open old new replace_puzzle_text params count mode ran in
+        let was = executed_open old new REPLACE_PUZZLE.now params count mode ran in
         let has = (hall.settled clean was).1 in
         let keyed = hall.keyed clean was in
-        let w = runs_as replace_puzzle_text params old new hall_schema has (Update 1 (update hall_schema puzzles_there key_terms replaced_terms apart)) replace_puzzle_is.0 replace_puzzle_is.1 count ran in
+        let w = runs_as REPLACE_PUZZLE.now params old new hall_schema has (Update 1 (update hall_schema puzzles_there key_terms replaced_terms apart)) replace_puzzle_is.0 replace_puzzle_is.1 count ran in
         let it = updates hall_schema puzzles_there key_terms replaced_terms apart 1 refl params made_quiet old new _ count has keyed.1.0 w (single was) in
         let one = it.rows.one in
         let there = has_filtered has_key (old.now.trees 3) one (subst (λ l. Has l one) (sym it.rows.found) (inl refl)) in

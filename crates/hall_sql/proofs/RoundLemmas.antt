@@ -18,7 +18,7 @@ use Rattle.hall_policy.proofs.Orders.{text_total, same_texts}
 use Rattle.hall_sql.specs.Values.{name_in, kind_in, within, mode_in, flag_in}
 use Rattle.hall_sql.specs.Rows.{round_in, round_of, world_of}
 use Rattle.hall_sql.specs.Standing.{AreKeyed, AreKeyedIn}
-use Rattle.hall_sql.specs.Statements.{all_rounds_text}
+use Rattle.hall_sql.specs.declared.rounds.TheConstants.{ALL_ROUNDS}
 use Rattle.hall_sql.proofs.ColumnLemmas.{kind_column}
 use Rattle.hall_sql.proofs.ListedLemmas.{by_order}
 use Rattle.hall_sql.proofs.RoundTexts.{round_columns, id_order, all_rounds_are}
@@ -57,7 +57,7 @@ same_order a b x y p q =
     rw (id_column a x p, id_column b y q, value_cmp-Text x.id y.id, then-Equal (text_cmp x.id y.id))
 
 pub all_rounds_listed : (schema : Schema) → IsVersion schema → (old new : State) → old.now.schema ≡ schema → AreKeyedIn schema old.now.trees
-    → IsDatabase old.now → (rows : List Row) (out : List Round) → map round_in rows ≡ map Some out → Shown all_rounds_text [] old new rows
+    → IsDatabase old.now → (rows : List Row) (out : List Round) → map round_in rows ≡ map Some out → Shown ALL_ROUNDS.now [] old new rows
     → out ≡ values (world_of old.now.trees).rounds
 all_rounds_listed schema version old new has keyed sound =
     let db = old.now.trees in

@@ -40,7 +40,8 @@ use Rattle.hall_store.specs.declared.change.Change.TheVariants.{SetRoundFlag}
 use Rattle.hall_store.specs.declared.change.RoundFlag.{RoundFlag}
 use Rattle.hall_store.specs.declared.change.RoundFlag.TheVariants.{Released, Published}
 use Rattle.hall_sql.specs.Tables.{hall_schema}
-use Rattle.hall_sql.specs.Statements.{head_text, look_head_text, add_head_text, replace_head_text}
+use Rattle.hall_sql.specs.declared.rounds.TheConstants.{HEAD}
+use Rattle.hall_sql.specs.declared.round_writes.TheConstants.{LOOK_HEAD, ADD_HEAD, REPLACE_HEAD}
 use Rattle.hall_sql.specs.Values.{mode_in, flag_in}
 use Rattle.hall_sql.specs.Inside.{IsHallData, Did}
 use Rattle.hall_sql.specs.Fill.{AddsHead}
@@ -76,22 +77,22 @@ agrees : (id : List ℕ) (r : Row) (round : Round) → round_of r ≡ Some round
 agrees id r round is = last_equal _ _ (column_equals (column r 1) round.id id (id_column r round is))
 
 pub head_found : (id : List ℕ) (old new : State) (rows : List Row) (out : List Round) → old.now.schema ≡ hall_schema
-    → Shown head_text (Text id ∷ []) old new rows → map round_in rows ≡ map Some out → length out ≤ 1
+    → Shown HEAD.now (Text id ∷ []) old new rows → map round_in rows ≡ map Some out → length out ≤ 1
     → slice_get out 0 ≡ get (world_of old.now.trees).rounds id
 head_found id =
-    asked_found text_total same_texts (λ (round : Round). round.id) round_in 10 id head_text (Text id ∷ []) 5 id_terms round_columns _
+    asked_found text_total same_texts (λ (round : Round). round.id) round_in 10 id HEAD.now (Text id ∷ []) 5 id_terms round_columns _
     head_is.0 head_is.1 head_is.2 (λ db. refl) (λ r. refl) (agrees id)
 
 -- as many rows as the query gives stand under the id
 heads_counted : (id : List ℕ) (old new : State) (rows : List Row) → old.now.schema ≡ hall_schema
-    → Shown head_text (Text id ∷ []) old new rows → HasSoManyHeads id old.now (length rows)
+    → Shown HEAD.now (Text id ∷ []) old new rows → HasSoManyHeads id old.now (length rows)
 heads_counted id old new rows has shown =
     let given = Text id ∷ [] in
-    let sel = answers_selection head_text given old new 5 id_terms round_columns [] _ head_is.0 head_is.1 head_is.2 refl has rows shown in
+    let sel = answers_selection HEAD.now given old new 5 id_terms round_columns [] _ head_is.0 head_is.1 head_is.2 refl has rows shown in
     sym (length_permutation _ sel.found sel.same) ∙ sym (length-map sel.found (λ r. eval_all round_columns (given ∷ r ∷ []))) ∙ ap length (sym sel.shown)
 
 pub head_alone : (id : List ℕ) (old new : State) (rows : List Row) (out : List Round) (one : Option Round) → old.now.schema ≡ hall_schema
-    → Shown head_text (Text id ∷ []) old new rows → map round_in rows ≡ map Some out → length out ≤ 1 → one ≡ slice_get out 0
+    → Shown HEAD.now (Text id ∷ []) old new rows → map round_in rows ≡ map Some out → length out ≤ 1 → one ≡ slice_get out 0
     → IfSome one (IsHead id old)
 head_alone id old new rows [] one has shown is short first = subst (λ o. IfSome o (IsHead id old)) (sym first) tt
 head_alone id old new rows (round ∷ []) one has shown is short first =
@@ -111,10 +112,10 @@ head_stays id old new (Some round) same head = record {
 
 -- the look before a head is put
 pub head_looked : (id : List ℕ) (old new : State) (rows : List Row) → old.now.schema ≡ hall_schema
-    → Shown look_head_text (Text id ∷ []) old new rows → HasSoManyHeads id old.now (length rows)
+    → Shown LOOK_HEAD.now (Text id ∷ []) old new rows → HasSoManyHeads id old.now (length rows)
 head_looked id old new rows has shown =
     let given = Text id ∷ [] in
-    let sel = answers_selection look_head_text given old new 5 id_terms (col 1 1 ∷ []) [] _ look_head_is.0 look_head_is.1 look_head_is.2 refl has rows shown in
+    let sel = answers_selection LOOK_HEAD.now given old new 5 id_terms (col 1 1 ∷ []) [] _ look_head_is.0 look_head_is.1 look_head_is.2 refl has rows shown in
     sym (length_permutation _ sel.found sel.same) ∙ sym (length-map sel.found (λ r. eval_all (col 1 1 ∷ []) (given ∷ r ∷ []))) ∙ ap length (sym sel.shown)
 
 -- ---- what is written
@@ -215,10 +216,10 @@ module _ (round : Round) (is : IsRound round) where
 
   module _ (old new : State) (count : ℕ) (held : IsHallData old.now) where
     -- the UPDATE of the head under the id
-    pub head_replaced : Executes replace_head_text params old new (Ok count) → HasSoManyHeads round.id old.now 1 → IsHallData new.now × PutsHead round old.now new.now
+    pub head_replaced : Executes REPLACE_HEAD.now params old new (Ok count) → HasSoManyHeads round.id old.now 1 → IsHallData new.now × PutsHead round old.now new.now
     head_replaced ran single =
         let keyed = held.keyed in
-        let w = runs_as replace_head_text params old new hall_schema held.schema (Update 2 (update hall_schema rounds_there id_terms replaced_terms apart)) replace_head_is.0 replace_head_is.1 count ran in
+        let w = runs_as REPLACE_HEAD.now params old new hall_schema held.schema (Update 2 (update hall_schema rounds_there id_terms replaced_terms apart)) replace_head_is.0 replace_head_is.1 count ran in
         let it = updates hall_schema rounds_there id_terms replaced_terms apart 2 refl params made_quiet old new _ count held.schema keyed.1.1.0 w single in
         let one = it.rows.one in
         let there = has_filtered (is_under round.id) (old.now.trees 5) one (subst (λ l. Has l one) (sym it.rows.found) (inl refl)) in (
@@ -236,13 +237,13 @@ module _ (round : Round) (is : IsRound round) where
         )
 
     -- what the INSERT of a head adds
-    head_adds : Executes add_head_text params old new (Ok count) → HasAdded hall_schema 5 params old.now new.now
+    head_adds : Executes ADD_HEAD.now params old new (Ok count) → HasAdded hall_schema 5 params old.now new.now
     head_adds ran =
         inserts hall_schema 2 rounds_there refl refl added_terms 11 params (Null ∷ params) params refl refl head_casts quiet old new _ count held.schema
-        (runs_as add_head_text params old new hall_schema held.schema (Insert 2 (Values added_terms 11)) add_head_is.0 add_head_is.1 count ran)
+        (runs_as ADD_HEAD.now params old new hall_schema held.schema (Insert 2 (Values added_terms 11)) add_head_is.0 add_head_is.1 count ran)
 
     -- the INSERT of a head
-    pub head_inserted : Executes add_head_text params old new (Ok count) → IsHallData new.now × AddsHead old.now round new.now
+    pub head_inserted : Executes ADD_HEAD.now params old new (Ok count) → IsHallData new.now × AddsHead old.now round new.now
     head_inserted ran =
         let it = head_adds ran in
         let id = Int (next_rowid (old.now.trees 5)) in (
@@ -256,7 +257,7 @@ module _ (round : Round) (is : IsRound round) where
         )
 
     -- and under a new id
-    pub head_added : Executes add_head_text params old new (Ok count) → HasSoManyHeads round.id old.now 0 → IsHallData new.now × PutsHead round old.now new.now
+    pub head_added : Executes ADD_HEAD.now params old new (Ok count) → HasSoManyHeads round.id old.now 0 → IsHallData new.now × PutsHead round old.now new.now
     head_added ran nobody =
         let it = head_adds ran in
         let id = next_rowid (old.now.trees 5) in (
@@ -293,15 +294,15 @@ flags_nothing id flag trees found = subst (λ o. with_flag (world_of trees) id f
 
 -- the UPDATE of the head with its flag set
 pub head_flagged : (flag : RoundFlag) (round : Round) → IsRound (flagged flag round) → (old new : State) (count : ℕ) → IsHall old → HasCleanDisk old
-    → IsHead round.id old round → Executes replace_head_text (head_params (flagged flag round)) old new (Ok count) → HasMade (SetRoundFlag round.id flag) old new
+    → IsHead round.id old round → Executes REPLACE_HEAD.now (head_params (flagged flag round)) old new (Ok count) → HasMade (SetRoundFlag round.id flag) old new
 head_flagged flag round is old new count hall clean head ran =
     let put = flagged flag round in
     let own = flagged_id flag round in
     let world = world_of old.now.trees in
     let mode = hall.autocommit clean in
-    let was = executed_open old new replace_head_text (head_params put) count mode ran in
+    let was = executed_open old new REPLACE_HEAD.now (head_params put) count mode ran in
     let has = (hall.settled clean was).1 in
-    let w = runs_as replace_head_text (head_params put) old new hall_schema has (Update 2 (update hall_schema rounds_there id_terms replaced_terms apart)) replace_head_is.0 replace_head_is.1 count ran in
+    let w = runs_as REPLACE_HEAD.now (head_params put) old new hall_schema has (Update 2 (update hall_schema rounds_there id_terms replaced_terms apart)) replace_head_is.0 replace_head_is.1 count ran in
     let ours : IsHallData old.now = record { schema = has; keyed = hall.keyed clean was } in
     let it = head_replaced put is old new count ours ran (subst (λ id. HasSoManyHeads id old.now 1) (sym own) head.alone) in
     record {
@@ -316,11 +317,11 @@ head_flagged flag round is old new count hall clean head ran =
 -- ---- inside a transaction
 
 -- a look tells how many rows stand under the id
-pub head_counted : (id : List ℕ) (old new : State) (rows : List Row) → IsTrue old.in_transaction → Shown look_head_text (Text id ∷ []) old new rows
+pub head_counted : (id : List ℕ) (old new : State) (rows : List Row) → IsTrue old.in_transaction → Shown LOOK_HEAD.now (Text id ∷ []) old new rows
     → Did (CountsHeads id (length rows)) old new
 head_counted id old new rows inside shown =
-    let left = λ (it : IsHallData old.now). shown_unchanged look_head_text (Text id ∷ []) old new rows (subst (λ s. IsPlain (understood s look_head_text)) (sym it.schema) look_head_is.2) shown in
-    did (CountsHeads id (length rows)) old new (shown_mode look_head_text (Text id ∷ []) old new rows inside shown) (λ it.
+    let left = λ (it : IsHallData old.now). shown_unchanged LOOK_HEAD.now (Text id ∷ []) old new rows (subst (λ s. IsPlain (understood s LOOK_HEAD.now)) (sym it.schema) look_head_is.2) shown in
+    did (CountsHeads id (length rows)) old new (shown_mode LOOK_HEAD.now (Text id ∷ []) old new rows inside shown) (λ it.
     let same = (left it).0.now_is in
     (subst IsHallData (sym same) it, record { same = same; many = head_looked id old new rows it.schema shown }))
 

@@ -7,7 +7,8 @@ use Rattle.sqlite.specs.Command.TheVariants.{CreateTable}
 use Rattle.sqlite.proofs.Callers.{IsPlain, command_of, statement_of}
 use Rattle.hall_sql.specs.declared.tables.HallTable.{HallTable}
 use Rattle.hall_sql.specs.declared.tables.HallTable.TheVariants.{People, Puzzles, Rounds, Places, Answers, Protests, Testers}
-use Rattle.hall_sql.specs.Made.{table_text, shape_of, schema_before}
+use Rattle.hall_sql.specs.Made.{table_text, schema_before}
+use Rattle.hall_sql.specs.Tables.{shape_of}
 
 pub table_is : (table : HallTable) → table_defined_by (table_text table) ≡ Ok (shape_of table)
 unfolding understood everything

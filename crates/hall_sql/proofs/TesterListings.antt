@@ -36,7 +36,7 @@ use Rattle.hall_sql.specs.Rows.{kept, tester_in, tester_of, world_of}
 use Rattle.hall_sql.specs.RoundPuts.{tester_key}
 use Rattle.hall_sql.specs.Testers.{tests_round, name_cmp, AreNamed}
 use Rattle.hall_sql.specs.Standing.{AreKeyed}
-use Rattle.hall_sql.specs.Statements.{all_testers_text, testers_of_text}
+use Rattle.hall_sql.specs.declared.testers.TheConstants.{ALL_TESTERS, TESTERS_OF}
 use Rattle.hall_sql.proofs.AmongLemmas.{mapped, mapped_from}
 use Rattle.hall_sql.proofs.ColumnLemmas.{kind_column, column_same, and_true}
 use Rattle.hall_sql.proofs.EntryListings.{are_entries, rise_strictly}
@@ -125,12 +125,12 @@ module _ (old new : State) (has : old.now.schema ≡ hall_schema) (keyed : AreKe
         then-Equal (text_cmp x.0.name y.0.name),
       )
 
-  pub testers_of_named : Shown testers_of_text (Text id ∷ []) old new rows → AreNamed (world_of old.now.trees) id out
+  pub testers_of_named : Shown TESTERS_OF.now (Text id ∷ []) old new rows → AreNamed (world_of old.now.trees) id out
   testers_of_named shown =
-      let same = records_asked tester_in 2 testers_of_text (Text id ∷ []) 14 round_terms tester_columns name_order _ testers_of_is.0
+      let same = records_asked tester_in 2 TESTERS_OF.now (Text id ∷ []) 14 round_terms tester_columns name_order _ testers_of_is.0
       testers_of_is.1 testers_of_is.2 (λ db. refl) (λ r. refl) (tests_round id) in_agrees old new rows out has shown
       is _ whole in
-      let sorted = records_sorted tester_in 2 testers_of_text (Text id ∷ []) 14 round_terms tester_columns name_order _ testers_of_is.0
+      let sorted = records_sorted tester_in 2 TESTERS_OF.now (Text id ∷ []) 14 round_terms tester_columns name_order _ testers_of_is.0
       testers_of_is.1 testers_of_is.2 (λ db. refl) (λ r. refl) (tests_round id) in_agrees old new rows out has shown
       is name_cmp same_order in
       record {
@@ -158,7 +158,7 @@ by_tester a b x y p q =
     )
 
 pub all_testers_listed : (old new : State) → old.now.schema ≡ hall_schema → AreKeyed (old.now.trees 14) → IsDatabase old.now
-    → (rows : List Row) (out : List Tester) → map tester_in rows ≡ map Some out → Shown all_testers_text [] old new rows
+    → (rows : List Row) (out : List Tester) → map tester_in rows ≡ map Some out → Shown ALL_TESTERS.now [] old new rows
     → out ≡ entries (world_of old.now.trees).testers
 all_testers_listed old new has keyed sound rows out is shown =
     let db = old.now.trees in

@@ -1,5 +1,5 @@
 -- What the statements on the testers of rounds mean under the hall's tables.
-use Rattle.std.proofs.Common.{◌≡◌, inl, List, ℕ, codes, true, false, [], ◌∷◌, refl}
+use Rattle.std.proofs.Common.{◌≡◌, inl, List, ℕ, true, false, [], ◌∷◌, refl}
 use Rattle.sqlite_tied.specs.Compute.{everything}
 use Rattle.sqlite.specs.Order.{Row}
 use Rattle.sqlite.specs.Term.{Term, lit, col}
@@ -17,23 +17,25 @@ use Rattle.sqlite_schema.specs.Names.{same_name}
 use Rattle.sqlite_schema.specs.declared.schema.Keys.TheVariants.{Enforced}
 use Rattle.sqlite_rules.specs.Action.{works}
 use Rattle.hall_sql.specs.Asked.{IsAsked, is_whole}
-use Rattle.hall_sql.specs.Tables.{hall_schema, testers_table}
-use Rattle.hall_sql.specs.Statements.{plain_query, all_testers_text, testers_of_text, drop_testers_text, add_tester_text}
+use Rattle.hall_sql.specs.Tables.{hall_schema, table_at}
+use Rattle.hall_sql.specs.declared.tables.HallTable.TheVariants.{Testers}
+use Rattle.hall_sql.specs.Statements.{plain_query}
+use Rattle.hall_sql.specs.declared.testers.TheConstants.{ALL_TESTERS, TESTERS_OF, DROP_TESTERS, ADD_TESTER}
 use Rattle.hall_sql.proofs.AskedLemmas.{asked}
 use Rattle.hall_sql.proofs.Versions.{AsksAll}
-use Rattle.hall_sql.proofs.PeopleTexts.{equals, rising}
+use Rattle.hall_sql.proofs.PeopleTexts.{equals, rising, names_of}
 use Rattle.hall_sql.proofs.RestrictLemmas.{Restricts, refusing_works}
 use Rattle.hall_sql.proofs.DeleteLemmas.{deletion}
 
 -- as the schema has it
 abbrev pub testers_there : Table
-testers_there = record testers_table { tree = 14 }
+testers_there = table_at Testers
 
 abbrev pub tester_columns : List Term
 tester_columns = col 1 1 ∷ col 1 2 ∷ []
 
 abbrev pub tester_names : List (List ℕ)
-tester_names = codes "round" ∷ codes "name" ∷ []
+tester_names = names_of Testers
 
 -- round = ?1
 abbrev pub round_terms : List Term
@@ -43,22 +45,22 @@ round_terms = equals 1 0 ∷ []
 abbrev pub name_order : List (Term × Key)
 name_order = (col 1 2, rising) ∷ []
 
-pub testers_of_is : (command_of (understood hall_schema testers_of_text)
+pub testers_of_is : (command_of (understood hall_schema TESTERS_OF.now)
     ≡ Select (record { lets = []; body = plain_query 14 round_terms tester_columns name_order }) tester_names)
-    × (reads_listing hall_schema testers_of_text ≡ false) × IsPlain (understood hall_schema testers_of_text)
-    × (is_whole testers_of_text 1 (understood hall_schema testers_of_text) ≡ true)
+    × (reads_listing hall_schema TESTERS_OF.now ≡ false) × IsPlain (understood hall_schema TESTERS_OF.now)
+    × (is_whole TESTERS_OF.now 1 (understood hall_schema TESTERS_OF.now) ≡ true)
 unfolding understood everything
 testers_of_is = (refl, refl, (refl, refl), refl)
 
-pub testers_of_asked : (id : List ℕ) → IsAsked testers_of_text (Text id ∷ [])
+pub testers_of_asked : (id : List ℕ) → IsAsked TESTERS_OF.now (Text id ∷ [])
 testers_of_asked id =
-    asked testers_of_text (Text id ∷ []) 14 round_terms tester_columns name_order _ testers_of_is.0 testers_of_is.1 testers_of_is.2 testers_of_is.3 refl
+    asked TESTERS_OF.now (Text id ∷ []) 14 round_terms tester_columns name_order _ testers_of_is.0 testers_of_is.1 testers_of_is.2 testers_of_is.3 refl
 
 -- the order of keys
 abbrev pub tester_order : List (Term × Key)
 tester_order = (col 1 1, rising) ∷ (col 1 2, rising) ∷ []
 
-pub all_testers_are : AsksAll all_testers_text 14 tester_columns tester_order tester_names hall_schema
+pub all_testers_are : AsksAll ALL_TESTERS.now 14 tester_columns tester_order tester_names hall_schema
 unfolding understood everything
 all_testers_are = record { is = refl; unlisted = refl; plain = (refl, refl); whole = refl; typed = refl }
 
@@ -71,9 +73,9 @@ unfolding same_name joined
 testers_restricted olds =
     refusing_works hall_schema Enforced 0 14 olds [] (tt, ((inl refl, tt), (tt, ((inl refl, (inl refl, tt)), ((inl refl, (inl refl, tt)), ((inl refl, (inl refl, tt)), ((inl refl, (inl refl, tt)), tt)))))))
 
-pub drop_testers_is : (command_of (understood hall_schema drop_testers_text)
+pub drop_testers_is : (command_of (understood hall_schema DROP_TESTERS.now)
     ≡ Delete 6 (deletion hall_schema testers_there (equals 1 0 ∷ []) testers_apart testers_restricted))
-    × IsPlain (understood hall_schema drop_testers_text)
+    × IsPlain (understood hall_schema DROP_TESTERS.now)
 unfolding understood everything
 drop_testers_is = (refl, (refl, refl))
 
@@ -81,7 +83,7 @@ drop_testers_is = (refl, (refl, refl))
 abbrev pub added_terms : List Term
 added_terms = lit Null ∷ col 0 0 ∷ col 0 1 ∷ []
 
-pub add_tester_is : (command_of (understood hall_schema add_tester_text) ≡ Insert 6 (Values added_terms 3))
-    × IsPlain (understood hall_schema add_tester_text)
+pub add_tester_is : (command_of (understood hall_schema ADD_TESTER.now) ≡ Insert 6 (Values added_terms 3))
+    × IsPlain (understood hall_schema ADD_TESTER.now)
 unfolding understood everything
 add_tester_is = (refl, (refl, refl))

@@ -34,7 +34,7 @@ use Rattle.hall_policy.proofs.Reading.{kind_holds}
 use Rattle.hall_store.specs.Change.{without_testers, with_testers}
 use Rattle.hall_store.proofs.Tests.{contained, later}
 use Rattle.hall_sql.specs.Tables.{hall_schema}
-use Rattle.hall_sql.specs.Statements.{drop_testers_text, add_tester_text}
+use Rattle.hall_sql.specs.declared.testers.TheConstants.{DROP_TESTERS, ADD_TESTER}
 use Rattle.hall_sql.specs.Values.{name_in}
 use Rattle.hall_sql.specs.RoundColumns.{tester_params, is_under}
 use Rattle.hall_sql.specs.Rows.{kept, person_of, puzzle_row_of, round_of, place_of, answer_of, protest_of, tester_of, world_of}
@@ -86,12 +86,12 @@ quiet new = refl
 
 module _ (id : List ℕ) (old new : State) (count : ℕ) (held : IsHallData old.now) where
   -- the DELETE of the testers of a round
-  pub testers_dropped : Executes drop_testers_text (Text id ∷ []) old new (Ok count) → IsHallData new.now × DropsTesters id old.now new.now
+  pub testers_dropped : Executes DROP_TESTERS.now (Text id ∷ []) old new (Ok count) → IsHallData new.now × DropsTesters id old.now new.now
   testers_dropped ran =
       let given = Text id ∷ [] in
       let keyed = held.keyed.1.1.1.1.1.1.0 in
       let rows = old.now.trees 14 in
-      let w = runs_as drop_testers_text given old new hall_schema held.schema _ drop_testers_is.0 drop_testers_is.1 count ran in
+      let w = runs_as DROP_TESTERS.now given old new hall_schema held.schema _ drop_testers_is.0 drop_testers_is.1 count ran in
       let it = deletes hall_schema testers_there (equals 1 0 ∷ []) testers_apart testers_restricted 6 refl given old new _ count held.schema w in
       let ids : ids_of (map (λ r. eval_all (col 1 0 ∷ []) (given ∷ r ∷ [])) it.1.found) ≡ ids_of it.1.found = map-map (λ r. id_in (rowid r)) (λ r. eval_all (col 1 0 ∷ []) (given ∷ r ∷ [])) it.1.found in
       let left : new.now.trees 14 ≡ without_rows id rows = it.1.cut ∙ ap (without_all rows) ids ∙ cut_rows (is_under id) rows it.1.found keyed it.1.same in
@@ -107,11 +107,11 @@ module _ (id : List ℕ) (old new : State) (count : ℕ) (held : IsHallData old.
       )
 
   -- the INSERT of a tester
-  pub tester_added : (name : List ℕ) → IsRoundId id → IsName name → Executes add_tester_text (tester_params id name) old new (Ok count)
+  pub tester_added : (name : List ℕ) → IsRoundId id → IsName name → Executes ADD_TESTER.now (tester_params id name) old new (Ok count)
       → IsHallData new.now × PutsTester id name old.now new.now
   tester_added name is_id is_name ran =
       let given = tester_params id name in
-      let w = runs_as add_tester_text given old new hall_schema held.schema (Insert 6 (Values added_terms 3)) add_tester_is.0 add_tester_is.1 count ran in
+      let w = runs_as ADD_TESTER.now given old new hall_schema held.schema (Insert 6 (Values added_terms 3)) add_tester_is.0 add_tester_is.1 count ran in
       let casts : cast_row testers_there (Null ∷ given) ≡ Null ∷ given = rw cast_null in
       let it = inserts hall_schema 6 testers_there refl refl added_terms 3 given (Null ∷ given) given refl refl casts quiet old new _ count held.schema w in
       let at = next_rowid (old.now.trees 14) in

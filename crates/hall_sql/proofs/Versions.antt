@@ -19,7 +19,6 @@ use Rattle.sqlite.specs.Order.{Row}
 use Rattle.sqlite.specs.Program.{overlay}
 use Rattle.sqlite.specs.Schema.{Schema}
 use Rattle.sqlite.specs.State.{State, HasCleanDisk, Shown}
-use Rattle.sqlite.specs.Table.{Table}
 use Rattle.sqlite.specs.Term.{Term, eval_all}
 use Rattle.sqlite.specs.Tree.{Trees}
 use Rattle.sqlite.proofs.Callers.{IsPlain, command_of}
@@ -28,12 +27,13 @@ use Rattle.hall_store.specs.Store.{Served}
 use Rattle.hall_sql.specs.declared.tables.HallTable.{HallTable}
 use Rattle.hall_sql.specs.declared.tables.HallTable.TheVariants.{People, Puzzles, Rounds, Places, Answers, Protests, Testers}
 use Rattle.hall_sql.specs.Asked.{IsAskedIn, is_whole}
-use Rattle.hall_sql.specs.Made.{all_tables, old_tables, shape_of}
+use Rattle.hall_sql.specs.Made.{all_tables, old_tables}
+use Rattle.hall_sql.specs.Tables.{shape_of}
 use Rattle.hall_sql.specs.Rows.{columns_from, kept, world_of}
 use Rattle.hall_sql.specs.Scan.{tree_of}
 use Rattle.hall_sql.specs.Standing.{AreKeyed, AreKeyedIn, IsOver, RestedAny, content_of}
 use Rattle.hall_sql.specs.Statements.{plain_query}
-use Rattle.hall_sql.specs.Tables.{hall_schema, old_schema}
+use Rattle.hall_sql.specs.Tables.{hall_schema, old_schema, table_at}
 use Rattle.hall_sql.specs.Versions.{IsVersion, IsAnyHall, HasTable}
 use Rattle.hall_sql.proofs.AskedLemmas.{asked}
 use Rattle.hall_sql.proofs.ListedLemmas.{by_order, values_asked}
@@ -57,10 +57,6 @@ pub told_any : {R E : Type 0} (old new : State) (result : Result R E) (P : R →
 told_any old new result P Means hall rested has serves means =
     told {schema = hall.schema} old new result P Means hall.tabled (rested hall.schema hall.tabled) has serves
     (λ x it clean opened is keyed. means x it opened hall.schema hall.fits is keyed)
-
--- the table, in its tree
-abbrev pub table_at : HallTable → Table
-table_at table = record (shape_of table) { tree = tree_of table }
 
 -- a table of the schema is keyed
 abbrev Keyed : ℕ → Trees → Schema → Type 0

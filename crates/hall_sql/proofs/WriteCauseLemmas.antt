@@ -30,7 +30,8 @@ use Rattle.hall_policy.specs.declared.record.Round.{Round}
 use Rattle.hall_sql.specs.Columns.{HasSoMany, puzzle_params, stands_under}
 use Rattle.hall_sql.specs.RoundColumns.{head_params}
 use Rattle.hall_sql.specs.RoundPuts.{CountsHeads}
-use Rattle.hall_sql.specs.Statements.{add_puzzle_text, replace_puzzle_text, add_head_text, replace_head_text}
+use Rattle.hall_sql.specs.declared.puzzles.TheConstants.{ADD_PUZZLE, REPLACE_PUZZLE}
+use Rattle.hall_sql.specs.declared.round_writes.TheConstants.{ADD_HEAD, REPLACE_HEAD}
 use Rattle.hall_sql.proofs.EachLemmas.{next_item}
 use Rattle.hall_sql.specs.WriteCause.{PuzzleIsRefused, PutPuzzleFails, HeadIsRefused, IsHeadRefused}
 use Rattle.hall_sql.specs.WriteCause.{IsEdit, IsWritten, enforced, IsRefused, RunFails, Refuses, RefusesInside, RefusesToAsk, IsUnderWay}
@@ -201,12 +202,12 @@ next_is items i item low is = next_item items i item low ∙ ap (λ x. x ∷ dro
 -- ---- puzzles
 
 pub new_refused : (row : PuzzleRow) (text : List ℕ) (count : ℕ) (a b : State) → CanonicalText text row.puzzle → count ≡ 0
-    → RunFails add_puzzle_text (puzzle_params text row) a b → IsStoreCause a b ⊎ PuzzleIsRefused row count a.now
+    → RunFails ADD_PUZZLE.now (puzzle_params text row) a b → IsStoreCause a b ⊎ PuzzleIsRefused row count a.now
 new_refused row text count a b is none (inl cause) = inl cause
 new_refused row text count a b is none (inr refused) = inr (subst (λ n. PuzzleIsRefused row n a.now) (sym none) (text, is, refused))
 
 pub over_refused : (row : PuzzleRow) (text : List ℕ) (count : ℕ) (a b : State) → CanonicalText text row.puzzle → count ≡ 1
-    → RunFails replace_puzzle_text (puzzle_params text row) a b → IsStoreCause a b ⊎ PuzzleIsRefused row count a.now
+    → RunFails REPLACE_PUZZLE.now (puzzle_params text row) a b → IsStoreCause a b ⊎ PuzzleIsRefused row count a.now
 over_refused row text count a b is one (inl cause) = inl cause
 over_refused row text count a b is one (inr refused) = inr (subst (λ n. PuzzleIsRefused row n a.now) (sym one) (text, is, refused))
 
@@ -231,12 +232,12 @@ puzzle_served row a b c before opens same (inr it) = puzzle_found row it.0 a b c
 
 -- ---- heads of rounds
 
-pub new_head : (round : Round) (count : ℕ) (a b : State) → count ≡ 0 → RunFails add_head_text (head_params round) a b
+pub new_head : (round : Round) (count : ℕ) (a b : State) → count ≡ 0 → RunFails ADD_HEAD.now (head_params round) a b
     → IsStoreCause a b ⊎ HeadIsRefused round count a.now
 new_head round count a b none (inl cause) = inl cause
 new_head round count a b none (inr refused) = inr (subst (λ n. HeadIsRefused round n a.now) (sym none) refused)
 
-pub over_head : (round : Round) (count : ℕ) (a b : State) → count ≡ 1 → RunFails replace_head_text (head_params round) a b
+pub over_head : (round : Round) (count : ℕ) (a b : State) → count ≡ 1 → RunFails REPLACE_HEAD.now (head_params round) a b
     → IsStoreCause a b ⊎ HeadIsRefused round count a.now
 over_head round count a b one (inl cause) = inl cause
 over_head round count a b one (inr refused) = inr (subst (λ n. HeadIsRefused round n a.now) (sym one) refused)

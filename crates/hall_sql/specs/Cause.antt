@@ -15,7 +15,8 @@ use Rattle.hall_store.specs.Store.{MoreFaults, IsRoundKept}
 use Rattle.hall_sql.specs.Feed.{AreAll, IsTurnedAway}
 use Rattle.hall_sql.specs.Places.{AreNumbered}
 use Rattle.hall_sql.specs.Rows.{place_in, round_in, tester_in, world_of}
-use Rattle.hall_sql.specs.Statements.{head_text, places_of_text, testers_of_text}
+use Rattle.hall_sql.specs.declared.rounds.TheConstants.{HEAD, PLACES_OF}
+use Rattle.hall_sql.specs.declared.testers.TheConstants.{TESTERS_OF}
 
 -- the cause lies in the store: a fault of its device was counted in the call, or had shut the store before
 abbrev pub IsStoreCause : State → State → Type 0
@@ -51,9 +52,9 @@ HasNoRound world id = (¬ IsRoundKept world id None) × (¬ HasWholeList world i
 -- right.
 abbrev pub RoundFails : List ℕ → State → State → Type 0
 RoundFails id old new =
-    FindFails round_in head_text (Text id ∷ []) old new
-    ⊎ (ReadFails place_in places_of_text (Text id ∷ []) old new
-    ⊎ (ReadFails tester_in testers_of_text (Text id ∷ []) old new ⊎ HasNoRound (world_of old.now.trees) id))
+    FindFails round_in HEAD.now (Text id ∷ []) old new
+    ⊎ (ReadFails place_in PLACES_OF.now (Text id ∷ []) old new
+    ⊎ (ReadFails tester_in TESTERS_OF.now (Text id ∷ []) old new ⊎ HasNoRound (world_of old.now.trees) id))
 
 -- The sink has taken the records of the first rows that the query answers over the tables as they were, and the next
 -- row is no record, or the sink refuses it.

@@ -9,10 +9,10 @@ use Rattle.sqlite.specs.State.{State}
 use Rattle.hall_sql.specs.Standing.{IsBare}
 use Rattle.hall_sql.specs.declared.tables.HallTable.{HallTable}
 use Rattle.hall_sql.specs.declared.tables.HallTable.TheVariants.{People, Puzzles, Rounds, Places, Answers, Protests, Testers}
-use Rattle.hall_sql.specs.Tables.{hall_schema, people_text, people_table, puzzles_text, puzzles_table, rounds_text}
-use Rattle.hall_sql.specs.Tables.{rounds_table, round_puzzles_text, round_puzzles_table, answers_text, answers_table}
-use Rattle.hall_sql.specs.Tables.{protests_text, protests_table, no_schema, with_people, with_puzzles, with_rounds}
-use Rattle.hall_sql.specs.Tables.{with_round_puzzles, with_answers, old_schema, testers_text, testers_table}
+use Rattle.hall_sql.specs.declared.tables.TheConstants.{MAKE_PEOPLE, MAKE_PUZZLES, MAKE_ROUNDS, MAKE_PLACES}
+use Rattle.hall_sql.specs.declared.tables.TheConstants.{MAKE_ANSWERS, MAKE_PROTESTS, MAKE_TESTERS}
+use Rattle.hall_sql.specs.Tables.{shape_of, no_schema, with_people, with_puzzles, with_rounds}
+use Rattle.hall_sql.specs.Tables.{with_round_puzzles, with_answers, old_schema, hall_schema}
 
 -- all seven, each after those to which it refers
 abbrev pub all_tables : List HallTable
@@ -24,23 +24,13 @@ old_tables = People ∷ Puzzles ∷ Rounds ∷ Places ∷ Answers ∷ Protests �
 
 -- the statement that makes the table
 abbrev pub table_text : HallTable → List ℕ
-table_text People = people_text
-table_text Puzzles = puzzles_text
-table_text Rounds = rounds_text
-table_text Places = round_puzzles_text
-table_text Answers = answers_text
-table_text Protests = protests_text
-table_text Testers = testers_text
-
--- the table as it is made
-abbrev pub shape_of : HallTable → Table
-shape_of People = people_table
-shape_of Puzzles = puzzles_table
-shape_of Rounds = rounds_table
-shape_of Places = round_puzzles_table
-shape_of Answers = answers_table
-shape_of Protests = protests_table
-shape_of Testers = testers_table
+table_text People = MAKE_PEOPLE.now
+table_text Puzzles = MAKE_PUZZLES.now
+table_text Rounds = MAKE_ROUNDS.now
+table_text Places = MAKE_PLACES.now
+table_text Answers = MAKE_ANSWERS.now
+table_text Protests = MAKE_PROTESTS.now
+table_text Testers = MAKE_TESTERS.now
 
 -- the schema to which the table is added
 abbrev pub schema_before : HallTable → Schema

@@ -12,18 +12,12 @@ use Rattle.sqlite.specs.Held.{Held, state}
 use Rattle.sqlite.specs.Given.{Advances, HasGiven}
 use Rattle.sqlite.specs.State.{State, IsUnchanged, KeepsCounts}
 use Rattle.hall_sql.specs.declared.tables.HallTable.{HallTable}
-use Rattle.hall_sql.specs.declared.tables.HallTable.TheVariants.{People, Puzzles, Rounds, Places, Answers, Protests, Testers}
 use Rattle.hall_sql.specs.Standing.{AreKeyed}
+use Rattle.hall_sql.specs.Tables.{form_of}
 
 -- the tree of the table
 abbrev pub tree_of : HallTable → ℕ
-tree_of People = 0
-tree_of Puzzles = 3
-tree_of Rounds = 5
-tree_of Places = 7
-tree_of Answers = 9
-tree_of Protests = 12
-tree_of Testers = 14
+tree_of table = (form_of table).1
 
 -- each number is below those after it
 abbrev pub Rises : List ℤ → Type 0

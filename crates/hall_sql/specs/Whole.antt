@@ -6,7 +6,8 @@ use Rattle.sqlite.specs.Held.{Held, state}
 use Rattle.sqlite.specs.Order.{Row}
 use Rattle.sqlite.specs.State.{State, Shown}
 use Rattle.hall_sql.specs.Rows.{place_in, round_in, tester_in}
-use Rattle.hall_sql.specs.Statements.{head_text, places_of_text, testers_of_text}
+use Rattle.hall_sql.specs.declared.rounds.TheConstants.{HEAD, PLACES_OF}
+use Rattle.hall_sql.specs.declared.testers.TheConstants.{TESTERS_OF}
 
 -- over the tables as they were the query answers rows, and each of them is a record of this kind
 pub record AreRecords {X : Type 0} (read : Row → Option X) (sql : List ℕ) (params : Row) (old new : State) : Type 0 where
@@ -19,6 +20,6 @@ pub record AreRecords {X : Type 0} (read : Row → Option X) (sql : List ℕ) (p
 pub record IsRoundRead {S : Type 0} (g : Ghosts S) (id : List ℕ) (old new : State) : Type 0 where
   pub headed : Held S
   pub listed : Held S
-  pub head : AreRecords round_in head_text (Text id ∷ []) old (state g headed)
-  pub places : AreRecords place_in places_of_text (Text id ∷ []) (state g headed) (state g listed)
-  pub testers : AreRecords tester_in testers_of_text (Text id ∷ []) (state g listed) new
+  pub head : AreRecords round_in HEAD.now (Text id ∷ []) old (state g headed)
+  pub places : AreRecords place_in PLACES_OF.now (Text id ∷ []) (state g headed) (state g listed)
+  pub testers : AreRecords tester_in TESTERS_OF.now (Text id ∷ []) (state g listed) new

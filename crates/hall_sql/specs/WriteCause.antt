@@ -42,11 +42,13 @@ use Rattle.hall_sql.specs.Inside.{IsHallData}
 use Rattle.hall_sql.specs.RoundColumns.{head_params, place_params, tester_params, HasSoManyHeads}
 use Rattle.hall_sql.specs.RoundPuts.{PutsHead, DropsPlaces, PutsPlaces, PutsList, DropsTesters, PutsTesters}
 use Rattle.hall_sql.specs.Rows.{world_of, person_in, puzzle_row_in, protest_in, round_in}
-use Rattle.hall_sql.specs.Statements.{add_person_text, person_text, add_puzzle_text, replace_puzzle_text, puzzle_text}
-use Rattle.hall_sql.specs.Statements.{add_head_text, replace_head_text, head_text, drop_places_text, add_place_text}
-use Rattle.hall_sql.specs.Statements.{drop_testers_text, add_tester_text}
+use Rattle.hall_sql.specs.declared.people.TheConstants.{ADD_PERSON, PERSON}
+use Rattle.hall_sql.specs.declared.puzzles.TheConstants.{ADD_PUZZLE, REPLACE_PUZZLE, PUZZLE}
+use Rattle.hall_sql.specs.declared.rounds.TheConstants.{HEAD}
+use Rattle.hall_sql.specs.declared.round_writes.TheConstants.{ADD_HEAD, REPLACE_HEAD, DROP_PLACES, ADD_PLACE}
+use Rattle.hall_sql.specs.declared.protests.TheConstants.{RULE_PROTEST, PROTEST}
+use Rattle.hall_sql.specs.declared.testers.TheConstants.{DROP_TESTERS, ADD_TESTER}
 use Rattle.hall_sql.specs.Standing.{HasAdded}
-use Rattle.hall_sql.specs.Statements.{rule_protest_text, protest_text}
 use Rattle.hall_sql.specs.Tables.{hall_schema}
 
 -- ---- one statement
@@ -106,9 +108,9 @@ RefusesToAsk sql params old new =
 -- are more than one
 abbrev pub PuzzleIsRefused : PuzzleRow → ℕ → Database → Type 0
 PuzzleIsRefused row zero db =
-    (text : List ℕ) × CanonicalText text row.puzzle × IsRefused add_puzzle_text (puzzle_params text row) db
+    (text : List ℕ) × CanonicalText text row.puzzle × IsRefused ADD_PUZZLE.now (puzzle_params text row) db
 PuzzleIsRefused row (suc zero) db =
-    (text : List ℕ) × CanonicalText text row.puzzle × IsRefused replace_puzzle_text (puzzle_params text row) db
+    (text : List ℕ) × CanonicalText text row.puzzle × IsRefused REPLACE_PUZZLE.now (puzzle_params text row) db
 PuzzleIsRefused row (suc (suc more)) db = Unit
 
 -- why a put of a puzzle fails
@@ -119,7 +121,7 @@ PutPuzzleFails row old new =
 -- Why a puzzle's state isn't set: the puzzle can't be read, or it can't be put in that state.
 abbrev pub SetStateFails : PuzzleKey → PuzzleState → State → State → Type 0
 SetStateFails key known old new =
-    FindFails puzzle_row_in puzzle_text (Text key.author ∷ Text key.label ∷ []) old new
+    FindFails puzzle_row_in PUZZLE.now (Text key.author ∷ Text key.label ∷ []) old new
     ⊎ ((row : PuzzleRow) × (get (world_of old.now.trees).puzzles key ≡ Some row)
     × PutPuzzleFails (record row { state = known }) old new)
 
@@ -128,23 +130,23 @@ SetStateFails key known old new =
 -- Why a ruling fails: the protest can't be read, or there is one, and the statement that rules it is refused.
 abbrev pub RuleFails : ProtestKey → Ruling → State → State → Type 0
 RuleFails key ruling old new =
-    FindFails protest_in protest_text (Text key.entrant ∷ Text key.round ∷ Text key.token ∷ []) old new
+    FindFails protest_in PROTEST.now (Text key.entrant ∷ Text key.round ∷ Text key.token ∷ []) old new
     ⊎ ((row : ProtestRow) × (get (world_of old.now.trees).protests key ≡ Some row)
-    × RunFails rule_protest_text (ruling_params key (Some ruling)) old new)
+    × RunFails RULE_PROTEST.now (ruling_params key (Some ruling)) old new)
 
 -- ---- rounds
 
 -- Why a flag isn't set: the round's head can't be read, or the statement that replaces it is refused.
 abbrev pub SetFlagFails : List ℕ → RoundFlag → State → State → Type 0
 SetFlagFails id flag old new =
-    FindFails round_in head_text (Text id ∷ []) old new
+    FindFails round_in HEAD.now (Text id ∷ []) old new
     ⊎ ((round : Round) × (get (world_of old.now.trees).rounds id ≡ Some round)
-    × RunFails replace_head_text (head_params (flagged flag round)) old new)
+    × RunFails REPLACE_HEAD.now (head_params (flagged flag round)) old new)
 
 -- the statement that puts a head where so many rows stand under its id is refused, or there are more than one
 abbrev pub HeadIsRefused : Round → ℕ → Database → Type 0
-HeadIsRefused round zero db = IsRefused add_head_text (head_params round) db
-HeadIsRefused round (suc zero) db = IsRefused replace_head_text (head_params round) db
+HeadIsRefused round zero db = IsRefused ADD_HEAD.now (head_params round) db
+HeadIsRefused round (suc zero) db = IsRefused REPLACE_HEAD.now (head_params round) db
 HeadIsRefused round (suc (suc more)) db = Unit
 
 abbrev pub IsHeadRefused : Round → Database → Type 0
@@ -158,7 +160,7 @@ pub record PlaceIsRefused (id : List ℕ) (entries : List Entry) (old : Database
   pub placed : Database
   pub hall : IsHallData placed
   pub puts : PutsPlaces id (take at entries) old placed
-  pub refused : IsRefused add_place_text (place_params id (at + 1) entry) placed
+  pub refused : IsRefused ADD_PLACE.now (place_params id (at + 1) entry) placed
 
 -- the list before is taken out, and one of the new entries is refused
 pub record EntriesAreRefused (id : List ℕ) (entries : List Entry) (old : Database) : Type 0 where
@@ -169,7 +171,7 @@ pub record EntriesAreRefused (id : List ℕ) (entries : List Entry) (old : Datab
 
 -- the statement that takes the list before out is refused, or the new list is
 abbrev pub ListIsRefused : List ℕ → List Entry → Database → Type 0
-ListIsRefused id entries old = IsRefused drop_places_text (Text id ∷ []) old ⊎ EntriesAreRefused id entries old
+ListIsRefused id entries old = IsRefused DROP_PLACES.now (Text id ∷ []) old ⊎ EntriesAreRefused id entries old
 
 -- the testers before one are put, and the statement that puts it is refused there
 pub record TesterIsRefused (id : List ℕ) (names : List (List ℕ)) (old : Database) : Type 0 where
@@ -179,7 +181,7 @@ pub record TesterIsRefused (id : List ℕ) (names : List (List ℕ)) (old : Data
   pub placed : Database
   pub hall : IsHallData placed
   pub puts : PutsTesters id (take at names) old placed
-  pub refused : IsRefused add_tester_text (tester_params id name) placed
+  pub refused : IsRefused ADD_TESTER.now (tester_params id name) placed
 
 -- the testers before are taken out, and one of the new ones is refused
 pub record NamesAreRefused (id : List ℕ) (names : List (List ℕ)) (old : Database) : Type 0 where
@@ -190,7 +192,7 @@ pub record NamesAreRefused (id : List ℕ) (names : List (List ℕ)) (old : Data
 
 -- the statement that takes the testers before out is refused, or the new ones are
 abbrev pub TesterListIsRefused : List ℕ → List (List ℕ) → Database → Type 0
-TesterListIsRefused id names old = IsRefused drop_testers_text (Text id ∷ []) old ⊎ NamesAreRefused id names old
+TesterListIsRefused id names old = IsRefused DROP_TESTERS.now (Text id ∷ []) old ⊎ NamesAreRefused id names old
 
 -- the list is put, and then the testers are refused
 pub record LastIsRefused (row : RoundRow) (old : Database) : Type 0 where
@@ -216,7 +218,7 @@ PutRoundFails row old new =
 -- the query for a person's name answers rows that are no one person
 abbrev pub IsUnfound : List ℕ → State → State → Type 0
 IsUnfound name old new =
-    (rows : List Row) × Shown person_text (Text name ∷ []) old new rows
+    (rows : List Row) × Shown PERSON.now (Text name ∷ []) old new rows
     × (IsAnyUnread person_in rows ⊎ (1 < length rows))
 
 -- nobody of that name is known
@@ -227,7 +229,7 @@ IsUnknown name held = get (world_of held.trees).people name ≡ None
 abbrev pub PersonIsRefused : Person → State → State → Type 0
 PersonIsRefused person old new =
     IsUnfound person.name old new
-    ⊎ (IsUnknown person.name old.now × IsRefused add_person_text (person_params person) old.now)
+    ⊎ (IsUnknown person.name old.now × IsRefused ADD_PERSON.now (person_params person) old.now)
 
 -- where the name is unknown, the person's row is added, and else nothing
 abbrev pub ImportsOne : Person → Database → Database → Type 0

@@ -14,8 +14,6 @@ ghost use Rattle.hall_sql.specs.Fill.{AddsAnswer};
 ghost use Rattle.hall_sql.specs.Inside.{Carries, Did};
 ghost use Rattle.hall_sql.specs.Standing.{IsHall, Rested, RestedAny, Wrote, content_of, Lasts};
 ghost use Rattle.sqlite.specs.declared.types.Value.TheVariants.{Text, Int};
-ghost use Rattle.hall_sql.specs.Statements.{add_answer_text, all_answers_text, answer_text, answers_given_text};
-ghost use Rattle.hall_sql.specs.Statements.{answers_in_text, answers_of_text, number_taken_text};
 ghost use Rattle.hall_sql.specs.Rows.{answer_in};
 ghost use Rattle.hall_sql.specs.Whole.{AreRecords};
 ghost use Rattle.hall_sql.specs.Cause.{ReadFails, FindFails};
@@ -30,6 +28,7 @@ use sqlite::types::{ToSql, ValueRef};
 use sqlite::{Alter, Connection, Transaction, params};
 use std::alloc::Global;
 
+/// The answer under a key.
 const ANSWER: &str =
     "SELECT entrant, round, number, token, n, moment, answer, verdict FROM answers \
     WHERE entrant = ?1 AND round = ?2 AND number = ?3 AND token = ?4";
@@ -45,11 +44,11 @@ pub(crate) fn answer<S: Alter>(
     ensures served { Served (content_of (state S.Store conn.new)) result
         (λ world found. found ≡ get world.answers key.now) }
     ensures whole { HasCleanDisk (state S.Store conn.new) → IfOk result (λ _.
-        AreRecords answer_in answer_text
+        AreRecords answer_in ANSWER.now
         (Text key.now.entrant ∷ Text key.now.round ∷ Int (pos key.now.number) ∷ Text key.now.token ∷ [])
         (state S.Store conn.old) (state S.Store conn.new)) }
     ensures cause { HasCleanDisk (state S.Store conn.new) → Fails
-        (FindFails answer_in answer_text
+        (FindFails answer_in ANSWER.now
         (Text key.now.entrant ∷ Text key.now.round ∷ Int (pos key.now.number) ∷ Text key.now.token ∷ [])
         (state S.Store conn.old) (state S.Store conn.new)) result }
 {
@@ -66,6 +65,7 @@ pub(crate) fn answer<S: Alter>(
     )
 }
 
+/// The entrant's answers in the round, in the order of listings.
 const ANSWERS_OF: &str =
     "SELECT entrant, round, number, token, n, moment, answer, verdict FROM answers \
     WHERE round = ?2 AND entrant = ?1 ORDER BY entrant, number, n, token";
@@ -82,10 +82,10 @@ pub(crate) fn answers_of<S: Alter>(
     ensures served { Served (content_of (state S.Store conn.new)) result
         (λ world rows. IsListing world (is_of entrant.now round.now) rows.items) }
     ensures whole { HasCleanDisk (state S.Store conn.new) → IfOk result (λ _.
-        AreRecords answer_in answers_of_text (Text entrant.now ∷ Text round.now ∷ []) (state S.Store conn.old)
+        AreRecords answer_in ANSWERS_OF.now (Text entrant.now ∷ Text round.now ∷ []) (state S.Store conn.old)
         (state S.Store conn.new)) }
     ensures cause { HasCleanDisk (state S.Store conn.new) → Fails
-        (ReadFails answer_in answers_of_text (Text entrant.now ∷ Text round.now ∷ []) (state S.Store conn.old)
+        (ReadFails answer_in ANSWERS_OF.now (Text entrant.now ∷ Text round.now ∷ []) (state S.Store conn.old)
         (state S.Store conn.new)) result }
 {
     let _schema = conn.schema();
@@ -97,6 +97,7 @@ pub(crate) fn answers_of<S: Alter>(
     )
 }
 
+/// The answers of the round, in the order of listings.
 pub(crate) const ANSWERS_IN: &str =
     "SELECT entrant, round, number, token, n, moment, answer, verdict FROM answers \
     WHERE round = ?1 ORDER BY entrant, number, n, token";
@@ -112,16 +113,17 @@ pub(crate) fn answers_in<S: Alter>(
     ensures served { Served (content_of (state S.Store conn.new)) result
         (λ world rows. IsListing world (is_in round.now) rows.items) }
     ensures whole { HasCleanDisk (state S.Store conn.new) → IfOk result (λ _.
-        AreRecords answer_in answers_in_text (Text round.now ∷ []) (state S.Store conn.old)
+        AreRecords answer_in ANSWERS_IN.now (Text round.now ∷ []) (state S.Store conn.old)
         (state S.Store conn.new)) }
     ensures cause { HasCleanDisk (state S.Store conn.new) → Fails
-        (ReadFails answer_in answers_in_text (Text round.now ∷ []) (state S.Store conn.old)
+        (ReadFails answer_in ANSWERS_IN.now (Text round.now ∷ []) (state S.Store conn.old)
         (state S.Store conn.new)) result }
 {
     let _schema = conn.schema();
     read(conn, alloc, ANSWERS_IN, params![round.as_str()])
 }
 
+/// The entrant's answers to the round's puzzle of the number.
 const ANSWERS_GIVEN: &str =
     "SELECT entrant, round, number, token, n, moment, answer, verdict FROM answers \
     WHERE entrant = ?1 AND round = ?2 AND number = ?3";
@@ -139,11 +141,11 @@ pub(crate) fn answers_given<S: Alter>(
     ensures served { Served (content_of (state S.Store conn.new)) result
         (λ world count. count ≡ answers_given world entrant.now round.now number) }
     ensures whole { HasCleanDisk (state S.Store conn.new) → IfOk result (λ _.
-        AreRecords answer_in answers_given_text
+        AreRecords answer_in ANSWERS_GIVEN.now
         (Text entrant.now ∷ Text round.now ∷ Int (pos number) ∷ []) (state S.Store conn.old)
         (state S.Store conn.new)) }
     ensures cause { HasCleanDisk (state S.Store conn.new) → Fails
-        (ReadFails answer_in answers_given_text (Text entrant.now ∷ Text round.now ∷ Int (pos number) ∷ [])
+        (ReadFails answer_in ANSWERS_GIVEN.now (Text entrant.now ∷ Text round.now ∷ Int (pos number) ∷ [])
         (state S.Store conn.old) (state S.Store conn.new)) result }
 {
     let _schema = conn.schema();
@@ -156,6 +158,7 @@ pub(crate) fn answers_given<S: Alter>(
     Ok(rows.len() as u64)
 }
 
+/// Those of them that are the n-th.
 const NUMBER_TAKEN: &str =
     "SELECT entrant, round, number, token, n, moment, answer, verdict FROM answers \
     WHERE entrant = ?1 AND round = ?2 AND number = ?3 AND n = ?4";
@@ -174,10 +177,10 @@ pub(crate) fn is_number_taken<S: Alter>(
     ensures served { Served (content_of (state S.Store conn.new)) result
         (λ world taken. IsTrue taken ↔ IsNumberTaken world entrant.now round.now number n) }
     ensures whole { HasCleanDisk (state S.Store conn.new) → IfOk result (λ _.
-        AreRecords answer_in number_taken_text (Text entrant.now ∷ Text round.now ∷ Int (pos number) ∷ Int (pos n) ∷ [])
+        AreRecords answer_in NUMBER_TAKEN.now (Text entrant.now ∷ Text round.now ∷ Int (pos number) ∷ Int (pos n) ∷ [])
         (state S.Store conn.old) (state S.Store conn.new)) }
     ensures cause { HasCleanDisk (state S.Store conn.new) → Fails
-        (ReadFails answer_in number_taken_text
+        (ReadFails answer_in NUMBER_TAKEN.now
         (Text entrant.now ∷ Text round.now ∷ Int (pos number) ∷ Int (pos n) ∷ []) (state S.Store conn.old)
         (state S.Store conn.new)) result }
 {
@@ -208,15 +211,16 @@ pub(crate) fn has_answered<S: Alter>(
     ensures served { Served (content_of (state S.Store conn.new)) result
         (λ world found. IsTrue found ↔ HasSubmitted world entrant.now round.now) }
     ensures whole { HasCleanDisk (state S.Store conn.new) → IfOk result (λ _.
-        AreRecords answer_in answers_of_text (Text entrant.now ∷ Text round.now ∷ []) (state S.Store conn.old)
+        AreRecords answer_in ANSWERS_OF.now (Text entrant.now ∷ Text round.now ∷ []) (state S.Store conn.old)
         (state S.Store conn.new)) }
     ensures cause { HasCleanDisk (state S.Store conn.new) → Fails
-        (ReadFails answer_in answers_of_text (Text entrant.now ∷ Text round.now ∷ []) (state S.Store conn.old)
+        (ReadFails answer_in ANSWERS_OF.now (Text entrant.now ∷ Text round.now ∷ []) (state S.Store conn.old)
         (state S.Store conn.new)) result }
 {
     Ok(!answers_of(conn, alloc, entrant, round)?.is_empty())
 }
 
+/// All answers, in the order of their keys.
 const ALL_ANSWERS: &str =
     "SELECT entrant, round, number, token, n, moment, answer, verdict FROM answers \
     ORDER BY entrant, round, number, token";
@@ -231,10 +235,10 @@ pub(crate) fn all_answers<S: Alter>(
     ensures served { Served (content_of (state S.Store conn.new)) result
         (λ world rows. rows.items ≡ values world.answers) }
     ensures whole { HasCleanDisk (state S.Store conn.new) → IfOk result (λ _.
-        AreRecords answer_in all_answers_text [] (state S.Store conn.old)
+        AreRecords answer_in ALL_ANSWERS.now [] (state S.Store conn.old)
         (state S.Store conn.new)) }
     ensures cause { HasCleanDisk (state S.Store conn.new) → Fails
-        (ReadFails answer_in all_answers_text [] (state S.Store conn.old) (state S.Store conn.new)) result }
+        (ReadFails answer_in ALL_ANSWERS.now [] (state S.Store conn.old) (state S.Store conn.new)) result }
 {
     let _schema = conn.schema();
     read_any(conn, alloc, ALL_ANSWERS, &[])
@@ -254,6 +258,7 @@ fn in_range(row: &AnswerRow)
     let _verdict = row.verdict.bits();
 }
 
+/// One more answer.
 const ADD_ANSWER: &str =
     "INSERT INTO answers (entrant, round, number, token, n, moment, answer, verdict) \
     VALUES (?1, ?2, ?3, ?4, ?5, ?6, ?7, ?8)";
@@ -280,7 +285,7 @@ fn write<S: Alter>(conn: &mut Connection<S>, row: &AnswerRow) -> Result<usize, S
     ensures lasts { Lasts (state S.Store conn.old) (state S.Store conn.new) }
     ensures refused { OnErr result (Rested (state S.Store conn.old) (state S.Store conn.new)) }
     ensures runs { HasCleanDisk (state S.Store conn.new) →
-        Ran add_answer_text (answer_params row.now) (state S.Store conn.old) (state S.Store conn.new) result }
+        Ran ADD_ANSWER.now (answer_params row.now) (state S.Store conn.old) (state S.Store conn.new) result }
 {
     run(conn, ADD_ANSWER, &columns(row))
 }
@@ -309,7 +314,7 @@ pub(crate) fn add_answer<S: Alter>(
     requires hall { IsHall (state S.Store conn.old) }
     requires can { Asks (content_of (state S.Store conn.old)) (λ world. CanAddAnswer world row.now) }
     ensures wrote { Wrote (AddAnswer row.now) (state S.Store conn.old) (state S.Store conn.new) result }
-    ensures cause { HasCleanDisk (state S.Store conn.new) → Fails (RunFails add_answer_text
+    ensures cause { HasCleanDisk (state S.Store conn.new) → Fails (RunFails ADD_ANSWER.now
         (answer_params row.now) (state S.Store conn.old) (state S.Store conn.new)) result }
 {
     in_range(row);

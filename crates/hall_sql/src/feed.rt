@@ -10,7 +10,6 @@ ghost use Rattle.hall_sql.specs.Cause.{FeedFails};
 ghost use Rattle.hall_sql.specs.Standing.{IsHall, Rests, Rested, content_of, Lasts};
 ghost use Rattle.hall_sql.specs.Feed.{Steps, StepFails, FedRows};
 ghost use Rattle.hall_sql.specs.Rows.{answer_in, protest_in};
-ghost use Rattle.hall_sql.specs.Statements.{answers_in_text, protests_in_text};
 ghost use Rattle.hall_sql.specs.Whole.{AreRecords};
 
 use crate::answers::ANSWERS_IN;
@@ -100,9 +99,9 @@ pub(crate) fn feed_answers<S: Alter, K: Sink<AnswerRow>>(
     ensures fed { Fed K.takes (λ world rows. IsListing world (is_in round.now) rows)
         (content_of (state S.Store conn.old)) (content_of (state S.Store conn.new)) sink.old result sink.new }
     ensures whole { HasCleanDisk (state S.Store conn.new) → IfOk result (λ _.
-        AreRecords answer_in answers_in_text (Text round.now ∷ []) (state S.Store conn.old) (state S.Store conn.new)) }
+        AreRecords answer_in ANSWERS_IN.now (Text round.now ∷ []) (state S.Store conn.old) (state S.Store conn.new)) }
     ensures cause { HasCleanDisk (state S.Store conn.new) → Fails
-        (FeedFails answer_in K.takes K.refuses answers_in_text (Text round.now ∷ []) (state S.Store conn.old)
+        (FeedFails answer_in K.takes K.refuses ANSWERS_IN.now (Text round.now ∷ []) (state S.Store conn.old)
         (state S.Store conn.new) sink.old sink.new) result }
 {
     let _schema = conn.schema();
@@ -121,9 +120,9 @@ pub(crate) fn feed_protests<S: Alter, K: Sink<ProtestRow>>(
     ensures fed { Fed K.takes (λ world rows. rows ≡ protests_in world round.now)
         (content_of (state S.Store conn.old)) (content_of (state S.Store conn.new)) sink.old result sink.new }
     ensures whole { HasCleanDisk (state S.Store conn.new) → IfOk result (λ _.
-        AreRecords protest_in protests_in_text (Text round.now ∷ []) (state S.Store conn.old) (state S.Store conn.new)) }
+        AreRecords protest_in PROTESTS_IN.now (Text round.now ∷ []) (state S.Store conn.old) (state S.Store conn.new)) }
     ensures cause { HasCleanDisk (state S.Store conn.new) → Fails
-        (FeedFails protest_in K.takes K.refuses protests_in_text (Text round.now ∷ []) (state S.Store conn.old)
+        (FeedFails protest_in K.takes K.refuses PROTESTS_IN.now (Text round.now ∷ []) (state S.Store conn.old)
         (state S.Store conn.new) sink.old sink.new) result }
 {
     let _schema = conn.schema();

@@ -10,7 +10,6 @@ ghost use Rattle.hall_sql.specs.Columns.{person_params, roles_code};
 ghost use Rattle.hall_sql.specs.Standing.{IsHall, Rested, RestedAny, Wrote, content_of};
 ghost use Rattle.hall_sql.specs.Inside.{Carries, Did, Changes, Tells, AddsPerson};
 ghost use Rattle.sqlite.specs.declared.types.Value.TheVariants.{Text};
-ghost use Rattle.hall_sql.specs.Statements.{add_person_text, all_people_text, person_by_key_text, person_text};
 ghost use Rattle.hall_sql.specs.Rows.{person_in};
 ghost use Rattle.hall_sql.specs.Whole.{AreRecords};
 ghost use Rattle.hall_sql.specs.Cause.{IsStoreCause, FindFails, ReadFails};
@@ -26,6 +25,7 @@ use hall_store::StoreFault;
 use sqlite::{Alter, Connection, Transaction, params};
 use std::alloc::Global;
 
+/// The person of a name.
 const PERSON: &str = "SELECT name, pass, roles FROM people WHERE name = ?1";
 
 /// The person of the name.
@@ -39,15 +39,16 @@ pub(crate) fn person<S: Alter>(
     ensures served { Served (content_of (state S.Store conn.new)) result
         (λ world found. found ≡ get world.people name.now) }
     ensures whole { HasCleanDisk (state S.Store conn.new) → IfOk result (λ _.
-        AreRecords person_in person_text (Text name.now ∷ []) (state S.Store conn.old)
+        AreRecords person_in PERSON.now (Text name.now ∷ []) (state S.Store conn.old)
         (state S.Store conn.new)) }
     ensures cause { HasCleanDisk (state S.Store conn.new) → Fails
-        (FindFails person_in person_text (Text name.now ∷ []) (state S.Store conn.old)
+        (FindFails person_in PERSON.now (Text name.now ∷ []) (state S.Store conn.old)
         (state S.Store conn.new)) result }
 {
     find(conn, alloc, PERSON, params![name.as_str()])
 }
 
+/// Who has a key.
 const PERSON_BY_KEY: &str = "SELECT name, pass, roles FROM people WHERE pass = ?1";
 
 /// The person with the key.
@@ -61,16 +62,17 @@ pub(crate) fn person_by_key<S: Alter>(
     ensures served { Served (content_of (state S.Store conn.new)) result
         (λ world found. IsKeyHolder world key.now found) }
     ensures whole { HasCleanDisk (state S.Store conn.new) → IfOk result (λ _.
-        AreRecords person_in person_by_key_text (Text key.now ∷ []) (state S.Store conn.old)
+        AreRecords person_in PERSON_BY_KEY.now (Text key.now ∷ []) (state S.Store conn.old)
         (state S.Store conn.new)) }
     ensures cause { HasCleanDisk (state S.Store conn.new) → Fails
-        (FindFails person_in person_by_key_text (Text key.now ∷ []) (state S.Store conn.old)
+        (FindFails person_in PERSON_BY_KEY.now (Text key.now ∷ []) (state S.Store conn.old)
         (state S.Store conn.new)) result }
 {
     let _schema = conn.schema();
     find(conn, alloc, PERSON_BY_KEY, params![key.as_str()])
 }
 
+/// All people, in the order of their names.
 const ALL_PEOPLE: &str = "SELECT name, pass, roles FROM people ORDER BY name";
 
 /// All people, in the order of their names, of either version.
@@ -83,10 +85,10 @@ pub(crate) fn all_people<S: Alter>(
     ensures served { Served (content_of (state S.Store conn.new)) result
         (λ world people. people.items ≡ values world.people) }
     ensures whole { HasCleanDisk (state S.Store conn.new) → IfOk result (λ _.
-        AreRecords person_in all_people_text [] (state S.Store conn.old)
+        AreRecords person_in ALL_PEOPLE.now [] (state S.Store conn.old)
         (state S.Store conn.new)) }
     ensures cause { HasCleanDisk (state S.Store conn.new) → Fails
-        (ReadFails person_in all_people_text [] (state S.Store conn.old) (state S.Store conn.new)) result }
+        (ReadFails person_in ALL_PEOPLE.now [] (state S.Store conn.old) (state S.Store conn.new)) result }
 {
     let _schema = conn.schema();
     read_any(conn, alloc, ALL_PEOPLE, &[])
@@ -122,6 +124,7 @@ fn roles_code(roles: SomeRoles) -> u32
         + 8 * u32::from(roles.entrant)
 }
 
+/// One more person.
 const ADD_PERSON: &str = "INSERT INTO people (name, pass, roles) VALUES (?1, ?2, ?3)";
 
 /// Adds a person whose name is unknown.
@@ -134,7 +137,7 @@ pub(crate) fn add_person<S: Alter>(
     ensures done { HasCleanDisk (state S.Store tx.new.conn.now) → IsTrue (state S.Store tx.old.conn.now).in_transaction
         → OnOk result (Did (AddsPerson person.now) (state S.Store tx.old.conn.now) (state S.Store tx.new.conn.now)) }
     ensures cause { InsideFails (state S.Store tx.old.conn.now) (state S.Store tx.new.conn.now)
-        (RunFails add_person_text (person_params person.now) (state S.Store tx.old.conn.now)
+        (RunFails ADD_PERSON.now (person_params person.now) (state S.Store tx.old.conn.now)
         (state S.Store tx.new.conn.now)) result }
 {
     person.in_range();

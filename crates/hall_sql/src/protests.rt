@@ -16,8 +16,6 @@ ghost use Rattle.hall_sql.specs.Inside.{Carries, Did};
 ghost use Rattle.hall_sql.specs.Columns.{protest_params, ruling_code, ruling_params, IsAlone};
 ghost use Rattle.hall_sql.specs.Standing.{IsHall, Rested, RestedAny, Wrote, content_of, Lasts};
 ghost use Rattle.sqlite.specs.declared.types.Value.TheVariants.{Text};
-ghost use Rattle.hall_sql.specs.Statements.{add_protest_text, all_protests_text, rule_protest_text};
-ghost use Rattle.hall_sql.specs.Statements.{protest_text, protests_in_text, protests_of_text};
 ghost use Rattle.hall_sql.specs.Rows.{protest_in};
 ghost use Rattle.hall_sql.specs.Whole.{AreRecords};
 ghost use Rattle.hall_sql.specs.Cause.{ReadFails, FindFails};
@@ -32,6 +30,7 @@ use sqlite::types::{ToSql, ValueRef};
 use sqlite::{Alter, Connection, Transaction, params};
 use std::alloc::Global;
 
+/// The protest under a key.
 const PROTEST: &str = "SELECT entrant, round, token, number, body, ruling, points FROM protests \
     WHERE entrant = ?1 AND round = ?2 AND token = ?3";
 
@@ -48,11 +47,11 @@ pub(crate) fn protest<S: Alter>(
     ensures alone { HasCleanDisk (state S.Store conn.new) → IfOk result
         (λ found. IfSome found (IsAlone key.now (state S.Store conn.new))) }
     ensures whole { HasCleanDisk (state S.Store conn.new) → IfOk result (λ _.
-        AreRecords protest_in protest_text
+        AreRecords protest_in PROTEST.now
         (Text key.now.entrant ∷ Text key.now.round ∷ Text key.now.token ∷ []) (state S.Store conn.old)
         (state S.Store conn.new)) }
     ensures cause { HasCleanDisk (state S.Store conn.new) → Fails
-        (FindFails protest_in protest_text (Text key.now.entrant ∷ Text key.now.round ∷ Text key.now.token ∷ [])
+        (FindFails protest_in PROTEST.now (Text key.now.entrant ∷ Text key.now.round ∷ Text key.now.token ∷ [])
         (state S.Store conn.old) (state S.Store conn.new)) result }
 {
     find(
@@ -63,6 +62,7 @@ pub(crate) fn protest<S: Alter>(
     )
 }
 
+/// The entrant's protests in the round, by token.
 const PROTESTS_OF: &str =
     "SELECT entrant, round, token, number, body, ruling, points FROM protests \
     WHERE round = ?2 AND entrant = ?1 ORDER BY entrant, round, token";
@@ -79,10 +79,10 @@ pub(crate) fn protests_of<S: Alter>(
     ensures served { Served (content_of (state S.Store conn.new)) result
         (λ world rows. rows.items ≡ protests_of world entrant.now round.now) }
     ensures whole { HasCleanDisk (state S.Store conn.new) → IfOk result (λ _.
-        AreRecords protest_in protests_of_text (Text entrant.now ∷ Text round.now ∷ []) (state S.Store conn.old)
+        AreRecords protest_in PROTESTS_OF.now (Text entrant.now ∷ Text round.now ∷ []) (state S.Store conn.old)
         (state S.Store conn.new)) }
     ensures cause { HasCleanDisk (state S.Store conn.new) → Fails
-        (ReadFails protest_in protests_of_text (Text entrant.now ∷ Text round.now ∷ []) (state S.Store conn.old)
+        (ReadFails protest_in PROTESTS_OF.now (Text entrant.now ∷ Text round.now ∷ []) (state S.Store conn.old)
         (state S.Store conn.new)) result }
 {
     let _schema = conn.schema();
@@ -106,15 +106,16 @@ pub(crate) fn protests_made<S: Alter>(
     ensures served { Served (content_of (state S.Store conn.new)) result
         (λ world count. count ≡ protests_made world entrant.now round.now) }
     ensures whole { HasCleanDisk (state S.Store conn.new) → IfOk result (λ _.
-        AreRecords protest_in protests_of_text (Text entrant.now ∷ Text round.now ∷ []) (state S.Store conn.old)
+        AreRecords protest_in PROTESTS_OF.now (Text entrant.now ∷ Text round.now ∷ []) (state S.Store conn.old)
         (state S.Store conn.new)) }
     ensures cause { HasCleanDisk (state S.Store conn.new) → Fails
-        (ReadFails protest_in protests_of_text (Text entrant.now ∷ Text round.now ∷ []) (state S.Store conn.old)
+        (ReadFails protest_in PROTESTS_OF.now (Text entrant.now ∷ Text round.now ∷ []) (state S.Store conn.old)
         (state S.Store conn.new)) result }
 {
     Ok(protests_of(conn, alloc, entrant, round)?.len() as u64)
 }
 
+/// The protests of the round, by entrant, then token.
 pub(crate) const PROTESTS_IN: &str =
     "SELECT entrant, round, token, number, body, ruling, points FROM protests \
     WHERE round = ?1 ORDER BY entrant, round, token";
@@ -130,16 +131,17 @@ pub(crate) fn protests_in<S: Alter>(
     ensures served { Served (content_of (state S.Store conn.new)) result
         (λ world rows. rows.items ≡ protests_in world round.now) }
     ensures whole { HasCleanDisk (state S.Store conn.new) → IfOk result (λ _.
-        AreRecords protest_in protests_in_text (Text round.now ∷ []) (state S.Store conn.old)
+        AreRecords protest_in PROTESTS_IN.now (Text round.now ∷ []) (state S.Store conn.old)
         (state S.Store conn.new)) }
     ensures cause { HasCleanDisk (state S.Store conn.new) → Fails
-        (ReadFails protest_in protests_in_text (Text round.now ∷ []) (state S.Store conn.old)
+        (ReadFails protest_in PROTESTS_IN.now (Text round.now ∷ []) (state S.Store conn.old)
         (state S.Store conn.new)) result }
 {
     let _schema = conn.schema();
     read(conn, alloc, PROTESTS_IN, params![round.as_str()])
 }
 
+/// All protests, in the order of their keys.
 const ALL_PROTESTS: &str =
     "SELECT entrant, round, token, number, body, ruling, points FROM protests \
     ORDER BY entrant, round, token";
@@ -154,10 +156,10 @@ pub(crate) fn all_protests<S: Alter>(
     ensures served { Served (content_of (state S.Store conn.new)) result
         (λ world rows. rows.items ≡ values world.protests) }
     ensures whole { HasCleanDisk (state S.Store conn.new) → IfOk result (λ _.
-        AreRecords protest_in all_protests_text [] (state S.Store conn.old)
+        AreRecords protest_in ALL_PROTESTS.now [] (state S.Store conn.old)
         (state S.Store conn.new)) }
     ensures cause { HasCleanDisk (state S.Store conn.new) → Fails
-        (ReadFails protest_in all_protests_text [] (state S.Store conn.old) (state S.Store conn.new)) result }
+        (ReadFails protest_in ALL_PROTESTS.now [] (state S.Store conn.old) (state S.Store conn.new)) result }
 {
     let _schema = conn.schema();
     read_any(conn, alloc, ALL_PROTESTS, &[])
@@ -186,10 +188,10 @@ pub(crate) fn has_open_protest<S: Alter>(
     ensures served { Served (content_of (state S.Store conn.new)) result
         (λ world found. IsTrue found ↔ IsProtestOpen world round.now) }
     ensures whole { HasCleanDisk (state S.Store conn.new) → IfOk result (λ _.
-        AreRecords protest_in protests_in_text (Text round.now ∷ []) (state S.Store conn.old)
+        AreRecords protest_in PROTESTS_IN.now (Text round.now ∷ []) (state S.Store conn.old)
         (state S.Store conn.new)) }
     ensures cause { HasCleanDisk (state S.Store conn.new) → Fails
-        (ReadFails protest_in protests_in_text (Text round.now ∷ []) (state S.Store conn.old)
+        (ReadFails protest_in PROTESTS_IN.now (Text round.now ∷ []) (state S.Store conn.old)
         (state S.Store conn.new)) result }
 {
     let rows = protests_in(conn, alloc, round)?;
@@ -230,6 +232,7 @@ fn in_range(row: &ProtestRow)
     let _points = points_of(&row.ruling);
 }
 
+/// One more protest.
 const ADD_PROTEST: &str =
     "INSERT INTO protests (entrant, round, token, number, body, ruling, points) \
     VALUES (?1, ?2, ?3, ?4, ?5, ?6, ?7)";
@@ -255,7 +258,7 @@ fn write<S: Alter>(conn: &mut Connection<S>, row: &ProtestRow) -> Result<usize, 
     ensures lasts { Lasts (state S.Store conn.old) (state S.Store conn.new) }
     ensures refused { OnErr result (Rested (state S.Store conn.old) (state S.Store conn.new)) }
     ensures runs { HasCleanDisk (state S.Store conn.new) →
-        Ran add_protest_text (protest_params row.now) (state S.Store conn.old) (state S.Store conn.new) result }
+        Ran ADD_PROTEST.now (protest_params row.now) (state S.Store conn.old) (state S.Store conn.new) result }
 {
     run(conn, ADD_PROTEST, &columns(row))
 }
@@ -284,7 +287,7 @@ pub(crate) fn add_protest<S: Alter>(
     requires hall { IsHall (state S.Store conn.old) }
     requires can { Asks (content_of (state S.Store conn.old)) (λ world. CanAddProtest world row.now) }
     ensures wrote { Wrote (AddProtest row.now) (state S.Store conn.old) (state S.Store conn.new) result }
-    ensures cause { HasCleanDisk (state S.Store conn.new) → Fails (RunFails add_protest_text
+    ensures cause { HasCleanDisk (state S.Store conn.new) → Fails (RunFails ADD_PROTEST.now
         (protest_params row.now) (state S.Store conn.old) (state S.Store conn.new)) result }
 {
     in_range(row);
@@ -294,6 +297,7 @@ pub(crate) fn add_protest<S: Alter>(
     }
 }
 
+/// The ruling of the protest under a key.
 const RULE_PROTEST: &str = "UPDATE protests SET ruling = ?4, points = ?5 WHERE entrant = ?1 \
     AND round = ?2 AND token = ?3";
 
@@ -307,7 +311,7 @@ fn write_ruling<S: Alter>(
     ensures in_range { IfSome ruling.now IsRuling }
     ensures lasts { Lasts (state S.Store conn.old) (state S.Store conn.new) }
     ensures refused { OnErr result (Rested (state S.Store conn.old) (state S.Store conn.new)) }
-    ensures runs { HasCleanDisk (state S.Store conn.new) → Ran rule_protest_text (ruling_params key.now ruling.now)
+    ensures runs { HasCleanDisk (state S.Store conn.new) → Ran RULE_PROTEST.now (ruling_params key.now ruling.now)
         (state S.Store conn.old) (state S.Store conn.new) result }
 {
     run(
@@ -333,7 +337,7 @@ fn rule_found<S: Alter>(
     requires hall { IsHall (state S.Store conn.old) }
     requires alone { HasCleanDisk (state S.Store conn.old) → IsAlone key.now (state S.Store conn.old) row.now }
     ensures wrote { Wrote (RuleProtest key.now ruling) (state S.Store conn.old) (state S.Store conn.new) result }
-    ensures cause { HasCleanDisk (state S.Store conn.new) → Fails (RunFails rule_protest_text
+    ensures cause { HasCleanDisk (state S.Store conn.new) → Fails (RunFails RULE_PROTEST.now
         (ruling_params key.now (Some ruling)) (state S.Store conn.old) (state S.Store conn.new)) result }
 {
     in_range(row);

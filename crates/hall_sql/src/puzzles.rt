@@ -15,7 +15,6 @@ ghost use Rattle.hall_sql.specs.Inside.{Carries, Did};
 ghost use Rattle.hall_sql.specs.Columns.{puzzle_params, HasSoMany, state_code, solution_of};
 ghost use Rattle.hall_sql.specs.Standing.{IsHall, Rested, RestedAny, Wrote, content_of, Lasts};
 ghost use Rattle.sqlite.specs.declared.types.Value.TheVariants.{Text};
-ghost use Rattle.hall_sql.specs.Statements.{add_puzzle_text, all_puzzles_text, puzzle_text, puzzles_of_text, replace_puzzle_text};
 ghost use Rattle.hall_sql.specs.Rows.{puzzle_row_in};
 ghost use Rattle.hall_sql.specs.Whole.{AreRecords};
 ghost use Rattle.hall_sql.specs.Cause.{IsStoreCause, ReadFails, FindFails};
@@ -31,6 +30,7 @@ use sqlite::types::{ToSql, ValueRef};
 use sqlite::{Alter, Connection, Transaction, params};
 use std::alloc::Global;
 
+/// The puzzle under a key.
 const PUZZLE: &str =
     "SELECT author, label, body, state, solution FROM puzzles WHERE author = ?1 AND label = ?2";
 
@@ -45,10 +45,10 @@ pub(crate) fn puzzle<S: Alter>(
     ensures served { Served (content_of (state S.Store conn.new)) result
         (λ world found. found ≡ get world.puzzles key.now) }
     ensures whole { HasCleanDisk (state S.Store conn.new) → IfOk result (λ _.
-        AreRecords puzzle_row_in puzzle_text (Text key.now.author ∷ Text key.now.label ∷ []) (state S.Store conn.old)
+        AreRecords puzzle_row_in PUZZLE.now (Text key.now.author ∷ Text key.now.label ∷ []) (state S.Store conn.old)
         (state S.Store conn.new)) }
     ensures cause { HasCleanDisk (state S.Store conn.new) → Fails
-        (FindFails puzzle_row_in puzzle_text (Text key.now.author ∷ Text key.now.label ∷ []) (state S.Store conn.old)
+        (FindFails puzzle_row_in PUZZLE.now (Text key.now.author ∷ Text key.now.label ∷ []) (state S.Store conn.old)
         (state S.Store conn.new)) result }
 {
     find(
@@ -59,6 +59,7 @@ pub(crate) fn puzzle<S: Alter>(
     )
 }
 
+/// All puzzles, in the order of their keys.
 const ALL_PUZZLES: &str =
     "SELECT author, label, body, state, solution FROM puzzles ORDER BY author, label";
 
@@ -72,15 +73,16 @@ pub(crate) fn all_puzzles<S: Alter>(
     ensures served { Served (content_of (state S.Store conn.new)) result
         (λ world rows. rows.items ≡ values world.puzzles) }
     ensures whole { HasCleanDisk (state S.Store conn.new) → IfOk result (λ _.
-        AreRecords puzzle_row_in all_puzzles_text [] (state S.Store conn.old)
+        AreRecords puzzle_row_in ALL_PUZZLES.now [] (state S.Store conn.old)
         (state S.Store conn.new)) }
     ensures cause { HasCleanDisk (state S.Store conn.new) → Fails
-        (ReadFails puzzle_row_in all_puzzles_text [] (state S.Store conn.old) (state S.Store conn.new)) result }
+        (ReadFails puzzle_row_in ALL_PUZZLES.now [] (state S.Store conn.old) (state S.Store conn.new)) result }
 {
     let _schema = conn.schema();
     read_any(conn, alloc, ALL_PUZZLES, &[])
 }
 
+/// The author's puzzles, in the order of their labels.
 const PUZZLES_OF: &str =
     "SELECT author, label, body, state, solution FROM puzzles WHERE author = ?1 \
     ORDER BY author, label";
@@ -96,10 +98,10 @@ pub(crate) fn puzzles_of<S: Alter>(
     ensures served { Served (content_of (state S.Store conn.new)) result
         (λ world rows. rows.items ≡ puzzles_of world author.now) }
     ensures whole { HasCleanDisk (state S.Store conn.new) → IfOk result (λ _.
-        AreRecords puzzle_row_in puzzles_of_text (Text author.now ∷ []) (state S.Store conn.old)
+        AreRecords puzzle_row_in PUZZLES_OF.now (Text author.now ∷ []) (state S.Store conn.old)
         (state S.Store conn.new)) }
     ensures cause { HasCleanDisk (state S.Store conn.new) → Fails
-        (ReadFails puzzle_row_in puzzles_of_text (Text author.now ∷ []) (state S.Store conn.old)
+        (ReadFails puzzle_row_in PUZZLES_OF.now (Text author.now ∷ []) (state S.Store conn.old)
         (state S.Store conn.new)) result }
 {
     let _schema = conn.schema();
@@ -117,10 +119,10 @@ pub(crate) fn puzzles_put<S: Alter>(
     ensures served { Served (content_of (state S.Store conn.new)) result
         (λ world count. count ≡ puzzles_put world author.now) }
     ensures whole { HasCleanDisk (state S.Store conn.new) → IfOk result (λ _.
-        AreRecords puzzle_row_in puzzles_of_text (Text author.now ∷ []) (state S.Store conn.old)
+        AreRecords puzzle_row_in PUZZLES_OF.now (Text author.now ∷ []) (state S.Store conn.old)
         (state S.Store conn.new)) }
     ensures cause { HasCleanDisk (state S.Store conn.new) → Fails
-        (ReadFails puzzle_row_in puzzles_of_text (Text author.now ∷ []) (state S.Store conn.old)
+        (ReadFails puzzle_row_in PUZZLES_OF.now (Text author.now ∷ []) (state S.Store conn.old)
         (state S.Store conn.new)) result }
 {
     Ok(puzzles_of(conn, alloc, author)?.len() as u64)
@@ -158,7 +160,8 @@ fn in_range(key: &PuzzleKey)
     let _label = key.label.as_str();
 }
 
-const LOOK: &str = "SELECT author FROM puzzles WHERE author = ?1 AND label = ?2";
+/// The rows under a puzzle's key.
+const LOOK_PUZZLE: &str = "SELECT author FROM puzzles WHERE author = ?1 AND label = ?2";
 
 /// How many rows stand under the key: none or one.
 fn look<S: Alter>(conn: &mut Connection<S>, key: &PuzzleKey) -> Result<usize, StoreFault>
@@ -171,13 +174,20 @@ fn look<S: Alter>(conn: &mut Connection<S>, key: &PuzzleKey) -> Result<usize, St
     ensures cause { HasCleanDisk (state S.Store conn.new) → Fails
         (IsStoreCause (state S.Store conn.old) (state S.Store conn.new)) result }
 {
-    Ok(ask(conn, LOOK, params![key.author.as_str(), key.label.as_str()])?.len())
+    Ok(ask(
+        conn,
+        LOOK_PUZZLE,
+        params![key.author.as_str(), key.label.as_str()],
+    )?
+    .len())
 }
 
-const ADD: &str =
+/// A puzzle under a new key.
+const ADD_PUZZLE: &str =
     "INSERT INTO puzzles (author, label, body, state, solution) VALUES (?1, ?2, ?3, ?4, ?5)";
 
-const REPLACE: &str =
+/// A puzzle in the place of the one under its key.
+const REPLACE_PUZZLE: &str =
     "UPDATE puzzles SET body = ?3, state = ?4, solution = ?5 WHERE author = ?1 AND label = ?2";
 
 /// The columns of a puzzle that this text spells.
@@ -226,7 +236,7 @@ pub(crate) fn add_inside<S: Alter>(
 {
     in_range(&row.key);
     let text = write_puzzle(alloc, &row.puzzle)?;
-    run_in(tx, ADD, &columns(row, text.as_str()))?;
+    run_in(tx, ADD_PUZZLE, &columns(row, text.as_str()))?;
     Ok(())
 }
 
@@ -240,11 +250,11 @@ fn put_new<S: Alter>(
     requires spells { SpellsText text.now row.now.puzzle }
     requires found { HasCleanDisk (state S.Store conn.old) → HasSoMany row.now.key (state S.Store conn.old) 0 }
     ensures wrote { Wrote (PutPuzzle row.now) (state S.Store conn.old) (state S.Store conn.new) result }
-    ensures cause { HasCleanDisk (state S.Store conn.new) → Fails (RunFails add_puzzle_text
+    ensures cause { HasCleanDisk (state S.Store conn.new) → Fails (RunFails ADD_PUZZLE.now
         (puzzle_params text.now row.now) (state S.Store conn.old) (state S.Store conn.new)) result }
 {
     in_range(&row.key);
-    match write(conn, ADD, row, text) {
+    match write(conn, ADD_PUZZLE, row, text) {
         Ok(_) => Ok(()),
         Err(fault) => Err(fault),
     }
@@ -260,11 +270,11 @@ fn put_over<S: Alter>(
     requires spells { SpellsText text.now row.now.puzzle }
     requires found { HasCleanDisk (state S.Store conn.old) → HasSoMany row.now.key (state S.Store conn.old) 1 }
     ensures wrote { Wrote (PutPuzzle row.now) (state S.Store conn.old) (state S.Store conn.new) result }
-    ensures cause { HasCleanDisk (state S.Store conn.new) → Fails (RunFails replace_puzzle_text
+    ensures cause { HasCleanDisk (state S.Store conn.new) → Fails (RunFails REPLACE_PUZZLE.now
         (puzzle_params text.now row.now) (state S.Store conn.old) (state S.Store conn.new)) result }
 {
     in_range(&row.key);
-    match write(conn, REPLACE, row, text) {
+    match write(conn, REPLACE_PUZZLE, row, text) {
         Ok(_) => Ok(()),
         Err(fault) => Err(fault),
     }

@@ -17,7 +17,6 @@ ghost use Rattle.hall_sql.specs.Standing.{IsHall, Rested, Wrote, content_of};
 ghost use Rattle.sqlite.specs.declared.types.Value.TheVariants.{Text};
 ghost use Rattle.hall_store.specs.Store.{Fails};
 ghost use Rattle.hall_sql.specs.Cause.{IsStoreCause};
-ghost use Rattle.hall_sql.specs.Statements.{add_head_text, replace_head_text, drop_places_text, add_place_text};
 ghost use Rattle.hall_sql.specs.WriteCause.{RunFails, SetFlagFails, PutRoundFails, InsideFails};
 ghost use Rattle.hall_sql.specs.WriteCause.{IsHeadRefused, PlaceIsRefused, ListIsRefused};
 
@@ -71,6 +70,7 @@ fn columns(round: &Round) -> [ValueRef<'_>; 10]
     ]
 }
 
+/// A round in the place of the one under its id.
 const REPLACE_HEAD: &str =
     "UPDATE rounds SET title = ?2, start = ?3, minutes = ?4, protest_minutes = ?5, mode = ?6, \
     penalty = ?7, bonus = ?8, released = ?9, published = ?10 WHERE id = ?1";
@@ -95,7 +95,7 @@ fn set_flag<S: Alter>(
     requires hall { IsHall (state S.Store conn.old) }
     requires found { HasCleanDisk (state S.Store conn.old) → IsHead round.id (state S.Store conn.old) round }
     ensures wrote { Wrote (SetRoundFlag round.id flag) (state S.Store conn.old) (state S.Store conn.new) result }
-    ensures cause { HasCleanDisk (state S.Store conn.new) → Fails (RunFails replace_head_text
+    ensures cause { HasCleanDisk (state S.Store conn.new) → Fails (RunFails REPLACE_HEAD.now
         (head_params (flagged flag round)) (state S.Store conn.old) (state S.Store conn.new)) result }
 {
     let flagged = flagged(round, flag);
@@ -124,7 +124,8 @@ pub(crate) fn set_round_flag<S: Alter>(
     }
 }
 
-const LOOK: &str = "SELECT id FROM rounds WHERE id = ?1";
+/// The rows under a round's id.
+const LOOK_HEAD: &str = "SELECT id FROM rounds WHERE id = ?1";
 
 /// How many rows stand under the id: none or one.
 fn look<S: Alter>(tx: &mut Transaction<'_, S>, id: &RoundId) -> Result<usize, StoreFault>
@@ -136,9 +137,10 @@ fn look<S: Alter>(tx: &mut Transaction<'_, S>, id: &RoundId) -> Result<usize, St
     ensures cause { InsideFails (state S.Store tx.old.conn.now) (state S.Store tx.new.conn.now)
         (IsStoreCause (state S.Store tx.old.conn.now) (state S.Store tx.new.conn.now)) result }
 {
-    Ok(ask_in(tx, LOOK, params![id.as_str()])?.len())
+    Ok(ask_in(tx, LOOK_HEAD, params![id.as_str()])?.len())
 }
 
+/// A round under a new id.
 const ADD_HEAD: &str =
     "INSERT INTO rounds (id, title, start, minutes, protest_minutes, mode, penalty, bonus, released, published) \
     VALUES (?1, ?2, ?3, ?4, ?5, ?6, ?7, ?8, ?9, ?10)";
@@ -157,7 +159,7 @@ pub(crate) fn put_new<S: Alter>(
         → OnOk result (Did (λ a b. AddsHead a round.now b) (state S.Store tx.old.conn.now)
         (state S.Store tx.new.conn.now)) }
     ensures cause { InsideFails (state S.Store tx.old.conn.now) (state S.Store tx.new.conn.now)
-        (RunFails add_head_text (head_params round.now) (state S.Store tx.old.conn.now)
+        (RunFails ADD_HEAD.now (head_params round.now) (state S.Store tx.old.conn.now)
         (state S.Store tx.new.conn.now)) result }
 {
     in_range(round);
@@ -173,7 +175,7 @@ fn put_over<S: Alter>(tx: &mut Transaction<'_, S>, round: &Round) -> Result<(), 
         → OnOk result (PutsHeadOver 1 round.now (state S.Store tx.old.conn.now)
         (state S.Store tx.new.conn.now)) }
     ensures cause { InsideFails (state S.Store tx.old.conn.now) (state S.Store tx.new.conn.now)
-        (RunFails replace_head_text (head_params round.now) (state S.Store tx.old.conn.now)
+        (RunFails REPLACE_HEAD.now (head_params round.now) (state S.Store tx.old.conn.now)
         (state S.Store tx.new.conn.now)) result }
 {
     in_range(round);
@@ -199,6 +201,7 @@ fn put_head<S: Alter>(tx: &mut Transaction<'_, S>, round: &Round) -> Result<(), 
     }
 }
 
+/// The puzzles of a round are taken out.
 const DROP_PLACES: &str = "DELETE FROM round_puzzles WHERE round = ?1";
 
 /// Takes out the places of the round.
@@ -209,7 +212,7 @@ fn drop_places<S: Alter>(tx: &mut Transaction<'_, S>, id: &RoundId) -> Result<()
         → OnOk result (Did (DropsPlaces id.now) (state S.Store tx.old.conn.now)
         (state S.Store tx.new.conn.now)) }
     ensures cause { InsideFails (state S.Store tx.old.conn.now) (state S.Store tx.new.conn.now)
-        (RunFails drop_places_text (Text id.now ∷ []) (state S.Store tx.old.conn.now)
+        (RunFails DROP_PLACES.now (Text id.now ∷ []) (state S.Store tx.old.conn.now)
         (state S.Store tx.new.conn.now)) result }
 {
     run_in(tx, DROP_PLACES, params![id.as_str()])?;
@@ -225,6 +228,7 @@ fn entry_in_range(entry: &Entry)
     let _points = entry.points.get();
 }
 
+/// One more puzzle of a round.
 const ADD_PLACE: &str =
     "INSERT INTO round_puzzles (round, number, author, label, points) VALUES (?1, ?2, ?3, ?4, ?5)";
 
@@ -242,7 +246,7 @@ pub(crate) fn put_place<S: Alter>(
         → OnOk result (Did (PutsPlace id.now number entry.now) (state S.Store tx.old.conn.now)
         (state S.Store tx.new.conn.now)) }
     ensures cause { InsideFails (state S.Store tx.old.conn.now) (state S.Store tx.new.conn.now)
-        (RunFails add_place_text (place_params id.now number entry.now)
+        (RunFails ADD_PLACE.now (place_params id.now number entry.now)
         (state S.Store tx.old.conn.now) (state S.Store tx.new.conn.now)) result }
 {
     entry_in_range(entry);

@@ -12,7 +12,6 @@ ghost use Rattle.hall_sql.specs.RoundColumns.{IsHead};
 ghost use Rattle.hall_sql.specs.Standing.{IsHall, Rested, RestedAny, content_of};
 ghost use Rattle.hall_sql.specs.Versions.{IsAnyHall};
 ghost use Rattle.sqlite.specs.declared.types.Value.TheVariants.{Text};
-ghost use Rattle.hall_sql.specs.Statements.{all_places_text, all_rounds_text, head_text, places_of_text, places_with_text};
 ghost use Rattle.hall_sql.specs.Rows.{place_in, round_in};
 ghost use Rattle.hall_sql.specs.Whole.{AreRecords, IsRoundRead};
 ghost use Rattle.hall_sql.specs.Cause.{ReadFails, FindFails, RoundFails, AreNoRound};
@@ -26,7 +25,8 @@ use hall_store::StoreFault;
 use sqlite::{Alter, Connection, params};
 use std::alloc::Global;
 
-const ROUNDS: &str =
+/// All rounds, in the order of their ids.
+const ALL_ROUNDS: &str =
     "SELECT id, title, start, minutes, protest_minutes, mode, penalty, bonus, released, published \
     FROM rounds ORDER BY id";
 
@@ -40,15 +40,16 @@ pub(crate) fn rounds<S: Alter>(
     ensures served { Served (content_of (state S.Store conn.new)) result
         (λ world rounds. rounds.items ≡ values world.rounds) }
     ensures whole { HasCleanDisk (state S.Store conn.new) → IfOk result (λ _.
-        AreRecords round_in all_rounds_text [] (state S.Store conn.old)
+        AreRecords round_in ALL_ROUNDS.now [] (state S.Store conn.old)
         (state S.Store conn.new)) }
     ensures cause { HasCleanDisk (state S.Store conn.new) → Fails
-        (ReadFails round_in all_rounds_text [] (state S.Store conn.old) (state S.Store conn.new)) result }
+        (ReadFails round_in ALL_ROUNDS.now [] (state S.Store conn.old) (state S.Store conn.new)) result }
 {
     let _schema = conn.schema();
-    read_any(conn, alloc, ROUNDS, &[])
+    read_any(conn, alloc, ALL_ROUNDS, &[])
 }
 
+/// The places that have a puzzle, in the order of their rounds.
 const PLACES_WITH: &str = "SELECT round, number, author, label, points FROM round_puzzles \
     WHERE author = ?1 AND label = ?2 ORDER BY round";
 
@@ -63,10 +64,10 @@ fn places_with<S: Alter>(
     ensures served { Served (content_of (state S.Store conn.new)) result
         (λ world places. ArePlacesWith world key.now places.items) }
     ensures whole { HasCleanDisk (state S.Store conn.new) → IfOk result (λ _.
-        AreRecords place_in places_with_text (Text key.now.author ∷ Text key.now.label ∷ []) (state S.Store conn.old)
+        AreRecords place_in PLACES_WITH.now (Text key.now.author ∷ Text key.now.label ∷ []) (state S.Store conn.old)
         (state S.Store conn.new)) }
     ensures cause { HasCleanDisk (state S.Store conn.new) → Fails
-        (ReadFails place_in places_with_text (Text key.now.author ∷ Text key.now.label ∷ []) (state S.Store conn.old)
+        (ReadFails place_in PLACES_WITH.now (Text key.now.author ∷ Text key.now.label ∷ []) (state S.Store conn.old)
         (state S.Store conn.new)) result }
 {
     let _schema = conn.schema();
@@ -78,6 +79,7 @@ fn places_with<S: Alter>(
     )
 }
 
+/// All places, by round, then number.
 const ALL_PLACES: &str =
     "SELECT round, number, author, label, points FROM round_puzzles ORDER BY round, number";
 
@@ -91,10 +93,10 @@ pub(crate) fn all_places<S: Alter>(
     ensures served { Served (content_of (state S.Store conn.new)) result
         (λ world places. places.items ≡ entries world.places) }
     ensures whole { HasCleanDisk (state S.Store conn.new) → IfOk result (λ _.
-        AreRecords place_in all_places_text [] (state S.Store conn.old)
+        AreRecords place_in ALL_PLACES.now [] (state S.Store conn.old)
         (state S.Store conn.new)) }
     ensures cause { HasCleanDisk (state S.Store conn.new) → Fails
-        (ReadFails place_in all_places_text [] (state S.Store conn.old) (state S.Store conn.new)) result }
+        (ReadFails place_in ALL_PLACES.now [] (state S.Store conn.old) (state S.Store conn.new)) result }
 {
     let _schema = conn.schema();
     read_any(conn, alloc, ALL_PLACES, &[])
@@ -136,16 +138,17 @@ pub(crate) fn rounds_using<S: Alter>(
     ensures served { Served (content_of (state S.Store conn.new)) result
         (λ world ids. AreUsing world key.now ids.items) }
     ensures whole { HasCleanDisk (state S.Store conn.new) → IfOk result (λ _.
-        AreRecords place_in places_with_text (Text key.now.author ∷ Text key.now.label ∷ []) (state S.Store conn.old)
+        AreRecords place_in PLACES_WITH.now (Text key.now.author ∷ Text key.now.label ∷ []) (state S.Store conn.old)
         (state S.Store conn.new)) }
     ensures cause { HasCleanDisk (state S.Store conn.new) → Fails
-        (ReadFails place_in places_with_text (Text key.now.author ∷ Text key.now.label ∷ []) (state S.Store conn.old)
+        (ReadFails place_in PLACES_WITH.now (Text key.now.author ∷ Text key.now.label ∷ []) (state S.Store conn.old)
         (state S.Store conn.new)) result }
 {
     let places = places_with(conn, alloc, key)?;
     rounds_of(alloc, places)
 }
 
+/// The round of an id, without its puzzles.
 const HEAD: &str =
     "SELECT id, title, start, minutes, protest_minutes, mode, penalty, bonus, released, published \
     FROM rounds WHERE id = ?1";
@@ -163,14 +166,15 @@ pub(crate) fn head<S: Alter>(
     ensures alone { HasCleanDisk (state S.Store conn.new) → IfOk result
         (λ found. IfSome found (IsHead id.now (state S.Store conn.new))) }
     ensures whole { HasCleanDisk (state S.Store conn.new) → IfOk result (λ _.
-        AreRecords round_in head_text (Text id.now ∷ []) (state S.Store conn.old)
+        AreRecords round_in HEAD.now (Text id.now ∷ []) (state S.Store conn.old)
         (state S.Store conn.new)) }
     ensures cause { HasCleanDisk (state S.Store conn.new) → Fails
-        (FindFails round_in head_text (Text id.now ∷ []) (state S.Store conn.old) (state S.Store conn.new)) result }
+        (FindFails round_in HEAD.now (Text id.now ∷ []) (state S.Store conn.old) (state S.Store conn.new)) result }
 {
     find(conn, alloc, HEAD, params![id.as_str()])
 }
 
+/// The places of a round, in the order of their numbers.
 const PLACES_OF: &str = "SELECT round, number, author, label, points FROM round_puzzles \
     WHERE round = ?1 ORDER BY number";
 
@@ -185,10 +189,10 @@ fn places_of<S: Alter>(
     ensures served { Served (content_of (state S.Store conn.new)) result
         (λ world places. AreListed world id.now places.items) }
     ensures whole { HasCleanDisk (state S.Store conn.new) → IfOk result (λ _.
-        AreRecords place_in places_of_text (Text id.now ∷ []) (state S.Store conn.old)
+        AreRecords place_in PLACES_OF.now (Text id.now ∷ []) (state S.Store conn.old)
         (state S.Store conn.new)) }
     ensures cause { HasCleanDisk (state S.Store conn.new) → Fails
-        (ReadFails place_in places_of_text (Text id.now ∷ []) (state S.Store conn.old)
+        (ReadFails place_in PLACES_OF.now (Text id.now ∷ []) (state S.Store conn.old)
         (state S.Store conn.new)) result }
 {
     let _schema = conn.schema();

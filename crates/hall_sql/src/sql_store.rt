@@ -114,12 +114,13 @@ impl<S: Alter + Drop> ReadStore for SqlStore<S> {
     ghost use Rattle.hall_store.specs.Store.{Fed, IsRefusedNext};
     ghost use Rattle.hall_store.specs.declared.fault.StoreFault.TheVariants.{Failed};
     ghost use Rattle.hall_sql.specs.Rows.{person_in, puzzle_row_in, round_in, place_in, tester_in, answer_in, protest_in};
-    ghost use Rattle.hall_sql.specs.Statements.{person_text, person_by_key_text, all_people_text};
-    ghost use Rattle.hall_sql.specs.Statements.{puzzle_text, all_puzzles_text};
-    ghost use Rattle.hall_sql.specs.Statements.{puzzles_of_text, testers_of_text, all_rounds_text};
-    ghost use Rattle.hall_sql.specs.Statements.{places_with_text, answer_text, answers_given_text, number_taken_text};
-    ghost use Rattle.hall_sql.specs.Statements.{answers_of_text, answers_in_text, protest_text, protests_of_text};
-    ghost use Rattle.hall_sql.specs.Statements.{protests_in_text};
+    ghost use Rattle.hall_sql.specs.declared.people.TheConstants.{PERSON, PERSON_BY_KEY, ALL_PEOPLE};
+    ghost use Rattle.hall_sql.specs.declared.puzzles.TheConstants.{PUZZLE, ALL_PUZZLES, PUZZLES_OF};
+    ghost use Rattle.hall_sql.specs.declared.rounds.TheConstants.{ALL_ROUNDS, PLACES_WITH};
+    ghost use Rattle.hall_sql.specs.declared.answers.TheConstants.{ANSWER, ANSWERS_GIVEN, NUMBER_TAKEN};
+    ghost use Rattle.hall_sql.specs.declared.answers.TheConstants.{ANSWERS_OF, ANSWERS_IN};
+    ghost use Rattle.hall_sql.specs.declared.protests.TheConstants.{PROTEST, PROTESTS_OF, PROTESTS_IN};
+    ghost use Rattle.hall_sql.specs.declared.testers.TheConstants.{TESTERS_OF};
     ghost use Rattle.hall_sql.specs.Whole.{AreRecords, IsRoundRead};
     ghost use Rattle.hall_sql.specs.Cause.{ReadFails, FeedFails, FindFails, RoundFails};
     ghost use Rattle.hall_sql.specs.Standing.{Rested, content_of};
@@ -135,10 +136,10 @@ impl<S: Alter + Drop> ReadStore for SqlStore<S> {
             (λ world found. IsKeyHolder world key.now found) }
         ensures fault { Fails (Unit {0}) result }
         ensures whole { HasCleanDisk (state S.Store self.new) → IfOk result (λ _.
-            AreRecords person_in person_by_key_text (Text key.now ∷ []) (state S.Store self.old)
+            AreRecords person_in PERSON_BY_KEY.now (Text key.now ∷ []) (state S.Store self.old)
             (state S.Store self.new)) }
         ensures cause { HasCleanDisk (state S.Store self.new) → Fails
-            (FindFails person_in person_by_key_text (Text key.now ∷ []) (state S.Store self.old)
+            (FindFails person_in PERSON_BY_KEY.now (Text key.now ∷ []) (state S.Store self.old)
             (state S.Store self.new)) result }
     {
         person_by_key(&mut self.conn, alloc, key)
@@ -151,10 +152,10 @@ impl<S: Alter + Drop> ReadStore for SqlStore<S> {
             (λ world found. found ≡ get world.people name.now) }
         ensures fault { Fails (Unit {0}) result }
         ensures whole { HasCleanDisk (state S.Store self.new) → IfOk result (λ _.
-            AreRecords person_in person_text (Text name.now ∷ []) (state S.Store self.old)
+            AreRecords person_in PERSON.now (Text name.now ∷ []) (state S.Store self.old)
             (state S.Store self.new)) }
         ensures cause { HasCleanDisk (state S.Store self.new) → Fails
-            (FindFails person_in person_text (Text name.now ∷ []) (state S.Store self.old)
+            (FindFails person_in PERSON.now (Text name.now ∷ []) (state S.Store self.old)
             (state S.Store self.new)) result }
     {
         person(&mut self.conn, alloc, name)
@@ -167,10 +168,10 @@ impl<S: Alter + Drop> ReadStore for SqlStore<S> {
             (λ world people. people.items ≡ values world.people) }
         ensures fault { Fails (Unit {0}) result }
         ensures whole { HasCleanDisk (state S.Store self.new) → IfOk result (λ _.
-            AreRecords person_in all_people_text [] (state S.Store self.old)
+            AreRecords person_in ALL_PEOPLE.now [] (state S.Store self.old)
             (state S.Store self.new)) }
         ensures cause { HasCleanDisk (state S.Store self.new) → Fails
-            (ReadFails person_in all_people_text [] (state S.Store self.old) (state S.Store self.new)) result }
+            (ReadFails person_in ALL_PEOPLE.now [] (state S.Store self.old) (state S.Store self.new)) result }
     {
         all_people(&mut self.conn, alloc)
     }
@@ -182,11 +183,11 @@ impl<S: Alter + Drop> ReadStore for SqlStore<S> {
             (λ world found. found ≡ get world.puzzles key.now) }
         ensures fault { Fails (Unit {0}) result }
         ensures whole { HasCleanDisk (state S.Store self.new) → IfOk result (λ _.
-            AreRecords puzzle_row_in puzzle_text
+            AreRecords puzzle_row_in PUZZLE.now
             (Text key.now.author ∷ Text key.now.label ∷ []) (state S.Store self.old)
             (state S.Store self.new)) }
         ensures cause { HasCleanDisk (state S.Store self.new) → Fails
-            (FindFails puzzle_row_in puzzle_text (Text key.now.author ∷ Text key.now.label ∷ [])
+            (FindFails puzzle_row_in PUZZLE.now (Text key.now.author ∷ Text key.now.label ∷ [])
             (state S.Store self.old) (state S.Store self.new)) result }
     {
         puzzle(&mut self.conn, alloc, key)
@@ -199,10 +200,10 @@ impl<S: Alter + Drop> ReadStore for SqlStore<S> {
             (λ world rows. rows.items ≡ puzzles_of world author.now) }
         ensures fault { Fails (Unit {0}) result }
         ensures whole { HasCleanDisk (state S.Store self.new) → IfOk result (λ _.
-            AreRecords puzzle_row_in puzzles_of_text (Text author.now ∷ []) (state S.Store self.old)
+            AreRecords puzzle_row_in PUZZLES_OF.now (Text author.now ∷ []) (state S.Store self.old)
             (state S.Store self.new)) }
         ensures cause { HasCleanDisk (state S.Store self.new) → Fails
-            (ReadFails puzzle_row_in puzzles_of_text (Text author.now ∷ []) (state S.Store self.old)
+            (ReadFails puzzle_row_in PUZZLES_OF.now (Text author.now ∷ []) (state S.Store self.old)
             (state S.Store self.new)) result }
     {
         puzzles_of(&mut self.conn, alloc, author)
@@ -215,10 +216,10 @@ impl<S: Alter + Drop> ReadStore for SqlStore<S> {
             (λ world rows. rows.items ≡ values world.puzzles) }
         ensures fault { Fails (Unit {0}) result }
         ensures whole { HasCleanDisk (state S.Store self.new) → IfOk result (λ _.
-            AreRecords puzzle_row_in all_puzzles_text [] (state S.Store self.old)
+            AreRecords puzzle_row_in ALL_PUZZLES.now [] (state S.Store self.old)
             (state S.Store self.new)) }
         ensures cause { HasCleanDisk (state S.Store self.new) → Fails
-            (ReadFails puzzle_row_in all_puzzles_text [] (state S.Store self.old) (state S.Store self.new)) result }
+            (ReadFails puzzle_row_in ALL_PUZZLES.now [] (state S.Store self.old) (state S.Store self.new)) result }
     {
         all_puzzles(&mut self.conn, alloc)
     }
@@ -230,10 +231,10 @@ impl<S: Alter + Drop> ReadStore for SqlStore<S> {
             (λ world count. count ≡ puzzles_put world author.now) }
         ensures fault { Fails (Unit {0}) result }
         ensures whole { HasCleanDisk (state S.Store self.new) → IfOk result (λ _.
-            AreRecords puzzle_row_in puzzles_of_text (Text author.now ∷ []) (state S.Store self.old)
+            AreRecords puzzle_row_in PUZZLES_OF.now (Text author.now ∷ []) (state S.Store self.old)
             (state S.Store self.new)) }
         ensures cause { HasCleanDisk (state S.Store self.new) → Fails
-            (ReadFails puzzle_row_in puzzles_of_text (Text author.now ∷ []) (state S.Store self.old)
+            (ReadFails puzzle_row_in PUZZLES_OF.now (Text author.now ∷ []) (state S.Store self.old)
             (state S.Store self.new)) result }
     {
         puzzles_put(&mut self.conn, alloc, author)
@@ -260,10 +261,10 @@ impl<S: Alter + Drop> ReadStore for SqlStore<S> {
             (λ world names. AreTestersOf world id.now names.items) }
         ensures fault { Fails (Unit {0}) result }
         ensures whole { HasCleanDisk (state S.Store self.new) → IfOk result (λ _.
-            AreRecords tester_in testers_of_text (Text id.now ∷ []) (state S.Store self.old)
+            AreRecords tester_in TESTERS_OF.now (Text id.now ∷ []) (state S.Store self.old)
             (state S.Store self.new)) }
         ensures cause { HasCleanDisk (state S.Store self.new) → Fails
-            (ReadFails tester_in testers_of_text (Text id.now ∷ []) (state S.Store self.old)
+            (ReadFails tester_in TESTERS_OF.now (Text id.now ∷ []) (state S.Store self.old)
             (state S.Store self.new)) result }
     {
         testers_of(&mut self.conn, alloc, id)
@@ -276,10 +277,10 @@ impl<S: Alter + Drop> ReadStore for SqlStore<S> {
             (λ world rounds. rounds.items ≡ values world.rounds) }
         ensures fault { Fails (Unit {0}) result }
         ensures whole { HasCleanDisk (state S.Store self.new) → IfOk result (λ _.
-            AreRecords round_in all_rounds_text [] (state S.Store self.old)
+            AreRecords round_in ALL_ROUNDS.now [] (state S.Store self.old)
             (state S.Store self.new)) }
         ensures cause { HasCleanDisk (state S.Store self.new) → Fails
-            (ReadFails round_in all_rounds_text [] (state S.Store self.old) (state S.Store self.new)) result }
+            (ReadFails round_in ALL_ROUNDS.now [] (state S.Store self.old) (state S.Store self.new)) result }
     {
         rounds(&mut self.conn, alloc)
     }
@@ -291,11 +292,11 @@ impl<S: Alter + Drop> ReadStore for SqlStore<S> {
             (λ world ids. AreUsing world key.now ids.items) }
         ensures fault { Fails (Unit {0}) result }
         ensures whole { HasCleanDisk (state S.Store self.new) → IfOk result (λ _.
-            AreRecords place_in places_with_text
+            AreRecords place_in PLACES_WITH.now
             (Text key.now.author ∷ Text key.now.label ∷ []) (state S.Store self.old)
             (state S.Store self.new)) }
         ensures cause { HasCleanDisk (state S.Store self.new) → Fails
-            (ReadFails place_in places_with_text (Text key.now.author ∷ Text key.now.label ∷ [])
+            (ReadFails place_in PLACES_WITH.now (Text key.now.author ∷ Text key.now.label ∷ [])
             (state S.Store self.old) (state S.Store self.new)) result }
     {
         rounds_using(&mut self.conn, alloc, key)
@@ -308,11 +309,11 @@ impl<S: Alter + Drop> ReadStore for SqlStore<S> {
             (λ world found. found ≡ get world.answers key.now) }
         ensures fault { Fails (Unit {0}) result }
         ensures whole { HasCleanDisk (state S.Store self.new) → IfOk result (λ _.
-            AreRecords answer_in answer_text
+            AreRecords answer_in ANSWER.now
             (Text key.now.entrant ∷ Text key.now.round ∷ Int (pos key.now.number) ∷ Text key.now.token ∷ [])
             (state S.Store self.old) (state S.Store self.new)) }
         ensures cause { HasCleanDisk (state S.Store self.new) → Fails
-            (FindFails answer_in answer_text
+            (FindFails answer_in ANSWER.now
             (Text key.now.entrant ∷ Text key.now.round ∷ Int (pos key.now.number) ∷ Text key.now.token ∷ [])
             (state S.Store self.old) (state S.Store self.new)) result }
     {
@@ -332,11 +333,11 @@ impl<S: Alter + Drop> ReadStore for SqlStore<S> {
             (λ world count. count ≡ answers_given world entrant.now round.now number) }
         ensures fault { Fails (Unit {0}) result }
         ensures whole { HasCleanDisk (state S.Store self.new) → IfOk result (λ _.
-            AreRecords answer_in answers_given_text
+            AreRecords answer_in ANSWERS_GIVEN.now
             (Text entrant.now ∷ Text round.now ∷ Int (pos number) ∷ []) (state S.Store self.old)
             (state S.Store self.new)) }
         ensures cause { HasCleanDisk (state S.Store self.new) → Fails
-            (ReadFails answer_in answers_given_text (Text entrant.now ∷ Text round.now ∷ Int (pos number) ∷ [])
+            (ReadFails answer_in ANSWERS_GIVEN.now (Text entrant.now ∷ Text round.now ∷ Int (pos number) ∷ [])
             (state S.Store self.old) (state S.Store self.new)) result }
     {
         answers_given(&mut self.conn, alloc, entrant, round, number)
@@ -356,11 +357,11 @@ impl<S: Alter + Drop> ReadStore for SqlStore<S> {
             (λ world taken. IsTrue taken ↔ IsNumberTaken world entrant.now round.now number n) }
         ensures fault { Fails (Unit {0}) result }
         ensures whole { HasCleanDisk (state S.Store self.new) → IfOk result (λ _.
-            AreRecords answer_in number_taken_text
+            AreRecords answer_in NUMBER_TAKEN.now
             (Text entrant.now ∷ Text round.now ∷ Int (pos number) ∷ Int (pos n) ∷ [])
             (state S.Store self.old) (state S.Store self.new)) }
         ensures cause { HasCleanDisk (state S.Store self.new) → Fails
-            (ReadFails answer_in number_taken_text
+            (ReadFails answer_in NUMBER_TAKEN.now
             (Text entrant.now ∷ Text round.now ∷ Int (pos number) ∷ Int (pos n) ∷ []) (state S.Store self.old)
             (state S.Store self.new)) result }
     {
@@ -379,10 +380,10 @@ impl<S: Alter + Drop> ReadStore for SqlStore<S> {
             (λ world rows. IsListing world (is_of entrant.now round.now) rows.items) }
         ensures fault { Fails (Unit {0}) result }
         ensures whole { HasCleanDisk (state S.Store self.new) → IfOk result (λ _.
-            AreRecords answer_in answers_of_text (Text entrant.now ∷ Text round.now ∷ []) (state S.Store self.old)
+            AreRecords answer_in ANSWERS_OF.now (Text entrant.now ∷ Text round.now ∷ []) (state S.Store self.old)
             (state S.Store self.new)) }
         ensures cause { HasCleanDisk (state S.Store self.new) → Fails
-            (ReadFails answer_in answers_of_text (Text entrant.now ∷ Text round.now ∷ []) (state S.Store self.old)
+            (ReadFails answer_in ANSWERS_OF.now (Text entrant.now ∷ Text round.now ∷ []) (state S.Store self.old)
             (state S.Store self.new)) result }
     {
         answers_of(&mut self.conn, alloc, entrant, round)
@@ -395,10 +396,10 @@ impl<S: Alter + Drop> ReadStore for SqlStore<S> {
             (λ world rows. IsListing world (is_in round.now) rows.items) }
         ensures fault { Fails (Unit {0}) result }
         ensures whole { HasCleanDisk (state S.Store self.new) → IfOk result (λ _.
-            AreRecords answer_in answers_in_text (Text round.now ∷ []) (state S.Store self.old)
+            AreRecords answer_in ANSWERS_IN.now (Text round.now ∷ []) (state S.Store self.old)
             (state S.Store self.new)) }
         ensures cause { HasCleanDisk (state S.Store self.new) → Fails
-            (ReadFails answer_in answers_in_text (Text round.now ∷ []) (state S.Store self.old)
+            (ReadFails answer_in ANSWERS_IN.now (Text round.now ∷ []) (state S.Store self.old)
             (state S.Store self.new)) result }
     {
         answers_in(&mut self.conn, alloc, round)
@@ -418,10 +419,10 @@ impl<S: Alter + Drop> ReadStore for SqlStore<S> {
             (λ world rows. IsListing world (is_in round.now) rows) (content_of (state S.Store self.old))
             (content_of (state S.Store self.new)) sink.old sink.new) }
         ensures whole { HasCleanDisk (state S.Store self.new) → IfOk result (λ _.
-            AreRecords answer_in answers_in_text (Text round.now ∷ []) (state S.Store self.old)
+            AreRecords answer_in ANSWERS_IN.now (Text round.now ∷ []) (state S.Store self.old)
             (state S.Store self.new)) }
         ensures cause { HasCleanDisk (state S.Store self.new) → Fails
-            (FeedFails answer_in K.takes K.refuses answers_in_text (Text round.now ∷ []) (state S.Store self.old)
+            (FeedFails answer_in K.takes K.refuses ANSWERS_IN.now (Text round.now ∷ []) (state S.Store self.old)
             (state S.Store self.new) sink.old sink.new) result }
     {
         feed_answers(&mut self.conn, alloc, round, sink)
@@ -439,10 +440,10 @@ impl<S: Alter + Drop> ReadStore for SqlStore<S> {
             (λ world found. IsTrue found ↔ HasSubmitted world entrant.now round.now) }
         ensures fault { Fails (Unit {0}) result }
         ensures whole { HasCleanDisk (state S.Store self.new) → IfOk result (λ _.
-            AreRecords answer_in answers_of_text (Text entrant.now ∷ Text round.now ∷ []) (state S.Store self.old)
+            AreRecords answer_in ANSWERS_OF.now (Text entrant.now ∷ Text round.now ∷ []) (state S.Store self.old)
             (state S.Store self.new)) }
         ensures cause { HasCleanDisk (state S.Store self.new) → Fails
-            (ReadFails answer_in answers_of_text (Text entrant.now ∷ Text round.now ∷ []) (state S.Store self.old)
+            (ReadFails answer_in ANSWERS_OF.now (Text entrant.now ∷ Text round.now ∷ []) (state S.Store self.old)
             (state S.Store self.new)) result }
     {
         has_answered(&mut self.conn, alloc, entrant, round)
@@ -455,11 +456,11 @@ impl<S: Alter + Drop> ReadStore for SqlStore<S> {
             (λ world found. found ≡ get world.protests key.now) }
         ensures fault { Fails (Unit {0}) result }
         ensures whole { HasCleanDisk (state S.Store self.new) → IfOk result (λ _.
-            AreRecords protest_in protest_text
+            AreRecords protest_in PROTEST.now
             (Text key.now.entrant ∷ Text key.now.round ∷ Text key.now.token ∷ []) (state S.Store self.old)
             (state S.Store self.new)) }
         ensures cause { HasCleanDisk (state S.Store self.new) → Fails
-            (FindFails protest_in protest_text (Text key.now.entrant ∷ Text key.now.round ∷ Text key.now.token ∷ [])
+            (FindFails protest_in PROTEST.now (Text key.now.entrant ∷ Text key.now.round ∷ Text key.now.token ∷ [])
             (state S.Store self.old) (state S.Store self.new)) result }
     {
         protest(&mut self.conn, alloc, key)
@@ -477,10 +478,10 @@ impl<S: Alter + Drop> ReadStore for SqlStore<S> {
             (λ world count. count ≡ protests_made world entrant.now round.now) }
         ensures fault { Fails (Unit {0}) result }
         ensures whole { HasCleanDisk (state S.Store self.new) → IfOk result (λ _.
-            AreRecords protest_in protests_of_text (Text entrant.now ∷ Text round.now ∷ []) (state S.Store self.old)
+            AreRecords protest_in PROTESTS_OF.now (Text entrant.now ∷ Text round.now ∷ []) (state S.Store self.old)
             (state S.Store self.new)) }
         ensures cause { HasCleanDisk (state S.Store self.new) → Fails
-            (ReadFails protest_in protests_of_text (Text entrant.now ∷ Text round.now ∷ []) (state S.Store self.old)
+            (ReadFails protest_in PROTESTS_OF.now (Text entrant.now ∷ Text round.now ∷ []) (state S.Store self.old)
             (state S.Store self.new)) result }
     {
         protests_made(&mut self.conn, alloc, entrant, round)
@@ -493,10 +494,10 @@ impl<S: Alter + Drop> ReadStore for SqlStore<S> {
             (λ world found. IsTrue found ↔ IsProtestOpen world round.now) }
         ensures fault { Fails (Unit {0}) result }
         ensures whole { HasCleanDisk (state S.Store self.new) → IfOk result (λ _.
-            AreRecords protest_in protests_in_text (Text round.now ∷ []) (state S.Store self.old)
+            AreRecords protest_in PROTESTS_IN.now (Text round.now ∷ []) (state S.Store self.old)
             (state S.Store self.new)) }
         ensures cause { HasCleanDisk (state S.Store self.new) → Fails
-            (ReadFails protest_in protests_in_text (Text round.now ∷ []) (state S.Store self.old)
+            (ReadFails protest_in PROTESTS_IN.now (Text round.now ∷ []) (state S.Store self.old)
             (state S.Store self.new)) result }
     {
         has_open_protest(&mut self.conn, alloc, round)
@@ -514,10 +515,10 @@ impl<S: Alter + Drop> ReadStore for SqlStore<S> {
             (λ world rows. rows.items ≡ protests_of world entrant.now round.now) }
         ensures fault { Fails (Unit {0}) result }
         ensures whole { HasCleanDisk (state S.Store self.new) → IfOk result (λ _.
-            AreRecords protest_in protests_of_text (Text entrant.now ∷ Text round.now ∷ []) (state S.Store self.old)
+            AreRecords protest_in PROTESTS_OF.now (Text entrant.now ∷ Text round.now ∷ []) (state S.Store self.old)
             (state S.Store self.new)) }
         ensures cause { HasCleanDisk (state S.Store self.new) → Fails
-            (ReadFails protest_in protests_of_text (Text entrant.now ∷ Text round.now ∷ []) (state S.Store self.old)
+            (ReadFails protest_in PROTESTS_OF.now (Text entrant.now ∷ Text round.now ∷ []) (state S.Store self.old)
             (state S.Store self.new)) result }
     {
         protests_of(&mut self.conn, alloc, entrant, round)
@@ -530,10 +531,10 @@ impl<S: Alter + Drop> ReadStore for SqlStore<S> {
             (λ world rows. rows.items ≡ protests_in world round.now) }
         ensures fault { Fails (Unit {0}) result }
         ensures whole { HasCleanDisk (state S.Store self.new) → IfOk result (λ _.
-            AreRecords protest_in protests_in_text (Text round.now ∷ []) (state S.Store self.old)
+            AreRecords protest_in PROTESTS_IN.now (Text round.now ∷ []) (state S.Store self.old)
             (state S.Store self.new)) }
         ensures cause { HasCleanDisk (state S.Store self.new) → Fails
-            (ReadFails protest_in protests_in_text (Text round.now ∷ []) (state S.Store self.old)
+            (ReadFails protest_in PROTESTS_IN.now (Text round.now ∷ []) (state S.Store self.old)
             (state S.Store self.new)) result }
     {
         protests_in(&mut self.conn, alloc, round)
@@ -553,10 +554,10 @@ impl<S: Alter + Drop> ReadStore for SqlStore<S> {
             (λ world rows. rows ≡ protests_in world round.now) (content_of (state S.Store self.old))
             (content_of (state S.Store self.new)) sink.old sink.new) }
         ensures whole { HasCleanDisk (state S.Store self.new) → IfOk result (λ _.
-            AreRecords protest_in protests_in_text (Text round.now ∷ []) (state S.Store self.old)
+            AreRecords protest_in PROTESTS_IN.now (Text round.now ∷ []) (state S.Store self.old)
             (state S.Store self.new)) }
         ensures cause { HasCleanDisk (state S.Store self.new) → Fails
-            (FeedFails protest_in K.takes K.refuses protests_in_text (Text round.now ∷ []) (state S.Store self.old)
+            (FeedFails protest_in K.takes K.refuses PROTESTS_IN.now (Text round.now ∷ []) (state S.Store self.old)
             (state S.Store self.new) sink.old sink.new) result }
     {
         feed_protests(&mut self.conn, alloc, round, sink)
@@ -571,8 +572,9 @@ impl<S: Alter + Drop> Store for SqlStore<S> {
     ghost use Rattle.hall_store.specs.Change.{CanAddAnswer, CanAddProtest};
     ghost use Rattle.hall_store.specs.declared.change.Change.TheVariants.{Import, PutPuzzle, SetState, PutRound};
     ghost use Rattle.hall_store.specs.declared.change.Change.TheVariants.{SetRoundFlag, AddAnswer, AddProtest, RuleProtest};
+    ghost use Rattle.hall_sql.specs.declared.answers.TheConstants.{ADD_ANSWER};
+    ghost use Rattle.hall_sql.specs.declared.protests.TheConstants.{ADD_PROTEST};
     ghost use Rattle.hall_sql.specs.Columns.{answer_params, protest_params};
-    ghost use Rattle.hall_sql.specs.Statements.{add_answer_text, add_protest_text};
     ghost use Rattle.hall_sql.specs.WriteCause.{ImportFails, PutPuzzleFails, PutRoundFails, RuleFails, RunFails};
     ghost use Rattle.hall_sql.specs.WriteCause.{SetFlagFails, SetStateFails};
     ghost use Rattle.hall_sql.specs.RoundPuts.{PutsRows};
@@ -634,7 +636,7 @@ impl<S: Alter + Drop> Store for SqlStore<S> {
         requires { Asks (content_of (state S.Store self.old)) (λ world. CanAddAnswer world row) }
         ensures wrote { Wrote (AddAnswer row) (state S.Store self.old) (state S.Store self.new) result }
         ensures cause { HasCleanDisk (state S.Store self.new) → Fails
-            (RunFails add_answer_text (answer_params row) (state S.Store self.old) (state S.Store self.new)) result }
+            (RunFails ADD_ANSWER.now (answer_params row) (state S.Store self.old) (state S.Store self.new)) result }
     {
         add_answer(&mut self.conn, &row)
     }
@@ -643,7 +645,7 @@ impl<S: Alter + Drop> Store for SqlStore<S> {
         requires { Asks (content_of (state S.Store self.old)) (λ world. CanAddProtest world row) }
         ensures wrote { Wrote (AddProtest row) (state S.Store self.old) (state S.Store self.new) result }
         ensures cause { HasCleanDisk (state S.Store self.new) → Fails
-            (RunFails add_protest_text (protest_params row) (state S.Store self.old) (state S.Store self.new)) result }
+            (RunFails ADD_PROTEST.now (protest_params row) (state S.Store self.old) (state S.Store self.new)) result }
     {
         add_protest(&mut self.conn, &row)
     }

@@ -12,7 +12,6 @@ ghost use Rattle.hall_sql.specs.RoundColumns.{tester_params};
 ghost use Rattle.hall_sql.specs.RoundPuts.{DropsTesters, PutsTester, PutsTesters, PutsTesterList};
 ghost use Rattle.hall_sql.specs.Rows.{tester_in};
 ghost use Rattle.hall_sql.specs.Standing.{IsHall, Rested, content_of};
-ghost use Rattle.hall_sql.specs.Statements.{testers_of_text, all_testers_text, drop_testers_text, add_tester_text};
 ghost use Rattle.hall_sql.specs.Testers.{AreNamed};
 ghost use Rattle.hall_sql.specs.Whole.{AreRecords};
 ghost use Rattle.hall_sql.specs.WriteCause.{RunFails, InsideFails, TesterIsRefused, TesterListIsRefused};
@@ -25,6 +24,7 @@ use hall_store::StoreFault;
 use sqlite::{Alter, Connection, Transaction, params};
 use std::alloc::Global;
 
+/// The testers of a round, in the order of their names.
 const TESTERS_OF: &str = "SELECT round, name FROM testers WHERE round = ?1 ORDER BY name";
 
 /// The testers of the round under their keys, in the order of their names.
@@ -38,10 +38,10 @@ fn keyed_testers<S: Alter>(
     ensures served { Served (content_of (state S.Store conn.new)) result
         (λ world testers. AreNamed world round.now testers.items) }
     ensures whole { HasCleanDisk (state S.Store conn.new) → IfOk result (λ _.
-        AreRecords tester_in testers_of_text (Text round.now ∷ []) (state S.Store conn.old)
+        AreRecords tester_in TESTERS_OF.now (Text round.now ∷ []) (state S.Store conn.old)
         (state S.Store conn.new)) }
     ensures cause { HasCleanDisk (state S.Store conn.new) → Fails
-        (ReadFails tester_in testers_of_text (Text round.now ∷ []) (state S.Store conn.old)
+        (ReadFails tester_in TESTERS_OF.now (Text round.now ∷ []) (state S.Store conn.old)
         (state S.Store conn.new)) result }
 {
     let _schema = conn.schema();
@@ -73,16 +73,17 @@ pub(crate) fn testers_of<S: Alter>(
     ensures served { Served (content_of (state S.Store conn.new)) result
         (λ world names. AreTestersOf world round.now names.items) }
     ensures whole { HasCleanDisk (state S.Store conn.new) → IfOk result (λ _.
-        AreRecords tester_in testers_of_text (Text round.now ∷ []) (state S.Store conn.old)
+        AreRecords tester_in TESTERS_OF.now (Text round.now ∷ []) (state S.Store conn.old)
         (state S.Store conn.new)) }
     ensures cause { HasCleanDisk (state S.Store conn.new) → Fails
-        (ReadFails tester_in testers_of_text (Text round.now ∷ []) (state S.Store conn.old)
+        (ReadFails tester_in TESTERS_OF.now (Text round.now ∷ []) (state S.Store conn.old)
         (state S.Store conn.new)) result }
 {
     let testers = keyed_testers(conn, alloc, round)?;
     names_of(alloc, testers)
 }
 
+/// All testers, in the order of their keys.
 const ALL_TESTERS: &str = "SELECT round, name FROM testers ORDER BY round, name";
 
 /// All testers under their keys, in the order of the keys.
@@ -92,7 +93,7 @@ fn all_testers<S: Alter>(conn: &mut Connection<S>, alloc: Global) -> Result<Vec<
     ensures served { Served (content_of (state S.Store conn.new)) result
         (λ world testers. testers.items ≡ entries world.testers) }
     ensures whole { HasCleanDisk (state S.Store conn.new) → IfOk result (λ _.
-        AreRecords tester_in all_testers_text [] (state S.Store conn.old)
+        AreRecords tester_in ALL_TESTERS.now [] (state S.Store conn.old)
         (state S.Store conn.new)) }
 {
     let _schema = conn.schema();
@@ -109,12 +110,13 @@ pub(crate) fn has_testers<S: Alter>(
     ensures served { Served (content_of (state S.Store conn.new)) result
         (λ world has. (has ≡ false) ↔ (world.testers ≡ empty)) }
     ensures whole { HasCleanDisk (state S.Store conn.new) → IfOk result (λ _.
-        AreRecords tester_in all_testers_text [] (state S.Store conn.old)
+        AreRecords tester_in ALL_TESTERS.now [] (state S.Store conn.old)
         (state S.Store conn.new)) }
 {
     Ok(!all_testers(conn, alloc)?.is_empty())
 }
 
+/// The testers of a round are taken out.
 const DROP_TESTERS: &str = "DELETE FROM testers WHERE round = ?1";
 
 /// Takes out the testers of the round.
@@ -125,13 +127,14 @@ fn drop_testers<S: Alter>(tx: &mut Transaction<'_, S>, round: &RoundId) -> Resul
         → OnOk result (Did (DropsTesters round.now) (state S.Store tx.old.conn.now)
         (state S.Store tx.new.conn.now)) }
     ensures cause { InsideFails (state S.Store tx.old.conn.now) (state S.Store tx.new.conn.now)
-        (RunFails drop_testers_text (Text round.now ∷ []) (state S.Store tx.old.conn.now)
+        (RunFails DROP_TESTERS.now (Text round.now ∷ []) (state S.Store tx.old.conn.now)
         (state S.Store tx.new.conn.now)) result }
 {
     run_in(tx, DROP_TESTERS, params![round.as_str()])?;
     Ok(())
 }
 
+/// One more tester of a round.
 const ADD_TESTER: &str = "INSERT INTO testers (round, name) VALUES (?1, ?2)";
 
 /// Stores that the person tests the round.
@@ -146,7 +149,7 @@ fn put_tester<S: Alter>(
         → OnOk result (Did (PutsTester round.now name.now) (state S.Store tx.old.conn.now)
         (state S.Store tx.new.conn.now)) }
     ensures cause { InsideFails (state S.Store tx.old.conn.now) (state S.Store tx.new.conn.now)
-        (RunFails add_tester_text (tester_params round.now name.now)
+        (RunFails ADD_TESTER.now (tester_params round.now name.now)
         (state S.Store tx.old.conn.now) (state S.Store tx.new.conn.now)) result }
 {
     run_in(tx, ADD_TESTER, params![round.as_str(), name.as_str()])?;

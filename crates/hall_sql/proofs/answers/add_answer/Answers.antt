@@ -6,7 +6,7 @@ use Rattle.std.proofs.Common.{arith}
 use Rattle.sqlite.specs.State.{HasCleanDisk}
 use Rattle.hall_sql.proofs.Written.{add_answer_written}
 use Rattle.hall_sql.proofs.WriteCauseLemmas.{refused_cause}
-use Rattle.hall_sql.specs.Statements.{add_answer_text}
+use Rattle.hall_sql.specs.declared.answers.TheConstants.{ADD_ANSWER}
 use Rattle.hall_sql.specs.Columns.{answer_params}
 use Rattle.hall_sql.proofs.answers.add_answer.Goals as goal
 
@@ -18,5 +18,5 @@ returns-in-Ok-clause-wrote g c =
 pub returns-in-Err-clause-cause : goal.returns-in-Err-clause-cause
 returns-in-Err-clause-cause g c clean failed =
     let was : HasCleanDisk (state g.S.Store c.args.conn.now) = omega (arith, c.write.ensures.lasts.clean, clean) in
-    refused_cause add_answer_text (answer_params c.args.row.now) (state g.S.Store c.args.conn.now) (state g.S.Store c.write.new.conn) (add_answer_written c.args.row.now) c.requires.hall was
+    refused_cause ADD_ANSWER.now (answer_params c.args.row.now) (state g.S.Store c.args.conn.now) (state g.S.Store c.write.new.conn) (add_answer_written c.args.row.now) c.requires.hall was
     (c.in-Err.ensures.runs clean failed)

@@ -1,4 +1,4 @@
-use Rattle.hall_sql.specs.Statements.{answers_given_text}
+use Rattle.hall_sql.specs.declared.answers.TheConstants.{ANSWERS_GIVEN}
 use Rattle.hall_sql.specs.Rows.{answer_in}
 use Rattle.sqlite.specs.declared.types.Value.TheVariants.{Text, Int}
 use Rattle.std.proofs.Common.{rules, ◌≡◌, ◌∙◌, length, sym, [], ◌∷◌, pos}
@@ -25,7 +25,7 @@ returns-clause-served g c =
 
 pub returns-clause-whole : goal.returns-clause-whole
 returns-clause-whole g c clean =
-    read_whole answer_in answers_given_text (Text c.args.entrant.now ∷ Text c.args.round.now ∷ Int (pos c.args.number) ∷ []) (state g.S.Store c.args.conn.now) (state g.S.Store c.read.new.conn) c.in_ok-rows.rows.items ((rw (c.params-to_sql.ensures, c.params-to_sql-2.ensures, c.params-to_sql-3.ensures, c.as_str.ensures.text, c.as_str-2.ensures.text, c.get.ensures.value) at c.in_ok-rows.ensures.read) clean)
+    read_whole answer_in ANSWERS_GIVEN.now (Text c.args.entrant.now ∷ Text c.args.round.now ∷ Int (pos c.args.number) ∷ []) (state g.S.Store c.args.conn.now) (state g.S.Store c.read.new.conn) c.in_ok-rows.rows.items ((rw (c.params-to_sql.ensures, c.params-to_sql-2.ensures, c.params-to_sql-3.ensures, c.as_str.ensures.text, c.as_str-2.ensures.text, c.get.ensures.value) at c.in_ok-rows.ensures.read) clean)
 
 pub returns-in_err-rows-clause-cause : goal.returns-in_err-rows-clause-cause
 returns-in_err-rows-clause-cause g c clean =

@@ -1,4 +1,4 @@
-use Rattle.hall_sql.specs.Statements.{number_taken_text}
+use Rattle.hall_sql.specs.declared.answers.TheConstants.{NUMBER_TAKEN}
 use Rattle.hall_sql.specs.Rows.{answer_in}
 use Rattle.sqlite.specs.declared.types.Value.TheVariants.{Text, Int}
 use Rattle.std.proofs.Common.{rules, ◌≡◌, ◌==◌, ◌↔◌, IsTrue, not, length, [], ◌∷◌, pos}
@@ -26,7 +26,7 @@ returns-clause-served g c =
 
 pub returns-clause-whole : goal.returns-clause-whole
 returns-clause-whole g c clean =
-    read_whole answer_in number_taken_text (Text c.args.entrant.now ∷ Text c.args.round.now ∷ Int (pos c.args.number) ∷ Int (pos c.args.n) ∷ []) (state g.S.Store c.args.conn.now) (state g.S.Store c.read.new.conn) c.in_ok-rows.rows.items ((rw (c.params-to_sql.ensures, c.params-to_sql-2.ensures, c.params-to_sql-3.ensures, c.params-to_sql-4.ensures, c.as_str.ensures.text, c.as_str-2.ensures.text, c.get.ensures.value, c.get-2.ensures.value) at c.in_ok-rows.ensures.read) clean)
+    read_whole answer_in NUMBER_TAKEN.now (Text c.args.entrant.now ∷ Text c.args.round.now ∷ Int (pos c.args.number) ∷ Int (pos c.args.n) ∷ []) (state g.S.Store c.args.conn.now) (state g.S.Store c.read.new.conn) c.in_ok-rows.rows.items ((rw (c.params-to_sql.ensures, c.params-to_sql-2.ensures, c.params-to_sql-3.ensures, c.params-to_sql-4.ensures, c.as_str.ensures.text, c.as_str-2.ensures.text, c.get.ensures.value, c.get-2.ensures.value) at c.in_ok-rows.ensures.read) clean)
 
 pub returns-in_err-rows-clause-cause : goal.returns-in_err-rows-clause-cause
 returns-in_err-rows-clause-cause g c clean =

@@ -3,7 +3,7 @@ use Rattle.std.proofs.Common.{◌≡◌, refl, [], ◌∷◌}
 use Rattle.sqlite.specs.Held.{state}
 use Rattle.hall_store.specs.Store.{protests_in}
 use Rattle.hall_sql.specs.Rows.{protest_in}
-use Rattle.hall_sql.specs.Statements.{protests_in_text}
+use Rattle.hall_sql.specs.declared.protests.TheConstants.{PROTESTS_IN}
 use Rattle.hall_sql.proofs.ProtestTexts.{key_order, protest_columns, protests_in_is, protests_in_asked}
 use Rattle.hall_sql.proofs.PeopleTexts.{equals}
 use Rattle.hall_sql.proofs.FeedLemmas.{fed_rows, fed_whole}
@@ -17,7 +17,7 @@ pub returns-clause-fed : goal.returns-clause-fed
 returns-clause-fed g c =
     let old = state g.S.Store c.args.conn.now in
     let params = Text c.args.round.now ∷ [] in
-    fed_rows g.S.Store protest_in protests_in_text params 12 (equals 2 0 ∷ []) protest_columns key_order _
+    fed_rows g.S.Store protest_in PROTESTS_IN.now params 12 (equals 2 0 ∷ []) protest_columns key_order _
     protests_in_is.0 protests_in_is.1 protests_in_is.2 (λ db. refl) g.K.Sink.takes (λ world rows. rows ≡ protests_in world c.args.round.now)
     old (state g.S.Store c.feed.new.conn) c.args.sink.now c.feed.new.sink c.feed.result c.requires.hall c.feed.ensures.rested
     (λ opened. (c.schema-schema.ensures.live opened).0) (protests_in_selected old c.args.round.now)
@@ -25,7 +25,7 @@ returns-clause-fed g c =
 
 pub returns-clause-whole : goal.returns-clause-whole
 returns-clause-whole g c clean =
-    fed_whole g.S.Store protest_in g.K.Sink.takes protests_in_text (Text c.args.round.now ∷ []) (state g.S.Store c.args.conn.now)
+    fed_whole g.S.Store protest_in g.K.Sink.takes PROTESTS_IN.now (Text c.args.round.now ∷ []) (state g.S.Store c.args.conn.now)
     (state g.S.Store c.feed.new.conn) c.args.sink.now c.feed.new.sink c.feed.result clean
     (rw (c.params-to_sql.ensures, c.as_str.ensures.text) at c.feed.ensures.fed)
 

@@ -2,7 +2,7 @@ use Rattle.sqlite.specs.Held.{state}
 use Rattle.hall_sql.specs.Inside.{AddsPerson}
 use Rattle.hall_sql.proofs.InsideLemmas.{did}
 use Rattle.hall_sql.proofs.PeopleWrites.{person_added}
-use Rattle.hall_sql.specs.Statements.{add_person_text}
+use Rattle.hall_sql.specs.declared.people.TheConstants.{ADD_PERSON}
 use Rattle.hall_sql.proofs.CauseLemmas.{fails_as}
 use Rattle.hall_sql.proofs.Written.{add_person_written}
 use Rattle.hall_sql.proofs.WriteCauseLemmas.{inside_cause}
@@ -19,5 +19,5 @@ returns-clause-done g c clean inside =
 pub returns-in_err-run_in-clause-cause : goal.returns-in_err-run_in-clause-cause
 returns-in_err-run_in-clause-cause g c clean goes =
     fails_as c.from_residual.result _ _ c.from_residual.ensures.1 (λ failed.
-    inside_cause add_person_text (person_params c.args.person.now) (state g.S.Store c.args.tx.now.conn.now) (state g.S.Store c.run_in.new.tx.conn.now) (add_person_written c.args.person.now) goes
+    inside_cause ADD_PERSON.now (person_params c.args.person.now) (state g.S.Store c.args.tx.now.conn.now) (state g.S.Store c.run_in.new.tx.conn.now) (add_person_written c.args.person.now) goes
     (rw (c.params-to_sql.ensures, c.params-to_sql-2.ensures, c.params-to_sql-3.ensures, c.as_str.ensures.text, c.as_str-2.ensures.text, c.roles_code.ensures) at (c.in_err-run_in.ensures.cause clean goes.mode failed)))

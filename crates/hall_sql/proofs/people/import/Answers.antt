@@ -14,11 +14,12 @@ use Rattle.hall_sql.proofs.people.import.Goals as goal
 
 pub returns-in-Ok-clause-wrote : goal.returns-in-Ok-clause-wrote
 returns-in-Ok-clause-wrote g c =
+    let same : c.conn-2-1.given.0 ≡ c.commit.new.self.0 = search rules in
     let it = rw (c.transaction-tx.ensures.begun, c.as_slice.ensures.value) at c.in_ok-import_all.ensures in
-    let done : Wrote {R = Unit} {E = StoreFault} (Import c.args.people.now) (state g.S.Store c.args.conn.now) _ (Ok tt) =
-    committed_wrote g.S.Store c.args.conn.now c.requires.hall (Import c.args.people.now) tt (state g.S.Store c.import_all.new.tx.conn.now) _
-    it.carries it.done (survived _ _ _ c.in-Ok.ensures.survives) c.in-Ok.ensures.ended c.in-Ok.ensures.ok in
-    search rules
+    let end = state g.S.Store c.commit.new.self.0 in
+    subst (λ h. Wrote {R = Unit} {E = StoreFault} (Import c.args.people.now) (state g.S.Store c.args.conn.now) (state g.S.Store h) (Ok tt)) (sym same)
+    (committed_wrote g.S.Store c.args.conn.now c.requires.hall (Import c.args.people.now) tt (state g.S.Store c.import_all.new.tx.conn.now) end
+    it.carries it.done (survived _ _ _ c.in-Ok.ensures.survives) c.in-Ok.ensures.ended c.in-Ok.ensures.ok)
 
 pub returns-in-Err-clause-wrote : goal.returns-in-Err-clause-wrote
 returns-in-Err-clause-wrote g c =

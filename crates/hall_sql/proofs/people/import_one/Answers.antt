@@ -6,7 +6,7 @@ use Rattle.sqlite.specs.Held.{state}
 use Rattle.sqlite.specs.State.{HasCleanDisk}
 use Rattle.hall_sql.proofs.CauseLemmas.{fails_as}
 use Rattle.std.proofs.lemmas.Result.{IfErr-weaker}
-use Rattle.hall_sql.specs.Statements.{add_person_text}
+use Rattle.hall_sql.specs.declared.people.TheConstants.{ADD_PERSON}
 use Rattle.hall_sql.specs.Columns.{person_params}
 use Rattle.hall_sql.proofs.WriteCauseLemmas.{goes_on, run_over}
 use Rattle.hall_sql.proofs.people.import_one.Goals.{in-Some, in-None}
@@ -35,7 +35,7 @@ returns-clause-cause g c clean goes = elim c.match-branch-2.branch [
       let why = w.add_person.ensures.cause late (goes_on old mid goes to_mid it.steps) in
       let all : IfErr w.add_person.result (λ fault. fault ≡ Failed → IsStoreCause old new ⊎ PersonIsRefused c.args.person.now old new) =
       IfErr-weaker w.add_person.result _ _ (λ fault one failed.
-      elim (run_over add_person_text (person_params c.args.person.now) old mid new to_mid was to_new (it.does goes.hall).same (one failed)) [
+      elim (run_over ADD_PERSON.now (person_params c.args.person.now) old mid new to_mid was to_new (it.does goes.hall).same (one failed)) [
         | inl cause ↦ inl cause
         | inr refused ↦ inr (inr (sym (it.does goes.hall).means ∙ w.in-None.is, refused))
       ]) why in

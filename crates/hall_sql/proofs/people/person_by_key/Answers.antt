@@ -1,4 +1,4 @@
-use Rattle.hall_sql.specs.Statements.{person_by_key_text}
+use Rattle.hall_sql.specs.declared.people.TheConstants.{PERSON_BY_KEY}
 use Rattle.sqlite.specs.declared.types.Value.TheVariants.{Text}
 use Rattle.std.proofs.Common.{sym, subst, [], ◌∷◌}
 use Rattle.sqlite.specs.Held.{state}
@@ -17,7 +17,7 @@ find-requires-clause-asks g c = rw (c.params-to_sql.ensures, c.as_str.ensures.te
 pub returns-clause-served : goal.returns-clause-served
 returns-clause-served g c =
     let old = state g.S.Store c.args.conn.now in
-    told (state g.S.Store c.args.conn.now) (state g.S.Store c.find.new.conn) c.find.result (IsFound person_in person_by_key_text (Text c.args.key.now ∷ []) (state g.S.Store c.args.conn.now) (state g.S.Store c.find.new.conn)) _ c.requires.hall c.find.ensures.rested
+    told (state g.S.Store c.args.conn.now) (state g.S.Store c.find.new.conn) c.find.result (IsFound person_in PERSON_BY_KEY.now (Text c.args.key.now ∷ []) (state g.S.Store c.args.conn.now) (state g.S.Store c.find.new.conn)) _ c.requires.hall c.find.ensures.rested
     (rw (c.params-to_sql.ensures, c.as_str.ensures.text) at c.find.ensures.found) (λ found it. it.are.0)
     (λ found it clean opened has keyed. subst (IsKeyHolder (world_of old.now.trees) c.args.key.now) (sym it.is)
     (key_holder old (state g.S.Store c.find.new.conn) has keyed.0 (c.schema-schema.ensures.live opened).0 it.are.1.rows
@@ -26,7 +26,7 @@ returns-clause-served g c =
 
 pub returns-clause-whole : goal.returns-clause-whole
 returns-clause-whole g c clean =
-    IfOk-weaker c.find.result (IsFound person_in person_by_key_text (Text c.args.key.now ∷ []) (state g.S.Store c.args.conn.now) (state g.S.Store c.find.new.conn)) _ (λ found it. read_whole person_in person_by_key_text (Text c.args.key.now ∷ []) (state g.S.Store c.args.conn.now) (state g.S.Store c.find.new.conn) it.records it.are) ((rw (c.params-to_sql.ensures, c.as_str.ensures.text) at c.find.ensures.found) clean)
+    IfOk-weaker c.find.result (IsFound person_in PERSON_BY_KEY.now (Text c.args.key.now ∷ []) (state g.S.Store c.args.conn.now) (state g.S.Store c.find.new.conn)) _ (λ found it. read_whole person_in PERSON_BY_KEY.now (Text c.args.key.now ∷ []) (state g.S.Store c.args.conn.now) (state g.S.Store c.find.new.conn) it.records it.are) ((rw (c.params-to_sql.ensures, c.as_str.ensures.text) at c.find.ensures.found) clean)
 
 pub returns-clause-cause : goal.returns-clause-cause
 returns-clause-cause g c = rw (c.params-to_sql.ensures, c.as_str.ensures.text) at c.find.ensures.cause

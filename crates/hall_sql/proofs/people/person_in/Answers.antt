@@ -5,7 +5,7 @@ use Rattle.hall_sql.proofs.PeopleTexts.{person_is, person_asked}
 use Rattle.hall_sql.proofs.PeopleLemmas.{person_found}
 use Rattle.hall_sql.proofs.InsideLemmas.{shown_did}
 use Rattle.sqlite.specs.declared.types.Value.TheVariants.{Text}
-use Rattle.hall_sql.specs.Statements.{person_text}
+use Rattle.hall_sql.specs.declared.people.TheConstants.{PERSON}
 use Rattle.hall_sql.proofs.CauseLemmas.{fails_as}
 use Rattle.hall_sql.proofs.FoundLemmas.{length_read}
 use Rattle.hall_sql.specs.Rows.{person_in}
@@ -26,7 +26,7 @@ returns-clause-done g c clean inside =
 pub returns-in_err-rows-clause-cause : goal.returns-in_err-rows-clause-cause
 returns-in_err-rows-clause-cause g c clean goes =
     fails_as c.from_residual.result _ _ c.from_residual.ensures.1 (λ failed.
-    inl (asked_inside person_text (Text c.args.name.now ∷ []) (state g.S.Store c.args.tx.now.conn.now) (state g.S.Store c.ask_in.new.tx.conn.now) (person_asked c.args.name.now) goes
+    inl (asked_inside PERSON.now (Text c.args.name.now ∷ []) (state g.S.Store c.args.tx.now.conn.now) (state g.S.Store c.ask_in.new.tx.conn.now) (person_asked c.args.name.now) goes
     (rw (c.params-to_sql.ensures, c.as_str.ensures.text) at (c.in_err-rows.ensures.cause clean failed))))
 
 pub returns-in_err-read_all-clause-cause : goal.returns-in_err-read_all-clause-cause

@@ -6,7 +6,7 @@ use Rattle.std.proofs.Common.{arith}
 use Rattle.sqlite.specs.State.{HasCleanDisk}
 use Rattle.hall_sql.proofs.Written.{add_protest_written}
 use Rattle.hall_sql.proofs.WriteCauseLemmas.{refused_cause}
-use Rattle.hall_sql.specs.Statements.{add_protest_text}
+use Rattle.hall_sql.specs.declared.protests.TheConstants.{ADD_PROTEST}
 use Rattle.hall_sql.specs.Columns.{protest_params}
 use Rattle.hall_sql.proofs.protests.add_protest.Goals as goal
 
@@ -18,5 +18,5 @@ returns-in-Ok-clause-wrote g c =
 pub returns-in-Err-clause-cause : goal.returns-in-Err-clause-cause
 returns-in-Err-clause-cause g c clean failed =
     let was : HasCleanDisk (state g.S.Store c.args.conn.now) = omega (arith, c.write.ensures.lasts.clean, clean) in
-    refused_cause add_protest_text (protest_params c.args.row.now) (state g.S.Store c.args.conn.now) (state g.S.Store c.write.new.conn) (add_protest_written c.args.row.now) c.requires.hall was
+    refused_cause ADD_PROTEST.now (protest_params c.args.row.now) (state g.S.Store c.args.conn.now) (state g.S.Store c.write.new.conn) (add_protest_written c.args.row.now) c.requires.hall was
     (c.in-Err.ensures.runs clean failed)

@@ -1,4 +1,4 @@
-use Rattle.hall_sql.specs.Statements.{protest_text}
+use Rattle.hall_sql.specs.declared.protests.TheConstants.{PROTEST}
 use Rattle.hall_sql.specs.Rows.{protest_in}
 use Rattle.sqlite.specs.declared.types.Value.TheVariants.{Text}
 use Rattle.std.proofs.Common.{arith, ◌≡◌, ◌∙◌, sym, ap, subst, filter, IfSome, [], ◌∷◌}
@@ -20,7 +20,7 @@ find-requires-clause-asks g c = rw (c.params-to_sql.ensures, c.params-to_sql-2.e
 
 pub returns-clause-served : goal.returns-clause-served
 returns-clause-served g c =
-    told (state g.S.Store c.args.conn.now) (state g.S.Store c.find.new.conn) c.find.result (IsFound protest_in protest_text (Text c.args.key.now.entrant ∷ Text c.args.key.now.round ∷ Text c.args.key.now.token ∷ []) (state g.S.Store c.args.conn.now) (state g.S.Store c.find.new.conn)) _ c.requires.hall c.find.ensures.rested
+    told (state g.S.Store c.args.conn.now) (state g.S.Store c.find.new.conn) c.find.result (IsFound protest_in PROTEST.now (Text c.args.key.now.entrant ∷ Text c.args.key.now.round ∷ Text c.args.key.now.token ∷ []) (state g.S.Store c.args.conn.now) (state g.S.Store c.find.new.conn)) _ c.requires.hall c.find.ensures.rested
     (rw (c.params-to_sql.ensures, c.params-to_sql-2.ensures, c.params-to_sql-3.ensures, c.as_str.ensures.text, c.as_str-2.ensures.text, c.as_str-3.ensures.text) at c.find.ensures.found) (λ found it. it.are.0)
     (λ found it clean opened has keyed. it.is ∙ protest_found c.args.key.now _ (state g.S.Store c.find.new.conn) it.are.1.rows it.records has
     it.are.1.shown it.are.1.reads it.few)
@@ -32,7 +32,7 @@ returns-clause-alone g c clean =
     let key = c.args.key.now in
     let rested = c.find.ensures.rested in
     let was : HasCleanDisk old = omega (arith, rested.follows.lasts.clean, clean) in
-    IfOk-weaker c.find.result (IsFound protest_in protest_text (Text key.entrant ∷ Text key.round ∷ Text key.token ∷ []) old new) _ (λ o it.
+    IfOk-weaker c.find.result (IsFound protest_in PROTEST.now (Text key.entrant ∷ Text key.round ∷ Text key.token ∷ []) old new) _ (λ o it.
     let has : old.now.schema ≡ hall_schema = (c.requires.hall.settled was (rested.follows.opened clean it.are.0)).1 in
     let alone = protest_alone key old new it.are.1.rows it.records has it.are.1.shown it.are.1.reads it.few in
     IfSome_then o (subst (λ found. IfSome found (IsAlone key old)) (sym it.is) alone)
@@ -45,7 +45,7 @@ returns-clause-alone g c clean =
 
 pub returns-clause-whole : goal.returns-clause-whole
 returns-clause-whole g c clean =
-    IfOk-weaker c.find.result (IsFound protest_in protest_text (Text c.args.key.now.entrant ∷ Text c.args.key.now.round ∷ Text c.args.key.now.token ∷ []) (state g.S.Store c.args.conn.now) (state g.S.Store c.find.new.conn)) _ (λ found it. read_whole protest_in protest_text (Text c.args.key.now.entrant ∷ Text c.args.key.now.round ∷ Text c.args.key.now.token ∷ []) (state g.S.Store c.args.conn.now) (state g.S.Store c.find.new.conn) it.records it.are) ((rw (c.params-to_sql.ensures, c.params-to_sql-2.ensures, c.params-to_sql-3.ensures, c.as_str.ensures.text, c.as_str-2.ensures.text, c.as_str-3.ensures.text) at c.find.ensures.found) clean)
+    IfOk-weaker c.find.result (IsFound protest_in PROTEST.now (Text c.args.key.now.entrant ∷ Text c.args.key.now.round ∷ Text c.args.key.now.token ∷ []) (state g.S.Store c.args.conn.now) (state g.S.Store c.find.new.conn)) _ (λ found it. read_whole protest_in PROTEST.now (Text c.args.key.now.entrant ∷ Text c.args.key.now.round ∷ Text c.args.key.now.token ∷ []) (state g.S.Store c.args.conn.now) (state g.S.Store c.find.new.conn) it.records it.are) ((rw (c.params-to_sql.ensures, c.params-to_sql-2.ensures, c.params-to_sql-3.ensures, c.as_str.ensures.text, c.as_str-2.ensures.text, c.as_str-3.ensures.text) at c.find.ensures.found) clean)
 
 pub returns-clause-cause : goal.returns-clause-cause
 returns-clause-cause g c = rw (c.params-to_sql.ensures, c.params-to_sql-2.ensures, c.params-to_sql-3.ensures, c.as_str.ensures.text, c.as_str-2.ensures.text, c.as_str-3.ensures.text) at c.find.ensures.cause

@@ -1,5 +1,5 @@
 use Rattle.std.proofs.Common.{[], ◌∷◌}
-use Rattle.hall_sql.specs.Statements.{protests_of_text}
+use Rattle.hall_sql.specs.declared.protests.TheConstants.{PROTESTS_OF}
 use Rattle.hall_sql.specs.Rows.{protest_in}
 use Rattle.sqlite.specs.declared.types.Value.TheVariants.{Text}
 use Rattle.std.proofs.lemmas.Result.{IfOk-weaker}
@@ -15,7 +15,7 @@ read-requires-clause-asks g c = rw (c.params-to_sql.ensures, c.params-to_sql-2.e
 
 pub returns-clause-served : goal.returns-clause-served
 returns-clause-served g c =
-    told (state g.S.Store c.args.conn.now) (state g.S.Store c.read.new.conn) c.read.result (λ out. AreRead protest_in protests_of_text (Text c.args.entrant.now ∷ Text c.args.round.now ∷ []) (state g.S.Store c.args.conn.now) (state g.S.Store c.read.new.conn) out.items) _ c.requires.hall c.read.ensures.rested
+    told (state g.S.Store c.args.conn.now) (state g.S.Store c.read.new.conn) c.read.result (λ out. AreRead protest_in PROTESTS_OF.now (Text c.args.entrant.now ∷ Text c.args.round.now ∷ []) (state g.S.Store c.args.conn.now) (state g.S.Store c.read.new.conn) out.items) _ c.requires.hall c.read.ensures.rested
     (rw (c.params-to_sql.ensures, c.params-to_sql-2.ensures, c.as_str.ensures.text, c.as_str-2.ensures.text) at c.read.ensures.read) (λ out it. it.0)
     (λ out it clean opened has keyed. protests_of_listed _ (state g.S.Store c.read.new.conn) has keyed.1.1.1.1.1.0 (c.schema-schema.ensures.live opened).0
     it.1.rows out.items it.1.reads c.args.entrant.now c.args.round.now
@@ -23,7 +23,7 @@ returns-clause-served g c =
 
 pub returns-clause-whole : goal.returns-clause-whole
 returns-clause-whole g c clean =
-    IfOk-weaker c.read.result (λ out. AreRead protest_in protests_of_text (Text c.args.entrant.now ∷ Text c.args.round.now ∷ []) (state g.S.Store c.args.conn.now) (state g.S.Store c.read.new.conn) out.items) _ (λ out it. read_whole protest_in protests_of_text (Text c.args.entrant.now ∷ Text c.args.round.now ∷ []) (state g.S.Store c.args.conn.now) (state g.S.Store c.read.new.conn) out.items it) ((rw (c.params-to_sql.ensures, c.params-to_sql-2.ensures, c.as_str.ensures.text, c.as_str-2.ensures.text) at c.read.ensures.read) clean)
+    IfOk-weaker c.read.result (λ out. AreRead protest_in PROTESTS_OF.now (Text c.args.entrant.now ∷ Text c.args.round.now ∷ []) (state g.S.Store c.args.conn.now) (state g.S.Store c.read.new.conn) out.items) _ (λ out it. read_whole protest_in PROTESTS_OF.now (Text c.args.entrant.now ∷ Text c.args.round.now ∷ []) (state g.S.Store c.args.conn.now) (state g.S.Store c.read.new.conn) out.items it) ((rw (c.params-to_sql.ensures, c.params-to_sql-2.ensures, c.as_str.ensures.text, c.as_str-2.ensures.text) at c.read.ensures.read) clean)
 
 pub returns-clause-cause : goal.returns-clause-cause
 returns-clause-cause g c = rw (c.params-to_sql.ensures, c.params-to_sql-2.ensures, c.as_str.ensures.text, c.as_str-2.ensures.text) at c.read.ensures.cause

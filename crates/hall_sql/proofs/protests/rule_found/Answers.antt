@@ -6,7 +6,7 @@ use Rattle.std.proofs.Common.{arith, Some}
 use Rattle.sqlite.specs.State.{HasCleanDisk}
 use Rattle.hall_sql.proofs.Written.{rule_protest_written}
 use Rattle.hall_sql.proofs.WriteCauseLemmas.{refused_cause}
-use Rattle.hall_sql.specs.Statements.{rule_protest_text}
+use Rattle.hall_sql.specs.declared.protests.TheConstants.{RULE_PROTEST}
 use Rattle.hall_sql.specs.Columns.{ruling_params}
 use Rattle.hall_sql.proofs.protests.rule_found.Goals as goal
 
@@ -18,5 +18,5 @@ returns-in-Ok-clause-wrote g c =
 pub returns-in-Err-clause-cause : goal.returns-in-Err-clause-cause
 returns-in-Err-clause-cause g c clean failed =
     let was : HasCleanDisk (state g.S.Store c.args.conn.now) = omega (arith, c.write_ruling.ensures.lasts.clean, clean) in
-    refused_cause rule_protest_text (ruling_params c.args.key.now (Some c.args.ruling)) (state g.S.Store c.args.conn.now) (state g.S.Store c.write_ruling.new.conn) (rule_protest_written c.args.key.now (Some c.args.ruling)) c.requires.hall was
+    refused_cause RULE_PROTEST.now (ruling_params c.args.key.now (Some c.args.ruling)) (state g.S.Store c.args.conn.now) (state g.S.Store c.write_ruling.new.conn) (rule_protest_written c.args.key.now (Some c.args.ruling)) c.requires.hall was
     (c.in-Err.ensures.runs clean failed)

@@ -8,7 +8,7 @@ use Rattle.std.specs.FinMap.{get}
 use Rattle.sqlite.specs.Effect.{Database}
 use Rattle.sqlite.specs.State.{HasCleanDisk}
 use Rattle.hall_sql.specs.Rows.{world_of}
-use Rattle.hall_sql.specs.Statements.{rule_protest_text}
+use Rattle.hall_sql.specs.declared.protests.TheConstants.{RULE_PROTEST}
 use Rattle.hall_sql.specs.Columns.{ruling_params}
 use Rattle.hall_sql.proofs.WriteCauseLemmas.{run_served}
 use Rattle.hall_sql.proofs.protests.rule_protest.Goals as goal
@@ -31,6 +31,6 @@ returns-in-Some-clause-cause g c clean =
     inr (
       c.in-Some.row,
       found,
-      run_served rule_protest_text (ruling_params c.args.key.now (Some c.args.ruling)) old mid (state g.S.Store c.rule_found.new.conn)
+      run_served RULE_PROTEST.now (ruling_params c.args.key.now (Some c.args.ruling)) old mid (state g.S.Store c.rule_found.new.conn)
           c.protest.ensures.rested.follows.lasts.counts served.0 same (why failed),
     )) (c.rule_found.ensures.cause clean)

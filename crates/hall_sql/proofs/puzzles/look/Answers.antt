@@ -8,7 +8,7 @@ use Rattle.hall_sql.specs.Columns.{stands_under}
 use Rattle.hall_sql.proofs.PuzzleTexts.{look_puzzle_is}
 use Rattle.hall_sql.proofs.PuzzleWrites.{puzzle_looked}
 use Rattle.sqlite.specs.declared.types.Value.TheVariants.{Text}
-use Rattle.hall_sql.specs.Statements.{look_puzzle_text}
+use Rattle.hall_sql.specs.declared.puzzles.TheConstants.{LOOK_PUZZLE}
 use Rattle.hall_sql.proofs.CauseLemmas.{fails_as}
 use Rattle.hall_sql.proofs.StoreLemmas.{over_hall, rested_hall}
 use Rattle.hall_sql.proofs.AskedLemmas.{asked_cause}
@@ -42,5 +42,5 @@ returns-in_err-ask-clause-cause g c clean =
     let was : HasCleanDisk old = omega (arith, (rested_hall c.requires.hall c.ask.ensures.rested).follows.lasts.clean, clean) in
     fails_as c.from_residual.result _ _ c.from_residual.ensures.1 (λ failed.
     let it = rw (c.params-to_sql.ensures, c.params-to_sql-2.ensures, c.as_str.ensures.text, c.as_str-2.ensures.text) at (c.in_err-ask.ensures.cause clean failed) in
-    asked_cause look_puzzle_text (Text key.author ∷ Text key.label ∷ []) old (state g.S.Store c.ask.new.conn) it.0 (look_puzzle_asked key.author key.label)
+    asked_cause LOOK_PUZZLE.now (Text key.author ∷ Text key.label ∷ []) old (state g.S.Store c.ask.new.conn) it.0 (look_puzzle_asked key.author key.label)
     c.requires.hall was it.1 it.2)

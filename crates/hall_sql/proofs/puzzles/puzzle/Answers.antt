@@ -1,4 +1,4 @@
-use Rattle.hall_sql.specs.Statements.{puzzle_text}
+use Rattle.hall_sql.specs.declared.puzzles.TheConstants.{PUZZLE}
 use Rattle.hall_sql.specs.Rows.{puzzle_row_in}
 use Rattle.sqlite.specs.declared.types.Value.TheVariants.{Text}
 use Rattle.std.proofs.Common.{◌∙◌, [], ◌∷◌}
@@ -15,14 +15,14 @@ find-requires-clause-asks g c = rw (c.params-to_sql.ensures, c.params-to_sql-2.e
 
 pub returns-clause-served : goal.returns-clause-served
 returns-clause-served g c =
-    told (state g.S.Store c.args.conn.now) (state g.S.Store c.find.new.conn) c.find.result (IsFound puzzle_row_in puzzle_text (Text c.args.key.now.author ∷ Text c.args.key.now.label ∷ []) (state g.S.Store c.args.conn.now) (state g.S.Store c.find.new.conn)) _ c.requires.hall c.find.ensures.rested
+    told (state g.S.Store c.args.conn.now) (state g.S.Store c.find.new.conn) c.find.result (IsFound puzzle_row_in PUZZLE.now (Text c.args.key.now.author ∷ Text c.args.key.now.label ∷ []) (state g.S.Store c.args.conn.now) (state g.S.Store c.find.new.conn)) _ c.requires.hall c.find.ensures.rested
     (rw (c.params-to_sql.ensures, c.params-to_sql-2.ensures, c.as_str.ensures.text, c.as_str-2.ensures.text) at c.find.ensures.found) (λ found it. it.are.0)
     (λ found it clean opened has keyed. it.is ∙ puzzle_found c.args.key.now _ (state g.S.Store c.find.new.conn) it.are.1.rows it.records has
     it.are.1.shown it.are.1.reads it.few)
 
 pub returns-clause-whole : goal.returns-clause-whole
 returns-clause-whole g c clean =
-    IfOk-weaker c.find.result (IsFound puzzle_row_in puzzle_text (Text c.args.key.now.author ∷ Text c.args.key.now.label ∷ []) (state g.S.Store c.args.conn.now) (state g.S.Store c.find.new.conn)) _ (λ found it. read_whole puzzle_row_in puzzle_text (Text c.args.key.now.author ∷ Text c.args.key.now.label ∷ []) (state g.S.Store c.args.conn.now) (state g.S.Store c.find.new.conn) it.records it.are) ((rw (c.params-to_sql.ensures, c.params-to_sql-2.ensures, c.as_str.ensures.text, c.as_str-2.ensures.text) at c.find.ensures.found) clean)
+    IfOk-weaker c.find.result (IsFound puzzle_row_in PUZZLE.now (Text c.args.key.now.author ∷ Text c.args.key.now.label ∷ []) (state g.S.Store c.args.conn.now) (state g.S.Store c.find.new.conn)) _ (λ found it. read_whole puzzle_row_in PUZZLE.now (Text c.args.key.now.author ∷ Text c.args.key.now.label ∷ []) (state g.S.Store c.args.conn.now) (state g.S.Store c.find.new.conn) it.records it.are) ((rw (c.params-to_sql.ensures, c.params-to_sql-2.ensures, c.as_str.ensures.text, c.as_str-2.ensures.text) at c.find.ensures.found) clean)
 
 pub returns-clause-cause : goal.returns-clause-cause
 returns-clause-cause g c = rw (c.params-to_sql.ensures, c.params-to_sql-2.ensures, c.as_str.ensures.text, c.as_str-2.ensures.text) at c.find.ensures.cause

@@ -2,7 +2,7 @@ use Rattle.sqlite.specs.Held.{state}
 use Rattle.hall_sql.specs.RoundPuts.{DropsPlaces}
 use Rattle.hall_sql.proofs.InsideLemmas.{did}
 use Rattle.hall_sql.proofs.PlaceWrites.{places_dropped}
-use Rattle.hall_sql.specs.Statements.{drop_places_text}
+use Rattle.hall_sql.specs.declared.round_writes.TheConstants.{DROP_PLACES}
 use Rattle.hall_sql.proofs.CauseLemmas.{fails_as}
 use Rattle.hall_sql.proofs.Written.{drop_places_written}
 use Rattle.hall_sql.proofs.WriteCauseLemmas.{inside_cause}
@@ -19,5 +19,5 @@ returns-clause-done g c clean inside =
 pub returns-in_err-run_in-clause-cause : goal.returns-in_err-run_in-clause-cause
 returns-in_err-run_in-clause-cause g c clean goes =
     fails_as c.from_residual.result _ _ c.from_residual.ensures.1 (λ failed.
-    inside_cause drop_places_text (Text c.args.id.now ∷ []) (state g.S.Store c.args.tx.now.conn.now) (state g.S.Store c.run_in.new.tx.conn.now) (drop_places_written c.args.id.now) goes
+    inside_cause DROP_PLACES.now (Text c.args.id.now ∷ []) (state g.S.Store c.args.tx.now.conn.now) (state g.S.Store c.run_in.new.tx.conn.now) (drop_places_written c.args.id.now) goes
     (rw (c.params-to_sql.ensures, c.as_str.ensures.text) at (c.in_err-run_in.ensures.cause clean goes.mode failed)))

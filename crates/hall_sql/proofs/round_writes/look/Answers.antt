@@ -4,7 +4,7 @@ use Rattle.hall_sql.specs.Inside.{Did}
 use Rattle.hall_sql.specs.RoundPuts.{CountsHeads}
 use Rattle.hall_sql.proofs.RoundWrites.{head_counted}
 use Rattle.sqlite.specs.declared.types.Value.TheVariants.{Text}
-use Rattle.hall_sql.specs.Statements.{look_head_text}
+use Rattle.hall_sql.specs.declared.round_writes.TheConstants.{LOOK_HEAD}
 use Rattle.hall_sql.proofs.CauseLemmas.{fails_as}
 use Rattle.hall_sql.proofs.Written.{look_head_asked}
 use Rattle.hall_sql.proofs.WriteCauseLemmas.{asked_inside}
@@ -21,5 +21,5 @@ returns-clause-done g c clean inside =
 pub returns-in_err-ask_in-clause-cause : goal.returns-in_err-ask_in-clause-cause
 returns-in_err-ask_in-clause-cause g c clean goes =
     fails_as c.from_residual.result _ _ c.from_residual.ensures.1 (λ failed.
-    asked_inside look_head_text (Text c.args.id.now ∷ []) (state g.S.Store c.args.tx.now.conn.now) (state g.S.Store c.ask_in.new.tx.conn.now) (look_head_asked c.args.id.now) goes
+    asked_inside LOOK_HEAD.now (Text c.args.id.now ∷ []) (state g.S.Store c.args.tx.now.conn.now) (state g.S.Store c.ask_in.new.tx.conn.now) (look_head_asked c.args.id.now) goes
     (rw (c.params-to_sql.ensures, c.as_str.ensures.text) at (c.in_err-ask_in.ensures.cause clean failed)))

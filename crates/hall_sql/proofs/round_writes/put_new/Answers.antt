@@ -2,7 +2,7 @@ use Rattle.hall_sql.proofs.RoundWrites.{head_added, head_inserted}
 use Rattle.hall_sql.specs.Fill.{AddsHead}
 use Rattle.hall_sql.proofs.InsideLemmas.{did}
 use Rattle.sqlite.specs.Held.{state}
-use Rattle.hall_sql.specs.Statements.{add_head_text}
+use Rattle.hall_sql.specs.declared.round_writes.TheConstants.{ADD_HEAD}
 use Rattle.hall_sql.proofs.CauseLemmas.{fails_as}
 use Rattle.hall_sql.proofs.Written.{add_head_written}
 use Rattle.hall_sql.proofs.WriteCauseLemmas.{inside_cause}
@@ -23,5 +23,5 @@ returns-clause-added g c clean inside =
 pub returns-in_err-run_in-clause-cause : goal.returns-in_err-run_in-clause-cause
 returns-in_err-run_in-clause-cause g c clean goes =
     fails_as c.from_residual.result _ _ c.from_residual.ensures.1 (λ failed.
-    inside_cause add_head_text (head_params c.args.round.now) (state g.S.Store c.args.tx.now.conn.now) (state g.S.Store c.run_in.new.tx.conn.now) (add_head_written c.args.round.now) goes
+    inside_cause ADD_HEAD.now (head_params c.args.round.now) (state g.S.Store c.args.tx.now.conn.now) (state g.S.Store c.run_in.new.tx.conn.now) (add_head_written c.args.round.now) goes
     (rw c.columns.ensures at (c.in_err-run_in.ensures.cause clean goes.mode failed)))

@@ -2,7 +2,7 @@ use Rattle.sqlite.specs.Held.{state}
 use Rattle.hall_sql.specs.RoundPuts.{PutsPlace}
 use Rattle.hall_sql.proofs.InsideLemmas.{did}
 use Rattle.hall_sql.proofs.PlaceWrites.{place_added}
-use Rattle.hall_sql.specs.Statements.{add_place_text}
+use Rattle.hall_sql.specs.declared.round_writes.TheConstants.{ADD_PLACE}
 use Rattle.hall_sql.proofs.CauseLemmas.{fails_as}
 use Rattle.hall_sql.proofs.Written.{add_place_written}
 use Rattle.hall_sql.proofs.WriteCauseLemmas.{inside_cause}
@@ -29,7 +29,7 @@ returns-clause-done g c clean inside =
 pub returns-in_err-run_in-clause-cause : goal.returns-in_err-run_in-clause-cause
 returns-in_err-run_in-clause-cause g c clean goes =
     fails_as c.from_residual.result _ _ c.from_residual.ensures.1 (λ failed.
-    inside_cause add_place_text (place_params c.args.id.now c.args.number c.args.entry.now) (state g.S.Store c.args.tx.now.conn.now) (state g.S.Store c.run_in.new.tx.conn.now) (add_place_written c.args.id.now c.args.number c.args.entry.now) goes
+    inside_cause ADD_PLACE.now (place_params c.args.id.now c.args.number c.args.entry.now) (state g.S.Store c.args.tx.now.conn.now) (state g.S.Store c.run_in.new.tx.conn.now) (add_place_written c.args.id.now c.args.number c.args.entry.now) goes
     (rw (
       c.params-to_sql.ensures,
       c.params-to_sql-2.ensures,

@@ -1,4 +1,4 @@
-use Rattle.std.proofs.Common.{rules, Ok, Err}
+use Rattle.std.proofs.Common.{rules, ◌≡◌, Ok, Err, sym, subst}
 use Rattle.sqlite.specs.Held.{state}
 use Rattle.sqlite.specs.State.{HasCleanDisk}
 use Rattle.hall_store.specs.declared.change.Change.TheVariants.{PutRound}
@@ -29,8 +29,9 @@ returns-in-Ok-clause-rows g c =
 
 pub returns-in-Err-clause-wrote : goal.returns-in-Err-clause-wrote
 returns-in-Err-clause-wrote g c =
+    let same : c.conn-2-1.given.0 ≡ c.commit.new.self.0 = search rules in
     let it = rw c.transaction-tx.ensures.begun at c.in_ok-put_inside.ensures in
-    let done : Wrote {R = Unit} (PutRound c.args.row.now) (state g.S.Store c.args.conn.now) _ (Err c.fault_of.result) =
-    refused_wrote g.S.Store c.args.conn.now c.requires.hall (PutRound c.args.row.now) c.fault_of.result c.in-Err.error _ (state g.S.Store c.put_inside.new.tx.conn.now) _
-    it.carries it.done (survived _ _ _ c.in-Err.ensures.survives) c.in-Err.ensures.ended c.in-Err.ensures.err in
-    search rules
+    let end = state g.S.Store c.commit.new.self.0 in
+    subst (λ h. Wrote {R = Unit} {E = StoreFault} (PutRound c.args.row.now) (state g.S.Store c.args.conn.now) (state g.S.Store h) (Err c.fault_of.result)) (sym same)
+    (refused_wrote g.S.Store c.args.conn.now c.requires.hall (PutRound c.args.row.now) c.fault_of.result c.in-Err.error _ (state g.S.Store c.put_inside.new.tx.conn.now) end
+    it.carries it.done (survived _ _ _ c.in-Err.ensures.survives) c.in-Err.ensures.ended c.in-Err.ensures.err)

@@ -4,7 +4,7 @@ use Rattle.hall_sql.proofs.RoundWrites.{head_flagged}
 use Rattle.hall_sql.proofs.WriteLemmas.{made_wrote}
 use Rattle.std.proofs.Common.{arith}
 use Rattle.sqlite.specs.State.{HasCleanDisk}
-use Rattle.hall_sql.specs.Statements.{replace_head_text}
+use Rattle.hall_sql.specs.declared.round_writes.TheConstants.{REPLACE_HEAD}
 use Rattle.hall_sql.specs.RoundColumns.{head_params}
 use Rattle.hall_store.specs.Change.{flagged}
 use Rattle.hall_sql.proofs.Written.{replace_head_written}
@@ -20,5 +20,5 @@ pub returns-clause-cause : goal.returns-clause-cause
 returns-clause-cause g c clean failed =
     let put = flagged c.args.flag c.args.round in
     let was : HasCleanDisk (state g.S.Store c.args.conn.now) = omega (arith, c.run.ensures.lasts.clean, clean) in
-    refused_cause replace_head_text (head_params put) (state g.S.Store c.args.conn.now) (state g.S.Store c.run.new.conn) (replace_head_written put) c.requires.hall was
+    refused_cause REPLACE_HEAD.now (head_params put) (state g.S.Store c.args.conn.now) (state g.S.Store c.run.new.conn) (replace_head_written put) c.requires.hall was
     (rw (c.columns.ensures, c.flagged-flagged.ensures) at (c.in-Err.ensures.runs clean failed))

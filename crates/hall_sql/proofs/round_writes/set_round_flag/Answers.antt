@@ -10,7 +10,7 @@ use Rattle.sqlite.specs.State.{HasCleanDisk}
 use Rattle.std.specs.FinMap.{get}
 use Rattle.sqlite.specs.Effect.{Database}
 use Rattle.std.proofs.lemmas.Result.{IfErr-weaker}
-use Rattle.hall_sql.specs.Statements.{replace_head_text}
+use Rattle.hall_sql.specs.declared.round_writes.TheConstants.{REPLACE_HEAD}
 use Rattle.hall_sql.specs.RoundColumns.{head_params}
 use Rattle.hall_sql.proofs.WriteCauseLemmas.{run_served}
 use Rattle.hall_sql.proofs.round_writes.set_round_flag.Goals as goal
@@ -44,6 +44,6 @@ returns-in-Some-clause-cause g c clean =
     inr (
       c.in-Some.round,
       found,
-      run_served replace_head_text (head_params (flagged c.args.flag c.in-Some.round)) old mid (state g.S.Store c.set_flag.new.conn)
+      run_served REPLACE_HEAD.now (head_params (flagged c.args.flag c.in-Some.round)) old mid (state g.S.Store c.set_flag.new.conn)
           c.head.ensures.rested.follows.lasts.counts served.0 same (why failed),
     )) (c.set_flag.ensures.cause clean)

@@ -2,7 +2,7 @@ use Rattle.std.proofs.Common.{[]}
 use Rattle.sqlite.specs.Held.{state}
 use Rattle.hall_sql.specs.Cause.{AreRead}
 use Rattle.hall_sql.specs.Rows.{place_in}
-use Rattle.hall_sql.specs.Statements.{all_places_text}
+use Rattle.hall_sql.specs.declared.rounds.TheConstants.{ALL_PLACES}
 use Rattle.hall_sql.proofs.RoundQueries.{all_places_are}
 use Rattle.hall_sql.proofs.PlaceListings.{all_places_listed}
 use Rattle.std.proofs.lemmas.Result.{IfOk-weaker}
@@ -15,14 +15,14 @@ read_any-requires g c = record { asks = over_any c.requires.hall (λ schema vers
 
 pub returns-clause-served : goal.returns-clause-served
 returns-clause-served g c =
-    told_any (state g.S.Store c.args.conn.now) (state g.S.Store c.read_any.new.conn) c.read_any.result (λ out. AreRead place_in all_places_text [] (state g.S.Store c.args.conn.now) (state g.S.Store c.read_any.new.conn) out.items) _ c.requires.hall
+    told_any (state g.S.Store c.args.conn.now) (state g.S.Store c.read_any.new.conn) c.read_any.result (λ out. AreRead place_in ALL_PLACES.now [] (state g.S.Store c.args.conn.now) (state g.S.Store c.read_any.new.conn) out.items) _ c.requires.hall
     c.read_any.ensures.rested c.read_any.ensures.read (λ out it. it.0)
     (λ out it opened schema version has keyed. all_places_listed schema version _ (state g.S.Store c.read_any.new.conn) has keyed (c.schema-schema.ensures.live opened).0
     it.1.rows out.items it.1.reads it.1.shown)
 
 pub returns-clause-whole : goal.returns-clause-whole
 returns-clause-whole g c clean =
-    IfOk-weaker c.read_any.result (λ out. AreRead place_in all_places_text [] (state g.S.Store c.args.conn.now) (state g.S.Store c.read_any.new.conn) out.items) _ (λ out it. read_whole place_in all_places_text [] (state g.S.Store c.args.conn.now) (state g.S.Store c.read_any.new.conn) out.items it) (c.read_any.ensures.read clean)
+    IfOk-weaker c.read_any.result (λ out. AreRead place_in ALL_PLACES.now [] (state g.S.Store c.args.conn.now) (state g.S.Store c.read_any.new.conn) out.items) _ (λ out it. read_whole place_in ALL_PLACES.now [] (state g.S.Store c.args.conn.now) (state g.S.Store c.read_any.new.conn) out.items it) (c.read_any.ensures.read clean)
 
 pub returns-clause-cause : goal.returns-clause-cause
 returns-clause-cause g c = c.read_any.ensures.cause

@@ -1,4 +1,4 @@
-use Rattle.hall_sql.specs.Statements.{head_text}
+use Rattle.hall_sql.specs.declared.rounds.TheConstants.{HEAD}
 use Rattle.hall_sql.specs.Rows.{round_in}
 use Rattle.sqlite.specs.declared.types.Value.TheVariants.{Text}
 use Rattle.std.proofs.Common.{arith, ◌≡◌, ◌∙◌, [], ◌∷◌}
@@ -17,7 +17,7 @@ find-requires-clause-asks g c = rw (c.params-to_sql.ensures, c.as_str.ensures.te
 
 pub returns-clause-served : goal.returns-clause-served
 returns-clause-served g c =
-    told (state g.S.Store c.args.conn.now) (state g.S.Store c.find.new.conn) c.find.result (IsFound round_in head_text (Text c.args.id.now ∷ []) (state g.S.Store c.args.conn.now) (state g.S.Store c.find.new.conn)) _ c.requires.hall c.find.ensures.rested
+    told (state g.S.Store c.args.conn.now) (state g.S.Store c.find.new.conn) c.find.result (IsFound round_in HEAD.now (Text c.args.id.now ∷ []) (state g.S.Store c.args.conn.now) (state g.S.Store c.find.new.conn)) _ c.requires.hall c.find.ensures.rested
     (rw (c.params-to_sql.ensures, c.as_str.ensures.text) at c.find.ensures.found) (λ found it. it.are.0)
     (λ found it clean opened has keyed. it.is ∙ head_found c.args.id.now _ (state g.S.Store c.find.new.conn) it.are.1.rows it.records has
     it.are.1.shown it.are.1.reads it.few)
@@ -28,7 +28,7 @@ returns-clause-alone g c clean =
     let new = state g.S.Store c.find.new.conn in
     let rested = c.find.ensures.rested in
     let was : HasCleanDisk old = omega (arith, rested.follows.lasts.clean, clean) in
-    IfOk-weaker c.find.result (IsFound round_in head_text (Text c.args.id.now ∷ []) old new) _ (λ found it.
+    IfOk-weaker c.find.result (IsFound round_in HEAD.now (Text c.args.id.now ∷ []) old new) _ (λ found it.
     let has : old.now.schema ≡ hall_schema = (c.requires.hall.settled was (rested.follows.opened clean it.are.0)).1 in
     head_stays c.args.id.now old new found (rested.same clean it.are.0)
     (head_alone c.args.id.now old new it.are.1.rows it.records found has it.are.1.shown it.are.1.reads it.few it.is))
@@ -36,7 +36,7 @@ returns-clause-alone g c clean =
 
 pub returns-clause-whole : goal.returns-clause-whole
 returns-clause-whole g c clean =
-    IfOk-weaker c.find.result (IsFound round_in head_text (Text c.args.id.now ∷ []) (state g.S.Store c.args.conn.now) (state g.S.Store c.find.new.conn)) _ (λ found it. read_whole round_in head_text (Text c.args.id.now ∷ []) (state g.S.Store c.args.conn.now) (state g.S.Store c.find.new.conn) it.records it.are) ((rw (c.params-to_sql.ensures, c.as_str.ensures.text) at c.find.ensures.found) clean)
+    IfOk-weaker c.find.result (IsFound round_in HEAD.now (Text c.args.id.now ∷ []) (state g.S.Store c.args.conn.now) (state g.S.Store c.find.new.conn)) _ (λ found it. read_whole round_in HEAD.now (Text c.args.id.now ∷ []) (state g.S.Store c.args.conn.now) (state g.S.Store c.find.new.conn) it.records it.are) ((rw (c.params-to_sql.ensures, c.as_str.ensures.text) at c.find.ensures.found) clean)
 
 pub returns-clause-cause : goal.returns-clause-cause
 returns-clause-cause g c = rw (c.params-to_sql.ensures, c.as_str.ensures.text) at c.find.ensures.cause

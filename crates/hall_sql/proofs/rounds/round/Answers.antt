@@ -8,7 +8,8 @@ use Rattle.sqlite.specs.State.{HasCleanDisk}
 use Rattle.hall_sql.specs.Places.{AreListed}
 use Rattle.hall_sql.specs.Rows.{place_in, tester_in, world_of}
 use Rattle.hall_sql.specs.Cause.{HasNoRound}
-use Rattle.hall_sql.specs.Statements.{head_text, places_of_text, testers_of_text}
+use Rattle.hall_sql.specs.declared.rounds.TheConstants.{HEAD, PLACES_OF}
+use Rattle.hall_sql.specs.declared.testers.TheConstants.{TESTERS_OF}
 use Rattle.hall_sql.proofs.CauseLemmas.{fails_as}
 use Rattle.hall_sql.proofs.HeadTexts.{head_asked}
 use Rattle.hall_sql.proofs.ReadCauseLemmas.{after_shown}
@@ -72,7 +73,7 @@ returns-in_err-places-clause-cause g c clean =
     let opens = rested.follows.opened late (c.in_ok-head.ensures.served late).0 in
     let whole = c.in_ok-head.ensures.whole late in
     fails_as c.from_residual-in_err-places.result _ _ c.from_residual-in_err-places.ensures.1 (λ failed.
-    inr (inl (after_shown place_in head_text (Text id ∷ []) places_of_text (Text id ∷ []) old mid (state g.S.Store c.places_of.new.conn)
+    inr (inl (after_shown place_in HEAD.now (Text id ∷ []) PLACES_OF.now (Text id ∷ []) old mid (state g.S.Store c.places_of.new.conn)
     (c.requires.hall.settled was opens).1 (head_asked id).plain (places_of_asked id).plain rested.follows.lasts.counts whole.rows whole.shown
     (c.in_err-places.ensures.cause clean failed))))
 
@@ -93,9 +94,9 @@ returns-in_err-names-clause-cause g c clean =
     let head = c.in_ok-head.ensures.whole late in
     let places = c.in_ok-places.ensures.whole last in
     fails_as c.from_residual-in_err-names.result _ _ c.from_residual-in_err-names.ensures.1 (λ failed.
-    inr (inr (inl (after_shown tester_in head_text (Text id ∷ []) testers_of_text (Text id ∷ []) old headed new
+    inr (inr (inl (after_shown tester_in HEAD.now (Text id ∷ []) TESTERS_OF.now (Text id ∷ []) old headed new
     (c.requires.hall.settled was opens).1 (head_asked id).plain (testers_of_asked id).plain first.follows.lasts.counts head.rows head.shown
-    (after_shown tester_in places_of_text (Text id ∷ []) testers_of_text (Text id ∷ []) headed listed new
+    (after_shown tester_in PLACES_OF.now (Text id ∷ []) TESTERS_OF.now (Text id ∷ []) headed listed new
     (first.tabled.settled late opened).1 (places_of_asked id).plain (testers_of_asked id).plain second.follows.lasts.counts places.rows places.shown
     (c.in_err-names.ensures.cause clean failed))))))
 

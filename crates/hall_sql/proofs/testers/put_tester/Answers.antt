@@ -2,7 +2,7 @@ use Rattle.sqlite.specs.Held.{state}
 use Rattle.hall_sql.specs.RoundPuts.{PutsTester}
 use Rattle.hall_sql.proofs.InsideLemmas.{did}
 use Rattle.hall_sql.proofs.TesterWrites.{tester_added}
-use Rattle.hall_sql.specs.Statements.{add_tester_text}
+use Rattle.hall_sql.specs.declared.testers.TheConstants.{ADD_TESTER}
 use Rattle.hall_sql.proofs.CauseLemmas.{fails_as}
 use Rattle.hall_sql.proofs.Written.{add_tester_written}
 use Rattle.hall_sql.proofs.WriteCauseLemmas.{inside_cause}
@@ -19,5 +19,5 @@ returns-clause-done g c clean inside =
 pub returns-in_err-run_in-clause-cause : goal.returns-in_err-run_in-clause-cause
 returns-in_err-run_in-clause-cause g c clean goes =
     fails_as c.from_residual.result _ _ c.from_residual.ensures.1 (λ failed.
-    inside_cause add_tester_text (tester_params c.args.round.now c.args.name.now) (state g.S.Store c.args.tx.now.conn.now) (state g.S.Store c.run_in.new.tx.conn.now) (add_tester_written c.args.round.now c.args.name.now) goes
+    inside_cause ADD_TESTER.now (tester_params c.args.round.now c.args.name.now) (state g.S.Store c.args.tx.now.conn.now) (state g.S.Store c.run_in.new.tx.conn.now) (add_tester_written c.args.round.now c.args.name.now) goes
     (rw (c.params-to_sql.ensures, c.params-to_sql-2.ensures, c.as_str.ensures.text, c.as_str-2.ensures.text) at (c.in_err-run_in.ensures.cause clean goes.mode failed)))
