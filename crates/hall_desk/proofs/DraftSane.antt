@@ -24,7 +24,7 @@ use Rattle.hall_store.specs.Change.{CanPutRound, relisted, retested}
 use Rattle.hall_store.proofs.Inserts.{keys_apart, found_after, others_stay, inserted_there, still_there}
 use Rattle.hall_store.proofs.Changes.{get-relisted, get-retested, if_named, if_named-Contains}
 use Rattle.hall_store.proofs.Tests.{not_true}
-use Rattle.hall_desk.specs.Found.{IsReleasedRound}
+use Rattle.hall_desk.specs.Lookups.{IsReleasedRound}
 use Rattle.hall_desk.specs.Step.{Allowed, draft_of}
 use Rattle.hall_desk.specs.Sane.{Sane, RefersToRows, MayTakePart}
 use Rattle.hall_desk.specs.declared.reply.Reply.{Reply}

@@ -8,7 +8,7 @@ pub mod Submitting
 pub mod Protesting
 pub mod RulingProtest
 pub mod EmptySane
-mod Planning
+mod PlanLemmas
 pub mod TablePlans
 pub mod Totalled
 pub mod Truths

@@ -19,7 +19,7 @@ use Rattle.hall_policy.specs.declared.request.Action.TheVariants as action
 use Rattle.hall_policy.proofs.Maps.{count_by-insert_new, count_by-insert_alike}
 use Rattle.hall_policy.proofs.Orders.{protest_total, same_protest_keys}
 use Rattle.hall_store.proofs.Inserts.{found_after}
-use Rattle.hall_desk.specs.Found.{IsReleasedRound}
+use Rattle.hall_desk.specs.Lookups.{IsReleasedRound}
 use Rattle.hall_desk.specs.Step.{Allowed, open_protest}
 use Rattle.hall_desk.specs.Sane.{Sane, RefersToRows, HasPlace, MayTakePart}
 use Rattle.hall_desk.specs.declared.reply.Reply.{Reply}

@@ -10,10 +10,10 @@ use Rattle.hall_policy.specs.declared.record.RoundRow.{RoundRow}
 use Rattle.hall_store.specs.Change.{changed, CanMake, CanAddProtest}
 use Rattle.hall_store.specs.declared.change.Change.{Change}
 use Rattle.hall_store.specs.declared.change.Change.TheVariants.{AddProtest}
-use Rattle.hall_desk.specs.Found.{IsThere}
+use Rattle.hall_desk.specs.Lookups.{IsThere}
 use Rattle.hall_desk.specs.Handler.{protest_action, protest_row}
 use Rattle.hall_desk.specs.Plans.{IsMadePlan}
-use Rattle.hall_desk.specs.declared.planned.Plan.{Plan}
+use Rattle.hall_desk.specs.declared.plan.Plan.{Plan}
 use Rattle.hall_desk.specs.declared.protest.Protest.{Protest}
 use Rattle.hall_desk.specs.declared.reply.Reply.TheVariants as reply
 

@@ -13,7 +13,7 @@ use Rattle.hall_policy.specs.declared.record.Entry.{Entry}
 use Rattle.hall_policy.specs.declared.record.RoundRow.{RoundRow}
 use Rattle.hall_policy.specs.declared.record.PuzzleKey.{PuzzleKey}
 use Rattle.hall_store.specs.Store.{AreUsing}
-use Rattle.hall_desk.specs.Found.{IsReleasedRound, HasFault, HasFaultyEntry}
+use Rattle.hall_desk.specs.Lookups.{IsReleasedRound, HasFault, HasFaultyEntry}
 use Rattle.hall_desk.specs.Sane.{MayTakePart}
 use Rattle.hall_desk.specs.declared.entry_fault.EntryFault.{EntryFault}
 use Rattle.hall_policy.proofs.Texts.{text_decides}

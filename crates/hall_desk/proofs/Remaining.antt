@@ -33,7 +33,7 @@ use Rattle.hall_grid.specs.Board.{Board}
 use Rattle.hall_policy.proofs.Orders.{text_total, same_texts, puzzle_total, same_puzzle_keys, answer_total, same_answer_keys, protest_total, same_protest_keys}
 use Rattle.hall_store.specs.Caller.{with_key, caller_of}
 use Rattle.hall_store.specs.Change.{with_person, with_people, relisted, retested}
-use Rattle.hall_desk.specs.Found.{IsReleasedRound}
+use Rattle.hall_desk.specs.Lookups.{IsReleasedRound}
 use Rattle.hall_desk.specs.Step.{Step, Seed, Allowed, IsSearched, IsFound, is_open, new_row, draft_of, answer_row, open_protest}
 use Rattle.hall_desk.specs.History.{Event, requested, seeded, Happens}
 use Rattle.hall_desk.specs.Records.{StaysReleased, StaysProtested, StaysListed, Remains, RecordsStay, ReleasedPuzzlesStay}

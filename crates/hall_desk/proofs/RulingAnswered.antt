@@ -13,7 +13,7 @@ use Rattle.hall_policy.specs.declared.record.PuzzleState.TheVariants as state
 use Rattle.hall_policy.specs.declared.record.Ruling.{Ruling}
 use Rattle.hall_policy.specs.declared.request.Action.TheVariants as action
 use Rattle.hall_store.specs.Caller.{caller_of}
-use Rattle.hall_desk.specs.Found.{IsReleasedRound}
+use Rattle.hall_desk.specs.Lookups.{IsReleasedRound}
 use Rattle.hall_desk.specs.Step.{Step}
 use Rattle.hall_desk.specs.ProtestPromises.{RulingRetriesAreAnswered}
 use Rattle.hall_desk.specs.declared.reply.Reply.TheVariants as reply

@@ -12,7 +12,7 @@ use Rattle.hall_store.specs.declared.change.Change.{Change}
 use Rattle.hall_store.specs.declared.change.Change.TheVariants as change
 use Rattle.hall_desk.specs.Handler.{rule_protest_action, ruled_key}
 use Rattle.hall_desk.specs.Plans.{IsMadePlan}
-use Rattle.hall_desk.specs.declared.planned.Plan.{Plan}
+use Rattle.hall_desk.specs.declared.plan.Plan.{Plan}
 use Rattle.hall_desk.specs.declared.reply.Reply.TheVariants as reply
 use Rattle.hall_desk.specs.declared.rule_protest.RuleProtest.{RuleProtest}
 

@@ -15,7 +15,7 @@ use Rattle.hall_policy.specs.declared.request.Action.TheVariants as action
 use Rattle.hall_policy.proofs.Maps.{get-insert_same}
 use Rattle.hall_policy.proofs.Orders.{protest_total}
 use Rattle.hall_store.specs.Caller.{caller_of}
-use Rattle.hall_desk.specs.Found.{IsReleasedRound}
+use Rattle.hall_desk.specs.Lookups.{IsReleasedRound}
 use Rattle.hall_desk.specs.History.{Event, History}
 use Rattle.hall_desk.specs.Records.{Remains}
 use Rattle.hall_desk.specs.Step.{Step}

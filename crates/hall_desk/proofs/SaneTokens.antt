@@ -7,7 +7,7 @@ use Rattle.hall_policy.specs.declared.record.Person.{Person}
 use Rattle.hall_policy.specs.declared.record.Entry.{Entry}
 use Rattle.hall_policy.specs.declared.request.Action.{Action}
 use Rattle.hall_policy.specs.declared.request.Action.TheVariants as action
-use Rattle.hall_desk.specs.Found.{IsReleasedRound}
+use Rattle.hall_desk.specs.Lookups.{IsReleasedRound}
 use Rattle.hall_desk.specs.Sane.{MayTakePart}
 use Rattle.hall_desk.specs.Promises.{IsDeniedEarlier, SaneTokensActOnce, SaneProtestTokensActOnce}
 use Rattle.hall_desk.specs.declared.reply.Reply.TheVariants as reply

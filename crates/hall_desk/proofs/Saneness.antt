@@ -16,7 +16,7 @@ use Rattle.hall_policy.proofs.Orders.{puzzle_total, same_puzzle_keys, answer_tot
 use Rattle.hall_policy.proofs.Texts.{text_decides}
 use Rattle.hall_store.proofs.Inserts.{found_after, others_stay, still_there}
 use Rattle.std.specs.Cmp.{unsigned_Decides}
-use Rattle.hall_desk.specs.Found.{IsReleasedRound}
+use Rattle.hall_desk.specs.Lookups.{IsReleasedRound}
 use Rattle.hall_desk.specs.Sane.{Sane, RefersToRows, IsTrueState, IsVerdictAt, HasPlace, MayTakePart}
 
 and_all : (a b c : Bool) → a ≡ true → b ≡ true → c ≡ true → (a && (b && c)) ≡ true

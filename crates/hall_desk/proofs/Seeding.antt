@@ -20,7 +20,7 @@ use Rattle.hall_desk.specs.Sane.{Sane}
 use Rattle.hall_desk.specs.Plans.{IsMadePlan, IsImportPlan, IsSeedPlan, IsSeedReply, Seeds}
 use Rattle.hall_desk.specs.declared.reply.Reply.{Reply}
 use Rattle.hall_desk.specs.declared.reply.Reply.TheVariants.{Denied}
-use Rattle.hall_desk.specs.declared.planned.Plan.{Plan}
+use Rattle.hall_desk.specs.declared.plan.Plan.{Plan}
 use Rattle.hall_desk.proofs.ImportSane.{people_sane}
 use Rattle.hall_desk.proofs.Stepping.{committed, quiet_commit}
 

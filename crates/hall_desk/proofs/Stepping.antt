@@ -9,7 +9,7 @@ use Rattle.hall_desk.specs.Plans.{IsPlanFor, IsQuiet, Planned, Steps, WritesIfAn
 use Rattle.hall_store.specs.declared.change.Change.{Change}
 use Rattle.hall_store.specs.declared.change.Change.TheVariants.{Nothing}
 use Rattle.hall_desk.specs.declared.reply.Reply.{Reply}
-use Rattle.hall_desk.specs.declared.planned.Plan.{Plan}
+use Rattle.hall_desk.specs.declared.plan.Plan.{Plan}
 
 -- what a commit makes of the world of a store that served before
 pub committed : {S R : Type 0} (E : Type 0) (content : S → Content) (old new : S) (change : Change) (done : R) → (change ≡ Nothing → new ≡ old)

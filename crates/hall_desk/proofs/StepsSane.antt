@@ -27,7 +27,7 @@ use Rattle.hall_desk.specs.Run.{IsTimed, Run}
 use Rattle.hall_store.specs.Store.{Content, Asks}
 use Rattle.hall_desk.specs.Plan.{planned_change}
 use Rattle.hall_desk.specs.Plans.{Planned, Steps}
-use Rattle.hall_desk.specs.declared.planned.Plan.{Plan}
+use Rattle.hall_desk.specs.declared.plan.Plan.{Plan}
 use Rattle.hall_store.specs.Change.{changed}
 use Rattle.hall_desk.specs.Sane.{Sane}
 use Rattle.hall_desk.specs.declared.reply.Reply.{Reply}

@@ -13,12 +13,12 @@ use Rattle.hall_store.specs.Store.{IsNumberTaken}
 use Rattle.hall_store.specs.Change.{changed, CanMake, CanAddAnswer}
 use Rattle.hall_store.specs.declared.change.Change.{Change}
 use Rattle.hall_store.specs.declared.change.Change.TheVariants.{AddAnswer}
-use Rattle.hall_desk.specs.Found.{IsThere}
+use Rattle.hall_desk.specs.Lookups.{IsThere}
 use Rattle.hall_desk.specs.Handler.{submit_action, submitted_key, submitted_row}
 use Rattle.hall_desk.specs.Plans.{IsMadePlan, IsJudgedAt}
 use Rattle.hall_desk.specs.Sane.{Sane}
 use Rattle.hall_desk.specs.Shown.{told_verdict}
-use Rattle.hall_desk.specs.declared.planned.Plan.{Plan}
+use Rattle.hall_desk.specs.declared.plan.Plan.{Plan}
 use Rattle.hall_desk.specs.declared.reply.Reply.{Reply}
 use Rattle.hall_desk.specs.declared.reply.Reply.TheVariants as reply
 use Rattle.hall_desk.specs.declared.submit.Submit.{Submit}

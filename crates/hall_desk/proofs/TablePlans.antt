@@ -14,13 +14,13 @@ use Rattle.hall_policy.specs.declared.rule.Decision.TheVariants.{Allow, Deny}
 use Rattle.hall_store.specs.Store.{Content, Kept, Asks, IsRoundKept}
 use Rattle.hall_store.specs.declared.change.Change.TheVariants.{Nothing}
 use Rattle.hall_store.proofs.Knowing.{carried}
-use Rattle.hall_desk.specs.Found.{IsCaller}
+use Rattle.hall_desk.specs.Lookups.{IsCaller}
 use Rattle.hall_desk.specs.Totals.{IsTableAt}
 use Rattle.hall_desk.specs.Step.{Allowed}
 use Rattle.hall_desk.specs.Plans.{IsPlanFor, HasSearched}
-use Rattle.hall_desk.specs.declared.planned.Plan.{Plan}
+use Rattle.hall_desk.specs.declared.plan.Plan.{Plan}
 use Rattle.hall_desk.specs.declared.reply.Reply.TheVariants as reply
-use Rattle.hall_desk.proofs.Planning.{planned}
+use Rattle.hall_desk.proofs.PlanLemmas.{planned}
 use Rattle.hall_desk.proofs.Telling.{table_told}
 
 module _ (old mid : Content) (facts : Facts) (t : ℕ) (request : Request) (id : List ℕ) (is : request.action ≡ Table id)

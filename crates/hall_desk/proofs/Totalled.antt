@@ -43,7 +43,7 @@ use Rattle.std.proofs.Common.{get_or, set}
 use Rattle.std.specs.List.{swap}
 use Rattle.hall_score.proofs.Permuted.{total_of_permutes}
 use Rattle.hall_policy.specs.Rules.{protests_made}
-use Rattle.hall_desk.proofs.Planning.{filter_alike}
+use Rattle.hall_desk.proofs.PlanLemmas.{filter_alike}
 
 -- the order of listings is total
 listing_total : IsTotalOrder listing_cmp

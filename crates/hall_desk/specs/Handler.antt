@@ -16,7 +16,7 @@ use Rattle.hall_desk.specs.declared.protest.Protest.{Protest}
 use Rattle.hall_desk.specs.declared.rule_protest.RuleProtest.{RuleProtest}
 use Rattle.hall_desk.specs.declared.import.Import.{Import}
 use Rattle.hall_desk.specs.declared.put_puzzle.PutPuzzle.{PutPuzzle}
-use Rattle.hall_desk.specs.declared.certify.Certify.{Certify}
+use Rattle.hall_desk.specs.declared.certify_puzzle.Certify.{Certify}
 use Rattle.hall_desk.specs.declared.put_round.PutRound.{PutRound}
 use Rattle.hall_desk.specs.declared.release.Release.{Release}
 use Rattle.hall_desk.specs.declared.read_round.ReadRound.{ReadRound}

@@ -1,10 +1,10 @@
 pub mod Census
 pub mod Desk
-pub mod Found
+pub mod Lookups
 pub mod Shown
 pub mod Lines
 pub mod Totals
-pub mod Copied
+pub mod TableCopy
 pub mod Judged
 pub mod Step
 pub mod Run

@@ -1,5 +1,5 @@
 -- What a plan holds.
-use Rattle.hall_desk.specs.declared.planned.Plan.{Plan}
+use Rattle.hall_desk.specs.declared.plan.Plan.{Plan}
 use Rattle.hall_desk.specs.declared.reply.Reply.{Reply}
 use Rattle.hall_store.specs.declared.change.Change.{Change}
 

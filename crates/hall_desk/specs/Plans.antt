@@ -38,7 +38,7 @@ use Rattle.hall_desk.specs.Step.{Step, Seed, IsAnswered, Allowed, is_open, unkno
 use Rattle.hall_desk.specs.Run.{Run}
 use Rattle.hall_desk.specs.declared.reply.Reply.{Reply}
 use Rattle.hall_desk.specs.declared.reply.Reply.TheVariants as reply
-use Rattle.hall_desk.specs.declared.planned.Plan.{Plan}
+use Rattle.hall_desk.specs.declared.plan.Plan.{Plan}
 
 -- the action has nothing to write where it is allowed: it only reads, or the same puzzle stands under the key already,
 -- or a search of the puzzle came to an end before

@@ -25,7 +25,7 @@ use Rattle.hall_policy.specs.declared.rule.Rule as rule
 use Rattle.hall_policy.specs.declared.rule.Rule.TheVariants.{UnknownKey, NoRole, Missing, OwnPuzzle, Involved}
 use Rattle.hall_store.specs.Caller.{caller_of}
 use Rattle.hall_store.specs.Maps.{empty_world}
-use Rattle.hall_desk.specs.Found.{IsReleasedRound}
+use Rattle.hall_desk.specs.Lookups.{IsReleasedRound}
 use Rattle.hall_desk.specs.Judged.{IsVerdictOn, NamesNoRule}
 use Rattle.hall_desk.specs.Sane.{Sane, Solves}
 use Rattle.hall_desk.specs.Shown.{told_verdict}

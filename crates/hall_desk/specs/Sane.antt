@@ -7,7 +7,7 @@ use Rattle.hall_solve.specs.Puzzle.{IsRight}
 use Rattle.hall_policy.specs.World.{World, IsTesterOf}
 use Rattle.hall_policy.specs.Ranges.{IsWorld}
 use Rattle.hall_policy.specs.Rules.{Lists, StandsReleased, IsCertified, answers_given, protests_made, puzzles_put}
-use Rattle.hall_desk.specs.Found.{IsReleasedRound}
+use Rattle.hall_desk.specs.Lookups.{IsReleasedRound}
 use Rattle.hall_policy.specs.declared.record.Person.{Person}
 use Rattle.hall_policy.specs.declared.record.PuzzleKey.{PuzzleKey}
 use Rattle.hall_policy.specs.declared.record.PuzzleRow.{PuzzleRow}

@@ -6,7 +6,7 @@ ghost use Rattle.hall_desk.specs.Shown.{is_sealed, sees_all, shows_verdict, answ
 ghost use Rattle.hall_desk.specs.Lines.{AreLinesOf};
 
 use crate::handler::Handler;
-use crate::planned::Plan;
+use crate::plan::Plan;
 use crate::reply::{AnswerLine, Reply};
 use crate::rows::{Rows, push};
 use hall_policy::{

@@ -12,9 +12,9 @@ ghost use Rattle.hall_desk.specs.Plans.{Planned, Steps, Seeds, Runs, FailsIn, Is
 ghost use Rattle.hall_desk.specs.Plans.{IsQuietPlan, IsSeedReply, AreStepped, NobodysAreAnswered, WritesIfAny};
 
 use crate::census::Census;
-use crate::copied::{TableCopy, left_by};
-use crate::plan::make_plan;
-use crate::planned::Plan;
+use crate::table_copy::{TableCopy, left_by};
+use crate::planning::make_plan;
+use crate::plan::Plan;
 use crate::reply::Reply;
 use crate::seed::seed;
 use crate::step::{commit, run, step};
@@ -33,7 +33,7 @@ pub struct Desk<S: ReadStore> {
 }
 
 impl<S: ReadStore> Model for Desk<S> {
-    ghost use Rattle.hall_desk.specs.Copied.{IsCopied};
+    ghost use Rattle.hall_desk.specs.TableCopy.{IsCopied};
 
     ghost Value = { S };
 

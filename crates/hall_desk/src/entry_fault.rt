@@ -4,9 +4,9 @@ ghost use Rattle.std.specs.List.{filter};
 ghost use Rattle.hall_policy.specs.World.{same_text};
 ghost use Rattle.hall_policy.specs.Rules.{StandsReleased, IsCertified};
 ghost use Rattle.hall_store.specs.Store.{Asks, Kept, Told, Fails, IsRoundKept};
-ghost use Rattle.hall_desk.specs.Found.{HasFault, HasFaultyEntry};
+ghost use Rattle.hall_desk.specs.Lookups.{HasFault, HasFaultyEntry};
 
-use crate::found::any_released;
+use crate::lookups::any_released;
 use hall_policy::{Entry, PuzzleKey, PuzzleState, RoundId, RoundRow};
 use hall_store::{ReadStore, StoreFault};
 use std::alloc::Global;

@@ -1,5 +1,5 @@
 //! What the desk does for one action.
-use crate::planned::Plan;
+use crate::plan::Plan;
 use crate::reply::Reply;
 use hall_policy::{Action, Decision, Facts, Moment};
 use hall_store::{ReadStore, StoreFault};
@@ -16,7 +16,7 @@ pub(crate) trait Handler {
     ghost use Rattle.hall_policy.specs.declared.rule.Decision.TheVariants.{Repeat};
     ghost use Rattle.hall_store.specs.Store.{Asks, Kept, Told, Fails};
     ghost use Rattle.hall_desk.specs.Plans.{IsMadePlan, FailsIn};
-    ghost use Rattle.hall_desk.specs.Found.{IsThere};
+    ghost use Rattle.hall_desk.specs.Lookups.{IsThere};
     ghost use Rattle.hall_desk.specs.Step.{FirstReply};
 
     // The action.

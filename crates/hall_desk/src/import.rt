@@ -7,7 +7,7 @@ ghost use Rattle.hall_desk.specs.Step.{unknown_people};
 ghost use Rattle.hall_desk.specs.Plans.{IsImportPlan, IsSeedReply};
 
 use crate::handler::Handler;
-use crate::planned::Plan;
+use crate::plan::Plan;
 use crate::reply::Reply;
 use hall_policy::{Action, Decision, Facts, Moment, People, Person, decide};
 use hall_store::{Change, ReadStore, StoreFault};

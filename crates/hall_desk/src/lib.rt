@@ -3,18 +3,17 @@
 
 mod answers;
 mod census;
-mod certify;
-mod copied;
+mod certify_puzzle;
 mod desk;
 mod entry_fault;
-mod found;
 mod handler;
 mod import;
 mod law;
 mod list_puzzles;
 mod list_rounds;
+mod lookups;
 mod plan;
-mod planned;
+mod planning;
 mod protest;
 mod protests;
 mod publish;
@@ -32,6 +31,7 @@ mod solutions;
 mod step;
 mod submit;
 mod table;
+mod table_copy;
 mod verdict;
 
 pub use census::Census;
@@ -40,11 +40,11 @@ pub use law::{
     law_accepted_answers, law_accepted_protests, law_before_start, law_others, law_records,
     law_rulings, law_sanity, law_sealed, law_steps_agree, law_tokens,
 };
-pub use planned::Plan;
+pub use plan::Plan;
 pub use reply::{
     AnswerLine, ProtestLine, PuzzleLine, Reply, RoundLine, ShownPuzzle, ShownRound, StateName,
     TableText,
 };
 pub use rows::Rows;
-pub use search::search_puzzle;
+pub use search::certify;
 pub use verdict::judge;

@@ -6,7 +6,7 @@ ghost use Rattle.hall_store.specs.Store.{Kept, Served, Fails};
 ghost use Rattle.hall_desk.specs.Shown.{sees_puzzle, puzzle_line};
 
 use crate::handler::Handler;
-use crate::planned::Plan;
+use crate::plan::Plan;
 use crate::put_puzzle::state_name;
 use crate::reply::{PuzzleLine, Reply};
 use crate::rows::{Rows, push};

@@ -4,7 +4,7 @@ ghost use Rattle.std.specs.List.{filter};
 ghost use Rattle.hall_desk.specs.Shown.{sees_round, round_line};
 
 use crate::handler::Handler;
-use crate::planned::Plan;
+use crate::plan::Plan;
 use crate::reply::{Reply, RoundLine};
 use crate::rows::{Rows, push};
 use hall_policy::{Action, Decision, Facts, Moment, Person, Round, decide};

@@ -6,7 +6,7 @@ ghost use Rattle.hall_store.specs.declared.change.Change.{Change};
 ghost use Rattle.hall_desk.specs.Handler.{protest_action, protest_key, protest_row, IsProtestOf, IsProtestCountOf};
 
 use crate::handler::Handler;
-use crate::planned::Plan;
+use crate::plan::Plan;
 use crate::reply::Reply;
 use hall_policy::{
     Action, Decision, Facts, Moment, Person, ProtestKey, ProtestRow, ProtestText, PuzzleNumber,

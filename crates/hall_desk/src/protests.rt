@@ -6,7 +6,7 @@ ghost use Rattle.hall_store.specs.Store.{Kept, Served, Fails};
 ghost use Rattle.hall_desk.specs.Shown.{sees_protest, protest_line};
 
 use crate::handler::Handler;
-use crate::planned::Plan;
+use crate::plan::Plan;
 use crate::reply::{ProtestLine, Reply};
 use crate::rows::{Rows, push};
 use hall_policy::{Action, Decision, Facts, Moment, Person, ProtestRow, RoundId, decide};

@@ -5,7 +5,7 @@ ghost use Rattle.hall_policy.specs.declared.request.Action.{Action};
 ghost use Rattle.hall_desk.specs.Plans.{IsPlanOf};
 
 use crate::handler::Handler;
-use crate::planned::Plan;
+use crate::plan::Plan;
 use crate::reply::Reply;
 use hall_policy::{Action, Decision, Facts, Moment, RoundId, Rule, decide, decide_up_to};
 use hall_store::{Change, ReadStore, RoundFlag, StoreFault};

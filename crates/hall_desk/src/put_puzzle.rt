@@ -8,9 +8,9 @@ ghost use Rattle.hall_store.specs.Store.{Kept, Told, Fails};
 ghost use Rattle.hall_desk.specs.Shown.{state_name};
 ghost use Rattle.hall_desk.specs.Plans.{IsPlanOf, StandsAs};
 
-use crate::found::{find_author, find_release};
+use crate::lookups::{find_author, find_release};
 use crate::handler::Handler;
-use crate::planned::Plan;
+use crate::plan::Plan;
 use crate::reply::{Reply, StateName};
 use hall_grid::{Puzzle, write_puzzle};
 use hall_policy::{

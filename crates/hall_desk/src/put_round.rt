@@ -5,7 +5,7 @@ ghost use Rattle.hall_store.specs.Store.{Kept, Told, Fails};
 ghost use Rattle.hall_desk.specs.Step.{draft_of};
 
 use crate::handler::Handler;
-use crate::planned::Plan;
+use crate::plan::Plan;
 use crate::reply::Reply;
 use hall_policy::{
     Action, Decision, Entry, Facts, Moment, Name, Person, Round, RoundId, RoundRow, Rule, Sheet,

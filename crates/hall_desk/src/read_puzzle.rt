@@ -5,7 +5,7 @@ ghost use Rattle.hall_policy.specs.declared.request.Action.{Action};
 ghost use Rattle.hall_desk.specs.Plans.{IsPlanOf};
 
 use crate::handler::Handler;
-use crate::planned::Plan;
+use crate::plan::Plan;
 use crate::put_puzzle::{state_name, text_of};
 use crate::reply::Reply;
 use hall_policy::{Action, Decision, Facts, Moment, PuzzleKey, decide};

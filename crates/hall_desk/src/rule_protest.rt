@@ -7,7 +7,7 @@ ghost use Rattle.hall_store.specs.declared.change.Change.{Change};
 ghost use Rattle.hall_desk.specs.Handler.{rule_protest_action, ruled_key};
 
 use crate::handler::Handler;
-use crate::planned::Plan;
+use crate::plan::Plan;
 use crate::reply::Reply;
 use hall_policy::{
     Action, Decision, Facts, Moment, Name, ProtestKey, RoundId, Rule, Ruling, Token, decide,

@@ -15,7 +15,7 @@ use std::alloc::{AllocError, Global};
 /// What a search of the puzzle finds in at most `budget` visits: no solution, one and no other, two different ones, or
 /// that it gave up; and the visits that the same search made: no fewer than what it found takes, no more than a plain
 /// search of the puzzle, and where it gave up, the whole budget.
-pub fn search_puzzle(alloc: Global, puzzle: &Puzzle, budget: u64) -> Result<Searched, AllocError>
+pub fn certify(alloc: Global, puzzle: &Puzzle, budget: u64) -> Result<Searched, AllocError>
     ensures outcome { IfOk result (λ searched. OutcomeOfPuzzle puzzle.now budget (outcome_of searched)) }
     ensures spent { IfOk result (IsSpent budget) }
     ensures took { IfOk result (λ searched. fewest_visits (outcome_of searched) ≤ visits_made (visits_of searched)) }

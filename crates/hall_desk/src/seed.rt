@@ -7,7 +7,7 @@ ghost use Rattle.hall_desk.specs.Sane.{Sane};
 ghost use Rattle.hall_desk.specs.Plans.{IsSeedPlan, IsSeedReply, Seeds};
 
 use crate::import::{any_conflict, plan_import};
-use crate::planned::Plan;
+use crate::plan::Plan;
 use crate::reply::Reply;
 use crate::step::commit;
 use hall_policy::{People, Rule};

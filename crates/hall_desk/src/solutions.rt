@@ -6,7 +6,7 @@ ghost use Rattle.hall_desk.specs.Shown.{AreSolutions, IsStoredSolution};
 ghost use Rattle.hall_desk.specs.Plans.{FailsIn, AreInStateOne};
 
 use crate::handler::Handler;
-use crate::planned::Plan;
+use crate::plan::Plan;
 use crate::reply::Reply;
 use crate::rows::{Rows, push};
 use hall_policy::{

@@ -13,7 +13,7 @@ ghost use Rattle.hall_desk.specs.Handler.{submit_action, submitted_key, submitte
 ghost use Rattle.hall_desk.specs.Plans.{IsJudgedAt, FailsIn, AreKept};
 
 use crate::handler::Handler;
-use crate::planned::Plan;
+use crate::plan::Plan;
 use crate::reply::Reply;
 use crate::verdict::judge;
 use hall_grid::Broken;

@@ -3,14 +3,14 @@ ghost use Rattle.std.specs.Prelude.{◌≡◌};
 ghost use Rattle.hall_policy.specs.World.{IsRoundAt};
 ghost use Rattle.hall_policy.specs.declared.request.Action.TheVariants.{Table};
 ghost use Rattle.hall_store.specs.Store.{Asks, Kept, Served};
-ghost use Rattle.hall_desk.specs.Found.{IsCaller};
-ghost use Rattle.hall_desk.specs.Copied.{IsCopied};
+ghost use Rattle.hall_desk.specs.Lookups.{IsCaller};
+ghost use Rattle.hall_desk.specs.TableCopy.{IsCopied};
 ghost use Rattle.hall_desk.specs.Totals.{AreTotals, IsTableAt};
 ghost use Rattle.hall_desk.specs.Plans.{IsPlanFor, FailsIn};
 
-use crate::copied::{TableCopy, copy_of, text_of};
-use crate::plan::Turn;
-use crate::planned::Plan;
+use crate::table_copy::{TableCopy, copy_of, text_of};
+use crate::planning::RequestAt;
+use crate::plan::Plan;
 use crate::reply::{Reply, TableText};
 use hall_policy::{Decision, Facts, Name, RoundId, RoundRow, decide};
 use hall_score::{Tally, table_text};
@@ -19,7 +19,7 @@ use std::alloc::Global;
 
 /// The plan for the round's table, which is anyone's, with a key or without: by the copy, where it is this round's.
 pub(crate) fn plan_table<S: ReadStore>(
-    turn: &Turn,
+    turn: &RequestAt,
     store: &mut S,
     round: &RoundId,
     facts: &mut Facts,

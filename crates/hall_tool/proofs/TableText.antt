@@ -12,7 +12,7 @@ use Rattle.hall_store.specs.declared.fault.StoreFault.{StoreFault}
 use Rattle.hall_desk.specs.Plan.{planned_reply}
 use Rattle.hall_desk.specs.Plans.{IsPlanFor, Planned}
 use Rattle.hall_desk.specs.Step.{IsAnswered}
-use Rattle.hall_desk.specs.declared.planned.Plan.{Plan}
+use Rattle.hall_desk.specs.declared.plan.Plan.{Plan}
 use Rattle.hall_desk.specs.declared.reply.Reply.{Reply}
 use Rattle.hall_policy.specs.World.{World}
 use Rattle.hall_policy.specs.declared.rule.Decision.TheVariants.{Allow, Deny, Repeat}

@@ -7,7 +7,7 @@ use crate::device::read_input;
 use crate::ending::{Ending, refused, refused_input};
 use crate::fault::ToolFault;
 use crate::input::{LIMIT, one_line};
-use hall_desk::search_puzzle;
+use hall_desk::certify;
 use hall_grid::{Counted, Puzzle, TextFault, parse_puzzle, write_answer};
 use hall_http::write_all;
 use hall_solve::Outcome;
@@ -18,7 +18,7 @@ use std::io::{Read, Write};
 fn outcome_line(alloc: Global, puzzle: &Puzzle, budget: u64) -> Result<Ending, AllocError>
     ensures { IfOk result (λ a. IsOutcomeLine puzzle.now budget (string_bytes a.line) a.status) }
 {
-    match search_puzzle(alloc, puzzle, budget)?.outcome() {
+    match certify(alloc, puzzle, budget)?.outcome() {
         Outcome::One(filling) => {
             let text = write_answer(alloc, puzzle, &filling)?;
             let line = format!(in alloc; "one {text}\n")?;

@@ -1,6 +1,6 @@
 //! Rows of puzzles: what a search finds, and what an answer breaks.
 use crate::words::{Fault, number_of};
-use hall_desk::{judge, search_puzzle};
+use hall_desk::{certify, judge};
 use hall_grid::parse_puzzle;
 use hall_solve::Outcome;
 use std::alloc::Global;
@@ -10,7 +10,7 @@ pub(crate) fn certify_row(alloc: Global, row: &str) -> Result<&'static str, Faul
     let (text, budget) = row.split_once(' ').ok_or(Fault::Row)?;
     let budget = number_of(budget)?;
     let puzzle = parse_puzzle(alloc, text.as_bytes())?;
-    let found = search_puzzle(alloc, &puzzle, budget)?;
+    let found = certify(alloc, &puzzle, budget)?;
     Ok(match found.outcome() {
         Outcome::None => "none",
         Outcome::One(_solution) => "one",

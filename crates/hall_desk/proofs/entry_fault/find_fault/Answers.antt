@@ -5,7 +5,7 @@ use Rattle.hall_policy.specs.Facts.{IsRoundFound}
 use Rattle.hall_policy.specs.declared.record.Entry.{Entry}
 use Rattle.hall_policy.specs.declared.record.RoundRow.{RoundRow}
 use Rattle.hall_store.specs.Store.{IsRoundKept}
-use Rattle.hall_desk.specs.Found.{HasFault, HasFaultyEntry}
+use Rattle.hall_desk.specs.Lookups.{HasFault, HasFaultyEntry}
 use Rattle.hall_store.proofs.Knowing.{carried, told_turn}
 use Rattle.hall_desk.proofs.Releases.{faulty_listed, through}
 use Rattle.hall_desk.proofs.entry_fault.find_fault.Goals as goal

@@ -1,6 +1,6 @@
 use Rattle.std.proofs.Common.{◌↔◌, IsTrue, subst, sym}
 use Rattle.hall_store.specs.Store.{Told}
-use Rattle.hall_desk.specs.Found.{HasFault}
+use Rattle.hall_desk.specs.Lookups.{HasFault}
 use Rattle.hall_desk.specs.declared.entry_fault.EntryFault.{EntryFault}
 use Rattle.hall_desk.proofs.entry_fault.has_fault.Goals as goal
 

@@ -1,7 +1,7 @@
 use Rattle.std.proofs.Common.{◌≢◌, ◌↔◌, ℕ, List, Contains, IsTrue, ◌∙◌}
 use Rattle.hall_policy.specs.Rules.{StandsReleased}
 use Rattle.hall_store.specs.Store.{AreUsing}
-use Rattle.hall_desk.specs.Found.{IsReleasedRound}
+use Rattle.hall_desk.specs.Lookups.{IsReleasedRound}
 use Rattle.hall_store.proofs.Knowing.{carried, told_through}
 use Rattle.hall_desk.proofs.Releases.{others_using, through}
 use Rattle.hall_desk.proofs.entry_fault.is_shared.Goals as goal

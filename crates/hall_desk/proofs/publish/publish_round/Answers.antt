@@ -1,4 +1,4 @@
-use Rattle.hall_desk.proofs.Planning.{published}
+use Rattle.hall_desk.proofs.PlanLemmas.{published}
 use Rattle.hall_desk.proofs.publish.publish_round.Goals as goal
 
 pub returns : goal.returns

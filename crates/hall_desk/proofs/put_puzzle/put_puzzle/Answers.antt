@@ -1,4 +1,4 @@
-use Rattle.hall_desk.proofs.Planning.{put_new}
+use Rattle.hall_desk.proofs.PlanLemmas.{put_new}
 use Rattle.hall_desk.proofs.put_puzzle.put_puzzle.Goals as goal
 
 pub returns-in_ok-clone-in-None-2 : goal.returns-in_ok-clone-in-None-2

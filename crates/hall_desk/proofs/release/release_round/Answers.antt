@@ -1,4 +1,4 @@
-use Rattle.hall_desk.proofs.Planning.{released}
+use Rattle.hall_desk.proofs.PlanLemmas.{released}
 use Rattle.hall_desk.proofs.release.release_round.Goals as goal
 
 pub returns : goal.returns

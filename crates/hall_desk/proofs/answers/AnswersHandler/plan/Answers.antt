@@ -1,7 +1,7 @@
 use Rattle.hall_policy.specs.Facts.{TrueUpTo}
 use Rattle.hall_policy.specs.declared.request.Action.TheVariants.{Answers}
 use Rattle.hall_store.proofs.Knowing.{carried}
-use Rattle.hall_desk.proofs.Planning.{listing_plan}
+use Rattle.hall_desk.proofs.PlanLemmas.{listing_plan}
 use Rattle.hall_desk.proofs.answers.AnswersHandler.plan.Goals as goal
 
 pub returns-clause-told : goal.returns-clause-told

@@ -2,7 +2,7 @@ use Rattle.std.proofs.Common.{◌≡◌, ◌↔◌, ℕ, List, IsTrue}
 use Rattle.std.specs.FinMap.{get}
 use Rattle.hall_policy.specs.Rules.{StandsReleased}
 use Rattle.hall_store.specs.Store.{Kept}
-use Rattle.hall_desk.specs.Found.{HasAuthor}
+use Rattle.hall_desk.specs.Lookups.{HasAuthor}
 use Rattle.hall_store.proofs.Knowing.{carried, kept_then}
 use Rattle.hall_desk.proofs.Telling.{author_told, release_told, put_told}
 use Rattle.hall_desk.proofs.put_puzzle.PutPuzzleHandler.decision.Goals as goal

@@ -1,5 +1,5 @@
 use Rattle.hall_desk.specs.Handler.{release_action}
-use Rattle.hall_desk.proofs.Planning.{made_anyhow}
+use Rattle.hall_desk.proofs.PlanLemmas.{made_anyhow}
 use Rattle.hall_desk.proofs.release.ReleaseHandler.plan.Goals as goal
 
 pub returns-clause-told : goal.returns-clause-told

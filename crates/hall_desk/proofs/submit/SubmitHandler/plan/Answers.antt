@@ -3,7 +3,7 @@ use Rattle.std.proofs.lemmas.Bool.{false≢true}
 use Rattle.hall_policy.specs.Facts.{IsRoundFound, TrueUpTo}
 use Rattle.hall_policy.specs.declared.record.RoundRow.{RoundRow}
 use Rattle.hall_store.specs.Store.{Kept}
-use Rattle.hall_desk.specs.Found.{IsThere}
+use Rattle.hall_desk.specs.Lookups.{IsThere}
 use Rattle.hall_desk.specs.Handler.{submit_action}
 use Rattle.hall_desk.specs.Plans.{IsJudgedAt}
 use Rattle.hall_store.proofs.Knowing.{carried, kept_then}

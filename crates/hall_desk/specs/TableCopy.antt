@@ -2,7 +2,7 @@
 use Rattle.std.specs.Prelude.{Option, Some, None}
 use Rattle.hall_store.specs.Store.{Content, Asks}
 use Rattle.hall_desk.specs.Totals.{IsTableAt}
-use Rattle.hall_desk.specs.declared.copied.TableCopy.{TableCopy}
+use Rattle.hall_desk.specs.declared.table_copy.TableCopy.{TableCopy}
 
 -- where there is a copy, its text is its round's table
 abbrev pub IsCopied : Content → Option TableCopy → Type 0

@@ -6,12 +6,12 @@ use Rattle.hall_policy.specs.declared.rule.Decision.{Decision}
 use Rattle.hall_policy.specs.declared.rule.Decision.TheVariants.{Allow}
 use Rattle.hall_store.specs.Store.{Kept}
 use Rattle.hall_store.specs.Change.{changed}
-use Rattle.hall_desk.specs.Found.{IsCaller}
+use Rattle.hall_desk.specs.Lookups.{IsCaller}
 use Rattle.hall_desk.specs.Step.{Allowed}
 use Rattle.hall_desk.specs.Plans.{IsMadePlan, IsPlanFor, HasNothingToWrite, HasSearched}
 use Rattle.hall_store.proofs.Knowing.{carried, kept_then, told_through}
-use Rattle.hall_desk.proofs.Planning.{planned}
-use Rattle.hall_desk.proofs.plan.Turn.handle.Goals as goal
+use Rattle.hall_desk.proofs.PlanLemmas.{planned}
+use Rattle.hall_desk.proofs.planning.RequestAt.handle.Goals as goal
 
 pub returns-in-Allow-clause-told : goal.returns-in-Allow-clause-told
 returns-in-Allow-clause-told g c =

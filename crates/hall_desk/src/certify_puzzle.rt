@@ -9,10 +9,10 @@ ghost use Rattle.hall_desk.specs.Plans.{IsSearchPlanOf, HasSpent};
 ghost use Rattle.hall_desk.specs.Shown.{state_name};
 
 use crate::handler::Handler;
-use crate::planned::Plan;
+use crate::plan::Plan;
 use crate::put_puzzle::state_name;
 use crate::reply::Reply;
-use crate::search::search_puzzle;
+use crate::search::certify;
 use hall_grid::{Filling, Puzzle, write_answer};
 use hall_policy::{
     Action, AnswerText, Budget, Decision, Facts, Moment, PuzzleKey, PuzzleState, decide,
@@ -134,7 +134,7 @@ fn find_state(alloc: Global, puzzle: &Puzzle, budget: u64) -> Result<FoundState,
     ensures state { IfOk result (λ found. IsFound puzzle.now budget found.state) }
     ensures spent { IfOk result (λ found. HasSpent budget (Reply.Certify (state_name found.state)) found.visits) }
 {
-    let searched = search_puzzle(alloc, puzzle, budget)?;
+    let searched = certify(alloc, puzzle, budget)?;
     let visits = searched.visits();
     match searched.outcome() {
         Outcome::None => Ok(FoundState {

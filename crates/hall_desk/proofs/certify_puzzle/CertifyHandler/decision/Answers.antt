@@ -1,5 +1,5 @@
 use Rattle.hall_desk.proofs.Telling.{certify_told}
-use Rattle.hall_desk.proofs.certify.CertifyHandler.decision.Goals as goal
+use Rattle.hall_desk.proofs.certify_puzzle.CertifyHandler.decision.Goals as goal
 
 pub returns-clause-told : goal.returns-clause-told
 returns-clause-told g c =

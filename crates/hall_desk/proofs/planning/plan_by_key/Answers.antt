@@ -1,5 +1,5 @@
-use Rattle.hall_desk.proofs.Planning.{told_plan}
-use Rattle.hall_desk.proofs.plan.plan_by_key.Goals as goal
+use Rattle.hall_desk.proofs.PlanLemmas.{told_plan}
+use Rattle.hall_desk.proofs.planning.plan_by_key.Goals as goal
 
 pub returns-in_ok-facts-in-Some-clause-planned : goal.returns-in_ok-facts-in-Some-clause-planned
 returns-in_ok-facts-in-Some-clause-planned g c =

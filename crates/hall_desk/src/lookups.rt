@@ -2,7 +2,7 @@
 ghost use Rattle.std.specs.Prelude.{◌↔◌, ℕ, List, IsTrue, Contains};
 ghost use Rattle.hall_policy.specs.Rules.{StandsReleased};
 ghost use Rattle.hall_store.specs.Store.{Kept, Told, Fails};
-ghost use Rattle.hall_desk.specs.Found.{HasAuthor, IsReleasedRound};
+ghost use Rattle.hall_desk.specs.Lookups.{HasAuthor, IsReleasedRound};
 
 use hall_policy::{Name, PuzzleKey, RoundId};
 use hall_store::{ReadStore, StoreFault};

@@ -2,9 +2,9 @@
 ghost use Rattle.std.specs.Prelude.{◌≡◌, ◌⊎◌, IfOk, IfSome, Some, None};
 ghost use Rattle.hall_store.specs.declared.change.Change.{Change};
 ghost use Rattle.hall_desk.specs.Plan.{planned_change};
-ghost use Rattle.hall_desk.specs.declared.copied.TableCopy.{TableCopy};
+ghost use Rattle.hall_desk.specs.declared.table_copy.TableCopy.{TableCopy};
 
-use crate::planned::Plan;
+use crate::plan::Plan;
 use crate::reply::TableText;
 use hall_policy::RoundId;
 use hall_store::Change;

@@ -3,11 +3,11 @@ use Rattle.hall_policy.specs.declared.rule.Decision.TheVariants.{Deny}
 use Rattle.hall_policy.specs.declared.record.PuzzleState.TheVariants as state
 use Rattle.hall_store.specs.declared.change.Change.TheVariants as change
 use Rattle.hall_desk.specs.Plans.{IsPlanFor}
-use Rattle.hall_desk.specs.declared.planned.Plan.{Plan}
+use Rattle.hall_desk.specs.declared.plan.Plan.{Plan}
 use Rattle.hall_desk.specs.declared.reply.Reply.TheVariants as reply
-use Rattle.hall_desk.proofs.Planning.{planned}
+use Rattle.hall_desk.proofs.PlanLemmas.{planned}
 use Rattle.hall_desk.proofs.Telling.{caller_told}
-use Rattle.hall_desk.proofs.plan.plan_for_caller.Goals as goal
+use Rattle.hall_desk.proofs.planning.plan_for_caller.Goals as goal
 
 pub returns-in-Some-clause-told : goal.returns-in-Some-clause-told
 returns-in-Some-clause-told g c =

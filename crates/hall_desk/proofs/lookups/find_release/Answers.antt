@@ -1,10 +1,10 @@
 use Rattle.std.proofs.Common.{◌↔◌, ℕ, List, Contains, IsTrue, subst, sym}
 use Rattle.hall_policy.specs.Rules.{StandsReleased}
 use Rattle.hall_store.specs.Store.{AreUsing}
-use Rattle.hall_desk.specs.Found.{IsReleasedRound}
+use Rattle.hall_desk.specs.Lookups.{IsReleasedRound}
 use Rattle.hall_store.proofs.Knowing.{carried, told_through}
 use Rattle.hall_desk.proofs.Releases.{released_using, through}
-use Rattle.hall_desk.proofs.found.find_release.Goals as goal
+use Rattle.hall_desk.proofs.lookups.find_release.Goals as goal
 
 pub returns-clause-told : goal.returns-clause-told
 returns-clause-told g c =

@@ -1,16 +1,16 @@
 use Rattle.std.proofs.Common.{Option, None, refl, sym, ap, ◌∙◌, subst}
-use Rattle.hall_desk.specs.Found.{IsThere}
+use Rattle.hall_desk.specs.Lookups.{IsThere}
 use Rattle.hall_policy.specs.declared.record.Person.{Person}
 use Rattle.hall_policy.specs.declared.record.PuzzleState.TheVariants as state
 use Rattle.hall_policy.specs.declared.rule.Decision.TheVariants.{Deny}
 use Rattle.hall_store.specs.Caller.{caller_of}
 use Rattle.hall_desk.specs.Plans.{IsPlanFor}
-use Rattle.hall_desk.specs.declared.planned.Plan.{Plan}
+use Rattle.hall_desk.specs.declared.plan.Plan.{Plan}
 use Rattle.hall_desk.specs.declared.reply.Reply.TheVariants as reply
 use Rattle.hall_store.specs.declared.change.Change.TheVariants as change
-use Rattle.hall_desk.proofs.Planning.{planned}
+use Rattle.hall_desk.proofs.PlanLemmas.{planned}
 use Rattle.hall_desk.proofs.Telling.{caller_told, table_without_caller}
-use Rattle.hall_desk.proofs.plan.deny_without_key.Goals as goal
+use Rattle.hall_desk.proofs.planning.deny_without_key.Goals as goal
 
 pub returns-clause-planned : goal.returns-clause-planned
 returns-clause-planned c = λ world.

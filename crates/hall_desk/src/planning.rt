@@ -1,0 +1,263 @@
+//! From a request to its plan: the caller, what the rules read, the decision, and what an allowed action answers and
+//! changes.
+ghost use Rattle.std.specs.Prelude.{◌≡◌, ◌≢◌, ℕ, List, IfSome, IfNone, None};
+ghost use Rattle.hall_policy.specs.World.{World};
+ghost use Rattle.hall_policy.specs.Decided.{IsDecidedUpTo, PassesUpTo};
+ghost use Rattle.hall_policy.specs.declared.request.Action.TheVariants.{Table};
+ghost use Rattle.hall_policy.specs.declared.rule.Decision.TheVariants.{Deny};
+ghost use Rattle.hall_store.specs.Store.{Asks, Kept, Told};
+ghost use Rattle.hall_store.specs.declared.change.Change.{Change};
+ghost use Rattle.hall_desk.specs.TableCopy.{IsCopied};
+ghost use Rattle.hall_desk.specs.Lookups.{IsCaller};
+ghost use Rattle.hall_desk.specs.Plans.{IsPlanFor, Planned, FailsIn, IsAvailable, IsNobodys, IsQuietPlan};
+
+use crate::answers::Answers;
+use crate::certify_puzzle::Certify;
+use crate::table_copy::TableCopy;
+use crate::handler::Handler;
+use crate::import::Import;
+use crate::list_puzzles::ListPuzzles;
+use crate::list_rounds::ListRounds;
+use crate::plan::Plan;
+use crate::protest::Protest;
+use crate::protests::Protests;
+use crate::publish::Publish;
+use crate::put_puzzle::PutPuzzle;
+use crate::put_round::PutRound;
+use crate::read_puzzle::ReadPuzzle;
+use crate::read_round::ReadRound;
+use crate::release::Release;
+use crate::reply::Reply;
+use crate::rule_protest::RuleProtest;
+use crate::solutions::Solutions;
+use crate::submit::Submit;
+use crate::table::plan_table;
+use hall_policy::{Action, Decision, Facts, Moment, Request, RoundId, Rule, decide_up_to};
+use hall_store::{ReadStore, StoreFault};
+use std::alloc::Global;
+
+/// A request that is being answered: at which moment, and by which allocator.
+#[derive(Clone, Copy)]
+pub(crate) struct RequestAt<'a> {
+    pub(crate) alloc: Global,
+    pub(crate) t: Moment,
+    pub(crate) request: &'a Request,
+}
+
+/// What the request will be answered, and what it will change. Reads only, and for a denial nothing that a later rule
+/// asks. A table is the copy, where that is the round's.
+pub(crate) fn make_plan<S: ReadStore>(
+    alloc: Global,
+    store: &mut S,
+    t: Moment,
+    request: &Request,
+    copied: &mut Option<TableCopy>,
+) -> Result<Plan, StoreFault>
+    requires { IsCopied (S.content store.old) copied.old }
+    ensures kept { Kept (S.content store.old) (S.content store.new) }
+    ensures untouched { IsNobodys request.now → store.new ≡ store.old }
+    ensures keyless { IsNobodys request.now → IsQuietPlan result }
+    ensures fault { FailsIn S.can_fail (S.content store.new) result }
+    ensures planned { Planned (S.content store.new) t request.now result }
+    ensures copied { IsCopied (S.content store.new) copied.new }
+{
+    let mut facts = no_facts();
+    let turn = RequestAt { alloc, t, request };
+    let plan = match &request.action {
+        Action::Table { round } => plan_for_anyone(&turn, store, round, &mut facts, copied),
+        _ => plan_by_key(&turn, store, &mut facts),
+    };
+    drop(facts);
+    plan
+}
+
+/// Facts that tell of nothing.
+fn no_facts() -> Facts
+    ensures { result.caller ≡ None }
+{
+    Facts {
+        caller: None,
+        author_is_there: false,
+        puzzle: None,
+        sheet_lacks: false,
+        round: None,
+        answer: None,
+        protest: None,
+        in_released: false,
+        uncertified: false,
+        open_protest: false,
+        involved: false,
+        count: 0,
+        conflict: false,
+    }
+}
+
+/// The plan for a table, which anyone may ask for, with a key or without.
+fn plan_for_anyone<S: ReadStore>(
+    turn: &RequestAt,
+    store: &mut S,
+    round: &RoundId,
+    facts: &mut Facts,
+    copied: &mut Option<TableCopy>,
+) -> Result<Plan, StoreFault>
+    requires facts { facts.old.caller ≡ None }
+    requires action { turn.now.request.now.action ≡ Table round.now }
+    requires copied { IsCopied (S.content store.old) copied.old }
+    ensures kept { Kept (S.content store.old) (S.content store.new) }
+    ensures fault { FailsIn S.can_fail (S.content store.new) result }
+    ensures planned { Planned (S.content store.new) turn.now.t turn.now.request.now result }
+    ensures copied { IsCopied (S.content store.new) copied.new }
+{
+    if let Some(key) = &turn.request.key {
+        facts.caller = store.person_by_key(turn.alloc, key)?;
+    }
+    plan_table(turn, store, round, facts, copied)
+}
+
+/// The plan for a request that its key decides first, with the facts that it rests on.
+fn plan_by_key<S: ReadStore>(
+    turn: &RequestAt,
+    store: &mut S,
+    facts: &mut Facts,
+) -> Result<Plan, StoreFault>
+    requires facts { facts.old.caller ≡ None }
+    requires action { (round : List ℕ) → turn.now.request.now.action ≢ Table round }
+    ensures kept { Kept (S.content store.old) (S.content store.new) }
+    ensures untouched { IsNobodys turn.now.request.now → store.new ≡ store.old }
+    ensures keyless { IsNobodys turn.now.request.now → IsQuietPlan result }
+    ensures fault { FailsIn S.can_fail (S.content store.new) result }
+    ensures planned { Planned (S.content store.new) turn.now.t turn.now.request.now result }
+{
+    match &turn.request.key {
+        Some(key) => {
+            facts.caller = store.person_by_key(turn.alloc, key)?;
+            plan_for_caller(turn, store, facts)
+        }
+        None => Ok(deny_without_key(turn, facts)),
+    }
+}
+
+/// The plan for a request without a key: a denial, which asks nothing of the store.
+fn deny_without_key(turn: &RequestAt, facts: &Facts) -> Plan
+    requires key { turn.now.request.now.key ≡ None }
+    requires caller { facts.now.caller ≡ None }
+    requires action { (round : List ℕ) → turn.now.request.now.action ≢ Table round }
+    ensures change { result.change ≡ Change.Nothing }
+    ensures available { IsAvailable result.reply }
+    ensures planned { (world : World) → IsPlanFor world turn.now.t turn.now.request.now result }
+{
+    match caller_rule(facts, &turn.request.action, turn.t) {
+        Some(rule) => Plan::of(Reply::Denied(rule)),
+        None => unreachable!(),
+    }
+}
+
+/// The number of the rule on the caller that forbids the action, if one does.
+fn caller_rule(facts: &Facts, action: &Action, t: Moment) -> Option<u8>
+    ensures some { IfSome result (λ rule. IsDecidedUpTo 3 facts.now action.now t (Deny rule)) }
+    ensures none { IfNone result (PassesUpTo 3 facts.now action.now t) }
+{
+    match decide_up_to(facts, action, t, Rule::OtherAuthor) {
+        Some(Decision::Deny(rule)) => Some(rule),
+        Some(Decision::Repeat) | Some(Decision::Allow) => unreachable!(),
+        None => None,
+    }
+}
+
+/// The plan where the caller was looked up. The rules on the caller are asked before anything else is read.
+fn plan_for_caller<S: ReadStore>(
+    turn: &RequestAt,
+    store: &mut S,
+    facts: &mut Facts,
+) -> Result<Plan, StoreFault>
+    requires caller { Asks (S.content store.old) (λ world. IsCaller world turn.now.request.now.key facts.old.caller) }
+    requires action { (round : List ℕ) → turn.now.request.now.action ≢ Table round }
+    ensures kept { Kept (S.content store.old) (S.content store.new) }
+    ensures fault { FailsIn S.can_fail (S.content store.new) result }
+    ensures told { Told (S.content store.old) (S.content store.new) result
+        (λ world plan. IsPlanFor world turn.now.t turn.now.request.now plan) }
+{
+    match caller_rule(facts, &turn.request.action, turn.t) {
+        Some(rule) => Ok(Plan::of(Reply::Denied(rule))),
+        None => dispatch(turn, store, facts),
+    }
+}
+
+/// The plan of the request's action, by its handler. (A table has none.)
+fn dispatch<S: ReadStore>(turn: &RequestAt, store: &mut S, facts: &mut Facts) -> Result<Plan, StoreFault>
+    requires caller { Asks (S.content store.old) (λ world. IsCaller world turn.now.request.now.key facts.old.caller) }
+    requires passed { PassesUpTo 3 facts.old turn.now.request.now.action turn.now.t }
+    requires action { (round : List ℕ) → turn.now.request.now.action ≢ Table round }
+    ensures kept { Kept (S.content store.old) (S.content store.new) }
+    ensures fault { FailsIn S.can_fail (S.content store.new) result }
+    ensures told { Told (S.content store.old) (S.content store.new) result
+        (λ world plan. IsPlanFor world turn.now.t turn.now.request.now plan) }
+{
+    match &turn.request.action {
+        Action::Import { people } => turn.handle(store, &Import { people }, facts),
+        Action::PutPuzzle { key, puzzle } => turn.handle(store, &PutPuzzle { key, puzzle }, facts),
+        Action::ReadPuzzle { key } => turn.handle(store, &ReadPuzzle { key }, facts),
+        Action::ListPuzzles => turn.handle(store, &ListPuzzles {}, facts),
+        Action::Certify { key, budget } => turn.handle(store, &Certify::of(key, *budget), facts),
+        Action::PutRound { round, sheet } => turn.handle(store, &PutRound { round, sheet }, facts),
+        Action::Release { round } => turn.handle(store, &Release { round }, facts),
+        Action::ListRounds => turn.handle(store, &ListRounds {}, facts),
+        Action::ReadRound { round } => turn.handle(store, &ReadRound { round }, facts),
+        Action::Submit {
+            round,
+            number,
+            token,
+            answer,
+        } => turn.handle(store, &Submit::of(round, *number, token, answer), facts),
+        Action::Answers { round } => turn.handle(store, &Answers { round }, facts),
+        Action::Solutions { round } => turn.handle(store, &Solutions { round }, facts),
+        Action::Protest {
+            round,
+            token,
+            number,
+            text,
+        } => turn.handle(store, &Protest::of(round, token, *number, text), facts),
+        Action::Protests { round } => turn.handle(store, &Protests { round }, facts),
+        Action::Rule {
+            round,
+            entrant,
+            token,
+            ruling,
+        } => turn.handle(
+            store,
+            &RuleProtest::of(round, entrant, token, *ruling),
+            facts,
+        ),
+        Action::Publish { round } => turn.handle(store, &Publish { round }, facts),
+        Action::Table { .. } => unreachable!(),
+    }
+}
+
+impl<'a> RequestAt<'a> {
+    /// The plan by the action's handler: as it decides.
+    fn handle<H: Handler, S: ReadStore>(
+        &self,
+        store: &mut S,
+        handler: &H,
+        facts: &mut Facts,
+    ) -> Result<Plan, StoreFault>
+        requires same { self.now.request.now.action ≡ H.action_of handler.now }
+        requires caller { Asks (S.content store.old)
+            (λ world. IsCaller world self.now.request.now.key facts.old.caller) }
+        requires passed { PassesUpTo 3 facts.old self.now.request.now.action self.now.t }
+        ensures kept { Kept (S.content store.old) (S.content store.new) }
+        ensures fault { FailsIn S.can_fail (S.content store.new) result }
+        ensures told { Told (S.content store.old) (S.content store.new) result
+            (λ world plan. IsPlanFor world self.now.t self.now.request.now plan) }
+    {
+        let decision = handler.decision(self.alloc, store, self.t, &self.request.action, facts)?;
+        match decision {
+            Decision::Deny(rule) => Ok(Plan::of(Reply::Denied(rule))),
+            Decision::Repeat => match handler.first_reply(facts)? {
+                Some(reply) => Ok(Plan::of(reply)),
+                None => unreachable!(),
+            },
+            Decision::Allow => handler.plan(self.alloc, store, self.t, facts),
+        }
+    }
+}
