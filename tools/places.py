@@ -53,7 +53,7 @@ ASKED = {
     "examples/databases/rows.toml": ["hall_sql::SqlStore::protests_in", "hall_sql::SqlStore::feed_protests", "hall_tool::task_at"],
     "examples/databases/shapes.toml": ["hall_sql::adopt", "hall_sql::SqlStore::over", "hall_sql::open_at"],
     "examples/rounds/round.sh": ["hall_http::serve_all", "hall_tool::run_command"],
-    "tools/crowd.py": ["hall_http::serve_all", "hall_http::Crowd::new"],
+    "tools/crowd.py": ["hall_http::serve_all", "hall_http::EventLoop::new"],
     "tools/files.py": ["hall_sql::open_at", "hall_sql::open_there", "hall_tool::init_at", "hall_tool::task_at", "hall_tool::run_words"],
     "tools/databases.py": ["hall_http::serve", "hall_tool::task_at"],
     "tools/puzzles.py": ["hall_solve::search", "hall_desk::certify"],

@@ -5,16 +5,16 @@ use Rattle.hall_grid.specs.Device.{Rises}
 use Rattle.hall_http.specs.Device.{WritesPart}
 use Rattle.hall_http.specs.Connection.{Exchange, Exchanged, IsOpen, IsClosing}
 use Rattle.hall_http.specs.Served.{refusal}
-use Rattle.hall_http.specs.declared.connection.Turn.{Turn}
-use Rattle.hall_http.specs.declared.connection.Turn.TheVariants as turn
+use Rattle.hall_http.specs.declared.connection.Standing.{Standing}
+use Rattle.hall_http.specs.declared.connection.Standing.TheVariants as standing
 use Rattle.hall_http.specs.declared.connection.ServeEnd.{ServeEnd}
 use Rattle.hall_http.specs.declared.connection.ServeEnd.TheVariants as end
 
 -- the reply was written, and whether the connection stays open; or a part of it was, and the writer failed
-abbrev pub Sends : Turn → Exchange → Option (List ℕ) → Option (List ℕ) → ℕ → ℕ → Type 0
-Sends turn.Open x wrote written failed fails = IsOpen x.request × Appends wrote written x.reply × (fails ≡ failed)
-Sends turn.Closing x wrote written failed fails = IsClosing x.request × Appends wrote written x.reply × (fails ≡ failed)
-Sends turn.Failed x wrote written failed fails = WritesPart wrote written x.reply × Rises failed fails
+abbrev pub Sends : Standing → Exchange → Option (List ℕ) → Option (List ℕ) → ℕ → ℕ → Type 0
+Sends standing.Open x wrote written failed fails = IsOpen x.request × Appends wrote written x.reply × (fails ≡ failed)
+Sends standing.Closing x wrote written failed fails = IsClosing x.request × Appends wrote written x.reply × (fails ≡ failed)
+Sends standing.Failed x wrote written failed fails = WritesPart wrote written x.reply × Rises failed fails
 
 -- the reply to bytes that are no request was written; or a part of it was, and the writer failed
 abbrev pub Refuses : ServeEnd → Option (List ℕ) → Option (List ℕ) → ℕ → ℕ → Type 0
@@ -30,10 +30,10 @@ EndsInput unread result wrote written failed fails =
     ⊎ ((0 < length unread) × Refuses result wrote written failed fails)
 
 -- a request is answered, and its reply written
-pub record IsTurn {H C : Type 0} (answers : H → Option ℕ → List ℕ → List ℕ → H → Type 0)
+pub record IsExchangeMade {H C : Type 0} (answers : H → Option ℕ → List ℕ → List ℕ → H → Type 0)
     (now_gives : C → Option ℕ → C → Type 0) (h : H) (c : C) (request : List ℕ) (i : H) (d : C)
-    (wrote written : Option (List ℕ)) (failed fails : ℕ) (turn : Turn) : Type 0 where
+    (wrote written : Option (List ℕ)) (failed fails : ℕ) (standing : Standing) : Type 0 where
   pub exchange : Exchange
   pub asked : exchange.request ≡ request
   pub exchanged : Exchanged answers now_gives h c exchange i d
-  pub sent : Sends turn exchange wrote written failed fails
+  pub sent : Sends standing exchange wrote written failed fails

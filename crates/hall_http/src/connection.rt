@@ -4,7 +4,7 @@ ghost use Rattle.hall_desk.specs.Desk.{kept_by, SaneThen};
 ghost use Rattle.hall_desk.specs.Sane.{Sane};
 ghost use Rattle.hall_desk.specs.Promises.{HasUniqueSolutions, RightAnswersAreSolutions};
 ghost use Rattle.hall_http.specs.Head.{IsLentBy};
-ghost use Rattle.hall_http.specs.Sending.{IsTurn, Refuses, EndsInput};
+ghost use Rattle.hall_http.specs.Sending.{IsExchangeMade, Refuses, EndsInput};
 ghost use Rattle.hall_http.specs.Served.{IsHandled, IsServed};
 
 use crate::device::write_all;
@@ -54,7 +54,7 @@ pub enum ServeEnd {
 
 /// How a connection stands after a request.
 #[derive(Clone, Copy)]
-pub(crate) enum Turn {
+pub(crate) enum Standing {
     Open,
     Closing,
     Failed,
@@ -142,9 +142,9 @@ fn serve_requests<H: Handler, R: Read, W: Write, C: Clock>(
                 requests += 1;
                 least = 0;
                 match turn {
-                    Turn::Open => {}
-                    Turn::Closing => return ServeEnd::Closed,
-                    Turn::Failed => return ServeEnd::Device,
+                    Standing::Open => {}
+                    Standing::Closing => return ServeEnd::Closed,
+                    Standing::Failed => return ServeEnd::Device,
                 }
             }
             Cut::More(size) => {
@@ -174,17 +174,17 @@ fn exchange<H: Handler, W: Write, C: Clock>(
     handler: &mut H,
     writer: &mut Counted<W>,
     clock: &mut C,
-) -> Turn
+) -> Standing
     ensures { (bytes : List ℕ) → IsLentBy bytes request.now →
-        IsTurn H.answers C.now_gives handler.old clock.old bytes handler.new clock.new
+        IsExchangeMade H.answers C.now_gives handler.old clock.old bytes handler.new clock.new
         (W.contents writer.old.device) (W.contents writer.new.device) writer.old.failures writer.new.failures result }
 {
     let moment = clock.now();
     let answer = handler.answer(alloc, routes, moment, request);
     match send(writer, answer) {
-        Ok(()) if request.closes => Turn::Closing,
-        Ok(()) => Turn::Open,
-        Err(_) => Turn::Failed,
+        Ok(()) if request.closes => Standing::Closing,
+        Ok(()) => Standing::Open,
+        Err(_) => Standing::Failed,
     }
 }
 

@@ -6,7 +6,7 @@ ghost use Rattle.hall_http.specs.Notice.{IsNotified};
 
 use crate::clock::SystemClock;
 use crate::connection::Clock;
-use crate::crowd::Crowd;
+use crate::event_loop::EventLoop;
 use crate::listener::Listener;
 use crate::notice::notify;
 use hall_desk::Census;
@@ -68,7 +68,7 @@ impl<'r, N, E> SystemHost<'r, N, E> {
 
 // The system tells nothing of its sockets and its clock.
 impl<'r, N: Net + AllocGlobal + time::Clock, E: Write + Drop> Host for SystemHost<'r, N, E> {
-    type Listener = Crowd<'r, N>;
+    type Listener = EventLoop<'r, N>;
 
     type Clock = SystemClock<&'r N>;
 
@@ -81,11 +81,11 @@ impl<'r, N: Net + AllocGlobal + time::Clock, E: Write + Drop> Host for SystemHos
 
     ghost shows = { λ _ _. Unit {0} };
 
-    fn listen(&mut self, port: u64) -> io::Result<Crowd<'r, N>> {
+    fn listen(&mut self, port: u64) -> io::Result<EventLoop<'r, N>> {
         let Ok(port) = u16::try_from(port) else {
             return Err(io::Error::from(ErrorKind::InvalidInput));
         };
-        Crowd::new(self.rt, SocketAddr::from((Ipv4Addr::LOCALHOST, port)))
+        EventLoop::new(self.rt, SocketAddr::from((Ipv4Addr::LOCALHOST, port)))
     }
 
     fn tell(&mut self, port: u64, path: &str, census: Option<Census>) {

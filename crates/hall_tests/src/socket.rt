@@ -2,7 +2,7 @@
 use crate::opening::opening_desk;
 use hall_desk::Desk;
 use hall_http::{
-    Accepted, Clock, Crowd, Host, Listener, SystemClock, SystemHost, Visit, serve_all,
+    Accepted, Clock, EventLoop, Host, Listener, SystemClock, SystemHost, TurnLine, serve_all,
 };
 use hall_store::Store;
 use std::io;
@@ -13,18 +13,18 @@ use std::test::Fail;
 /// A crowd that lets none in once a connection has gone.
 #[derive(Drop)]
 struct Brief<'r> {
-    crowd: Crowd<'r, HostRuntime>,
+    crowd: EventLoop<'r, HostRuntime>,
     has_gone: bool,
 }
 
 impl<'r> Listener for Brief<'r> {
-    type Line = Visit;
+    type Line = TurnLine;
 
     ghost accepts = { λ _ _ _ _. Unit {0} };
 
     ghost lets_go = { λ _ _ _. Unit {0} };
 
-    fn accept(&mut self, most: u64) -> Accepted<Visit> {
+    fn accept(&mut self, most: u64) -> Accepted<TurnLine> {
         if self.has_gone {
             return Accepted::Refused;
         }
@@ -33,7 +33,7 @@ impl<'r> Listener for Brief<'r> {
         next
     }
 
-    fn let_go(&mut self, line: Visit) {
+    fn let_go(&mut self, line: TurnLine) {
         self.crowd.let_go(line);
     }
 }
@@ -46,7 +46,7 @@ fn last_answered<S: Store>(
 ) -> io::Result<String> {
     let address = SocketAddr::from((Ipv4Addr::LOCALHOST, 0));
     let mut brief = Brief {
-        crowd: Crowd::new(rt, address)?,
+        crowd: EventLoop::new(rt, address)?,
         has_gone: false,
     };
     let mut connected = Vec::new(rt.alloc());

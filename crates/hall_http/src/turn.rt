@@ -8,19 +8,19 @@ use std::marker::Model;
 
 /// Gives the bytes of a turn. Then the input is at its end, or more would have to be waited for.
 #[derive(Drop)]
-pub struct Given {
+pub struct TurnInput {
     bytes: Vec<u8>,
     passed: usize,
     at_end: bool,
 }
 
-impl Model for Given {
+impl Model for TurnInput {
     ghost Value = { Unit {0} };
 
     ghost view = { λ _. tt };
 }
 
-impl Read for Given {
+impl Read for TurnInput {
     fn read(&mut self, buf: &mut [u8]) -> io::Result<usize> {
         let mut rest = self.bytes.get(self.passed..).unwrap_or(&[]);
         if rest.is_empty() && !self.at_end {
@@ -34,7 +34,7 @@ impl Read for Given {
 
 /// What came of a turn.
 #[derive(Drop)]
-pub(crate) enum Outcome {
+pub(crate) enum TurnEnd {
     /// It was answered so, and more was asked for.
     Open(Vec<u8>),
     /// It was answered so, and nothing more is.
@@ -45,50 +45,50 @@ pub(crate) enum Outcome {
 
 /// The line of one turn.
 #[derive(Drop)]
-pub struct Visit {
+pub struct TurnLine {
     alloc: Global,
     place: usize,
-    given: Option<Given>,
-    outcome: Outcome,
+    input: Option<TurnInput>,
+    end: TurnEnd,
 }
 
-impl Model for Visit {
+impl Model for TurnLine {
     ghost Value = { Unit {0} };
 
     ghost view = { λ _. tt };
 }
 
-impl Visit {
+impl TurnLine {
     /// The turn of the connection that has this place: its bytes, and whether its input ends after them.
-    pub(crate) fn new(alloc: Global, place: usize, bytes: Vec<u8>, at_end: bool) -> Visit {
-        let given = Given {
+    pub(crate) fn new(alloc: Global, place: usize, bytes: Vec<u8>, at_end: bool) -> TurnLine {
+        let input = TurnInput {
             bytes,
             passed: 0,
             at_end,
         };
-        Visit {
+        TurnLine {
             alloc,
             place,
-            given: Some(given),
-            outcome: Outcome::Lost,
+            input: Some(input),
+            end: TurnEnd::Lost,
         }
     }
 
     /// The place of its connection, and what came of it.
-    pub(crate) fn into_outcome(self) -> (usize, Outcome) {
-        let Visit {
+    pub(crate) fn into_end(self) -> (usize, TurnEnd) {
+        let TurnLine {
             alloc: _,
             place,
-            given: _,
-            outcome,
+            input: _,
+            end,
         } = self;
-        (place, outcome)
+        (place, end)
     }
 }
 
 // What is read is copied from bytes of a socket, of which nothing is told.
-impl Line for Visit {
-    type Reader = Given;
+impl Line for TurnLine {
+    type Reader = TurnInput;
 
     type Writer = Vec<u8>;
 
@@ -98,14 +98,14 @@ impl Line for Visit {
 
     ghost hears = { λ _ _ _ _. Unit {0} };
 
-    fn set_up(&mut self) -> io::Result<(Given, Vec<u8>)> {
-        match self.given.take() {
-            Some(given) => Ok((given, Vec::new(self.alloc))),
+    fn set_up(&mut self) -> io::Result<(TurnInput, Vec<u8>)> {
+        match self.input.take() {
+            Some(input) => Ok((input, Vec::new(self.alloc))),
             None => Err(io::Error::from(ErrorKind::NotConnected)),
         }
     }
 
-    fn end_writing(&mut self, reader: &Counted<Given>, writer: Counted<Vec<u8>>)
+    fn end_writing(&mut self, reader: &Counted<TurnInput>, writer: Counted<Vec<u8>>)
         ensures { Unit {0} }
     {
         let is_whole = writer.failures() == 0;
@@ -113,10 +113,10 @@ impl Line for Visit {
         if !is_whole {
             return;
         }
-        self.outcome = if reader.failures() > 0 {
-            Outcome::Open(reply)
+        self.end = if reader.failures() > 0 {
+            TurnEnd::Open(reply)
         } else {
-            Outcome::Closed(reply)
+            TurnEnd::Closed(reply)
         };
     }
 }

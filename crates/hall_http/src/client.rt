@@ -1,26 +1,26 @@
 //! One open connection: what has come on it and isn't answered yet, and what is still to be sent.
 use crate::head::{Cut, cut_request};
 use crate::inbox::Inbox;
-use crate::visit::Outcome;
+use crate::turn::TurnEnd;
 use mio::net::TcpStream;
 use std::alloc::{AllocError, Global};
 use std::io::{ErrorKind, Read, Write};
 use std::net::Shutdown;
 
-/// How many milliseconds a guest has for a request from its first byte on, for taking a reply, and for the first byte
+/// How many milliseconds a client has for a request from its first byte on, for taking a reply, and for the first byte
 /// of the next request.
 const PATIENCE: u64 = 10_000;
 
-/// With more milliseconds left than these an idle guest has only just come, or was only just answered.
+/// With more milliseconds left than these an idle client has only just come, or was only just answered.
 const FRESH: u64 = 9_000;
 
 /// How many milliseconds bytes are read off that are no longer answered.
 const LAST_PATIENCE: u64 = 2_000;
 
-/// The most turns of a guest.
+/// The most turns of a client.
 const TURN_LIMIT: u64 = 1000;
 
-/// The most reads of what a guest sends.
+/// The most reads of what a client sends.
 const READ_LIMIT: u64 = 100_000;
 
 /// The most bytes of one read.
@@ -32,7 +32,7 @@ const FULL: usize = 77_824;
 /// The most reads at a time of bytes that are no longer answered.
 const LAST_READS: usize = 64;
 
-/// What a guest is at.
+/// What a client is at.
 #[derive(Clone, Copy, PartialEq, Eq)]
 pub(crate) enum Stage {
     /// Nothing of a request has come.
@@ -50,7 +50,7 @@ pub(crate) enum Stage {
 }
 
 impl Stage {
-    /// For how many milliseconds a guest may be at it.
+    /// For how many milliseconds a client may be at it.
     fn patience(self) -> u64 {
         match self {
             Stage::Idle | Stage::Asking | Stage::Taking => PATIENCE,
@@ -70,7 +70,7 @@ enum Sent {
 
 /// One open connection.
 #[derive(Drop)]
-pub(crate) struct Guest {
+pub(crate) struct Client {
     alloc: Global,
     stream: TcpStream,
     inbox: Inbox,
@@ -90,11 +90,11 @@ pub(crate) struct Guest {
     until: u64,
 }
 
-impl Guest {
+impl Client {
     /// A newcomer.
-    pub(crate) fn new(alloc: Global, stream: TcpStream, now: u64) -> Result<Guest, AllocError> {
+    pub(crate) fn new(alloc: Global, stream: TcpStream, now: u64) -> Result<Client, AllocError> {
         let inbox = Inbox::new(alloc)?;
-        Ok(Guest {
+        Ok(Client {
             alloc,
             stream,
             inbox,
@@ -151,18 +151,18 @@ impl Guest {
     }
 
     /// Takes what came of its turn, and goes on.
-    pub(crate) fn take_back(&mut self, outcome: Outcome, now: u64) {
+    pub(crate) fn take_back(&mut self, end: TurnEnd, now: u64) {
         self.turns = self.turns.saturating_add(1);
-        match outcome {
-            Outcome::Open(reply) => {
+        match end {
+            TurnEnd::Open(reply) => {
                 self.outbox = reply;
                 self.is_closing = self.turns >= TURN_LIMIT;
             }
-            Outcome::Closed(reply) => {
+            TurnEnd::Closed(reply) => {
                 self.outbox = reply;
                 self.is_closing = true;
             }
-            Outcome::Lost => {
+            TurnEnd::Lost => {
                 self.stage = Stage::Gone;
                 return;
             }

@@ -1,17 +1,17 @@
 //! The open connections, and who of them is ready for a turn.
-use crate::guest::{Guest, Stage};
-use crate::visit::{Outcome, Visit};
+use crate::client::{Client, Stage};
+use crate::turn::{TurnEnd, TurnLine};
 use std::alloc::{AllocError, Global};
 use std::collections::VecDeque;
 
 /// The most open connections. A process may usually have 1,024 files open.
-pub(crate) const MOST_GUESTS: usize = 500;
+pub(crate) const MOST_CLIENTS: usize = 500;
 
 /// The open connections, each at a place of its own.
 #[derive(Drop)]
-pub(crate) struct Guests {
+pub(crate) struct Clients {
     alloc: Global,
-    places: Vec<Option<Guest>>,
+    places: Vec<Option<Client>>,
     /// The places of those who are ready, in the order in which they became so.
     ready: VecDeque<usize>,
     /// How many have gone and weren't told of yet.
@@ -20,17 +20,17 @@ pub(crate) struct Guests {
     quiet_until: u64,
 }
 
-impl Guests {
+impl Clients {
     /// None yet.
-    pub(crate) fn new(alloc: Global) -> Result<Guests, AllocError> {
-        let mut places = Vec::with_capacity(alloc, MOST_GUESTS)?;
-        for _place in 0..MOST_GUESTS {
+    pub(crate) fn new(alloc: Global) -> Result<Clients, AllocError> {
+        let mut places = Vec::with_capacity(alloc, MOST_CLIENTS)?;
+        for _place in 0..MOST_CLIENTS {
             places.push(None)?;
         }
-        Ok(Guests {
+        Ok(Clients {
             alloc,
             places,
-            ready: VecDeque::with_capacity(alloc, MOST_GUESTS)?,
+            ready: VecDeque::with_capacity(alloc, MOST_CLIENTS)?,
             gone: 0,
             quiet_until: u64::MAX,
         })
@@ -69,10 +69,10 @@ impl Guests {
         for place in 0..self.places.len() {
             match &self.places[place] {
                 None => found = Some(place),
-                Some(guest) => {
+                Some(client) => {
                     count = count.saturating_add(1);
-                    if guest.may_go(now) && guest.until() < first {
-                        first = guest.until();
+                    if client.may_go(now) && client.until() < first {
+                        first = client.until();
                         leaves = Some(place);
                     }
                 }
@@ -89,33 +89,33 @@ impl Guests {
     }
 
     /// Lets a newcomer have the place.
-    pub(crate) fn seat(&mut self, place: usize, guest: Guest, now: u64) {
+    pub(crate) fn seat(&mut self, place: usize, client: Client, now: u64) {
         if let Some(free) = self.places.get_mut(place) {
-            *free = Some(guest);
+            *free = Some(client);
         }
         self.wake(place, now);
     }
 
-    /// Something befell the guest's socket.
+    /// Something befell the client's socket.
     pub(crate) fn wake(&mut self, place: usize, now: u64) {
-        let Some(Some(guest)) = self.places.get_mut(place) else {
+        let Some(Some(client)) = self.places.get_mut(place) else {
             return;
         };
-        guest.wake();
-        if guest.stage() != Stage::Ready {
-            guest.go_on(now);
+        client.wake();
+        if client.stage() != Stage::Ready {
+            client.go_on(now);
             self.settle(place);
         }
     }
 
     /// The turn of the one who became ready first.
-    pub(crate) fn next_turn(&mut self) -> Option<Visit> {
+    pub(crate) fn next_turn(&mut self) -> Option<TurnLine> {
         let place = self.ready.pop_front()?;
-        let Some(Some(guest)) = self.places.get_mut(place) else {
+        let Some(Some(client)) = self.places.get_mut(place) else {
             return None;
         };
-        match guest.hand_out() {
-            Ok((bytes, at_end)) => Some(Visit::new(self.alloc, place, bytes, at_end)),
+        match client.hand_out() {
+            Ok((bytes, at_end)) => Some(TurnLine::new(self.alloc, place, bytes, at_end)),
             Err(_) => {
                 self.forget(place);
                 None
@@ -124,9 +124,9 @@ impl Guests {
     }
 
     /// Takes back what came of a turn.
-    pub(crate) fn end_turn(&mut self, place: usize, outcome: Outcome, now: u64) {
-        if let Some(Some(guest)) = self.places.get_mut(place) {
-            guest.take_back(outcome, now);
+    pub(crate) fn end_turn(&mut self, place: usize, end: TurnEnd, now: u64) {
+        if let Some(Some(client)) = self.places.get_mut(place) {
+            client.take_back(end, now);
         }
         self.settle(place);
     }
@@ -138,34 +138,34 @@ impl Guests {
         }
         self.quiet_until = u64::MAX;
         for place in 0..self.places.len() {
-            let Some(Some(guest)) = self.places.get(place) else {
+            let Some(Some(client)) = self.places.get(place) else {
                 continue;
             };
-            if guest.waits() && guest.until() <= now {
+            if client.waits() && client.until() <= now {
                 self.forget(place);
             } else {
-                self.quiet_until = self.quiet_until.min(guest.until());
+                self.quiet_until = self.quiet_until.min(client.until());
             }
         }
     }
 
-    /// Puts a guest who went on where it belongs now.
+    /// Puts a client who went on where it belongs now.
     fn settle(&mut self, place: usize) {
-        let Some(Some(guest)) = self.places.get(place) else {
+        let Some(Some(client)) = self.places.get(place) else {
             return;
         };
-        match guest.stage() {
+        match client.stage() {
             Stage::Ready => {
                 if self.ready.push_back(place).is_err() {
                     self.forget(place);
                 }
             }
             Stage::Gone => self.forget(place),
-            _ => self.quiet_until = self.quiet_until.min(guest.until()),
+            _ => self.quiet_until = self.quiet_until.min(client.until()),
         }
     }
 
-    /// Lets the guest go.
+    /// Lets the client go.
     fn forget(&mut self, place: usize) {
         if let Some(taken) = self.places.get_mut(place) {
             *taken = None;
