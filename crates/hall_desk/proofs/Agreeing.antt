@@ -179,7 +179,7 @@ module _ (world : World) (typed : IsWorld world) where
       one_caller caller _ _ (One given other new next) (λ person x y. (x.0 ∙ sym y.0, x.1 ∙ sym y.1)) p q
   one_allowed caller (action.Protests id) t found again given other new next is same p q =
       one_caller caller _ _ (One given other new next) (λ person x y. (x.0 ∙ sym y.0, x.1 ∙ sym y.1)) p q
-  one_allowed caller (action.Rule id entrant token ruling) t found again given other new next is same p q = one_ruling id entrant token ruling given other new next p q
+  one_allowed caller (action.RuleProtest id entrant token ruling) t found again given other new next is same p q = one_ruling id entrant token ruling given other new next p q
   one_allowed caller (action.Publish id) t found again given other new next is same p q = one_publication id given other new next p q
   one_allowed caller (action.Table id) t found again given other new next is same p q = (one_table_read id given other p.0 q.0, p.1 ∙ sym q.1)
 
@@ -191,7 +191,7 @@ module _ (world : World) (typed : IsWorld world) where
       let rows : x.1 ≡ y.1 = one_row (get world.answers (record { entrant = person.name; round = id; number = number; token = token })) x.1 y.1 x.3 y.3 in
       x.4 ∙ (λ i. reply.Submit (rows i).n (told_verdict (rounds i) (rows i).verdict)) ∙ sym y.4) p q
   one_first_reply caller (action.Protest id token number text) given other p q = one_caller caller _ _ (given ≡ other) (λ person x y. x.2 ∙ sym y.2) p q
-  one_first_reply caller (action.Rule id entrant token ruling) given other (row, ruled, kept, is, told) (same, rules, found, also, says) =
+  one_first_reply caller (action.RuleProtest id entrant token ruling) given other (row, ruled, kept, is, told) (same, rules, found, also, says) =
       let rows : row ≡ same = one_row (protest_of world entrant id token) row same kept found in
       let rulings : ruled ≡ rules = one_row same.ruling ruled rules (ap (λ (r : ProtestRow). r.ruling) (sym rows) ∙ is) also in
       told ∙ ap reply.RuleProtest rulings ∙ sym says

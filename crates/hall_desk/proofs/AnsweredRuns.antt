@@ -53,7 +53,7 @@ allowed_serves world caller (action.Answers id) t found given new h = told given
 allowed_serves world caller (action.Solutions id) t found given new h = told given _ tt h.0.4
 allowed_serves world caller (action.Protest id token number text) t found given new (person, is, (says, made)) = told given _ tt says
 allowed_serves world caller (action.Protests id) t found given new h = told given _ tt h.2.0
-allowed_serves world caller (action.Rule id entrant token ruling) t found given new h = told given _ tt h.2
+allowed_serves world caller (action.RuleProtest id entrant token ruling) t found given new h = told given _ tt h.2
 allowed_serves world caller (action.Publish id) t found given new h = told given _ tt h.2
 allowed_serves world caller (action.Table id) t found given new h = told given _ tt h.0.2
 
@@ -61,7 +61,7 @@ first_serves : (world : World) (caller : Option Person) (a : Action) (given : Re
 unfolding serves
 first_serves world caller (action.Submit id number token answer) given (person, is, (round, row, kept, at, says)) = told given _ tt says
 first_serves world caller (action.Protest id token number text) given (person, is, (row, at, says)) = told given _ tt says
-first_serves world caller (action.Rule id entrant token ruling) given (row, ruled, at, has, says) = told given _ tt says
+first_serves world caller (action.RuleProtest id entrant token ruling) given (row, ruled, at, has, says) = told given _ tt says
 first_serves world caller _ given h = absurd h
 
 decided_serves : (d : Decision) (world : World) (caller : Option Person) (a : Action) (t : ℕ) (found : PuzzleState) (given : Reply) (new : World) → Decided d world caller a t found given new → given ≢ reply.Unavailable

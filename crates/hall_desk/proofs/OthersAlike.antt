@@ -232,14 +232,14 @@ module _ (last : World) (e : Person) (settled : IsWorld last) (there : get last.
 
   -- ---- a request that both make
   abbrev RulesOther : World → Action → Type 0
-  RulesOther world a = (id : List ℕ) × (entrant : List ℕ) × (token : List ℕ) × (ruling : Ruling) × (a ≡ action.Rule id entrant token ruling) × (Stays world entrant id → ⊥)
+  RulesOther world a = (id : List ℕ) × (entrant : List ℕ) × (token : List ℕ) × (ruling : Ruling) × (a ≡ action.RuleProtest id entrant token ruling) × (Stays world entrant id → ⊥)
 
   agrees : (world other : World) → Alike world other → (a : Action) → ((id : List ℕ) → a ≢ action.Publish id) → Agrees world other a ⊎ RulesOther world a
-  agrees world other alike (action.Rule id entrant token ruling) never =
+  agrees world other alike (action.RuleProtest id entrant token ruling) never =
       let key : ProtestKey = record { entrant = entrant; round = id; token = token } in
-      elim (is_other_name entrant) as (λ b. is_other_name entrant ≡ b → Agrees world other (action.Rule id entrant token ruling) ⊎ RulesOther world (action.Rule id entrant token ruling)) [
+      elim (is_other_name entrant) as (λ b. is_other_name entrant ≡ b → Agrees world other (action.RuleProtest id entrant token ruling) ⊎ RulesOther world (action.RuleProtest id entrant token ruling)) [
         | false ↦ λ kept. inl (alike.protests key (inl kept))
-        | true ↦ λ is_other. elim (get world.rounds id) as (λ (o : Option Round). get world.rounds id ≡ o → Agrees world other (action.Rule id entrant token ruling) ⊎ RulesOther world (action.Rule id entrant token ruling)) [
+        | true ↦ λ is_other. elim (get world.rounds id) as (λ (o : Option Round). get world.rounds id ≡ o → Agrees world other (action.RuleProtest id entrant token ruling) ⊎ RulesOther world (action.RuleProtest id entrant token ruling)) [
           | None ↦ λ gone. inr (
             id,
             entrant,
@@ -251,7 +251,7 @@ module _ (last : World) (e : Person) (settled : IsWorld last) (there : get last.
               | inr (round, at, published) ↦ let none : None ≡ Some round = sym gone ∙ at in absurd (cc)
             ],
           )
-          | Some round ↦ λ at. elim round.published as (λ b. round.published ≡ b → Agrees world other (action.Rule id entrant token ruling) ⊎ RulesOther world (action.Rule id entrant token ruling)) [
+          | Some round ↦ λ at. elim round.published as (λ b. round.published ≡ b → Agrees world other (action.RuleProtest id entrant token ruling) ⊎ RulesOther world (action.RuleProtest id entrant token ruling)) [
             | true ↦ λ published. inl (alike.protests key (inr (round, at, published)))
             | false ↦ λ unpublished. inr (
               id,

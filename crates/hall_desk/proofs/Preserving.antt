@@ -38,7 +38,7 @@ use Rattle.hall_desk.proofs.Shows.{one_row}
 
 -- what the rules read of others: the protest that is ruled is the same, and so are the protests where one publishes
 abbrev pub Agrees : World → World → Action → Type 0
-Agrees world other (action.Rule id entrant token ruling) = protest_of world entrant id token ≡ protest_of other entrant id token
+Agrees world other (action.RuleProtest id entrant token ruling) = protest_of world entrant id token ≡ protest_of other entrant id token
 Agrees world other (action.Publish id) = world.protests ≡ other.protests
 Agrees world other _ = Unit {0}
 
@@ -177,7 +177,7 @@ module _ (ex : List ℕ → List ℕ → List ℕ) (hidden : List ℕ → Bool) 
         (made' ∙ ap (λ (p : Person). record beside { protests = insert protests (open_protest p id token number text).key (open_protest p id token number text) }) one)
 
     rule_alike : (id entrant token : List ℕ) (ruling : Ruling) (found : PuzzleState) (given answered : Reply) (new changed : World) → protest_of world entrant id token ≡ protest_of beside entrant id token →
-        Allowed world caller (action.Rule id entrant token ruling) t found given new → Allowed beside caller (action.Rule id entrant token ruling) t found answered changed → AlikeFor ex hidden Kept new changed
+        Allowed world caller (action.RuleProtest id entrant token ruling) t found given new → Allowed beside caller (action.RuleProtest id entrant token ruling) t found answered changed → AlikeFor ex hidden Kept new changed
     rule_alike id entrant token ruling found given answered new changed same (row, at, told, made) (row', at', told', made') =
         let key : ProtestKey = record { entrant = entrant; round = id; token = token } in
         let one : row' ≡ row = one_row (get protests key) row' row at' (sym same ∙ at) in
@@ -190,7 +190,7 @@ module _ (ex : List ℕ → List ℕ → List ℕ) (hidden : List ℕ → Bool) 
     needed (action.Certify key budget) h = refl
     needed (action.PutRound id sheet) h = refl
     needed (action.Release id) h = refl
-    needed (action.Rule id entrant token ruling) h = h
+    needed (action.RuleProtest id entrant token ruling) h = h
     needed (action.Publish id) h = h
     needed _ h = tt
 
@@ -214,7 +214,7 @@ module _ (ex : List ℕ → List ℕ → List ℕ) (hidden : List ℕ → Bool) 
     allowed_alike (action.Solutions id) h found given answered new changed p q = unchanged new changed p.1 q.1
     allowed_alike (action.Protest id token number text) h found given answered new changed p q = protest_alike id token number text found given answered new changed p q
     allowed_alike (action.Protests id) h found given answered new changed p q = unchanged new changed p.2.1 q.2.1
-    allowed_alike (action.Rule id entrant token ruling) h found given answered new changed p q = rule_alike id entrant token ruling found given answered new changed h p q
+    allowed_alike (action.RuleProtest id entrant token ruling) h found given answered new changed p q = rule_alike id entrant token ruling found given answered new changed h p q
     allowed_alike (action.Publish id) h found given answered new changed (round, at, told, made) (round', at', told', made') =
         let one : round ≡ round' = one_row (get world.rounds id) round round' at at' in
         rounds_change new changed _ _ (ap (λ (r : Round). insert world.rounds id (record r { published = true })) one) made made'

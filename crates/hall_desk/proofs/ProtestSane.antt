@@ -179,7 +179,7 @@ protest_step world caller id token number text t found given new sane there aske
 
 -- a Rule keeps the world sane: it closes a protest that stands, whoever made it
 pub rule_step : (world : World) (caller : Option Person) (id entrant token : List ℕ) (ruling : Ruling) (t : ℕ) (found : PuzzleState) (given : Reply) (new : World) → Sane world →
-    IsAction (action.Rule id entrant token ruling) → Allowed world caller (action.Rule id entrant token ruling) t found given new → Sane new
+    IsAction (action.RuleProtest id entrant token ruling) → Allowed world caller (action.RuleProtest id entrant token ruling) t found given new → Sane new
 rule_step world caller id entrant token ruling t found given new sane asked (row, kept, reply, made) =
     let key : ProtestKey = record { entrant = entrant; round = id; token = token } in
     let ruled : ProtestRow = record row { ruling = Some ruling } in

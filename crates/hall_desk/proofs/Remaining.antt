@@ -361,7 +361,7 @@ protest_remains world caller id token number text t found given new none (person
 
 -- a Rule rules its protest where no ruling stands
 rule_remains : (world : World) (caller : Option Person) (id entrant token : List ℕ) (ruling : Ruling) (t : ℕ) (found : PuzzleState) (given : Reply) (new : World) →
-    NoneBelow 21 world caller (action.Rule id entrant token ruling) t → Allowed world caller (action.Rule id entrant token ruling) t found given new → Remains world new
+    NoneBelow 21 world caller (action.RuleProtest id entrant token ruling) t → Allowed world caller (action.RuleProtest id entrant token ruling) t found given new → Remains world new
 rule_remains world caller id entrant token ruling t found given new none (row, kept, told, made) =
     let own_key : ProtestKey = record { entrant = entrant; round = id; token = token } in
     let now : ProtestRow = record row { ruling = Some ruling } in
@@ -411,7 +411,7 @@ allowed_remains world caller action.ListRounds t found given new none h = remain
 allowed_remains world caller (action.Solutions id) t found given new none h = remains_same world new h.1
 allowed_remains world caller (action.Protests id) t found given new none h = remains_same world new h.2.1
 allowed_remains world caller (action.Protest id token number text) t found given new none h = protest_remains world caller id token number text t found given new none h
-allowed_remains world caller (action.Rule id entrant token ruling) t found given new none h = rule_remains world caller id entrant token ruling t found given new none h
+allowed_remains world caller (action.RuleProtest id entrant token ruling) t found given new none h = rule_remains world caller id entrant token ruling t found given new none h
 allowed_remains world caller (action.Table id) t found given new none h = remains_same world new h.1
 
 -- a step keeps them

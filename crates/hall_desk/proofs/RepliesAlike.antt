@@ -324,13 +324,13 @@ module _ (ex : List ℕ → List ℕ → List ℕ) (hidden : List ℕ → Bool) 
     allowed_alike (action.Certify puzzle_key budget) found again given answered new changed may none h k = absurd (false≢true may)
     allowed_alike (action.PutRound id sheet) found again given answered new changed may none h k = absurd (false≢true may)
     allowed_alike (action.Release id) found again given answered new changed may none h k = absurd (false≢true may)
-    allowed_alike (action.Rule id entrant token ruling) found again given answered new changed may none h k = absurd (false≢true may)
+    allowed_alike (action.RuleProtest id entrant token ruling) found again given answered new changed may none h k = absurd (false≢true may)
     allowed_alike (action.Publish id) found again given answered new changed may none h k = absurd (false≢true may)
 
     repeated_alike : (a : Action) (given answered : Reply) → may e.roles a ≡ true → FirstReply world (Some e) a given → FirstReply later (Some e) (exchanged ex a) answered → answered ≡ exchanged_reply ex a given
     repeated_alike (action.Submit id number token answer) given answered may h k = told_again id number token answer given answered h k
     repeated_alike (action.Protest id token number text) given answered may (person, is, (row, at, told)) (person', is', (row', at', told')) = told' ∙ sym told
-    repeated_alike (action.Rule id entrant token ruling) given answered may h k = absurd (false≢true may)
+    repeated_alike (action.RuleProtest id entrant token ruling) given answered may h k = absurd (false≢true may)
     repeated_alike _ given answered may h k = absurd h
 
     denied_alike : (a : Action) (given answered : Reply) (k : ℕ) → given ≡ reply.Denied k → answered ≡ reply.Denied k → answered ≡ exchanged_reply ex a given
@@ -407,7 +407,7 @@ module _ (ex : List ℕ → List ℕ → List ℕ) (hidden : List ℕ → Bool) 
     stranger_answers (action.Solutions a) d f found again given answered new changed first p second q = refused_alike (action.Solutions a) (λ id e. absurd (cc)) d f found again given answered new changed first p second q
     stranger_answers (action.Protest a b c g) d f found again given answered new changed first p second q = refused_alike (action.Protest a b c g) (λ id e. absurd (cc)) d f found again given answered new changed first p second q
     stranger_answers (action.Protests a) d f found again given answered new changed first p second q = refused_alike (action.Protests a) (λ id e. absurd (cc)) d f found again given answered new changed first p second q
-    stranger_answers (action.Rule a b c g) d f found again given answered new changed first p second q = refused_alike (action.Rule a b c g) (λ id e. absurd (cc)) d f found again given answered new changed first p second q
+    stranger_answers (action.RuleProtest a b c g) d f found again given answered new changed first p second q = refused_alike (action.RuleProtest a b c g) (λ id e. absurd (cc)) d f found again given answered new changed first p second q
     stranger_answers (action.Publish a) d f found again given answered new changed first p second q = refused_alike (action.Publish a) (λ id e. absurd (cc)) d f found again given answered new changed first p second q
 
 -- two worlds that look alike to a person who holds the role entrant alone answer the person's requests alike

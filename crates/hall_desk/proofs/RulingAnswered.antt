@@ -22,9 +22,9 @@ use Rattle.hall_desk.proofs.RulingsStay.{repeats_at_eighteen, ruled_later}
 
 module _ (world : World) (by : Option (List ℕ)) (u : ℕ) (id entrant token : List ℕ) (again ruled : Ruling) (row : ProtestRow) (referee : Person)
     (stands : protest_of world entrant id token ≡ Some row) (so : row.ruling ≡ Some ruled) (released : IsReleasedRound world id)
-    (is : caller_of world by ≡ Some referee) (may_rule : IsTrue referee.roles.referee) (apart : ¬ (IsInvolved world (Some referee) (action.Rule id entrant token again))) where
+    (is : caller_of world by ≡ Some referee) (may_rule : IsTrue referee.roles.referee) (apart : ¬ (IsInvolved world (Some referee) (action.RuleProtest id entrant token again))) where
   -- no rule before that on rulings forbids the ruling
-  none_forbids : (r : Rule) → number_of r < 18 → Forbids r world (caller_of world by) (action.Rule id entrant token again) u → ⊥
+  none_forbids : (r : Rule) → number_of r < 18 → Forbids r world (caller_of world by) (action.RuleProtest id entrant token again) u → ⊥
   none_forbids r few forbids = elim (ruling_rules id entrant token again r forbids.0) [
     | inl same ↦
         let unknown : caller_of world by ≡ None = says rule.UnknownKey same in
@@ -40,25 +40,25 @@ module _ (world : World) (by : Option (List ℕ)) (u : ℕ) (id entrant token : 
       | inl missing ↦ not_released world (caller_of world by) u id entrant token again ruled row stands so missing released
       | inr gone ↦ let no : Some row ≡ None = sym stands ∙ gone in cc
     ]
-    | inr (inr (inr (inl same))) ↦ apart (subst (λ (c : Option Person). IsInvolved world c (action.Rule id entrant token again)) is (says rule.Involved same))
+    | inr (inr (inr (inl same))) ↦ apart (subst (λ (c : Option Person). IsInvolved world c (action.RuleProtest id entrant token again)) is (says rule.Involved same))
     | inr (inr (inr (inr same))) ↦ let late : number_of r ≡ 18 = ap number_of same in omega (arith, few, late)
   ] where
-    says : (x : Rule) → r ≡ x → Sentence x world (caller_of world by) (action.Rule id entrant token again) u
-    says x same = (subst (λ (y : Rule). Forbids y world (caller_of world by) (action.Rule id entrant token again) u) same forbids).1
+    says : (x : Rule) → r ≡ x → Sentence x world (caller_of world by) (action.RuleProtest id entrant token again) u
+    says x same = (subst (λ (y : Rule). Forbids y world (caller_of world by) (action.RuleProtest id entrant token again) u) same forbids).1
 
   -- nor does any repeat it
-  none_before : NoneBelow 18 world (caller_of world by) (action.Rule id entrant token again) u
+  none_before : NoneBelow 18 world (caller_of world by) (action.RuleProtest id entrant token again) u
   none_before r few = (
     none_forbids r few,
     λ repeated. let late = repeats_at_eighteen world (caller_of world by) id entrant token again r repeated in omega (arith, few, late),
   )
 
   -- the same ruling is a repetition
-  repeats : again ≡ ruled → First world (caller_of world by) (action.Rule id entrant token again) u Repeat
+  repeats : again ≡ ruled → First world (caller_of world by) (action.RuleProtest id entrant token again) u Repeat
   repeats same = (rule.RuledOtherwise, ((4, lit< tt, refl), (row, stands, so ∙ ap Some (sym same))), none_before)
 
   -- another one is denied by the rule on rulings
-  denies : again ≢ ruled → First world (caller_of world by) (action.Rule id entrant token again) u (Deny 18)
+  denies : again ≢ ruled → First world (caller_of world by) (action.RuleProtest id entrant token again) u (Deny 18)
   denies other = (
     rule.RuledOtherwise,
     refl,
@@ -73,8 +73,8 @@ module _ (world : World) (by : Option (List ℕ)) (u : ℕ) (id entrant token : 
   )
 
   -- so there is a step that answers it
-  answers_again : (again ≡ ruled → Step world u (record { key = by; action = action.Rule id entrant token again }) (reply.RuleProtest ruled) world)
-      × (again ≢ ruled → Step world u (record { key = by; action = action.Rule id entrant token again }) (reply.Denied 18) world)
+  answers_again : (again ≡ ruled → Step world u (record { key = by; action = action.RuleProtest id entrant token again }) (reply.RuleProtest ruled) world)
+      × (again ≢ ruled → Step world u (record { key = by; action = action.RuleProtest id entrant token again }) (reply.Denied 18) world)
   answers_again = (
     λ same. inr (state.New, (Repeat, repeats same, ((row, ruled, stands, so, refl), refl))),
     λ other. inr (state.New, (Deny 18, denies other, (refl, refl))),

@@ -19,7 +19,7 @@ use Rattle.hall_desk.specs.declared.reply.Reply.{Reply}
 use Rattle.hall_desk.specs.declared.reply.Reply.TheVariants as reply
 
 -- the rules that are asked of a ruling
-pub ruling_rules : (id entrant token : List ℕ) (ruling : Ruling) (r : Rule) → Contains (rules_asked (action.Rule id entrant token ruling)) r →
+pub ruling_rules : (id entrant token : List ℕ) (ruling : Ruling) (r : Rule) → Contains (rules_asked (action.RuleProtest id entrant token ruling)) r →
     (r ≡ rule.UnknownKey) ⊎ ((r ≡ rule.NoRole) ⊎ ((r ≡ rule.Missing) ⊎ ((r ≡ rule.Involved) ⊎ (r ≡ rule.RuledOtherwise))))
 ruling_rules id entrant token ruling r (zero, within, is) = inl (sym is)
 ruling_rules id entrant token ruling r (suc zero, within, is) = inr (inl (sym is))
@@ -31,7 +31,7 @@ ruling_rules id entrant token ruling r (suc (suc (suc (suc (suc i)))), within, i
 module _ (world : World) (caller : Option Person) (t : ℕ) (id entrant token : List ℕ) (ruling ruled : Ruling) (row : ProtestRow)
     (stands : protest_of world entrant id token ≡ Some row) (so : row.ruling ≡ Some ruled) where
   -- no rule after the one on rulings decides
-  pub ruling_decides : (n : ℕ) → NoneBelow n world caller (action.Rule id entrant token ruling) t → ¬ (18 < n)
+  pub ruling_decides : (n : ℕ) → NoneBelow n world caller (action.RuleProtest id entrant token ruling) t → ¬ (18 < n)
   ruling_decides n none past =
       (none rule.RuledOtherwise past).0 (
         (4, lit< tt, refl),
@@ -47,23 +47,23 @@ module _ (world : World) (caller : Option Person) (t : ℕ) (id entrant token : 
       cc
 
   -- only the rule on rulings finds that the protest was ruled so before
-  pub repeated_ruling : (r : Rule) → Repeated r world caller (action.Rule id entrant token ruling) → ruled ≡ ruling
+  pub repeated_ruling : (r : Rule) → Repeated r world caller (action.RuleProtest id entrant token ruling) → ruled ≡ ruling
   repeated_ruling rule.TokenTaken (asked, same) = absurd same
   repeated_ruling rule.RuledOtherwise (asked, (found, at, same)) = sym (one_ruling found ruling at same)
   repeated_ruling _ (asked, same) = absurd same
 
   -- the round isn't there or is a draft, where the rule on what isn't there denies it: the protest stands
-  pub not_released : RoundIsMissing world caller (action.Rule id entrant token ruling) id → ¬ (IsReleasedRound world id)
+  pub not_released : RoundIsMissing world caller (action.RuleProtest id entrant token ruling) id → ¬ (IsReleasedRound world id)
   not_released missing (round, kept, released) = let no : true ≡ false = sym released ∙ (missing round kept).0 in cc
 
   -- what a rule says of the ruling that forbids it
-  forbidding : (r x : Rule) → r ≡ x → Forbids r world caller (action.Rule id entrant token ruling) t → Sentence x world caller (action.Rule id entrant token ruling) t
-  forbidding r x same forbids = (subst (λ (y : Rule). Forbids y world caller (action.Rule id entrant token ruling) t) same forbids).1
+  forbidding : (r x : Rule) → r ≡ x → Forbids r world caller (action.RuleProtest id entrant token ruling) t → Sentence x world caller (action.RuleProtest id entrant token ruling) t
+  forbidding r x same forbids = (subst (λ (y : Rule). Forbids y world caller (action.RuleProtest id entrant token ruling) t) same forbids).1
 
   -- a rule that denies it is one on the ruler, that on what isn't there, or the one on rulings, for another ruling
-  denied : (r : Rule) (given : Reply) → Forbids r world caller (action.Rule id entrant token ruling) t → given ≡ reply.Denied (number_of r) →
+  denied : (r : Rule) (given : Reply) → Forbids r world caller (action.RuleProtest id entrant token ruling) t → given ≡ reply.Denied (number_of r) →
       ((given ≡ reply.Denied 4) × ¬ (IsReleasedRound world id))
-      ⊎ (IsRulerDenied world caller (action.Rule id entrant token ruling) t given ⊎ IsRulingRetryAnswered ruled ruling given)
+      ⊎ (IsRulerDenied world caller (action.RuleProtest id entrant token ruling) t given ⊎ IsRulingRetryAnswered ruled ruling given)
   denied r given forbids told = elim (ruling_rules id entrant token ruling r forbids.0) [
     | inl same ↦ inr (inl (inl (told ∙ ap (λ (x : Rule). reply.Denied (number_of x)) same, forbidding r rule.UnknownKey same forbids)))
     | inr (inl same) ↦ inr (inl (inr (inl (told ∙ ap (λ (x : Rule). reply.Denied (number_of x)) same, forbidding r rule.NoRole same forbids))))
@@ -79,7 +79,7 @@ module _ (world : World) (caller : Option Person) (t : ℕ) (id entrant token : 
   ]
 
   -- the first reply tells the ruling that stands
-  told_again : (given : Reply) → ruled ≡ ruling → FirstReply world caller (action.Rule id entrant token ruling) given → IsRulingRetryAnswered ruled ruling given
+  told_again : (given : Reply) → ruled ≡ ruling → FirstReply world caller (action.RuleProtest id entrant token ruling) given → IsRulingRetryAnswered ruled ruling given
   told_again given same (found, other, at, is, told) = inr (inr (same, told ∙ ap reply.RuleProtest (one_ruling found other at is)))
 
 -- a ruling acts once

@@ -34,14 +34,14 @@ pub record IsRuledIn (world kept : World) (id entrant token : List ℕ) (ruling 
   pub released : IsReleasedRound world id
 
 -- the one rule that repeats a ruling is that on rulings
-pub repeats_at_eighteen : (world : World) (caller : Option Person) (id entrant token : List ℕ) (ruling : Ruling) (r : Rule) → Repeated r world caller (action.Rule id entrant token ruling) → number_of r ≡ 18
+pub repeats_at_eighteen : (world : World) (caller : Option Person) (id entrant token : List ℕ) (ruling : Ruling) (r : Rule) → Repeated r world caller (action.RuleProtest id entrant token ruling) → number_of r ≡ 18
 repeats_at_eighteen world caller id entrant token ruling rule.RuledOtherwise h = refl
 repeats_at_eighteen world caller id entrant token ruling rule.TokenTaken h = absurd h.1
 repeats_at_eighteen world caller id entrant token ruling _ h = absurd h.1
 
 -- a ruling is told by a step that makes it, or finds it made
 ruled_in : (world kept : World) (t : ℕ) (key : Option (List ℕ)) (id entrant token : List ℕ) (ruling told : Ruling) →
-    Step world t (record { key = key; action = action.Rule id entrant token ruling }) (reply.RuleProtest told) kept → IsRuledIn world kept id entrant token ruling told
+    Step world t (record { key = key; action = action.RuleProtest id entrant token ruling }) (reply.RuleProtest told) kept → IsRuledIn world kept id entrant token ruling told
 ruled_in world kept t key id entrant token ruling told (inl (other, left)) = absurd (cc)
 ruled_in world kept t key id entrant token ruling told (inr (found, (Deny k, first, (other, left)))) = absurd (cc)
 ruled_in world kept t key id entrant token ruling told (inr (found, (Repeat, (r, repeated, none), ((row, ruled, stands, has, says), left)))) =
@@ -53,7 +53,7 @@ ruled_in world kept t key id entrant token ruling told (inr (found, (Repeat, (r,
       row = row;
       stands = ap (λ (w : World). protest_of w entrant id token) left ∙ stands;
       has = has ∙ ap Some asked;
-      released = released_found world (caller_of world key) (action.Rule id entrant token ruling) id refl (λ missing. (none rule.Missing (omega (arith, late))).0 ((2, lit< tt, refl), inl missing));
+      released = released_found world (caller_of world key) (action.RuleProtest id entrant token ruling) id refl (λ missing. (none rule.Missing (omega (arith, late))).0 ((2, lit< tt, refl), inl missing));
     }
 ruled_in world kept t key id entrant token ruling told (inr (found, (Allow, none, (row, stands, says, made)))) =
     let own_key : ProtestKey = record { entrant = entrant; round = id; token = token } in
@@ -63,7 +63,7 @@ ruled_in world kept t key id entrant token ruling told (inr (found, (Allow, none
       row = now;
       stands = ap (λ (w : World). get w.protests own_key) made ∙ get-insert_same protest_total world.protests own_key now;
       has = refl;
-      released = released_found world (caller_of world key) (action.Rule id entrant token ruling) id refl (λ missing. (none rule.Missing (lit< tt)).0 ((2, lit< tt, refl), inl missing));
+      released = released_found world (caller_of world key) (action.RuleProtest id entrant token ruling) id refl (λ missing. (none rule.Missing (lit< tt)).0 ((2, lit< tt, refl), inl missing));
     }
 
 -- a ruling that was told, in a later world
@@ -75,12 +75,12 @@ pub record IsRuledLater (later : World) (id entrant token : List ℕ) (ruling to
   pub released : IsReleasedRound later id
 
 pub ruled_later : (world kept later : World) (t : ℕ) (key : Option (List ℕ)) (id entrant token : List ℕ) (ruling told : Ruling) (events : List Event) →
-    Step world t (record { key = key; action = action.Rule id entrant token ruling }) (reply.RuleProtest told) kept → History kept events later → IsRuledLater later id entrant token ruling told
+    Step world t (record { key = key; action = action.RuleProtest id entrant token ruling }) (reply.RuleProtest told) kept → History kept events later → IsRuledLater later id entrant token ruling told
 ruled_later world kept later t key id entrant token ruling told events first life =
     let h = ruled_in world kept t key id entrant token ruling told first in
     let between : Remains kept later = records_stay kept later events life in
     let stays = between.protests (record { entrant = entrant; round = id; token = token }) h.row h.stands in
-    let remains : Remains world later = remains_on world kept later (step_remains world t (record { key = key; action = action.Rule id entrant token ruling }) (reply.RuleProtest told) kept first) between in
+    let remains : Remains world later = remains_on world kept later (step_remains world t (record { key = key; action = action.RuleProtest id entrant token ruling }) (reply.RuleProtest told) kept first) between in
     let round = remains.rounds id h.released.0 h.released.1 h.released.2 in
     record {
       same = h.same;

@@ -148,7 +148,7 @@ module _ (last : World) (e : Person) (settled : IsWorld last) (there : get last.
     }
 
   agrees : (world other : World) → Alike world other → (act : Action) → Agrees world other act
-  agrees world other alike (action.Rule id entrant token ruling) = alike.protests (record { entrant = entrant; round = id; token = token }) tt
+  agrees world other alike (action.RuleProtest id entrant token ruling) = alike.protests (record { entrant = entrant; round = id; token = token }) tt
   agrees world other alike (action.Publish id) = same_map protest_total same_protest_keys world.protests other.protests (λ key. alike.protests key tt)
   agrees world other alike _ = tt
 

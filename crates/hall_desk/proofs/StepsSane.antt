@@ -111,7 +111,7 @@ allowed_sane world caller action.ListRounds t found given new sane there timed i
 allowed_sane world caller (action.Solutions id) t found given new sane there timed is none h = subst Sane (sym h.1) sane
 allowed_sane world caller (action.Protest id token number text) t found given new sane there timed is none h = protest_step world caller id token number text t found given new sane there is none h
 allowed_sane world caller (action.Protests id) t found given new sane there timed is none h = subst Sane (sym h.2.1) sane
-allowed_sane world caller (action.Rule id entrant token ruling) t found given new sane there timed is none h = rule_step world caller id entrant token ruling t found given new sane is h
+allowed_sane world caller (action.RuleProtest id entrant token ruling) t found given new sane there timed is none h = rule_step world caller id entrant token ruling t found given new sane is h
 allowed_sane world caller (action.Publish id) t found given new sane there timed is none h = publish_step world caller id t found given new sane none h
 allowed_sane world caller (action.Table id) t found given new sane there timed is none h = subst Sane (sym h.1) sane
 

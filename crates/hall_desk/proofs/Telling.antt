@@ -11,7 +11,7 @@ use Rattle.hall_policy.specs.declared.record.Entry.{Entry}
 use Rattle.hall_policy.specs.declared.record.Ruling.{Ruling}
 use Rattle.hall_policy.specs.declared.request.Sheet.{Sheet}
 use Rattle.hall_policy.specs.declared.request.Action.{Action}
-use Rattle.hall_policy.specs.declared.request.Action.TheVariants.{Import, PutPuzzle, ReadPuzzle, ListPuzzles, Certify, PutRound, Release, ListRounds, ReadRound, Submit, Answers, Solutions, Protest, Protests, Rule, Publish, Table}
+use Rattle.hall_policy.specs.declared.request.Action.TheVariants.{Import, PutPuzzle, ReadPuzzle, ListPuzzles, Certify, PutRound, Release, ListRounds, ReadRound, Submit, Answers, Solutions, Protest, Protests, RuleProtest, Publish, Table}
 use Rattle.hall_policy.specs.declared.facts.Facts.{Facts}
 use Rattle.hall_policy.specs.Actions.{rules_asked}
 use Rattle.hall_policy.specs.Decided.{PassesUpTo}
@@ -37,7 +37,7 @@ caller_told facts world (Answers round) = (tt, (tt, (tt, tt)))
 caller_told facts world (Solutions round) = (tt, (tt, (tt, (tt, tt))))
 caller_told facts world (Protest round token number text) = (tt, (tt, (tt, (tt, (tt, (tt, (tt, (tt, (tt, tt)))))))))
 caller_told facts world (Protests round) = (tt, (tt, (tt, tt)))
-caller_told facts world (Rule round entrant token ruling) = (tt, (tt, (tt, (tt, (tt, tt)))))
+caller_told facts world (RuleProtest round entrant token ruling) = (tt, (tt, (tt, (tt, (tt, tt)))))
 caller_told facts world (Publish round) = (tt, (tt, (tt, (tt, (tt, (tt, tt))))))
 caller_told facts world (Table round) = (tt, (tt, tt))
 
@@ -61,7 +61,7 @@ table_without_caller facts (Answers round) t passes none = absurd (without_calle
 table_without_caller facts (Solutions round) t passes none = absurd (without_caller facts (Solutions round) t (0, lit< tt, refl) passes none)
 table_without_caller facts (Protest round token number text) t passes none = absurd (without_caller facts (Protest round token number text) t (0, lit< tt, refl) passes none)
 table_without_caller facts (Protests round) t passes none = absurd (without_caller facts (Protests round) t (0, lit< tt, refl) passes none)
-table_without_caller facts (Rule round entrant token ruling) t passes none = absurd (without_caller facts (Rule round entrant token ruling) t (0, lit< tt, refl) passes none)
+table_without_caller facts (RuleProtest round entrant token ruling) t passes none = absurd (without_caller facts (RuleProtest round entrant token ruling) t (0, lit< tt, refl) passes none)
 table_without_caller facts (Publish round) t passes none = absurd (without_caller facts (Publish round) t (0, lit< tt, refl) passes none)
 table_without_caller facts (Table round) t passes none = (round, refl)
 
@@ -124,12 +124,12 @@ module _ (world : World) (facts : Facts) (action : Action) where
           (tt, (tt, (round, (round, ((tt, standing), (round, (round, (round, (made, tt)))))))))
 
   -- a protest that is ruled: its round and itself, then who rules
-  module _ (id entrant token : List ℕ) (ruling : Ruling) (is : action ≡ Rule id entrant token ruling) (round : IsRoundFound world (Some id) facts.round)
+  module _ (id entrant token : List ℕ) (ruling : Ruling) (is : action ≡ RuleProtest id entrant token ruling) (round : IsRoundFound world (Some id) facts.round)
       (standing : facts.protest ≡ get world.protests (record { entrant = entrant; round = id; token = token })) where
     pub protest_there_told : TrueUpTo 4 facts world action
     protest_there_told = subst (λ (a : Action). TrueUpTo 4 facts world a) (sym is) (tt, (tt, ((round, standing), (tt, (tt, tt)))))
 
-    pub rule_told : (IsTrue facts.involved ↔ IsInvolved world facts.caller (Rule id entrant token ruling)) → TrueUpTo 20 facts world action
+    pub rule_told : (IsTrue facts.involved ↔ IsInvolved world facts.caller (RuleProtest id entrant token ruling)) → TrueUpTo 20 facts world action
     rule_told involved = subst (λ (a : Action). TrueUpTo 20 facts world a) (sym is) (tt, (tt, ((round, standing), (involved, (standing, tt)))))
 
   -- a round that is released: itself, then its entries' faults

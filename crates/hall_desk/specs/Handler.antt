@@ -76,7 +76,7 @@ IsProtestCountOf world caller asked count =
 
 -- the action that rules the protest
 abbrev pub rule_protest_action : RuleProtest → Action
-rule_protest_action asked = action.Rule asked.round.now asked.entrant.now asked.token.now asked.ruling
+rule_protest_action asked = action.RuleProtest asked.round.now asked.entrant.now asked.token.now asked.ruling
 
 -- where the protest is kept that is ruled
 abbrev pub ruled_key : RuleProtest → ProtestKey

@@ -19,7 +19,7 @@ use Rattle.hall_policy.specs.declared.record.PuzzleState.TheVariants as state
 use Rattle.hall_policy.specs.declared.record.Round.{Round}
 use Rattle.hall_policy.specs.declared.record.Ruling.{Ruling}
 use Rattle.hall_policy.specs.declared.request.Action.{Action}
-use Rattle.hall_policy.specs.declared.request.Action.TheVariants.{Submit, Protest, Rule}
+use Rattle.hall_policy.specs.declared.request.Action.TheVariants.{Submit, Protest, RuleProtest}
 use Rattle.hall_policy.specs.declared.request.Request.{Request}
 use Rattle.hall_policy.specs.declared.rule.Rule as rule
 use Rattle.hall_policy.specs.declared.rule.Rule.TheVariants.{UnknownKey, NoRole, Missing, OwnPuzzle, Involved}
@@ -177,7 +177,7 @@ abbrev pub RulingsActOnce : Type 0
 RulingsActOnce =
     (world : World) (t : ℕ) (key : Option (List ℕ)) (id entrant token : List ℕ) (ruling ruled : Ruling)
     (row : ProtestRow) (given : Reply) (new : World) →
-    let action : Action = Rule id entrant token ruling in
+    let action : Action = RuleProtest id entrant token ruling in
     protest_of world entrant id token ≡ Some row → row.ruling ≡ Some ruled →
     Step world t (record { key = key; action = action }) given new →
     (new ≡ world)

@@ -6,7 +6,7 @@ use Rattle.hall_policy.specs.declared.record.Person.{Person}
 use Rattle.hall_policy.specs.declared.record.ProtestRow.{ProtestRow}
 use Rattle.hall_policy.specs.declared.record.Ruling.{Ruling}
 use Rattle.hall_policy.specs.declared.request.Action.{Action}
-use Rattle.hall_policy.specs.declared.request.Action.TheVariants.{Protest, Rule}
+use Rattle.hall_policy.specs.declared.request.Action.TheVariants.{Protest, RuleProtest}
 use Rattle.hall_policy.specs.declared.request.Request.{Request}
 use Rattle.hall_store.specs.Caller.{caller_of}
 use Rattle.hall_desk.specs.Promises.{IsSameProtest, IsRulerDenied, IsRulingRetryAnswered}
@@ -67,12 +67,12 @@ abbrev pub RulingsStay : Type 0
 RulingsStay =
     (world kept later : World) (t : ℕ) (key : Option (List ℕ)) (id entrant token : List ℕ) (ruling told : Ruling)
     (events : List Event) →
-    Step world t (record { key = key; action = Rule id entrant token ruling }) (reply.RuleProtest told) kept →
+    Step world t (record { key = key; action = RuleProtest id entrant token ruling }) (reply.RuleProtest told) kept →
     History kept events later →
     (told ≡ ruling)
     × ((row : ProtestRow) × (protest_of later entrant id token ≡ Some row) × (row.ruling ≡ Some ruling))
     × ((u : ℕ) (by : Option (List ℕ)) (again : Ruling) (given : Reply) (new : World) →
-    let action : Action = Rule id entrant token again in
+    let action : Action = RuleProtest id entrant token again in
     Step later u (record { key = by; action = action }) given new →
     (new ≡ later)
     × (IsRulerDenied later (caller_of later by) action u given ⊎ IsRulingRetryAnswered ruling again given))
@@ -83,8 +83,8 @@ abbrev pub RulingRetriesAreAnswered : Type 0
 RulingRetriesAreAnswered =
     (world kept later : World) (t u : ℕ) (key by : Option (List ℕ)) (id entrant token : List ℕ)
     (ruling told again : Ruling) (referee : Person) (events : List Event) →
-    let action : Action = Rule id entrant token again in
-    Step world t (record { key = key; action = Rule id entrant token ruling }) (reply.RuleProtest told) kept →
+    let action : Action = RuleProtest id entrant token again in
+    Step world t (record { key = key; action = RuleProtest id entrant token ruling }) (reply.RuleProtest told) kept →
     History kept events later →
     caller_of later by ≡ Some referee → IsTrue referee.roles.referee → ¬ (IsInvolved later (Some referee) action) →
     (again ≡ ruling → Step later u (record { key = by; action = action }) (reply.RuleProtest ruling) later)

@@ -25,7 +25,7 @@ use Rattle.hall_policy.specs.declared.record.Ruling.{Ruling}
 use Rattle.hall_policy.specs.declared.request.Sheet.{Sheet}
 use Rattle.hall_policy.specs.declared.request.Action.{Action}
 use Rattle.hall_policy.specs.declared.request.Action.TheVariants.{Import, PutPuzzle, ReadPuzzle, ListPuzzles, Certify, PutRound, Release, ListRounds, ReadRound}
-use Rattle.hall_policy.specs.declared.request.Action.TheVariants.{Submit, Answers, Solutions, Protest, Protests, Rule, Publish, Table}
+use Rattle.hall_policy.specs.declared.request.Action.TheVariants.{Submit, Answers, Solutions, Protest, Protests, RuleProtest, Publish, Table}
 use Rattle.hall_policy.specs.declared.request.Request.{Request}
 use Rattle.hall_policy.specs.declared.rule.Decision.{Decision}
 use Rattle.hall_policy.specs.declared.rule.Decision.TheVariants.{Allow, Repeat, Deny}
@@ -259,7 +259,7 @@ Allowed world caller (Protest id token number text) t found given new =
     TheCaller caller (λ person. IsProtestStep world person id token number text given new)
 Allowed world caller (Protests id) t found given new =
     TheCaller caller (λ person. IsProtestsStep world person id given × (new ≡ world))
-Allowed world caller (Rule id entrant token ruling) t found given new =
+Allowed world caller (RuleProtest id entrant token ruling) t found given new =
     IsRuleProtestStep world id entrant token ruling given new
 Allowed world caller (Publish id) t found given new = IsPublishStep world id given new
 Allowed world caller (Table id) t found given new = IsTableStep world id given × (new ≡ world)
@@ -273,7 +273,7 @@ FirstReply world caller (Submit id number token answer) given =
 FirstReply world caller (Protest id token number text) given =
     TheCaller caller (λ person. (row : ProtestRow) × (protest_of world person.name id token ≡ Some row)
     × (given ≡ reply.Protest token))
-FirstReply world caller (Rule id entrant token ruling) given =
+FirstReply world caller (RuleProtest id entrant token ruling) given =
     (row : ProtestRow) × (ruled : Ruling) × (protest_of world entrant id token ≡ Some row) × (row.ruling ≡ Some ruled)
     × (given ≡ reply.RuleProtest ruled)
 FirstReply world caller (Import people) given = ⊥

@@ -12,12 +12,12 @@ ghost use Rattle.hall_desk.specs.Plans.{Planned, Steps, Seeds, Runs, FailsIn, Is
 ghost use Rattle.hall_desk.specs.Plans.{IsQuietPlan, IsSeedReply, AreStepped, NobodysAreAnswered, WritesIfAny};
 
 use crate::census::Census;
-use crate::table_copy::{TableCopy, left_by};
-use crate::planning::make_plan;
 use crate::plan::Plan;
+use crate::planning::make_plan;
 use crate::reply::Reply;
 use crate::seed::seed;
 use crate::step::{commit, run, step};
+use crate::table_copy::{TableCopy, left_by};
 use hall_policy::{Moment, People, Request};
 use hall_store::{ReadStore, Store, StoreFault};
 use std::alloc::{AllocError, Global};

@@ -13,7 +13,6 @@ ghost use Rattle.hall_desk.specs.Plans.{IsPlanFor, Planned, FailsIn, IsAvailable
 
 use crate::answers::Answers;
 use crate::certify_puzzle::Certify;
-use crate::table_copy::TableCopy;
 use crate::handler::Handler;
 use crate::import::Import;
 use crate::list_puzzles::ListPuzzles;
@@ -32,6 +31,7 @@ use crate::rule_protest::RuleProtest;
 use crate::solutions::Solutions;
 use crate::submit::Submit;
 use crate::table::plan_table;
+use crate::table_copy::TableCopy;
 use hall_policy::{Action, Decision, Facts, Moment, Request, RoundId, Rule, decide_up_to};
 use hall_store::{ReadStore, StoreFault};
 use std::alloc::Global;
@@ -184,7 +184,11 @@ fn plan_for_caller<S: ReadStore>(
 }
 
 /// The plan of the request's action, by its handler. (A table has none.)
-fn dispatch<S: ReadStore>(turn: &RequestAt, store: &mut S, facts: &mut Facts) -> Result<Plan, StoreFault>
+fn dispatch<S: ReadStore>(
+    turn: &RequestAt,
+    store: &mut S,
+    facts: &mut Facts,
+) -> Result<Plan, StoreFault>
     requires caller { Asks (S.content store.old) (λ world. IsCaller world turn.now.request.now.key facts.old.caller) }
     requires passed { PassesUpTo 3 facts.old turn.now.request.now.action turn.now.t }
     requires action { (round : List ℕ) → turn.now.request.now.action ≢ Table round }
@@ -218,7 +222,7 @@ fn dispatch<S: ReadStore>(turn: &RequestAt, store: &mut S, facts: &mut Facts) ->
             text,
         } => turn.handle(store, &Protest::of(round, token, *number, text), facts),
         Action::Protests { round } => turn.handle(store, &Protests { round }, facts),
-        Action::Rule {
+        Action::RuleProtest {
             round,
             entrant,
             token,

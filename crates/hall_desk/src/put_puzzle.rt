@@ -8,8 +8,8 @@ ghost use Rattle.hall_store.specs.Store.{Kept, Told, Fails};
 ghost use Rattle.hall_desk.specs.Shown.{state_name};
 ghost use Rattle.hall_desk.specs.Plans.{IsPlanOf, StandsAs};
 
-use crate::lookups::{find_author, find_release};
 use crate::handler::Handler;
+use crate::lookups::{find_author, find_release};
 use crate::plan::Plan;
 use crate::reply::{Reply, StateName};
 use hall_grid::{Puzzle, write_puzzle};

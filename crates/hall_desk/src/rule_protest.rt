@@ -33,7 +33,7 @@ impl<'a> RuleProtest<'a> {
         token: &'a Token,
         ruling: Ruling,
     ) -> RuleProtest<'a>
-        ensures { rule_protest_action result ≡ Action.Rule round.now entrant.now token.now ruling }
+        ensures { rule_protest_action result ≡ Action.RuleProtest round.now entrant.now token.now ruling }
     {
         RuleProtest {
             round,

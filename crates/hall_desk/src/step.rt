@@ -8,8 +8,8 @@ ghost use Rattle.hall_desk.specs.Sane.{Sane};
 ghost use Rattle.hall_desk.specs.Plans.{Steps, Runs, AreStepped, IsNobodys, AreNobodys, IsAvailable};
 ghost use Rattle.hall_desk.specs.Plans.{NobodysAreAnswered, WritesIfAny};
 
-use crate::planning::make_plan;
 use crate::plan::Plan;
+use crate::planning::make_plan;
 use crate::reply::Reply;
 use hall_policy::{Moment, Request};
 use hall_store::{Change, Store, StoreFault};

@@ -8,10 +8,10 @@ ghost use Rattle.hall_desk.specs.TableCopy.{IsCopied};
 ghost use Rattle.hall_desk.specs.Totals.{AreTotals, IsTableAt};
 ghost use Rattle.hall_desk.specs.Plans.{IsPlanFor, FailsIn};
 
-use crate::table_copy::{TableCopy, copy_of, text_of};
-use crate::planning::RequestAt;
 use crate::plan::Plan;
+use crate::planning::RequestAt;
 use crate::reply::{Reply, TableText};
+use crate::table_copy::{TableCopy, copy_of, text_of};
 use hall_policy::{Decision, Facts, Name, RoundId, RoundRow, decide};
 use hall_score::{Tally, table_text};
 use hall_store::{ReadStore, StoreFault};

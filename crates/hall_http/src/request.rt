@@ -151,14 +151,19 @@ fn protest_at(
 }
 
 /// The ruling that the body tells, of the entrant's protest with the token that the path names.
-fn rule_at(alloc: Global, method: &[u8], parts: &Parts, body: &[u8]) -> Result<Action, RequestFault>
+fn rule_protest_at(
+    alloc: Global,
+    method: &[u8],
+    parts: &Parts,
+    body: &[u8],
+) -> Result<Action, RequestFault>
     ensures { Finds result (ActionAt method.now Place.Ruling (parts_seen parts.now) body.now) }
 {
     let round = round_by(alloc, method, b"PUT", parts)?;
     let entrant = word(alloc, parts.second)?;
     let token = word(alloc, parts.third)?;
     let ruling = read_ruling(alloc, body)?;
-    Ok(Action::Rule {
+    Ok(Action::RuleProtest {
         round,
         entrant,
         token,
@@ -207,7 +212,7 @@ fn action_at(
             round: round_by(alloc, method, b"GET", parts)?,
         }),
         Place::Protest => protest_at(alloc, method, parts, body),
-        Place::Ruling => rule_at(alloc, method, parts, body),
+        Place::Ruling => rule_protest_at(alloc, method, parts, body),
         Place::Publish => Ok(Action::Publish {
             round: round_by(alloc, method, b"POST", parts)?,
         }),

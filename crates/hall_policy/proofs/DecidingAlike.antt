@@ -94,7 +94,7 @@ module _ (ex : List ℕ → List ℕ → List ℕ) (hidden : List ℕ → Bool) 
   Needs (action.Certify key budget) = world.puzzles ≡ puzzles
   Needs (action.PutRound id sheet) = world.puzzles ≡ puzzles
   Needs (action.Release id) = world.puzzles ≡ puzzles
-  Needs (action.Rule id entrant token ruling) = protest_of world entrant id token ≡ protest_of other entrant id token
+  Needs (action.RuleProtest id entrant token ruling) = protest_of world entrant id token ≡ protest_of other entrant id token
   Needs (action.Publish id) = world.protests ≡ protests
   Needs _ = Unit {0}
 
@@ -155,7 +155,7 @@ module _ (ex : List ℕ → List ℕ → List ℕ) (hidden : List ℕ → Bool) 
     )
 
     involved : (id entrant token : List ℕ) (ruling : Ruling) →
-        IsInvolved world caller (action.Rule id entrant token ruling) ↔ IsInvolved other caller (action.Rule id entrant token ruling)
+        IsInvolved world caller (action.RuleProtest id entrant token ruling) ↔ IsInvolved other caller (action.RuleProtest id entrant token ruling)
     involved id entrant token ruling = (
       (λ (person, is, h). (
         person,
@@ -220,8 +220,8 @@ module _ (ex : List ℕ → List ℕ → List ℕ) (hidden : List ℕ → Bool) 
     says_protests : (id : List ℕ) → Needs (action.Protests id) → Says (action.Protests id)
     says_protests id needs = (record { forbids = ((λ h. h), (λ h. h)); repeats = ((λ h. h), (λ h. h)) }, (record { forbids = ((λ h. h), (λ h. h)); repeats = ((λ h. h), (λ h. h)) }, (record { forbids = ((λ h. h), (λ h. h)); repeats = ((λ h. h), (λ h. h)) }, tt)))
 
-    says_rule : (id : List ℕ) (entrant : List ℕ) (token : List ℕ) (ruling : Ruling) → Needs (action.Rule id entrant token ruling) → Says (action.Rule id entrant token ruling)
-    says_rule id entrant token ruling needs = (record { forbids = ((λ h. h), (λ h. h)); repeats = ((λ h. h), (λ h. h)) }, (record { forbids = ((λ h. h), (λ h. h)); repeats = ((λ h. h), (λ h. h)) }, (record { forbids = moved (λ (found : Option ProtestRow). RoundIsMissing world caller (action.Rule id entrant token ruling) id ⊎ (found ≡ None)) (protest_of world entrant id token) (protest_of other entrant id token) needs; repeats = ((λ h. h), (λ h. h)) }, (record { forbids = involved id entrant token ruling; repeats = ((λ h. h), (λ h. h)) }, (record { forbids = both_not (moved (λ (found : Option ProtestRow). (row : ProtestRow) × (found ≡ Some row) × (row.ruling ≢ None)) (protest_of world entrant id token) (protest_of other entrant id token) needs) (moved (λ (found : Option ProtestRow). (row : ProtestRow) × (found ≡ Some row) × (row.ruling ≡ Some ruling)) (protest_of world entrant id token) (protest_of other entrant id token) needs); repeats = moved (λ (found : Option ProtestRow). (row : ProtestRow) × (found ≡ Some row) × (row.ruling ≡ Some ruling)) (protest_of world entrant id token) (protest_of other entrant id token) needs }, tt)))))
+    says_rule : (id : List ℕ) (entrant : List ℕ) (token : List ℕ) (ruling : Ruling) → Needs (action.RuleProtest id entrant token ruling) → Says (action.RuleProtest id entrant token ruling)
+    says_rule id entrant token ruling needs = (record { forbids = ((λ h. h), (λ h. h)); repeats = ((λ h. h), (λ h. h)) }, (record { forbids = ((λ h. h), (λ h. h)); repeats = ((λ h. h), (λ h. h)) }, (record { forbids = moved (λ (found : Option ProtestRow). RoundIsMissing world caller (action.RuleProtest id entrant token ruling) id ⊎ (found ≡ None)) (protest_of world entrant id token) (protest_of other entrant id token) needs; repeats = ((λ h. h), (λ h. h)) }, (record { forbids = involved id entrant token ruling; repeats = ((λ h. h), (λ h. h)) }, (record { forbids = both_not (moved (λ (found : Option ProtestRow). (row : ProtestRow) × (found ≡ Some row) × (row.ruling ≢ None)) (protest_of world entrant id token) (protest_of other entrant id token) needs) (moved (λ (found : Option ProtestRow). (row : ProtestRow) × (found ≡ Some row) × (row.ruling ≡ Some ruling)) (protest_of world entrant id token) (protest_of other entrant id token) needs); repeats = moved (λ (found : Option ProtestRow). (row : ProtestRow) × (found ≡ Some row) × (row.ruling ≡ Some ruling)) (protest_of world entrant id token) (protest_of other entrant id token) needs }, tt)))))
 
     says_publish : (id : List ℕ) → Needs (action.Publish id) → Says (action.Publish id)
     says_publish id needs = (record { forbids = ((λ h. h), (λ h. h)); repeats = ((λ h. h), (λ h. h)) }, (record { forbids = ((λ h. h), (λ h. h)); repeats = ((λ h. h), (λ h. h)) }, (record { forbids = ((λ h. h), (λ h. h)); repeats = ((λ h. h), (λ h. h)) }, (record { forbids = ((λ h. h), (λ h. h)); repeats = ((λ h. h), (λ h. h)) }, (record { forbids = ((λ h. h), (λ h. h)); repeats = ((λ h. h), (λ h. h)) }, (record { forbids = moved (λ (X : FinMap protest_cmp ProtestRow). Sentence rule.OpenProtest (record world { protests = X }) caller (action.Publish id) t) world.protests protests needs; repeats = ((λ h. h), (λ h. h)) }, tt))))))
@@ -244,7 +244,7 @@ module _ (ex : List ℕ → List ℕ → List ℕ) (hidden : List ℕ → Bool) 
     says (action.Solutions id) needs = says_solutions id needs
     says (action.Protest id token number text) needs = says_protest id token number text needs
     says (action.Protests id) needs = says_protests id needs
-    says (action.Rule id entrant token ruling) needs = says_rule id entrant token ruling needs
+    says (action.RuleProtest id entrant token ruling) needs = says_rule id entrant token ruling needs
     says (action.Publish id) needs = says_publish id needs
     says (action.Table id) needs = says_table id needs
 

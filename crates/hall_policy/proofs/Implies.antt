@@ -45,8 +45,8 @@ caller_may facts (action.Solutions round) h = may_from facts.caller (action.Solu
 caller_may facts (action.Protest round token number text) h =
     may_from facts.caller (action.Protest round token number text) (h 0 UnknownKey refl) (h 1 NoRole refl)
 caller_may facts (action.Protests round) h = may_from facts.caller (action.Protests round) (h 0 UnknownKey refl) (h 1 NoRole refl)
-caller_may facts (action.Rule round entrant token ruling) h =
-    may_from facts.caller (action.Rule round entrant token ruling) (h 0 UnknownKey refl) (h 1 NoRole refl)
+caller_may facts (action.RuleProtest round entrant token ruling) h =
+    may_from facts.caller (action.RuleProtest round entrant token ruling) (h 0 UnknownKey refl) (h 1 NoRole refl)
 caller_may facts (action.Publish round) h = may_from facts.caller (action.Publish round) (h 0 UnknownKey refl) (h 1 NoRole refl)
 caller_may facts (action.Table round) h = tt
 
@@ -65,7 +65,7 @@ object_there facts (action.Answers round) h = h 2 Missing refl
 object_there facts (action.Solutions round) h = h 2 Missing refl
 object_there facts (action.Protest round token number text) h = h 2 Missing refl
 object_there facts (action.Protests round) h = h 2 Missing refl
-object_there facts (action.Rule round entrant token ruling) h = h 2 Missing refl
+object_there facts (action.RuleProtest round entrant token ruling) h = h 2 Missing refl
 object_there facts (action.Publish round) h = h 2 Missing refl
 object_there facts (action.Table round) h = h 0 Missing refl
 
@@ -80,7 +80,7 @@ token_new facts (action.Protest round token number text) h = h 4 TokenTaken refl
 token_new facts _ h = tt
 
 ruling_new : (facts : Facts) (action : Action) → AllPass facts action → RulingIsNew facts action
-ruling_new facts (action.Rule round entrant token ruling) h = h 4 RuledOtherwise refl
+ruling_new facts (action.RuleProtest round entrant token ruling) h = h 4 RuledOtherwise refl
 ruling_new facts _ h = tt
 
 below_limit : (facts : Facts) (action : Action) → AllPass facts action → IsBelowLimit facts action
@@ -122,7 +122,7 @@ protests_ruled facts (action.Publish round) h = h 5 OpenProtest refl
 protests_ruled facts _ h = tt
 
 uninvolved : (facts : Facts) (action : Action) → AllPass facts action → IsUninvolved facts action
-uninvolved facts (action.Rule round entrant token ruling) h = h 3 Involved refl
+uninvolved facts (action.RuleProtest round entrant token ruling) h = h 3 Involved refl
 uninvolved facts _ h = tt
 
 no_conflict : (facts : Facts) (action : Action) → AllPass facts action → HasNoConflict facts action
@@ -162,8 +162,8 @@ implied_repeat facts (action.Protest round token number text) same h = record {
   object = h 2 Missing refl (lit< tt);
   same = same;
 }
-implied_repeat facts (action.Rule round entrant token ruling) same h = record {
-  caller = may_from facts.caller (action.Rule round entrant token ruling) (h 0 UnknownKey refl (lit< tt)) (h 1 NoRole refl (lit< tt));
+implied_repeat facts (action.RuleProtest round entrant token ruling) same h = record {
+  caller = may_from facts.caller (action.RuleProtest round entrant token ruling) (h 0 UnknownKey refl (lit< tt)) (h 1 NoRole refl (lit< tt));
   object = h 2 Missing refl (lit< tt);
   same = same;
 }

@@ -111,7 +111,7 @@ module _ (ex : List ℕ → List ℕ → List ℕ) (hidden : List ℕ → Bool) 
     needs_no_other (action.Certify puzzle_key budget) h = absurd (false≢true h)
     needs_no_other (action.PutRound id sheet) h = absurd (false≢true h)
     needs_no_other (action.Release id) h = absurd (false≢true h)
-    needs_no_other (action.Rule id entrant token ruling) h = absurd (false≢true h)
+    needs_no_other (action.RuleProtest id entrant token ruling) h = absurd (false≢true h)
     needs_no_other (action.Publish id) h = absurd (false≢true h)
     needs_no_other _ h = tt
 

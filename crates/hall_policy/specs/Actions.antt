@@ -6,7 +6,7 @@ use Rattle.hall_policy.specs.declared.request.Action.{Action}
 use Rattle.hall_policy.specs.declared.request.Action.TheVariants.{Import, PutPuzzle, ReadPuzzle, ListPuzzles, Certify}
 use Rattle.hall_policy.specs.declared.request.Action.TheVariants.{PutRound, Release, ListRounds, ReadRound, Submit}
 use Rattle.hall_policy.specs.declared.request.Action.TheVariants.{Answers, Solutions, Protest, Protests}
-use Rattle.hall_policy.specs.declared.request.Action.TheVariants.{Rule, Publish, Table}
+use Rattle.hall_policy.specs.declared.request.Action.TheVariants.{RuleProtest, Publish, Table}
 use Rattle.hall_policy.specs.declared.rule.Rule as rule
 use Rattle.hall_policy.specs.declared.rule.Rule.TheVariants.{UnknownKey, NoRole, OtherAuthor, Missing, OwnPuzzle}
 use Rattle.hall_policy.specs.declared.rule.Rule.TheVariants.{TokenTaken, NotStarted, Ended, NotEnded, Closed}
@@ -55,7 +55,7 @@ rules_asked (Solutions round) = UnknownKey ∷ NoRole ∷ Missing ∷ NotEnded �
 rules_asked (Protest round token number text) =
     UnknownKey ∷ NoRole ∷ Missing ∷ OwnPuzzle ∷ TokenTaken ∷ NotEnded ∷ Closed ∷ Published ∷ LimitReached ∷ []
 rules_asked (Protests round) = UnknownKey ∷ NoRole ∷ Missing ∷ []
-rules_asked (Rule round entrant token ruling) = UnknownKey ∷ NoRole ∷ Missing ∷ Involved ∷ RuledOtherwise ∷ []
+rules_asked (RuleProtest round entrant token ruling) = UnknownKey ∷ NoRole ∷ Missing ∷ Involved ∷ RuledOtherwise ∷ []
 rules_asked (Publish round) = UnknownKey ∷ NoRole ∷ Missing ∷ NotEnded ∷ Published ∷ OpenProtest ∷ []
 rules_asked (Table round) = Missing ∷ Published ∷ []
 
@@ -75,7 +75,7 @@ may roles (Answers round) = roles.entrant || (roles.referee || roles.director)
 may roles (Solutions round) = roles.entrant || (roles.referee || roles.director)
 may roles (Protest round token number text) = roles.entrant
 may roles (Protests round) = roles.entrant || (roles.referee || roles.director)
-may roles (Rule round entrant token ruling) = roles.referee
+may roles (RuleProtest round entrant token ruling) = roles.referee
 may roles (Publish round) = roles.director
 may roles (Table round) = true
 
@@ -96,7 +96,7 @@ round_named (Answers round) = Some round
 round_named (Solutions round) = Some round
 round_named (Protest round token number text) = Some round
 round_named (Protests round) = Some round
-round_named (Rule round entrant token ruling) = Some round
+round_named (RuleProtest round entrant token ruling) = Some round
 round_named (Publish round) = Some round
 round_named (Table round) = Some round
 round_named _ = None

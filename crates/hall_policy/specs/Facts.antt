@@ -12,7 +12,7 @@ use Rattle.hall_policy.specs.declared.record.Entry.{Entry}
 use Rattle.hall_policy.specs.declared.record.RoundRow.{RoundRow}
 use Rattle.hall_policy.specs.declared.request.Action.{Action}
 use Rattle.hall_policy.specs.declared.request.Action.TheVariants.{PutPuzzle, ReadPuzzle, Certify, PutRound, ReadRound}
-use Rattle.hall_policy.specs.declared.request.Action.TheVariants.{Submit, Protest, Rule}
+use Rattle.hall_policy.specs.declared.request.Action.TheVariants.{Submit, Protest, RuleProtest}
 use Rattle.hall_policy.specs.declared.rule.Rule as rule
 use Rattle.hall_policy.specs.declared.rule.Rule.TheVariants.{UnknownKey, NoRole, OtherAuthor, Missing, OwnPuzzle}
 use Rattle.hall_policy.specs.declared.rule.Rule.TheVariants.{TokenTaken, NotStarted, Ended, NotEnded, Closed}
@@ -40,7 +40,7 @@ IsAnswerFound facts world _ = Unit {0}
 abbrev pub IsProtestFound : Facts → World → Action → Type 0
 IsProtestFound facts world (Protest round token number text) =
     (person : Person) → facts.caller ≡ Some person → facts.protest ≡ protest_of world person.name round token
-IsProtestFound facts world (Rule round entrant token ruling) = facts.protest ≡ protest_of world entrant round token
+IsProtestFound facts world (RuleProtest round entrant token ruling) = facts.protest ≡ protest_of world entrant round token
 IsProtestFound facts world _ = Unit {0}
 
 -- what is needed to tell whether the object is there
@@ -51,7 +51,7 @@ IsObjectFound facts world (PutPuzzle key puzzle) =
 IsObjectFound facts world (ReadPuzzle key) = facts.puzzle ≡ get world.puzzles key
 IsObjectFound facts world (Certify key budget) = facts.puzzle ≡ get world.puzzles key
 IsObjectFound facts world (PutRound round sheet) = IsTrue facts.sheet_lacks ↔ SheetLacks world sheet
-IsObjectFound facts world (Rule round entrant token ruling) =
+IsObjectFound facts world (RuleProtest round entrant token ruling) =
     IsRoundFound world (Some round) facts.round × (facts.protest ≡ protest_of world entrant round token)
 IsObjectFound facts world action = IsRoundFound world (round_named action) facts.round
 
@@ -91,7 +91,7 @@ Tells ListConflict facts world action = IsTrue facts.conflict ↔ HasConflict wo
 -- the number of the rule that decides
 abbrev pub deciding : Action → Decision → ℕ
 deciding action (Deny k) = k
-deciding (Rule round entrant token ruling) Repeat = 18
+deciding (RuleProtest round entrant token ruling) Repeat = 18
 deciding action Repeat = 6
 deciding action Allow = 20
 

@@ -15,7 +15,7 @@ use Rattle.hall_policy.specs.declared.request.Action.{Action}
 use Rattle.hall_policy.specs.declared.request.Action.TheVariants.{Import, PutPuzzle, ReadPuzzle, ListPuzzles, Certify}
 use Rattle.hall_policy.specs.declared.request.Action.TheVariants.{PutRound, Release, ListRounds, ReadRound, Submit}
 use Rattle.hall_policy.specs.declared.request.Action.TheVariants.{Answers, Solutions, Protest, Protests}
-use Rattle.hall_policy.specs.declared.request.Action.TheVariants.{Rule, Publish, Table}
+use Rattle.hall_policy.specs.declared.request.Action.TheVariants.{RuleProtest, Publish, Table}
 use Rattle.hall_policy.specs.declared.rule.Rule as rule
 use Rattle.hall_policy.specs.declared.rule.Rule.TheVariants.{UnknownKey, NoRole, OtherAuthor, Missing, OwnPuzzle}
 use Rattle.hall_policy.specs.declared.rule.Rule.TheVariants.{TokenTaken, InReleasedRound, NotCertified, NoDraft}
@@ -78,7 +78,7 @@ ObjectIsThere facts (Answers round) = RoundIsThere facts (Answers round)
 ObjectIsThere facts (Solutions round) = RoundIsThere facts (Solutions round)
 ObjectIsThere facts (Protest round token number text) = PlaceIsThere facts (Protest round token number text) number
 ObjectIsThere facts (Protests round) = RoundIsThere facts (Protests round)
-ObjectIsThere facts (Rule round entrant token ruling) = ProtestIsThere facts (Rule round entrant token ruling)
+ObjectIsThere facts (RuleProtest round entrant token ruling) = ProtestIsThere facts (RuleProtest round entrant token ruling)
 ObjectIsThere facts (Publish round) = RoundIsThere facts (Publish round)
 ObjectIsThere facts (Table round) = RoundIsThere facts (Table round)
 
@@ -153,7 +153,7 @@ AreProtestsRuled facts _ = Unit {0}
 
 -- Who rules has no answer in the round, and didn't make the protest.
 abbrev pub IsUninvolved : Facts → Action → Type 0
-IsUninvolved facts (Rule round entrant token ruling) = facts.involved ≡ false
+IsUninvolved facts (RuleProtest round entrant token ruling) = facts.involved ≡ false
 IsUninvolved facts _ = Unit {0}
 
 -- The list of people contradicts nothing that is known.
@@ -173,7 +173,7 @@ TokenIsNew facts _ = Unit {0}
 
 -- What is ruled is open.
 abbrev pub RulingIsNew : Facts → Action → Type 0
-RulingIsNew facts (Rule round entrant token ruling) = ProtestIsOpen facts
+RulingIsNew facts (RuleProtest round entrant token ruling) = ProtestIsOpen facts
 RulingIsNew facts _ = Unit {0}
 
 -- There are fewer than the limit.
@@ -188,7 +188,7 @@ abbrev pub IsSame : Facts → Action → Type 0
 IsSame facts (Submit round number token answer) = (row : AnswerRow) × (facts.answer ≡ Some row) × (row.answer ≡ answer)
 IsSame facts (Protest round token number text) =
     (row : ProtestRow) × (facts.protest ≡ Some row) × (row.number ≡ number) × (row.text ≡ text)
-IsSame facts (Rule round entrant token ruling) =
+IsSame facts (RuleProtest round entrant token ruling) =
     (row : ProtestRow) × (facts.protest ≡ Some row) × (row.ruling ≡ Some ruling)
 IsSame facts _ = ⊥
 

@@ -11,7 +11,7 @@ use Rattle.hall_policy.specs.declared.request.Action.{Action}
 use Rattle.hall_policy.specs.declared.request.Action.TheVariants.{Import, PutPuzzle, ReadPuzzle, ListPuzzles, Certify}
 use Rattle.hall_policy.specs.declared.request.Action.TheVariants.{PutRound, Release, ListRounds, ReadRound, Submit}
 use Rattle.hall_policy.specs.declared.request.Action.TheVariants.{Answers, Solutions, Protest, Protests}
-use Rattle.hall_policy.specs.declared.request.Action.TheVariants.{Rule, Publish, Table}
+use Rattle.hall_policy.specs.declared.request.Action.TheVariants.{RuleProtest, Publish, Table}
 
 -- the person holds the role entrant alone
 abbrev pub is_entrant_alone : Person → Bool
@@ -50,7 +50,7 @@ exchanged ex (Answers round) = Answers round
 exchanged ex (Solutions round) = Solutions round
 exchanged ex (Protest round token number text) = Protest round token number text
 exchanged ex (Protests round) = Protests round
-exchanged ex (Rule round entrant token ruling) = Rule round entrant token ruling
+exchanged ex (RuleProtest round entrant token ruling) = RuleProtest round entrant token ruling
 exchanged ex (Publish round) = Publish round
 exchanged ex (Table round) = Table round
 

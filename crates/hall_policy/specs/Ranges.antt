@@ -27,7 +27,7 @@ use Rattle.hall_policy.specs.declared.request.Action.{Action}
 use Rattle.hall_policy.specs.declared.request.Action.TheVariants.{Import, PutPuzzle, ReadPuzzle, ListPuzzles, Certify}
 use Rattle.hall_policy.specs.declared.request.Action.TheVariants.{PutRound, Release, ListRounds, ReadRound, Submit}
 use Rattle.hall_policy.specs.declared.request.Action.TheVariants.{Answers, Solutions, Protest, Protests}
-use Rattle.hall_policy.specs.declared.request.Action.TheVariants.{Rule, Publish, Table}
+use Rattle.hall_policy.specs.declared.request.Action.TheVariants.{RuleProtest, Publish, Table}
 use Rattle.hall_policy.specs.declared.request.Request.{Request}
 
 -- a person's name
@@ -215,7 +215,7 @@ IsAction (Solutions round) = IsRoundId round
 IsAction (Protest round token number text) =
     IsRoundId round × IsToken token × IsWithin 1 99 number × IsProtestText text
 IsAction (Protests round) = IsRoundId round
-IsAction (Rule round entrant token ruling) = IsRoundId round × IsName entrant × IsToken token × IsRuling ruling
+IsAction (RuleProtest round entrant token ruling) = IsRoundId round × IsName entrant × IsToken token × IsRuling ruling
 IsAction (Publish round) = IsRoundId round
 IsAction (Table round) = IsRoundId round
 

@@ -18,7 +18,7 @@ use Rattle.hall_policy.specs.declared.request.Action.{Action}
 use Rattle.hall_policy.specs.declared.request.Action.TheVariants.{Import, PutPuzzle, ReadPuzzle, ListPuzzles, Certify}
 use Rattle.hall_policy.specs.declared.request.Action.TheVariants.{PutRound, Release, ListRounds, ReadRound, Submit}
 use Rattle.hall_policy.specs.declared.request.Action.TheVariants.{Answers, Solutions, Protest, Protests}
-use Rattle.hall_policy.specs.declared.request.Action.TheVariants.{Rule, Publish, Table}
+use Rattle.hall_policy.specs.declared.request.Action.TheVariants.{RuleProtest, Publish, Table}
 
 -- the caller is a person of the hall, and has P
 abbrev pub TheCaller : Option Person → (Person → Type 0) → Type 0
@@ -106,8 +106,8 @@ IsMissing world caller (Solutions round) = RoundIsMissing world caller (Solution
 IsMissing world caller (Protest round token number text) =
     RoundIsMissing world caller (Protest round token number text) round ⊎ (place_of world round number ≡ None)
 IsMissing world caller (Protests round) = RoundIsMissing world caller (Protests round) round
-IsMissing world caller (Rule round entrant token ruling) =
-    RoundIsMissing world caller (Rule round entrant token ruling) round
+IsMissing world caller (RuleProtest round entrant token ruling) =
+    RoundIsMissing world caller (RuleProtest round entrant token ruling) round
     ⊎ (protest_of world entrant round token ≡ None)
 IsMissing world caller (Publish round) = RoundIsMissing world caller (Publish round) round
 IsMissing world caller (Table round) = RoundIsMissing world caller (Table round) round
@@ -214,20 +214,20 @@ HasOpenProtest world action =
 
 -- 17. The caller has an answer in that round or made the protest.
 abbrev pub IsInvolved : World → Option Person → Action → Type 0
-IsInvolved world caller (Rule round entrant token ruling) = TheCaller caller (λ person.
+IsInvolved world caller (RuleProtest round entrant token ruling) = TheCaller caller (λ person.
     ((number : ℕ) × (used : List ℕ) × (row : AnswerRow) × (answer_of world person.name round number used ≡ Some row))
     ⊎ (entrant ≡ person.name))
 IsInvolved world caller _ = ⊥
 
 -- 18. The protest is ruled.
 abbrev pub IsRuled : World → Action → Type 0
-IsRuled world (Rule round entrant token ruling) =
+IsRuled world (RuleProtest round entrant token ruling) =
     (row : ProtestRow) × (protest_of world entrant round token ≡ Some row) × (row.ruling ≢ None)
 IsRuled world _ = ⊥
 
 -- 18. The protest is ruled the same way: upheld with the same points, or rejected.
 abbrev pub SameRuling : World → Action → Type 0
-SameRuling world (Rule round entrant token ruling) =
+SameRuling world (RuleProtest round entrant token ruling) =
     (row : ProtestRow) × (protest_of world entrant round token ≡ Some row) × (row.ruling ≡ Some ruling)
 SameRuling world _ = ⊥
 

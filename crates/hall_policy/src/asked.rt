@@ -90,7 +90,7 @@ const PROTEST: &[Rule] = &[
 
 const PROTESTS: &[Rule] = &[Rule::UnknownKey, Rule::NoRole, Rule::Missing];
 
-const RULE: &[Rule] = &[
+const RULE_PROTEST: &[Rule] = &[
     Rule::UnknownKey,
     Rule::NoRole,
     Rule::Missing,
@@ -128,7 +128,7 @@ pub(crate) fn rules_asked(action: &Action) -> &'static [Rule]
         Action::Solutions { .. } => SOLUTIONS,
         Action::Protest { .. } => PROTEST,
         Action::Protests { .. } => PROTESTS,
-        Action::Rule { .. } => RULE,
+        Action::RuleProtest { .. } => RULE_PROTEST,
         Action::Publish { .. } => PUBLISH,
         Action::Table { .. } => TABLE,
     }
@@ -152,7 +152,7 @@ pub(crate) fn may(roles: Roles, action: &Action) -> bool
         | Action::Solutions { .. }
         | Action::Protests { .. } => roles.entrant || roles.referee || roles.director,
         Action::Submit { .. } | Action::Protest { .. } => roles.entrant,
-        Action::Rule { .. } => roles.referee,
+        Action::RuleProtest { .. } => roles.referee,
         Action::ListRounds | Action::Table { .. } => true,
     }
 }

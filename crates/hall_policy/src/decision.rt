@@ -161,7 +161,7 @@ fn is_missing(facts: &Facts, action: &Action) -> bool
         Action::PutRound { .. } => facts.sheet_lacks,
         Action::Submit { number, .. } | Action::Protest { number, .. } => hides_round(facts, action)
             || lacks_number(facts, *number),
-        Action::Rule { .. } => hides_round(facts, action) || facts.protest.is_none(),
+        Action::RuleProtest { .. } => hides_round(facts, action) || facts.protest.is_none(),
         _ => hides_round(facts, action),
     }
 }
@@ -293,7 +293,7 @@ fn ruling_finding(facts: &Facts, action: &Action) -> Finding
     ensures implies { FindingImplies result Rule.RuledOtherwise facts.now action.now }
 {
     match action {
-        Action::Rule { ruling, .. } => match &facts.protest {
+        Action::RuleProtest { ruling, .. } => match &facts.protest {
             Some(row) => match &row.ruling {
                 Some(given) => standing(*given == *ruling),
                 None => Finding::Passes,
@@ -383,7 +383,7 @@ fn deciding(action: &Action, decision: Decision) -> u8
 {
     match (decision, action) {
         (Decision::Deny(rule), _) => rule,
-        (Decision::Repeat, Action::Rule { .. }) => 18,
+        (Decision::Repeat, Action::RuleProtest { .. }) => 18,
         (Decision::Repeat, _) => 6,
         (Decision::Allow, _) => 20,
     }

@@ -5,7 +5,7 @@ ghost use Rattle.hall_policy.specs.Ranges.{IsName, IsPerson, IsPuzzleKey, IsEntr
 ghost use Rattle.hall_policy.specs.Ranges.{IsRound, IsRoundRow};
 ghost use Rattle.hall_policy.specs.Ranges.{IsSheet, IsRuling, IsAction, IsRequest};
 ghost use Rattle.hall_policy.specs.declared.request.Action.TheVariants.{PutPuzzle, Certify, PutRound, Submit};
-ghost use Rattle.hall_policy.specs.declared.request.Action.TheVariants.{Protest, Rule};
+ghost use Rattle.hall_policy.specs.declared.request.Action.TheVariants.{Protest, RuleProtest};
 
 use crate::list::{Entries, People, Testers};
 use crate::number::{Budget, PuzzleNumber};
@@ -169,7 +169,7 @@ fn read_protest(round: &RoundId, token: &Token, number: PuzzleNumber, text: &Pro
 }
 
 fn read_rule(round: &RoundId, entrant: &Name, token: &Token, ruling: Ruling)
-    ensures { IsAction (Rule round.now entrant.now token.now ruling) }
+    ensures { IsAction (RuleProtest round.now entrant.now token.now ruling) }
 {
     let _round = round.as_str();
     let _entrant = entrant.as_str();
@@ -198,7 +198,7 @@ fn read_action(action: &Action)
             number,
             text,
         } => read_protest(round, token, *number, text),
-        Action::Rule {
+        Action::RuleProtest {
             round,
             entrant,
             token,

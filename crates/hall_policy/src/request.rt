@@ -79,7 +79,7 @@ pub enum Action {
         round: RoundId,
     },
     /// Rules a protest.
-    Rule {
+    RuleProtest {
         round: RoundId,
         entrant: Name,
         token: Token,

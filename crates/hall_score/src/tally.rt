@@ -57,7 +57,8 @@ impl Tally {
         ensures err { OnErr result (self.new ≡ self.old) }
     {
         if let Some(entrant) = &self.last {
-            let points = entrant.progress.points(&self.round) + self.rulings.at(&entrant.name).points;
+            let points = entrant.progress.points(&self.round)
+                + self.rulings.at(&entrant.name).points;
             self.totals.push((entrant.name.clone()?, points))?;
         }
         Ok(())

@@ -275,7 +275,7 @@ fn ruled(alloc: Global, argument: Option<i64>) -> Result<Action, Fault> {
         Some(points) => upheld(points)?,
         None => Ruling::Rejected,
     };
-    Ok(Action::Rule {
+    Ok(Action::RuleProtest {
         ruling,
         round: checked(alloc, "r1")?,
         entrant: checked(alloc, "eve")?,
