@@ -9,13 +9,15 @@ refuses one request for memory in so many (STEPS). With --all each is refused, b
 
 - A command writes what it writes with ample memory. Or it writes nothing and ends with status 3 and `fault`. Its file
   then holds what it held before or after the command, and given again the command does what is left of it.
-- A reply is the one with ample memory. But one may be 503, or a connection may be hung up before its first reply, and
-  the replies after it are those of a run without these requests: so the world was left as it was. Or a replay ends with
-  status 3, `fault` and the replies before, each whole.
+- A reply is the one with ample memory. But one may be 503, and the replies after it are those of a run without this
+  request: so the world was left as it was. Or a replay ends with status 3, `fault` and the replies before, each whole.
+- A connection may be hung up: its replies so far are those with ample memory, and what it asked after them wasn't
+  done, but perhaps for one request whose reply is lost.
 
 With --examples it refuses of each example, or of FOLDER/NAME, the first 2,000 allocations, and then each 97th.
 """
 import argparse
+import contextlib
 import os
 import sys
 import tempfile
@@ -192,8 +194,9 @@ class Served:
                 if client is None:
                     break
                 with client:
-                    client.sendall("".join(it for n, it in enumerate(asked) if (place, n) not in dropped).encode())
-                    client.shutdown(1)
+                    with contextlib.suppress(OSError):
+                        client.sendall("".join(it for n, it in enumerate(asked) if (place, n) not in dropped).encode())
+                        client.shutdown(1)
                     got.append(replies(read_off(client)))
             return got, server.wait(PATIENCE)
 
@@ -207,15 +210,26 @@ class Served:
         if got == self.usual:
             return "as usual"
         if status == 3:
-            return "faults" if not clients and content_of(self.path) == content_of(self.first) else None
+            return "faults" if not any(clients) and content_of(self.path) == content_of(self.first) else None
         told = [(place, n, reply) for place, some in enumerate(clients) for n, reply in enumerate(some)]
-        hung = {place for place, some in enumerate(clients) if not some}
         dropped = {(place, n) for place, n, reply in told if reply == UNAVAILABLE}
-        dropped |= {(place, n) for place in hung for n in range(len(CLIENTS[place]))}
-        left = [[it for it in told if it != UNAVAILABLE] for told in clients]
-        if (left, status) != self.without(frozenset(dropped)):
+        left = [[it for it in some if it != UNAVAILABLE] for some in clients]
+        short = [place for place, some in enumerate(clients) if len(some) < len(CLIENTS[place])]
+        if not short:
+            return "503" if len(dropped) == 1 and (left, status) == self.without(frozenset(dropped)) else None
+        if len(short) > 1 or dropped:
             return None
-        return "hung up" if hung and len(hung) == 1 else "503" if len(dropped) == 1 else None
+        return self.hung_up(short[0], left, status)
+
+    def hung_up(self, place, left, status):
+        """How the client at the place was hung up: nothing more of it was done, or one request whose reply is lost."""
+        told = len(left[place])
+        for done, how in ((told, "hung up"), (told + 1, "hung up, with a reply that is lost")):
+            asked, ended = self.without(frozenset((place, n) for n in range(done, len(CLIENTS[place]))))
+            wanted = [some[:told] if at == place else some for at, some in enumerate(asked)]
+            if (left, status) == (wanted, ended):
+                return how
+        return None
 
 
 # Of how many requests for memory the gate refuses one: opening a file takes thousands of them.

@@ -10,10 +10,10 @@ use std::io::Write;
 use std::net::{Ipv4Addr, Shutdown, SocketAddr, TcpStream};
 use std::test::Fail;
 
-/// A crowd that lets none in once a connection has gone.
+/// A listener that lets none in once a connection has gone.
 #[derive(Drop)]
 struct Brief<'r> {
-    crowd: EventLoop<'r, HostRuntime>,
+    inner: EventLoop<'r, HostRuntime>,
     has_gone: bool,
 }
 
@@ -28,13 +28,13 @@ impl<'r> Listener for Brief<'r> {
         if self.has_gone {
             return Accepted::Refused;
         }
-        let next = self.crowd.accept(most);
+        let next = self.inner.accept(most);
         self.has_gone = matches!(&next, Accepted::Gone);
         next
     }
 
     fn let_go(&mut self, line: TurnLine) {
-        self.crowd.let_go(line);
+        self.inner.let_go(line);
     }
 }
 
@@ -46,12 +46,12 @@ fn last_answered<S: Store>(
 ) -> io::Result<String> {
     let address = SocketAddr::from((Ipv4Addr::LOCALHOST, 0));
     let mut brief = Brief {
-        crowd: EventLoop::new(rt, address)?,
+        inner: EventLoop::new(rt, address)?,
         has_gone: false,
     };
     let mut connected = Vec::new(rt.alloc());
     for sent in clients {
-        let mut client = TcpStream::connect(rt, brief.crowd.local_addr()?)?;
+        let mut client = TcpStream::connect(rt, brief.inner.local_addr()?)?;
         client.write_all(sent)?;
         connected.push(client)?;
     }

@@ -38,7 +38,7 @@ fn add_people(rt: &(impl AllocGlobal + Abort), desk: &mut Desk<MapStore>, first:
     }
     let people = read_people(rt.alloc(), list.as_bytes()).expect(rt, "people");
     let reply = desk.seed(rt.alloc(), &people);
-    assert!(rt; matches!(&reply, Reply::Imported(_)));
+    assert!(rt; matches!(&reply, Reply::Import(_)));
 }
 
 /// Puts the n-th puzzle and the n-th round.
