@@ -341,7 +341,7 @@ hands on, to the definitions that say what it means, to the tests and examples t
 prover must refuse. A wrong body is an edit of the code: `./check` tries each, but those with a star, which
 `python3 tools/wrong_bodies.py --further` tries.
 
-- A definition stands in a file of `specs/`, with a sentence above it. The pages of [promises/](promises) have the sentences.
+- A definition stands in a file of `specs/`, with a sentence above it; the constants that it names stand in `src/`. The pages of [promises/](promises) have the sentences.
 - A test is found by the names that it calls, so one that only passes through a function is named there too.
 - A wrong body stands at the public function that leads to what it changes by the fewest calls, with the name of the function
   that it changes. The contract of that one refuses it.

@@ -28,11 +28,11 @@ use Rattle.hall_desk.specs.declared.solutions.Solutions.{Solutions}
 use Rattle.hall_desk.specs.declared.protests.Protests.{Protests}
 use Rattle.hall_desk.specs.declared.publish.Publish.{Publish}
 
--- the action that hands it in
+-- the action that hands the answer in
 abbrev pub submit_action : Submit → Action
 submit_action asked = action.Submit asked.round.now asked.number asked.token.now asked.answer.now
 
--- where an answer of the person's is kept that hands it in
+-- the key under which that answer of the person's is kept
 abbrev pub submitted_key : Person → Submit → AnswerKey
 submitted_key person asked =
     record { entrant = person.name; round = asked.round.now; number = asked.number; token = asked.token.now }

@@ -25,7 +25,8 @@ use Rattle.hall_policy.specs.declared.record.Ruling.{Ruling}
 use Rattle.hall_policy.specs.declared.request.Sheet.{Sheet}
 use Rattle.hall_policy.specs.declared.request.Action.{Action}
 use Rattle.hall_policy.specs.declared.request.Action.TheVariants.{Import, PutPuzzle, ReadPuzzle, ListPuzzles, Certify, PutRound, Release, ListRounds, ReadRound}
-use Rattle.hall_policy.specs.declared.request.Action.TheVariants.{Submit, Answers, Solutions, Protest, Protests, RuleProtest, Publish, Table}
+use Rattle.hall_policy.specs.declared.request.Action.TheVariants.{Submit, Answers, Solutions, Protest, Protests}
+use Rattle.hall_policy.specs.declared.request.Action.TheVariants.{RuleProtest, Publish, Table}
 use Rattle.hall_policy.specs.declared.request.Request.{Request}
 use Rattle.hall_policy.specs.declared.rule.Decision.{Decision}
 use Rattle.hall_policy.specs.declared.rule.Decision.TheVariants.{Allow, Repeat, Deny}

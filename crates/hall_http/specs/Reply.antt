@@ -88,7 +88,8 @@ import_data added = object (number_member (codes "added") added no_members)
 
 -- {"state":S,"text":T}
 abbrev pub put_puzzle_data : StateName → List ℕ → Data
-put_puzzle_data s text = object (text_member (codes "state") (state_text s) (text_member (codes "text") text no_members))
+put_puzzle_data s text =
+    object (text_member (codes "state") (state_text s) (text_member (codes "text") text no_members))
 
 -- the members of a puzzle that its author and label name, before further members
 abbrev pub key_members : PuzzleKey → Members → Members

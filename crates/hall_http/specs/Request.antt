@@ -136,7 +136,8 @@ abbrev pub ActionFrom : List ℕ → Result (Place × Parts) FormFault → List 
 ActionFrom method (Err f) body outcome = outcome ≡ Err f
 ActionFrom method (Ok at) body outcome = ActionAt method at.0 at.1 body outcome
 
--- what a method, a path and a body ask for, or their first fault: what method and path name comes before the body
+-- what a method, a path and a body ask for, or their first fault: the faults of method and path come before the
+-- body's
 abbrev pub ActionOf : List ℕ → List ℕ → List ℕ → Result Action FormFault → Type 0
 ActionOf method path body outcome = ActionFrom method (place_in path) body outcome
 

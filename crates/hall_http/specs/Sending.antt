@@ -13,7 +13,8 @@ use Rattle.hall_http.specs.declared.connection.ServeEnd.TheVariants as end
 -- the reply was written, and whether the connection stays open; or a part of it was, and the writer failed
 abbrev pub Sends : Standing → Exchange → Option (List ℕ) → Option (List ℕ) → ℕ → ℕ → Type 0
 Sends standing.Open x wrote written failed fails = IsOpen x.request × Appends wrote written x.reply × (fails ≡ failed)
-Sends standing.Closing x wrote written failed fails = IsClosing x.request × Appends wrote written x.reply × (fails ≡ failed)
+Sends standing.Closing x wrote written failed fails =
+    IsClosing x.request × Appends wrote written x.reply × (fails ≡ failed)
 Sends standing.Failed x wrote written failed fails = WritesPart wrote written x.reply × Rises failed fails
 
 -- the reply to bytes that are no request was written; or a part of it was, and the writer failed

@@ -121,7 +121,7 @@ impl Client {
         self.until
     }
 
-    /// Whether its patience runs: it waits for nobody but its client.
+    /// Whether its patience runs: it waits for what the other side sends or takes, and not for its turn.
     pub(crate) fn waits(&self) -> bool {
         self.stage != Stage::Ready
     }

@@ -2,7 +2,8 @@
 ghost use Rattle.std.specs.Prelude.{◌≡◌, ◌≢◌, ◌++◌, [], false, IfOk, OnOk, string_bytes};
 ghost use Rattle.serde_json.specs.View.{view};
 ghost use Rattle.serde_json.specs.Written.{has_float, compact_text};
-ghost use Rattle.hall_http.specs.Reply.{state_text, mode_text, import_data, put_puzzle_data, read_puzzle_data, certify_data};
+ghost use Rattle.hall_http.specs.Reply.{state_text, mode_text, import_data, put_puzzle_data, read_puzzle_data};
+ghost use Rattle.hall_http.specs.Reply.{certify_data};
 ghost use Rattle.hall_http.specs.Reply.{list_puzzles_data, put_round_data, release_data};
 ghost use Rattle.hall_http.specs.Reply.{list_rounds_data, solutions_data, sheet_fault_data};
 ghost use Rattle.hall_http.specs.Reply.{protest_data, ruling_text, protests_data};

@@ -3,7 +3,8 @@ ghost use Rattle.std.specs.Prelude.{◌≡◌, IfOk, Ok, codes, option_and_then,
 ghost use Rattle.std.specs.Str.{bytes_eq};
 ghost use Rattle.hall_http.specs.Given.{Finds};
 ghost use Rattle.hall_http.specs.Parts.{parts_seen};
-ghost use Rattle.hall_http.specs.Request.{key_in, PutOf, PutPuzzleAt, PuzzleAt, put_round_at, ActionAt, ActionOf, AsksFor};
+ghost use Rattle.hall_http.specs.Request.{key_in, PutOf, PutPuzzleAt, PuzzleAt, put_round_at};
+ghost use Rattle.hall_http.specs.Request.{ActionAt, ActionOf, AsksFor};
 
 use crate::body::{read_answer, read_budget, read_protest, read_ruling, read_text};
 use crate::form::{FormFault, RequestFault, puzzle_fault};
@@ -109,7 +110,7 @@ fn round_at(
     Ok(Action::ReadRound { round })
 }
 
-/// The answer that the body tells, for the place and under the token that the path names.
+/// The answer that the body tells, to the puzzle of the number and under the token that the path names.
 fn submit_at(
     alloc: Global,
     method: &[u8],

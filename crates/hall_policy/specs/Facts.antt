@@ -40,7 +40,8 @@ IsAnswerFound facts world _ = Unit {0}
 abbrev pub IsProtestFound : Facts → World → Action → Type 0
 IsProtestFound facts world (Protest round token number text) =
     (person : Person) → facts.caller ≡ Some person → facts.protest ≡ protest_of world person.name round token
-IsProtestFound facts world (RuleProtest round entrant token ruling) = facts.protest ≡ protest_of world entrant round token
+IsProtestFound facts world (RuleProtest round entrant token ruling) =
+    facts.protest ≡ protest_of world entrant round token
 IsProtestFound facts world _ = Unit {0}
 
 -- what is needed to tell whether the object is there

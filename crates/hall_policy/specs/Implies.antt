@@ -78,7 +78,8 @@ ObjectIsThere facts (Answers round) = RoundIsThere facts (Answers round)
 ObjectIsThere facts (Solutions round) = RoundIsThere facts (Solutions round)
 ObjectIsThere facts (Protest round token number text) = PlaceIsThere facts (Protest round token number text) number
 ObjectIsThere facts (Protests round) = RoundIsThere facts (Protests round)
-ObjectIsThere facts (RuleProtest round entrant token ruling) = ProtestIsThere facts (RuleProtest round entrant token ruling)
+ObjectIsThere facts (RuleProtest round entrant token ruling) =
+    ProtestIsThere facts (RuleProtest round entrant token ruling)
 ObjectIsThere facts (Publish round) = RoundIsThere facts (Publish round)
 ObjectIsThere facts (Table round) = RoundIsThere facts (Table round)
 

@@ -1,5 +1,6 @@
 -- What is known of the chains of a puzzle, and the sides that would close one.
-use Rattle.std.specs.Prelude.{◌≡◌, ◌↔◌, ◌⊎◌, ℕ, Bool, IsTrue, List, Option, Some, None, length, slice_index, slice_index_or, slice_set}
+use Rattle.std.specs.Prelude.{◌≡◌, ◌↔◌, ◌⊎◌, ℕ, Bool, IsTrue, List, Option, Some, None}
+use Rattle.std.specs.Prelude.{length, slice_index, slice_index_or, slice_set}
 use Rattle.hall_grid.specs.declared.board.Kind.TheVariants.{Slither}
 use Rattle.hall_grid.specs.Board.{Board, IsBoard}
 use Rattle.hall_grid.specs.Slither.{all_sides, dots, ends, HasOtherCount}

@@ -16,7 +16,8 @@ use Rattle.hall_slither.specs.Count.{IsCentre}
 
 -- the puzzle, and the names of the partial filling, the colours and the stack, whatever their values
 abbrev pub names_of : Position → Board × (GName × (GName × GName))
-names_of position = (position.puzzle.now, (position.partial.ghost_name, (position.colours.ghost_name, position.stack.ghost_name)))
+names_of position =
+    (position.puzzle.now, (position.partial.ghost_name, (position.colours.ghost_name, position.stack.ghost_name)))
 
 -- the position is still of the same puzzle, partial filling, colours and stack
 abbrev pub IsSamePosition : Position → Position → Type 0

@@ -46,7 +46,7 @@ fn has_crossing(size: Size, lines: &[u8]) -> bool
     false
 }
 
-/// Whether the side is a line or the one more.
+/// Whether the side is a line, or the one that is added.
 fn is_line(lines: &[u8], more: Option<usize>, side: usize) -> bool
     requires { side < length lines.now }
     ensures { result ≡ is_line (with_line lines.now more) side }
@@ -57,7 +57,7 @@ fn is_line(lines: &[u8], more: Option<usize>, side: usize) -> bool
     }
 }
 
-/// How many of the sides are lines or the one more.
+/// How many of the sides are lines, with the one that is added.
 fn count_lines(lines: &[u8], more: Option<usize>, sides: &[usize]) -> usize
     requires { All (λ side. side < length lines.now) sides.now }
     ensures { result ≡ count_by (is_line (with_line lines.now more)) sides.now }
@@ -68,7 +68,7 @@ fn count_lines(lines: &[u8], more: Option<usize>, sides: &[usize]) -> usize
         .count()
 }
 
-/// Whether a number differs from the count of lines on its cell's four sides, with one more where it is given.
+/// Whether a number differs from the count of lines on its cell's four sides, with one added where it is given.
 pub(crate) fn has_other_count(puzzle: &Puzzle, lines: &[u8], more: Option<usize>) -> bool
     requires kind { puzzle.now.kind ≡ Kind.Slither }
     requires lines { length lines.now ≡ all_sides puzzle.now.size }

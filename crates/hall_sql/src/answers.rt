@@ -158,7 +158,7 @@ pub(crate) fn answers_given<S: Alter>(
     Ok(rows.len() as u64)
 }
 
-/// Those of them that are the n-th.
+/// The entrant's n-th answer to the round's puzzle of the number.
 const NUMBER_TAKEN: &str =
     "SELECT entrant, round, number, token, n, moment, answer, verdict FROM answers \
     WHERE entrant = ?1 AND round = ?2 AND number = ?3 AND n = ?4";

@@ -134,8 +134,8 @@ const PROTESTS_ROWIDS: &str = "SELECT rowid FROM protests ORDER BY rowid";
 
 const TESTERS_ROWIDS: &str = "SELECT rowid FROM testers ORDER BY rowid";
 
-/// What the hall says of a table: its name and its tree, the name and kind of each column, the places of the primary key,
-/// those of each further key, and its foreign keys. It is STRICT, and each column is NOT NULL.
+/// What the hall says of a table: its name and its tree, the name and kind of each column, the places of the primary
+/// key, those of each further key, and its foreign keys. It is STRICT, and each column is NOT NULL.
 pub(crate) type TableForm = (
     &'static str,
     u32,

@@ -173,7 +173,7 @@ fn entry_of(key: &PuzzleKey, row: &PuzzleRow) -> Result<(PuzzleKey, PuzzleRow), 
     Ok((key.clone()?, row.clone()?))
 }
 
-/// Forgets what the map has where it has so much.
+/// Forgets what the map has where it has so many entries.
 fn make_room<K: Ord + Drop, V: Drop>(map: &mut BTreeMap<K, V>, most: usize)
     requires { 0 < most }
     ensures kept { (map.new ≡ map.old) ⊎ tree.IsEmpty map.new }
@@ -184,7 +184,7 @@ fn make_room<K: Ord + Drop, V: Drop>(map: &mut BTreeMap<K, V>, most: usize)
     }
 }
 
-/// Puts the value under the key of a map that is to have so much at the most; an error is want of memory for it.
+/// Puts the value under the key of a map that is to have so many entries at the most; an error is want of memory for it.
 fn note<K: Ord + Drop, V: Drop>(
     map: &mut BTreeMap<K, V>,
     most: usize,
