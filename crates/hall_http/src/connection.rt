@@ -137,11 +137,11 @@ fn serve_requests<H: Handler, R: Read, W: Write, C: Clock>(
     while requests < REQUEST_LIMIT {
         match cut_from(inbox.unread(), least) {
             Cut::Whole { size, request } => {
-                let turn = exchange(alloc, routes, &request, handler, writer, clock);
+                let standing = exchange(alloc, routes, &request, handler, writer, clock);
                 inbox.pass(size);
                 requests += 1;
                 least = 0;
-                match turn {
+                match standing {
                     Standing::Open => {}
                     Standing::Closing => return ServeEnd::Closed,
                     Standing::Failed => return ServeEnd::Device,

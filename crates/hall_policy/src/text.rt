@@ -214,22 +214,31 @@ impl<T, A: Alphabet, const FEWEST: usize, const MOST: usize> TextKind for Kind<T
     }
 }
 
+/// The tag of a [`Name`].
 pub struct NameTag {}
 
+/// The tag of a [`Label`].
 pub struct LabelTag {}
 
+/// The tag of a [`RoundId`].
 pub struct RoundTag {}
 
+/// The tag of a [`Token`].
 pub struct TokenTag {}
 
+/// The tag of a [`Key`].
 pub struct KeyTag {}
 
+/// The tag of a [`Title`].
 pub struct TitleTag {}
 
+/// The tag of a [`ProtestText`].
 pub struct ProtestTag {}
 
+/// The tag of an [`AnswerText`].
 pub struct AnswerTag {}
 
+/// The tag of a [`PuzzleText`].
 pub struct PuzzleTag {}
 
 /// A person's name: 1 to 24 of `a` to `z`, `0` to `9` and `-`.
