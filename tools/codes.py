@@ -63,19 +63,19 @@ def right_sides(module):
 
 
 def asked_at():
-    """The methods that are served at each place, each with the action that it asks for, as the definition of that says. What a word stands for is put
+    """The methods that are served at each resource, each with the action that it asks for, as the definition of that says. What a word stands for is put
     behind its arguments, so that a method stands before its action."""
     of = dict(right_sides(REQUEST))
-    for place, right in clauses("ActionAt", REQUEST):
+    for resource, right in clauses("ActionAt", REQUEST):
         while words := [it for it in re.findall(r"\w+", right) if it in of]:
             right = re.sub(rf"\b{words[0]}\b((?: [\w.]+| \((?:[^()]|\([^()]*\))*\))*)", lambda it: f"{it[1]} {of[words[0]]}", right)
-        yield place, re.findall(r'codes "([A-Z]+)".*?action\.(\w+)', right)
+        yield resource, re.findall(r'codes "([A-Z]+)".*?action\.(\w+)', right)
 
 
 def routes():
     may, rules, number = dict(roles()), asked(), numbers()
-    path_of = {place: path for path, place in re.findall(r'\("(/.*?)", Place::(\w+)\)', read("crates/hall_http/src/routes.rt"))}
-    route = {action: f"{method} {path_of[place]}" for place, served in asked_at() for method, action in served}
+    path_of = {resource: path for path, resource in re.findall(r'\("(/.*?)", Resource::(\w+)\)', read("crates/hall_http/src/routes.rt"))}
+    route = {action: f"{method} {path_of[resource]}" for resource, served in asked_at() for method, action in served}
     for name, _ in variants("crates/hall_policy/src/request.rt", "Action"):
         yield [f"`{route[name]}`", name, may[name], ", ".join(str(number[it]) for it in rules[name])]
 

@@ -168,7 +168,7 @@ module _ (world : World) (typed : IsWorld world) where
   one_allowed caller (action.Release id) t found again given other new next is same p q = one_release id given other new next p q
   one_allowed caller action.ListRounds t found again given other new next is same p q =
       one_caller caller _ _ (One given other new next) (λ person x y. (x.0 ∙ sym y.0, x.1 ∙ sym y.1)) p q
-  one_allowed caller (action.ReadRound id) t found again given other new next is same (row, shown, at, shows, told, stays) (twin, screen, there, showing, says, still) =
+  one_allowed caller (action.ReadRound id) t found again given other new next is same ((row, shown, at, shows, told), stays) ((twin, screen, there, showing, says), still) =
       (one_shown id given other row shown at shows told twin screen there showing says, stays ∙ sym still)
   one_allowed caller (action.Submit id number token answer) t found again given other new next is same p q =
       one_caller caller _ _ (One given other new next) (λ person x y. one_submission person id number token answer t given other new next x y) p q

@@ -47,7 +47,7 @@ allowed_serves world caller (action.Certify key budget) t found given new (row, 
 allowed_serves world caller (action.PutRound id sheet) t found given new h = told given _ tt h.0
 allowed_serves world caller (action.Release id) t found given new h = told given _ tt h.2
 allowed_serves world caller action.ListRounds t found given new h = told given _ tt h.2.0
-allowed_serves world caller (action.ReadRound id) t found given new h = told given _ tt h.4
+allowed_serves world caller (action.ReadRound id) t found given new h = told given _ tt h.0.4
 allowed_serves world caller (action.Submit id number token answer) t found given new (person, is, (round, entry, puzzle, verdict, at, place, grid, judged, (says, made))) = told given _ tt says
 allowed_serves world caller (action.Answers id) t found given new h = told given _ tt h.2.0.4
 allowed_serves world caller (action.Solutions id) t found given new h = told given _ tt h.0.4

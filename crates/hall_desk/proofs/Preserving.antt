@@ -208,7 +208,7 @@ module _ (ex : List ℕ → List ℕ → List ℕ) (hidden : List ℕ → Bool) 
         let one : round ≡ round' = one_row (get world.rounds id) round round' at at' in
         rounds_change new changed _ _ (ap (λ (r : Round). insert world.rounds id (record r { released = true })) one) made made'
     allowed_alike action.ListRounds h found given answered new changed p q = unchanged new changed p.2.1 q.2.1
-    allowed_alike (action.ReadRound id) h found given answered new changed p q = unchanged new changed p.5 q.5
+    allowed_alike (action.ReadRound id) h found given answered new changed p q = unchanged new changed p.1 q.1
     allowed_alike (action.Submit id number token answer) h found given answered new changed p q = submit_alike id number token answer found given answered new changed p q
     allowed_alike (action.Answers id) h found given answered new changed p q = unchanged new changed p.2.1 q.2.1
     allowed_alike (action.Solutions id) h found given answered new changed p q = unchanged new changed p.1 q.1

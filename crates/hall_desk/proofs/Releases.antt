@@ -15,7 +15,7 @@ use Rattle.hall_policy.specs.declared.record.PuzzleKey.{PuzzleKey}
 use Rattle.hall_store.specs.Store.{AreUsing}
 use Rattle.hall_desk.specs.Lookups.{IsReleasedRound, HasFault, HasFaultyEntry}
 use Rattle.hall_desk.specs.Sane.{MayTakePart}
-use Rattle.hall_desk.specs.declared.entry_fault.EntryFault.{EntryFault}
+use Rattle.hall_desk.specs.declared.release_faults.EntryFault.{EntryFault}
 use Rattle.hall_policy.proofs.Texts.{text_decides}
 use Rattle.hall_desk.proofs.Answering.{Contains-filter, filter-Contains}
 

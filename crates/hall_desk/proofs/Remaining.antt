@@ -403,7 +403,7 @@ allowed_remains world caller (action.Publish id) t found given new none (round, 
 allowed_remains world caller (action.Submit id number token answer) t found given new none h = submit_remains world caller id number token answer t found given new none h
 allowed_remains world caller (action.Import people) t found given new none h = import_remains world caller people t found given new none h
 allowed_remains world caller (action.PutRound id sheet) t found given new none h = put_round_remains world caller id sheet t found given new none h
-allowed_remains world caller (action.ReadRound id) t found given new none h = remains_same world new h.5
+allowed_remains world caller (action.ReadRound id) t found given new none h = remains_same world new h.1
 allowed_remains world caller (action.Answers id) t found given new none h = remains_same world new h.2.1
 allowed_remains world caller (action.ReadPuzzle key) t found given new none h = remains_same world new h.1
 allowed_remains world caller action.ListPuzzles t found given new none h = remains_same world new h.2.1

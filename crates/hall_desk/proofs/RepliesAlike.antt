@@ -248,7 +248,7 @@ module _ (ex : List ℕ → List ℕ → List ℕ) (hidden : List ℕ → Bool) 
 
     read : (id : List ℕ) (found again : PuzzleState) (given answered : Reply) (new changed : World) → NoneBelow 21 world (Some e) (action.ReadRound id) t →
         Allowed world (Some e) (action.ReadRound id) t found given new → Allowed later (Some e) (action.ReadRound id) t again answered changed → answered ≡ given
-    read id found again given answered new changed none (row, shown, at, shows, told, same) (row', shown', at', shows', told', same') =
+    read id found again given answered new changed none ((row, shown, at, shows, told), same) ((row', shown', at', shows', told'), same') =
         let a : Action = action.ReadRound id in
         let released = is_released a id row.round (λ missing. (none rule.Missing (lit< tt)).0 ((2, lit< tt, refl), missing)) at.head in
         let one : row' ≡ tested_by row row'.testers = one_round_row later world id row' row refl refl at' at in

@@ -99,7 +99,7 @@ allowed_sane : (world : World) (caller : Option Person) (asked : Action) (t : �
     NoneBelow 21 world caller asked t → Allowed world caller asked t found given new → Sane new
 allowed_sane world caller (action.PutPuzzle key puzzle) t found given new sane there timed is none h = put_step world caller key puzzle t found given new sane is none h
 allowed_sane world caller (action.Submit id number token answer) t found given new sane there timed is none h = submit_step world caller id number token answer t found given new sane there timed is none h
-allowed_sane world caller (action.ReadRound id) t found given new sane there timed is none h = subst Sane (sym h.5) sane
+allowed_sane world caller (action.ReadRound id) t found given new sane there timed is none h = subst Sane (sym h.1) sane
 allowed_sane world caller (action.Answers id) t found given new sane there timed is none h = subst Sane (sym h.2.1) sane
 allowed_sane world caller (action.Import people) t found given new sane there timed is none h = import_step world caller people t found given new sane is none h
 allowed_sane world caller (action.ReadPuzzle key) t found given new sane there timed is none h = subst Sane (sym h.1) sane

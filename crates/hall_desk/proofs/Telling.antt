@@ -19,7 +19,7 @@ use Rattle.hall_policy.specs.declared.rule.Rule.TheVariants as rule
 use Rattle.hall_store.specs.Maps.{empty_world}
 use Rattle.hall_store.specs.Store.{IsProtestOpen}
 use Rattle.hall_desk.specs.Lookups.{HasAuthor, HasFaultyEntry}
-use Rattle.hall_desk.specs.declared.entry_fault.EntryFault.TheVariants.{Shared, Uncertified}
+use Rattle.hall_desk.specs.declared.release_faults.EntryFault.TheVariants.{Shared, Uncertified}
 
 -- the rules on the caller read nothing else
 pub caller_told : (facts : Facts) (world : World) (action : Action) → TrueUpTo 3 facts world action

@@ -6,8 +6,8 @@ use Rattle.hall_policy.specs.Rules.{Lists, StandsReleased, IsCertified}
 use Rattle.hall_policy.specs.declared.record.Person.{Person}
 use Rattle.hall_policy.specs.declared.record.Entry.{Entry}
 use Rattle.hall_policy.specs.declared.record.Round.{Round}
-use Rattle.hall_desk.specs.declared.entry_fault.EntryFault.{EntryFault}
-use Rattle.hall_desk.specs.declared.entry_fault.EntryFault.TheVariants.{Shared, Uncertified}
+use Rattle.hall_desk.specs.declared.release_faults.EntryFault.{EntryFault}
+use Rattle.hall_desk.specs.declared.release_faults.EntryFault.TheVariants.{Shared, Uncertified}
 use Rattle.hall_store.specs.Caller.{caller_of}
 
 -- the caller, if there is one, is there

@@ -160,10 +160,10 @@ IsReleaseStep world id given new =
     × (new ≡ record world { rounds = insert world.rounds id (record round { released = true }) })
 
 -- the round is read, with its puzzles' texts
-abbrev pub IsReadRoundStep : World → List ℕ → Reply → World → Type 0
-IsReadRoundStep world id given new =
+abbrev pub IsReadRoundStep : World → List ℕ → Reply → Type 0
+IsReadRoundStep world id given =
     (row : RoundRow) × (shown : ShownRound) × IsRoundAt world id row × ShowsRound world row shown
-    × (given ≡ reply.ReadRound shown) × (new ≡ world)
+    × (given ≡ reply.ReadRound shown)
 
 -- the answer's row: numbered after those of its entrant to the puzzle in the round
 abbrev pub answer_row : World → Person → List ℕ → ℕ → List ℕ → List ℕ → ℕ → ℕ → AnswerRow
@@ -243,7 +243,7 @@ Allowed world caller (PutPuzzle key puzzle) t found given new =
     IsPutPuzzleStep world key puzzle given new
 Allowed world caller (Certify key budget) t found given new = IsCertifyStep world key budget found given new
 Allowed world caller (Release id) t found given new = IsReleaseStep world id given new
-Allowed world caller (ReadRound id) t found given new = IsReadRoundStep world id given new
+Allowed world caller (ReadRound id) t found given new = IsReadRoundStep world id given × (new ≡ world)
 Allowed world caller (Submit id number token answer) t found given new =
     TheCaller caller (λ person. IsSubmitStep world person id number token answer t given new)
 Allowed world caller (Answers id) t found given new =

@@ -26,7 +26,7 @@ pub(crate) fn find_author<S: ReadStore>(
 }
 
 /// Whether the puzzle stands in a released round.
-pub(crate) fn find_release<S: ReadStore>(
+pub(crate) fn is_in_released_round<S: ReadStore>(
     alloc: Global,
     store: &mut S,
     key: &PuzzleKey,

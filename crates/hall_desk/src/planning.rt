@@ -62,10 +62,10 @@ pub(crate) fn make_plan<S: ReadStore>(
     ensures copied { IsCopied (S.content store.new) copied.new }
 {
     let mut facts = no_facts();
-    let turn = RequestAt { alloc, t, request };
+    let asked = RequestAt { alloc, t, request };
     let plan = match &request.action {
-        Action::Table { round } => plan_for_anyone(&turn, store, round, &mut facts, copied),
-        _ => plan_by_key(&turn, store, &mut facts),
+        Action::Table { round } => plan_for_anyone(&asked, store, round, &mut facts, copied),
+        _ => plan_by_key(&asked, store, &mut facts),
     };
     drop(facts);
     plan
@@ -94,59 +94,59 @@ fn no_facts() -> Facts
 
 /// The plan for a table, which anyone may ask for, with a key or without.
 fn plan_for_anyone<S: ReadStore>(
-    turn: &RequestAt,
+    asked: &RequestAt,
     store: &mut S,
     round: &RoundId,
     facts: &mut Facts,
     copied: &mut Option<TableCopy>,
 ) -> Result<Plan, StoreFault>
     requires facts { facts.old.caller ≡ None }
-    requires action { turn.now.request.now.action ≡ Table round.now }
+    requires action { asked.now.request.now.action ≡ Table round.now }
     requires copied { IsCopied (S.content store.old) copied.old }
     ensures kept { Kept (S.content store.old) (S.content store.new) }
     ensures fault { FailsIn S.can_fail (S.content store.new) result }
-    ensures planned { Planned (S.content store.new) turn.now.t turn.now.request.now result }
+    ensures planned { Planned (S.content store.new) asked.now.t asked.now.request.now result }
     ensures copied { IsCopied (S.content store.new) copied.new }
 {
-    if let Some(key) = &turn.request.key {
-        facts.caller = store.person_by_key(turn.alloc, key)?;
+    if let Some(key) = &asked.request.key {
+        facts.caller = store.person_by_key(asked.alloc, key)?;
     }
-    plan_table(turn, store, round, facts, copied)
+    plan_table(asked, store, round, facts, copied)
 }
 
 /// The plan for a request that its key decides first, with the facts that it rests on.
 fn plan_by_key<S: ReadStore>(
-    turn: &RequestAt,
+    asked: &RequestAt,
     store: &mut S,
     facts: &mut Facts,
 ) -> Result<Plan, StoreFault>
     requires facts { facts.old.caller ≡ None }
-    requires action { (round : List ℕ) → turn.now.request.now.action ≢ Table round }
+    requires action { (round : List ℕ) → asked.now.request.now.action ≢ Table round }
     ensures kept { Kept (S.content store.old) (S.content store.new) }
-    ensures untouched { IsNobodys turn.now.request.now → store.new ≡ store.old }
-    ensures keyless { IsNobodys turn.now.request.now → IsQuietPlan result }
+    ensures untouched { IsNobodys asked.now.request.now → store.new ≡ store.old }
+    ensures keyless { IsNobodys asked.now.request.now → IsQuietPlan result }
     ensures fault { FailsIn S.can_fail (S.content store.new) result }
-    ensures planned { Planned (S.content store.new) turn.now.t turn.now.request.now result }
+    ensures planned { Planned (S.content store.new) asked.now.t asked.now.request.now result }
 {
-    match &turn.request.key {
+    match &asked.request.key {
         Some(key) => {
-            facts.caller = store.person_by_key(turn.alloc, key)?;
-            plan_for_caller(turn, store, facts)
+            facts.caller = store.person_by_key(asked.alloc, key)?;
+            plan_for_caller(asked, store, facts)
         }
-        None => Ok(deny_without_key(turn, facts)),
+        None => Ok(deny_without_key(asked, facts)),
     }
 }
 
 /// The plan for a request without a key: a denial, which asks nothing of the store.
-fn deny_without_key(turn: &RequestAt, facts: &Facts) -> Plan
-    requires key { turn.now.request.now.key ≡ None }
+fn deny_without_key(asked: &RequestAt, facts: &Facts) -> Plan
+    requires key { asked.now.request.now.key ≡ None }
     requires caller { facts.now.caller ≡ None }
-    requires action { (round : List ℕ) → turn.now.request.now.action ≢ Table round }
+    requires action { (round : List ℕ) → asked.now.request.now.action ≢ Table round }
     ensures change { result.change ≡ Change.Nothing }
     ensures available { IsAvailable result.reply }
-    ensures planned { (world : World) → IsPlanFor world turn.now.t turn.now.request.now result }
+    ensures planned { (world : World) → IsPlanFor world asked.now.t asked.now.request.now result }
 {
-    match caller_rule(facts, &turn.request.action, turn.t) {
+    match caller_rule(facts, &asked.request.action, asked.t) {
         Some(rule) => Plan::of(Reply::Denied(rule)),
         None => unreachable!(),
     }
@@ -166,73 +166,73 @@ fn caller_rule(facts: &Facts, action: &Action, t: Moment) -> Option<u8>
 
 /// The plan where the caller was looked up. The rules on the caller are asked before anything else is read.
 fn plan_for_caller<S: ReadStore>(
-    turn: &RequestAt,
+    asked: &RequestAt,
     store: &mut S,
     facts: &mut Facts,
 ) -> Result<Plan, StoreFault>
-    requires caller { Asks (S.content store.old) (λ world. IsCaller world turn.now.request.now.key facts.old.caller) }
-    requires action { (round : List ℕ) → turn.now.request.now.action ≢ Table round }
+    requires caller { Asks (S.content store.old) (λ world. IsCaller world asked.now.request.now.key facts.old.caller) }
+    requires action { (round : List ℕ) → asked.now.request.now.action ≢ Table round }
     ensures kept { Kept (S.content store.old) (S.content store.new) }
     ensures fault { FailsIn S.can_fail (S.content store.new) result }
     ensures told { Told (S.content store.old) (S.content store.new) result
-        (λ world plan. IsPlanFor world turn.now.t turn.now.request.now plan) }
+        (λ world plan. IsPlanFor world asked.now.t asked.now.request.now plan) }
 {
-    match caller_rule(facts, &turn.request.action, turn.t) {
+    match caller_rule(facts, &asked.request.action, asked.t) {
         Some(rule) => Ok(Plan::of(Reply::Denied(rule))),
-        None => dispatch(turn, store, facts),
+        None => dispatch(asked, store, facts),
     }
 }
 
 /// The plan of the request's action, by its handler. (A table has none.)
 fn dispatch<S: ReadStore>(
-    turn: &RequestAt,
+    asked: &RequestAt,
     store: &mut S,
     facts: &mut Facts,
 ) -> Result<Plan, StoreFault>
-    requires caller { Asks (S.content store.old) (λ world. IsCaller world turn.now.request.now.key facts.old.caller) }
-    requires passed { PassesUpTo 3 facts.old turn.now.request.now.action turn.now.t }
-    requires action { (round : List ℕ) → turn.now.request.now.action ≢ Table round }
+    requires caller { Asks (S.content store.old) (λ world. IsCaller world asked.now.request.now.key facts.old.caller) }
+    requires passed { PassesUpTo 3 facts.old asked.now.request.now.action asked.now.t }
+    requires action { (round : List ℕ) → asked.now.request.now.action ≢ Table round }
     ensures kept { Kept (S.content store.old) (S.content store.new) }
     ensures fault { FailsIn S.can_fail (S.content store.new) result }
     ensures told { Told (S.content store.old) (S.content store.new) result
-        (λ world plan. IsPlanFor world turn.now.t turn.now.request.now plan) }
+        (λ world plan. IsPlanFor world asked.now.t asked.now.request.now plan) }
 {
-    match &turn.request.action {
-        Action::Import { people } => turn.handle(store, &Import { people }, facts),
-        Action::PutPuzzle { key, puzzle } => turn.handle(store, &PutPuzzle { key, puzzle }, facts),
-        Action::ReadPuzzle { key } => turn.handle(store, &ReadPuzzle { key }, facts),
-        Action::ListPuzzles => turn.handle(store, &ListPuzzles {}, facts),
-        Action::Certify { key, budget } => turn.handle(store, &Certify::of(key, *budget), facts),
-        Action::PutRound { round, sheet } => turn.handle(store, &PutRound { round, sheet }, facts),
-        Action::Release { round } => turn.handle(store, &Release { round }, facts),
-        Action::ListRounds => turn.handle(store, &ListRounds {}, facts),
-        Action::ReadRound { round } => turn.handle(store, &ReadRound { round }, facts),
+    match &asked.request.action {
+        Action::Import { people } => asked.handle(store, &Import { people }, facts),
+        Action::PutPuzzle { key, puzzle } => asked.handle(store, &PutPuzzle { key, puzzle }, facts),
+        Action::ReadPuzzle { key } => asked.handle(store, &ReadPuzzle { key }, facts),
+        Action::ListPuzzles => asked.handle(store, &ListPuzzles {}, facts),
+        Action::Certify { key, budget } => asked.handle(store, &Certify::of(key, *budget), facts),
+        Action::PutRound { round, sheet } => asked.handle(store, &PutRound { round, sheet }, facts),
+        Action::Release { round } => asked.handle(store, &Release { round }, facts),
+        Action::ListRounds => asked.handle(store, &ListRounds {}, facts),
+        Action::ReadRound { round } => asked.handle(store, &ReadRound { round }, facts),
         Action::Submit {
             round,
             number,
             token,
             answer,
-        } => turn.handle(store, &Submit::of(round, *number, token, answer), facts),
-        Action::Answers { round } => turn.handle(store, &Answers { round }, facts),
-        Action::Solutions { round } => turn.handle(store, &Solutions { round }, facts),
+        } => asked.handle(store, &Submit::of(round, *number, token, answer), facts),
+        Action::Answers { round } => asked.handle(store, &Answers { round }, facts),
+        Action::Solutions { round } => asked.handle(store, &Solutions { round }, facts),
         Action::Protest {
             round,
             token,
             number,
             text,
-        } => turn.handle(store, &Protest::of(round, token, *number, text), facts),
-        Action::Protests { round } => turn.handle(store, &Protests { round }, facts),
+        } => asked.handle(store, &Protest::of(round, token, *number, text), facts),
+        Action::Protests { round } => asked.handle(store, &Protests { round }, facts),
         Action::RuleProtest {
             round,
             entrant,
             token,
             ruling,
-        } => turn.handle(
+        } => asked.handle(
             store,
             &RuleProtest::of(round, entrant, token, *ruling),
             facts,
         ),
-        Action::Publish { round } => turn.handle(store, &Publish { round }, facts),
+        Action::Publish { round } => asked.handle(store, &Publish { round }, facts),
         Action::Table { .. } => unreachable!(),
     }
 }

@@ -9,7 +9,7 @@ ghost use Rattle.hall_desk.specs.Shown.{state_name};
 ghost use Rattle.hall_desk.specs.Plans.{IsPlanOf, StandsAs};
 
 use crate::handler::Handler;
-use crate::lookups::{find_author, find_release};
+use crate::lookups::{find_author, is_in_released_round};
 use crate::plan::Plan;
 use crate::reply::{Reply, StateName};
 use hall_grid::{Puzzle, write_puzzle};
@@ -46,7 +46,7 @@ impl<'a> Handler for PutPuzzle<'a> {
         if let Some(decision) = decide_up_to(facts, action, t, Rule::Missing) {
             return Ok(decision);
         }
-        facts.in_released = find_release(alloc, store, self.key)?;
+        facts.in_released = is_in_released_round(alloc, store, self.key)?;
         if let Some(decision) = decide_up_to(facts, action, t, Rule::InReleasedRound) {
             return Ok(decision);
         }

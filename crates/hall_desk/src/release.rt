@@ -4,9 +4,9 @@ ghost use Rattle.hall_policy.specs.Implies.{IsAllowable};
 ghost use Rattle.hall_policy.specs.declared.request.Action.{Action};
 ghost use Rattle.hall_desk.specs.Plans.{IsPlanOf};
 
-use crate::entry_fault::{EntryFault, find_fault};
 use crate::handler::Handler;
 use crate::plan::Plan;
+use crate::release_faults::{EntryFault, find_fault};
 use crate::reply::Reply;
 use hall_policy::{Action, Decision, Facts, Moment, RoundId, Rule, decide, decide_up_to};
 use hall_store::{Change, ReadStore, RoundFlag, StoreFault};

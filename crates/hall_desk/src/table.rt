@@ -19,30 +19,30 @@ use std::alloc::Global;
 
 /// The plan for the round's table, which is anyone's, with a key or without: by the copy, where it is this round's.
 pub(crate) fn plan_table<S: ReadStore>(
-    turn: &RequestAt,
+    asked: &RequestAt,
     store: &mut S,
     round: &RoundId,
     facts: &mut Facts,
     copied: &mut Option<TableCopy>,
 ) -> Result<Plan, StoreFault>
-    requires action { turn.now.request.now.action ≡ Table round.now }
+    requires action { asked.now.request.now.action ≡ Table round.now }
     requires copied { IsCopied (S.content store.old) copied.old }
-    requires caller { Asks (S.content store.old) (λ world. IsCaller world turn.now.request.now.key facts.old.caller) }
+    requires caller { Asks (S.content store.old) (λ world. IsCaller world asked.now.request.now.key facts.old.caller) }
     ensures kept { Kept (S.content store.old) (S.content store.new) }
     ensures fault { FailsIn S.can_fail (S.content store.new) result }
     ensures served { Served (S.content store.new) result
-        (λ world plan. IsPlanFor world turn.now.t turn.now.request.now plan) }
+        (λ world plan. IsPlanFor world asked.now.t asked.now.request.now plan) }
     ensures copied { IsCopied (S.content store.new) copied.new }
 {
-    facts.round = store.round(turn.alloc, round)?;
-    match decide(facts, &turn.request.action, turn.t) {
+    facts.round = store.round(asked.alloc, round)?;
+    match decide(facts, &asked.request.action, asked.t) {
         Decision::Deny(rule) => Ok(Plan::of(Reply::Denied(rule))),
         Decision::Repeat => unreachable!(),
         Decision::Allow => {
             let Some(row) = &facts.round else {
                 unreachable!()
             };
-            let text = make_table(turn.alloc, store, round, row, copied)?;
+            let text = make_table(asked.alloc, store, round, row, copied)?;
             Ok(Plan::of(Reply::Table(text)))
         }
     }

@@ -9,10 +9,10 @@ use Rattle.hall_policy.specs.declared.request.Action.TheVariants as action
 use Rattle.hall_policy.specs.declared.request.Request.{Request}
 use Rattle.hall_http.specs.declared.form.FormFault.{FormFault}
 use Rattle.hall_http.specs.declared.form.FormFault.TheVariants as fault
-use Rattle.hall_http.specs.declared.routes.Place.{Place}
-use Rattle.hall_http.specs.declared.routes.Place.TheVariants as place
+use Rattle.hall_http.specs.declared.routes.Resource.{Resource}
+use Rattle.hall_http.specs.declared.routes.Resource.TheVariants as resource
 use Rattle.hall_http.specs.Head.{shown_key}
-use Rattle.hall_http.specs.Routes.{Parts, place_in}
+use Rattle.hall_http.specs.Routes.{Parts, resource_in}
 use Rattle.hall_http.specs.Request.{puzzle_fault, PutOf, PutFrom, PuzzleAt, ActionAt, ActionFrom, asked_by, AsksBy}
 use Rattle.hall_http.specs.Request.{AskedOf, RequestOf}
 use Rattle.hall_http.proofs.Once.{one_request}
@@ -37,12 +37,12 @@ puzzle_once : (puts : Bool) (method : List ℕ) (p : Parts) (body : List ℕ) (a
 puzzle_once true method p body a b e g = put_from_once _ a b e g
 puzzle_once false method p body a b e g = e ∙ sym g
 
-action_once : (method : List ℕ) (at : Place) (p : Parts) (body : List ℕ) (a b : Result Action FormFault)
+action_once : (method : List ℕ) (at : Resource) (p : Parts) (body : List ℕ) (a b : Result Action FormFault)
     → ActionAt method at p body a → ActionAt method at p body b → a ≡ b
-action_once method place.Puzzle p body a b e g = puzzle_once _ method p body a b e g
+action_once method resource.Puzzle p body a b e g = puzzle_once _ method p body a b e g
 action_once method _ p body a b e g = e ∙ sym g
 
-found_once : (method : List ℕ) (found : Result (Place × Parts) FormFault) (body : List ℕ) (a b : Result Action FormFault)
+found_once : (method : List ℕ) (found : Result (Resource × Parts) FormFault) (body : List ℕ) (a b : Result Action FormFault)
     → ActionFrom method found body a → ActionFrom method found body b → a ≡ b
 found_once method (Err f) body a b e g = e ∙ sym g
 found_once method (Ok at) body a b e g = action_once method at.0 at.1 body a b e g
@@ -50,7 +50,7 @@ found_once method (Ok at) body a b e g = action_once method at.0 at.1 body a b e
 asks_once : (shown : Option (List ℕ)) (method path body : List ℕ) (a b : Result Request FormFault)
     → AsksBy shown method path body a → AsksBy shown method path body b → a ≡ b
 asks_once shown method path body a b (x, of, e) (y, on, g) =
-    e ∙ ap (λ z. asked_by shown z) (found_once method (place_in path) body x y of on) ∙ sym g
+    e ∙ ap (λ z. asked_by shown z) (found_once method (resource_in path) body x y of on) ∙ sym g
 
 asked_once : (head : RequestHead) (body : List ℕ) (a b : Result Request FormFault) → AskedOf head body a
     → AskedOf head body b → a ≡ b

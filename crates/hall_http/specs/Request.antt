@@ -26,12 +26,12 @@ use Rattle.hall_http.specs.declared.form.FormFault.TheVariants as fault
 use Rattle.hall_http.specs.declared.form.RequestFault.{RequestFault}
 use Rattle.hall_http.specs.declared.form.RequestFault.TheVariants as unread
 use Rattle.hall_http.specs.declared.head.RawRequest.{RawRequest}
-use Rattle.hall_http.specs.declared.routes.Place.{Place}
-use Rattle.hall_http.specs.declared.routes.Place.TheVariants as place
+use Rattle.hall_http.specs.declared.routes.Resource.{Resource}
+use Rattle.hall_http.specs.declared.routes.Resource.TheVariants as resource
 use Rattle.hall_http.specs.Body.{answer_in, text_in, budget_in, protest_in, ruling_in}
 use Rattle.hall_http.specs.Head.{IsRequest, IsWhole, shown_key}
 use Rattle.hall_http.specs.Routes.{Parts, word_in, token_in, puzzle_number, puzzle_key_in}
-use Rattle.hall_http.specs.Routes.{by_method, puzzle_by, round_by, place_in}
+use Rattle.hall_http.specs.Routes.{by_method, puzzle_by, round_by, resource_in}
 
 -- what is wrong with a text that is no puzzle; want of memory says nothing of it
 abbrev pub puzzle_fault : TextFault → Option PuzzleFault
@@ -82,64 +82,64 @@ abbrev pub put_round_at : Parts → List ℕ → Result Action FormFault
 put_round_at p body =
     word_in p.first >>= (λ id. of_sheet (sheet_in body) >>= (λ sheet. Ok (action.PutRound id sheet)))
 
--- what a method asks at a place, with the path's parts and the body: the first fault of method and parts, then the
+-- what a method asks at a resource, with the path's parts and the body: the first fault of method and parts, then the
 -- body's
-abbrev pub ActionAt : List ℕ → Place → Parts → List ℕ → Result Action FormFault → Type 0
-ActionAt method place.People p body outcome =
+abbrev pub ActionAt : List ℕ → Resource → Parts → List ℕ → Result Action FormFault → Type 0
+ActionAt method resource.People p body outcome =
     outcome ≡ (by_method method (codes "POST")
     >>= (λ _. of_sheet (people_in body)
     >>= (λ people. Ok (action.Import people))))
-ActionAt method place.Puzzles p body outcome =
+ActionAt method resource.Puzzles p body outcome =
     outcome ≡ (by_method method (codes "GET") >>= (λ _. Ok action.ListPuzzles))
-ActionAt method place.Puzzle p body outcome = PuzzleAt (bytes_eq method (codes "PUT")) method p body outcome
-ActionAt method place.Certificate p body outcome =
+ActionAt method resource.Puzzle p body outcome = PuzzleAt (bytes_eq method (codes "PUT")) method p body outcome
+ActionAt method resource.Certificate p body outcome =
     outcome ≡ (puzzle_by method (codes "POST") p
     >>= (λ key. budget_in body
     >>= (λ budget. Ok (action.Certify key budget))))
-ActionAt method place.Rounds p body outcome =
+ActionAt method resource.Rounds p body outcome =
     outcome ≡ (by_method method (codes "GET") >>= (λ _. Ok action.ListRounds))
-ActionAt method place.Round p body outcome =
+ActionAt method resource.Round p body outcome =
     outcome ≡ (if bytes_eq method (codes "PUT") then put_round_at p body
     else (round_by method (codes "GET") p >>= (λ id. Ok (action.ReadRound id))))
-ActionAt method place.Release p body outcome =
+ActionAt method resource.Release p body outcome =
     outcome ≡ (round_by method (codes "POST") p >>= (λ id. Ok (action.Release id)))
-ActionAt method place.Answers p body outcome =
+ActionAt method resource.Answers p body outcome =
     outcome ≡ (round_by method (codes "GET") p >>= (λ id. Ok (action.Answers id)))
-ActionAt method place.Answer p body outcome =
+ActionAt method resource.Answer p body outcome =
     outcome ≡ (round_by method (codes "PUT") p
     >>= (λ id. puzzle_number p.second
     >>= (λ number. token_in p.third
     >>= (λ token. answer_in body
     >>= (λ answer. Ok (action.Submit id number token answer))))))
-ActionAt method place.Solutions p body outcome =
+ActionAt method resource.Solutions p body outcome =
     outcome ≡ (round_by method (codes "GET") p >>= (λ id. Ok (action.Solutions id)))
-ActionAt method place.Protests p body outcome =
+ActionAt method resource.Protests p body outcome =
     outcome ≡ (round_by method (codes "GET") p >>= (λ id. Ok (action.Protests id)))
-ActionAt method place.Protest p body outcome =
+ActionAt method resource.Protest p body outcome =
     outcome ≡ (round_by method (codes "PUT") p
     >>= (λ id. token_in p.second
     >>= (λ token. protest_in body
     >>= (λ protest. Ok (action.Protest id token protest.0 protest.1)))))
-ActionAt method place.Ruling p body outcome =
+ActionAt method resource.Ruling p body outcome =
     outcome ≡ (round_by method (codes "PUT") p
     >>= (λ id. word_in p.second
     >>= (λ entrant. token_in p.third
     >>= (λ token. ruling_in body
     >>= (λ ruling. Ok (action.RuleProtest id entrant token ruling))))))
-ActionAt method place.Publish p body outcome =
+ActionAt method resource.Publish p body outcome =
     outcome ≡ (round_by method (codes "POST") p >>= (λ id. Ok (action.Publish id)))
-ActionAt method place.Table p body outcome =
+ActionAt method resource.Table p body outcome =
     outcome ≡ (round_by method (codes "GET") p >>= (λ id. Ok (action.Table id)))
 
--- the same at the place that was found, or the path's fault
-abbrev pub ActionFrom : List ℕ → Result (Place × Parts) FormFault → List ℕ → Result Action FormFault → Type 0
+-- the same at the resource that was found, or the path's fault
+abbrev pub ActionFrom : List ℕ → Result (Resource × Parts) FormFault → List ℕ → Result Action FormFault → Type 0
 ActionFrom method (Err f) body outcome = outcome ≡ Err f
 ActionFrom method (Ok at) body outcome = ActionAt method at.0 at.1 body outcome
 
 -- what a method, a path and a body ask for, or their first fault: the faults of method and path come before the
 -- body's
 abbrev pub ActionOf : List ℕ → List ℕ → List ℕ → Result Action FormFault → Type 0
-ActionOf method path body outcome = ActionFrom method (place_in path) body outcome
+ActionOf method path body outcome = ActionFrom method (resource_in path) body outcome
 
 -- the caller's key: none where the text isn't of a key's form
 abbrev pub key_in : List ℕ → Option (List ℕ)

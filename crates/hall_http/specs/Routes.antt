@@ -1,4 +1,4 @@
--- The patterns of the hall, the place of a path, and what the path and the method name there.
+-- The patterns of the hall, the resource of a path, and what the path and the method name there.
 use Rattle.std.specs.Prelude.{ℕ, List, [], ◌∷◌, Bool, true, false, ◌&&◌, not}
 use Rattle.std.specs.Prelude.{Option, is_some, Result, Ok, Err, codes, option_map}
 use Rattle.matchit.specs.Rows.{RowsOf}
@@ -18,52 +18,52 @@ use Rattle.hall_policy.specs.declared.record.PuzzleKey.{PuzzleKey}
 use Rattle.hall_http.specs.Words.{number_in}
 use Rattle.hall_http.specs.declared.form.FormFault.{FormFault}
 use Rattle.hall_http.specs.declared.form.FormFault.TheVariants as fault
-use Rattle.hall_http.specs.declared.routes.Place.{Place}
-use Rattle.hall_http.specs.declared.routes.Place.TheVariants as place
+use Rattle.hall_http.specs.declared.routes.Resource.{Resource}
+use Rattle.hall_http.specs.declared.routes.Resource.TheVariants as resource
 
--- a table of patterns, each with the place that it leads to
+-- a table of patterns, each with the resource that it leads to
 abbrev pub Table : Type 0
-Table = RowsOf (RouteOf Place)
+Table = RowsOf (RouteOf Resource)
 
 -- the rows with one more pattern, where that is one
-abbrev pub added : Place → Result Scan InsertError → Table → Table
+abbrev pub added : Resource → Result Scan InsertError → Table → Table
 added value (Ok s) rows = placed (s.pattern, route_from s value) rows
 added value (Err e) rows = rows
 
 -- the rows of these patterns, put in from the first on
-unfoldable pub rows_from : Table → List (List ℕ × Place) → Table
+unfoldable pub rows_from : Table → List (List ℕ × Resource) → Table
 rows_from rows [] = rows
 rows_from rows ((text, value) ∷ more) = rows_from (added value (parse_route text) rows) more
 
 -- each pattern is one, and none of the rows before it is in conflict with it
-abbrev pub is_free : Place → Result Scan InsertError → Table → Bool
+abbrev pub is_free : Resource → Result Scan InsertError → Table → Bool
 is_free value (Ok s) rows = not (is_some (nearest s.pattern rows))
 is_free value (Err e) rows = false
 
 -- each of these is a pattern, and none is in conflict with a row before it
-unfoldable pub are_free : Table → List (List ℕ × Place) → Bool
+unfoldable pub are_free : Table → List (List ℕ × Resource) → Bool
 are_free rows [] = true
 are_free rows ((text, value) ∷ more) =
     is_free value (parse_route text) rows && are_free (added value (parse_route text) rows) more
 
--- the patterns of the hall, each with its place
-abbrev pub patterns : List (List ℕ × Place)
+-- the patterns of the hall, each with its resource
+abbrev pub patterns : List (List ℕ × Resource)
 patterns =
-    (codes "/people", place.People)
-    ∷ (codes "/puzzles", place.Puzzles)
-    ∷ (codes "/puzzles/{author}/{label}", place.Puzzle)
-    ∷ (codes "/puzzles/{author}/{label}/certificate", place.Certificate)
-    ∷ (codes "/rounds", place.Rounds)
-    ∷ (codes "/rounds/{round}", place.Round)
-    ∷ (codes "/rounds/{round}/release", place.Release)
-    ∷ (codes "/rounds/{round}/answers", place.Answers)
-    ∷ (codes "/rounds/{round}/answers/{number}/{token}", place.Answer)
-    ∷ (codes "/rounds/{round}/solutions", place.Solutions)
-    ∷ (codes "/rounds/{round}/protests", place.Protests)
-    ∷ (codes "/rounds/{round}/protests/{token}", place.Protest)
-    ∷ (codes "/rounds/{round}/rulings/{entrant}/{token}", place.Ruling)
-    ∷ (codes "/rounds/{round}/publish", place.Publish)
-    ∷ (codes "/rounds/{round}/table", place.Table) ∷ []
+    (codes "/people", resource.People)
+    ∷ (codes "/puzzles", resource.Puzzles)
+    ∷ (codes "/puzzles/{author}/{label}", resource.Puzzle)
+    ∷ (codes "/puzzles/{author}/{label}/certificate", resource.Certificate)
+    ∷ (codes "/rounds", resource.Rounds)
+    ∷ (codes "/rounds/{round}", resource.Round)
+    ∷ (codes "/rounds/{round}/release", resource.Release)
+    ∷ (codes "/rounds/{round}/answers", resource.Answers)
+    ∷ (codes "/rounds/{round}/answers/{number}/{token}", resource.Answer)
+    ∷ (codes "/rounds/{round}/solutions", resource.Solutions)
+    ∷ (codes "/rounds/{round}/protests", resource.Protests)
+    ∷ (codes "/rounds/{round}/protests/{token}", resource.Protest)
+    ∷ (codes "/rounds/{round}/rulings/{entrant}/{token}", resource.Ruling)
+    ∷ (codes "/rounds/{round}/publish", resource.Publish)
+    ∷ (codes "/rounds/{round}/table", resource.Table) ∷ []
 
 -- the rows of the hall's patterns
 abbrev pub routes : Table
@@ -87,7 +87,7 @@ abbrev pub by_method : List ℕ → List ℕ → Result (Unit {0}) FormFault
 by_method method name = unless fault.NoRoute (bytes_eq method name)
 
 -- what the parameters of a route took of the path, each with its name
-abbrev pub parameters : List ℕ → RouteOf Place → List (List ℕ × List ℕ)
+abbrev pub parameters : List ℕ → RouteOf Resource → List (List ℕ × List ℕ)
 parameters path route = walk route.pattern route.text path route.names 0 0
 
 -- the first three parameters' texts; the empty text for one that isn't there
@@ -110,8 +110,8 @@ parts_after (p ∷ rest) = rest
 abbrev pub parts_of : List (List ℕ × List ℕ) → Parts
 parts_of ps = record { first = part ps; second = part (parts_after ps); third = part (parts_after (parts_after ps)) }
 
--- the place of a path, with its parts
-abbrev pub found : List ℕ → Option (Place × Parts)
+-- the resource of a path, with its parts
+abbrev pub found : List ℕ → Option (Resource × Parts)
 found path = option_map (λ route. (route.value, parts_of (parameters path route))) (first routes path)
 
 -- the key of a puzzle: its author and label
@@ -131,6 +131,6 @@ round_by method name p = by_method method name >>= (λ _. word_in p.first)
 abbrev pub ascii_path : List ℕ → Result (List ℕ) FormFault
 ascii_path path = unless fault.NoRoute (list_all is_ascii path) >>= (λ _. Ok path)
 
--- the place of a path, with its parts; a path that isn't ASCII has none
-abbrev pub place_in : List ℕ → Result (Place × Parts) FormFault
-place_in path = ascii_path path >>= (λ text. or_fault fault.NoRoute (found text))
+-- the resource of a path, with its parts; a path that isn't ASCII has none
+abbrev pub resource_in : List ℕ → Result (Resource × Parts) FormFault
+resource_in path = ascii_path path >>= (λ text. or_fault fault.NoRoute (found text))

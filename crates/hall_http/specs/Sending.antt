@@ -5,17 +5,17 @@ use Rattle.hall_grid.specs.Device.{Rises}
 use Rattle.hall_http.specs.Device.{WritesPart}
 use Rattle.hall_http.specs.Connection.{Exchange, Exchanged, IsOpen, IsClosing}
 use Rattle.hall_http.specs.Served.{refusal}
-use Rattle.hall_http.specs.declared.connection.Standing.{Standing}
-use Rattle.hall_http.specs.declared.connection.Standing.TheVariants as standing
+use Rattle.hall_http.specs.declared.connection.ConnectionState.{ConnectionState}
+use Rattle.hall_http.specs.declared.connection.ConnectionState.TheVariants as state
 use Rattle.hall_http.specs.declared.connection.ServeEnd.{ServeEnd}
 use Rattle.hall_http.specs.declared.connection.ServeEnd.TheVariants as end
 
 -- the reply was written, and whether the connection stays open; or a part of it was, and the writer failed
-abbrev pub Sends : Standing → Exchange → Option (List ℕ) → Option (List ℕ) → ℕ → ℕ → Type 0
-Sends standing.Open x wrote written failed fails = IsOpen x.request × Appends wrote written x.reply × (fails ≡ failed)
-Sends standing.Closing x wrote written failed fails =
+abbrev pub Sends : ConnectionState → Exchange → Option (List ℕ) → Option (List ℕ) → ℕ → ℕ → Type 0
+Sends state.Open x wrote written failed fails = IsOpen x.request × Appends wrote written x.reply × (fails ≡ failed)
+Sends state.Closing x wrote written failed fails =
     IsClosing x.request × Appends wrote written x.reply × (fails ≡ failed)
-Sends standing.Failed x wrote written failed fails = WritesPart wrote written x.reply × Rises failed fails
+Sends state.Failed x wrote written failed fails = WritesPart wrote written x.reply × Rises failed fails
 
 -- the reply to bytes that are no request was written; or a part of it was, and the writer failed
 abbrev pub Refuses : ServeEnd → Option (List ℕ) → Option (List ℕ) → ℕ → ℕ → Type 0
@@ -33,8 +33,8 @@ EndsInput unread result wrote written failed fails =
 -- a request is answered, and its reply written
 pub record IsExchangeMade {H C : Type 0} (answers : H → Option ℕ → List ℕ → List ℕ → H → Type 0)
     (now_gives : C → Option ℕ → C → Type 0) (h : H) (c : C) (request : List ℕ) (i : H) (d : C)
-    (wrote written : Option (List ℕ)) (failed fails : ℕ) (standing : Standing) : Type 0 where
+    (wrote written : Option (List ℕ)) (failed fails : ℕ) (state : ConnectionState) : Type 0 where
   pub exchange : Exchange
   pub asked : exchange.request ≡ request
   pub exchanged : Exchanged answers now_gives h c exchange i d
-  pub sent : Sends standing exchange wrote written failed fails
+  pub sent : Sends state exchange wrote written failed fails

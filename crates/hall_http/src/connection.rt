@@ -54,7 +54,7 @@ pub enum ServeEnd {
 
 /// How a connection stands after a request.
 #[derive(Clone, Copy)]
-pub(crate) enum Standing {
+pub(crate) enum ConnectionState {
     Open,
     Closing,
     Failed,
@@ -137,14 +137,14 @@ fn serve_requests<H: Handler, R: Read, W: Write, C: Clock>(
     while requests < REQUEST_LIMIT {
         match cut_from(inbox.unread(), least) {
             Cut::Whole { size, request } => {
-                let standing = exchange(alloc, routes, &request, handler, writer, clock);
+                let state = exchange(alloc, routes, &request, handler, writer, clock);
                 inbox.pass(size);
                 requests += 1;
                 least = 0;
-                match standing {
-                    Standing::Open => {}
-                    Standing::Closing => return ServeEnd::Closed,
-                    Standing::Failed => return ServeEnd::Device,
+                match state {
+                    ConnectionState::Open => {}
+                    ConnectionState::Closing => return ServeEnd::Closed,
+                    ConnectionState::Failed => return ServeEnd::Device,
                 }
             }
             Cut::More(size) => {
@@ -174,7 +174,7 @@ fn exchange<H: Handler, W: Write, C: Clock>(
     handler: &mut H,
     writer: &mut Counted<W>,
     clock: &mut C,
-) -> Standing
+) -> ConnectionState
     ensures { (bytes : List ℕ) → IsLentBy bytes request.now →
         IsExchangeMade H.answers C.now_gives handler.old clock.old bytes handler.new clock.new
         (W.contents writer.old.device) (W.contents writer.new.device) writer.old.failures writer.new.failures result }
@@ -182,9 +182,9 @@ fn exchange<H: Handler, W: Write, C: Clock>(
     let moment = clock.now();
     let answer = handler.answer(alloc, routes, moment, request);
     match send(writer, answer) {
-        Ok(()) if request.closes => Standing::Closing,
-        Ok(()) => Standing::Open,
-        Err(_) => Standing::Failed,
+        Ok(()) if request.closes => ConnectionState::Closing,
+        Ok(()) => ConnectionState::Open,
+        Err(_) => ConnectionState::Failed,
     }
 }
 

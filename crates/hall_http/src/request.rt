@@ -10,7 +10,8 @@ use crate::body::{read_answer, read_budget, read_protest, read_ruling, read_text
 use crate::form::{FormFault, RequestFault, puzzle_fault};
 use crate::head::RawRequest;
 use crate::routes::{
-    Parts, Place, Routes, by_method, place_of, puzzle_by, puzzle_key, puzzle_number, round_by, word,
+    Parts, Resource, Routes, by_method, puzzle_by, puzzle_key, puzzle_number, resource_of,
+    round_by, word,
 };
 use crate::words::checked;
 use hall_grid::parse_puzzle;
@@ -78,7 +79,7 @@ fn certify_at(
     parts: &Parts,
     body: &[u8],
 ) -> Result<Action, RequestFault>
-    ensures { Finds result (ActionAt method.now Place.Certificate (parts_seen parts.now) body.now) }
+    ensures { Finds result (ActionAt method.now Resource.Certificate (parts_seen parts.now) body.now) }
 {
     let key = puzzle_by(alloc, method, b"POST", parts)?;
     let budget = read_budget(alloc, body)?;
@@ -101,7 +102,7 @@ fn round_at(
     parts: &Parts,
     body: &[u8],
 ) -> Result<Action, RequestFault>
-    ensures { Finds result (ActionAt method.now Place.Round (parts_seen parts.now) body.now) }
+    ensures { Finds result (ActionAt method.now Resource.Round (parts_seen parts.now) body.now) }
 {
     if method == b"PUT".as_slice() {
         return put_round_at(alloc, parts, body);
@@ -117,7 +118,7 @@ fn submit_at(
     parts: &Parts,
     body: &[u8],
 ) -> Result<Action, RequestFault>
-    ensures { Finds result (ActionAt method.now Place.Answer (parts_seen parts.now) body.now) }
+    ensures { Finds result (ActionAt method.now Resource.Answer (parts_seen parts.now) body.now) }
 {
     let round = round_by(alloc, method, b"PUT", parts)?;
     let number = puzzle_number(parts.second)?;
@@ -138,7 +139,7 @@ fn protest_at(
     parts: &Parts,
     body: &[u8],
 ) -> Result<Action, RequestFault>
-    ensures { Finds result (ActionAt method.now Place.Protest (parts_seen parts.now) body.now) }
+    ensures { Finds result (ActionAt method.now Resource.Protest (parts_seen parts.now) body.now) }
 {
     let round = round_by(alloc, method, b"PUT", parts)?;
     let token = word(alloc, parts.second)?;
@@ -158,7 +159,7 @@ fn rule_protest_at(
     parts: &Parts,
     body: &[u8],
 ) -> Result<Action, RequestFault>
-    ensures { Finds result (ActionAt method.now Place.Ruling (parts_seen parts.now) body.now) }
+    ensures { Finds result (ActionAt method.now Resource.Ruling (parts_seen parts.now) body.now) }
 {
     let round = round_by(alloc, method, b"PUT", parts)?;
     let entrant = word(alloc, parts.second)?;
@@ -172,52 +173,52 @@ fn rule_protest_at(
     })
 }
 
-/// What a method asks at a place, with the path's parts and the body. The body is read last.
+/// What a method asks at a resource, with the path's parts and the body. The body is read last.
 fn action_at(
     alloc: Global,
     method: &[u8],
-    place: Place,
+    resource: Resource,
     parts: &Parts,
     body: &[u8],
 ) -> Result<Action, RequestFault>
-    ensures { Finds result (ActionAt method.now place (parts_seen parts.now) body.now) }
+    ensures { Finds result (ActionAt method.now resource (parts_seen parts.now) body.now) }
 {
-    match place {
-        Place::People => {
+    match resource {
+        Resource::People => {
             by_method(method, b"POST")?;
             let people = read_people(alloc, body)?;
             Ok(Action::Import { people })
         }
-        Place::Puzzles => {
+        Resource::Puzzles => {
             by_method(method, b"GET")?;
             Ok(Action::ListPuzzles)
         }
-        Place::Puzzle => puzzle_at(alloc, method, parts, body),
-        Place::Certificate => certify_at(alloc, method, parts, body),
-        Place::Rounds => {
+        Resource::Puzzle => puzzle_at(alloc, method, parts, body),
+        Resource::Certificate => certify_at(alloc, method, parts, body),
+        Resource::Rounds => {
             by_method(method, b"GET")?;
             Ok(Action::ListRounds)
         }
-        Place::Round => round_at(alloc, method, parts, body),
-        Place::Release => Ok(Action::Release {
+        Resource::Round => round_at(alloc, method, parts, body),
+        Resource::Release => Ok(Action::Release {
             round: round_by(alloc, method, b"POST", parts)?,
         }),
-        Place::Answers => Ok(Action::Answers {
+        Resource::Answers => Ok(Action::Answers {
             round: round_by(alloc, method, b"GET", parts)?,
         }),
-        Place::Answer => submit_at(alloc, method, parts, body),
-        Place::Solutions => Ok(Action::Solutions {
+        Resource::Answer => submit_at(alloc, method, parts, body),
+        Resource::Solutions => Ok(Action::Solutions {
             round: round_by(alloc, method, b"GET", parts)?,
         }),
-        Place::Protests => Ok(Action::Protests {
+        Resource::Protests => Ok(Action::Protests {
             round: round_by(alloc, method, b"GET", parts)?,
         }),
-        Place::Protest => protest_at(alloc, method, parts, body),
-        Place::Ruling => rule_protest_at(alloc, method, parts, body),
-        Place::Publish => Ok(Action::Publish {
+        Resource::Protest => protest_at(alloc, method, parts, body),
+        Resource::Ruling => rule_protest_at(alloc, method, parts, body),
+        Resource::Publish => Ok(Action::Publish {
             round: round_by(alloc, method, b"POST", parts)?,
         }),
-        Place::Table => Ok(Action::Table {
+        Resource::Table => Ok(Action::Table {
             round: round_by(alloc, method, b"GET", parts)?,
         }),
     }
@@ -233,8 +234,8 @@ fn action_of(
 ) -> Result<Action, RequestFault>
     ensures { Finds result (ActionOf method.now path.now body.now) }
 {
-    let (place, parts) = place_of(routes, path)?;
-    action_at(alloc, method, place, &parts, body)
+    let (resource, parts) = resource_of(routes, path)?;
+    action_at(alloc, method, resource, &parts, body)
 }
 
 /// What a request asks for.

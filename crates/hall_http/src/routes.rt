@@ -5,7 +5,7 @@ ghost use Rattle.std.specs.Char.{is_ascii};
 ghost use Rattle.matchit.specs.Params.{walk};
 ghost use Rattle.hall_policy.specs.Reading.{of_kind};
 ghost use Rattle.hall_http.specs.Given.{Gives};
-ghost use Rattle.hall_http.specs.Routes.{routes, found, rows_from, are_free, parts_of, place_in, ascii_path};
+ghost use Rattle.hall_http.specs.Routes.{routes, found, rows_from, are_free, parts_of, resource_in, ascii_path};
 ghost use Rattle.hall_http.specs.Routes.{by_method, puzzle_number, puzzle_key_in, puzzle_by, round_by};
 ghost use Rattle.hall_http.specs.Parts.{parts_seen, AllAscii};
 
@@ -18,9 +18,9 @@ use std::marker::Model;
 
 const NO_ROUTE: RequestFault = RequestFault::Form(FormFault::NoRoute);
 
-/// The place that a pattern names.
+/// The resource that a pattern names.
 #[derive(Clone, Copy, Debug, PartialEq, Eq)]
-pub(crate) enum Place {
+pub(crate) enum Resource {
     People,
     Puzzles,
     Puzzle,
@@ -38,28 +38,34 @@ pub(crate) enum Place {
     Table,
 }
 
-static PATTERNS: [(&str, Place); 15] = [
-    ("/people", Place::People),
-    ("/puzzles", Place::Puzzles),
-    ("/puzzles/{author}/{label}", Place::Puzzle),
-    ("/puzzles/{author}/{label}/certificate", Place::Certificate),
-    ("/rounds", Place::Rounds),
-    ("/rounds/{round}", Place::Round),
-    ("/rounds/{round}/release", Place::Release),
-    ("/rounds/{round}/answers", Place::Answers),
-    ("/rounds/{round}/answers/{number}/{token}", Place::Answer),
-    ("/rounds/{round}/solutions", Place::Solutions),
-    ("/rounds/{round}/protests", Place::Protests),
-    ("/rounds/{round}/protests/{token}", Place::Protest),
-    ("/rounds/{round}/rulings/{entrant}/{token}", Place::Ruling),
-    ("/rounds/{round}/publish", Place::Publish),
-    ("/rounds/{round}/table", Place::Table),
+static PATTERNS: [(&str, Resource); 15] = [
+    ("/people", Resource::People),
+    ("/puzzles", Resource::Puzzles),
+    ("/puzzles/{author}/{label}", Resource::Puzzle),
+    (
+        "/puzzles/{author}/{label}/certificate",
+        Resource::Certificate,
+    ),
+    ("/rounds", Resource::Rounds),
+    ("/rounds/{round}", Resource::Round),
+    ("/rounds/{round}/release", Resource::Release),
+    ("/rounds/{round}/answers", Resource::Answers),
+    ("/rounds/{round}/answers/{number}/{token}", Resource::Answer),
+    ("/rounds/{round}/solutions", Resource::Solutions),
+    ("/rounds/{round}/protests", Resource::Protests),
+    ("/rounds/{round}/protests/{token}", Resource::Protest),
+    (
+        "/rounds/{round}/rulings/{entrant}/{token}",
+        Resource::Ruling,
+    ),
+    ("/rounds/{round}/publish", Resource::Publish),
+    ("/rounds/{round}/table", Resource::Table),
 ];
 
 /// The router with the hall's patterns.
 #[derive(Drop)]
 pub struct Routes {
-    pub(crate) router: Router<Place>,
+    pub(crate) router: Router<Resource>,
 }
 
 impl Routes {
@@ -86,19 +92,22 @@ impl Model for Routes {
 }
 
 /// Puts the patterns in, from the first on.
-fn insert_all(router: &mut Router<Place>, patterns: &[(&str, Place)]) -> Result<(), InsertError>
+fn insert_all(
+    router: &mut Router<Resource>,
+    patterns: &[(&str, Resource)],
+) -> Result<(), InsertError>
     requires { are_free router.old (map (λ p. (p.0.now, p.1)) patterns.now) ≡ true }
     ensures ok { OnOk result (router.new ≡ rows_from router.old (map (λ p. (p.0.now, p.1)) patterns.now)) }
     ensures err { IfErr result (λ e. e ≡ InsertError.OutOfMemory) }
 {
-    for (pattern, place) in patterns {
-        router.insert(pattern, *place)?;
+    for (pattern, resource) in patterns {
+        router.insert(pattern, *resource)?;
     }
     Ok(())
 }
 
 /// The router with the hall's patterns.
-fn new_router(alloc: Global) -> Result<Router<Place>, InsertError>
+fn new_router(alloc: Global) -> Result<Router<Resource>, InsertError>
     ensures ok { IfOk result (λ router. router ≡ routes) }
     ensures err { IfErr result (λ e. e ≡ InsertError.OutOfMemory) }
 {
@@ -151,8 +160,8 @@ fn parts_of<'p>(params: &Params<'_, 'p>) -> Parts<'p>
     }
 }
 
-/// The place of a path, and what its parameters took.
-fn find<'p>(routes: &Routes, path: &'p str) -> Option<(Place, Parts<'p>)>
+/// The resource of a path, and what its parameters took.
+fn find<'p>(routes: &Routes, path: &'p str) -> Option<(Resource, Parts<'p>)>
     requires { list_all is_ascii path.now ≡ true }
     ensures { option_map (λ at. (at.0, parts_seen at.1)) result ≡ found path.now }
 {
@@ -182,12 +191,12 @@ fn path_text(path: &[u8]) -> Result<&str, RequestFault>
     }
 }
 
-/// The place of a path, with its parts. A path that isn't ASCII has none.
-pub(crate) fn place_of<'p>(
+/// The resource of a path, with its parts. A path that isn't ASCII has none.
+pub(crate) fn resource_of<'p>(
     routes: &Routes,
     path: &'p [u8],
-) -> Result<(Place, Parts<'p>), RequestFault>
-    ensures { Gives (λ at. (at.0, parts_seen at.1)) result (place_in path.now) }
+) -> Result<(Resource, Parts<'p>), RequestFault>
+    ensures { Gives (λ at. (at.0, parts_seen at.1)) result (resource_in path.now) }
 {
     let path = path_text(path)?;
     find(routes, path).ok_or(NO_ROUTE)

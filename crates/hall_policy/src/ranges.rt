@@ -168,7 +168,7 @@ fn read_protest(round: &RoundId, token: &Token, number: PuzzleNumber, text: &Pro
     let _text = text.as_str();
 }
 
-fn read_rule(round: &RoundId, entrant: &Name, token: &Token, ruling: Ruling)
+fn read_rule_protest(round: &RoundId, entrant: &Name, token: &Token, ruling: Ruling)
     ensures { IsAction (RuleProtest round.now entrant.now token.now ruling) }
 {
     let _round = round.as_str();
@@ -203,7 +203,7 @@ fn read_action(action: &Action)
             entrant,
             token,
             ruling,
-        } => read_rule(round, entrant, token, *ruling),
+        } => read_rule_protest(round, entrant, token, *ruling),
         Action::Release { round }
         | Action::ReadRound { round }
         | Action::Answers { round }

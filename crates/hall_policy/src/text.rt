@@ -192,20 +192,20 @@ impl Alphabet for Printable {
     }
 }
 
-/// The texts of FEWEST to MOST bytes of an alphabet. Its tag tells a kind from another one with the same limits.
-pub struct Kind<T, A: Alphabet, const FEWEST: usize, const MOST: usize> {
+/// The texts of LEAST to MOST bytes of an alphabet. Its tag tells a kind from another one with the same limits.
+pub struct TextOf<T, A: Alphabet, const LEAST: usize, const MOST: usize> {
     tag: PhantomData<T>,
     alphabet: PhantomData<A>,
 }
 
-impl<T, A: Alphabet, const FEWEST: usize, const MOST: usize> TextKind for Kind<T, A, FEWEST, MOST> {
+impl<T, A: Alphabet, const LEAST: usize, const MOST: usize> TextKind for TextOf<T, A, LEAST, MOST> {
     ghost allows = { A.allows };
 
-    ghost LEAST = { FEWEST };
+    ghost LEAST = { LEAST };
 
     ghost MOST = { MOST };
 
-    const LEAST: usize = FEWEST;
+    const LEAST: usize = LEAST;
 
     const MOST: usize = MOST;
 
@@ -242,28 +242,28 @@ pub struct AnswerTag {}
 pub struct PuzzleTag {}
 
 /// A person's name: 1 to 24 of `a` to `z`, `0` to `9` and `-`.
-pub type Name = Checked<Kind<NameTag, Word, 1, 24>>;
+pub type Name = Checked<TextOf<NameTag, Word, 1, 24>>;
 
 /// The label that an author gives to a puzzle: 1 to 24 of `a` to `z`, `0` to `9` and `-`.
-pub type Label = Checked<Kind<LabelTag, Word, 1, 24>>;
+pub type Label = Checked<TextOf<LabelTag, Word, 1, 24>>;
 
 /// A round's id: 1 to 24 of `a` to `z`, `0` to `9` and `-`.
-pub type RoundId = Checked<Kind<RoundTag, Word, 1, 24>>;
+pub type RoundId = Checked<TextOf<RoundTag, Word, 1, 24>>;
 
 /// What tells a repeated request from a new one: 1 to 32 of `a` to `z`, `0` to `9` and `-`.
-pub type Token = Checked<Kind<TokenTag, Word, 1, 32>>;
+pub type Token = Checked<TextOf<TokenTag, Word, 1, 32>>;
 
 /// The secret by which a caller is known: 8 to 64 letters, digits and `-`.
-pub type Key = Checked<Kind<KeyTag, Letters, 8, 64>>;
+pub type Key = Checked<TextOf<KeyTag, Letters, 8, 64>>;
 
 /// A round's title: 1 to 60 printable bytes.
-pub type Title = Checked<Kind<TitleTag, Printable, 1, 60>>;
+pub type Title = Checked<TextOf<TitleTag, Printable, 1, 60>>;
 
 /// What an entrant protests: 1 to 200 printable bytes.
-pub type ProtestText = Checked<Kind<ProtestTag, Printable, 1, 200>>;
+pub type ProtestText = Checked<TextOf<ProtestTag, Printable, 1, 200>>;
 
 /// What an entrant hands in: 0 to 4,000 printable bytes.
-pub type AnswerText = Checked<Kind<AnswerTag, Printable, 0, 4000>>;
+pub type AnswerText = Checked<TextOf<AnswerTag, Printable, 0, 4000>>;
 
 /// The text of a puzzle: 1 to 8,000 printable bytes.
-pub type PuzzleText = Checked<Kind<PuzzleTag, Printable, 1, 8000>>;
+pub type PuzzleText = Checked<TextOf<PuzzleTag, Printable, 1, 8000>>;

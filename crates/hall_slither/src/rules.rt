@@ -95,9 +95,9 @@ pub struct SlitherRules<'a> {
 }
 
 impl<'a> Model for SlitherRules<'a> {
-    ghost use Rattle.hall_solve.specs.Puzzle.{Progress};
+    ghost use Rattle.hall_solve.specs.Puzzle.{SearchView};
 
-    ghost Value = { Progress };
+    ghost Value = { SearchView };
 
     ghost use Rattle.std.specs.Prelude.{◌≡◌};
     ghost use Rattle.hall_grid.specs.declared.board.Kind.TheVariants.{Slither};

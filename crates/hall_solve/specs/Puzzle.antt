@@ -46,11 +46,11 @@ abbrev pub AllExtend : Kind → Board → List (Option ℕ) → Type 0
 AllExtend kind board p = (f : List ℕ) → IsFilling (question_of kind board) f → IsRight board f → Extends f p
 
 -- what a search sees of a puzzle: its board, and how often it was visited and asked
-pub record Progress : Type 0 where
+pub record SearchView : Type 0 where
   pub board : Board
   pub visits : ℕ
   pub asked : ℕ
 
 -- a board of which no filling was visited, and about which no rule was asked yet
-abbrev pub begun : Board → Progress
+abbrev pub begun : Board → SearchView
 begun board = record { board = board; visits = 0; asked = 0 }

@@ -29,12 +29,11 @@ use Rattle.hall_store.specs.Store.{IsListing, listing_cmp, is_in, is_of}
 use Rattle.hall_sql.specs.Tables.{table_at}
 use Rattle.hall_sql.specs.Rows.{columns_from}
 use Rattle.hall_sql.specs.Standing.{AreKeyed, AreKeyedIn, IsSelection}
-use Rattle.hall_sql.specs.Statements.{plain_query}
+use Rattle.hall_sql.specs.Statements.{equals, plain_query}
 use Rattle.hall_sql.specs.declared.answers.TheConstants.{ANSWERS_IN, ANSWERS_OF, ALL_ANSWERS, ANSWER}
 use Rattle.hall_sql.proofs.AnswerTexts.{listing_order, answers_in_is, answers_of_is}
 use Rattle.hall_sql.proofs.CallLemmas.{answers_selection}
 use Rattle.hall_sql.proofs.ColumnLemmas.{int_as_nat, and_true, column_same}
-use Rattle.hall_sql.proofs.PeopleTexts.{equals}
 use Rattle.hall_sql.proofs.SortedLemmas.{sorted_records, selection_of_values}
 use Rattle.hall_sql.proofs.UniqueLemmas.{equal_texts, equal_numbers, records_listed}
 use Rattle.hall_policy.proofs.Orders.{answer_total, same_answer_keys}

@@ -10,10 +10,9 @@ use Rattle.sqlite.specs.Command.TheVariants.{Select, Insert}
 use Rattle.sqlite.proofs.Callers.{IsPlain, command_of}
 use Rattle.hall_sql.specs.declared.tables.HallTable.TheVariants.{Answers}
 use Rattle.hall_sql.specs.Tables.{hall_schema}
-use Rattle.hall_sql.specs.Statements.{plain_query}
+use Rattle.hall_sql.specs.Statements.{equals, rising, names_of, plain_query}
 use Rattle.hall_sql.specs.declared.answers.TheConstants.{ANSWER, ANSWERS_IN, ANSWERS_OF}
 use Rattle.hall_sql.specs.declared.answers.TheConstants.{ADD_ANSWER, ANSWERS_GIVEN, NUMBER_TAKEN, ALL_ANSWERS}
-use Rattle.hall_sql.proofs.PeopleTexts.{equals, rising, names_of}
 use Rattle.hall_sql.specs.Asked.{IsAsked, is_whole}
 use Rattle.hall_sql.proofs.AskedLemmas.{asked}
 use Rattle.hall_sql.specs.Versions.{IsVersion}

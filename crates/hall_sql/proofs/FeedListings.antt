@@ -9,7 +9,7 @@ use Rattle.hall_store.specs.Store.{IsListing, is_in, is_protest_in, listing_cmp,
 use Rattle.hall_sql.specs.Rows.{answer_in, protest_in}
 use Rattle.hall_sql.proofs.AnswerTexts.{listing_order, answer_columns}
 use Rattle.hall_sql.proofs.ProtestTexts.{key_order, protest_columns}
-use Rattle.hall_sql.proofs.PeopleTexts.{equals}
+use Rattle.hall_sql.specs.Statements.{equals}
 use Rattle.hall_sql.proofs.AnswerLemmas as answers
 use Rattle.hall_sql.proofs.ProtestLemmas as protests
 use Rattle.hall_sql.proofs.FeedLemmas.{Lists}

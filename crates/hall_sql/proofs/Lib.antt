@@ -80,3 +80,4 @@ pub mod WholeRows
 pub mod RowReads
 pub mod MigrationLemmas
 pub mod FilledWorlds
+pub mod Laws

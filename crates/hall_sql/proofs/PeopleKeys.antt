@@ -28,7 +28,8 @@ use Rattle.hall_sql.proofs.AmongLemmas.{kept_value, is_among, only_found, only_o
 use Rattle.hall_sql.proofs.ColumnLemmas.{and_true, column_same}
 use Rattle.hall_sql.proofs.ListedLemmas.{by_order, records_asked}
 use Rattle.hall_sql.proofs.PeopleLemmas.{name_column, key_column}
-use Rattle.hall_sql.proofs.PeopleTexts.{equals, person_columns, person_by_key_is, name_order, all_people_are}
+use Rattle.hall_sql.proofs.PeopleTexts.{person_columns, person_by_key_is, name_order, all_people_are}
+use Rattle.hall_sql.specs.Statements.{equals}
 use Rattle.hall_sql.proofs.UniqueLemmas.{equal_texts, kept_keyed, records_listed}
 use Rattle.hall_sql.specs.Versions.{IsVersion}
 use Rattle.sqlite.specs.Schema.{Schema}

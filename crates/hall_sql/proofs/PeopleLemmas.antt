@@ -14,7 +14,8 @@ use Rattle.hall_sql.specs.Tables.{hall_schema}
 use Rattle.hall_sql.specs.declared.people.TheConstants.{PERSON}
 use Rattle.hall_sql.specs.Values.{name_in, key_in, roles_in}
 use Rattle.hall_sql.specs.Rows.{person_in, person_of, world_of}
-use Rattle.hall_sql.proofs.PeopleTexts.{equals, person_columns, person_is}
+use Rattle.hall_sql.proofs.PeopleTexts.{person_columns, person_is}
+use Rattle.hall_sql.specs.Statements.{equals}
 use Rattle.hall_sql.proofs.ColumnLemmas.{kind_column, column_equals, last_equal}
 use Rattle.hall_policy.proofs.Orders.{text_total, same_texts}
 use Rattle.hall_sql.proofs.FoundLemmas.{asked_found}

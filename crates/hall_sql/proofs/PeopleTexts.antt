@@ -1,21 +1,16 @@
 -- What the statements on people mean under the hall's tables.
-use Rattle.std.proofs.Common.{◌≡◌, List, ℕ, map, refl, true, false, [], ◌∷◌}
+use Rattle.std.proofs.Common.{◌≡◌, List, ℕ, refl, true, false, [], ◌∷◌}
 use Rattle.sqlite_tied.specs.Compute.{everything}
-use Rattle.sqlite_sql.specs.declared.ops.BinaryOp.TheVariants.{Compare}
-use Rattle.sqlite_sql.specs.declared.ops.CompareOp.TheVariants.{Eq}
-use Rattle.sqlite.specs.Collation.TheVariants.{Binary}
 use Rattle.sqlite_value.specs.declared.keys.Key.{Key}
-use Rattle.sqlite.specs.Term.{Term, lit, col, op2}
+use Rattle.sqlite.specs.Term.{Term, lit, col}
 use Rattle.sqlite.specs.Listing.{understood, reads_listing}
 use Rattle.sqlite.specs.Command.TheVariants.{Select, Insert}
 use Rattle.sqlite.specs.Source.TheVariants.{Values}
 use Rattle.sqlite.specs.declared.types.Value.TheVariants.{Null, Text}
 use Rattle.sqlite.proofs.Callers.{IsPlain, command_of}
-use Rattle.sqlite_schema.specs.declared.schema.Column.{Column}
-use Rattle.hall_sql.specs.declared.tables.HallTable.{HallTable}
 use Rattle.hall_sql.specs.declared.tables.HallTable.TheVariants.{People}
-use Rattle.hall_sql.specs.Tables.{hall_schema, table_at}
-use Rattle.hall_sql.specs.Statements.{plain_query}
+use Rattle.hall_sql.specs.Tables.{hall_schema}
+use Rattle.hall_sql.specs.Statements.{equals, rising, names_of, plain_query}
 use Rattle.hall_sql.specs.declared.people.TheConstants.{PERSON, PERSON_BY_KEY, ADD_PERSON, ALL_PEOPLE}
 use Rattle.hall_sql.specs.Asked.{IsAsked, is_whole}
 use Rattle.hall_sql.proofs.AskedLemmas.{asked}
@@ -23,19 +18,8 @@ use Rattle.hall_sql.specs.Versions.{IsVersion}
 use Rattle.sqlite.specs.Schema.{Schema}
 use Rattle.hall_sql.proofs.Versions.{AsksAll, by_version}
 
-abbrev pub equals : ℕ → ℕ → Term
-equals place parameter = op2 (Compare Eq Binary) (col 1 place) (col 0 parameter)
-
--- the order of a column
-abbrev pub rising : Key
-rising = record { collation = Binary; descending = false }
-
 abbrev pub person_columns : List Term
 person_columns = col 1 1 ∷ col 1 2 ∷ col 1 3 ∷ []
-
--- the names of the table's columns
-abbrev pub names_of : HallTable → List (List ℕ)
-names_of table = map (λ (column : Column). column.name) (table_at table).columns
 
 abbrev pub person_names : List (List ℕ)
 person_names = names_of People

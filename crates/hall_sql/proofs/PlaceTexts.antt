@@ -18,7 +18,7 @@ use Rattle.sqlite_rules.specs.Action.{works}
 use Rattle.hall_sql.specs.Tables.{hall_schema, table_at}
 use Rattle.hall_sql.specs.declared.tables.HallTable.TheVariants.{Places}
 use Rattle.hall_sql.specs.declared.round_writes.TheConstants.{DROP_PLACES, ADD_PLACE}
-use Rattle.hall_sql.proofs.PeopleTexts.{equals}
+use Rattle.hall_sql.specs.Statements.{equals}
 use Rattle.hall_sql.proofs.RestrictLemmas.{Restricts, refusing_works}
 use Rattle.hall_sql.proofs.DeleteLemmas.{deletion}
 

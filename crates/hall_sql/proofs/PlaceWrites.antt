@@ -50,7 +50,7 @@ use Rattle.hall_sql.proofs.AllRead.{added_read}
 use Rattle.hall_sql.proofs.InsertLemmas.{inserts}
 use Rattle.hall_sql.proofs.InsideLemmas.{did_none, did_then}
 use Rattle.hall_sql.proofs.KeyedLemmas.{keyed_after, keyed_filter, added_keyed}
-use Rattle.hall_sql.proofs.PeopleTexts.{equals}
+use Rattle.hall_sql.specs.Statements.{equals}
 use Rattle.hall_sql.proofs.SparedLemmas.{own_key, added_spared, dropped_spared, alone_spared, same_spared, then_spared}
 use Rattle.hall_sql.proofs.PlaceTexts.{places_there, places_apart, places_restricted, drop_places_is, added_terms, add_place_is}
 use Rattle.hall_sql.proofs.WriteLemmas.{same_worlds, cast_null, cast_number}

@@ -31,7 +31,7 @@ use Rattle.hall_sql.specs.declared.protests.TheConstants.{ALL_PROTESTS, PROTEST,
 use Rattle.hall_sql.proofs.ColumnLemmas.{kind_column, number_column, column_equals, column_same, and_true, last_equal, more_equal}
 use Rattle.hall_sql.proofs.FoundLemmas.{asked_found, asked_alone}
 use Rattle.hall_sql.proofs.ListedLemmas.{by_order, values_asked}
-use Rattle.hall_sql.proofs.PeopleTexts.{equals}
+use Rattle.hall_sql.specs.Statements.{equals}
 use Rattle.hall_sql.proofs.ProtestTexts.{all_protests_are, key_terms, key_order, protest_columns, protest_is, protests_of_is, protests_in_is}
 use Rattle.hall_sql.proofs.RecordParts.{protest_parts_of}
 use Rattle.hall_sql.proofs.UniqueLemmas.{equal_texts, records_listed}

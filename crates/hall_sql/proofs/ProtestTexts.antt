@@ -13,11 +13,10 @@ use Rattle.sqlite.specs.Command.TheVariants.{Select, Insert, Update}
 use Rattle.sqlite.proofs.Callers.{IsPlain, command_of}
 use Rattle.hall_sql.specs.Tables.{hall_schema, table_at}
 use Rattle.hall_sql.specs.declared.tables.HallTable.TheVariants.{Protests}
-use Rattle.hall_sql.specs.Statements.{plain_query}
+use Rattle.hall_sql.specs.Statements.{equals, rising, names_of, plain_query}
 use Rattle.hall_sql.specs.declared.protests.TheConstants.{PROTEST, PROTESTS_OF, PROTESTS_IN}
 use Rattle.hall_sql.specs.declared.protests.TheConstants.{ADD_PROTEST, RULE_PROTEST, ALL_PROTESTS}
 use Rattle.hall_sql.proofs.UpdateLemmas.{update}
-use Rattle.hall_sql.proofs.PeopleTexts.{equals, rising, names_of}
 use Rattle.hall_sql.specs.Asked.{IsAsked, is_whole}
 use Rattle.hall_sql.proofs.AskedLemmas.{asked}
 use Rattle.hall_sql.specs.Versions.{IsVersion}

@@ -29,7 +29,7 @@ use Rattle.hall_sql.specs.Standing.{AreKeyed, AreKeyedIn}
 use Rattle.hall_sql.specs.declared.puzzles.TheConstants.{ALL_PUZZLES, PUZZLES_OF}
 use Rattle.hall_sql.proofs.ColumnLemmas.{and_true, column_same}
 use Rattle.hall_sql.proofs.ListedLemmas.{by_order, values_asked}
-use Rattle.hall_sql.proofs.PeopleTexts.{equals}
+use Rattle.hall_sql.specs.Statements.{equals}
 use Rattle.hall_sql.proofs.PuzzleLemmas.{key_columns}
 use Rattle.hall_sql.proofs.PuzzleTexts.{puzzle_columns, key_order, all_puzzles_are, puzzles_of_is}
 use Rattle.hall_sql.proofs.UniqueLemmas.{equal_texts, records_listed}

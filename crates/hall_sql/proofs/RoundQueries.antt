@@ -9,9 +9,8 @@ use Rattle.sqlite.specs.Command.TheVariants.{Select}
 use Rattle.sqlite.proofs.Callers.{IsPlain, command_of}
 use Rattle.hall_sql.specs.declared.tables.HallTable.TheVariants.{Places}
 use Rattle.hall_sql.specs.Tables.{hall_schema}
-use Rattle.hall_sql.specs.Statements.{plain_query}
+use Rattle.hall_sql.specs.Statements.{equals, rising, names_of, plain_query}
 use Rattle.hall_sql.specs.declared.rounds.TheConstants.{PLACES_WITH, PLACES_OF, ALL_PLACES}
-use Rattle.hall_sql.proofs.PeopleTexts.{equals, rising, names_of}
 use Rattle.hall_sql.specs.Asked.{IsAsked, is_whole}
 use Rattle.hall_sql.proofs.AskedLemmas.{asked}
 use Rattle.hall_sql.specs.Versions.{IsVersion}

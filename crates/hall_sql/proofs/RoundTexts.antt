@@ -5,7 +5,7 @@ use Rattle.sqlite_value.specs.declared.keys.Key.{Key}
 use Rattle.sqlite.specs.Term.{Term, col}
 use Rattle.sqlite.specs.Listing.{understood}
 use Rattle.hall_sql.specs.declared.rounds.TheConstants.{ALL_ROUNDS}
-use Rattle.hall_sql.proofs.PeopleTexts.{rising, names_of}
+use Rattle.hall_sql.specs.Statements.{rising, names_of}
 use Rattle.hall_sql.specs.declared.tables.HallTable.TheVariants.{Rounds}
 use Rattle.hall_sql.specs.Versions.{IsVersion}
 use Rattle.sqlite.specs.Schema.{Schema}

@@ -19,11 +19,10 @@ use Rattle.sqlite_rules.specs.Action.{works}
 use Rattle.hall_sql.specs.Asked.{IsAsked, is_whole}
 use Rattle.hall_sql.specs.Tables.{hall_schema, table_at}
 use Rattle.hall_sql.specs.declared.tables.HallTable.TheVariants.{Testers}
-use Rattle.hall_sql.specs.Statements.{plain_query}
+use Rattle.hall_sql.specs.Statements.{equals, rising, names_of, plain_query}
 use Rattle.hall_sql.specs.declared.testers.TheConstants.{ALL_TESTERS, TESTERS_OF, DROP_TESTERS, ADD_TESTER}
 use Rattle.hall_sql.proofs.AskedLemmas.{asked}
 use Rattle.hall_sql.proofs.Versions.{AsksAll}
-use Rattle.hall_sql.proofs.PeopleTexts.{equals, rising, names_of}
 use Rattle.hall_sql.proofs.RestrictLemmas.{Restricts, refusing_works}
 use Rattle.hall_sql.proofs.DeleteLemmas.{deletion}
 

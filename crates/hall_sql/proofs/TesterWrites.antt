@@ -48,7 +48,7 @@ use Rattle.hall_sql.proofs.EntryLemmas.{put_entry, cut_entries, cut_rows, insert
 use Rattle.hall_sql.proofs.InsertLemmas.{inserts}
 use Rattle.hall_sql.proofs.InsideLemmas.{did_none, did_then}
 use Rattle.hall_sql.proofs.KeyedLemmas.{keyed_after, keyed_filter, added_keyed}
-use Rattle.hall_sql.proofs.PeopleTexts.{equals}
+use Rattle.hall_sql.specs.Statements.{equals}
 use Rattle.hall_sql.proofs.PlaceWrites.{same_itself}
 use Rattle.hall_sql.proofs.SparedLemmas.{added_spared, dropped_spared, alone_spared, same_spared, then_spared}
 use Rattle.hall_sql.proofs.TesterTexts.{testers_there, testers_apart, testers_restricted, drop_testers_is, added_terms, add_tester_is}

@@ -20,6 +20,7 @@ pub mod Cause
 pub mod WriteCause
 pub mod AdoptCause
 pub mod Versions
+pub mod Laws
 pub mod OldStore
 pub mod AllRead
 pub mod WholeRows

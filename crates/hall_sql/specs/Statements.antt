@@ -1,13 +1,30 @@
 -- The form of a query, and the statement that asks for a table's rowids. The other statements stand in src.
-use Rattle.std.specs.Prelude.{List, [], ℕ, pos, negsuc, None, false}
+use Rattle.std.specs.Prelude.{List, [], ℕ, pos, negsuc, map, None, false}
+use Rattle.sqlite.specs.Collation.TheVariants.{Binary}
 use Rattle.sqlite.specs.declared.types.Value.TheVariants.{Int}
+use Rattle.sqlite_schema.specs.declared.schema.Column.{Column}
+use Rattle.sqlite_sql.specs.declared.ops.BinaryOp.TheVariants.{Compare}
+use Rattle.sqlite_sql.specs.declared.ops.CompareOp.TheVariants.{Eq}
 use Rattle.sqlite_value.specs.declared.keys.Key.{Key}
-use Rattle.sqlite.specs.Term.{Term, lit}
+use Rattle.sqlite.specs.Term.{Term, lit, col, op2}
 use Rattle.sqlite.specs.Query.{Query, inner, end}
 use Rattle.hall_sql.specs.declared.tables.HallTable.{HallTable}
 use Rattle.hall_sql.specs.declared.tables.HallTable.TheVariants.{People, Puzzles, Rounds, Places, Answers, Protests, Testers}
 use Rattle.hall_sql.specs.declared.tables.TheConstants.{PEOPLE_ROWIDS, PUZZLES_ROWIDS, ROUNDS_ROWIDS, PLACES_ROWIDS}
 use Rattle.hall_sql.specs.declared.tables.TheConstants.{ANSWERS_ROWIDS, PROTESTS_ROWIDS, TESTERS_ROWIDS}
+use Rattle.hall_sql.specs.Tables.{table_at}
+
+-- the row's column equals the parameter, as SQL compares
+abbrev pub equals : ℕ → ℕ → Term
+equals place parameter = op2 (Compare Eq Binary) (col 1 place) (col 0 parameter)
+
+-- ascending by a column
+abbrev pub rising : Key
+rising = record { collation = Binary; descending = false }
+
+-- the names of the table's columns
+abbrev pub names_of : HallTable → List (List ℕ)
+names_of table = map (λ (column : Column). column.name) (table_at table).columns
 
 -- a query of one table, with no grouping and all its rows
 abbrev pub plain_query : ℕ → List Term → List Term → List (Term × Key) → Query

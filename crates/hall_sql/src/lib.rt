@@ -6,6 +6,7 @@ mod answers;
 mod calls;
 mod feed;
 mod fill;
+mod law;
 mod make;
 mod migration;
 mod old_store;
@@ -27,6 +28,7 @@ mod tables;
 mod testers;
 
 pub use adoption::{adopt, adopt_old};
+pub use law::law_statements;
 pub use migration::{Migrated, migrate};
 pub use old_store::{OldStore, Taken};
 pub use open::{OpenFault, PathFiles, law_opened, open_at, open_in_memory, open_old, open_there};

@@ -25,9 +25,9 @@ pub struct SudokuRules<'a> {
 }
 
 impl<'a> Model for SudokuRules<'a> {
-    ghost use Rattle.hall_solve.specs.Puzzle.{Progress};
+    ghost use Rattle.hall_solve.specs.Puzzle.{SearchView};
 
-    ghost Value = { Progress };
+    ghost Value = { SearchView };
 
     ghost use Rattle.std.specs.Prelude.{◌≡◌};
     ghost use Rattle.hall_grid.specs.declared.board.Kind.TheVariants.{Sudoku};

@@ -15,9 +15,9 @@ use Rattle.hall_desk.proofs.planning.deny_without_key.Goals as goal
 pub returns-clause-planned : goal.returns-clause-planned
 returns-clause-planned c = λ world.
     let facts = c.args.facts.now in
-    let request = c.args.turn.now.request.now in
-    subst (λ (plan : Plan). IsPlanFor world c.args.turn.now.t request plan) (sym c.of.ensures)
-    (planned facts world c.args.turn.now.t request (Deny c.in-Some.rule) (reply.Denied c.in-Some.rule) change.Nothing None
+    let request = c.args.asked.now.request.now in
+    subst (λ (plan : Plan). IsPlanFor world c.args.asked.now.t request plan) (sym c.of.ensures)
+    (planned facts world c.args.asked.now.t request (Deny c.in-Some.rule) (reply.Denied c.in-Some.rule) change.Nothing None
     (record {
       found = c.requires.caller ∙ sym (ap (caller_of world) c.requires.key);
       there = subst (λ (who : Option Person). IsThere world who) (sym c.requires.caller) tt;
@@ -26,5 +26,5 @@ returns-clause-planned c = λ world.
 
 pub unreachable-requires : goal.unreachable-requires
 unreachable-requires c =
-    let table = table_without_caller c.args.facts.now c.args.turn.now.request.now.action c.args.turn.now.t c.in-None.ensures.none c.requires.caller in
+    let table = table_without_caller c.args.facts.now c.args.asked.now.request.now.action c.args.asked.now.t c.in-None.ensures.none c.requires.caller in
     c.requires.action table.0 table.1

@@ -12,10 +12,10 @@ use Rattle.hall_desk.proofs.planning.plan_for_caller.Goals as goal
 pub returns-in-Some-clause-told : goal.returns-in-Some-clause-told
 returns-in-Some-clause-told g c =
     let facts = c.args.facts.now in
-    let request = c.args.turn.now.request.now in
+    let request = c.args.asked.now.request.now in
     let world = (g.S.ReadStore.content c.args.store.now).world in (
       (λ h s. s),
-      (λ h s. subst (λ (plan : Plan). IsPlanFor world c.args.turn.now.t request plan) (sym c.of.ensures)
-          (planned facts world c.args.turn.now.t request (Deny c.in-Some.rule) (reply.Denied c.in-Some.rule) change.Nothing None (c.requires.caller h s)
+      (λ h s. subst (λ (plan : Plan). IsPlanFor world c.args.asked.now.t request plan) (sym c.of.ensures)
+          (planned facts world c.args.asked.now.t request (Deny c.in-Some.rule) (reply.Denied c.in-Some.rule) change.Nothing None (c.requires.caller h s)
           (c.in-Some.ensures.some world (caller_told facts world request.action)) state.GaveUp (refl, refl) tt (λ _. refl) (λ allowed. absurd (cc)))),
     )

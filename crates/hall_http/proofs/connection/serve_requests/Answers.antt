@@ -7,7 +7,7 @@ use Rattle.hall_http.proofs.connection.serve_requests.Goals as goal
 
 pub loop-requests-preserved-in-Open : goal.loop-requests-preserved-in-Open
 loop-requests-preserved-in-Open g c =
-    let turn = c.exchange-standing.ensures _ (rw c.unread.ensures at c.in-Whole.ensures).1 in
+    let turn = c.exchange-state.ensures _ (rw c.unread.ensures at c.in-Whole.ensures).1 in
     let (stays, wrote, same) = rw c.in-Open.is at turn.sent in
     record {
       few = omega arith;
@@ -21,7 +21,7 @@ loop-requests-preserved-in-Open g c =
 
 pub returns-in-Closing : goal.returns-in-Closing
 returns-in-Closing g c =
-    let turn = c.exchange-standing.ensures _ (rw c.unread.ensures at c.in-Whole.ensures).1 in
+    let turn = c.exchange-state.ensures _ (rw c.unread.ensures at c.in-Whole.ensures).1 in
     let (shut, wrote, same) = rw c.in-Closing.is at turn.sent in
     closes_last _ _ _ _ _ _ _ _ _ _ _ _ _ _ _ c.loop-requests.invariant.kept turn.exchange _ _ c.in-Whole.size
     turn.asked turn.exchanged _ _ _ _ c.loop-requests-test.true
@@ -30,7 +30,7 @@ returns-in-Closing g c =
 
 pub returns-in-Failed : goal.returns-in-Failed
 returns-in-Failed g c =
-    let turn = c.exchange-standing.ensures _ (rw c.unread.ensures at c.in-Whole.ensures).1 in
+    let turn = c.exchange-state.ensures _ (rw c.unread.ensures at c.in-Whole.ensures).1 in
     let (part, rose) = rw c.in-Failed.is at turn.sent in
     unsent _ _ _ _ _ _ _ _ _ _ _ _ _ _ _ c.loop-requests.invariant.kept turn.exchange _ _ c.in-Whole.size
     turn.asked turn.exchanged _ _ _ _ c.loop-requests-test.true

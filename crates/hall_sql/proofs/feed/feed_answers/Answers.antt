@@ -5,7 +5,7 @@ use Rattle.hall_store.specs.Store.{IsListing, is_in}
 use Rattle.hall_sql.specs.Rows.{answer_in}
 use Rattle.hall_sql.specs.declared.answers.TheConstants.{ANSWERS_IN}
 use Rattle.hall_sql.proofs.AnswerTexts.{listing_order, answer_columns, answers_in_is, answers_in_asked}
-use Rattle.hall_sql.proofs.PeopleTexts.{equals}
+use Rattle.hall_sql.specs.Statements.{equals}
 use Rattle.hall_sql.proofs.FeedLemmas.{fed_rows, fed_whole}
 use Rattle.hall_sql.proofs.FeedListings.{answers_in_selected}
 use Rattle.hall_sql.proofs.feed.feed_answers.Goals as goal

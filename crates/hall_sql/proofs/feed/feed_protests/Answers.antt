@@ -5,7 +5,7 @@ use Rattle.hall_store.specs.Store.{protests_in}
 use Rattle.hall_sql.specs.Rows.{protest_in}
 use Rattle.hall_sql.specs.declared.protests.TheConstants.{PROTESTS_IN}
 use Rattle.hall_sql.proofs.ProtestTexts.{key_order, protest_columns, protests_in_is, protests_in_asked}
-use Rattle.hall_sql.proofs.PeopleTexts.{equals}
+use Rattle.hall_sql.specs.Statements.{equals}
 use Rattle.hall_sql.proofs.FeedLemmas.{fed_rows, fed_whole}
 use Rattle.hall_sql.proofs.FeedListings.{protests_in_selected}
 use Rattle.hall_sql.proofs.feed.feed_protests.Goals as goal

@@ -21,7 +21,7 @@ returns-in-Some-decide_up_to-clause-told g c =
     let author = c.in_ok-facts.ensures in
     let release = c.in_ok-facts-2.ensures in
     let first = g.S.ReadStore.content c.find_author.new.store in
-    let last = g.S.ReadStore.content c.find_release.new.store in
+    let last = g.S.ReadStore.content c.is_in_released_round.new.store in
     let world = last.world in
     let put = c.args.self.now in (
       (λ h s. release.told.0 h (author.told.0 (release.kept.honest h) s)),
@@ -36,7 +36,7 @@ returns-clause-told g c =
     let read = c.in_ok-facts-3.ensures in
     let count = c.in_ok-facts-4.ensures in
     let first = g.S.ReadStore.content c.find_author.new.store in
-    let second = g.S.ReadStore.content c.find_release.new.store in
+    let second = g.S.ReadStore.content c.is_in_released_round.new.store in
     let third = g.S.ReadStore.content c.puzzle.new.self in
     let last = g.S.ReadStore.content c.count_puzzles.new.store in
     let world = last.world in

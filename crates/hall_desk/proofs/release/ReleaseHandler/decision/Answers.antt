@@ -2,7 +2,7 @@ use Rattle.std.proofs.Common.{◌↔◌, IsTrue, Some}
 use Rattle.hall_policy.specs.Facts.{IsRoundFound}
 use Rattle.hall_store.specs.Store.{Kept}
 use Rattle.hall_desk.specs.Lookups.{HasFaultyEntry}
-use Rattle.hall_desk.specs.declared.entry_fault.EntryFault.TheVariants.{Shared}
+use Rattle.hall_desk.specs.declared.release_faults.EntryFault.TheVariants.{Shared}
 use Rattle.hall_store.proofs.Knowing.{carried, kept_then}
 use Rattle.hall_desk.proofs.Telling.{draft_told, shared_told, faults_told}
 use Rattle.hall_desk.proofs.release.ReleaseHandler.decision.Goals as goal

@@ -8,7 +8,7 @@ use Rattle.hall_store.specs.Store.{IsRoundKept}
 use Rattle.hall_desk.specs.Lookups.{HasFault, HasFaultyEntry}
 use Rattle.hall_store.proofs.Knowing.{carried, told_turn}
 use Rattle.hall_desk.proofs.Releases.{faulty_listed, through}
-use Rattle.hall_desk.proofs.entry_fault.find_fault.Goals as goal
+use Rattle.hall_desk.proofs.release_faults.find_fault.Goals as goal
 
 pub returns-in-Some-clause-told : goal.returns-in-Some-clause-told
 returns-in-Some-clause-told g c =

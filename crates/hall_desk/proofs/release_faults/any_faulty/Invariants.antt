@@ -2,7 +2,7 @@ use Rattle.std.proofs.Common.{◌≡◌, ℕ, ◌<◌, slice_get, Some}
 use Rattle.hall_policy.specs.declared.record.Entry.{Entry}
 use Rattle.hall_store.specs.Store.{Kept}
 use Rattle.hall_desk.specs.Lookups.{HasFault}
-use Rattle.hall_desk.proofs.entry_fault.any_faulty.Given as goal
+use Rattle.hall_desk.proofs.release_faults.any_faulty.Given as goal
 
 -- the world is the one before, and none of the entries so far has the fault
 abbrev pub invariant-loop-entry : goal.invariant-loop-entry

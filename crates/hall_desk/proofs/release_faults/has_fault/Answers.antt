@@ -1,8 +1,8 @@
 use Rattle.std.proofs.Common.{◌↔◌, IsTrue, subst, sym}
 use Rattle.hall_store.specs.Store.{Told}
 use Rattle.hall_desk.specs.Lookups.{HasFault}
-use Rattle.hall_desk.specs.declared.entry_fault.EntryFault.{EntryFault}
-use Rattle.hall_desk.proofs.entry_fault.has_fault.Goals as goal
+use Rattle.hall_desk.specs.declared.release_faults.EntryFault.{EntryFault}
+use Rattle.hall_desk.proofs.release_faults.has_fault.Goals as goal
 
 pub returns-in-Uncertified-clause-told : goal.returns-in-Uncertified-clause-told
 returns-in-Uncertified-clause-told g c =

@@ -4,7 +4,7 @@ use Rattle.hall_store.specs.Store.{AreUsing}
 use Rattle.hall_desk.specs.Lookups.{IsReleasedRound}
 use Rattle.hall_store.proofs.Knowing.{carried, told_through}
 use Rattle.hall_desk.proofs.Releases.{others_using, through}
-use Rattle.hall_desk.proofs.entry_fault.is_shared.Goals as goal
+use Rattle.hall_desk.proofs.release_faults.is_shared.Goals as goal
 
 pub returns-clause-told : goal.returns-clause-told
 returns-clause-told g c =
