@@ -9,8 +9,8 @@ no time for. The function that must be refused is the one whose body it changes,
 A function's proof rests on the contracts of what it calls, and on no body but its own. So the edits are tried in a copy of the crate that holds only the
 functions which they are of: any other has `unreachable!()` for a body and a hole for a proof. A first check sees that nothing is refused in it as it
 stands. Then edits of different functions are tried in one check, which says of each function whether it is proved. Of a function that calls a refused one
-it says no more than that: it is tried again in the next check, over what the checks before proved. An edit of specs/ has a check for itself. What is not
-refused so, and what the first check refuses, is tried over the whole crate.
+it says no more than that: it is tried again in the next check, over what the checks before proved. An edit of specs/, or of a constant, has a check for
+itself. What is not refused so, and what the first check refuses, is tried over the whole crate.
 The libraries below must be built, in this checkout (`python3 tools/build.py`) or in FOLDER, a copy of it, where `rt ci` may still be building them: LOG is what
 it says. The last line is 'N passed, M failed'.
 """
@@ -163,7 +163,7 @@ class Edit:
             self.bodies.update(within)
             self.loose.update([] if within else [file])
         self.own |= self.bodies
-        self.is_of_code = all(it.startswith("src/") for it in self.files)
+        self.is_of_code = all(it.startswith("src/") for it in self.files) and bool(self.bodies or not self.loose)
 
     def clashes(self, other):
         """Whether a check that has both could refuse a function of one for the other."""
