@@ -2,8 +2,8 @@
 use Rattle.std.specs.Prelude.{◌≡◌, ◌≢◌, ◌<◌, ◌≤◌, ◌-◌, ◌&&◌, nat_le, if◌then◌else◌, ℕ, List, ◌∷◌, ◌++◌, length}
 use Rattle.std.specs.Prelude.{take, drop}
 use Rattle.std.specs.Prelude.{flat_map, All, Option, Some, None, option_and_then, codes, decimal}
-use Rattle.hall_http.specs.declared.record.Cut.{Cut}
-use Rattle.hall_http.specs.declared.record.Cut.TheVariants.{Whole, More, Never}
+use Rattle.hall_http.specs.declared.record.RecordCut.{RecordCut}
+use Rattle.hall_http.specs.declared.record.RecordCut.TheVariants.{Whole, More, Never}
 use Rattle.hall_http.specs.Words.{cut, after_front, number_in}
 
 -- a moment, and the bytes of a request
@@ -72,7 +72,7 @@ pub record IsCut (bytes : List ℕ) (r : Record) (start end : ℕ) : Type 0 wher
 
 -- what stands at the front: a whole record; none so far, in fewer bytes than the longest one has; none, however the
 -- bytes go on
-abbrev pub Cuts : List ℕ → Cut → Type 0
+abbrev pub Cuts : List ℕ → RecordCut → Type 0
 Cuts bytes (Whole moment start end) = (r : Record) × (r.moment ≡ moment) × IsCut bytes r start end
 Cuts bytes More = IsUnfinishedRecord bytes
 Cuts bytes Never = NeverHasRecord bytes

@@ -85,7 +85,7 @@ Ended end.Device after wrote written xs unread pieces reads failed fails broke b
     ⊎ (BreaksLast wrote written xs unread pieces × WriteFailed failed fails broke breaks × (reads ≡ pieces))
     ⊎ (BreaksRefusal wrote written xs × WriteFailed failed fails broke breaks × IsNoRequest after unread pieces reads)
 
--- the stream was read, in at most 100,000 reads, as at most 1,000 requests and then this rest, a handler answered the
+-- the stream was read, in at most 100,000 reads, as at most 1,000 requests and then this rest, a responder answered the
 -- requests at the clock's moments, each before a further read, and the connection ended so
 pub record IsHandled {H C : Type 0} (answers : H → Option ℕ → List ℕ → List ℕ → H → Type 0)
     (now_gives : C → Option ℕ → C → Type 0) (stream after wrote written : Option (List ℕ))

@@ -8,9 +8,9 @@ ghost use Rattle.hall_http.specs.Sending.{IsExchangeMade, Refuses, EndsInput};
 ghost use Rattle.hall_http.specs.Served.{IsHandled, IsServed};
 
 use crate::device::write_all;
-use crate::handler::Handler;
 use crate::head::{Cut, RawRequest, cut_from};
 use crate::inbox::{Inbox, ReadFault};
+use crate::responder::Responder;
 use crate::routes::Routes;
 use crate::session::{routes_and_inbox, send};
 use hall_desk::Desk;
@@ -115,11 +115,11 @@ pub(crate) fn serve_with<S: Store, R: Read, W: Write, C: Clock>(
 }
 
 /// Answers the requests of a connection, in their order, with an empty inbox.
-fn serve_requests<H: Handler, R: Read, W: Write, C: Clock>(
+fn serve_requests<H: Responder, R: Read, W: Write, C: Clock>(
     alloc: Global,
     routes: &Routes,
     inbox: &mut Inbox,
-    handler: &mut H,
+    responder: &mut H,
     reader: &mut Counted<R>,
     writer: &mut Counted<W>,
     clock: &mut C,
@@ -127,7 +127,7 @@ fn serve_requests<H: Handler, R: Read, W: Write, C: Clock>(
     requires { inbox.old ≡ [] }
     ensures { IsHandled H.answers C.now_gives
         (R.remaining reader.old.device) (R.remaining reader.new.device)
-        (W.contents writer.old.device) (W.contents writer.new.device) handler.old clock.old handler.new clock.new
+        (W.contents writer.old.device) (W.contents writer.new.device) responder.old clock.old responder.new clock.new
         reader.old.failures reader.new.failures writer.old.failures writer.new.failures
         reader.old.calls reader.new.calls result }
 {
@@ -137,7 +137,7 @@ fn serve_requests<H: Handler, R: Read, W: Write, C: Clock>(
     while requests < REQUEST_LIMIT {
         match cut_from(inbox.unread(), least) {
             Cut::Whole { size, request } => {
-                let state = exchange(alloc, routes, &request, handler, writer, clock);
+                let state = exchange(alloc, routes, &request, responder, writer, clock);
                 inbox.pass(size);
                 requests += 1;
                 least = 0;
@@ -167,20 +167,20 @@ fn serve_requests<H: Handler, R: Read, W: Write, C: Clock>(
 }
 
 /// Answers a request, and writes the reply.
-fn exchange<H: Handler, W: Write, C: Clock>(
+fn exchange<H: Responder, W: Write, C: Clock>(
     alloc: Global,
     routes: &Routes,
     request: &RawRequest<'_>,
-    handler: &mut H,
+    responder: &mut H,
     writer: &mut Counted<W>,
     clock: &mut C,
 ) -> ConnectionState
     ensures { (bytes : List ℕ) → IsLentBy bytes request.now →
-        IsExchangeMade H.answers C.now_gives handler.old clock.old bytes handler.new clock.new
+        IsExchangeMade H.answers C.now_gives responder.old clock.old bytes responder.new clock.new
         (W.contents writer.old.device) (W.contents writer.new.device) writer.old.failures writer.new.failures result }
 {
     let moment = clock.now();
-    let answer = handler.answer(alloc, routes, moment, request);
+    let answer = responder.answer(alloc, routes, moment, request);
     match send(writer, answer) {
         Ok(()) if request.closes => ConnectionState::Closing,
         Ok(()) => ConnectionState::Open,

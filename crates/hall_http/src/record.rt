@@ -9,11 +9,11 @@ use hall_policy::Moment;
 const HEADER_LIMIT: usize = 17;
 
 /// The most bytes of a request.
-const REQUEST_LIMIT: u64 = 73_728;
+const REQUEST_SIZE_LIMIT: u64 = 73_728;
 
 /// What stands at the front of some bytes.
 #[derive(Clone, Copy, Debug, PartialEq, Eq)]
-pub enum Cut {
+pub enum RecordCut {
     /// A whole record: its moment, where its request begins, and where it ends.
     Whole {
         moment: Moment,
@@ -41,7 +41,7 @@ fn header_of(line: &[u8]) -> Option<Header>
     let (moment, size) = cut(numbers, b' ')?;
     let moment = Moment::new(read_decimal(moment)?)?;
     let size = read_decimal(size)?;
-    if size <= REQUEST_LIMIT {
+    if size <= REQUEST_SIZE_LIMIT {
         Some(Header {
             moment,
             size: size as usize,
@@ -52,23 +52,23 @@ fn header_of(line: &[u8]) -> Option<Header>
 }
 
 /// What stands at the front of the bytes.
-pub fn cut_record(bytes: &[u8]) -> Cut
+pub fn cut_record(bytes: &[u8]) -> RecordCut
     ensures { Cuts bytes.now result }
 {
     let Some(place) = place_of(bytes, b'\n') else {
         if bytes.len() > HEADER_LIMIT {
-            return Cut::Never;
+            return RecordCut::Never;
         }
-        return Cut::More;
+        return RecordCut::More;
     };
     let Some(header) = header_of(&bytes[..place]) else {
-        return Cut::Never;
+        return RecordCut::Never;
     };
     let start = place + 1;
     if bytes.len() - start < header.size {
-        return Cut::More;
+        return RecordCut::More;
     }
-    Cut::Whole {
+    RecordCut::Whole {
         moment: header.moment,
         start,
         end: start + header.size,

@@ -13,7 +13,7 @@ use crate::answer::{Answer, answer_bytes};
 use crate::device::write_all;
 use crate::fault::{DeviceFault, ReplayFault};
 use crate::inbox::{Inbox, ReadFault};
-use crate::record::{Cut, cut_record};
+use crate::record::{RecordCut, cut_record};
 use crate::routes::Routes;
 use hall_desk::Desk;
 use hall_grid::Counted;
@@ -86,7 +86,7 @@ fn answer_records<R: Read, W: Write, S: Store>(
     let mut reads = 0;
     'records: loop {
         match cut_record(inbox.unread()) {
-            Cut::Whole { moment, start, end } => {
+            RecordCut::Whole { moment, start, end } => {
                 let answer = answer_bytes(alloc, routes, desk, moment, &inbox.unread()[start..end]);
                 inbox.pass(end);
                 match send(writer, answer) {
@@ -94,7 +94,7 @@ fn answer_records<R: Read, W: Write, S: Store>(
                     Err(_) => return Err(ReplayFault::Device),
                 }
             }
-            Cut::More => {
+            RecordCut::More => {
                 if reads == READ_LIMIT {
                     return Err(ReplayFault::Record);
                 }
@@ -106,7 +106,7 @@ fn answer_records<R: Read, W: Write, S: Store>(
                     Err(ReadFault::Memory) => unreachable!(),
                 }
             }
-            Cut::Never => return Err(ReplayFault::Record),
+            RecordCut::Never => return Err(ReplayFault::Record),
         }
     }
 }

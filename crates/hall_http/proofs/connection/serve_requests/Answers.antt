@@ -50,10 +50,10 @@ loop-requests-init g c = record {
   reader = refl;
   writer = refl;
   below = below_none _;
-  kept = subst (λ (unread : List ℕ). Kept g.H.Handler.answers g.C.Clock.now_gives
+  kept = subst (λ (unread : List ℕ). Kept g.H.Responder.answers g.C.Clock.now_gives
       (g.R.Read.remaining c.args.reader.now.device) (g.R.Read.remaining c.args.reader.now.device)
       (g.W.Write.contents c.args.writer.now.device) (g.W.Write.contents c.args.writer.now.device)
-      c.args.handler.now c.args.clock.now c.args.handler.now c.args.clock.now unread 0 0
+      c.args.responder.now c.args.clock.now c.args.responder.now c.args.clock.now unread 0 0
       c.args.reader.now.calls c.args.reader.now.calls)
       (sym c.requires) (kept_start _ _ _ _ _ _ _);
 }

@@ -10,10 +10,10 @@ invariant-loop-requests g l = record {
   reader : l.reader.failures ≡ l.fn.reader.failures;
   writer : l.writer.failures ≡ l.fn.writer.failures;
   below : IsUnfinishedBelow l.least l.inbox;
-  kept : Kept g.H.Handler.answers g.C.Clock.now_gives
+  kept : Kept g.H.Responder.answers g.C.Clock.now_gives
       (g.R.Read.remaining l.fn.reader.device) (g.R.Read.remaining l.reader.device)
       (g.W.Write.contents l.fn.writer.device) (g.W.Write.contents l.writer.device)
-      l.fn.handler l.fn.clock l.handler l.clock l.inbox l.requests l.reads l.fn.reader.calls l.reader.calls;
+      l.fn.responder l.fn.clock l.responder l.clock l.inbox l.requests l.reads l.fn.reader.calls l.reader.calls;
 }
 
 abbrev pub decreases-loop-requests : goal.decreases-loop-requests

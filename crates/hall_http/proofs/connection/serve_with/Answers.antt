@@ -15,12 +15,12 @@ returns-clause-sane g c =
 
 pub returns-clause-unique : goal.returns-clause-unique
 returns-clause-unique g c = λ h s sane.
-    unique_solutions (g.S.ReadStore.content (kept_by c.serve_requests.new.handler)).world
+    unique_solutions (g.S.ReadStore.content (kept_by c.serve_requests.new.responder)).world
     (handled_sane (λ desk. g.S.ReadStore.content (kept_by desk)) g.C.Clock.now_gives _ _ _ _ _ _ _ _ _ _ _ _ _ _
     c.serve_requests.result c.serve_requests.ensures h s sane)
 
 pub returns-clause-right : goal.returns-clause-right
 returns-clause-right g c = λ h s sane.
-    right_answers (g.S.ReadStore.content (kept_by c.serve_requests.new.handler)).world
+    right_answers (g.S.ReadStore.content (kept_by c.serve_requests.new.responder)).world
     (handled_sane (λ desk. g.S.ReadStore.content (kept_by desk)) g.C.Clock.now_gives _ _ _ _ _ _ _ _ _ _ _ _ _ _
     c.serve_requests.result c.serve_requests.ensures h s sane)

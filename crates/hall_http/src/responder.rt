@@ -14,7 +14,7 @@ use hall_store::Store;
 use std::alloc::Global;
 
 /// What answers requests, one after another.
-pub(crate) trait Handler {
+pub(crate) trait Responder {
     ghost answers: { Self → Option ℕ → List ℕ → List ℕ → Self → Type 0 };
 
     /// The answer to a request at a moment, once its change is made.
@@ -29,7 +29,7 @@ pub(crate) trait Handler {
             answers self.old moment bytes (answer_text result) self.new };
 }
 
-impl<S: Store> Handler for Desk<S> {
+impl<S: Store> Responder for Desk<S> {
     ghost answers = { IsAnswered (λ desk. S.content (kept_by desk)) };
 
     fn answer(

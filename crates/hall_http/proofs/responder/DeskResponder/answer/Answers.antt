@@ -3,7 +3,7 @@ use Rattle.hall_store.proofs.Knowing.{leads_same}
 use Rattle.hall_desk.specs.Desk.{kept_by}
 use Rattle.hall_http.proofs.Refusals.{unavailable_reply}
 use Rattle.hall_http.proofs.Runs.{answered_at}
-use Rattle.hall_http.proofs.handler.DeskHandler.answer.Goals as goal
+use Rattle.hall_http.proofs.responder.DeskResponder.answer.Goals as goal
 
 pub returns-in-Some : goal.returns-in-Some
 returns-in-Some g c = λ bytes lent.
