@@ -10,6 +10,7 @@ use crate::text::{Checked, Name, TextKind};
 use std::alloc::{AllocError, Global};
 use std::collections::BTreeSet;
 use std::marker::Model;
+use std::rc::RcSlice;
 
 /// Whether no puzzle is listed again.
 fn puzzles_differ(entries: &[Entry]) -> bool
@@ -99,35 +100,37 @@ fn are_different(alloc: Global, people: &[Person]) -> Result<bool, AllocError>
     Ok(names_differ(alloc, people)? && keys_differ(alloc, people)?)
 }
 
-/// The puzzles of a round, 1 to 40, none twice, numbered from 1.
+/// The puzzles of a round, 1 to 40, none twice, numbered from 1. Clones share them.
 #[derive(Drop)]
 pub struct Entries {
-    list: Vec<Entry>,
+    list: RcSlice<Entry>,
 }
 
 impl Model for Entries {
     ghost use Rattle.std.specs.Prelude.{List};
+    ghost use Rattle.std.specs.Rc.{rc_slice_items};
     ghost use Rattle.hall_policy.specs.declared.record.Entry.{Entry};
     ghost use Rattle.hall_policy.specs.Lists.{AreEntries};
 
     ghost Value = { List Entry };
 
-    ghost view = { λ p. p.list.items };
+    ghost view = { λ p. rc_slice_items p.list };
 
-    ghost invariant = { λ p. AreEntries p.list.items };
+    ghost invariant = { λ p. AreEntries (rc_slice_items p.list) };
 }
 
 impl Entries {
-    /// The list, where it has 1 to 40 puzzles and none twice.
-    pub fn new(list: Vec<Entry>) -> Option<Entries>
-        ensures some { IfSome result (λ entries. (entries ≡ list.items) × AreEntries entries) }
-        ensures none { IfNone result (¬ (AreEntries list.items)) }
+    /// The list, where it has 1 to 40 puzzles and none twice. An error is want of memory.
+    pub fn new(list: Vec<Entry>) -> Result<Option<Entries>, AllocError>
+        ensures some { IfOk result (λ made. IfSome made (λ entries. (entries ≡ list.items) × AreEntries entries)) }
+        ensures none { IfOk result (λ made. IfNone made (¬ (AreEntries list.items))) }
     {
         let count = list.len();
         if count == 0 || count > 40 || !puzzles_differ(list.as_slice()) {
-            return None;
+            return Ok(None);
         }
-        Some(Entries { list })
+        let list = RcSlice::from_vec(list)?;
+        Ok(Some(Entries { list }))
     }
 
     /// The puzzles in their order.

@@ -172,7 +172,7 @@ fn read_list(alloc: Global, document: &Table) -> Result<Entries, SheetFault>
         return Err(out_of_range);
     }
     let entries = read_entries(alloc, tables.as_slice())?;
-    match Entries::new(entries) {
+    match Entries::new(entries)? {
         Some(list) => Ok(list),
         // Not met: the entries differ, and there are one to forty.
         None => Err(out_of_range),

@@ -260,7 +260,7 @@ fn row_of(
     ensures none { Fails (AreNoRound head places.items names.items) result }
 {
     match head {
-        Some(round) => match Entries::new(entries_of(alloc, places)?) {
+        Some(round) => match Entries::new(entries_of(alloc, places)?)? {
             Some(puzzles) => listed_row(round, puzzles, names),
             None => Err(StoreFault::Failed),
         },

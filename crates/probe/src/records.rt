@@ -39,7 +39,7 @@ pub(crate) fn puzzle_row(alloc: Global) -> Result<PuzzleRow, Fault> {
 pub(crate) fn entries(alloc: Global, labels: &[&str]) -> Result<Option<Entries>, Fault> {
     let mut list = Vec::new(alloc);
     match push_entries(alloc, &mut list, labels) {
-        Ok(()) => Ok(Entries::new(list)),
+        Ok(()) => Ok(Entries::new(list)?),
         Err(fault) => Err(fault),
     }
 }
