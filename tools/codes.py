@@ -74,7 +74,7 @@ def asked_at():
 
 def routes():
     may, rules, number = dict(roles()), asked(), numbers()
-    path_of = {resource: path for path, resource in re.findall(r'\("(/.*?)", Resource::(\w+)\)', read("crates/hall_http/src/routes.rt"))}
+    path_of = {resource: path for path, resource in re.findall(r'"(/.*?)",\s+Resource::(\w+)', read("crates/hall_http/src/routes.rt"))}
     route = {action: f"{method} {path_of[resource]}" for resource, served in asked_at() for method, action in served}
     for name, _ in variants("crates/hall_policy/src/request.rt", "Action"):
         yield [f"`{route[name]}`", name, may[name], ", ".join(str(number[it]) for it in rules[name])]

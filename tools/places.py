@@ -2,6 +2,7 @@
 
 A module for tools/promises.py.
 """
+import os
 import re
 
 import codes
@@ -79,6 +80,35 @@ FORMS = {
 
 # A function that more tests than these pass through is a part of their setting.
 FEW = 6
+
+
+# The wrong bodies of each of the twenty rules: they turn its test, or what it reads.
+BROKEN = {
+    "UnknownKey": "hall_desk/reads_before_the_key_is_known",
+    "NoRole": "hall_policy/every_role_may",
+    "OtherAuthor": "hall_policy/missing_puzzle_before_foreign_author",
+    "Missing": "hall_policy/draft_shown_to_entrant hall_policy/draft_shown_to_tester hall_policy/number_outside_the_round_allowed "
+    "hall_desk/tester_without_a_role",
+    "OwnPuzzle": "hall_policy/tester_may_submit",
+    "TokenTaken": "hall_desk/retry_stored_again",
+    "NotStarted": "hall_policy/round_denied_at_start hall_policy/round_served_before_start hall_policy/tester_denied_before_start",
+    "Ended": "hall_desk/retry_after_end_denied",
+    "NotEnded": "hall_desk/solutions_told_before_end",
+    "Closed": "hall_policy/close_at_the_end",
+    "InReleasedRound": "hall_desk/released_puzzle_replaced hall_desk/shared_puzzle_released",
+    "NotCertified": "hall_desk/releases_uncertified",
+    "NoDraft": "hall_desk/released_round_replaced",
+    "Started": "hall_policy/released_at_its_start",
+    "Published": "hall_policy/table_before_publication",
+    "OpenProtest": "hall_desk/published_with_open_protest hall_store/open_protest_of_any_round hall_sql/rejected_protest_taken_as_open",
+    "Involved": "hall_policy/allowed_though_involved hall_desk/ruling_by_an_involved_referee",
+    "RuledOtherwise": "hall_desk/ruling_given_twice",
+    "LimitReached": "hall_policy/fifty_first_answer_taken hall_policy/denies_by_code_order hall_desk/limit_counted_over_all_entrants "
+    "hall_desk/protests_counted_over_all_entrants",
+    "ListConflict": "hall_desk/import_adds_then_denies hall_desk/seed_adds_then_denies hall_desk/key_of_another_imported",
+}
+FACTS = "crates/hall_policy/specs/Facts.antt"
+DESK = "crates/hall_desk/src"
 
 
 def link(path, name=None):
@@ -247,21 +277,42 @@ def about(all_changes, names):
     return ", ".join(it.told() for it in all_changes if it.words() & names)
 
 
+def fields_read(rule):
+    """The fields of the facts that a rule reads: those of its clause of `Tells`, and of the definitions that the clause names."""
+    blocks = dict(re.findall(r"^abbrev pub (\w+) : (.*?)(?:\n\n|\Z)", read(FACTS), re.M | re.S))
+    told = dict(codes.clauses("Tells", FACTS))[rule]
+    told = " ".join([told, *(blocks[it] for it in re.findall(r"\w+", told) if it in blocks)])
+    return [it for it in dict.fromkeys(re.findall(r"facts\.(\w+)", told)) if it != "caller"]
+
+
+def looked_up(rule):
+    """Where the desk looks up what a rule reads: the caller by the plan, the round by each action on one, and the rest where its field is set."""
+    own = [it for it in fields_read(rule) if it != "round"]
+    if not own:
+        return "the round, by each action on one" if fields_read(rule) else link(f"{DESK}/planning.rt", "planning.rt")
+    files = [file for file in paths(f"{DESK}/*.rt") if any(re.search(rf"facts\.{it} = ", read(file)) for it in own)]
+    return ", ".join(link(it, os.path.basename(it)) for it in files)
+
+
+def broken(rule, all_changes):
+    """The wrong bodies that turn a rule, or what it reads."""
+    found = {f"{it.crate}/{it.name}": it for it in all_changes}
+    return ", ".join(found[it].told() for it in BROKEN[rule].split())
+
+
 def rules(all_changes):
     """The rows of the twenty rules."""
     sentences = dict(codes.clauses("Sentence", "crates/hall_policy/specs/First.antt"))
-    facts = dict(codes.clauses("Tells", "crates/hall_policy/specs/Facts.antt"))
-    yield from (row("Code", "Definition", "Stands in", "Wrong bodies"), "|---|---|---|---|")
+    yield from (row("Code", "Definition", "Looked up", "Tests", "Wrong bodies"), "|---|---|---|---|---|")
     for name, number in codes.numbers().items():
-        cited = [it for it in re.findall(r"\b[A-Z]\w+", sentences[name])]
-        fields = {it for it in re.findall(r"facts\.(\w+)", facts.get(name, ""))} - {"round", "caller"}
+        cited = ", ".join(f"`{it}`" for it in re.findall(r"\b[A-Z]\w+", sentences[name]))
         examples = ", ".join(examples_of(codes.of_denial(number)))
-        yield row(f"`{number}` {name}", ", ".join(f"`{it}`" for it in cited), examples, about(all_changes, {name, *cited, *fields}))
+        yield row(f"`{number}` {name}", cited, looked_up(name), examples, broken(name, all_changes))
 
 
 def names_of_rules(all_changes):
     """The rows of the names that an answer breaks."""
-    yield from (row("Name", "Definition", "Stands in", "Wrong bodies"), "|---|---|---|---|")
+    yield from (row("Name", "Definition", "Tests", "Wrong bodies"), "|---|---|---|---|")
     for name, _, _, defined in codes.names():
         code, of = name.strip("`"), defined.strip("`")
         yield row(name, defined, ", ".join(examples_of(codes.of_name(code))), about(all_changes, {code, of}))
