@@ -1,11 +1,10 @@
--- What the statements of the hall ask of its tables: of each text the command that it is. The rowid is column 0 of a row,
--- and the columns of its table follow.
+-- What the statements of the hall ask of its tables: of each text the command that it is. Column 0 of a row is its rowid,
+-- and the columns of its CREATE TABLE follow from 1 on: `col 1 n` is column n of the row, and `col 0 n` the parameter ?n+1.
+-- So `equals 2 0` says that column 2 equals ?1. The statements that make the tables are not here.
 use Rattle.std.specs.Prelude.{◌≡◌, ℕ, suc, true, List, [], ◌∷◌, length, map, codes}
-use Rattle.sqlite_value.specs.declared.keys.Key.{Key}
-use Rattle.sqlite.specs.Collation.TheVariants.{Binary}
 use Rattle.sqlite.specs.Command.TheVariants.{Select, Insert, Update, Delete}
 use Rattle.sqlite.specs.Given.{IsPlain}
-use Rattle.sqlite.specs.Listing.{understood, reads_listing}
+use Rattle.sqlite.specs.Listing.{understood}
 use Rattle.sqlite.specs.Schema.{Schema}
 use Rattle.sqlite.specs.Source.TheVariants.{Values}
 use Rattle.sqlite.specs.Term.{Term, lit, col}
@@ -17,7 +16,7 @@ use Rattle.hall_sql.specs.Asked.{is_whole}
 use Rattle.hall_sql.specs.Scan.{tree_of}
 use Rattle.hall_sql.specs.Statements.{equals, rising, names_of, plain_query, rowids_text}
 use Rattle.hall_sql.specs.Tables.{hall_schema, table_at}
-use Rattle.hall_sql.specs.Versions.{IsVersion, HasTable}
+use Rattle.hall_sql.specs.Versions.{HasTable}
 use Rattle.hall_sql.specs.declared.tables.HallTable.{HallTable}
 use Rattle.hall_sql.specs.declared.tables.HallTable.TheVariants.{People, Puzzles, Rounds, Places, Answers, Protests, Testers}
 use Rattle.hall_sql.specs.declared.people.TheConstants.{PERSON, PERSON_BY_KEY, ALL_PEOPLE, ADD_PERSON}
@@ -33,27 +32,27 @@ use Rattle.hall_sql.specs.declared.protests.TheConstants.{ADD_PROTEST, RULE_PROT
 
 -- ---- the commands
 
--- one column after another from this place on, as many as these, of the row (1) or of the parameters (0)
+-- as many terms as these columns, the first with this number: columns of the row (1), or parameters (0)
 abbrev pub terms_from : ℕ → ℕ → List Column → List Term
-terms_from of place [] = []
-terms_from of place (column ∷ columns) = col of place ∷ terms_from of (suc place) columns
+terms_from of number [] = []
+terms_from of number (column ∷ columns) = col of number ∷ terms_from of (suc number) columns
 
--- The columns of the rows that meet the terms, in the order of these columns.
+-- All columns of the rows that meet all of the terms, ascending by the columns of these numbers, the first of them first.
 abbrev pub select : HallTable → List Term → List ℕ → Command
 select table terms order = Select
     (record {
       lets = [];
       body = plain_query (tree_of table) terms (terms_from 1 1 (table_at table).columns)
-          (map (λ place. (col 1 place, rising)) order);
+          (map (λ number. (col 1 number, rising)) order);
     })
     (names_of table)
 
--- the one column of the rows that meet the terms
+-- so the one column of this number and name
 abbrev pub select_column : HallTable → ℕ → List ℕ → List Term → List ℕ → Command
-select_column table place name terms order = Select
+select_column table number name terms order = Select
     (record {
       lets = [];
-      body = plain_query (tree_of table) terms (col 1 place ∷ []) (map (λ place. (col 1 place, rising)) order);
+      body = plain_query (tree_of table) terms (col 1 number ∷ []) (map (λ it. (col 1 it, rising)) order);
     })
     (name ∷ [])
 
@@ -67,22 +66,23 @@ place_in_schema Answers = 4
 place_in_schema Protests = 5
 place_in_schema Testers = 6
 
--- a row of the parameters, with a rowid that is chosen
+-- a row of the parameters in their order, behind a rowid that the database chooses
 abbrev pub insert : HallTable → Command
 insert table = Insert (place_in_schema table)
     (Values (lit Null ∷ terms_from 0 0 (table_at table).columns) (suc (length (table_at table).columns)))
 
--- each row that meets the terms becomes these
+-- each row that meets all of the terms (it is found by its rowid, `col 1 0`) becomes the row of these values
 abbrev pub update : HallTable → List Term → List Term → Command
 update table terms becomes = Update (place_in_schema table)
     (record { lets = []; body = plain_query (tree_of table) terms (col 1 0 ∷ becomes) [] })
 
--- each row that meets the terms goes
+-- each row that meets all of the terms goes
 abbrev pub delete : HallTable → List Term → Command
 delete table terms = Delete (place_in_schema table)
     (record { lets = []; body = plain_query (tree_of table) terms (col 1 0 ∷ []) [] })
 
--- over the tables of the schema the text is this command and nothing else, of so many parameters
+-- over the tables of the schema the text is this command and nothing else, of so many parameters; it returns no row that
+-- it wrote, and reads no time
 pub record IsCommand (schema : Schema) (sql : List ℕ) (parameters : ℕ) (command : Command) : Type 0 where
   pub is : command_of (understood schema sql) ≡ command
   pub plain : IsPlain (understood schema sql)
@@ -98,14 +98,14 @@ IsListing sql table order = (schema : Schema) → HasTable schema table → IsCo
 
 -- ---- the statements
 
--- name, key, roles
+-- of people: 1 name, 2 pass (the key), 3 roles
 pub record AskOfPeople : Type 0 where
   pub person : Is PERSON.now 1 (select People (equals 1 0 ∷ []) [])
   pub person_by_key : Is PERSON_BY_KEY.now 1 (select People (equals 2 0 ∷ []) [])
   pub all_people : IsListing ALL_PEOPLE.now People (1 ∷ [])
   pub add_person : Is ADD_PERSON.now 3 (insert People)
 
--- author, label, body, state, solution
+-- of puzzles: 1 author, 2 label, 3 body, 4 state, 5 solution
 pub record AskOfPuzzles : Type 0 where
   pub puzzle : Is PUZZLE.now 2 (select Puzzles (equals 1 0 ∷ equals 2 1 ∷ []) [])
   pub puzzles_of : Is PUZZLES_OF.now 1 (select Puzzles (equals 1 0 ∷ []) (1 ∷ 2 ∷ []))
@@ -115,7 +115,7 @@ pub record AskOfPuzzles : Type 0 where
   pub replace_puzzle : Is REPLACE_PUZZLE.now 5 (update Puzzles (equals 1 0 ∷ equals 2 1 ∷ [])
       (col 1 0 ∷ col 1 1 ∷ col 1 2 ∷ col 0 2 ∷ col 0 3 ∷ col 0 4 ∷ []))
 
--- id, title, start, minutes, minutes of protest, mode, penalty, bonus, released, published
+-- of rounds: 1 id, 2 title, 3 start, 4 minutes, 5 protest_minutes, 6 mode, 7 penalty, 8 bonus, 9 released, 10 published
 pub record AskOfRounds : Type 0 where
   pub head : Is HEAD.now 1 (select Rounds (equals 1 0 ∷ []) [])
   pub all_rounds : IsListing ALL_ROUNDS.now Rounds (1 ∷ [])
@@ -124,7 +124,7 @@ pub record AskOfRounds : Type 0 where
   pub replace_head : Is REPLACE_HEAD.now 10 (update Rounds (equals 1 0 ∷ [])
       (col 1 0 ∷ col 1 1 ∷ col 0 1 ∷ col 0 2 ∷ col 0 3 ∷ col 0 4 ∷ col 0 5 ∷ col 0 6 ∷ col 0 7 ∷ col 0 8 ∷ col 0 9 ∷ []))
 
--- round, number, author, label, points
+-- of round_puzzles: 1 round, 2 number, 3 author, 4 label, 5 points
 pub record AskOfPlaces : Type 0 where
   pub places_of : Is PLACES_OF.now 1 (select Places (equals 1 0 ∷ []) (2 ∷ []))
   pub places_with : Is PLACES_WITH.now 2 (select Places (equals 3 0 ∷ equals 4 1 ∷ []) (1 ∷ []))
@@ -132,14 +132,14 @@ pub record AskOfPlaces : Type 0 where
   pub add_place : Is ADD_PLACE.now 5 (insert Places)
   pub drop_places : Is DROP_PLACES.now 1 (delete Places (equals 1 0 ∷ []))
 
--- round, name
+-- of testers: 1 round, 2 name
 pub record AskOfTesters : Type 0 where
   pub testers_of : Is TESTERS_OF.now 1 (select Testers (equals 1 0 ∷ []) (2 ∷ []))
   pub all_testers : IsListing ALL_TESTERS.now Testers (1 ∷ 2 ∷ [])
   pub add_tester : Is ADD_TESTER.now 2 (insert Testers)
   pub drop_testers : Is DROP_TESTERS.now 1 (delete Testers (equals 1 0 ∷ []))
 
--- entrant, round, number, token, n, moment, answer, verdict
+-- of answers: 1 entrant, 2 round, 3 number, 4 token, 5 n, 6 moment, 7 answer, 8 verdict
 pub record AskOfAnswers : Type 0 where
   pub answer : Is ANSWER.now 4 (select Answers (equals 1 0 ∷ equals 2 1 ∷ equals 3 2 ∷ equals 4 3 ∷ []) [])
   pub answers_of : Is ANSWERS_OF.now 2 (select Answers (equals 2 1 ∷ equals 1 0 ∷ []) (1 ∷ 3 ∷ 5 ∷ 4 ∷ []))
@@ -150,7 +150,7 @@ pub record AskOfAnswers : Type 0 where
   pub all_answers : IsListing ALL_ANSWERS.now Answers (1 ∷ 2 ∷ 3 ∷ 4 ∷ [])
   pub add_answer : Is ADD_ANSWER.now 8 (insert Answers)
 
--- entrant, round, token, number, body, ruling, points
+-- of protests: 1 entrant, 2 round, 3 token, 4 number, 5 body, 6 ruling, 7 points
 pub record AskOfProtests : Type 0 where
   pub protest : Is PROTEST.now 3 (select Protests (equals 1 0 ∷ equals 2 1 ∷ equals 3 2 ∷ []) [])
   pub protests_of : Is PROTESTS_OF.now 2 (select Protests (equals 2 1 ∷ equals 1 0 ∷ []) (1 ∷ 2 ∷ 3 ∷ []))

@@ -2,8 +2,9 @@
 ghost use Rattle.hall_sql.specs.Laws.{AskOfPeople, AskOfPuzzles, AskOfRounds, AskOfPlaces, AskOfTesters};
 ghost use Rattle.hall_sql.specs.Laws.{AskOfAnswers, AskOfProtests, AskForRowids};
 
-/// What each statement asks of the tables: which rows, by which columns and parameters, in which order, or what it
-/// writes. Where a contract names a statement's text, it speaks of this.
+/// What each query asks of the tables, and what each statement that writes does to them: which rows, by which columns and
+/// parameters, in which order, and which values. A contract that names the text of a statement speaks of that. (What the
+/// statements make that make the tables is said by the schema which each call wants.)
 pub fn law_statements()
     ensures people { AskOfPeople }
     ensures puzzles { AskOfPuzzles }

@@ -4,7 +4,7 @@ ghost use Rattle.std.specs.List.{dedup};
 ghost use Rattle.std.specs.FinMap.{get, values, entries};
 ghost use Rattle.sqlite.specs.Held.{state, Held};
 ghost use Rattle.sqlite.specs.State.{HasCleanDisk};
-ghost use Rattle.hall_policy.specs.Lists.{AreTesters};
+ghost use Rattle.hall_policy.specs.Lists.{AreEntries, AreTesters};
 ghost use Rattle.hall_policy.specs.World.{World, same_text};
 ghost use Rattle.hall_store.specs.Store.{Served, Fails, AreUsing, AreTestersOf, IsRoundKept};
 ghost use Rattle.hall_sql.specs.Places.{is_in_round, ArePlaces, ArePlacesWith, AreListed, AreNumbered};
@@ -247,6 +247,17 @@ fn listed_row(
     }
 }
 
+/// The entries as the list of a round.
+fn list_of(entries: Vec<Entry>) -> Result<Entries, StoreFault>
+    ensures list { IfOk result (λ list. list ≡ entries.items) }
+    ensures none { Fails (¬ (AreEntries entries.items)) result }
+{
+    match Entries::new(entries)? {
+        Some(list) => Ok(list),
+        None => Err(StoreFault::Failed),
+    }
+}
+
 /// The round of a head, its places and the names of its testers; none where there is neither head nor place.
 fn row_of(
     alloc: Global,
@@ -260,10 +271,10 @@ fn row_of(
     ensures none { Fails (AreNoRound head places.items names.items) result }
 {
     match head {
-        Some(round) => match Entries::new(entries_of(alloc, places)?)? {
-            Some(puzzles) => listed_row(round, puzzles, names),
-            None => Err(StoreFault::Failed),
-        },
+        Some(round) => {
+            let puzzles = list_of(entries_of(alloc, places)?)?;
+            listed_row(round, puzzles, names)
+        }
         None if places.is_empty() => Ok(None),
         None => Err(StoreFault::Failed),
     }
