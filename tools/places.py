@@ -82,17 +82,17 @@ FORMS = {
 FEW = 6
 
 
-# The wrong bodies of each of the twenty rules: they turn its test, or what it reads.
+# The wrong bodies of each of the twenty rules: they turn its test, what it reads, its place among the rules, or what is done where it forbids.
 BROKEN = {
-    "UnknownKey": "hall_desk/reads_before_the_key_is_known",
-    "NoRole": "hall_policy/every_role_may",
-    "OtherAuthor": "hall_policy/missing_puzzle_before_foreign_author",
+    "UnknownKey": "hall_sql/key_taken_for_a_name hall_desk/reads_before_the_key_is_known",
+    "NoRole": "hall_policy/entrant_may_all",
+    "OtherAuthor": "hall_policy/puzzles_of_all_authors_named hall_policy/missing_puzzle_before_foreign_author",
     "Missing": "hall_policy/draft_shown_to_entrant hall_policy/draft_shown_to_tester hall_policy/number_outside_the_round_allowed "
     "hall_desk/tester_without_a_role",
     "OwnPuzzle": "hall_policy/tester_may_submit",
-    "TokenTaken": "hall_desk/retry_stored_again",
+    "TokenTaken": "hall_store/answer_of_the_next_token_found hall_desk/retry_stored_again",
     "NotStarted": "hall_policy/round_denied_at_start hall_policy/round_served_before_start hall_policy/tester_denied_before_start",
-    "Ended": "hall_desk/retry_after_end_denied",
+    "Ended": "hall_policy/answer_taken_at_the_end hall_desk/retry_after_end_denied",
     "NotEnded": "hall_desk/solutions_told_before_end",
     "Closed": "hall_policy/close_at_the_end",
     "InReleasedRound": "hall_desk/released_puzzle_replaced hall_desk/shared_puzzle_released",
@@ -101,10 +101,11 @@ BROKEN = {
     "Started": "hall_policy/released_at_its_start",
     "Published": "hall_policy/table_before_publication",
     "OpenProtest": "hall_desk/published_with_open_protest hall_store/open_protest_of_any_round hall_sql/rejected_protest_taken_as_open",
-    "Involved": "hall_policy/allowed_though_involved hall_desk/ruling_by_an_involved_referee",
-    "RuledOtherwise": "hall_desk/ruling_given_twice",
+    "Involved": "hall_policy/allowed_though_involved hall_store/answered_the_first_puzzle_alone hall_desk/ruling_by_an_involved_referee",
+    "RuledOtherwise": "hall_policy/other_ruling_repeated hall_desk/ruling_given_twice",
     "LimitReached": "hall_policy/fifty_first_answer_taken hall_policy/denies_by_code_order hall_desk/limit_counted_over_all_entrants "
-    "hall_desk/protests_counted_over_all_entrants",
+    "hall_desk/protests_counted_over_all_entrants hall_store/answers_given_stops_below_the_limit hall_store/puzzles_put_stops_below_the_limit "
+    "hall_sql/protests_made_stops_below_the_limit",
     "ListConflict": "hall_desk/import_adds_then_denies hall_desk/seed_adds_then_denies hall_desk/key_of_another_imported",
 }
 FACTS = "crates/hall_policy/specs/Facts.antt"
@@ -181,6 +182,9 @@ class Change:
         self.functions, self.definitions = [], set()
         for file, old, _ in [] if edit.fault else edit.pairs:
             self.add(crate, file, old, tree)
+        # It is refused in the functions that it names.
+        named = {tuple(it.split("::")) for it in edit.own - edit.bodies}
+        self.functions = [it for it in tree.items[crate] if (os.path.basename(it.file)[:-3], it.name) in named] or self.functions
 
     def add(self, crate, file, old, tree):
         text = read(f"crates/{crate}/{file}")
@@ -285,13 +289,21 @@ def fields_read(rule):
     return [it for it in dict.fromkeys(re.findall(r"facts\.(\w+)", told)) if it != "caller"]
 
 
+def module_of(action):
+    """The module of hall_desk that handles an action."""
+    name = re.sub(r"(?<!^)(?=[A-Z])", "_", action).lower()
+    return f"{DESK}/{'certify_puzzle' if name == 'certify' else name}.rt"
+
+
 def looked_up(rule):
-    """Where the desk looks up what a rule reads: the caller by the plan, the round by each action on one, and the rest where its field is set."""
-    own = [it for it in fields_read(rule) if it != "round"]
-    if not own:
-        return "the round, by each action on one" if fields_read(rule) else link(f"{DESK}/planning.rt", "planning.rt")
-    files = [file for file in paths(f"{DESK}/*.rt") if any(re.search(rf"facts\.{it} = ", read(file)) for it in own)]
-    return ", ".join(link(it, os.path.basename(it)) for it in files)
+    """Where the desk looks up what a rule reads: the caller by the plan, the round by each action on one, and the rest by the actions that ask the rule, where
+    its field is set."""
+    fields = fields_read(rule)
+    own = [it for it in fields if it != "round"]
+    asking = sorted(module_of(action) for action, asked_of in codes.asked().items() if rule in asked_of)
+    files = [file for file in asking if any(re.search(rf"facts\.{it} = ", read(file)) for it in own)]
+    told = [link(it, os.path.basename(it)) for it in (files if fields else [f"{DESK}/planning.rt"])]
+    return ", ".join(told + ["the round, by each action on one"] * ("round" in fields))
 
 
 def broken(rule, all_changes):
