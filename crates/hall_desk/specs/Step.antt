@@ -175,8 +175,8 @@ answer_row world person round number token answer t verdict = record {
   verdict = verdict;
 }
 
--- the answer has its verdict by the round's puzzle of that number and stored; the reply tells its number and, in an instant
--- round, its verdict
+-- the answer has its verdict by the round's puzzle of that number, and is stored; the reply tells its number and, in an
+-- instant round, its verdict
 abbrev pub IsSubmitStep : World → Person → List ℕ → ℕ → List ℕ → List ℕ → ℕ → Reply → World → Type 0
 IsSubmitStep world person id number token answer t given new =
     (round : Round) × (entry : Entry) × (puzzle : PuzzleRow) × (verdict : ℕ)

@@ -84,7 +84,8 @@ impl<'a> Rules for NurikabeRules<'a> {
         self.visits += 1;
         let deductions = DeductionsAndTrials {
             puzzle: self.puzzle,
-            // A search sets one place between two visits, and takes back what it set since a visit that left nothing to find.
+            // A search sets one place between two visits, and takes back what it set since a visit that left nothing
+            // to find.
             settled: self.settled.min(partial.trail().len().saturating_sub(1)),
             tries: self.visits > PLAIN_VISITS,
         };

@@ -1,6 +1,7 @@
--- What the statements of the hall ask of its tables: of each text the command that it is. Column 0 of a row is its rowid,
--- and the columns of its CREATE TABLE follow from 1 on: `col 1 n` is column n of the row, and `col 0 n` the parameter ?n+1.
--- So `equals 2 0` says that column 2 equals ?1. The statements that make the tables are not here.
+-- What the statements of the hall ask of its tables: of each text the command that it is.
+-- Column 0 of a row is its rowid, and the columns of its CREATE TABLE follow from 1 on: `col 1 n` is column n of the
+-- row, and `col 0 n` the parameter ?n+1. So `equals 2 0` says that column 2 equals ?1. The statements that make the
+-- tables are not here.
 use Rattle.std.specs.Prelude.{◌≡◌, ℕ, suc, true, List, [], ◌∷◌, length, map, codes}
 use Rattle.sqlite.specs.Command.TheVariants.{Select, Insert, Update, Delete}
 use Rattle.sqlite.specs.Given.{IsPlain}
@@ -37,7 +38,8 @@ abbrev pub terms_from : ℕ → ℕ → List Column → List Term
 terms_from of number [] = []
 terms_from of number (column ∷ columns) = col of number ∷ terms_from of (suc number) columns
 
--- All columns of the rows that meet all of the terms, ascending by the columns of these numbers, the first of them first.
+-- All columns of the rows that meet all of the terms, ascending by the columns of these numbers, the first of them
+-- first.
 abbrev pub select : HallTable → List Term → List ℕ → Command
 select table terms order = Select
     (record {
@@ -47,7 +49,7 @@ select table terms order = Select
     })
     (names_of table)
 
--- so the one column of this number and name
+-- likewise the one column of this number and name
 abbrev pub select_column : HallTable → ℕ → List ℕ → List Term → List ℕ → Command
 select_column table number name terms order = Select
     (record {
@@ -81,8 +83,8 @@ abbrev pub delete : HallTable → List Term → Command
 delete table terms = Delete (place_in_schema table)
     (record { lets = []; body = plain_query (tree_of table) terms (col 1 0 ∷ []) [] })
 
--- over the tables of the schema the text is this command and nothing else, of so many parameters; it returns no row that
--- it wrote, and reads no time
+-- over the tables of the schema the text is this command and nothing else, of so many parameters; it returns no row
+-- that it wrote, and reads no time
 pub record IsCommand (schema : Schema) (sql : List ℕ) (parameters : ℕ) (command : Command) : Type 0 where
   pub is : command_of (understood schema sql) ≡ command
   pub plain : IsPlain (understood schema sql)
@@ -92,20 +94,20 @@ pub record IsCommand (schema : Schema) (sql : List ℕ) (parameters : ℕ) (comm
 abbrev pub Is : List ℕ → ℕ → Command → Type 0
 Is = IsCommand hall_schema
 
--- it asks for all rows of the table, in the order of these columns, over the tables of either version
+-- it asks for all rows of the table, in the order of these columns, over the tables of each version that has the table
 abbrev pub IsListing : List ℕ → HallTable → List ℕ → Type 0
 IsListing sql table order = (schema : Schema) → HasTable schema table → IsCommand schema sql 0 (select table [] order)
 
 -- ---- the statements
 
--- of people: 1 name, 2 pass (the key), 3 roles
+-- what each text on people asks; the columns: 1 name, 2 pass (the key), 3 roles
 pub record AskOfPeople : Type 0 where
   pub person : Is PERSON.now 1 (select People (equals 1 0 ∷ []) [])
   pub person_by_key : Is PERSON_BY_KEY.now 1 (select People (equals 2 0 ∷ []) [])
   pub all_people : IsListing ALL_PEOPLE.now People (1 ∷ [])
   pub add_person : Is ADD_PERSON.now 3 (insert People)
 
--- of puzzles: 1 author, 2 label, 3 body, 4 state, 5 solution
+-- so on puzzles: 1 author, 2 label, 3 body, 4 state, 5 solution
 pub record AskOfPuzzles : Type 0 where
   pub puzzle : Is PUZZLE.now 2 (select Puzzles (equals 1 0 ∷ equals 2 1 ∷ []) [])
   pub puzzles_of : Is PUZZLES_OF.now 1 (select Puzzles (equals 1 0 ∷ []) (1 ∷ 2 ∷ []))
@@ -115,16 +117,18 @@ pub record AskOfPuzzles : Type 0 where
   pub replace_puzzle : Is REPLACE_PUZZLE.now 5 (update Puzzles (equals 1 0 ∷ equals 2 1 ∷ [])
       (col 1 0 ∷ col 1 1 ∷ col 1 2 ∷ col 0 2 ∷ col 0 3 ∷ col 0 4 ∷ []))
 
--- of rounds: 1 id, 2 title, 3 start, 4 minutes, 5 protest_minutes, 6 mode, 7 penalty, 8 bonus, 9 released, 10 published
+-- so on rounds: 1 id, 2 title, 3 start, 4 minutes, 5 protest_minutes, 6 mode, 7 penalty, 8 bonus, 9 released,
+-- 10 published
 pub record AskOfRounds : Type 0 where
   pub head : Is HEAD.now 1 (select Rounds (equals 1 0 ∷ []) [])
   pub all_rounds : IsListing ALL_ROUNDS.now Rounds (1 ∷ [])
   pub look_head : Is LOOK_HEAD.now 1 (select_column Rounds 1 (codes "id") (equals 1 0 ∷ []) [])
   pub add_head : Is ADD_HEAD.now 10 (insert Rounds)
   pub replace_head : Is REPLACE_HEAD.now 10 (update Rounds (equals 1 0 ∷ [])
-      (col 1 0 ∷ col 1 1 ∷ col 0 1 ∷ col 0 2 ∷ col 0 3 ∷ col 0 4 ∷ col 0 5 ∷ col 0 6 ∷ col 0 7 ∷ col 0 8 ∷ col 0 9 ∷ []))
+      (col 1 0 ∷ col 1 1 ∷ col 0 1 ∷ col 0 2 ∷ col 0 3 ∷ col 0 4 ∷ col 0 5 ∷ col 0 6 ∷ col 0 7 ∷ col 0 8 ∷ col 0 9
+      ∷ []))
 
--- of round_puzzles: 1 round, 2 number, 3 author, 4 label, 5 points
+-- so on round_puzzles: 1 round, 2 number, 3 author, 4 label, 5 points
 pub record AskOfPlaces : Type 0 where
   pub places_of : Is PLACES_OF.now 1 (select Places (equals 1 0 ∷ []) (2 ∷ []))
   pub places_with : Is PLACES_WITH.now 2 (select Places (equals 3 0 ∷ equals 4 1 ∷ []) (1 ∷ []))
@@ -132,14 +136,14 @@ pub record AskOfPlaces : Type 0 where
   pub add_place : Is ADD_PLACE.now 5 (insert Places)
   pub drop_places : Is DROP_PLACES.now 1 (delete Places (equals 1 0 ∷ []))
 
--- of testers: 1 round, 2 name
+-- so on testers: 1 round, 2 name
 pub record AskOfTesters : Type 0 where
   pub testers_of : Is TESTERS_OF.now 1 (select Testers (equals 1 0 ∷ []) (2 ∷ []))
   pub all_testers : IsListing ALL_TESTERS.now Testers (1 ∷ 2 ∷ [])
   pub add_tester : Is ADD_TESTER.now 2 (insert Testers)
   pub drop_testers : Is DROP_TESTERS.now 1 (delete Testers (equals 1 0 ∷ []))
 
--- of answers: 1 entrant, 2 round, 3 number, 4 token, 5 n, 6 moment, 7 answer, 8 verdict
+-- so on answers: 1 entrant, 2 round, 3 number, 4 token, 5 n, 6 moment, 7 answer, 8 verdict
 pub record AskOfAnswers : Type 0 where
   pub answer : Is ANSWER.now 4 (select Answers (equals 1 0 ∷ equals 2 1 ∷ equals 3 2 ∷ equals 4 3 ∷ []) [])
   pub answers_of : Is ANSWERS_OF.now 2 (select Answers (equals 2 1 ∷ equals 1 0 ∷ []) (1 ∷ 3 ∷ 5 ∷ 4 ∷ []))
@@ -150,7 +154,7 @@ pub record AskOfAnswers : Type 0 where
   pub all_answers : IsListing ALL_ANSWERS.now Answers (1 ∷ 2 ∷ 3 ∷ 4 ∷ [])
   pub add_answer : Is ADD_ANSWER.now 8 (insert Answers)
 
--- of protests: 1 entrant, 2 round, 3 token, 4 number, 5 body, 6 ruling, 7 points
+-- so on protests: 1 entrant, 2 round, 3 token, 4 number, 5 body, 6 ruling, 7 points
 pub record AskOfProtests : Type 0 where
   pub protest : Is PROTEST.now 3 (select Protests (equals 1 0 ∷ equals 2 1 ∷ equals 3 2 ∷ []) [])
   pub protests_of : Is PROTESTS_OF.now 2 (select Protests (equals 2 1 ∷ equals 1 0 ∷ []) (1 ∷ 2 ∷ 3 ∷ []))

@@ -234,7 +234,8 @@ fn listed_row(
     puzzles: Entries,
     names: Vec<Name>,
 ) -> Result<Option<RoundRow>, StoreFault>
-    ensures row { IfOk result (λ found. found ≡ Some (record { round = round; puzzles = puzzles; testers = names.items })) }
+    ensures row { IfOk result (λ found.
+        found ≡ Some (record { round = round; puzzles = puzzles; testers = names.items })) }
     ensures none { Fails (¬ (AreTesters names.items)) result }
 {
     match Testers::new(names) {
