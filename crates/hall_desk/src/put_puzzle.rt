@@ -1,16 +1,17 @@
 //! PutPuzzle: a puzzle is stored under its author and label.
-ghost use Rattle.std.specs.Prelude.{◌≡◌, IfOk, None};
+ghost use Rattle.std.specs.Prelude.{◌≡◌, ◌↔◌, IfOk, IsTrue, None};
 ghost use Rattle.hall_grid.specs.Canonical.{CanonicalText};
 ghost use Rattle.hall_policy.specs.Rules.{puzzles_put};
 ghost use Rattle.hall_policy.specs.Implies.{IsAllowable};
 ghost use Rattle.hall_policy.specs.declared.request.Action.{Action};
 ghost use Rattle.hall_store.specs.Store.{Kept, Told, Fails};
+ghost use Rattle.hall_desk.specs.Lookups.{HasAuthor};
 ghost use Rattle.hall_desk.specs.Shown.{state_name};
 ghost use Rattle.hall_desk.specs.Plans.{IsPlanOf, StandsAs};
 
 use crate::handler::Handler;
-use crate::lookups::{find_author, is_in_released_round};
 use crate::plan::Plan;
+use crate::released_rounds::is_in_released_round;
 use crate::reply::{Reply, StateName};
 use hall_grid::{Puzzle, write_puzzle};
 use hall_policy::{
@@ -68,6 +69,23 @@ impl<'a> Handler for PutPuzzle<'a> {
         facts: &Facts,
     ) -> Result<Plan, StoreFault> {
         Ok(put_puzzle(alloc, facts, self.key, self.puzzle)?)
+    }
+}
+
+/// Whether a person of the name with the role author is there.
+fn find_author<S: ReadStore>(
+    alloc: Global,
+    store: &mut S,
+    name: &Name,
+) -> Result<bool, StoreFault>
+    ensures kept { Kept (S.content store.old) (S.content store.new) }
+    ensures fault { Fails S.can_fail result }
+    ensures told { Told (S.content store.old) (S.content store.new) result
+        (λ world found. IsTrue found ↔ HasAuthor world name.now) }
+{
+    match store.person(alloc, name)? {
+        Some(person) => Ok(person.roles.get().author),
+        None => Ok(false),
     }
 }
 

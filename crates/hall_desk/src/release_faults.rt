@@ -6,7 +6,7 @@ ghost use Rattle.hall_policy.specs.Rules.{StandsReleased, IsCertified};
 ghost use Rattle.hall_store.specs.Store.{Asks, Kept, Told, Fails, IsRoundKept};
 ghost use Rattle.hall_desk.specs.Lookups.{HasFault, HasFaultyEntry};
 
-use crate::lookups::any_released;
+use crate::released_rounds::any_released;
 use hall_policy::{Entry, PuzzleKey, PuzzleState, RoundId, RoundRow};
 use hall_store::{ReadStore, StoreFault};
 use std::alloc::Global;

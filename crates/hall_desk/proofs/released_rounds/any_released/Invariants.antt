@@ -1,7 +1,7 @@
 use Rattle.std.proofs.Common.{◌≡◌, ℕ, List, ◌<◌, slice_get, Some}
 use Rattle.hall_store.specs.Store.{Kept}
 use Rattle.hall_desk.specs.Lookups.{IsReleasedRound}
-use Rattle.hall_desk.proofs.lookups.any_released.Given as goal
+use Rattle.hall_desk.proofs.released_rounds.any_released.Given as goal
 
 -- the world is the one before, and none of the rounds so far is released
 abbrev pub invariant-loop-id : goal.invariant-loop-id

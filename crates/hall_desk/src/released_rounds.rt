@@ -1,29 +1,12 @@
-//! What the rules read, found in a store.
+//! Whether a puzzle stands in a released round.
 ghost use Rattle.std.specs.Prelude.{◌↔◌, ℕ, List, IsTrue, Contains};
 ghost use Rattle.hall_policy.specs.Rules.{StandsReleased};
 ghost use Rattle.hall_store.specs.Store.{Kept, Told, Fails};
-ghost use Rattle.hall_desk.specs.Lookups.{HasAuthor, IsReleasedRound};
+ghost use Rattle.hall_desk.specs.Lookups.{IsReleasedRound};
 
-use hall_policy::{Name, PuzzleKey, RoundId};
+use hall_policy::{PuzzleKey, RoundId};
 use hall_store::{ReadStore, StoreFault};
 use std::alloc::Global;
-
-/// Whether a person of the name with the role author is there.
-pub(crate) fn find_author<S: ReadStore>(
-    alloc: Global,
-    store: &mut S,
-    name: &Name,
-) -> Result<bool, StoreFault>
-    ensures kept { Kept (S.content store.old) (S.content store.new) }
-    ensures fault { Fails S.can_fail result }
-    ensures told { Told (S.content store.old) (S.content store.new) result
-        (λ world found. IsTrue found ↔ HasAuthor world name.now) }
-{
-    match store.person(alloc, name)? {
-        Some(person) => Ok(person.roles.get().author),
-        None => Ok(false),
-    }
-}
 
 /// Whether the puzzle stands in a released round.
 pub(crate) fn is_in_released_round<S: ReadStore>(

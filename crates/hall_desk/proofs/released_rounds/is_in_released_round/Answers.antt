@@ -4,7 +4,7 @@ use Rattle.hall_store.specs.Store.{AreUsing}
 use Rattle.hall_desk.specs.Lookups.{IsReleasedRound}
 use Rattle.hall_store.proofs.Knowing.{carried, told_through}
 use Rattle.hall_desk.proofs.Releases.{released_using, through}
-use Rattle.hall_desk.proofs.lookups.is_in_released_round.Goals as goal
+use Rattle.hall_desk.proofs.released_rounds.is_in_released_round.Goals as goal
 
 pub returns-clause-told : goal.returns-clause-told
 returns-clause-told g c =
