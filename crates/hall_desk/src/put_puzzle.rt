@@ -73,11 +73,7 @@ impl<'a> Handler for PutPuzzle<'a> {
 }
 
 /// Whether a person of the name with the role author is there.
-fn find_author<S: ReadStore>(
-    alloc: Global,
-    store: &mut S,
-    name: &Name,
-) -> Result<bool, StoreFault>
+fn find_author<S: ReadStore>(alloc: Global, store: &mut S, name: &Name) -> Result<bool, StoreFault>
     ensures kept { Kept (S.content store.old) (S.content store.new) }
     ensures fault { Fails S.can_fail result }
     ensures told { Told (S.content store.old) (S.content store.new) result
