@@ -1,10 +1,9 @@
 -- In a sane world no rule before the token's denies the retry of an answer that stands, and of a protest none but that on its number.
-use Rattle.std.proofs.Common.{◌≡◌, ◌≢◌, inl, inr, ℕ, true, false, List, Option, Some, None, sym, ap, ◌∙◌, subst}
+use Rattle.std.proofs.Common.{◌≡◌, inl, inr, ℕ, true, false, List, Option, Some, None, sym, ap, ◌∙◌, subst}
 use Rattle.std.specs.FinMap.{get}
 use Rattle.hall_policy.specs.World.{World, IsTesterOf, place_of}
 use Rattle.hall_policy.specs.Rules.{Lists, HasHandIn, RoundIsMissing}
 use Rattle.hall_policy.specs.declared.record.Person.{Person}
-use Rattle.hall_policy.specs.declared.record.Entry.{Entry}
 use Rattle.hall_policy.specs.declared.request.Action.{Action}
 use Rattle.hall_policy.specs.declared.request.Action.TheVariants as action
 use Rattle.hall_desk.specs.Lookups.{IsReleasedRound}

@@ -1,5 +1,5 @@
 -- What was found tells all that the rules asked of the action read, up to a rule.
-use Rattle.std.proofs.Common.{◌≡◌, ◌↔◌, ℕ, List, Option, Some, None, IsTrue, Contains, refl, sym, ◌∙◌, subst, lit<}
+use Rattle.std.proofs.Common.{◌≡◌, ◌↔◌, ℕ, List, Some, None, IsTrue, Contains, refl, sym, ◌∙◌, subst, lit<}
 use Rattle.std.specs.FinMap.{get}
 use Rattle.hall_grid.specs.Board.{Board}
 use Rattle.hall_policy.specs.World.{World}
@@ -7,7 +7,6 @@ use Rattle.hall_policy.specs.Facts.{TrueUpTo, IsRoundFound}
 use Rattle.hall_policy.specs.Rules.{SheetLacks, Lists, StandsReleased, Conflicts, IsInvolved, puzzles_put, answers_given, protests_made}
 use Rattle.hall_policy.specs.declared.record.Person.{Person}
 use Rattle.hall_policy.specs.declared.record.PuzzleKey.{PuzzleKey}
-use Rattle.hall_policy.specs.declared.record.Entry.{Entry}
 use Rattle.hall_policy.specs.declared.record.Ruling.{Ruling}
 use Rattle.hall_policy.specs.declared.request.Sheet.{Sheet}
 use Rattle.hall_policy.specs.declared.request.Action.{Action}

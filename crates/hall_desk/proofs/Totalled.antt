@@ -1,13 +1,13 @@
 -- The totals of a round, from what a tally took.
-use Rattle.std.proofs.Common.{◌≡◌, ◌≢◌, ◌⊎◌, ◌↔◌, ◌++◌, ◌+◌, ◌<◌, ◌&&◌, inl, inr, ℕ, zero, suc, ℤ, Bool, true, false, not, cond, List, [], ◌∷◌, map, length, Some, Contains, IsTrue, refl, sym, ap, ◌∙◌, subst, arith}
-use Rattle.std.specs.List.{filter, All, AllPairs, AllByRecursion, IsDistinct}
-use Rattle.std.specs.List.Sorted.{IsPermutation, IsSorted}
+use Rattle.std.proofs.Common.{◌≡◌, ◌⊎◌, ◌++◌, ◌+◌, ◌<◌, ◌&&◌, inl, inr, ℕ, zero, suc, ℤ, Bool, true, false, cond, List, [], ◌∷◌, map, length, Some, Contains, refl, sym, ap, ◌∙◌, subst, arith}
+use Rattle.std.specs.List.{filter, AllByRecursion, IsDistinct}
+use Rattle.std.specs.List.Sorted.{IsPermutation}
 use Rattle.std.specs.Map.{keys_of, values_of}
 use Rattle.std.specs.FinMap.{get, values, entries, entries_sorted}
 use Rattle.std.specs.Ordering.{nat_cmp, ordering_then, ordering_reverse, eq_by_cmp, is_eq, is_lt}
 use Rattle.std.specs.declared.cmp.Ordering.{Ordering}
 use Rattle.std.specs.declared.cmp.Ordering.TheVariants.{Less, Equal, Greater}
-use Rattle.std.specs.Cmp.{IsTotalOrder, IsEquivalence}
+use Rattle.std.specs.Cmp.{IsTotalOrder}
 use Rattle.std.specs.FinMap.{nat_cmp-IsAntisymmetric}
 use Rattle.std.proofs.lemmas.Cmp.{tied_itself, eq_by_cmp_equiv, then_total, on_total, nat_cmp_total}
 use Rattle.std.proofs.lemmas.List.{append-nil, append_assoc, length-append, get_or_append_left, get_or_at, get_or_default}
@@ -25,7 +25,6 @@ use Rattle.hall_policy.specs.declared.record.RoundRow.{RoundRow}
 use Rattle.hall_policy.proofs.Maps.{get_is_lookup, get_of_value, strictly_sorted}
 use Rattle.hall_policy.proofs.Orders.{text_total, same_texts, tied_then, answer_total}
 use Rattle.hall_score.specs.Tally.{AreTotalsOf, IsTallyOf, TakesAnswer, RefusesAnswer, TakesProtest, RefusesProtest, IsNext, taking_cmp}
-use Rattle.hall_score.specs.Tally as tally
 use Rattle.hall_score.specs.declared.tally.Tally.{Tally}
 use Rattle.hall_store.specs.Store.{Content, Kept, IsListing, IsRefusedNext, listing_cmp, is_in, is_of, is_protest_in, protests_in}
 use Rattle.hall_store.proofs.Tests.{filter-Contains, Contains-filter, and_both, and_turned}

@@ -1,4 +1,4 @@
-use Rattle.std.proofs.Common.{◌≡◌, ◌↔◌, List, IsTrue, Contains, sym, ◌∙◌, subst}
+use Rattle.std.proofs.Common.{◌↔◌, List, IsTrue, Contains, sym, ◌∙◌, subst}
 use Rattle.std.proofs.lemmas.Bool.{false≢true}
 use Rattle.hall_policy.specs.World.{World}
 use Rattle.hall_policy.specs.Rules.{Conflicts}

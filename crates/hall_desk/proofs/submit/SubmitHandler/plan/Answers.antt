@@ -1,4 +1,4 @@
-use Rattle.std.proofs.Common.{◌≡◌, ◌∙◌, Option, Some, inr, sym, subst}
+use Rattle.std.proofs.Common.{◌∙◌, Option, Some, inr, sym, subst}
 use Rattle.std.proofs.lemmas.Bool.{false≢true}
 use Rattle.hall_policy.specs.Facts.{IsRoundFound, TrueUpTo}
 use Rattle.hall_policy.specs.declared.record.RoundRow.{RoundRow}
