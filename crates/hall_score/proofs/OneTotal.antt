@@ -1,16 +1,15 @@
 -- The rules give no second total.
-use Rattle.std.proofs.Common.{arith, ◌≡◌, ◌≤◌, ◌<◌, ◌+◌, ◌-◌, ◌*◌, ◌+ℤ◌, ◌*ℤ◌, ◌==◌, inl, inr, ℕ, ℤ, pos, negsuc, List, length, refl, sym, ap, subst, get_or, ◌∙◌, sum_by, nat_lt}
+use Rattle.std.proofs.Common.{arith, ◌≡◌, ◌<◌, ◌+◌, ◌-◌, ◌*◌, ◌+ℤ◌, ◌*ℤ◌, ◌==◌, inl, inr, ℕ, ℤ, pos, negsuc, List, length, sym, ap, subst, get_or, ◌∙◌, sum_by, nat_lt}
 use Rattle.std.specs.List.{range_with_len}
 use Rattle.std.proofs.lemmas.List.FromFn.{length-range_with_len, get_or-range_with_len}
 use Rattle.std.proofs.lemmas.Int.{ints}
 use Rattle.hall_policy.specs.World.{end_of}
 use Rattle.hall_policy.specs.declared.record.RoundRow.{RoundRow}
 use Rattle.hall_policy.specs.declared.record.AnswerRow.{AnswerRow}
-use Rattle.hall_policy.specs.declared.record.ProtestRow.{ProtestRow}
 use Rattle.hall_policy.specs.declared.record.Mode.{Mode}
 use Rattle.hall_policy.specs.declared.record.Mode.TheVariants.{Instant, Sealed}
 use Rattle.hall_score.specs.Total.{is_right}
-use Rattle.hall_score.specs.Laws.{AreNumbered, IsRight, IsLast, wrong_before_n, GivesInstant, GivesSealed, Gives, IsLastMoment, AreMinutes, IsBonus, upheld_points, IsTotal, TotalsAreOne}
+use Rattle.hall_score.specs.Laws.{AreNumbered, IsRight, IsLast, wrong_before_n, GivesInstant, GivesSealed, Gives, IsLastMoment, AreMinutes, IsBonus, upheld_points, TotalsAreOne}
 use Rattle.hall_score.proofs.Counting.{by_bool, eqb_true, eqb_same, not_less, less, same_default, sum_equal}
 use Rattle.hall_score.proofs.Scores.{entry_of, true_false}
 

@@ -1,4 +1,4 @@
-use Rattle.std.proofs.Common.{ap, arith, inl, inr, refl}
+use Rattle.std.proofs.Common.{ap, arith, inl, inr}
 use Rattle.hall_desk.specs.Desk.{kept_by}
 use Rattle.hall_desk.proofs.Promises.{unique_solutions, right_answers}
 use Rattle.hall_http.proofs.Listening.{turns_sane, served_turn, gone_turn}
