@@ -168,7 +168,7 @@ def patterns():
 def examples_of(pattern):
     """The lines of examples/ that have it: path and number. The tables of codes come first, and then the others; pages of help and comments are none."""
     files = [it for it in paths("examples/*/*.*") if it.endswith((".out", ".rows", ".sh", ".toml")) and not it.startswith("examples/help/")]
-    for path in sorted(files, key=lambda it: (not it.endswith("codes.rows"), not it.endswith(".rows"), it)):
+    for path in sorted(files, key=lambda it: (not it.endswith(("codes.rows", "denials.rows")), not it.endswith(".rows"), it)):
         for number, line in enumerate(read(path).split("\n"), 1):
             if not line.startswith("#") and re.search(pattern, line):
                 yield path, number

@@ -306,6 +306,13 @@ def looked_up(rule):
     return ", ".join(told + ["the round, by each action on one"] * ("round" in fields))
 
 
+def checked(rule):
+    """The function that checks a rule: the one that its arm of `check_rule` calls, or that itself."""
+    file = "crates/hall_policy/src/rule_checks.rt"
+    called = re.search(rf"Rule::{rule} => (?:finding_of\()?(\w+)\(", read(file))
+    return link(file, f"`{called[1] if called and called[1] != 'finding_of' else 'check_rule'}`")
+
+
 def broken(rule, all_changes):
     """The wrong bodies that turn a rule, or what it reads."""
     found = {f"{it.crate}/{it.name}": it for it in all_changes}
@@ -315,11 +322,11 @@ def broken(rule, all_changes):
 def rules(all_changes):
     """The rows of the twenty rules."""
     sentences = dict(codes.clauses("Sentence", "crates/hall_policy/specs/First.antt"))
-    yield from (row("Code", "Definition", "Looked up", "Tests", "Wrong bodies"), "|---|---|---|---|---|")
+    yield from (row("Code", "Definition", "Looked up", "Checked", "Tests", "Wrong bodies"), "|---|---|---|---|---|---|")
     for name, number in codes.numbers().items():
         cited = ", ".join(f"`{it}`" for it in re.findall(r"\b[A-Z]\w+", sentences[name]))
         examples = ", ".join(examples_of(codes.of_denial(number)))
-        yield row(f"`{number}` {name}", cited, looked_up(name), examples, broken(name, all_changes))
+        yield row(f"`{number}` {name}", cited, looked_up(name), checked(name), examples, broken(name, all_changes))
 
 
 def names_of_rules(all_changes):

@@ -8,8 +8,8 @@ use Rattle.hall_policy.specs.declared.request.Action.{Action}
 use Rattle.hall_policy.specs.declared.rule.Rule.{Rule}
 use Rattle.hall_policy.specs.declared.rule.Rule.TheVariants.{TokenTaken, RuledOtherwise}
 use Rattle.hall_policy.specs.declared.facts.Facts.{Facts}
-use Rattle.hall_policy.specs.declared.decision.Finding.{Finding}
-use Rattle.hall_policy.specs.declared.decision.Finding.TheVariants.{Passes, Forbids, Repeats}
+use Rattle.hall_policy.specs.declared.rule_checks.Finding.{Finding}
+use Rattle.hall_policy.specs.declared.rule_checks.Finding.TheVariants.{Passes, Forbids, Repeats}
 
 -- a rule that never repeats
 abbrev pub finding_of : Bool → Finding

@@ -2,7 +2,6 @@
 #![tactic(auto)]
 
 mod asked;
-mod decision;
 mod facts;
 mod law;
 mod list;
@@ -12,10 +11,10 @@ mod record;
 mod request;
 mod roles;
 mod rule;
+mod rule_checks;
 mod sink;
 mod text;
 
-pub use decision::{decide, decide_up_to};
 pub use facts::Facts;
 pub use law::law_decisions;
 pub use list::{Entries, People, Testers, is_new};
@@ -30,6 +29,7 @@ pub use record::{
 pub use request::{Action, Request, Sheet};
 pub use roles::SomeRoles;
 pub use rule::{Decision, Rule};
+pub use rule_checks::{decide, decide_up_to};
 pub use sink::{Sink, SinkFault};
 pub use text::{
     AnswerText, Checked, Key, Label, Name, ProtestText, PuzzleText, RoundId, TextKind, Title, Token,

@@ -1,5 +1,5 @@
 use Rattle.hall_policy.proofs.Findings.{found_by_test, implied_by_test}
-use Rattle.hall_policy.proofs.decision.check_rule.Goals as goal
+use Rattle.hall_policy.proofs.rule_checks.check_rule.Goals as goal
 
 pub returns-in-Missing-clause-tells : goal.returns-in-Missing-clause-tells
 returns-in-Missing-clause-tells c = λ world tells.

@@ -9,7 +9,7 @@ use Rattle.hall_policy.specs.declared.rule.Rule.{Rule}
 use Rattle.hall_policy.specs.declared.rule.Rule.TheVariants.{UnknownKey}
 use Rattle.hall_policy.specs.declared.rule.Decision.TheVariants.{Allow, Repeat, Deny}
 use Rattle.hall_policy.proofs.First.{IsPassed, rule_at, MayRepeat, passes_before, denied, repeats, repeats_at, all_pass, allowed, repeated, decided, denial, small_deciding}
-use Rattle.hall_policy.proofs.decision.decide.Goals as goal
+use Rattle.hall_policy.proofs.rule_checks.decide.Goals as goal
 
 pub loop-rule-preserved : goal.loop-rule-preserved
 loop-rule-preserved c = below_more _ _ c.loop-rule.invariant (λ rule at.

@@ -1,4 +1,4 @@
-//! Which rule decides a request.
+//! The check of each rule, and which rule decides a request.
 ghost use Rattle.std.specs.Prelude.{◌≤◌, ◌≡◌, ◌↔◌, ◌<◌, ℕ, IsTrue, IsSome, IfSome, IfNone, option_copied, false};
 ghost use Rattle.hall_policy.specs.World.{entry_at};
 ghost use Rattle.hall_policy.specs.Actions.{number_of};

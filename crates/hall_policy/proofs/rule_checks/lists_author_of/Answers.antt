@@ -1,7 +1,7 @@
 use Rattle.std.proofs.Common.{subst}
 use Rattle.hall_policy.specs.Facts.{IsRoundFound}
 use Rattle.hall_policy.proofs.Rounds.{lists_author_found, found_lists_author}
-use Rattle.hall_policy.proofs.decision.lists_author_of.Goals as goal
+use Rattle.hall_policy.proofs.rule_checks.lists_author_of.Goals as goal
 
 pub returns-in-Some-clause-tells : goal.returns-in-Some-clause-tells
 returns-in-Some-clause-tells c = λ world named found.

@@ -2,7 +2,7 @@ use Rattle.std.proofs.Common.{◌<◌, ◌≤◌, arith}
 use Rattle.hall_policy.specs.Actions.{number_of}
 use Rattle.hall_policy.specs.Facts.{deciding}
 use Rattle.hall_policy.proofs.First.{decided, small_deciding}
-use Rattle.hall_policy.proofs.decision.decide_up_to.Goals as goal
+use Rattle.hall_policy.proofs.rule_checks.decide_up_to.Goals as goal
 
 pub returns-then-deciding-number-clause-some : goal.returns-then-deciding-number-clause-some
 returns-then-deciding-number-clause-some c =

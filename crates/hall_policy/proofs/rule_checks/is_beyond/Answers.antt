@@ -1,7 +1,7 @@
 use Rattle.std.proofs.Common.{◌<◌, length, arith}
 use Rattle.std.proofs.lemmas.Bool.Decides.{nat_tests}
 use Rattle.hall_policy.proofs.Rounds.{entry_beyond, entry_none}
-use Rattle.hall_policy.proofs.decision.is_beyond.Goals as goal
+use Rattle.hall_policy.proofs.rule_checks.is_beyond.Goals as goal
 
 pub returns : goal.returns
 returns c = (

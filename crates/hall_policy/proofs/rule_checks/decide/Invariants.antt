@@ -1,5 +1,5 @@
 use Rattle.hall_policy.proofs.First.{Passed}
-use Rattle.hall_policy.proofs.decision.decide.Given as goal
+use Rattle.hall_policy.proofs.rule_checks.decide.Given as goal
 
 -- the rules so far pass
 abbrev pub invariant-loop-rule : goal.invariant-loop-rule

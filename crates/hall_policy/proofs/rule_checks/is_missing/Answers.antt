@@ -1,6 +1,6 @@
 use Rattle.std.proofs.Common.{inl, inr}
 use Rattle.hall_policy.proofs.Implies.{submit_there, protest_there}
-use Rattle.hall_policy.proofs.decision.is_missing.Goals as goal
+use Rattle.hall_policy.proofs.rule_checks.is_missing.Goals as goal
 
 pub returns-else-hides_round-2-clause-there : goal.returns-else-hides_round-2-clause-there
 returns-else-hides_round-2-clause-there c = λ has.
