@@ -3,7 +3,7 @@ ghost use Rattle.std.specs.Prelude.{◌≡◌, IfOk};
 
 use crate::branch::next_cell;
 use crate::judge::broken;
-use crate::trial::DeductionsAndTrials;
+use crate::trial::{DeductionsAndTrials, MOST_TRIED, Turn};
 use hall_grid::{Filling, Kind, Puzzle};
 use hall_solve::{Partial, Rules, Step, settle};
 use std::alloc::{AllocError, Global};
@@ -12,18 +12,19 @@ use std::marker::Model;
 /// Up to how many visits a search makes no trials.
 const PLAIN_VISITS: u64 = 50;
 
-/// The rules of one puzzle, the cell to try next, how long the trail was when the deductions left nothing to find, and
-/// counts of what a search asked.
+/// The rules of one puzzle, the cell to try next, how long the trail was when the deductions left nothing to find, the
+/// cell where trials go on, and counts of what a search asked.
 #[derive(Drop)]
-pub struct NurikabeRules<'a> {
-    puzzle: &'a Puzzle,
+pub struct NurikabeRules {
+    puzzle: Puzzle,
     next: Option<usize>,
     settled: usize,
+    turn: usize,
     visits: u64,
     asked: u64,
 }
 
-impl<'a> Model for NurikabeRules<'a> {
+impl Model for NurikabeRules {
     ghost use Rattle.hall_solve.specs.Puzzle.{SearchView};
 
     ghost Value = { SearchView };
@@ -31,30 +32,31 @@ impl<'a> Model for NurikabeRules<'a> {
     ghost use Rattle.std.specs.Prelude.{◌≡◌};
     ghost use Rattle.hall_grid.specs.declared.board.Kind.TheVariants.{Nurikabe};
 
-    ghost view = { λ r. record { board = r.puzzle.now; visits = r.visits; asked = r.asked } };
+    ghost view = { λ r. record { board = r.puzzle; visits = r.visits; asked = r.asked } };
 
-    ghost invariant = { λ r. r.puzzle.now.kind ≡ Nurikabe };
+    ghost invariant = { λ r. r.puzzle.kind ≡ Nurikabe };
 }
 
-impl<'a> NurikabeRules<'a> {
+impl NurikabeRules {
     ghost use Rattle.hall_solve.specs.Puzzle.{begun};
 
     /// The rules of the puzzle, with both counts 0.
-    pub fn new(puzzle: &'a Puzzle) -> NurikabeRules<'a>
-        requires { puzzle.now.kind ≡ Kind.Nurikabe }
-        ensures { result ≡ begun puzzle.now }
+    pub fn new(puzzle: Puzzle) -> NurikabeRules
+        requires { puzzle.kind ≡ Kind.Nurikabe }
+        ensures { result ≡ begun puzzle }
     {
         NurikabeRules {
             puzzle,
             next: None,
             settled: 0,
+            turn: 0,
             visits: 0,
             asked: 0,
         }
     }
 }
 
-impl<'a> Rules for NurikabeRules<'a> {
+impl Rules for NurikabeRules {
     ghost use Rattle.hall_grid.specs.declared.board.Kind.TheVariants.{Nurikabe};
     ghost use Rattle.hall_solve.specs.Puzzle.{question_of};
 
@@ -83,17 +85,23 @@ impl<'a> Rules for NurikabeRules<'a> {
     fn propagate(&mut self, alloc: Global, partial: &mut Partial) -> Result<Step, AllocError> {
         self.visits += 1;
         let deductions = DeductionsAndTrials {
-            puzzle: self.puzzle,
+            puzzle: &self.puzzle,
             // A search sets one place between two visits, and takes back what it set since a visit that left nothing
             // to find.
             settled: self.settled.min(partial.trail().len().saturating_sub(1)),
             tries: self.visits > PLAIN_VISITS,
         };
-        match settle(alloc, &deductions, partial, &mut ())? {
+        let mut turn = Turn {
+            next: self.turn,
+            left: MOST_TRIED,
+        };
+        let step = settle(alloc, &deductions, partial, &mut turn)?;
+        self.turn = turn.next;
+        match step {
             Step::Dead => Ok(Step::Dead),
             Step::Live => {
                 self.settled = partial.trail().len();
-                self.next = next_cell(alloc, self.puzzle, partial)?;
+                self.next = next_cell(alloc, &self.puzzle, partial)?;
                 Ok(Step::Live)
             }
         }
@@ -101,7 +109,7 @@ impl<'a> Rules for NurikabeRules<'a> {
 
     fn accepts(&mut self, alloc: Global, filling: &Filling) -> Result<bool, AllocError> {
         self.asked += 1;
-        let broken = broken(alloc, self.puzzle, filling)?;
+        let broken = broken(alloc, &self.puzzle, filling)?;
         Ok(broken.is_empty())
     }
 

@@ -1,5 +1,5 @@
 //! Trials: of the two values of a cell, one that leaves no solution leaves the other.
-ghost use Rattle.std.specs.Prelude.{◌≡◌, ℕ, ◌<◌, IsTrue, Some, IfOk, OnErr, slice_set};
+ghost use Rattle.std.specs.Prelude.{◌≡◌, ℕ, ◌<◌, IsTrue, Some, IfOk, OnErr, length, slice_set};
 ghost use Rattle.hall_grid.specs.Board.{cells};
 ghost use Rattle.hall_grid.specs.declared.board.Kind.TheVariants.{Nurikabe};
 ghost use Rattle.hall_solve.specs.Question.{IsPartial, IsHopeless, IsOpen, Narrows};
@@ -13,11 +13,22 @@ use hall_grid::{Puzzle, neighbours};
 use hall_solve::{Deduce, Finding, Look, Partial, Pass, Step, settle, sweep};
 use std::alloc::{AllocError, Global};
 
-/// Tries both values at open cells, where nothing follows before the trail is `settled` long.
+/// How many cells a visit tries at the most.
+pub(crate) const MOST_TRIED: usize = 12;
+
+/// Where trials go on: the cell to look at next, and how many cells the visit may still try.
+#[derive(Drop)]
+pub(crate) struct Turn {
+    pub(crate) next: usize,
+    pub(crate) left: usize,
+}
+
+/// Tries both values at those of the cells that are open, where nothing follows before the trail is `settled` long.
 #[derive(Drop)]
 struct Trials<'a> {
     puzzle: &'a Puzzle,
     settled: usize,
+    cells: &'a [usize],
     ghost kind: { puzzle.now.kind ≡ Nurikabe },
 }
 
@@ -65,10 +76,10 @@ fn is_worth_trying(puzzle: &Puzzle, partial: &Partial, cell: usize) -> bool
 impl Look for Trials<'_> {
     ghost question = { λ trials. question_of Nurikabe trials.puzzle.now };
 
-    ghost spots = { λ trials. cells trials.puzzle.now.size };
+    ghost spots = { λ trials. length trials.cells.now };
 
     fn spots(&self) -> usize {
-        self.puzzle.cells()
+        self.cells.len()
     }
 
     fn look(
@@ -77,18 +88,20 @@ impl Look for Trials<'_> {
         partial: &mut Partial,
         spot: usize,
     ) -> Result<Finding, AllocError> {
-        if !is_worth_trying(self.puzzle, partial, spot) {
+        let cell = self.cells[spot];
+        if cell >= self.puzzle.cells() || !is_worth_trying(self.puzzle, partial, cell) {
             return Ok(Finding::Nothing);
         }
         let deductions = Deductions {
             puzzle: self.puzzle,
             settled: self.settled,
+            all: false,
         };
-        if let Step::Dead = try_value(alloc, &deductions, partial, spot, WHITE)? {
-            return Ok(Finding::Must(spot, WALL));
+        if let Step::Dead = try_value(alloc, &deductions, partial, cell, WHITE)? {
+            return Ok(Finding::Must(cell, WALL));
         }
-        if let Step::Dead = try_value(alloc, &deductions, partial, spot, WALL)? {
-            return Ok(Finding::Must(spot, WHITE));
+        if let Step::Dead = try_value(alloc, &deductions, partial, cell, WALL)? {
+            return Ok(Finding::Must(cell, WHITE));
         }
         Ok(Finding::Nothing)
     }
@@ -104,7 +117,7 @@ pub(crate) struct DeductionsAndTrials<'a> {
 }
 
 impl Deduce for DeductionsAndTrials<'_> {
-    type Scratch = ();
+    type Scratch = Turn;
 
     ghost question = { λ deductions. question_of Nurikabe deductions.puzzle.now };
 
@@ -112,21 +125,52 @@ impl Deduce for DeductionsAndTrials<'_> {
         &self,
         alloc: Global,
         partial: &mut Partial,
-        scratch: &mut (),
+        turn: &mut Turn,
     ) -> Result<Pass, AllocError> {
         let plain = Deductions {
             puzzle: self.puzzle,
             settled: self.settled,
+            all: true,
         };
-        match plain.pass(alloc, partial, scratch)? {
-            Pass::Settled if self.tries => sweep_trials(alloc, self.puzzle, partial),
+        match plain.pass(alloc, partial, &mut ())? {
+            Pass::Settled if self.tries => sweep_trials(alloc, self.puzzle, partial, turn),
             pass => Ok(pass),
         }
     }
 }
 
-/// Tries both values once at each cell that is worth it.
-fn sweep_trials(alloc: Global, puzzle: &Puzzle, partial: &mut Partial) -> Result<Pass, AllocError>
+/// The cells to try next, once round the board: those that are worth it, as many as the visit may still try.
+fn cells_to_try(
+    alloc: Global,
+    puzzle: &Puzzle,
+    partial: &Partial,
+    turn: &mut Turn,
+) -> Result<Vec<usize>, AllocError>
+    requires partial { IsPartial (question_of Nurikabe puzzle.now) partial.now.places }
+{
+    let mut cells = Vec::new(alloc);
+    let count = puzzle.cells();
+    for _ in 0..count {
+        if turn.left == 0 {
+            return Ok(cells);
+        }
+        let cell = if turn.next < count { turn.next } else { 0 };
+        turn.next = cell + 1;
+        if is_worth_trying(puzzle, partial, cell) {
+            cells.push(cell)?;
+            turn.left -= 1;
+        }
+    }
+    Ok(cells)
+}
+
+/// Tries both values once at each of the cells to try next.
+fn sweep_trials(
+    alloc: Global,
+    puzzle: &Puzzle,
+    partial: &mut Partial,
+    turn: &mut Turn,
+) -> Result<Pass, AllocError>
     requires kind { puzzle.now.kind ≡ Nurikabe }
     requires partial { IsPartial (question_of Nurikabe puzzle.now) partial.old.places }
     ensures deduced { IfOk result (IsDeduced (question_of Nurikabe puzzle.now) partial.old.places partial.new.places) }
@@ -134,5 +178,11 @@ fn sweep_trials(alloc: Global, puzzle: &Puzzle, partial: &mut Partial) -> Result
     ensures grows { Grows partial.old partial.new }
 {
     let settled = partial.trail().len();
-    sweep(alloc, &Trials { puzzle, settled }, partial)
+    let cells = cells_to_try(alloc, puzzle, partial, turn)?;
+    let trials = Trials {
+        puzzle,
+        settled,
+        cells: &cells,
+    };
+    sweep(alloc, &trials, partial)
 }

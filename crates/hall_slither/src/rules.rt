@@ -87,14 +87,14 @@ fn deduce(
 
 /// The rules of one puzzle, and counts of what a search asked.
 #[derive(Drop)]
-pub struct SlitherRules<'a> {
-    puzzle: &'a Puzzle,
+pub struct SlitherRules {
+    puzzle: Puzzle,
     visits: u64,
     asked: u64,
     scratch: Option<Scratch>,
 }
 
-impl<'a> Model for SlitherRules<'a> {
+impl Model for SlitherRules {
     ghost use Rattle.hall_solve.specs.Puzzle.{SearchView};
 
     ghost Value = { SearchView };
@@ -102,18 +102,18 @@ impl<'a> Model for SlitherRules<'a> {
     ghost use Rattle.std.specs.Prelude.{◌≡◌};
     ghost use Rattle.hall_grid.specs.declared.board.Kind.TheVariants.{Slither};
 
-    ghost view = { λ r. record { board = r.puzzle.now; visits = r.visits; asked = r.asked } };
+    ghost view = { λ r. record { board = r.puzzle; visits = r.visits; asked = r.asked } };
 
-    ghost invariant = { λ r. r.puzzle.now.kind ≡ Slither };
+    ghost invariant = { λ r. r.puzzle.kind ≡ Slither };
 }
 
-impl<'a> SlitherRules<'a> {
+impl SlitherRules {
     ghost use Rattle.hall_solve.specs.Puzzle.{begun};
 
     /// The rules of the puzzle, with both counts 0.
-    pub fn new(puzzle: &'a Puzzle) -> SlitherRules<'a>
-        requires { puzzle.now.kind ≡ Kind.Slither }
-        ensures { result ≡ begun puzzle.now }
+    pub fn new(puzzle: Puzzle) -> SlitherRules
+        requires { puzzle.kind ≡ Kind.Slither }
+        ensures { result ≡ begun puzzle }
     {
         SlitherRules {
             puzzle,
@@ -124,7 +124,7 @@ impl<'a> SlitherRules<'a> {
     }
 }
 
-impl<'a> Rules for SlitherRules<'a> {
+impl Rules for SlitherRules {
     ghost question = { λ r. question_of Slither r.board };
 
     ghost settled = { λ r. AreSilent r.board };
@@ -153,7 +153,7 @@ impl<'a> Rules for SlitherRules<'a> {
         self.visits += 1;
         let mut scratch = match self.scratch.take() {
             Some(scratch) => scratch,
-            None => Scratch::new(alloc, self.puzzle)?,
+            None => Scratch::new(alloc, &self.puzzle)?,
         };
         // Tried are the sides beside the one that was set last, or all at the first visit.
         let chosen = partial.trail().last().copied();
@@ -161,7 +161,7 @@ impl<'a> Rules for SlitherRules<'a> {
             .queue
             .start_over(self.puzzle.size(), partial, self.visits == 1);
         let deductions = Deductions {
-            puzzle: self.puzzle,
+            puzzle: &self.puzzle,
         };
         let step = settle(alloc, &deductions, partial, &mut scratch);
         if matches!(step, Ok(Step::Dead)) {
@@ -173,7 +173,7 @@ impl<'a> Rules for SlitherRules<'a> {
 
     fn accepts(&mut self, alloc: Global, filling: &Filling) -> Result<bool, AllocError> {
         self.asked += 1;
-        Ok(broken(alloc, self.puzzle, filling)?.is_empty())
+        Ok(broken(alloc, &self.puzzle, filling)?.is_empty())
     }
 
     fn branch_place(&self, partial: &Partial) -> Option<usize> {

@@ -13,20 +13,10 @@ use Rattle.hall_solve.specs.Answer.{IsTrueOf, OutcomeOf}
 use Rattle.hall_solve.specs.Trail.{Trailed, IsTrailed, Grows}
 use Rattle.hall_solve.specs.Choices.{AreMade, AwaitsTurn, IsAhead, SameBelow, visits_left, visits_ahead}
 use Rattle.hall_solve.specs.Visit.{IsVisit}
+use Rattle.hall_solve.specs.Underway.{IsUnderWay, IsTold}
 use Rattle.hall_solve.proofs.Boards.{Solves-same, same_turned, IsPartial-set}
 use Rattle.hall_solve.proofs.Trees.{plain_tree-le, plain_tree-pos}
 use Rattle.hall_solve.proofs.Ahead.{SameBelow-grows, SameBelow-turned, AwaitsTurn-same, not_awaiting}
-
--- between two visits: each solution is the one that was found, or ahead; the one that was found is not ahead
-pub record IsUnderWay (q : Question) (start : List (Option ℕ)) (b : Trailed) (stack : List Choice) (got : Option (List ℕ)) (visits : ℕ) : Type 0 where
-  pub partial : IsPartial q b.places
-  pub trailed : IsTrailed b
-  pub made : AreMade b stack
-  pub solutions : (f : List ℕ) → Solves q start f → (got ≡ Some f) ⊎ IsAhead b stack f
-  pub found : (f : List ℕ) → got ≡ Some f → Solves q start f × (IsAhead b stack f → ⊥) × (2 ≤ visits)
-  pub ahead : (f : List ℕ) → IsFilling q f → IsAhead b stack f → Extends f start
-  pub paid : visits + visits_ahead q.values b stack ≤ plain_tree q.values (open_places start)
-  pub begun : visits ≡ 0 → stack ≡ []
 
 -- after a visit below which nothing is left
 pub record IsTurning (q : Question) (start : List (Option ℕ)) (b : Trailed) (stack : List Choice) (got : Option (List ℕ)) (visits : ℕ) : Type 0 where
@@ -200,6 +190,19 @@ module _ (q : Question) (start : List (Option ℕ)) (b : Trailed) (stack : List 
 IsFilling-same : (q r : Question) (f : List ℕ) → IsSame q r → IsFilling q f → IsFilling r f
 IsFilling-same q r f e h = record { size = h.size ∙ sym e.cells; in_range = λ i lt. rw e.values (h.in_range i (omega (arith, lt, e.cells))) }
 
+-- a search that is under way, told of a question that asks the same
+pub IsUnderWay-same : (q r : Question) (start : List (Option ℕ)) (b : Trailed) (stack : List Choice) (got : Option (List ℕ)) (visits : ℕ) → IsSame q r → IsUnderWay q start b stack got visits → IsUnderWay r start b stack got visits
+IsUnderWay-same q r start b stack got visits e u = record {
+  partial = record { size = u.partial.size ∙ sym e.cells; in_range = λ i v at. rw e.values (u.partial.in_range i v at) };
+  trailed = u.trailed;
+  made = u.made;
+  solutions = λ f s. u.solutions f (Solves-same r q start f (same_turned q r e) s);
+  found = λ f h. let x = u.found f h in (Solves-same q r start f e x.0, x.1, x.2);
+  ahead = λ f s a. u.ahead f (IsFilling-same r q f (same_turned q r e) s) a;
+  paid = rw e.values u.paid;
+  begun = u.begun;
+}
+
 -- a place is open, told of a question that asks the same
 pub opened_after : (q r : Question) (start : List (Option ℕ)) (b : Trailed) (stack : List Choice) (visits after : ℕ) (got : Option (List ℕ)) (n m : Trailed) (rest : List Choice) (place : ℕ) → IsSame q r → IsUnderWay q start b stack got visits → IsVisit r b n (Open place) → after ≡ visits + 1 → m.places ≡ set n.places place (Some 0) → AreMade m rest → IsTrailed m → ((f : List ℕ) → IsAhead n stack f ↔ IsAhead m rest f) → ((k : ℕ) → 0 < k → visits_ahead k m rest + 1 ≡ visits_ahead k n stack) → IsUnderWay q start m rest got after
 opened_after q r start b stack visits after got n m rest place same u visit count places made trailed next paid =
@@ -218,13 +221,34 @@ turned_among q r start b stack visits got n rest e t partial made trailed next w
     (subst (λ (x : ℕ). visits_ahead x n rest ≤ visits_left (length b.places) x stack) e.values paid)
 
 -- nothing awaits its turn: the answer
-pub outcome_all : (q r : Question) (start : List (Option ℕ)) (b : Trailed) (stack : List Choice) (visits budget : ℕ) (got : Option (List ℕ)) (o : Outcome) → IsSame q r → IsTurning q start b stack got visits → ((f : List ℕ) → IsFilling r f → r.right f → AwaitsTurn b stack f → ⊥) → o ≡ answer_of got → visits ≤ budget → OutcomeOf q start budget o
-outcome_all q r start b stack visits budget got o e t over is le =
-    subst (λ (x : Outcome). OutcomeOf q start budget x) (sym is) (told got (all_found q start b stack visits got t (λ f filling right. over f (IsFilling-same q r f e filling) ((e.right f).1 right))))
+pub told_all : (q r : Question) (start : List (Option ℕ)) (b : Trailed) (stack : List Choice) (visits : ℕ) (got : Option (List ℕ)) (o : Outcome) → IsSame q r → IsTurning q start b stack got visits → ((f : List ℕ) → IsFilling r f → r.right f → AwaitsTurn b stack f → ⊥) → o ≡ answer_of got → IsTold q start visits o
+told_all q r start b stack visits got o e t over is =
+    subst (λ (x : Outcome). IsTold q start visits x) (sym is) (told got (all_found q start b stack visits got t (λ f filling right. over f (IsFilling-same q r f e filling) ((e.right f).1 right))))
   where
-    told : (g : Option (List ℕ)) → IsTrueOf (Solves q start) (answer_of g) → OutcomeOf q start budget (answer_of g)
-    told None h = record { answer = h; gives_up_late = λ (eq : Nothing ≡ GaveUp). absurd cc; within_budget = omega (arith, t.visited) }
-    told (Some f) h = record { answer = h; gives_up_late = λ (eq : One f ≡ GaveUp). absurd cc; within_budget = omega (arith, t.visited) }
+    told : (g : Option (List ℕ)) → IsTrueOf (Solves q start) (answer_of g) → IsTold q start visits (answer_of g)
+    told None h = record { answer = h; no_giving_up = λ (eq : Nothing ≡ GaveUp). absurd cc; enough = omega (arith, t.visited) }
+    told (Some f) h = record { answer = h; no_giving_up = λ (eq : One f ≡ GaveUp). absurd cc; enough = omega (arith, t.visited) }
+
+-- a search that made no visit yet
+pub begun_under_way : (q : Question) (start : List (Option ℕ)) (b : Trailed) → IsPartial q start → b.places ≡ start → IsTrailed b → IsUnderWay q start b [] None 0
+begun_under_way q start b partial same trailed = record {
+  partial = rw same partial;
+  trailed = trailed;
+  made = record { each = λ k d h. absurd (omega (arith, h)); in_order = λ i j d lt h. absurd (omega (arith, lt, h)) };
+  solutions = λ f s. inr (inl (rw same s.extends));
+  found = λ f e. absurd cc;
+  ahead = λ f filling a. elim a [ inl e ↦ (rw same at e) | inr w ↦ absurd (omega (arith, w.2)) ];
+  paid = rw (sym same) (let left : length b.places - length b.trail ≡ open_places b.places = omega (arith, trailed.counted) in rw left (omega arith));
+  begun = λ e. refl;
+}
+
+-- what is told within a budget may be answered
+pub told_outcome : (q : Question) (start : List (Option ℕ)) (visits budget : ℕ) (o : Outcome) → IsTold q start visits o → visits ≤ budget → OutcomeOf q start budget o
+told_outcome q start visits budget o t le = record { answer = t.answer; gives_up_late = λ e. absurd (t.no_giving_up e); within_budget = omega (arith, t.enough) }
+
+-- a search that is under way may be given up after its last visit
+pub given_up : (q : Question) (start : List (Option ℕ)) (b : Trailed) (stack : List Choice) (got : Option (List ℕ)) (visits budget : ℕ) → IsUnderWay q start b stack got visits → visits ≡ budget → OutcomeOf q start budget GaveUp
+given_up q start b stack got visits budget u e = record { answer = tt; gives_up_late = λ _. omega (arith, gave_up q start b stack visits got u); within_budget = omega arith }
 
 -- the visit left a place open, whose first value was chosen and refused
 pub record IsRefused (q : Question) (n : Trailed) (stack : List Choice) (m : Trailed) (rest : List Choice) (v : Visited) : Type 0 where
@@ -258,3 +282,17 @@ turning_after q r s start b n stack visits after v old m rest new same same_afte
 turning_after q r s start b n stack visits after v old m rest new same same_after u h count (inr e) =
     let under_way = opened_after q r start b stack visits after old n m rest e.0.place same u (subst (λ (x : Visited). IsVisit r b n x) e.0.is h) count e.0.places e.0.made e.0.trailed e.0.ahead e.0.paid in
     rw e.1 (refused_turning q start m rest after old under_way (λ f t. e.0.hopeless f (Solves-same q s m.places f same_after t)) (omega (arith, count)))
+
+-- what may be answered to a question that asks the same
+pub OutcomeOf-same : (q r : Question) (start : List (Option ℕ)) (budget : ℕ) (o : Outcome) → IsSame q r → OutcomeOf r start budget o → OutcomeOf q start budget o
+OutcomeOf-same q r start budget o e h = record {
+  answer = told o h.answer;
+  gives_up_late = λ gave. rw (sym e.values) (h.gives_up_late gave);
+  within_budget = h.within_budget;
+}
+  where
+    told : (x : Outcome) → IsTrueOf (Solves r start) x → IsTrueOf (Solves q start) x
+    told Nothing t = λ f s. t f (Solves-same q r start f e s)
+    told (One g) t = (Solves-same r q start g (same_turned q r e) t.0, λ f s. t.1 f (Solves-same q r start f e s))
+    told (More a b) t = (Solves-same r q start a (same_turned q r e) t.0, Solves-same r q start b (same_turned q r e) t.1, t.2)
+    told GaveUp t = tt

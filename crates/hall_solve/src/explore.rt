@@ -1,9 +1,11 @@
 //! The search over one board: a visit, then the next value of the newest choice that has one.
-ghost use Rattle.std.specs.Prelude.{◌≡◌, ◌≤◌, ◌<◌, ◌+◌, ◌↔◌, ◌⊎◌, ℕ, false, List, None, Some, IfOk, IsTrue};
+ghost use Rattle.std.specs.Prelude.{◌≡◌, ◌≤◌, ◌<◌, ◌+◌, ◌↔◌, ◌⊎◌, ℕ, false, List, None, Some};
+ghost use Rattle.std.specs.Prelude.{IfOk, IsTrue};
 ghost use Rattle.std.specs.Prelude.{length, slice_index_or, slice_set};
 ghost use Rattle.hall_solve.specs.Question.{IsPartial, IsFilling, IsHopeless, IsSame, IsOpen, plain_tree, open_places};
 ghost use Rattle.hall_solve.specs.Answer.{OutcomeOf, fewest_visits};
 ghost use Rattle.hall_solve.specs.Trail.{IsTrailed};
+ghost use Rattle.hall_solve.specs.Progress.{IsBegun, IsWalkAt, IsProgress};
 ghost use Rattle.hall_solve.specs.Choices.{AreMade, AwaitsTurn, InRange, IsAhead, visits_left, visits_ahead};
 
 use crate::choice::Choice;
@@ -39,10 +41,73 @@ pub fn search<R: Rules>(
 
     ensures same { IsSame (R.question rules.old) (R.question rules.new) }
 {
-    let mut board = own_board(alloc, start)?;
-    let mut stack = Vec::with_capacity(alloc, board.len())?;
-    let mut found: Option<Filling> = None;
-    'visiting: while rules.visits() < budget {
+    let walk = begin(alloc, start)?;
+    match go_on(alloc, rules, start, walk, budget)? {
+        Progress::Told(outcome) => Ok(outcome),
+        Progress::Paused(_walk) => Ok(Outcome::GaveUp),
+    }
+}
+
+/// A search that is under way.
+#[derive(Drop)]
+pub(crate) struct Walk {
+    /// What is set now.
+    pub(crate) board: Partial,
+    /// The choices that were made and aren't exhausted.
+    pub(crate) stack: Vec<Choice>,
+    /// What was found.
+    pub(crate) found: Option<Filling>,
+}
+
+/// How far a search came.
+#[derive(Drop)]
+pub(crate) enum Progress {
+    /// To its end.
+    Told(Outcome),
+    /// To as many visits as it was given. It may go on.
+    Paused(Walk),
+}
+
+/// A search that made no visit yet.
+pub(crate) fn begin(alloc: Global, start: &Partial) -> Result<Walk, AllocError>
+    ensures { IfOk result (IsBegun start.now.places) }
+{
+    let board = own_board(alloc, start)?;
+    let stack = Vec::with_capacity(alloc, board.len())?;
+    Ok(Walk {
+        board,
+        stack,
+        found: None,
+    })
+}
+
+/// Goes on with a search until it is at its end, or so many visits are made in all.
+///
+/// The start is named for what is told of it, and isn't read.
+pub(crate) fn go_on<R: Rules>(
+    alloc: Global,
+    rules: &mut R,
+    start: &Partial,
+    walk: Walk,
+    until: u64,
+) -> Result<Progress, AllocError>
+    requires under_way { IsWalkAt (R.question rules.old) start.now.places (R.visits rules.old) walk }
+    requires at_visits { R.asked rules.old ≤ R.visits rules.old }
+    requires ahead { R.visits rules.old ≤ until }
+    ensures progress { IfOk result (IsProgress (R.question rules.old) start.now.places until (R.visits rules.new)) }
+    ensures frugal { IfOk result
+        (λ _. R.visits rules.new ≤ plain_tree (R.question rules.old).values (open_places start.now.places)) }
+    ensures within { R.visits rules.new ≤ until }
+    ensures at_visits { R.asked rules.new ≤ R.visits rules.new }
+    ensures same { IsSame (R.question rules.old) (R.question rules.new) }
+{
+    let _ = start;
+    let Walk {
+        mut board,
+        mut stack,
+        mut found,
+    } = walk;
+    'visiting: while rules.visits() < until {
         match visit(alloc, rules, &mut board)? {
             Visited::Open(place) => {
                 descend(&mut board, &mut stack, place)?;
@@ -53,17 +118,21 @@ pub fn search<R: Rules>(
             Visited::Closed => {}
             Visited::Whole(filling) => match found.take() {
                 None => found = Some(filling),
-                Some(first) => return Ok(Outcome::More(first, filling)),
+                Some(first) => return Ok(Progress::Told(Outcome::More(first, filling))),
             },
         }
         if !turn(rules, &mut board, &mut stack) {
-            return Ok(match found {
+            return Ok(Progress::Told(match found {
                 None => Outcome::None,
                 Some(filling) => Outcome::One(filling),
-            });
+            }));
         }
     }
-    Ok(Outcome::GaveUp)
+    Ok(Progress::Paused(Walk {
+        board,
+        stack,
+        found,
+    }))
 }
 
 /// A board with what the start has.

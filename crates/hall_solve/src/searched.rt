@@ -34,6 +34,17 @@ pub struct Searched {
 }
 
 impl Searched {
+    /// What a search found, and how many visits it made.
+    pub(crate) fn of(outcome: Outcome, count: u64) -> Searched
+        ensures outcome { outcome_of result ≡ outcome }
+        ensures visits { visits_made (visits_of result) ≡ count }
+    {
+        Searched {
+            outcome,
+            visits: Visits { count },
+        }
+    }
+
     /// What the search found.
     pub fn outcome(self) -> Outcome
         ensures { result ≡ outcome_of self }
@@ -74,10 +85,5 @@ pub fn search_counted<R: Rules>(
     ensures same { IsSame (R.question rules.old) (R.question rules.new) }
 {
     let outcome = search(alloc, rules, start, budget)?;
-    Ok(Searched {
-        outcome,
-        visits: Visits {
-            count: rules.visits(),
-        },
-    })
+    Ok(Searched::of(outcome, rules.visits()))
 }

@@ -17,14 +17,14 @@ use std::marker::Model;
 
 /// The rules of one puzzle, and counts of what a search asked.
 #[derive(Drop)]
-pub struct SudokuRules<'a> {
-    puzzle: &'a Puzzle,
+pub struct SudokuRules {
+    puzzle: Puzzle,
     units: Units,
     visits: u64,
     asked: u64,
 }
 
-impl<'a> Model for SudokuRules<'a> {
+impl Model for SudokuRules {
     ghost use Rattle.hall_solve.specs.Puzzle.{SearchView};
 
     ghost Value = { SearchView };
@@ -32,29 +32,30 @@ impl<'a> Model for SudokuRules<'a> {
     ghost use Rattle.std.specs.Prelude.{◌≡◌};
     ghost use Rattle.hall_grid.specs.declared.board.Kind.TheVariants.{Sudoku};
 
-    ghost view = { λ r. record { board = r.puzzle.now; visits = r.visits; asked = r.asked } };
+    ghost view = { λ r. record { board = r.puzzle; visits = r.visits; asked = r.asked } };
 
-    ghost invariant = { λ r. (r.puzzle.now.kind ≡ Sudoku) × (r.units ≡ r.puzzle.now.size) };
+    ghost invariant = { λ r. (r.puzzle.kind ≡ Sudoku) × (r.units ≡ r.puzzle.size) };
 }
 
-impl<'a> SudokuRules<'a> {
+impl SudokuRules {
     ghost use Rattle.hall_solve.specs.Puzzle.{begun};
 
     /// The rules of the puzzle, with both counts 0.
-    pub fn new(alloc: Global, puzzle: &'a Puzzle) -> Result<SudokuRules<'a>, AllocError>
-        requires { puzzle.now.kind ≡ Kind.Sudoku }
-        ensures { IfOk result (λ r. r ≡ begun puzzle.now) }
+    pub fn new(alloc: Global, puzzle: Puzzle) -> Result<SudokuRules, AllocError>
+        requires { puzzle.kind ≡ Kind.Sudoku }
+        ensures { IfOk result (λ r. r ≡ begun puzzle) }
     {
+        let units = Units::new(alloc, puzzle.size())?;
         Ok(SudokuRules {
             puzzle,
-            units: Units::new(alloc, puzzle.size())?,
+            units,
             visits: 0,
             asked: 0,
         })
     }
 }
 
-impl<'a> Rules for SudokuRules<'a> {
+impl Rules for SudokuRules {
     ghost use Rattle.hall_grid.specs.declared.board.Kind.TheVariants.{Sudoku};
     ghost use Rattle.hall_solve.specs.Puzzle.{question_of};
     ghost use Rattle.hall_sudoku.specs.Settled.{IsSettled};
@@ -90,7 +91,7 @@ impl<'a> Rules for SudokuRules<'a> {
 
     fn accepts(&mut self, _alloc: Global, filling: &Filling) -> Result<bool, AllocError> {
         self.asked += 1;
-        Ok(broken(self.puzzle, filling).is_empty())
+        Ok(broken(&self.puzzle, filling).is_empty())
     }
 
     fn branch_place(&self, partial: &Partial) -> Option<usize> {

@@ -167,19 +167,19 @@ fn visit<R: Rules + Drop>(
 }
 
 /// The same for a puzzle, whose search begins with the places that its clues set.
-fn leaves(rt: &(impl AllocGlobal + Abort), puzzle: &Puzzle, board: Board<'_>) -> bool {
+fn leaves(rt: &(impl AllocGlobal + Abort), puzzle: Puzzle, board: Board<'_>) -> bool {
     match puzzle.kind() {
         Kind::Sudoku => {
+            let start = hall_sudoku::start(rt.alloc(), &puzzle).expect(rt, "memory");
             let rules = SudokuRules::new(rt.alloc(), puzzle).expect(rt, "memory");
-            let start = hall_sudoku::start(rt.alloc(), puzzle).expect(rt, "memory");
             visit(rt, rules, start, board)
         }
         Kind::Slither => {
-            let start = hall_slither::start(rt.alloc(), puzzle).expect(rt, "memory");
+            let start = hall_slither::start(rt.alloc(), &puzzle).expect(rt, "memory");
             visit(rt, SlitherRules::new(puzzle), start, board)
         }
         Kind::Nurikabe => {
-            let start = hall_nurikabe::start(rt.alloc(), puzzle).expect(rt, "memory");
+            let start = hall_nurikabe::start(rt.alloc(), &puzzle).expect(rt, "memory");
             visit(rt, NurikabeRules::new(puzzle), start, board)
         }
     }
@@ -212,7 +212,7 @@ fn see_row(rt: &(impl AllocGlobal + Abort), row: &str) {
         before: before.as_bytes(),
         after,
     };
-    assert!(rt; leaves(rt, &puzzle, board), "{row}");
+    assert!(rt; leaves(rt, puzzle, board), "{row}");
 }
 
 #[test]

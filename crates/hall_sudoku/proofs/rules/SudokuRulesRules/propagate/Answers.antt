@@ -11,7 +11,7 @@ pub returns-clause-live : goal.returns-clause-live
 returns-clause-live c =
     rw (← c.self.view_is)
     (IfOk-weaker c.settle.result _ _ (λ step h is_live.
-    narrows_of c.self.inside.puzzle.now c.args.partial.now.places c.settle.new.partial.places c.self.invariant.0
+    narrows_of c.self.inside.puzzle c.args.partial.now.places c.settle.new.partial.places c.self.invariant.0
     (subst (λ (n : Size). Narrows (units_question n) c.args.partial.now.places c.settle.new.partial.places) c.self.invariant.1 (h is_live)))
     c.settle.ensures.live)
 
@@ -19,7 +19,7 @@ pub returns-clause-dead : goal.returns-clause-dead
 returns-clause-dead c =
     rw (← c.self.view_is)
     (IfOk-weaker c.settle.result _ _ (λ step h is_dead.
-    hopeless_of c.self.inside.puzzle.now c.args.partial.now.places c.self.invariant.0
+    hopeless_of c.self.inside.puzzle c.args.partial.now.places c.self.invariant.0
     (subst (λ (n : Size). IsHopeless (units_question n) c.args.partial.now.places) c.self.invariant.1 (h is_dead)))
     c.settle.ensures.dead)
 
@@ -27,7 +27,7 @@ pub returns-clause-err : goal.returns-clause-err
 returns-clause-err c =
     rw (← c.self.view_is)
     (on_err_weaker c.settle.result (λ h.
-    narrows_of c.self.inside.puzzle.now c.args.partial.now.places c.settle.new.partial.places c.self.invariant.0
+    narrows_of c.self.inside.puzzle c.args.partial.now.places c.settle.new.partial.places c.self.invariant.0
     (subst (λ (n : Size). Narrows (units_question n) c.args.partial.now.places c.settle.new.partial.places) c.self.invariant.1 h))
     c.settle.ensures.err)
 

@@ -1,7 +1,7 @@
 use Rattle.std.proofs.Common.{◌-◌, ◌≤◌}
 use Rattle.hall_solve.specs.Question.{IsSame}
-use Rattle.hall_solve.proofs.Underway.{IsUnderWay}
-use Rattle.hall_solve.proofs.explore.search.Given as goal
+use Rattle.hall_solve.specs.Underway.{IsUnderWay}
+use Rattle.hall_solve.proofs.explore.go_on.Given as goal
 
 abbrev pub invariant-visiting : goal.invariant-visiting
 invariant-visiting g l =
@@ -10,9 +10,9 @@ invariant-visiting g l =
     record {
       same : IsSame asked (rules.question l.rules);
       at_visits : rules.asked l.rules ≤ rules.visits l.rules;
-      within : rules.visits l.rules ≤ l.budget;
+      within : rules.visits l.rules ≤ l.until;
       under_way : IsUnderWay asked l.start.places l.board l.stack.items l.found (rules.visits l.rules);
     }
 
 abbrev pub decreases-visiting : goal.decreases-visiting
-decreases-visiting g l = l.budget - g.R.Rules.visits l.rules
+decreases-visiting g l = l.until - g.R.Rules.visits l.rules

@@ -1,0 +1,130 @@
+//! A search that pauses, and goes on from there.
+ghost use Rattle.std.specs.Prelude.{◌≡◌, ◌≤◌, ◌<◌, ◌+◌, IfOk};
+ghost use Rattle.hall_solve.specs.Question.{IsPartial, IsSame, plain_tree, open_places};
+ghost use Rattle.hall_solve.specs.Answer.{OutcomeOf, fewest_visits};
+ghost use Rattle.hall_solve.specs.Searched.{visits_made, outcome_of, visits_of, IsSpent};
+ghost use Rattle.hall_solve.specs.Paused.{start_of, budget_of, IsSearchAt, HasGoneOn};
+
+use crate::explore::{Progress, Walk, begin, go_on};
+use crate::outcome::Outcome;
+use crate::partial::Partial;
+use crate::rules::Rules;
+use crate::searched::Searched;
+use std::alloc::{AllocError, Global};
+
+/// A search from a start, within a budget, that is under way.
+#[derive(Drop)]
+pub struct Search {
+    pub(crate) start: Partial,
+    pub(crate) budget: u64,
+    pub(crate) walk: Walk,
+}
+
+/// What came of going on with a search.
+#[derive(Drop)]
+pub enum Searching {
+    /// It is at its end.
+    Ended(Searched),
+    /// It made as many visits as it was given, and may go on.
+    Paused(Search),
+}
+
+impl Search {
+    /// A search that made no visit yet, by rules of which none was made either.
+    pub fn new<R: Rules>(
+        alloc: Global,
+        rules: &R,
+        start: Partial,
+        budget: u64,
+    ) -> Result<Search, AllocError>
+        requires fresh { R.visits rules.now ≡ 0 }
+        requires start { IsPartial (R.question rules.now) start.places }
+        ensures start { IfOk result (λ search. start_of search ≡ start.places) }
+        ensures budget { IfOk result (λ search. budget_of search ≡ budget) }
+        ensures under_way { IfOk result (IsSearchAt (R.question rules.now) (R.visits rules.now)) }
+    {
+        let walk = begin(alloc, &start)?;
+        Ok(Search {
+            start,
+            budget,
+            walk,
+        })
+    }
+
+    /// Goes on by the same rules until it is at its end, or has made so many more visits.
+    ///
+    /// At its end it tells what a search without a pause may tell. Refused, it is gone.
+    pub fn go_on<R: Rules>(
+        self,
+        alloc: Global,
+        rules: &mut R,
+        most: u64,
+    ) -> Result<Searching, AllocError>
+        requires under_way { IsSearchAt (R.question rules.old) (R.visits rules.old) self }
+        requires at_visits { R.asked rules.old ≤ R.visits rules.old }
+        ensures gone_on { IfOk result (HasGoneOn (R.question rules.old) (R.question rules.new) self
+            (R.visits rules.old + most) (R.visits rules.new)) }
+
+        // How many visits were made.
+        ensures frugal { IfOk result
+            (λ _. R.visits rules.new ≤ plain_tree (R.question rules.old).values (open_places (start_of self))) }
+        ensures within { R.visits rules.new ≤ budget_of self }
+        ensures at_visits { R.asked rules.new ≤ R.visits rules.new }
+
+        ensures same { IsSame (R.question rules.old) (R.question rules.new) }
+    {
+        let Search {
+            start,
+            budget,
+            walk,
+        } = self;
+        let until = rules.visits().saturating_add(most).min(budget);
+        match go_on(alloc, rules, &start, walk, until)? {
+            Progress::Told(outcome) => Ok(Searching::Ended(Searched::of(outcome, rules.visits()))),
+            Progress::Paused(_) if until == budget => Ok(Searching::Ended(Searched::of(
+                Outcome::GaveUp,
+                rules.visits(),
+            ))),
+            Progress::Paused(walk) => Ok(Searching::Paused(Search {
+                start,
+                budget,
+                walk,
+            })),
+        }
+    }
+}
+
+/// Searches as [`search_counted`](crate::search_counted) does, with a pause after each so many visits.
+pub fn search_by_turns<R: Rules>(
+    alloc: Global,
+    rules: &mut R,
+    start: Partial,
+    budget: u64,
+    most: u64,
+) -> Result<Searched, AllocError>
+    requires fresh { R.visits rules.old ≡ 0 }
+    requires not_asked { R.asked rules.old ≡ 0 }
+    requires start { IsPartial (R.question rules.old) start.places }
+    requires most { 0 < most }
+    ensures outcome { IfOk result
+        (λ searched. OutcomeOf (R.question rules.old) start.places budget (outcome_of searched)) }
+
+    // How many visits it made.
+    ensures counted { IfOk result (λ searched. visits_made (visits_of searched) ≡ R.visits rules.new) }
+    ensures spent { IfOk result (IsSpent budget) }
+    ensures took { IfOk result (λ searched. fewest_visits (outcome_of searched) ≤ R.visits rules.new) }
+    ensures frugal { IfOk result
+        (λ _. R.visits rules.new ≤ plain_tree (R.question rules.old).values (open_places start.places)) }
+    ensures within { R.visits rules.new ≤ budget }
+    ensures at_visits { R.asked rules.new ≤ R.visits rules.new }
+
+    ensures same { IsSame (R.question rules.old) (R.question rules.new) }
+{
+    let mut search = Search::new(alloc, rules, start, budget)?;
+    'turns: loop {
+        match search.go_on(alloc, rules, most)? {
+            Searching::Ended(searched) => return Ok(searched),
+            Searching::Paused(paused) => search = paused,
+        }
+    }
+}
