@@ -19,7 +19,7 @@ use Rattle.sqlite.specs.State.{State, HasCleanDisk, IsUnchanged, Fails, IsNotRun
 use Rattle.sqlite.proofs.Callers.{IsPlain, command_of, reads_as}
 use Rattle.sqlite.specs.Schema.{Schema}
 use Rattle.hall_sql.specs.Statements.{plain_query}
-use Rattle.hall_sql.specs.Standing.{Lasts, IsTabled, AreKeyedIn, Rests, RestedIn, IsSelection}
+use Rattle.hall_sql.specs.Standing.{AddsNoOutcome, Lasts, IsTabled, AreKeyedIn, Rests, RestedIn, StayedIn, IsSelection}
 use Rattle.hall_sql.proofs.Selections.{selected}
 
 failed : (old new : State) (U : Type 0) (e : Error) → Fails old new U e → Rests old new
@@ -64,8 +64,8 @@ ends_mode old new (inl h) mode = h.0.mode ∙ mode
 ends_mode old new (inr h) mode = h.autocommit
 
 -- a call that rests leaves the content as it was
-pub rested : {schema : Schema} (old new : State) → IsTabled schema old → Lasts old new → (HasCleanDisk old → HasCleanDisk new → Rests old new) → RestedIn schema old new
-rested {schema} old new hall lasts h =
+pub stayed : {schema : Schema} (old new : State) → IsTabled schema old → Lasts old new → (HasCleanDisk old → HasCleanDisk new → Rests old new) → StayedIn schema old new
+stayed {schema} old new hall lasts h =
     let before = λ (clean : HasCleanDisk new). let was : HasCleanDisk old = omega (arith, lasts.clean, clean) in was in
     let it = λ (clean : HasCleanDisk new). h (before clean) clean in
     let held = λ (clean : HasCleanDisk new) (opens : IsTrue new.is_open). hall.settled (before clean) (was_open old new (it clean) opens) in
@@ -80,6 +80,11 @@ rested {schema} old new hall lasts h =
       follows = record { lasts = lasts; opened = λ clean opens. was_open old new (it clean) opens };
       same = λ clean opens. (same clean opens).0;
     }
+
+-- and adds no outcome
+pub rested : {schema : Schema} (old new : State) → IsTabled schema old → Lasts old new → (HasCleanDisk old → HasCleanDisk new → Rests old new) → AddsNoOutcome old new
+    → RestedIn schema old new
+rested old new hall lasts h stops = let it = stayed old new hall lasts h in record { tabled = it.tabled; follows = it.follows; same = it.same; stops = stops }
 
 -- a query answers rows and changes nothing
 module _ (sql : List ℕ) (params : Row) (old new : State) (rows : List Row) (plain : IsPlain (understood old.now.schema sql)) (h : Shown sql params old new rows) where

@@ -14,11 +14,11 @@ use Rattle.hall_sql.specs.Tables.{hall_schema}
 use Rattle.hall_sql.specs.Rows.{world_of}
 use Rattle.hall_sql.specs.Standing.{Lasts, Rests}
 use Rattle.hall_sql.specs.Inside.{IsHallData, Carries, Steps, Did, Tells}
-use Rattle.hall_sql.proofs.LastLemmas.{last_none, last_then}
+use Rattle.hall_sql.proofs.LastLemmas.{last_none, last_then, quiet_none, quiet_then}
 use Rattle.hall_sql.proofs.CallLemmas.{query_refused, shown_unchanged}
 
 pub carries_none : (s : State) → Carries s s
-carries_none s = record { lasts = last_none s; kept = λ clean inside. record { was_open = λ h. h; committed = λ h. refl } }
+carries_none s = record { lasts = last_none s; kept = λ clean inside. record { was_open = λ h. h; committed = λ h. refl }; stops = quiet_none s }
 
 pub carries_then : (a b c : State) → Carries a b → (HasCleanDisk b → IsTrue a.in_transaction → IsTrue b.in_transaction) → Carries b c → Carries a c
 carries_then a b c one goes two = record {
@@ -28,6 +28,7 @@ carries_then a b c one goes two = record {
       let p = one.kept mid inside in
       let q = two.kept clean (goes mid inside) in
       record { was_open = λ h. p.was_open (q.was_open h); committed = λ h. q.committed h ∙ p.committed (q.was_open h) };
+  stops = quiet_then a b c one.stops two.lasts two.stops;
 }
 
 pub steps_then : (a b c : State) → Steps a b → Steps b c → Steps a c

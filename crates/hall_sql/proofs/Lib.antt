@@ -4,12 +4,14 @@ pub mod CallLemmas
 pub mod CauseLemmas
 pub mod WriteCauseLemmas
 pub mod Written
+pub mod ShowsNothing
 pub mod AskedLemmas
 pub mod ColumnLemmas
 pub mod MapLemmas
 pub mod FoundLemmas
 pub mod InsertLemmas
 pub mod WriteLemmas
+pub mod StopLemmas
 pub mod UpdateLemmas
 pub mod QuietLemmas
 pub mod ReplaceLemmas
@@ -74,6 +76,7 @@ pub mod SelectedLemmas
 pub mod FeedListings
 pub mod EachLemmas
 pub mod OpenedLemmas
+pub mod StoppedLemmas
 pub mod RecordParts
 pub mod UnreadLemmas
 pub mod WholeRows

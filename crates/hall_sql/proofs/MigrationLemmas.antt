@@ -13,10 +13,10 @@ use Rattle.hall_sql.specs.declared.migration.Migrated.{Migrated}
 use Rattle.hall_sql.specs.declared.migration.Migrated.TheVariants.{Done, Occupied}
 use Rattle.hall_sql.specs.declared.rows.Rows.{Rows}
 use Rattle.hall_sql.specs.AllRead.{AreAllRead, IsRead}
-use Rattle.hall_sql.specs.Fill.{Fills}
-use Rattle.hall_sql.specs.Migrate.{TookWorld, HoldsOther, Leaves, Migrates, Takes, WasBefore, old_content_of}
+use Rattle.hall_sql.specs.Fill.{AreFilled, Fills}
+use Rattle.hall_sql.specs.Migrate.{TookWorld, HoldsOther, Leaves, Migrates, StopsAtWorld, Takes, WasBefore, old_content_of}
 use Rattle.hall_sql.specs.Rows.{tester_in, world_of}
-use Rattle.hall_sql.specs.Standing.{IsBare, IsHall, Rested, RestedAny, RestedIn, content_of}
+use Rattle.hall_sql.specs.Standing.{AddsOutcomes, IsBare, IsHall, Rested, RestedAny, RestedIn, content_of}
 use Rattle.hall_sql.specs.declared.testers.TheConstants.{ALL_TESTERS}
 use Rattle.hall_sql.specs.Tables.{hall_schema, old_schema}
 use Rattle.hall_sql.specs.Whole.{AreRecords}
@@ -26,7 +26,7 @@ use Rattle.hall_sql.proofs.AllRead.{all_bare, bare_read, read_before, testers_re
 use Rattle.hall_sql.proofs.FillLemmas.{FillsWorlds, fills_read, fills_worlds}
 use Rattle.hall_sql.proofs.FilledWorlds.{filled_whole}
 use Rattle.hall_sql.proofs.LastLemmas.{follows_leads}
-use Rattle.hall_sql.proofs.StoreLemmas.{always, over_hall, rested_hall, rests_on}
+use Rattle.hall_sql.proofs.StoreLemmas.{always, over_hall, rested_hall, rested_stayed, rests_on, stays_on}
 use Rattle.hall_sql.proofs.TransactionLemmas.{rests_itself}
 use Rattle.hall_sql.proofs.WholeRows.{bare_rows, bare_world, none_counted, nothing_kept, one_rows, one_world, rows_counted}
 
@@ -116,12 +116,49 @@ filled_takes old new world rows count are bare is empties leads filled clean =
       before = inl (none, is ∙ rows_counted world rows are);
     }
 
+-- what a stop leaves of tables that had no row, and are filled
+pub filled_stops : (old new : State) (world : World) (rows : Rows) → AreRowsOf world rows → world.testers ≡ empty → IsEmptyIn old → Leads (content_of old) (content_of new)
+    → (IsTrue old.is_open → AddsOutcomes (AreFilled rows old.now) old new) → IsTrue old.is_open → StopsAtWorld world old new
+filled_stops old new world rows are bare empties leads outcomes opens clean left it = elim (outcomes opens clean it.0 it.1) [
+  | inl earlier ↦ inl (it.0, earlier, it.2)
+  | inr made ↦
+      let none : IsBare hall_schema old.now = empties (leads.honest clean) opens in
+      inr (
+        opens,
+        it.2 ∙ ap world_of made.2
+            ∙ filled_whole world (world_of made.0.trees) rows are
+            (subst (λ (w : World). FillsWorlds rows w (world_of made.0.trees)) (bare_empty old.now none) (fills_worlds rows old.now made.0 made.1))
+            ∙ sym (bare_world world bare),
+      )
+]
+
+-- what a stop leaves of tables that rest
+pub rested_stops : (old new : State) (world : World) → Rested old new → StopsAtWorld world old new
+rested_stops old new world rested clean left it = inl (it.0, rested.stops clean it.0 it.1, it.2)
+
+-- and of those that rested before they were filled
+pub stops_after : (old mid new : State) (world : World) → Rested old mid → (HasCleanDisk mid → IsTrue mid.is_open) → Leads (content_of mid) (content_of new)
+    → (IsTrue mid.is_open → StopsAtWorld world mid new) → StopsAtWorld world old new
+stops_after old mid new world rested serves leads stops clean left it =
+    let was = leads.honest clean in
+    let opens = serves was in
+    elim (stops opens clean left it) [
+      | inl earlier ↦ inl (earlier.0, rested.stops was earlier.0 earlier.1, earlier.2)
+      | inr made ↦ inr (rested.follows.opened was opens, made.1)
+    ]
+
+-- whatever is answered, a target that was left or filled leads on
+pub leaves_leads : (old new : State) (result : Result Migrated StoreFault) → Leaves old new result → Leads (content_of old) (content_of new)
+leaves_leads old new (Ok (Done count)) leaves = leaves
+leaves_leads old new (Ok Occupied) leaves = follows_leads old new leaves.follows
+leaves_leads old new (Err fault) leaves = follows_leads old new leaves.follows
+
 -- a target that took after it rested
 pub leaves_after : (old mid new : State) (result : Result Migrated StoreFault) → Rested old mid → Leaves mid new result → Leaves old new result
 leaves_after old mid new (Ok (Done count)) rested leaves =
     leads_then (content_of old) (content_of mid) (content_of new) (follows_leads old mid rested.follows) leaves
 leaves_after old mid new (Ok Occupied) rested leaves = rests_on old mid new rested leaves
-leaves_after old mid new (Err fault) rested leaves = rests_on old mid new rested leaves
+leaves_after old mid new (Err fault) rested leaves = stays_on old mid new rested leaves
 
 was_after : (old mid new : State) (world : World) (count : ℕ) → Rested old mid → HasCleanDisk mid → IsTrue mid.is_open
     → WasBefore world count mid new → WasBefore world count old new
@@ -187,12 +224,17 @@ pub migrated : (was now before after : State) (rows : Rows) (result : Result Mig
     → (HasCleanDisk now → IsTrue now.is_open × AreRowsOf (without_testers (world_of now.now.trees)) rows)
     → (HasCleanDisk now → AreAllRead old_schema was.now.trees)
     → Leaves before after result
+    → ((world : World) → AreRowsOf world rows → world.testers ≡ empty → StopsAtWorld world before after)
     → ((world : World) → AreRowsOf world rows → world.testers ≡ empty → Takes world before after result)
     → Migrates was now before after result
-migrated was now before after rows result rested told read leaves takes = record {
+migrated was now before after rows result rested told read leaves stops takes = record {
   source = rested;
   read = λ clean. always result (AreAllRead old_schema was.now.trees) (read clean);
   target = leaves;
+  stops = λ clean.
+      let it = told clean in
+      subst (λ (d : Database). StopsAtWorld (without_testers (world_of d.trees)) before after) (rested.same clean it.0)
+      (stops (without_testers (world_of now.now.trees)) it.1 refl);
   taken = λ clean.
       let it = told clean in
       subst (λ (d : Database). Takes (without_testers (world_of d.trees)) before after result) (rested.same clean it.0)
@@ -206,6 +248,7 @@ unmigrated was now before fault (Ok done) is rested hall = absurd is
 unmigrated was now before fault (Err e) is rested hall = record {
   source = rested;
   read = λ clean. tt;
-  target = rests_itself before hall;
+  target = rested_stayed (rests_itself before hall);
+  stops = λ clean h left it. inl it;
   taken = λ clean. tt;
 }

@@ -90,7 +90,7 @@ apart : {A B : Type 0} (R : A → B → Type 0) (rows : List A) (b : B) (bs : Li
 apart R [] b bs some none = some
 apart R (row ∷ rows) b bs some none = none
 
-never_both : (db : Trees) → IsSound hall_schema db → IsSound no_schema db → ⊥
+pub never_both : (db : Trees) → IsSound hall_schema db → IsSound no_schema db → ⊥
 never_both db hall none = apart _ _ _ _ hall.lists.listed.tables none.lists.listed.tables
 
 same_world : (db : Trees) (one other : World) → StandsFor db one → StandsFor db other → one ≡ other

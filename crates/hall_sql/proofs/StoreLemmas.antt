@@ -1,17 +1,20 @@
 -- From what a statement leaves to what the trait of stores says.
 use Rattle.std.proofs.Common.{◌≡◌, ℕ, List, Option, IsTrue, Result, Ok, Err, IfOk, sym, ap, subst, ◌∙◌, arith}
+use Rattle.sqlite_trees.specs.declared.store.Store.{Ghosts}
+use Rattle.sqlite.specs.Tree.{Trees}
+use Rattle.sqlite.specs.Held.{Held, state}
 use Rattle.sqlite.specs.Effect.{Database}
 use Rattle.sqlite.specs.Order.{Row}
 use Rattle.sqlite.specs.State.{State, HasCleanDisk}
 use Rattle.hall_policy.specs.World.{World}
-use Rattle.hall_store.specs.Store.{Kept, Served}
+use Rattle.hall_store.specs.Store.{IsSettled, Kept, Served}
 use Rattle.sqlite.specs.Schema.{Schema}
 use Rattle.hall_sql.specs.Tables.{hall_schema}
 use Rattle.hall_sql.specs.Rows.{world_of}
 use Rattle.hall_sql.specs.Cause.{AreRead}
 use Rattle.hall_sql.specs.Whole.{AreRecords}
-use Rattle.hall_sql.specs.Standing.{AreKeyedIn, IsHall, IsOver, IsTabled, Rested, RestedAny, RestedIn, content_of}
-use Rattle.hall_sql.proofs.LastLemmas.{follows_leads, last_then}
+use Rattle.hall_sql.specs.Standing.{AreKeyedIn, IsHall, IsOver, IsTabled, Rested, RestedAny, RestedIn, StayedIn, content_of}
+use Rattle.hall_sql.proofs.LastLemmas.{follows_leads, last_then, quiet_then}
 
 -- the hall's tables are tables of a schema
 pub over_hall : {Fits : Schema → Type 0} {s : State} → IsHall s → Fits hall_schema → IsOver Fits s
@@ -57,12 +60,31 @@ rested_kept old new rested =
       counts = leads.counts;
       lasts = leads.lasts;
       writes = omega arith;
+      stops = λ clean left it. (it.0, rested.stops clean it.0 it.1, it.2);
       world = λ clean opens. ap (λ (d : Database). world_of d.trees) (rested.same clean opens);
     }
 
 -- a call that rests after one that did
 pub rests_on : {schema : Schema} (old mid new : State) → RestedIn schema old mid → RestedIn schema mid new → RestedIn schema old new
 rests_on old mid new first second =
+    let before = λ (clean : HasCleanDisk new). let was : HasCleanDisk mid = omega (arith, second.follows.lasts.clean, clean) in was in
+    record {
+      tabled = second.tabled;
+      follows = record {
+        lasts = last_then old mid new first.follows.lasts second.follows.lasts;
+        opened = λ clean opens. first.follows.opened (before clean) (second.follows.opened clean opens);
+      };
+      same = λ clean opens. second.same clean opens ∙ first.same (before clean) (second.follows.opened clean opens);
+      stops = quiet_then old mid new first.stops second.follows.lasts second.stops;
+    }
+
+-- where no outcome was added, the tables stayed
+pub rested_stayed : {schema : Schema} {old new : State} → RestedIn schema old new → StayedIn schema old new
+rested_stayed rested = record { tabled = rested.tabled; follows = rested.follows; same = rested.same }
+
+-- and stayed over a call that rests before one after which they stayed
+pub stays_on : {schema : Schema} (old mid new : State) → RestedIn schema old mid → StayedIn schema mid new → StayedIn schema old new
+stays_on old mid new first second =
     let before = λ (clean : HasCleanDisk new). let was : HasCleanDisk mid = omega (arith, second.follows.lasts.clean, clean) in was in
     record {
       tabled = second.tabled;
@@ -83,3 +105,9 @@ pub read_whole : {X : Type 0} (read : Row → Option X) (sql : List ℕ) (params
     → AreRead read sql params old new records → AreRecords read sql params old new
 read_whole read sql params old new records it =
     record { rows = it.1.rows; records = records; reads = it.1.reads; shown = it.1.shown }
+
+-- at rest, while the store serves, a stop leaves its world
+pub settled_at : {S : Type 0} (g : Ghosts S) → ((s : S) (db : Trees) → IsTrue (g.view s).is_open → g.recovers s db → db ≡ (g.view s).committed)
+    → (held : Held S) → IsHall (state g held) → IsSettled (content_of (state g held))
+settled_at g law held hall clean opens left it =
+    it.2 ∙ ap world_of (law held.store it.0 opens it.1 ∙ sym (ap (λ (d : Database). d.trees) (hall.settled clean opens).0))

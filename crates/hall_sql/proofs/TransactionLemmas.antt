@@ -5,20 +5,21 @@ use Rattle.sqlite.specs.declared.error.Error.{Error}
 use Rattle.sqlite.specs.Effect.{Database}
 use Rattle.sqlite.specs.Schema.{Schema}
 use Rattle.sqlite.specs.Held.{Held, state}
-use Rattle.sqlite.specs.State.{State, HasCleanDisk, KeepsCounts, IsRolledBack, Shows}
+use Rattle.sqlite.specs.Tree.{Trees}
+use Rattle.sqlite.specs.State.{State, HasCleanDisk, KeepsCounts, IsRolledBack, Shows, Survives}
 use Rattle.sqlite.specs.Steps.{FailsToCommit}
 use Rattle.hall_store.specs.Store.{Leads}
 use Rattle.hall_store.specs.declared.change.Change.{Change}
 use Rattle.hall_sql.specs.Rows.{world_of}
 use Rattle.hall_sql.specs.Spared.{may_write, Spares}
-use Rattle.hall_sql.specs.Standing.{Lasts, AreAllKeyed, IsHall, IsTabled, Rested, RestedIn, Wrote, content_of, without_limit}
+use Rattle.hall_sql.specs.Standing.{AddsNoOutcome, AddsOutcomes, Lasts, AreAllKeyed, IsHall, IsTabled, Rested, RestedIn, Stayed, Wrote, content_of, without_limit}
 use Rattle.hall_sql.specs.Inside.{IsHallData, Carries, Did, Changes}
-use Rattle.hall_sql.proofs.LastLemmas.{last_none, last_then, last_begun}
-use Rattle.hall_sql.proofs.WriteLemmas.{made_wrote, rested_wrote}
+use Rattle.hall_sql.proofs.LastLemmas.{last_none, last_then, last_begun, quiet, quiet_none, quiet_then, survived}
+use Rattle.hall_sql.proofs.WriteLemmas.{StopsAt, made_wrote, rested_wrote, stayed_wrote}
 
 -- what changes nothing rests
 pub rests_itself : {schema : Schema} (s : State) → IsTabled schema s → RestedIn schema s s
-rests_itself s hall = record { tabled = hall; follows = record { lasts = last_none s; opened = λ clean opens. opens }; same = λ clean opens. refl }
+rests_itself s hall = record { tabled = hall; follows = record { lasts = last_none s; opened = λ clean opens. opens }; same = λ clean opens. refl; stops = quiet_none s }
 
 -- and wrote nothing, where it is refused
 pub wrote_nothing : {R E : Type 0} (change : Change) (s : State) (fault : E) → IsHall s → Wrote {R = R} change s s (Err fault)
@@ -50,9 +51,9 @@ module _ {S : Type 0} (g : Ghosts S) (held : Held S) (hall : IsHall (state g hel
   base = state g (record held { in_transaction = true })
 
   -- rolled back, the content is as it was
-  pub rolled_rested : (mid end : State) → Carries base mid → Lasts mid end → end.in_transaction ≡ false
-      → (HasCleanDisk end → IsRolledBack mid end) → Rested (state g held) end
-  rolled_rested mid end carries lasts ended rolled =
+  pub rolled_stayed : (mid end : State) → Carries base mid → Lasts mid end → end.in_transaction ≡ false
+      → (HasCleanDisk end → IsRolledBack mid end) → Stayed (state g held) end
+  rolled_stayed mid end carries lasts ended rolled =
       let now : HasCleanDisk end → HasCleanDisk mid = λ (clean : HasCleanDisk end). let was : HasCleanDisk mid = omega (arith, lasts.clean, clean) in was in
       let before : HasCleanDisk end → HasCleanDisk (state g held) = λ (clean : HasCleanDisk end). let was : HasCleanDisk base = omega (arith, carries.lasts.clean, lasts.clean, clean) in was in
       let keeps = λ (clean : HasCleanDisk end). carries.kept (now clean) refl in
@@ -72,29 +73,73 @@ module _ {S : Type 0} (g : Ghosts S) (held : Held S) (hall : IsHall (state g hel
         same = same;
       }
 
-  -- rolled back, the world was left
-  pub rolled_wrote : {R E : Type 0} (change : Change) (fault : E) (mid end : State) → Carries base mid → Lasts mid end → end.in_transaction ≡ false
+  -- rolled back by a call that commits nothing, no outcome is added
+  pub rolled_rested : (mid end : State) → Carries base mid → Lasts mid end → AddsNoOutcome mid end → end.in_transaction ≡ false
+      → (HasCleanDisk end → IsRolledBack mid end) → Rested (state g held) end
+  rolled_rested mid end carries lasts stops ended rolled =
+      let it = rolled_stayed mid end carries lasts ended rolled in
+      record { tabled = it.tabled; follows = it.follows; same = it.same; stops = quiet_then (state g held) mid end carries.stops lasts stops }
+
+  -- and the world was left
+  pub rolled_wrote : {R E : Type 0} (change : Change) (fault : E) (mid end : State) → Carries base mid → Survives mid end (λ _. ⊥) → end.in_transaction ≡ false
       → (HasCleanDisk end → IsRolledBack mid end) → Wrote {R = R} change (state g held) end (Err fault)
-  rolled_wrote change fault mid end carries lasts ended rolled = rested_wrote change (state g held) end fault (rolled_rested mid end carries lasts ended rolled)
+  rolled_wrote change fault mid end carries survives ended rolled =
+      rested_wrote change (state g held) end fault (rolled_rested mid end carries (survived mid end _ survives) (quiet mid end survives) ended rolled)
+
+  -- what a commit of what was done may leave
+  pub commit_outcomes : (Does : Database → Database → Type 0) (mid end : State) → Carries base mid → (HasCleanDisk mid → IsTrue base.in_transaction → Did Does base mid)
+      → Survives mid end (λ db. db ≡ mid.now.trees) → IsTrue (state g held).is_open
+      → AddsOutcomes (λ db. (d : Database) × Does (state g held).now d × (db ≡ d.trees)) (state g held) end
+  commit_outcomes Does mid end carries did survives opens clean db may =
+      let clean_mid : HasCleanDisk mid = omega (arith, survives.clean, clean) in
+      let was : HasCleanDisk base = omega (arith, carries.lasts.clean, clean_mid) in
+      elim (survives.crash clean db may) [
+        | inl earlier ↦ inl (carries.stops clean_mid db earlier)
+        | inr is ↦
+            let ours : IsHallData base.now = record { schema = (hall.settled was opens).1; keyed = hall.keyed was opens } in
+            inr (mid.now, (did clean_mid refl).does ours, is)
+      ]
+
+  -- and where nothing was committed
+  pub rolled_outcomes : (Among : Trees → Type 0) (mid end : State) → Carries base mid → Survives mid end (λ _. ⊥) → AddsOutcomes Among (state g held) end
+  rolled_outcomes Among mid end carries survives clean db may =
+      let clean_mid : HasCleanDisk mid = omega (arith, survives.clean, clean) in
+      inl (carries.stops clean_mid db (quiet mid end survives clean db may))
+
+  -- what a commit of the change may leave
+  commit_stops : (change : Change) (mid end : State) → Carries base mid → (HasCleanDisk mid → IsTrue base.in_transaction → Did (Changes change) base mid)
+      → Survives mid end (λ db. db ≡ mid.now.trees) → StopsAt change (state g held) end
+  commit_stops change mid end carries did survives opens clean db may =
+      let clean_mid : HasCleanDisk mid = omega (arith, survives.clean, clean) in
+      let was : HasCleanDisk base = omega (arith, carries.lasts.clean, clean_mid) in
+      elim (survives.crash clean db may) [
+        | inl earlier ↦ inl (carries.stops clean_mid db earlier)
+        | inr is ↦
+            let ours : IsHallData base.now = record { schema = (hall.settled was opens).1; keyed = hall.keyed was opens } in
+            inr (ap world_of is ∙ ((did clean_mid refl).does ours).world)
+      ]
 
   -- so it was where the commit was refused
-  pub refused_wrote : {R E : Type 0} (change : Change) (fault : E) (error : Error) (Does : Database → Database → Type 0) (mid end : State)
-      → Carries base mid → (HasCleanDisk mid → IsTrue base.in_transaction → Did Does base mid)
-      → Lasts mid end → end.in_transaction ≡ false
+  pub refused_wrote : {R E : Type 0} (change : Change) (fault : E) (error : Error) (mid end : State)
+      → Carries base mid → (HasCleanDisk mid → IsTrue base.in_transaction → Did (Changes change) base mid)
+      → Survives mid end (λ db. db ≡ mid.now.trees) → end.in_transaction ≡ false
       → (HasCleanDisk end → FailsToCommit mid end error) → Wrote {R = R} change (state g held) end (Err fault)
-  refused_wrote change fault error Does mid end carries did lasts ended fails =
-      rolled_wrote change fault mid end carries lasts ended (λ clean.
+  refused_wrote change fault error mid end carries did survives ended fails =
+      let lasts = survived mid end _ survives in
+      stayed_wrote change (state g held) end fault (commit_stops change mid end carries did survives) (rolled_stayed mid end carries lasts ended (λ clean.
       let was : HasCleanDisk mid = omega (arith, lasts.clean, clean) in
-      commit_refused mid end error (did was refl).steps.mode (fails clean))
+      commit_refused mid end error (did was refl).steps.mode (fails clean)))
 
   -- committed, the change is made
   pub committed_wrote : {R E : Type 0} (change : Change) (done : R) (mid end : State)
       → Carries base mid → (HasCleanDisk mid → IsTrue base.in_transaction → Did (Changes change) base mid)
-      → Lasts mid end → end.in_transaction ≡ false
+      → Survives mid end (λ db. db ≡ mid.now.trees) → end.in_transaction ≡ false
       → (HasCleanDisk end → IsTrue mid.in_transaction × Shows mid end mid.now mid.now false × KeepsCounts mid end × (end.marks ≡ []))
       → Wrote {E = E} change (state g held) end (Ok done)
-  committed_wrote change done mid end carries did lasts ended ok =
-      made_wrote change (state g held) end done hall (last_then (state g held) mid end (last_begun g held mid carries.lasts) lasts) (λ was clean.
+  committed_wrote change done mid end carries did survives ended ok =
+      let lasts = survived mid end _ survives in
+      made_wrote change (state g held) end done hall (last_then (state g held) mid end (last_begun g held mid carries.lasts) lasts)
+      (commit_stops change mid end carries did survives) (λ was clean.
       let clean_mid : HasCleanDisk mid = omega (arith, lasts.clean, clean) in
       let shown = (ok clean).1 in
       let opened = (carries.kept clean_mid refl).was_open shown.was_open in

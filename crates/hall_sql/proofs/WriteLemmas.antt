@@ -1,5 +1,5 @@
 -- From what a statement that writes leaves to what the trait of stores says.
-use Rattle.std.proofs.Common.{◌≡◌, inl, ℕ, ℤ, pos, List, Bool, true, false, cond, if◌then◌else◌, IsTrue, Result, Ok, Err, OnOk, OnErr, None, refl, sym, ap, subst, ◌∙◌, arith}
+use Rattle.std.proofs.Common.{◌≡◌, inl, inr, ℕ, ℤ, pos, List, Bool, true, false, cond, if◌then◌else◌, IsTrue, IsErrAnd, Result, Ok, Err, OnOk, OnErr, None, refl, sym, ap, subst, ◌∙◌, arith}
 use Rattle.sqlite.specs.declared.types.Value.{Value}
 use Rattle.sqlite.specs.declared.types.Value.TheVariants.{Null, Int}
 use Rattle.sqlite.specs.Cast.{cast}
@@ -10,17 +10,17 @@ use Rattle.sqlite.specs.Effect.{Database}
 use Rattle.sqlite.specs.State.{State, HasCleanDisk, Writes}
 use Rattle.sqlite_schema.specs.declared.command.Command.{Command}
 use Rattle.hall_policy.specs.World.{World}
-use Rattle.hall_store.specs.Store.{Made}
+use Rattle.hall_store.specs.Store.{LeavesOneOf, Made}
 use Rattle.hall_store.specs.Change.{changed}
 use Rattle.hall_store.specs.declared.change.Change.{Change}
 use Rattle.hall_sql.specs.Tables.{hall_schema}
 use Rattle.hall_sql.specs.Rows.{world_of}
 use Rattle.hall_sql.specs.Spared.{may_write, Spares}
-use Rattle.hall_sql.specs.Standing.{Lasts, AreAllKeyed, IsHall, Rested, HasMade, Wrote, without_limit, content_of}
+use Rattle.hall_sql.specs.Standing.{AddsNoOutcome, AddsOutcomes, Lasts, AreAllKeyed, IsHall, Rested, Stayed, HasMade, Wrote, without_limit, content_of}
 use Rattle.hall_store.proofs.Knowing.{leads_then}
 use Rattle.hall_sql.proofs.LastLemmas.{follows_leads}
 use Rattle.hall_sql.proofs.SparedLemmas.{same_spared}
-use Rattle.hall_sql.proofs.StoreLemmas.{rests_on}
+use Rattle.hall_sql.proofs.StoreLemmas.{rested_stayed, stays_on}
 
 -- a write outside a transaction is committed
 pub writes_hall : (old new : State) (command : Command) (text : List ℕ) (given : Row) (count : ℕ) → old.in_transaction ≡ false
@@ -32,10 +32,26 @@ writes_hall old new command text given count mode w has keyed = record {
   settled = λ clean opens. (sym (w.shown.committed_is ∙ ap (λ b. if b then old.committed else new.now) mode), has);
 }
 
+-- where the store served, a stop leaves what it could leave before, or tables of the world that the change makes
+abbrev pub StopsAt : Change → State → State → Type 0
+StopsAt change old new = IsTrue old.is_open → AddsOutcomes (λ db. world_of db ≡ changed change (world_of old.now.trees)) old new
+
+-- so it is told of worlds
+pub stops_at : (change : Change) (old new : State) → StopsAt change old new → IsTrue old.is_open
+    → LeavesOneOf (λ before left. left ≡ changed change before) (content_of old) (content_of new)
+stops_at change old new stops opens clean left it = elim (stops opens clean it.0 it.1) [
+  | inl earlier ↦ inl (it.0, earlier, it.2)
+  | inr made ↦ inr (opens, it.2 ∙ made)
+]
+
+-- and where no outcome was added
+pub no_stops : (change : Change) (old new : State) → AddsNoOutcome old new → StopsAt change old new
+no_stops change old new stops opens clean db may = inl (stops clean db may)
+
 -- a statement that ran makes the change
 pub made_wrote : {R E : Type 0} (change : Change) (old new : State) (done : R) → IsHall old → Lasts old new
-    → (HasCleanDisk old → HasCleanDisk new → HasMade change old new) → Wrote {E = E} change old new (Ok done)
-made_wrote change old new done hall lasts made =
+    → StopsAt change old new → (HasCleanDisk old → HasCleanDisk new → HasMade change old new) → Wrote {E = E} change old new (Ok done)
+made_wrote change old new done hall lasts stops made =
     let before = λ (clean : HasCleanDisk new). let was : HasCleanDisk old = omega (arith, lasts.clean, clean) in was in
     let it = λ (clean : HasCleanDisk new). made (before clean) clean in
     record {
@@ -53,6 +69,7 @@ made_wrote change old new done hall lasts made =
           lasts = λ clean opens. inl (it clean).serves;
         };
         once = omega arith;
+        stops = stops_at change old new stops;
         made = λ clean. ((it clean).serves, (it clean).world);
       };
       others = λ clean. (it clean).others;
@@ -60,17 +77,28 @@ made_wrote change old new done hall lasts made =
     }
 
 -- and one that is refused leaves the tables
-pub rested_wrote : {R E : Type 0} (change : Change) (old new : State) (fault : E) → Rested old new → Wrote {R = R} change old new (Err fault)
-rested_wrote change old new fault rested = record {
+pub stayed_wrote : {R E : Type 0} (change : Change) (old new : State) (fault : E) → StopsAt change old new → Stayed old new → Wrote {R = R} change old new (Err fault)
+stayed_wrote change old new fault stops rested = record {
   hall = rested.tabled;
   makes = record {
     leads = follows_leads old new rested.follows;
     once = omega arith;
+    stops = stops_at change old new stops;
     made = λ clean opens. ap (λ (d : Database). world_of d.trees) (rested.same clean opens);
   };
   others = λ clean. tt;
   refused = rested;
 }
+
+-- so does a call that rests
+pub rested_wrote : {R E : Type 0} (change : Change) (old new : State) (fault : E) → Rested old new → Wrote {R = R} change old new (Err fault)
+rested_wrote change old new fault rested = stayed_wrote change old new fault (no_stops change old new rested.stops) (rested_stayed rested)
+
+-- so does a call that rests before it
+pub rested_wrote_as : {R E : Type 0} (change : Change) (old new : State) (fault : E) (result : Result R E) → IsErrAnd result (λ e. e ≡ fault) → Rested old new
+    → Wrote change old new result
+rested_wrote_as change old new fault (Ok done) is rested = absurd is
+rested_wrote_as change old new fault (Err e) is rested = rested_wrote change old new e rested
 
 -- a write after a query that left the world
 pub rested_then : {R E : Type 0} (change : Change) (old mid new : State) (result : Result R E) → Rested old mid
@@ -84,6 +112,10 @@ rested_then {R} {E} change old mid new result rested serves wrote =
       makes = record {
         leads = leads_then (content_of old) (content_of mid) (content_of new) (follows_leads old mid rested.follows) wrote.makes.leads;
         once = omega arith;
+        stops = λ opens clean left it. elim (wrote.makes.stops (serves (before clean)) clean left it) [
+          | inl earlier ↦ inl (earlier.0, rested.stops (before clean) earlier.0 earlier.1, earlier.2)
+          | inr made ↦ inr (opens, made.1 ∙ ap (changed change) (world clean))
+        ];
         made = by result wrote.makes.made world;
       };
       others = λ clean. subst (λ (d : Database). OnOk result (Spares (may_write change) d.trees new.now.trees)) (same clean) (wrote.others clean);
@@ -94,9 +126,9 @@ rested_then {R} {E} change old mid new result rested serves wrote =
     by (Ok done) made world = λ clean. let it = made clean in (it.0, it.1 ∙ ap (changed change) (world clean))
     by (Err fault) made world = λ clean opens. made clean opens ∙ world clean
 
-    left : (result : Result R E) → OnErr result (Rested mid new) → OnErr result (Rested old new)
+    left : (result : Result R E) → OnErr result (Stayed mid new) → OnErr result (Stayed old new)
     left (Ok done) none = tt
-    left (Err fault) second = rests_on old mid new rested second
+    left (Err fault) second = stays_on old mid new rested second
 
 -- a query that left the world made a change that changes nothing
 pub rested_made : {R E : Type 0} (change : Change) (old new : State) (done : R) → Rested old new → (HasCleanDisk new → IsTrue new.is_open)
@@ -106,6 +138,7 @@ rested_made change old new done rested serves nothing = record {
   makes = record {
     leads = follows_leads old new rested.follows;
     once = omega arith;
+    stops = stops_at change old new (no_stops change old new rested.stops);
     made = λ clean.
         let world = ap (λ (d : Database). world_of d.trees) (rested.same clean (serves clean)) in
         (serves clean, sym (nothing clean) ∙ ap (changed change) world);
@@ -120,7 +153,15 @@ pub wrote_too : {R E : Type 0} (change other : Change) (old new : State) (result
     → Wrote change old new result → Wrote other old new result
 wrote_too {R} {E} change other old new result same wrote = record {
   hall = wrote.hall;
-  makes = record { leads = wrote.makes.leads; once = omega arith; made = by result wrote.makes.made wrote.makes.leads.honest };
+  makes = record {
+    leads = wrote.makes.leads;
+    once = omega arith;
+    stops = λ opens clean left it. elim (wrote.makes.stops opens clean left it) [
+      | inl earlier ↦ inl earlier
+      | inr made ↦ inr (opens, made.1 ∙ (same (wrote.makes.leads.honest clean)).0)
+    ];
+    made = by result wrote.makes.made wrote.makes.leads.honest;
+  };
   others = λ clean. subst (λ takes. OnOk result (Spares takes old.now.trees new.now.trees)) (same (wrote.makes.leads.honest clean)).1 (wrote.others clean);
   refused = wrote.refused;
 }

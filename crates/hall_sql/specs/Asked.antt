@@ -1,5 +1,5 @@
 -- The text of a query that is refused for no cause of its own.
-use Rattle.std.specs.Prelude.{◌≡◌, ◌&&◌, ℕ, Bool, true, false, List, [], length, nat_le, nat_eq, Result, Ok, Err}
+use Rattle.std.specs.Prelude.{◌≡◌, ◌&&◌, ℕ, Bool, true, false, List, [], length, nat_le, nat_eq, Result, Ok, Err, None}
 use Rattle.sqlite.specs.Order.{Row}
 use Rattle.sqlite.specs.Schema.{Schema}
 use Rattle.sqlite.specs.Tree.{Trees}
@@ -14,6 +14,15 @@ use Rattle.sqlite_typing.specs.Types.{accepts_program}
 use Rattle.sqlite_resolve.specs.declared.compiled.Compiled.{Compiled}
 use Rattle.sqlite_resolve.specs.declared.error.CompileError.{CompileError}
 use Rattle.hall_sql.specs.Tables.{hall_schema}
+
+-- it has no RETURNING
+abbrev pub HasNoReturning : Result Compiled CompileError → Type 0
+HasNoReturning (Ok c) = c.returning ≡ None
+HasNoReturning (Err fault) = Unit {0}
+
+-- the text shows nothing of a write, whatever the tables are
+abbrev pub ReturnsNothing : List ℕ → Type 0
+ReturnsNothing sql = (schema : Schema) → HasNoReturning (understood schema sql)
 
 -- the text is one statement, and takes so many parameters
 abbrev pub is_whole : List ℕ → ℕ → Result Compiled CompileError → Bool

@@ -13,7 +13,7 @@ use Rattle.hall_sql.specs.Columns.{person_params}
 use Rattle.hall_sql.specs.Tables.{hall_schema}
 use Rattle.hall_sql.specs.Rows.{world_of}
 use Rattle.hall_sql.specs.Spared.{may_write, Spares}
-use Rattle.hall_sql.specs.Standing.{AreAllKeyed, HasAdded, Lasts}
+use Rattle.hall_sql.specs.Standing.{AddsNoOutcome, AreAllKeyed, HasAdded, Lasts}
 
 -- the tables are the hall's, and no two rows of one have one rowid
 pub record IsHallData (held : Database) : Type 0 where
@@ -25,6 +25,7 @@ pub record IsHallData (held : Database) : Type 0 where
 pub record Carries (old new : State) : Type 0 where
   pub lasts : Lasts old new
   pub kept : HasCleanDisk new → IsTrue old.in_transaction → KeepsCommit old new
+  pub stops : AddsNoOutcome old new
 
 -- Where it ran, the transaction goes on, over the hall's tables.
 pub record Steps (old new : State) : Type 0 where

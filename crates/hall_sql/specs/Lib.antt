@@ -14,6 +14,7 @@ pub mod Scan
 pub mod Made
 pub mod Feed
 pub mod Opened
+pub mod Stopped
 pub mod Whole
 pub mod Asked
 pub mod Cause

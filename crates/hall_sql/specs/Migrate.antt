@@ -4,7 +4,7 @@ use Rattle.std.specs.FinMap.{empty, len}
 use Rattle.sqlite.specs.State.{State, HasCleanDisk}
 use Rattle.hall_policy.specs.World.{World}
 use Rattle.hall_store.specs.Maps.{empty_world}
-use Rattle.hall_store.specs.Store.{Content, Leads}
+use Rattle.hall_store.specs.Store.{Content, Leads, LeavesOneOf}
 use Rattle.hall_store.specs.declared.fault.StoreFault.{StoreFault}
 use Rattle.hall_sql.specs.declared.migration.Found.{Found}
 use Rattle.hall_sql.specs.declared.migration.Found.TheVariants.{Nothing, These, Others}
@@ -13,7 +13,7 @@ use Rattle.hall_sql.specs.declared.migration.Migrated.TheVariants.{Done, Occupie
 use Rattle.hall_sql.specs.declared.rows.Rows.{Rows}
 use Rattle.hall_sql.specs.AllRead.{AreAllRead}
 use Rattle.hall_sql.specs.Rows.{world_of}
-use Rattle.hall_sql.specs.Standing.{IsBare, Rested, RestedIn, content_of}
+use Rattle.hall_sql.specs.Standing.{IsBare, Rested, RestedIn, Stayed, content_of}
 use Rattle.hall_sql.specs.Tables.{hall_schema, old_schema}
 use Rattle.hall_sql.specs.WholeRows.{AreRowsOf, without_testers}
 
@@ -63,13 +63,18 @@ Takes world old new (Err fault) = Unit {0}
 abbrev pub Leaves : State → State → Result Migrated StoreFault → Type 0
 Leaves old new (Ok (Done count)) = Leads (content_of old) (content_of new)
 Leaves old new (Ok Occupied) = Rested old new
-Leaves old new (Err fault) = Rested old new
+Leaves old new (Err fault) = Stayed old new
+
+-- a stop leaves a world that it could leave of the target before, or this one, in a target that served
+abbrev pub StopsAtWorld : World → State → State → Type 0
+StopsAtWorld world old new = LeavesOneOf (λ before left. left ≡ world) (content_of old) (content_of new)
 
 -- The tables of the source are as they were, and the target takes the source's world, or is left. What it takes is told
 -- where the devices of both were honest to the end; and where the source's was, each row of the source is a record, or
--- the migration fails.
+-- the migration fails. A stop leaves the source, and the target's world before or the source's.
 pub record Migrates (was now before after : State) (result : Result Migrated StoreFault) : Type 0 where
   pub source : RestedIn old_schema was now
   pub read : HasCleanDisk now → IfOk result (λ _. AreAllRead old_schema was.now.trees)
   pub target : Leaves before after result
+  pub stops : HasCleanDisk now → StopsAtWorld (without_testers (world_of was.now.trees)) before after
   pub taken : HasCleanDisk now → Takes (without_testers (world_of was.now.trees)) before after result

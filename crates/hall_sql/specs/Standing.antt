@@ -44,6 +44,14 @@ AreKeyedIn schema trees = AllByRecursion (λ table. AreKeyed (trees table.tree))
 abbrev pub AreAllKeyed : Trees → Type 0
 AreAllKeyed = AreKeyedIn hall_schema
 
+-- a stop in the call, or after it, leaves a database that a stop before it could leave
+abbrev pub AddsNoOutcome : State → State → Type 0
+AddsNoOutcome old new = HasCleanDisk new → (db : Trees) → new.may_leave db → old.may_leave db
+
+-- a stop in the call, or after it, leaves a database that a stop before it could leave, or one of these
+abbrev pub AddsOutcomes : (Trees → Type 0) → State → State → Type 0
+AddsOutcomes Among old new = HasCleanDisk new → (db : Trees) → new.may_leave db → old.may_leave db ⊎ Among db
+
 -- No transaction is open, and the steps of a query have no limit. Where the store still serves, all is committed, and the
 -- tables are those of the schema.
 pub record IsTabled (schema : Schema) (s : State) : Type 0 where
@@ -77,10 +85,21 @@ abbrev pub Rests : State → State → Type 0
 Rests old new = IsUnchanged old new ⊎ IsRolledBack old new
 
 -- the tables are as they were, while the store serves, and still those of the schema
+pub record StayedIn (schema : Schema) (old new : State) : Type 0 where
+  pub tabled : IsTabled schema new
+  pub follows : Follows old new
+  pub same : HasCleanDisk new → IsTrue new.is_open → new.now ≡ old.now
+
+-- so it is with the hall's tables
+abbrev pub Stayed : State → State → Type 0
+Stayed = StayedIn hall_schema
+
+-- they are as they were, also after a stop
 pub record RestedIn (schema : Schema) (old new : State) : Type 0 where
   pub tabled : IsTabled schema new
   pub follows : Follows old new
   pub same : HasCleanDisk new → IsTrue new.is_open → new.now ≡ old.now
+  pub stops : AddsNoOutcome old new
 
 -- so it is with the hall's tables
 abbrev pub Rested : State → State → Type 0
@@ -104,7 +123,8 @@ pub record IsSelection (q : Query) (table : List Row) (params : Row) (rows : Lis
   pub shown : rows ≡ map (λ row. eval_all q.project (params ∷ row ∷ [])) found
 
 -- The content of a connection: it is honest while its disk is clean, serves while it is open, counts the disk's faults
--- and no writes, and its world is what its tables hold.
+-- and no writes, and its world is what its tables hold. A stop leaves the worlds of the databases that the next open may
+-- find.
 abbrev pub content_of : State → Content
 content_of s = record {
   honest = HasCleanDisk s;
@@ -112,6 +132,7 @@ content_of s = record {
   faults = s.faults;
   writes = 0;
   world = world_of s.now.trees;
+  may_leave = λ left. (db : Trees) × s.may_leave db × (left ≡ world_of db);
 }
 
 -- the table in this tree has one row more, with a rowid of its own, and each other table is as it was
@@ -150,7 +171,7 @@ pub record Wrote {R E : Type 0} (change : Change) (old new : State) (result : Re
   pub hall : IsHall new
   pub makes : Makes change (content_of old) (content_of new) result
   pub others : HasCleanDisk new → OnOk result (Spares (may_write change) old.now.trees new.now.trees)
-  pub refused : OnErr result (Rested old new)
+  pub refused : OnErr result (Stayed old new)
 
 -- the database has this schema, and its tables no rows
 pub record IsBare (schema : Schema) (held : Database) : Type 0 where

@@ -7,12 +7,12 @@ ghost use Rattle.hall_policy.specs.Rules.{answers_given};
 ghost use Rattle.hall_store.specs.Change.{CanAddAnswer};
 ghost use Rattle.hall_store.specs.declared.change.Change.TheVariants.{AddAnswer};
 ghost use Rattle.hall_policy.specs.Ranges.{IsAnswerRow};
-ghost use Rattle.sqlite.specs.State.{HasCleanDisk};
+ghost use Rattle.sqlite.specs.State.{HasCleanDisk, Survives, CommitsBy};
 ghost use Rattle.sqlite.specs.Values.{bound};
 ghost use Rattle.hall_sql.specs.Columns.{answer_params};
 ghost use Rattle.hall_sql.specs.Fill.{AddsAnswer};
 ghost use Rattle.hall_sql.specs.Inside.{Carries, Did};
-ghost use Rattle.hall_sql.specs.Standing.{IsHall, Rested, RestedAny, Wrote, content_of, Lasts};
+ghost use Rattle.hall_sql.specs.Standing.{IsHall, Rested, Stayed, RestedAny, Wrote, content_of, Lasts};
 ghost use Rattle.sqlite.specs.declared.types.Value.TheVariants.{Text, Int};
 ghost use Rattle.hall_sql.specs.Rows.{answer_in};
 ghost use Rattle.hall_sql.specs.Whole.{AreRecords};
@@ -283,7 +283,9 @@ fn columns(row: &AnswerRow) -> [ValueRef<'_>; 8]
 fn write<S: Alter>(conn: &mut Connection<S>, row: &AnswerRow) -> Result<usize, StoreFault>
     requires hall { IsHall (state S.Store conn.old) }
     ensures lasts { Lasts (state S.Store conn.old) (state S.Store conn.new) }
-    ensures refused { OnErr result (Rested (state S.Store conn.old) (state S.Store conn.new)) }
+    ensures refused { OnErr result (Stayed (state S.Store conn.old) (state S.Store conn.new)) }
+    ensures survives { Survives (state S.Store conn.old) (state S.Store conn.new)
+        (CommitsBy ADD_ANSWER.now (answer_params row.now) (state S.Store conn.old)) }
     ensures runs { HasCleanDisk (state S.Store conn.new) →
         Ran ADD_ANSWER.now (answer_params row.now) (state S.Store conn.old) (state S.Store conn.new) result }
 {

@@ -4,13 +4,14 @@ ghost use Rattle.sqlite.specs.Values.{bound};
 ghost use Rattle.sqlite.specs.Held.{state};
 ghost use Rattle.sqlite.specs.Given.{IsPlain};
 ghost use Rattle.sqlite.specs.Listing.{understood};
-ghost use Rattle.sqlite.specs.State.{HasCleanDisk, Shown, Executes, FailsToQuery};
+ghost use Rattle.sqlite.specs.State.{HasCleanDisk, Shown, Executes, FailsToQuery, Survives, CommitsBy};
 ghost use Rattle.sqlite.specs.declared.error.Error.{Error as Refusal};
 ghost use Rattle.sqlite.specs.declared.error.Error.TheVariants.{SqliteFailure};
 ghost use Rattle.sqlite.specs.declared.error.ErrorCode.TheVariants.{OutOfMemory};
 ghost use Rattle.hall_store.specs.Store.{Fails};
 ghost use Rattle.hall_store.specs.declared.fault.StoreFault.TheVariants.{Failed};
-ghost use Rattle.hall_sql.specs.Standing.{IsHall, IsOver, Rested, RestedAny, Lasts};
+ghost use Rattle.hall_sql.specs.Standing.{IsHall, IsOver, Rested, Stayed, RestedAny, Lasts};
+ghost use Rattle.hall_sql.specs.Asked.{ReturnsNothing};
 ghost use Rattle.hall_sql.specs.Inside.{Carries};
 ghost use Rattle.hall_sql.specs.WriteCause.{Ran, RefusesInside, RefusesToAsk};
 
@@ -35,6 +36,7 @@ pub(crate) fn ask<S: Alter>(
     params: &[ValueRef<'_>],
 ) -> Result<Vec<Row>, StoreFault>
     requires plain { IsOver (λ schema. IsPlain (understood schema sql.now)) (state S.Store conn.old) }
+    requires quiet { ReturnsNothing sql.now }
     ensures rested { RestedAny (state S.Store conn.old) (state S.Store conn.new) }
     ensures serves { HasCleanDisk (state S.Store conn.new) → IfOk result
         (λ _. IsTrue (state S.Store conn.new).is_open) }
@@ -57,7 +59,9 @@ pub(crate) fn run<S: Alter>(
 ) -> Result<usize, StoreFault>
     requires hall { IsHall (state S.Store conn.old) }
     ensures lasts { Lasts (state S.Store conn.old) (state S.Store conn.new) }
-    ensures refused { OnErr result (Rested (state S.Store conn.old) (state S.Store conn.new)) }
+    ensures refused { OnErr result (Stayed (state S.Store conn.old) (state S.Store conn.new)) }
+    ensures survives { Survives (state S.Store conn.old) (state S.Store conn.new)
+        (CommitsBy sql.now (bound params.now) (state S.Store conn.old)) }
     ensures runs { HasCleanDisk (state S.Store conn.new) →
         Ran sql.now (bound params.now) (state S.Store conn.old) (state S.Store conn.new) result }
 {

@@ -7,7 +7,7 @@ ghost use Rattle.sqlite.specs.State.{HasCleanDisk};
 ghost use Rattle.hall_store.specs.Store.{Fails, Fed, IsListing, is_in, protests_in};
 ghost use Rattle.hall_sql.specs.Asked.{IsAsked};
 ghost use Rattle.hall_sql.specs.Cause.{FeedFails};
-ghost use Rattle.hall_sql.specs.Standing.{IsHall, Rests, Rested, content_of, Lasts};
+ghost use Rattle.hall_sql.specs.Standing.{AddsNoOutcome, IsHall, Rests, Rested, content_of, Lasts};
 ghost use Rattle.hall_sql.specs.Feed.{Steps, StepFails, FedRows};
 ghost use Rattle.hall_sql.specs.Rows.{answer_in, protest_in};
 ghost use Rattle.hall_sql.specs.Whole.{AreRecords};
@@ -39,6 +39,7 @@ fn step<S: Alter, K: Sink<T>, T: Record + Drop>(
 ) -> Result<bool, StoreFault>
     ensures same_reference { rows.new.conn.ghost_name ≡ rows.old.conn.ghost_name }
     ensures lasts { Lasts (state S.Store rows.old.conn.now) (state S.Store rows.new.conn.now) }
+    ensures stops { AddsNoOutcome (state S.Store rows.old.conn.now) (state S.Store rows.new.conn.now) }
     ensures rests { HasCleanDisk (state S.Store rows.new.conn.now) →
         Rests (state S.Store rows.old.conn.now) (state S.Store rows.new.conn.now) }
     ensures stepped { IfOk result

@@ -5,9 +5,9 @@ ghost use Rattle.sqlite.specs.Held.{state};
 ghost use Rattle.sqlite.specs.State.{HasCleanDisk};
 ghost use Rattle.hall_policy.specs.Sink.{HasTaken};
 ghost use Rattle.hall_store.specs.Store.{Leads};
-ghost use Rattle.hall_sql.specs.Fill.{AddsAnswer, AddsHead, AddsPlace, AddsProtest, AddsPuzzle, Fills, PutsPerson};
+ghost use Rattle.hall_sql.specs.Fill.{AreFilled, AddsAnswer, AddsHead, AddsPlace, AddsProtest, AddsPuzzle, Fills, PutsPerson};
 ghost use Rattle.hall_sql.specs.Inside.{Carries, Did};
-ghost use Rattle.hall_sql.specs.Standing.{IsHall, Rested, content_of};
+ghost use Rattle.hall_sql.specs.Standing.{AddsOutcomes, IsHall, Stayed, content_of};
 
 use crate::calls::fault_of;
 use crate::people::add_person;
@@ -132,7 +132,9 @@ pub(crate) fn fill<S: Alter>(
     ensures leads { Leads (content_of (state S.Store conn.old)) (content_of (state S.Store conn.new)) }
     ensures filled { HasCleanDisk (state S.Store conn.new) → OnOk result (IsTrue (state S.Store conn.new).is_open
         × Fills rows.now (state S.Store conn.old).now (state S.Store conn.new).now) }
-    ensures refused { OnErr result (Rested (state S.Store conn.old) (state S.Store conn.new)) }
+    ensures stops { IsTrue (state S.Store conn.old).is_open
+        → AddsOutcomes (AreFilled rows.now (state S.Store conn.old).now) (state S.Store conn.old) (state S.Store conn.new) }
+    ensures refused { OnErr result (Stayed (state S.Store conn.old) (state S.Store conn.new)) }
 {
     if !conn.is_autocommit() {
         return Err(StoreFault::Failed);

@@ -1,12 +1,12 @@
 //! A hall of the version before, taken whole into tables with testers.
-ghost use Rattle.std.specs.Prelude.{◌≡◌, IfOk};
+ghost use Rattle.std.specs.Prelude.{◌≡◌, IsTrue, IfOk};
 ghost use Rattle.std.specs.FinMap.{empty};
 ghost use Rattle.sqlite.specs.Held.{state};
 ghost use Rattle.sqlite.specs.State.{HasCleanDisk};
 ghost use Rattle.hall_policy.specs.World.{World};
 ghost use Rattle.hall_store.specs.Store.{Served};
 ghost use Rattle.hall_sql.specs.AllRead.{AreAllRead};
-ghost use Rattle.hall_sql.specs.Migrate.{IsFoundBeside, Leaves, Migrates, Takes};
+ghost use Rattle.hall_sql.specs.Migrate.{IsFoundBeside, Leaves, Migrates, StopsAtWorld, Takes};
 ghost use Rattle.hall_sql.specs.Standing.{IsHall, Rested, content_of};
 ghost use Rattle.hall_sql.specs.Tables.{hall_schema};
 ghost use Rattle.hall_sql.specs.WholeRows.{AreRowsOf, IsEmptyIn};
@@ -72,6 +72,9 @@ fn fill_counted<T: Alter>(
     requires nothing { IsEmptyIn (state T.Store conn.old) }
     ensures hall { IsHall (state T.Store conn.new) }
     ensures leaves { Leaves (state T.Store conn.old) (state T.Store conn.new) result }
+    ensures stops { (world : World) → AreRowsOf world rows.now → world.testers ≡ empty
+        → IsTrue (state T.Store conn.old).is_open
+        → StopsAtWorld world (state T.Store conn.old) (state T.Store conn.new) }
     ensures takes { (world : World) → AreRowsOf world rows.now → world.testers ≡ empty
         → Takes world (state T.Store conn.old) (state T.Store conn.new) result }
 {
@@ -93,6 +96,8 @@ pub(crate) fn take_rows<T: Alter>(
     requires hall { IsHall (state T.Store conn.old) }
     ensures hall { IsHall (state T.Store conn.new) }
     ensures leaves { Leaves (state T.Store conn.old) (state T.Store conn.new) result }
+    ensures stops { (world : World) → AreRowsOf world rows.now → world.testers ≡ empty
+        → StopsAtWorld world (state T.Store conn.old) (state T.Store conn.new) }
     ensures takes { (world : World) → AreRowsOf world rows.now → world.testers ≡ empty
         → Takes world (state T.Store conn.old) (state T.Store conn.new) result }
 {

@@ -1,5 +1,5 @@
 //! The hall's tables in the files at a path, and in memory.
-ghost use Rattle.std.specs.Prelude.{◌≡◌, IfOk, IfErr, IfSome};
+ghost use Rattle.std.specs.Prelude.{IsTrue, ◌≡◌, IfOk, IfErr, IfSome};
 ghost use Rattle.sqlite.specs.Held.{state};
 ghost use Rattle.sqlite.specs.Steps.{over_memory};
 ghost use Rattle.hall_store.specs.Maps.{empty_world};
@@ -7,6 +7,11 @@ ghost use Rattle.hall_store.specs.Store.{Fails};
 ghost use Rattle.hall_sql.specs.Tables.{hall_schema};
 ghost use Rattle.hall_sql.specs.Standing.{IsBare, content_of};
 ghost use Rattle.hall_sql.specs.Migrate.{old_content_of};
+ghost use Rattle.hall_sql.specs.Stopped.{IsAtRest, StopsAreFound, StopsFind};
+ghost use Rattle.hall_sql.specs.Rows.{world_of};
+ghost use Rattle.sqlite.specs.Files.{file_state};
+ghost use Rattle.sqlite_store.specs.FileStore.{view};
+ghost use Rattle.sqlite_trees.specs.View.{IsClean};
 ghost use Rattle.hall_sql.specs.Opened.{IsCauseAt, IsCauseThere, IsOldAsked, OpensAt, OpensThere, Starts, StartsOld};
 ghost use Rattle.hall_sql.specs.Opened.{MemoryServes, OneWorldIsFound};
 
@@ -14,7 +19,8 @@ use crate::old_store::{OldStore, Taken};
 use crate::schema::is_old_schema;
 use crate::sql_store::{Declined, SqlStore};
 use hall_store::StoreFault;
-use sqlite::{Alter, Connection, Error, MemStore};
+use sqlite::{Alter, Connection, Error, FileStore, MemStore};
+use sqlite_disk::Disk;
 use std::alloc::Global;
 use std::io;
 
@@ -185,3 +191,23 @@ pub fn law_opened()
     ensures found { OneWorldIsFound }
     ensures memory { MemoryServes }
 {}
+
+/// Tells a proof that a stop between two calls leaves the tables as they are.
+fn at_rest<S: Alter + Drop>(store: &SqlStore<S>)
+    ensures { IsAtRest (state S.Store store.now) }
+{
+    store.in_hall();
+}
+
+/// Lets go of the store. Where the device was honest, the world that is found in the files as a stop leaves them is one
+/// that a stop might leave of the store; and while it serves, it is the store's own.
+pub fn let_go<D: Disk + Drop>(store: SqlStore<FileStore<D>>) -> FileStore<D>
+    ensures stopped { IsClean (view result) → StopsAreFound result (file_state store) }
+    ensures rested { IsClean (view result) → IsTrue (file_state store).is_open
+        → StopsFind result (world_of (file_state store).now.trees) }
+{
+    at_rest(&store);
+    let conn = store.into_connection();
+    let _schema = conn.schema();
+    conn.into_store()
+}

@@ -4,7 +4,7 @@ ghost use Rattle.std.specs.FinMap.{get, values};
 ghost use Rattle.sqlite.specs.Held.{state};
 ghost use Rattle.hall_store.specs.Store.{Served, Fails, puzzles_of};
 ghost use Rattle.hall_policy.specs.Rules.{puzzles_put};
-ghost use Rattle.sqlite.specs.State.{HasCleanDisk};
+ghost use Rattle.sqlite.specs.State.{HasCleanDisk, Survives, CommitsBy};
 ghost use Rattle.hall_grid.specs.Text.{SpellsText};
 ghost use Rattle.hall_grid.specs.Canonical.{CanonicalText};
 ghost use Rattle.hall_policy.specs.Ranges.{IsPuzzleKey, IsState};
@@ -13,7 +13,7 @@ ghost use Rattle.sqlite.specs.Values.{bound};
 ghost use Rattle.hall_sql.specs.Fill.{AddsPuzzle};
 ghost use Rattle.hall_sql.specs.Inside.{Carries, Did};
 ghost use Rattle.hall_sql.specs.Columns.{puzzle_params, HasSoMany, state_code, solution_of};
-ghost use Rattle.hall_sql.specs.Standing.{IsHall, Rested, RestedAny, Wrote, content_of, Lasts};
+ghost use Rattle.hall_sql.specs.Standing.{IsHall, Rested, Stayed, RestedAny, Wrote, content_of, Lasts};
 ghost use Rattle.sqlite.specs.declared.types.Value.TheVariants.{Text};
 ghost use Rattle.hall_sql.specs.Rows.{puzzle_row_in};
 ghost use Rattle.hall_sql.specs.Whole.{AreRecords};
@@ -215,7 +215,9 @@ fn write<S: Alter>(
     requires hall { IsHall (state S.Store conn.old) }
     ensures in_range { IsState row.now.state }
     ensures lasts { Lasts (state S.Store conn.old) (state S.Store conn.new) }
-    ensures refused { OnErr result (Rested (state S.Store conn.old) (state S.Store conn.new)) }
+    ensures refused { OnErr result (Stayed (state S.Store conn.old) (state S.Store conn.new)) }
+    ensures survives { Survives (state S.Store conn.old) (state S.Store conn.new)
+        (CommitsBy sql.now (puzzle_params text.now row.now) (state S.Store conn.old)) }
     ensures runs { HasCleanDisk (state S.Store conn.new) →
         Ran sql.now (puzzle_params text.now row.now) (state S.Store conn.old) (state S.Store conn.new) result }
 {

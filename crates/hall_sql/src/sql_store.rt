@@ -6,7 +6,7 @@ ghost use Rattle.sqlite.specs.State.{HasCleanDisk};
 ghost use Rattle.hall_policy.specs.World.{World};
 ghost use Rattle.hall_store.specs.declared.fault.StoreFault.TheVariants.{Failed};
 ghost use Rattle.hall_sql.specs.AdoptCause.{AdoptFails};
-ghost use Rattle.hall_sql.specs.Migrate.{Leaves, Takes};
+ghost use Rattle.hall_sql.specs.Migrate.{Leaves, StopsAtWorld, Takes};
 ghost use Rattle.hall_sql.specs.Standing.{HasAdopted, HasDeclined, IsHall};
 ghost use Rattle.hall_sql.specs.WholeRows.{AreRowsOf};
 
@@ -93,6 +93,8 @@ impl<S: Alter + Drop> SqlStore<S> {
     /// Puts the rows in tables that hold nothing, and tells of tables that hold these or others.
     pub(crate) fn take_rows(&mut self, alloc: Global, rows: &Rows) -> Result<Migrated, StoreFault>
         ensures leaves { Leaves (state S.Store self.old) (state S.Store self.new) result }
+        ensures stops { (world : World) → AreRowsOf world rows.now → world.testers ≡ empty
+            → StopsAtWorld world (state S.Store self.old) (state S.Store self.new) }
         ensures takes { (world : World) → AreRowsOf world rows.now → world.testers ≡ empty
             → Takes world (state S.Store self.old) (state S.Store self.new) result }
     {
@@ -128,6 +130,10 @@ impl<S: Alter + Drop> ReadStore for SqlStore<S> {
     ghost content = { λ s. content_of (state S.Store s) };
 
     ghost can_fail = { Unit {0} };
+
+    fn at_rest(&self) {
+        self.in_hall();
+    }
 
     fn person_by_key(&mut self, alloc: Global, key: &Key) -> Result<Option<Person>, StoreFault>
         ensures kept { Kept (content_of (state S.Store self.old)) (content_of (state S.Store self.new)) }

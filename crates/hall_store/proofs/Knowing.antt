@@ -1,7 +1,7 @@
 -- What was found stays true over calls that leave the world.
 use Rattle.std.proofs.Common.{◌≡◌, ◌⊎◌, ℕ, ◌≤◌, arith, inl, inr, subst, sym, ◌∙◌, refl, Result, Ok, Err, IfOk}
 use Rattle.hall_policy.specs.World.{World}
-use Rattle.hall_store.specs.Store.{Content, Leads, Kept, MoreFaults, Told, Served, Over}
+use Rattle.hall_store.specs.Store.{Content, Leads, LeavesNoOther, Kept, MoreFaults, Told, Served, Over}
 
 -- more faults over one of two calls are more over both
 pub more_before : (a b c : ℕ) → MoreFaults a b → b ≤ c → MoreFaults a c
@@ -43,19 +43,19 @@ pub kept_leads : (a b : Content) → Kept a b → Leads a b
 kept_leads a b kept = record { honest = kept.honest; serves = kept.serves; counts = kept.counts; lasts = kept.lasts }
 
 -- and one that leads on, makes no write and leaves the world keeps it
-pub leads_kept : (a b : Content) → Leads a b → b.writes ≤ a.writes → (b.honest → b.serves → b.world ≡ a.world) → Kept a b
-leads_kept a b leads writes world =
-    record { honest = leads.honest; serves = leads.serves; counts = leads.counts; lasts = leads.lasts; writes = writes; world = world }
+pub leads_kept : (a b : Content) → Leads a b → b.writes ≤ a.writes → LeavesNoOther a b → (b.honest → b.serves → b.world ≡ a.world) → Kept a b
+leads_kept a b leads writes stops world =
+    record { honest = leads.honest; serves = leads.serves; counts = leads.counts; lasts = leads.lasts; writes = writes; stops = stops; world = world }
 
 -- a call that changes nothing leaves the world
 pub kept_same : (a : Content) → Kept a a
-kept_same a = leads_kept a a (leads_same a) (omega arith) (λ h s. refl)
+kept_same a = leads_kept a a (leads_same a) (omega arith) (λ h left may. may) (λ h s. refl)
 
 -- two calls that leave the world, one after the other
 pub kept_then : (a b c : Content) → Kept a b → Kept b c → Kept a c
 kept_then a b c first second =
     leads_kept a c (leads_then a b c (kept_leads a b first) (kept_leads b c second)) (omega (arith, first.writes, second.writes))
-    (λ h s. second.world h s ∙ first.world (second.honest h) (second.serves h s))
+    (λ h left may. first.stops (second.honest h) left (second.stops h left may)) (λ h s. second.world h s ∙ first.world (second.honest h) (second.serves h s))
 
 -- what was true before a call that leaves the world is true after it
 pub carried : (P : World → Type 0) (a b : Content) → Kept a b → (a.honest → a.serves → P a.world) → b.honest → b.serves → P b.world

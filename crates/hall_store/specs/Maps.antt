@@ -42,9 +42,10 @@ world_of store = record {
   testers = from_entries (flat_map testers_in store.rounds.entries);
 }
 
--- ordered maps have no device that could lie or fail, so no fault is counted; nor do they count their writes
+-- ordered maps have no device that could lie or fail, so no fault is counted; nor do they count their writes, and a stop
+-- leaves nothing
 abbrev pub content_of : MapStore → Content
-content_of store = record { honest = ⊤; serves = ⊤; faults = 0; writes = 0; world = world_of store }
+content_of store = record { honest = ⊤; serves = ⊤; faults = 0; writes = 0; world = world_of store; may_leave = λ _. ⊥ }
 
 -- nobody and nothing
 abbrev pub empty_world : World

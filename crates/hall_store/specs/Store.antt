@@ -28,12 +28,14 @@ use Rattle.hall_store.specs.Change.{changed}
 -- else has written; `serves`, no fault of the device has shut the store; `faults`, how often the device has failed.
 -- `writes` is a number that one write may raise by one, and nothing else raises. Which one is the store's own matter: a
 -- store may count its writes, or say 0 for ever. So what is proved of all stores bounds how many writes are made.
+-- `may_leave`, the worlds that the next open may find, were the program stopped at this moment.
 pub record Content : Type 1 where
   pub honest : Type 0
   pub serves : Type 0
   pub faults : ℕ
   pub writes : ℕ
   pub world : World
+  pub may_leave : World → Type 0
 
 -- the device has failed once more, or so often that it is no longer counted
 abbrev pub MoreFaults : ℕ → ℕ → Type 0
@@ -47,6 +49,20 @@ pub record Leads (old new : Content) : Type 0 where
   pub counts : old.faults ≤ new.faults
   pub lasts : new.honest → old.serves → new.serves ⊎ MoreFaults old.faults new.faults
 
+-- a stop in the call, or after it, leaves a world that a stop before it could leave
+abbrev pub LeavesNoOther : Content → Content → Type 0
+LeavesNoOther old new = new.honest → (left : World) → new.may_leave left → old.may_leave left
+
+-- A stop in the call, or after it, leaves a world that a stop before it could leave; or the store served before it, and
+-- the world that is left is so related to the one before.
+abbrev pub LeavesOneOf : (World → World → Type 0) → Content → Content → Type 0
+LeavesOneOf Relates old new =
+    new.honest → (left : World) → new.may_leave left → old.may_leave left ⊎ (old.serves × Relates old.world left)
+
+-- between two calls, while the store serves, a stop leaves its world and no other
+abbrev pub IsSettled : Content → Type 0
+IsSettled content = content.honest → content.serves → (left : World) → content.may_leave left → left ≡ content.world
+
 -- A call leaves the world and makes no write: it leads on, and the world is the one before.
 pub record Kept (old new : Content) : Type 0 where
   pub honest : new.honest → old.honest
@@ -54,6 +70,7 @@ pub record Kept (old new : Content) : Type 0 where
   pub counts : old.faults ≤ new.faults
   pub lasts : new.honest → old.serves → new.serves ⊎ MoreFaults old.faults new.faults
   pub writes : new.writes ≤ old.writes
+  pub stops : LeavesNoOther old new
   pub world : new.honest → new.serves → new.world ≡ old.world
 
 -- What a call of the store answers has its meaning, and the store still serves, where the device was honest. Nothing is
@@ -90,10 +107,12 @@ Left old new = new.honest → new.serves → new.world ≡ old.world
 abbrev pub WritesOnce : Content → Content → Type 0
 WritesOnce old new = new.writes ≤ old.writes + 1
 
--- A call leads on, and makes the change or leaves the world, by one write at most.
+-- A call leads on, and makes the change or leaves the world, by one write at most. Wherever it is stopped, in a store
+-- that served before it, the world before it is left or the one that the change makes.
 pub record Makes {R E : Type 0} (change : Change) (old new : Content) (result : Result R E) : Type 0 where
   pub leads : Leads old new
   pub once : WritesOnce old new
+  pub stops : old.serves → LeavesOneOf (λ before left. left ≡ changed change before) old new
   pub made : Made change old new result
 
 -- A relation of the worlds before and after holds over a store: nothing asked of the store made it true, it holds of

@@ -57,6 +57,10 @@ impl<S: ReadStore> ReadStore for CachedStore<S> {
 
     ghost can_fail = { S.can_fail };
 
+    fn at_rest(&self) {
+        self.store.at_rest();
+    }
+
     fn person_by_key(&mut self, alloc: Global, key: &Key) -> Result<Option<Person>, StoreFault> {
         if let Some(person) = self.cache.person(key) {
             return Ok(Some(person));

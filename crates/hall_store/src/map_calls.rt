@@ -34,6 +34,8 @@ impl ReadStore for MapStore {
 
     ghost can_fail = { ⊥ };
 
+    fn at_rest(&self) {}
+
     fn person_by_key(&mut self, _alloc: Global, key: &Key) -> Result<Option<Person>, StoreFault> {
         Ok(holder(&self.people, &self.keys, key)?)
     }

@@ -17,7 +17,7 @@ pub trait ReadStore: Drop {
     ghost use Rattle.std.specs.Prelude.{◌≡◌, ◌↔◌, ◌⊎◌, IsTrue, IfErr};
     ghost use Rattle.std.specs.FinMap.{get, values};
     ghost use Rattle.hall_policy.specs.Rules.{answers_given, protests_made, puzzles_put};
-    ghost use Rattle.hall_store.specs.Store.{Content, Kept, Served, Fails, puzzles_of, IsRoundKept, AreTestersOf};
+    ghost use Rattle.hall_store.specs.Store.{Content, Kept, IsSettled, Served, Fails, puzzles_of, IsRoundKept, AreTestersOf};
     ghost use Rattle.hall_store.specs.Store.{AreUsing, IsNumberTaken, IsListing, is_of, is_in};
     ghost use Rattle.hall_store.specs.Store.{HasSubmitted, IsProtestOpen, protests_of, protests_in, Fed, IsRefusedNext};
     ghost use Rattle.hall_store.specs.Caller.{IsKeyHolder};
@@ -28,6 +28,10 @@ pub trait ReadStore: Drop {
 
     // Whether a call may be refused for another cause than want of memory.
     ghost can_fail: { Type 0 };
+
+    /// Tells a proof that a stop between two calls leaves the world.
+    fn at_rest(&self)
+        ensures { IsSettled (content self.now) };
 
     /// The person with the key, who stands under the name; nobody else has the key.
     fn person_by_key(&mut self, alloc: Global, key: &Key) -> Result<Option<Person>, StoreFault>

@@ -1,8 +1,10 @@
 use Rattle.sqlite.specs.Held.{state}
 use Rattle.hall_store.specs.declared.change.Change.TheVariants.{AddAnswer}
 use Rattle.hall_sql.proofs.AnswerWrites.{answer_added}
-use Rattle.hall_sql.proofs.WriteLemmas.{made_wrote}
-use Rattle.std.proofs.Common.{arith}
+use Rattle.hall_sql.proofs.WriteLemmas.{made_wrote, stayed_wrote}
+use Rattle.hall_sql.proofs.StopLemmas.{IsRowWrite, stops_made}
+use Rattle.hall_sql.proofs.AnswerTexts.{add_answer_is}
+use Rattle.std.proofs.Common.{arith, sym, subst}
 use Rattle.sqlite.specs.State.{HasCleanDisk}
 use Rattle.hall_sql.proofs.Written.{add_answer_written}
 use Rattle.hall_sql.proofs.WriteCauseLemmas.{refused_cause}
@@ -13,6 +15,9 @@ use Rattle.hall_sql.proofs.answers.add_answer.Goals as goal
 pub returns-in-Ok-clause-wrote : goal.returns-in-Ok-clause-wrote
 returns-in-Ok-clause-wrote g c =
     made_wrote (AddAnswer c.args.row.now) (state g.S.Store c.args.conn.now) (state g.S.Store c.write.new.conn) tt c.requires.hall c.write.ensures.lasts
+    (stops_made (AddAnswer c.args.row.now) ADD_ANSWER.now (answer_params c.args.row.now) (state g.S.Store c.args.conn.now) (state g.S.Store c.write.new.conn) c.requires.hall add_answer_is.1 (subst IsRowWrite (sym add_answer_is.0) tt)
+    (λ was opened run count ran. answer_added c.args.row.now c.in_range.ensures (state g.S.Store c.args.conn.now) run count c.requires.hall was (λ opened. (c.requires.can was opened).fresh) ran)
+    c.write.ensures.survives)
     (λ was clean. answer_added c.args.row.now c.in_range.ensures _ _ _ c.requires.hall was (λ opened. (c.requires.can was opened).fresh) (c.in-Ok.ensures.runs clean))
 
 pub returns-in-Err-clause-cause : goal.returns-in-Err-clause-cause
@@ -20,3 +25,11 @@ returns-in-Err-clause-cause g c clean failed =
     let was : HasCleanDisk (state g.S.Store c.args.conn.now) = omega (arith, c.write.ensures.lasts.clean, clean) in
     refused_cause ADD_ANSWER.now (answer_params c.args.row.now) (state g.S.Store c.args.conn.now) (state g.S.Store c.write.new.conn) (add_answer_written c.args.row.now) c.requires.hall was
     (c.in-Err.ensures.runs clean failed)
+
+pub returns-in-Err-clause-wrote : goal.returns-in-Err-clause-wrote
+returns-in-Err-clause-wrote g c =
+    stayed_wrote (AddAnswer c.args.row.now) (state g.S.Store c.args.conn.now) (state g.S.Store c.write.new.conn) c.in-Err.fault
+    (stops_made (AddAnswer c.args.row.now) ADD_ANSWER.now (answer_params c.args.row.now) (state g.S.Store c.args.conn.now) (state g.S.Store c.write.new.conn) c.requires.hall add_answer_is.1 (subst IsRowWrite (sym add_answer_is.0) tt)
+    (λ was opened run count ran. answer_added c.args.row.now c.in_range.ensures (state g.S.Store c.args.conn.now) run count c.requires.hall was (λ opened. (c.requires.can was opened).fresh) ran)
+    c.write.ensures.survives)
+    c.in-Err.ensures.refused

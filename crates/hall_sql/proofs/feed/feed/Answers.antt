@@ -7,7 +7,8 @@ use Rattle.hall_sql.specs.Cause.{FeedFails}
 use Rattle.hall_sql.specs.Feed.{Steps, AreAll}
 use Rattle.hall_sql.proofs.AskedLemmas.{asked_cause}
 use Rattle.hall_sql.proofs.CauseLemmas.{fails_as}
-use Rattle.hall_sql.proofs.LastLemmas.{survived, last_then}
+use Rattle.hall_sql.proofs.LastLemmas.{survived, last_then, quiet_query, quiet_then}
+use Rattle.hall_sql.proofs.ShowsNothing.{asked_quiet}
 use Rattle.hall_sql.proofs.CallLemmas.{rested, query_refused}
 use Rattle.hall_sql.proofs.FeedLemmas.{taken_more, read_none, read_more, read_all, read_first, fed_first}
 use Rattle.hall_sql.proofs.ReadCauseLemmas.{feed_cause}
@@ -21,12 +22,14 @@ returns-in-Err-clause-rested g c =
     let refused = rw c.in-Err.is at held in
     rested old new c.requires.hall (survived _ _ _ refused.survives)
     (λ was clean. query_refused old new c.args.sql.now (bound c.args.params.now) c.in-Err.error (refused.err clean))
+    (quiet_query c.args.sql.now (bound c.args.params.now) old new (asked_quiet c.args.sql.now (bound c.args.params.now) c.requires.asks) refused.survives)
 
 pub feed-init : goal.feed-init
 feed-init g c =
     let it = c.in-Ok.ensures in (
       refl,
       survived _ _ _ it.survives,
+      quiet_query c.args.sql.now (bound c.args.params.now) _ _ (asked_quiet c.args.sql.now (bound c.args.params.now) c.requires.asks) it.survives,
       (
         [],
         refl,
@@ -42,12 +45,13 @@ feed-preserved g c =
     let old = state g.S.Store c.args.conn.now in
     let before = c.feed.rows.conn.now in
     let after = c.step.new.rows.conn.now in
-    let so = c.feed.invariant.2 in
+    let so = c.feed.invariant.3 in
     let is : c.in_ok-step.field-0 ≡ true = search rules in
     let lasts = last_then old (state g.S.Store before) (state g.S.Store after) c.feed.invariant.1 c.step.ensures.lasts in
     let stepped = subst (Steps g.S.Store g.T.Record.read g.K.Sink.takes before after c.feed.sink c.step.new.sink) is c.in_ok-step.ensures.stepped in (
       c.step.ensures.same_reference ∙ c.feed.invariant.0,
       lasts,
+      quiet_then old (state g.S.Store before) (state g.S.Store after) c.feed.invariant.2 c.step.ensures.lasts c.step.ensures.stops,
       (
         so.0 ++ stepped.0 ∷ [],
         taken_more g.K.Sink.takes c.args.sink.now c.feed.sink c.step.new.sink so.0 stepped.0 so.1 stepped.1,
@@ -63,7 +67,7 @@ pub returns-then-not-branch-clause-fed : goal.returns-then-not-branch-clause-fed
 returns-then-not-branch-clause-fed g c =
     let before = c.feed.rows.conn.now in
     let after = c.step.new.rows.conn.now in
-    let so = c.feed.invariant.2 in
+    let so = c.feed.invariant.3 in
     let same : c.conn-then-not-branch-1.given.0 ≡ after = search rules in
     let none : c.in_ok-step.field-0 ≡ false = search rules in
     let stepped = subst (Steps g.S.Store g.T.Record.read g.K.Sink.takes before after c.feed.sink c.step.new.sink) none c.in_ok-step.ensures.stepped in (
@@ -85,7 +89,7 @@ returns-then-not-branch-clause-fed g c =
 pub returns-clause-fed : goal.returns-clause-fed
 returns-clause-fed g c =
     let held = c.feed.rows.conn.now in
-    let so = c.feed.invariant.2 in
+    let so = c.feed.invariant.3 in
     let same : c.conn-2-1.given.0 ≡ held = search rules in (
       so.0,
       so.1,
@@ -98,7 +102,7 @@ pub returns-in_err-step-clause-fed : goal.returns-in_err-step-clause-fed
 returns-in_err-step-clause-fed g c =
     let before = c.feed.rows.conn.now in
     let after = c.step.new.rows.conn.now in
-    let so = c.feed.invariant.2 in
+    let so = c.feed.invariant.3 in
     let same : c.conn-in_err-step-1.given.0 ≡ after = search rules in
     fed_first g.S.Store g.T.Record.read g.K.Sink.takes c.args.sql.now (bound c.args.params.now) (state g.S.Store c.args.conn.now) (state g.S.Store c.conn-in_err-step-1.given.0)
     c.args.sink.now c.step.new.sink c.from_residual.result _ c.from_residual.ensures.1 so.0
@@ -123,7 +127,7 @@ returns-in_err-step-clause-cause g c clean =
     let old = state g.S.Store c.args.conn.now in
     let before = c.feed.rows.conn.now in
     let after = c.step.new.rows.conn.now in
-    let so = c.feed.invariant.2 in
+    let so = c.feed.invariant.3 in
     let same : c.conn-in_err-step-1.given.0 ≡ after = search rules in
     let late : HasCleanDisk (state g.S.Store after) = subst (λ h. HasCleanDisk (state g.S.Store h)) same clean in
     let mid : HasCleanDisk (state g.S.Store before) = omega (arith, c.step.ensures.lasts.clean, late) in

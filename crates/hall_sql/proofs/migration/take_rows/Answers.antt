@@ -4,7 +4,7 @@ use Rattle.sqlite.specs.State.{HasCleanDisk}
 use Rattle.hall_sql.specs.declared.migration.Found.{Found}
 use Rattle.hall_sql.specs.Migrate.{IsFoundBeside}
 use Rattle.hall_sql.specs.Rows.{world_of}
-use Rattle.hall_sql.proofs.MigrationLemmas.{found_bare, had_taken, is_left}
+use Rattle.hall_sql.proofs.MigrationLemmas.{found_bare, had_taken, is_left, leaves_leads, rested_stops, stops_after}
 use Rattle.hall_sql.proofs.migration.take_rows.Goals as goal
 
 pub returns-in-These-clause-takes : goal.returns-in-These-clause-takes
@@ -34,3 +34,19 @@ fill_counted-requires-clause-nothing g c =
     let told = subst (λ (f : Found). HasCleanDisk s1 → IsTrue s1.is_open × IsFoundBeside c.args.rows.now (world_of s1.now.trees) f)
     c.in-Nothing.is it.served in
     found_bare s0 s1 it.rested told it.whole
+
+pub returns-in-These-clause-stops : goal.returns-in-These-clause-stops
+returns-in-These-clause-stops g c world own bare = rested_stops (state g.T.Store c.args.conn.now) (state g.T.Store c.compare.new.conn) world c.in_ok-compare.ensures.rested
+
+pub returns-in-Others-clause-stops : goal.returns-in-Others-clause-stops
+returns-in-Others-clause-stops g c world own bare = rested_stops (state g.T.Store c.args.conn.now) (state g.T.Store c.compare.new.conn) world c.in_ok-compare.ensures.rested
+
+pub returns-in-Nothing-clause-stops : goal.returns-in-Nothing-clause-stops
+returns-in-Nothing-clause-stops g c world own bare =
+    let s0 = state g.T.Store c.args.conn.now in
+    let s1 = state g.T.Store c.compare.new.conn in
+    let s2 = state g.T.Store c.fill_counted.new.conn in
+    let it = c.in_ok-compare.ensures in
+    let told = subst (λ (f : Found). HasCleanDisk s1 → IsTrue s1.is_open × IsFoundBeside c.args.rows.now (world_of s1.now.trees) f)
+    c.in-Nothing.is it.served in
+    stops_after s0 s1 s2 world it.rested (λ clean. (told clean).0) (leaves_leads s1 s2 c.fill_counted.result c.fill_counted.ensures.leaves) (c.fill_counted.ensures.stops world own bare)

@@ -10,13 +10,14 @@ use Rattle.hall_sql.proofs.PuzzleWrites.{puzzle_looked}
 use Rattle.sqlite.specs.declared.types.Value.TheVariants.{Text}
 use Rattle.hall_sql.specs.declared.puzzles.TheConstants.{LOOK_PUZZLE}
 use Rattle.hall_sql.proofs.CauseLemmas.{fails_as}
+use Rattle.hall_sql.proofs.ShowsNothing.{asked_quiet}
 use Rattle.hall_sql.proofs.StoreLemmas.{over_hall, rested_hall}
 use Rattle.hall_sql.proofs.AskedLemmas.{asked_cause}
 use Rattle.hall_sql.proofs.Written.{look_puzzle_asked}
 use Rattle.hall_sql.proofs.puzzles.look.Goals as goal
 
 pub ask-requires : goal.ask-requires
-ask-requires g c = record { plain = over_hall c.requires.hall look_puzzle_is.2 }
+ask-requires g c = record { plain = over_hall c.requires.hall look_puzzle_is.2; quiet = asked_quiet LOOK_PUZZLE.now (Text [] ∷ Text [] ∷ []) (look_puzzle_asked [] []) }
 
 pub returns-clause-rested : goal.returns-clause-rested
 returns-clause-rested g c = rested_hall c.requires.hall c.ask.ensures.rested

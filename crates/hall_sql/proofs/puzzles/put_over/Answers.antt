@@ -1,8 +1,10 @@
 use Rattle.sqlite.specs.Held.{state}
 use Rattle.hall_store.specs.declared.change.Change.TheVariants.{PutPuzzle}
 use Rattle.hall_sql.proofs.PuzzleWrites.{puzzle_replaced}
-use Rattle.hall_sql.proofs.WriteLemmas.{made_wrote}
-use Rattle.std.proofs.Common.{arith}
+use Rattle.hall_sql.proofs.WriteLemmas.{made_wrote, stayed_wrote}
+use Rattle.hall_sql.proofs.StopLemmas.{IsRowWrite, stops_made}
+use Rattle.hall_sql.proofs.PuzzleTexts.{replace_puzzle_is}
+use Rattle.std.proofs.Common.{arith, sym, subst}
 use Rattle.sqlite.specs.State.{HasCleanDisk}
 use Rattle.hall_sql.proofs.Written.{replace_puzzle_written}
 use Rattle.hall_sql.proofs.WriteCauseLemmas.{refused_cause}
@@ -13,6 +15,9 @@ use Rattle.hall_sql.proofs.puzzles.put_over.Goals as goal
 pub returns-in-Ok-clause-wrote : goal.returns-in-Ok-clause-wrote
 returns-in-Ok-clause-wrote g c =
     made_wrote (PutPuzzle c.args.row.now) (state g.S.Store c.args.conn.now) (state g.S.Store c.write.new.conn) tt c.requires.hall c.write.ensures.lasts
+    (stops_made (PutPuzzle c.args.row.now) REPLACE_PUZZLE.now (puzzle_params c.args.text.now c.args.row.now) (state g.S.Store c.args.conn.now) (state g.S.Store c.write.new.conn) c.requires.hall replace_puzzle_is.1 (subst IsRowWrite (sym replace_puzzle_is.0) tt)
+    (λ was opened run count ran. puzzle_replaced c.args.text.now c.args.row.now c.requires.spells c.in_range.ensures c.write.ensures.in_range (state g.S.Store c.args.conn.now) run count c.requires.hall was (λ opened. c.requires.found was) ran)
+    c.write.ensures.survives)
     (λ was clean. puzzle_replaced c.args.text.now c.args.row.now c.requires.spells c.in_range.ensures c.write.ensures.in_range _ _ _ c.requires.hall was (λ opened. c.requires.found was) (c.in-Ok.ensures.runs clean))
 
 pub returns-in-Err-clause-cause : goal.returns-in-Err-clause-cause
@@ -20,3 +25,11 @@ returns-in-Err-clause-cause g c clean failed =
     let was : HasCleanDisk (state g.S.Store c.args.conn.now) = omega (arith, c.write.ensures.lasts.clean, clean) in
     refused_cause REPLACE_PUZZLE.now (puzzle_params c.args.text.now c.args.row.now) (state g.S.Store c.args.conn.now) (state g.S.Store c.write.new.conn) (replace_puzzle_written c.args.text.now c.args.row.now) c.requires.hall was
     (c.in-Err.ensures.runs clean failed)
+
+pub returns-in-Err-clause-wrote : goal.returns-in-Err-clause-wrote
+returns-in-Err-clause-wrote g c =
+    stayed_wrote (PutPuzzle c.args.row.now) (state g.S.Store c.args.conn.now) (state g.S.Store c.write.new.conn) c.in-Err.fault
+    (stops_made (PutPuzzle c.args.row.now) REPLACE_PUZZLE.now (puzzle_params c.args.text.now c.args.row.now) (state g.S.Store c.args.conn.now) (state g.S.Store c.write.new.conn) c.requires.hall replace_puzzle_is.1 (subst IsRowWrite (sym replace_puzzle_is.0) tt)
+    (λ was opened run count ran. puzzle_replaced c.args.text.now c.args.row.now c.requires.spells c.in_range.ensures c.write.ensures.in_range (state g.S.Store c.args.conn.now) run count c.requires.hall was (λ opened. c.requires.found was) ran)
+    c.write.ensures.survives)
+    c.in-Err.ensures.refused

@@ -20,6 +20,7 @@ returns-clause-makes c =
     record {
       leads = record { honest = λ h. h; serves = λ h s. s; counts = omega arith; lasts = λ h s. inl s };
       once = omega arith;
+      stops = λ s h left may. absurd may;
       made = λ _. (tt, λ i. record (world_of old) { rounds = heads i; places = places i; testers = testers i });
     }
 

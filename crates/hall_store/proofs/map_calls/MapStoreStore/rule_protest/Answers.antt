@@ -36,6 +36,7 @@ returns-clause-makes c =
     record {
       leads = record { honest = λ h. h; serves = λ h s. s; counts = omega arith; lasts = λ h s. inl s };
       once = omega arith;
+      stops = λ s h left may. absurd may;
       made = λ _. (tt, (λ i. record (world_of old) { protests = made i }) ∙ ap (with_ruling (world_of old) key c.args.ruling) (sym found));
     }
 

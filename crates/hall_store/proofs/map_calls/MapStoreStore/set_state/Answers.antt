@@ -36,6 +36,7 @@ returns-clause-makes c =
     record {
       leads = record { honest = λ h. h; serves = λ h s. s; counts = omega arith; lasts = λ h s. inl s };
       once = omega arith;
+      stops = λ s h left may. absurd may;
       made = λ _. (tt, (λ i. record (world_of old) { puzzles = made i }) ∙ ap (with_state (world_of old) key c.args.state) (sym found));
     }
 
