@@ -53,3 +53,5 @@ pub mod Searches
 pub mod OthersRun
 pub mod SealedRun
 pub mod Certified
+pub mod GoingOn
+pub mod Wants

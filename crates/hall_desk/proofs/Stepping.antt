@@ -2,13 +2,14 @@
 use Rattle.std.proofs.Common.{◌≡◌, ◌≤◌, ◌⊎◌, inl, inr, ℕ, Ok, sym, ap, ◌∙◌, subst, arith}
 use Rattle.hall_policy.specs.World.{World}
 use Rattle.hall_policy.specs.declared.request.Request.{Request}
-use Rattle.hall_store.specs.Store.{Content, Kept, Leads, Made, WritesOnce}
+use Rattle.hall_store.specs.Store.{Content, Kept, Leads, LeavesNoOther, LeavesOneOf, Made, WritesOnce}
 use Rattle.hall_store.specs.Change.{changed}
 use Rattle.hall_desk.specs.Step.{Step}
-use Rattle.hall_desk.specs.Plans.{IsPlanFor, IsQuiet, Planned, Steps, WritesIfAny}
+use Rattle.hall_desk.specs.Plans.{IsPlanFor, IsQuiet, Planned, Steps, StopsWithin, WritesIfAny}
 use Rattle.hall_store.specs.declared.change.Change.{Change}
 use Rattle.hall_store.specs.declared.change.Change.TheVariants.{Nothing}
 use Rattle.hall_desk.specs.declared.reply.Reply.{Reply}
+use Rattle.hall_desk.specs.declared.reply.Reply.TheVariants.{Unavailable}
 use Rattle.hall_desk.specs.declared.plan.Plan.{Plan}
 
 -- what a commit makes of the world of a store that served before
@@ -43,6 +44,23 @@ module _ (t : ℕ) (request : Request) where
         (done h before).1 ∙ ap (λ (change : Change). changed change mid.world) made.0 ∙ kept.world (leads.honest h) before),
   )
 
+  -- and what a stop leaves of it
+  pub planned_stops : (E : Type 0) (old mid new : Content) (plan : Plan) (given : Reply) → (plan.reply ≡ given) ⊎ (given ≡ Unavailable) → Kept old mid → Planned {E = E} mid t request (Ok plan) → Leads mid new →
+      (plan.change ≡ Nothing → LeavesNoOther mid new) → (mid.serves → LeavesOneOf (λ before left. left ≡ changed plan.change before) mid new) → StopsWithin old t request given new
+  planned_stops E old mid new plan given which kept (inl made) leads quiet stops h left may =
+      let before = leads.honest h in
+      let p = made before in
+      elim (stops p.0 h left may) [
+        | inl earlier ↦ inl (kept.stops before left earlier)
+        | inr is ↦
+            let step : Step mid.world t request plan.reply (changed plan.change mid.world) = inr p.1.answered in
+            inr (
+              kept.serves before p.0,
+              (plan.reply, which, subst (λ (w : World). Step w t request plan.reply left) (kept.world before p.0) (subst (λ (w : World). Step mid.world t request plan.reply w) (sym is.1) step)),
+            )
+      ]
+  planned_stops E old mid new plan given which kept (inr made) leads quiet stops h left may = inl (kept.stops (leads.honest h) left (quiet made.0 h left may))
+
 -- what leaves the number of writes, and then at most one
 pub once_after : (old mid new : Content) → Kept old mid → WritesOnce mid new → WritesOnce old new
 once_after old mid new kept once = omega (arith, kept.writes, once)
@@ -63,3 +81,7 @@ module _ {S : Type 0} (content : S → Content) (old : Content) (mid new : S) (p
       let p = made before in
       quiet_commit (quiet_plan (content mid).world t request plan p.1 (subst (λ (w : World). IsQuiet w t request) (sym (kept.world before p.0)) quiet))
   planned_quiet E t request (inr made) leads h s quiet = quiet_commit made.0
+
+-- what changes nothing leaves nothing else
+pub same_stops : {S : Type 0} (content : S → Content) (old new : S) → new ≡ old → LeavesNoOther (content old) (content new)
+same_stops content old new same h left may = subst (λ i. (content i).may_leave left) same may

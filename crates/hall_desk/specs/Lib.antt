@@ -22,3 +22,8 @@ pub mod Exchanged
 pub mod Secrecy
 pub mod AnsweredRun
 pub mod Alike
+pub mod Underway
+pub mod Finding
+pub mod Certifying
+pub mod Memo
+pub mod Wanted

@@ -17,7 +17,7 @@ use Rattle.hall_policy.specs.declared.request.Action.TheVariants.{PutPuzzle, Cer
 use Rattle.hall_policy.specs.declared.request.Action.TheVariants.{ReadPuzzle, ListPuzzles, ListRounds, ReadRound}
 use Rattle.hall_policy.specs.declared.request.Action.TheVariants.{Answers, Solutions, Protests, Table}
 use Rattle.hall_policy.specs.declared.facts.Facts.{Facts}
-use Rattle.hall_store.specs.Store.{Content, Leads, Over, WritesOnce}
+use Rattle.hall_store.specs.Store.{Content, Leads, LeavesOneOf, Over, WritesOnce}
 use Rattle.hall_store.specs.declared.fault.StoreFault.{StoreFault}
 use Rattle.hall_store.specs.declared.fault.StoreFault.TheVariants.{Failed}
 use Rattle.hall_policy.specs.Facts.{TrueUpTo}
@@ -35,7 +35,7 @@ use Rattle.hall_store.specs.Caller.{caller_of}
 use Rattle.hall_store.specs.Change.{changed, CanMake}
 use Rattle.hall_desk.specs.Plan.{planned_reply, planned_change}
 use Rattle.hall_desk.specs.Step.{Step, Seed, IsAnswered, Allowed, is_open, unknown_people}
-use Rattle.hall_desk.specs.Run.{Run}
+use Rattle.hall_desk.specs.Run.{IsLeftBy, Run}
 use Rattle.hall_desk.specs.declared.reply.Reply.{Reply}
 use Rattle.hall_desk.specs.declared.reply.Reply.TheVariants as reply
 use Rattle.hall_desk.specs.declared.plan.Plan.{Plan}
@@ -169,6 +169,18 @@ Planned new t request (Err fault) = Unit {0}
 abbrev pub Steps : Content → ℕ → Request → Reply → Content → Type 0
 Steps old t request given new = Over (λ before after. Step before t request given after) old new
 
+-- What a stop in the answer, or after it, leaves: a world that a stop before it could leave, or the one after a step of
+-- the hall that makes the request, by this reply or where it was answered 503.
+abbrev pub StopsWithin : Content → ℕ → Request → Reply → Content → Type 0
+StopsWithin old t request given new =
+    LeavesOneOf (λ before left.
+    (made : Reply) × ((made ≡ given) ⊎ (given ≡ reply.Unavailable)) × Step before t request made left) old new
+
+-- What a stop leaves of a store that served before these requests, which were answered so, is a world that they leave.
+abbrev pub LeavesRun : Content → List (ℕ × Request) → List Reply → Content → Type 0
+LeavesRun old requests replies new =
+    new.honest → old.serves → (left : World) → new.may_leave left → IsLeftBy old.world requests replies left
+
 -- the request has nothing to write in the world: another decision is made than to allow it, or its action has nothing to
 -- write there
 abbrev pub IsQuiet : World → ℕ → Request → Type 0
@@ -197,6 +209,7 @@ pub record IsStepped {S : Type 0} (content : S → Content) (old : S) (asked : �
   pub once : WritesOnce (content old) (content new)
   pub quiet : WritesIfAny (content old) asked.0 asked.1 (content new)
   pub steps : (content new).honest → Steps (content old) asked.0 asked.1 given (content new)
+  pub stops : StopsWithin (content old) asked.0 asked.1 given (content new)
   pub untouched : IsNobodys asked.1 → new ≡ old
 
 -- the requests were stepped over a store, one after another, each over the store that the one before it left

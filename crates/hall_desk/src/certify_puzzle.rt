@@ -7,8 +7,11 @@ ghost use Rattle.hall_desk.specs.Handler.{certify_action};
 ghost use Rattle.hall_desk.specs.Step.{is_open, IsFound};
 ghost use Rattle.hall_desk.specs.Plans.{IsSearchPlanOf, HasSpent};
 ghost use Rattle.hall_desk.specs.Shown.{state_name};
+ghost use Rattle.hall_solve.specs.Puzzle.{OutcomeOfPuzzle};
+ghost use Rattle.hall_solve.specs.Searched.{outcome_of, IsSpent};
 
 use crate::handler::Handler;
+use crate::memo::Memo;
 use crate::plan::Plan;
 use crate::put_puzzle::state_name;
 use crate::reply::Reply;
@@ -17,7 +20,7 @@ use hall_grid::{Filling, Puzzle, write_answer};
 use hall_policy::{
     Action, AnswerText, Budget, Decision, Facts, Moment, PuzzleKey, PuzzleState, decide,
 };
-use hall_solve::{Outcome, Visits};
+use hall_solve::{Outcome, Searched, Visits};
 use hall_store::{Change, ReadStore, StoreFault};
 use std::alloc::{AllocError, Global};
 
@@ -26,14 +29,15 @@ use std::alloc::{AllocError, Global};
 pub(crate) struct Certify<'a> {
     pub(crate) key: &'a PuzzleKey,
     pub(crate) budget: Budget,
+    pub(crate) memo: &'a Option<Memo>,
 }
 
 impl<'a> Certify<'a> {
     /// The puzzle under the key, by a search of at most so many visits.
-    pub(crate) fn of(key: &'a PuzzleKey, budget: Budget) -> Certify<'a>
+    pub(crate) fn of(key: &'a PuzzleKey, budget: Budget, memo: &'a Option<Memo>) -> Certify<'a>
         ensures { certify_action result ≡ Action.Certify key.now budget }
     {
-        Certify { key, budget }
+        Certify { key, budget, memo }
     }
 }
 
@@ -66,7 +70,7 @@ impl<'a> Handler for Certify<'a> {
         _t: Moment,
         facts: &Facts,
     ) -> Result<Plan, StoreFault> {
-        Ok(certify_puzzle(alloc, facts, self.key, self.budget)?)
+        Ok(certify_puzzle(alloc, facts, self.key, self.budget, self.memo)?)
     }
 }
 
@@ -76,6 +80,7 @@ fn certify_puzzle(
     facts: &Facts,
     key: &PuzzleKey,
     budget: Budget,
+    memo: &Option<Memo>,
 ) -> Result<Plan, AllocError>
     requires { IsAllowable facts.now (Action.Certify key.now budget) }
     ensures { IfOk result (IsSearchPlanOf facts.now (Action.Certify key.now budget)) }
@@ -91,7 +96,7 @@ fn certify_puzzle(
         });
     }
     let key = key.clone()?;
-    let found = find_state(alloc, &row.puzzle, budget.get())?;
+    let found = found_or_searched(alloc, &row.puzzle, budget.get(), memo)?;
     Ok(searched(key, found))
 }
 
@@ -110,7 +115,7 @@ fn searched(key: PuzzleKey, found: FoundState) -> Plan
 }
 
 /// Whether the puzzle was never searched, or the search came to no end.
-fn is_open(state: &PuzzleState) -> bool
+pub(crate) fn is_open(state: &PuzzleState) -> bool
     ensures { result ≡ is_open state.now }
 {
     match state {
@@ -124,9 +129,27 @@ fn is_open(state: &PuzzleState) -> bool
 
 /// What a search found, as a state, and the visits that it made.
 #[derive(Drop)]
-struct FoundState {
-    state: PuzzleState,
-    visits: Visits,
+pub(crate) struct FoundState {
+    pub(crate) state: PuzzleState,
+    pub(crate) visits: Visits,
+}
+
+/// What was found of the puzzle before, or else what a search of it finds now.
+fn found_or_searched(
+    alloc: Global,
+    puzzle: &Puzzle,
+    budget: u64,
+    memo: &Option<Memo>,
+) -> Result<FoundState, AllocError>
+    ensures state { IfOk result (λ found. IsFound puzzle.now budget found.state) }
+    ensures spent { IfOk result (λ found. HasSpent budget (Reply.Certify (state_name found.state)) found.visits) }
+{
+    if let Some(memo) = memo {
+        if let Some(found) = memo.found(puzzle, budget)? {
+            return Ok(found);
+        }
+    }
+    find_state(alloc, puzzle, budget)
 }
 
 /// What the search of the puzzle finds in at most `budget` visits.
@@ -135,6 +158,23 @@ fn find_state(alloc: Global, puzzle: &Puzzle, budget: u64) -> Result<FoundState,
     ensures spent { IfOk result (λ found. HasSpent budget (Reply.Certify (state_name found.state)) found.visits) }
 {
     let searched = certify(alloc, puzzle, budget)?;
+    state_of(alloc, puzzle, budget, searched)
+}
+
+/// What a search of the puzzle found, as a state.
+pub(crate) fn state_of(
+    alloc: Global,
+    puzzle: &Puzzle,
+    budget: u64,
+    searched: Searched,
+) -> Result<FoundState, AllocError>
+    requires outcome { OutcomeOfPuzzle puzzle.now budget (outcome_of searched) }
+    requires spent { IsSpent budget searched }
+    ensures state { IfOk result (λ found. IsFound puzzle.now budget found.state) }
+    ensures spent { IfOk result (λ found. HasSpent budget (Reply.Certify (state_name found.state)) found.visits) }
+{
+    // The clauses alone speak of it.
+    let _ = budget;
     let visits = searched.visits();
     match searched.outcome() {
         Outcome::None => Ok(FoundState {

@@ -1,6 +1,6 @@
 //! The desk: requests, answered over the world of a store.
-ghost use Rattle.std.specs.Prelude.{◌≡◌, ◌⊎◌, ◌≤◌, ◌+◌, length, IfOk, IsOk, OnErr};
-ghost use Rattle.hall_store.specs.Store.{Kept, Served, Left, Leads, Made, WritesOnce, Asks, Fails};
+ghost use Rattle.std.specs.Prelude.{◌≡◌, ◌⊎◌, ◌≤◌, ◌+◌, length, IfOk, IfSome, IsOk, IsTrue, OnErr};
+ghost use Rattle.hall_store.specs.Store.{Kept, Served, Left, Leads, LeavesOneOf, IsSettled, Made, WritesOnce, Asks, Told, Fails};
 ghost use Rattle.hall_store.specs.Change.{changed, CanMake};
 ghost use Rattle.hall_store.specs.declared.change.Change.{Change};
 ghost use Rattle.hall_desk.specs.Census.{census_of};
@@ -9,15 +9,21 @@ ghost use Rattle.hall_desk.specs.Sane.{Sane};
 ghost use Rattle.hall_desk.specs.Promises.{HasUniqueSolutions, RightAnswersAreSolutions};
 ghost use Rattle.hall_desk.specs.Plan.{planned_reply, planned_change};
 ghost use Rattle.hall_desk.specs.Plans.{Planned, Steps, Seeds, Runs, FailsIn, IsNobodys, AreNobodys, IsAvailable};
-ghost use Rattle.hall_desk.specs.Plans.{IsQuietPlan, IsSeedReply, AreStepped, NobodysAreAnswered, WritesIfAny};
+ghost use Rattle.hall_desk.specs.Wanted.{IsSearchFor};
+ghost use Rattle.hall_desk.specs.Plans.{IsQuietPlan, IsSeedReply, AreStepped, NobodysAreAnswered, WritesIfAny, StopsWithin, LeavesRun};
 
 use crate::census::Census;
+use crate::finding::Finding;
+use crate::memo::Memo;
 use crate::plan::Plan;
 use crate::planning::make_plan;
+use crate::puzzle_search::PuzzleSearch;
 use crate::reply::Reply;
 use crate::seed::seed;
+use crate::serving::still_serves;
 use crate::step::{commit, run, step};
 use crate::table_copy::{TableCopy, left_by};
+use crate::wanted::search_for;
 use hall_policy::{Moment, People, Request};
 use hall_store::{ReadStore, Store, StoreFault};
 use std::alloc::{AllocError, Global};
@@ -25,11 +31,12 @@ use std::marker::Model;
 
 /// What answers requests to the hall, one after another, over the world of its store; a contract sees the store.
 ///
-/// It keeps a copy of the table that it made last, until something is changed.
+/// It keeps a copy of the table that it made last, until something is changed, and what a search found last.
 #[derive(Drop)]
 pub struct Desk<S: ReadStore> {
     store: S,
     copied: Option<TableCopy>,
+    memo: Option<Memo>,
 }
 
 impl<S: ReadStore> Model for Desk<S> {
@@ -50,6 +57,7 @@ impl<S: ReadStore> Desk<S> {
         Desk {
             store,
             copied: None,
+            memo: None,
         }
     }
 
@@ -62,7 +70,7 @@ impl<S: ReadStore> Desk<S> {
 
     /// What the request will be answered, and what it will change. Reads only, and for a request without a key, other
     /// than for a table, not even that. Want of memory apart, it fails only over a store that can, or where the world
-    /// isn't sane.
+    /// isn't sane. What is certified is searched here, unless what was kept last is of the same puzzle and budget.
     pub fn plan(&mut self, alloc: Global, t: Moment, request: &Request) -> Result<Plan, StoreFault>
         ensures kept { Kept (S.content (kept_by self.old)) (S.content (kept_by self.new)) }
         ensures untouched { IsNobodys request.now → kept_by self.new ≡ kept_by self.old }
@@ -75,7 +83,41 @@ impl<S: ReadStore> Desk<S> {
         // They are read for the ranges that their types keep.
         let _moment = t.get();
         request.in_range();
-        make_plan(alloc, &mut self.store, t, request, &mut self.copied)
+        make_plan(
+            alloc,
+            &mut self.store,
+            t,
+            request,
+            &mut self.copied,
+            &self.memo,
+        )
+    }
+
+    /// The search that a plan of the request would make now, before its first visit. None where the request is no
+    /// Certify or isn't allowed, where a search of the puzzle came to an end before, or where what was kept last is of
+    /// the same puzzle and budget. Reads only.
+    pub fn search_for(
+        &mut self,
+        alloc: Global,
+        request: &Request,
+    ) -> Result<Option<PuzzleSearch>, StoreFault>
+        ensures kept { Kept (S.content (kept_by self.old)) (S.content (kept_by self.new)) }
+        ensures untouched { IsNobodys request.now → kept_by self.new ≡ kept_by self.old }
+        ensures fault { Fails S.can_fail result }
+        ensures told { Told (S.content (kept_by self.old)) (S.content (kept_by self.new)) result
+            (λ world found. IfSome found (IsSearchFor world request.now.action)) }
+    {
+        search_for(alloc, &mut self.store, request, &self.memo)
+    }
+
+    /// Keeps what a search found, for the plans of that puzzle and that budget. Refused, it keeps nothing.
+    pub fn keep(&mut self, alloc: Global, finding: Finding) -> Result<(), AllocError>
+        ensures { kept_by self.new ≡ kept_by self.old }
+    {
+        self.memo = None;
+        let memo = Memo::of(alloc, finding)?;
+        self.memo = Some(memo);
+        Ok(())
     }
 
     /// How many people and rounds the hall knows. Want of memory apart, it fails only over a store that can.
@@ -86,6 +128,15 @@ impl<S: ReadStore> Desk<S> {
     {
         Census::of(alloc, &mut self.store)
     }
+
+    /// Whether no fault of its device has shut the store. It looks up one person; without memory for that it says no.
+    pub fn still_serves(&mut self, alloc: Global) -> bool
+        ensures kept { Kept (S.content (kept_by self.old)) (S.content (kept_by self.new)) }
+        ensures serves { (S.content (kept_by self.new)).honest → IsTrue result
+            → (S.content (kept_by self.new)).serves }
+    {
+        still_serves(alloc, &mut self.store)
+    }
 }
 
 impl<S: Store> Desk<S> {
@@ -95,6 +146,9 @@ impl<S: Store> Desk<S> {
         requires { Asks (S.content (kept_by self.old)) (CanMake (planned_change plan)) }
         ensures leads { Leads (S.content (kept_by self.old)) (S.content (kept_by self.new)) }
         ensures once { WritesOnce (S.content (kept_by self.old)) (S.content (kept_by self.new)) }
+        ensures stops { (S.content (kept_by self.old)).serves
+            → LeavesOneOf (λ before left. left ≡ changed (planned_change plan) before)
+            (S.content (kept_by self.old)) (S.content (kept_by self.new)) }
         ensures made { (planned_change plan ≡ Change.Nothing) ⊎ Made (planned_change plan)
             (S.content (kept_by self.old)) (S.content (kept_by self.new)) result }
         ensures fault { Fails S.can_fail result }
@@ -114,6 +168,9 @@ impl<S: Store> Desk<S> {
         ensures steps { (S.content (kept_by self.new)).honest →
             Steps (S.content (kept_by self.old)) t request.now result (S.content (kept_by self.new)) }
         ensures quiet { WritesIfAny (S.content (kept_by self.old)) t request.now (S.content (kept_by self.new)) }
+        ensures stops { StopsWithin (S.content (kept_by self.old)) t request.now result
+            (S.content (kept_by self.new)) }
+        ensures settled { IsSettled (S.content (kept_by self.new)) }
         ensures answered { IsNobodys request.now → IsAvailable result }
         ensures untouched { IsNobodys request.now → kept_by self.new ≡ kept_by self.old }
         ensures sane { SaneThen Sane (S.content (kept_by self.old)) (S.content (kept_by self.new)) }
@@ -172,6 +229,8 @@ impl<S: Store> Desk<S> {
         ensures few { (S.content (kept_by self.new)).writes ≤ (S.content (kept_by self.old)).writes + length requests.now }
         ensures runs { IfOk result (λ replies. (S.content (kept_by self.new)).honest →
             Runs (S.content (kept_by self.old)) requests.now replies.items (S.content (kept_by self.new))) }
+        ensures left { IfOk result (λ replies. LeavesRun (S.content (kept_by self.old)) requests.now replies.items
+            (S.content (kept_by self.new))) }
         ensures stepped { IfOk result (λ replies. AreStepped S.content (kept_by self.old) requests.now replies.items
             (kept_by self.new)) }
         ensures answered { IfOk result (λ replies. NobodysAreAnswered requests.now replies.items) }

@@ -5,11 +5,13 @@ mod answers;
 mod census;
 mod certify_puzzle;
 mod desk;
+mod finding;
 mod handler;
 mod import;
 mod law;
 mod list_puzzles;
 mod list_rounds;
+mod memo;
 mod plan;
 mod planning;
 mod protest;
@@ -17,6 +19,7 @@ mod protests;
 mod publish;
 mod put_puzzle;
 mod put_round;
+mod puzzle_search;
 mod read_puzzle;
 mod read_round;
 mod release;
@@ -27,20 +30,24 @@ mod rows;
 mod rule_protest;
 mod search;
 mod seed;
+mod serving;
 mod solutions;
 mod step;
 mod submit;
 mod table;
 mod table_copy;
 mod verdict;
+mod wanted;
 
 pub use census::Census;
 pub use desk::Desk;
+pub use finding::Finding;
 pub use law::{
     law_accepted_answers, law_accepted_protests, law_before_start, law_others, law_records,
     law_rulings, law_sanity, law_sealed, law_steps_agree, law_tokens,
 };
 pub use plan::Plan;
+pub use puzzle_search::{Certifying, PuzzleSearch};
 pub use reply::{
     AnswerLine, ProtestLine, PuzzleLine, Reply, RoundLine, ShownPuzzle, ShownRound, StateName,
     TableText,

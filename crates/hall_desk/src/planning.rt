@@ -17,6 +17,7 @@ use crate::handler::Handler;
 use crate::import::Import;
 use crate::list_puzzles::ListPuzzles;
 use crate::list_rounds::ListRounds;
+use crate::memo::Memo;
 use crate::plan::Plan;
 use crate::protest::Protest;
 use crate::protests::Protests;
@@ -36,22 +37,25 @@ use hall_policy::{Action, Decision, Facts, Moment, Request, RoundId, Rule, decid
 use hall_store::{ReadStore, StoreFault};
 use std::alloc::Global;
 
-/// A request that is being answered: at which moment, and by which allocator.
+/// A request that is being answered: at which moment, by which allocator, and with what a search found before.
 #[derive(Clone, Copy)]
 pub(crate) struct RequestAt<'a> {
     pub(crate) alloc: Global,
     pub(crate) t: Moment,
     pub(crate) request: &'a Request,
+    pub(crate) memo: &'a Option<Memo>,
 }
 
 /// What the request will be answered, and what it will change. Reads only, and for a denial nothing that a later rule
-/// asks. A table is the copy, where that is the round's.
+/// asks. A table is the copy, where that is the round's; and what a search would find is what is remembered, where that
+/// is of the same puzzle and budget.
 pub(crate) fn make_plan<S: ReadStore>(
     alloc: Global,
     store: &mut S,
     t: Moment,
     request: &Request,
     copied: &mut Option<TableCopy>,
+    memo: &Option<Memo>,
 ) -> Result<Plan, StoreFault>
     requires { IsCopied (S.content store.old) copied.old }
     ensures kept { Kept (S.content store.old) (S.content store.new) }
@@ -62,7 +66,12 @@ pub(crate) fn make_plan<S: ReadStore>(
     ensures copied { IsCopied (S.content store.new) copied.new }
 {
     let mut facts = no_facts();
-    let asked = RequestAt { alloc, t, request };
+    let asked = RequestAt {
+        alloc,
+        t,
+        request,
+        memo,
+    };
     let plan = match &request.action {
         Action::Table { round } => plan_for_anyone(&asked, store, round, &mut facts, copied),
         _ => plan_by_key(&asked, store, &mut facts),
@@ -72,7 +81,7 @@ pub(crate) fn make_plan<S: ReadStore>(
 }
 
 /// Facts that tell of nothing.
-fn no_facts() -> Facts
+pub(crate) fn no_facts() -> Facts
     ensures { result.caller ≡ None }
 {
     Facts {
@@ -202,7 +211,9 @@ fn dispatch<S: ReadStore>(
         Action::PutPuzzle { key, puzzle } => asked.handle(store, &PutPuzzle { key, puzzle }, facts),
         Action::ReadPuzzle { key } => asked.handle(store, &ReadPuzzle { key }, facts),
         Action::ListPuzzles => asked.handle(store, &ListPuzzles {}, facts),
-        Action::Certify { key, budget } => asked.handle(store, &Certify::of(key, *budget), facts),
+        Action::Certify { key, budget } => {
+            asked.handle(store, &Certify::of(key, *budget, asked.memo), facts)
+        }
         Action::PutRound { round, sheet } => asked.handle(store, &PutRound { round, sheet }, facts),
         Action::Release { round } => asked.handle(store, &Release { round }, facts),
         Action::ListRounds => asked.handle(store, &ListRounds {}, facts),

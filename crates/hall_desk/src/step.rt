@@ -1,11 +1,11 @@
 //! Plans made and committed, one request after another.
 ghost use Rattle.std.specs.Prelude.{◌≡◌, ◌⊎◌, ◌+◌, ◌≤◌, ◌<◌, ◌++◌, ◌∷◌, [], length, IfOk, IsOk, OnErr, vec_len, vec_capacity};
-ghost use Rattle.hall_store.specs.Store.{Leads, Made, WritesOnce, Asks, Fails};
-ghost use Rattle.hall_store.specs.Change.{CanMake};
+ghost use Rattle.hall_store.specs.Store.{Leads, LeavesOneOf, IsSettled, Made, WritesOnce, Asks, Fails};
+ghost use Rattle.hall_store.specs.Change.{CanMake, changed};
 ghost use Rattle.hall_store.specs.declared.change.Change.{Change};
 ghost use Rattle.hall_desk.specs.Desk.{SaneThen};
 ghost use Rattle.hall_desk.specs.Sane.{Sane};
-ghost use Rattle.hall_desk.specs.Plans.{Steps, Runs, AreStepped, IsNobodys, AreNobodys, IsAvailable};
+ghost use Rattle.hall_desk.specs.Plans.{Steps, StopsWithin, LeavesRun, Runs, AreStepped, IsNobodys, AreNobodys, IsAvailable};
 ghost use Rattle.hall_desk.specs.Plans.{NobodysAreAnswered, WritesIfAny};
 
 use crate::plan::Plan;
@@ -24,6 +24,8 @@ pub(crate) fn commit<S: Store>(
     requires { Asks (S.content store.old) (CanMake plan.change) }
     ensures leads { Leads (S.content store.old) (S.content store.new) }
     ensures once { WritesOnce (S.content store.old) (S.content store.new) }
+    ensures stops { (S.content store.old).serves → LeavesOneOf (λ before left. left ≡ changed plan.change before)
+        (S.content store.old) (S.content store.new) }
     ensures made { (plan.change ≡ Change.Nothing) ⊎ Made plan.change (S.content store.old) (S.content store.new) result }
     ensures fault { Fails S.can_fail result }
     ensures nothing { plan.change ≡ Change.Nothing → IsOk result × (store.new ≡ store.old) }
@@ -39,6 +41,8 @@ fn make<S: Store>(alloc: Global, store: &mut S, change: Change) -> Result<(), St
     requires { Asks (S.content store.old) (CanMake change) }
     ensures leads { Leads (S.content store.old) (S.content store.new) }
     ensures once { WritesOnce (S.content store.old) (S.content store.new) }
+    ensures stops { (S.content store.old).serves → LeavesOneOf (λ before left. left ≡ changed change before)
+        (S.content store.old) (S.content store.new) }
     ensures made { (change ≡ Change.Nothing) ⊎ Made change (S.content store.old) (S.content store.new) result }
     ensures fault { Fails S.can_fail result }
     ensures nothing { change ≡ Change.Nothing → IsOk result × (store.new ≡ store.old) }
@@ -64,13 +68,17 @@ pub(crate) fn step<S: Store>(alloc: Global, store: &mut S, t: Moment, request: &
     ensures steps { (S.content store.new).honest → Steps (S.content store.old) t request.now result
         (S.content store.new) }
     ensures quiet { WritesIfAny (S.content store.old) t request.now (S.content store.new) }
+    ensures stops { StopsWithin (S.content store.old) t request.now result (S.content store.new) }
+    ensures settled { IsSettled (S.content store.new) }
     ensures answered { IsNobodys request.now → IsAvailable result }
     ensures untouched { IsNobodys request.now → store.new ≡ store.old }
     ensures sane { SaneThen Sane (S.content store.old) (S.content store.new) }
 {
     let _moment = t.get();
     request.in_range();
-    make_step(alloc, store, t, request)
+    let reply = make_step(alloc, store, t, request);
+    store.at_rest();
+    reply
 }
 
 /// Makes the request's plan, and commits it.
@@ -80,10 +88,11 @@ fn make_step<S: Store>(alloc: Global, store: &mut S, t: Moment, request: &Reques
     ensures steps { (S.content store.new).honest → Steps (S.content store.old) t request.now result
         (S.content store.new) }
     ensures quiet { WritesIfAny (S.content store.old) t request.now (S.content store.new) }
+    ensures stops { StopsWithin (S.content store.old) t request.now result (S.content store.new) }
     ensures answered { IsNobodys request.now → IsAvailable result }
     ensures untouched { IsNobodys request.now → store.new ≡ store.old }
 {
-    let made = make_plan(alloc, store, t, request, &mut None);
+    let made = make_plan(alloc, store, t, request, &mut None, &None);
     match made {
         Ok(plan) => match commit(alloc, store, plan) {
             Ok(reply) => reply,
@@ -105,12 +114,15 @@ pub(crate) fn run<S: Store>(
     ensures runs { IfOk result (λ replies. (S.content store.new).honest →
         Runs (S.content store.old) requests.now replies.items (S.content store.new)) }
     ensures sane { SaneThen Sane (S.content store.old) (S.content store.new) }
+    ensures left { IfOk result (λ replies. LeavesRun (S.content store.old) requests.now replies.items
+        (S.content store.new)) }
     ensures stepped { IfOk result (λ replies. AreStepped S.content store.old requests.now replies.items store.new) }
     ensures answered { IfOk result (λ replies. NobodysAreAnswered requests.now replies.items) }
     ensures untouched { AreNobodys requests.now → store.new ≡ store.old }
     ensures refused { OnErr result (store.new ≡ store.old) }
 {
     let mut replies = Vec::with_capacity(alloc, requests.len())?;
+    store.at_rest();
     for asked in requests {
         let reply = step(alloc, store, asked.0, &asked.1);
         keep(&mut replies, reply);

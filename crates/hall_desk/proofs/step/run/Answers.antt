@@ -1,10 +1,11 @@
-use Rattle.std.proofs.Common.{◌≡◌, ◌+◌, ◌++◌, ◌∷◌, [], ℕ, List, take, refl, sym, ◌∙◌, subst, arith}
+use Rattle.std.proofs.Common.{inl, ◌≡◌, ◌+◌, ◌++◌, ◌∷◌, [], ℕ, List, take, refl, sym, ◌∙◌, subst, arith}
 use Rattle.std.proofs.lemmas.List.{take_more}
 use Rattle.hall_policy.specs.declared.request.Request.{Request}
-use Rattle.hall_desk.specs.Run.{Run}
-use Rattle.hall_desk.specs.Plans.{Runs, AreStepped, IsNobodys, AreNobodys, NobodysAreAnswered}
+use Rattle.hall_policy.specs.World.{World}
+use Rattle.hall_desk.specs.Run.{IsLeftBy, Run}
+use Rattle.hall_desk.specs.Plans.{LeavesRun, Runs, AreStepped, IsNobodys, AreNobodys, NobodysAreAnswered}
 use Rattle.hall_desk.specs.declared.reply.Reply.{Reply}
-use Rattle.hall_desk.proofs.Runs.{runs_more, take_all, nobodys_more, stepped_more}
+use Rattle.hall_desk.proofs.Runs.{left_more, runs_more, take_all, nobodys_more, stepped_more}
 use Rattle.hall_store.proofs.Knowing.{leads_same, leads_then}
 use Rattle.hall_desk.proofs.step.run.Goals as goal
 
@@ -19,6 +20,8 @@ loop-asked-init g c =
       leads = leads_same (g.S.ReadStore.content c.args.store.now);
       few = omega arith;
       runs = λ h. (world, subst (λ (replies : List Reply). Run world [] replies world) (sym made.items) refl, λ s. refl);
+      left = λ h serves left may.
+          subst (λ (replies : List Reply). IsLeftBy world [] replies left) (sym made.items) (inl (c.at_rest.ensures h serves left may));
       stepped = subst (λ (replies : List Reply). AreStepped g.S.ReadStore.content c.args.store.now [] replies c.args.store.now) (sym made.items) refl;
       answered = subst (λ (replies : List Reply). NobodysAreAnswered [] replies) (sym made.items) tt;
       untouched = λ nobodys. refl;
@@ -50,11 +53,17 @@ loop-asked-preserved g c =
           (subst (λ (replies : List Reply). Runs first (take index requests ++ asked ∷ []) replies new) (sym kept.items)
           (runs_more first before new (take index requests) c.loop-asked.replies.items asked c.step-reply.result
           (step.leads.serves h) (old.runs (step.leads.honest h)) (step.steps h)));
+      left = λ h serves.
+          let was = step.leads.honest h in
+          subst (λ (list : List (ℕ × Request)). (left : World) → new.may_leave left → IsLeftBy first.world list c.keep.new.replies.items left) (sym more)
+          (subst (λ (replies : List Reply). (left : World) → new.may_leave left → IsLeftBy first.world (take index requests ++ asked ∷ []) replies left) (sym kept.items)
+          (left_more first before new (take index requests) c.loop-asked.replies.items asked c.step-reply.result (old.runs was) (step.steps h) step.stops step.settled h
+          (old.left was serves)));
       stepped =
           subst (λ (list : List (ℕ × Request)). AreStepped g.S.ReadStore.content c.args.store.now list c.keep.new.replies.items c.step-reply.new.store) (sym more)
           (subst (λ (replies : List Reply). AreStepped g.S.ReadStore.content c.args.store.now (take index requests ++ asked ∷ []) replies c.step-reply.new.store) (sym kept.items)
           (stepped_more g.S.ReadStore.content c.args.store.now c.loop-asked.store c.step-reply.new.store (take index requests) c.loop-asked.replies.items asked c.step-reply.result old.stepped
-          (record { leads = step.leads; once = step.once; quiet = step.quiet; steps = step.steps; untouched = step.untouched })));
+          (record { leads = step.leads; once = step.once; quiet = step.quiet; steps = step.steps; stops = step.stops; untouched = step.untouched })));
       answered =
           subst (λ (list : List (ℕ × Request)). NobodysAreAnswered list c.keep.new.replies.items) (sym more)
           (subst (λ (replies : List Reply). NobodysAreAnswered (take index requests ++ asked ∷ []) replies) (sym kept.items)
@@ -80,3 +89,8 @@ returns-clause-answered g c =
 
 pub returns-clause-few : goal.returns-clause-few
 returns-clause-few g c = omega (arith, c.loop-asked.invariant.few, c.loop-asked.invariant.within)
+
+pub returns-clause-left : goal.returns-clause-left
+returns-clause-left g c =
+    let whole : take c.loop-asked.asked-index c.args.requests.now ≡ c.args.requests.now = take_all c.args.requests.now c.loop-asked.asked-index c.loop-asked-test.false in
+    subst (λ (list : List (ℕ × Request)). LeavesRun (g.S.ReadStore.content c.args.store.now) list c.loop-asked.replies.items (g.S.ReadStore.content c.loop-asked.store)) whole c.loop-asked.invariant.left

@@ -1,5 +1,5 @@
 use Rattle.std.proofs.Common.{subst}
-use Rattle.hall_desk.specs.Plans.{Steps, WritesIfAny}
+use Rattle.hall_desk.specs.Plans.{Steps, StopsWithin, WritesIfAny}
 use Rattle.hall_desk.proofs.Promises.{unique_solutions, right_answers}
 use Rattle.hall_desk.proofs.desk.Desk.step.Goals as goal
 
@@ -19,3 +19,8 @@ returns-clause-unique g c = rw (← c.self.view_is) (λ h s sane. unique_solutio
 
 pub returns-clause-right : goal.returns-clause-right
 returns-clause-right g c = rw (← c.self.view_is) (λ h s sane. right_answers (g.S.ReadStore.content c.step.new.store).world (c.step.ensures.sane h s sane))
+
+pub returns-clause-stops : goal.returns-clause-stops
+returns-clause-stops g c =
+    subst (λ s. StopsWithin (g.S.ReadStore.content s) c.args.t c.args.request.now c.step.result (g.S.ReadStore.content c.step.new.store))
+    c.self.view_is c.step.ensures.stops

@@ -1,0 +1,70 @@
+//! What a search found before its request came to be planned.
+ghost use Rattle.std.specs.Prelude.{◌≡◌, IfOk, IsTrue};
+ghost use Rattle.hall_desk.specs.Memo.{HasFound};
+
+use crate::certify_puzzle::{FoundState, state_of};
+use crate::finding::Finding;
+use hall_grid::Puzzle;
+use hall_policy::PuzzleState;
+use hall_solve::Visits;
+use std::alloc::{AllocError, Global};
+use std::marker::Model;
+
+/// A puzzle, a budget, the state that a search of the puzzle within the budget found, and the visits that it made.
+#[derive(Drop)]
+pub(crate) struct Memo {
+    puzzle: Puzzle,
+    budget: u64,
+    state: PuzzleState,
+    visits: Visits,
+}
+
+impl Model for Memo {
+    ghost use Rattle.hall_desk.specs.Memo.{MemoView, IsMemo};
+
+    ghost Value = { MemoView };
+
+    ghost view = { λ m. record { puzzle = m.puzzle; budget = m.budget; state = m.state; visits = m.visits } };
+
+    ghost invariant = { λ m. IsMemo m.puzzle m.budget m.state m.visits };
+}
+
+impl Memo {
+    /// What was found, as a state.
+    pub(crate) fn of(alloc: Global, finding: Finding) -> Result<Memo, AllocError> {
+        let (puzzle, budget, searched) = finding.into_parts();
+        let FoundState { state, visits } = state_of(alloc, &puzzle, budget, searched)?;
+        Ok(Memo {
+            puzzle,
+            budget,
+            state,
+            visits,
+        })
+    }
+
+    /// Whether it is of this puzzle and this budget.
+    pub(crate) fn is_of(&self, puzzle: &Puzzle, budget: u64) -> bool
+        ensures puzzle { IsTrue result → self.now.puzzle ≡ puzzle.now }
+        ensures budget { IsTrue result → self.now.budget ≡ budget }
+    {
+        self.puzzle.is_same(puzzle) && self.budget == budget
+    }
+
+    /// What was found of this puzzle within this budget.
+    pub(crate) fn found(
+        &self,
+        puzzle: &Puzzle,
+        budget: u64,
+    ) -> Result<Option<FoundState>, AllocError>
+        ensures { IfOk result (HasFound puzzle.now budget) }
+    {
+        if self.is_of(puzzle, budget) {
+            Ok(Some(FoundState {
+                state: self.state.clone()?,
+                visits: self.visits,
+            }))
+        } else {
+            Ok(None)
+        }
+    }
+}
