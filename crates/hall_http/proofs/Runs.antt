@@ -13,7 +13,7 @@ use Rattle.hall_desk.specs.Desk.{SaneThen}
 use Rattle.hall_desk.specs.declared.reply.Reply.{Reply}
 use Rattle.hall_desk.proofs.StepsSane.{run_sane}
 use Rattle.hall_http.specs.Request.{RequestOf, AsksNothing}
-use Rattle.hall_http.specs.Answered.{AnswersOver}
+use Rattle.hall_http.specs.Answered.{AnswersOver, StopsAtBytes}
 use Rattle.hall_http.specs.Connection.{Exchange}
 use Rattle.hall_http.specs.Served.{IsHandled, IsServed}
 use Rattle.hall_http.specs.declared.connection.ServeEnd.{ServeEnd}
@@ -84,13 +84,15 @@ module _ {H : Type 0} (content : H → Content) where
   pub answered_at : (old : H) (moment : ℕ) (request reply : List ℕ) (new : H) → Leads (content old) (content new)
       → WritesOnce (content old) (content new)
       → ((asked : Request) → RequestOf request (Ok asked) → WritesIfAny (content old) moment asked (content new))
+      → StopsAtBytes (content old) moment request reply (content new)
       → ((content new).honest → AnswersOver (content old) moment request reply (content new))
       → (AsksNothing request → new ≡ old) → IsAnswered content old (Some moment) request reply new
-  answered_at old moment request reply new leads once quiet answers untouched = record {
+  answered_at old moment request reply new leads once quiet stops answers untouched = record {
     leads = leads;
     once = once;
     quiet = λ t asked at reads.
         subst (λ (m : ℕ). WritesIfAny (content old) m asked (content new)) (one_moment moment t at) (quiet asked reads);
+    stops = stops;
     answers = answers;
     untouched = λ quiet. elim quiet [ inl nothing ↦ untouched nothing | inr none ↦ absurd cc ];
   }
@@ -136,18 +138,22 @@ runs_sane old xs new run h s sane =
 
 -- what was answered over desks was answered over what they keep
 module _ {D H : Type 0} (kept : D → H) (content : H → Content) where
-  session_kept : (h : D) (xs : List Exchange) (i : D) → AreAnswered (λ h. content (kept h)) h xs i
+  pub answered_kept : (h m : D) (x : Exchange) → IsAnswered (λ h. content (kept h)) h x.moment x.request x.reply m
+      → IsAnswered content (kept h) x.moment x.request x.reply (kept m)
+  answered_kept h m x says = record {
+    leads = says.leads;
+    once = says.once;
+    quiet = says.quiet;
+    stops = says.stops;
+    answers = says.answers;
+    untouched = λ nothing. ap kept (says.untouched nothing);
+  }
+
+  pub session_kept : (h : D) (xs : List Exchange) (i : D) → AreAnswered (λ h. content (kept h)) h xs i
       → AreAnswered content (kept h) xs (kept i)
   session_kept h [] i same = ap kept same
   session_kept h (x ∷ xs) i (m, says, rest) =
-      let first : IsAnswered content (kept h) x.moment x.request x.reply (kept m) = record {
-        leads = says.leads;
-        once = says.once;
-        quiet = says.quiet;
-        answers = says.answers;
-        untouched = λ nothing. ap kept (says.untouched nothing);
-      } in
-      (kept m, first, session_kept m xs i rest)
+      (kept m, answered_kept h m x says, session_kept m xs i rest)
 
 module _ {D H C : Type 0} (kept : D → H) (content : H → Content) (now_gives : C → Option ℕ → C → Type 0)
     (stream after wrote written : Option (List ℕ)) (h : D) (c : C) (i : D) (d : C) (failed fails broke breaks asked asks : ℕ)

@@ -22,7 +22,7 @@ use Rattle.hall_http.specs.Replay.{AnsweredRecord, exchange_of, exchanges_of, re
 use Rattle.hall_http.specs.Replay.{IsReplayed, Ended, HaveReadRecords}
 use Rattle.hall_http.proofs.Readings.{one_call_more, session_more}
 use Rattle.hall_http.specs.Inbox.{ReadsMore}
-use Rattle.hall_http.proofs.Exchanges.{not_nil}
+use Rattle.hall_http.proofs.Histories.{not_nil}
 use Rattle.hall_http.proofs.Runs.{session_leads, session_runs}
 
 records_more : (xs : List AnsweredRecord) (x : AnsweredRecord) → records_of (xs ++ x ∷ []) ≡ records_of xs ++ record_bytes x.asked

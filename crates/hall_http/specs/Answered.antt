@@ -1,15 +1,15 @@
 -- The answer to the bytes of one request: a step of the hall, or why none was made.
-use Rattle.std.specs.Prelude.{◌≡◌, ◌⊎◌, ℕ, List, Ok, Err, codes, string_bytes}
+use Rattle.std.specs.Prelude.{◌≡◌, ◌⊎◌, ℕ, List, [], Ok, Err, codes, string_bytes}
 use Rattle.hall_policy.specs.World.{World}
 use Rattle.hall_policy.specs.declared.request.Request.{Request}
-use Rattle.hall_store.specs.Store.{Content, Over}
+use Rattle.hall_store.specs.Store.{Content, LeavesOneOf, Over}
 use Rattle.hall_desk.specs.Step.{Step}
 use Rattle.hall_desk.specs.Run.{IsTimed}
 use Rattle.hall_desk.specs.declared.reply.Reply.{Reply}
 use Rattle.hall_desk.specs.declared.reply.Reply.TheVariants.{Unavailable as NotServed}
 use Rattle.hall_http.specs.declared.form.FormFault.{FormFault}
 use Rattle.hall_http.specs.declared.answer.Answer.{Answer}
-use Rattle.hall_http.specs.declared.answer.Answer.TheVariants.{Text, Unavailable}
+use Rattle.hall_http.specs.declared.answer.Answer.TheVariants.{Text, Unavailable, Shut, Refusal, Nothing}
 use Rattle.hall_http.specs.Request.{RequestOf}
 use Rattle.hall_http.specs.Reply.{BytesOf, FaultBytesOf}
 
@@ -18,6 +18,15 @@ abbrev pub answer_text : Answer → List ℕ
 answer_text (Text text) = string_bytes text
 answer_text Unavailable =
     codes "HTTP/1.1 503 Service Unavailable\r\nContent-Type: application/json\r\nContent-Length: 16\r\n\r\n{\"fault\":\"hall\"}"
+answer_text Shut =
+    codes "HTTP/1.1 503 Service Unavailable\r\nContent-Type: application/json\r\nContent-Length: 16\r\n\r\n{\"fault\":\"hall\"}"
+answer_text Refusal =
+    codes "HTTP/1.1 400 Bad Request\r\nContent-Type: application/json\r\nContent-Length: 13\r\n\r\n{\"form\":\"F7\"}"
+answer_text Nothing = []
+
+-- the text is the reply 503
+pub record IsUnavailable (text : List ℕ) : Type 0 where
+  pub same : text ≡ answer_text Unavailable
 
 -- the text is that of the reply of a step of the hall for the request
 abbrev pub IsStepReply : World → ℕ → Request → List ℕ → World → Type 0
@@ -67,3 +76,16 @@ AnswersRequest world moment request text after =
 abbrev pub AnswersRequestOver : Content → ℕ → Request → List ℕ → Content → Type 0
 AnswersRequestOver old moment request text new =
     Over (λ before after. AnswersRequest before moment request text after) old new
+
+-- What a stop leaves of a store whose request is answered so: what a stop before it could leave, or the world after a step
+-- with these bytes of a reply, or with others where this was 503.
+abbrev pub StopsAt : Content → ℕ → Request → List ℕ → Content → Type 0
+StopsAt old moment request text new =
+    LeavesOneOf (λ before left.
+    (made : List ℕ) × ((made ≡ text) ⊎ BytesOf NotServed text) × IsStepReply before moment request made left) old new
+
+-- so it is where bytes are answered
+abbrev pub StopsAtBytes : Content → ℕ → List ℕ → List ℕ → Content → Type 0
+StopsAtBytes old moment bytes text new =
+    LeavesOneOf (λ before left.
+    (made : List ℕ) × ((made ≡ text) ⊎ BytesOf NotServed text) × Answers before moment bytes made left) old new

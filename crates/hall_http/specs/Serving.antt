@@ -1,15 +1,16 @@
 -- Requests that are answered over a store, one after another.
-use Rattle.std.specs.Prelude.{◌≡◌, ◌⊎◌, ℕ, List, [], ◌∷◌, Option, Some, None, Ok, All}
+use Rattle.std.specs.Prelude.{◌≡◌, ◌≢◌, ◌⊎◌, ℕ, List, [], ◌∷◌, Option, Some, None, Ok, All}
 use Rattle.hall_policy.specs.World.{World}
 use Rattle.hall_policy.specs.declared.request.Request.{Request}
-use Rattle.hall_store.specs.Store.{Content, Leads, Over, WritesOnce}
+use Rattle.hall_store.specs.Store.{Content, Leads, LeavesOneOf, Over, WritesOnce}
 use Rattle.hall_desk.specs.Plans.{WritesIfAny}
 use Rattle.hall_desk.specs.Run.{IsTimed, Run}
 use Rattle.hall_desk.specs.declared.reply.Reply.{Reply}
 use Rattle.hall_desk.specs.declared.reply.Reply.TheVariants.{Unavailable as NotServed}
 use Rattle.hall_http.specs.Request.{RequestOf, AsksNothing}
 use Rattle.hall_http.specs.Reply.{BytesOf}
-use Rattle.hall_http.specs.Answered.{Answers, IsRefused}
+use Rattle.hall_http.specs.Answered.{Answers, IsRefused, answer_text}
+use Rattle.hall_http.specs.declared.answer.Answer.TheVariants.{Unavailable as NoStore}
 use Rattle.hall_http.specs.Connection.{Exchange, Session}
 
 -- the request is answered at the moment; where the clock told none, by 503, and the world stays
@@ -25,6 +26,9 @@ pub record IsAnswered {H : Type 0} (content : H → Content) (old : H) (moment :
   pub once : WritesOnce (content old) (content new)
   pub quiet : (t : ℕ) (asked : Request) → moment ≡ Some t → RequestOf request (Ok asked) →
       WritesIfAny (content old) t asked (content new)
+  pub stops : LeavesOneOf (λ before left.
+      (made : List ℕ) × ((made ≡ reply) ⊎ BytesOf NotServed reply) × AnswersAt before moment request made left)
+      (content old) (content new)
   pub answers : (content new).honest →
       Over (λ before after. AnswersAt before moment request reply after) (content old) (content new)
   pub untouched : AsksNothing request ⊎ (moment ≡ None) → new ≡ old
@@ -33,6 +37,19 @@ pub record IsAnswered {H : Type 0} (content : H → Content) (old : H) (moment :
 -- fault has shut it, by 503, or by what no store decides
 abbrev pub AreAnswered : {H : Type 0} → (H → Content) → H → List Exchange → H → Type 0
 AreAnswered content = Session (IsAnswered content)
+
+-- after a reply 503 the store serves still, where its device was honest; or it is as it was
+abbrev pub GoesOn : {H : Type 0} → (H → Content) → H → List ℕ → H → Type 0
+GoesOn content old reply new =
+    reply ≡ answer_text NoStore → (new ≡ old) ⊎ ((content new).honest → (content new).serves)
+
+-- The requests are answered over a store, one after another; and after none but the last the reply was 503 by a store that
+-- serves no more, unless that request left the store as it was.
+abbrev pub WhileOpen : {H : Type 0} → (H → Content) → H → List Exchange → H → Type 0
+WhileOpen content old [] new = new ≡ old
+WhileOpen {H} content old (x ∷ xs) new =
+    (mid : H) × IsAnswered content old x.moment x.request x.reply mid × (xs ≢ [] → GoesOn content old x.reply mid)
+    × WhileOpen content mid xs new
 
 -- the bytes aren't made into a request of the hall: they are none, and their reply names the fault; or no memory or no
 -- moment was there for it, and their reply is 503

@@ -1,14 +1,18 @@
 //! Bytes to bytes: a request is read, a step of the hall made, and its reply written.
-ghost use Rattle.std.specs.Prelude.{◌≡◌, ℕ, List, Ok, IfOk, OnErr, string_bytes};
-ghost use Rattle.hall_store.specs.Store.{Leads, WritesOnce};
+ghost use Rattle.std.specs.Prelude.{◌≡◌, ◌≢◌, ◌⊎◌, ℕ, List, Ok, IfOk, OnErr, string_bytes, true, false};
+ghost use Rattle.hall_store.specs.Store.{Kept, Leads, LeavesOneOf, WritesOnce};
 ghost use Rattle.hall_desk.specs.Desk.{kept_by, SaneThen};
 ghost use Rattle.hall_desk.specs.Plans.{IsNobodys, WritesIfAny};
 ghost use Rattle.hall_desk.specs.Promises.{HasUniqueSolutions, RightAnswersAreSolutions};
 ghost use Rattle.hall_desk.specs.Run.{IsTimed};
 ghost use Rattle.hall_desk.specs.Sane.{Sane};
-ghost use Rattle.hall_http.specs.Answered.{answer_text, AnswersFault, AnswersOver, AnswersRequestOver, IsStepReplyOver};
+ghost use Rattle.hall_http.specs.Answered.{answer_text, AnswersFault, AnswersOver, AnswersRequestOver, IsStepReply, IsStepReplyOver};
+ghost use Rattle.hall_http.specs.Answered.{IsUnavailable};
+ghost use Rattle.hall_http.specs.Answered.{StopsAt, StopsAtBytes};
 ghost use Rattle.hall_http.specs.Head.{IsLentBy};
 ghost use Rattle.hall_http.specs.Request.{AsksNothing, RequestOf};
+ghost use Rattle.hall_http.specs.Serving.{GoesOn};
+ghost use Rattle.hall_http.specs.declared.answer.Answer.TheVariants as Answer;
 ghost use Rattle.hall_policy.specs.declared.request.Request.{Request as Asked};
 
 use crate::form::{FormFault, RequestFault};
@@ -17,9 +21,13 @@ use crate::reply::{UNAVAILABLE, fault_bytes, reply_bytes};
 use crate::request::request_of;
 use crate::routes::Routes;
 use hall_desk::Desk;
-use hall_policy::{Moment, Request};
+use hall_policy::{Action, Moment, Request};
 use hall_store::{Store, StoreFault};
 use std::alloc::Global;
+
+/// The reply to bytes that are no request. It takes no memory.
+const REFUSAL: &str =
+    "HTTP/1.1 400 Bad Request\r\nContent-Type: application/json\r\nContent-Length: 13\r\n\r\n{\"form\":\"F7\"}";
 
 /// The bytes that answer a request.
 #[derive(Drop)]
@@ -27,6 +35,12 @@ pub enum Answer {
     Text(String),
     /// 503, which takes no memory.
     Unavailable,
+    /// 503 too, by a store that serves no more.
+    Shut,
+    /// To bytes that are no request. It takes no memory.
+    Refusal,
+    /// Nothing.
+    Nothing,
 }
 
 impl Answer {
@@ -36,7 +50,19 @@ impl Answer {
     {
         match self {
             Answer::Text(text) => text.as_str().as_bytes(),
-            Answer::Unavailable => UNAVAILABLE.as_bytes(),
+            Answer::Unavailable | Answer::Shut => UNAVAILABLE.as_bytes(),
+            Answer::Refusal => REFUSAL.as_bytes(),
+            Answer::Nothing => &[],
+        }
+    }
+
+    /// Whether the store serves on, as far as the answer tells.
+    pub(crate) fn goes_on(&self) -> bool
+        ensures { result ≡ true → self.now ≢ Answer.Shut }
+    {
+        match self {
+            Answer::Shut => false,
+            _ => true,
         }
     }
 }
@@ -60,6 +86,8 @@ pub fn answer_bytes<S: Store>(
         WritesIfAny (S.content (kept_by desk.old)) moment asked (S.content (kept_by desk.new)) }
     ensures answers { (S.content (kept_by desk.new)).honest → AnswersOver (S.content (kept_by desk.old))
         moment bytes.now (answer_text result) (S.content (kept_by desk.new)) }
+    ensures stops { StopsAtBytes (S.content (kept_by desk.old)) moment bytes.now (answer_text result)
+        (S.content (kept_by desk.new)) }
     ensures untouched { AsksNothing bytes.now → desk.new ≡ desk.old }
     ensures sane { SaneThen Sane (S.content (kept_by desk.old)) (S.content (kept_by desk.new)) }
     ensures unique { SaneThen HasUniqueSolutions (S.content (kept_by desk.old)) (S.content (kept_by desk.new)) }
@@ -85,7 +113,11 @@ pub(crate) fn answer_raw_request<S: Store>(
         WritesIfAny (S.content (kept_by desk.old)) moment asked (S.content (kept_by desk.new)) }
     ensures answers { (bytes : List ℕ) → IsLentBy bytes raw.now → (S.content (kept_by desk.new)).honest →
         AnswersOver (S.content (kept_by desk.old)) moment bytes (answer_text result) (S.content (kept_by desk.new)) }
+    ensures stops { (bytes : List ℕ) → IsLentBy bytes raw.now → StopsAtBytes (S.content (kept_by desk.old)) moment bytes
+        (answer_text result) (S.content (kept_by desk.new)) }
     ensures untouched { (bytes : List ℕ) → IsLentBy bytes raw.now → AsksNothing bytes → desk.new ≡ desk.old }
+    ensures goes_on { result ≢ Answer.Shut →
+        GoesOn (λ desk. S.content (kept_by desk)) desk.old (answer_text result) desk.new }
     ensures sane { SaneThen Sane (S.content (kept_by desk.old)) (S.content (kept_by desk.new)) }
 {
     match request_of(alloc, routes, raw) {
@@ -118,14 +150,47 @@ fn answer_request<S: Store>(
     ensures timed { IsTimed (moment, request.now) }
     ensures answers { (S.content (kept_by desk.new)).honest → AnswersRequestOver (S.content (kept_by desk.old))
         moment request.now (answer_text result) (S.content (kept_by desk.new)) }
+    ensures stops { StopsAt (S.content (kept_by desk.old)) moment request.now (answer_text result)
+        (S.content (kept_by desk.new)) }
     ensures untouched { IsNobodys request.now → desk.new ≡ desk.old }
+    ensures goes_on { result ≢ Answer.Shut →
+        GoesOn (λ desk. S.content (kept_by desk)) desk.old (answer_text result) desk.new }
 {
     // They are read for the ranges that their types keep.
     let _moment = moment.get();
     request.in_range();
     match step_bytes(alloc, desk, moment, request) {
-        Ok(text) => Answer::Text(text),
-        Err(_) => Answer::Unavailable,
+        Ok(text) => answer_of(text),
+        Err(_) => unavailable(alloc, desk, request),
+    }
+}
+
+/// The answer to a request that was refused. Where it asks anything of the store, that is asked whether it serves on.
+fn unavailable<S: Store>(alloc: Global, desk: &mut Desk<S>, request: &Request) -> Answer
+    ensures kept { Kept (S.content (kept_by desk.old)) (S.content (kept_by desk.new)) }
+    ensures text { answer_text result ≡ answer_text Answer.Unavailable }
+    ensures untouched { IsNobodys request.now → desk.new ≡ desk.old }
+    ensures goes_on { result ≢ Answer.Shut → IsNobodys request.now
+        ⊎ ((S.content (kept_by desk.new)).honest → (S.content (kept_by desk.new)).serves) }
+{
+    if is_nobodys(request) {
+        return Answer::Unavailable;
+    }
+    if desk.still_serves(alloc) {
+        Answer::Unavailable
+    } else {
+        Answer::Shut
+    }
+}
+
+/// Whether nobody may make the request: it has no key, and asks for no table.
+fn is_nobodys(request: &Request) -> bool
+    ensures nobodys { result ≡ true → IsNobodys request.now }
+    ensures others { result ≡ false → IsNobodys request.now → ⊥ }
+{
+    match &request.action {
+        Action::Table { .. } => false,
+        _ => request.key.is_none(),
     }
 }
 
@@ -143,10 +208,31 @@ fn step_bytes<S: Store>(
         (S.content (kept_by desk.old)) moment request.now (string_bytes text) (S.content (kept_by desk.new))) }
     ensures err { OnErr result ((S.content (kept_by desk.new)).honest → (S.content (kept_by desk.new)).serves →
         (S.content (kept_by desk.new)).world ≡ (S.content (kept_by desk.old)).world) }
+    ensures stops { LeavesOneOf (λ before left. (made : List ℕ) × IfOk result (λ text. made ≡ string_bytes text)
+        × IsStepReply before moment request.now made left) (S.content (kept_by desk.old)) (S.content (kept_by desk.new)) }
     ensures untouched { IsNobodys request.now → desk.new ≡ desk.old }
 {
     let plan = desk.plan(alloc, moment, request)?;
     let text = reply_bytes(alloc, plan.reply())?;
     let _reply = desk.commit(alloc, plan)?;
     Ok(text)
+}
+
+/// The answer of this text. One of 503, which no step of the hall is answered, is taken for a shut store's.
+fn answer_of(text: String) -> Answer
+    ensures text { answer_text result ≡ string_bytes text }
+    ensures goes_on { result ≢ Answer.Shut → ¬ (IsUnavailable (answer_text result)) }
+{
+    if is_unavailable(text.as_str()) {
+        return Answer::Shut;
+    }
+    Answer::Text(text)
+}
+
+/// Whether the text is the reply 503.
+fn is_unavailable(text: &str) -> bool
+    ensures yes { result ≡ true → IsUnavailable text.now }
+    ensures no { result ≡ false → ¬ (IsUnavailable text.now) }
+{
+    text.as_bytes() == Answer::Unavailable.as_bytes()
 }

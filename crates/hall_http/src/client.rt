@@ -1,276 +1,243 @@
-//! One open connection: what has come on it and isn't answered yet, and what is still to be sent.
-use crate::head::{Cut, cut_request};
+//! One connection and the other side of it.
+ghost use Rattle.std.specs.Prelude.{◌≡◌, List};
+ghost use Rattle.hall_http.specs.Steps.{gated};
+ghost use Rattle.hall_http.specs.Turns.{IsClient, IsTurned, goes_on};
+ghost use Rattle.hall_http.specs.Connection.{Exchange};
+ghost use Rattle.std.specs.Prelude.{[], Option, true, false};
+ghost use Rattle.hall_http.specs.declared.connection.State.TheVariants as State;
+ghost use Rattle.hall_http.specs.declared.connection.ServeEnd.{ServeEnd};
+
+use crate::connection::{Clock, Connection, ServeEnd, State};
 use crate::inbox::Inbox;
-use crate::turn::TurnEnd;
-use mio::net::TcpStream;
-use std::alloc::{AllocError, Global};
-use std::io::{ErrorKind, Read, Write};
-use std::net::Shutdown;
+use crate::peer::{Moved, Peer};
+use crate::responder::Responder;
+use crate::routes::Routes;
+use std::alloc::Global;
 
-/// How many milliseconds a client has for a request from its first byte on, for taking a reply, and for the first byte
-/// of the next request.
-const PATIENCE: u64 = 10_000;
+/// The most steps of a turn: enough for a request to be read, answered and sent.
+const STEPS: usize = 5;
 
-/// With more milliseconds left than these an idle client has only just come, or was only just answered.
-const FRESH: u64 = 9_000;
-
-/// How many milliseconds bytes are read off that are no longer answered.
-const LAST_PATIENCE: u64 = 2_000;
-
-/// The most turns of a client.
-const TURN_LIMIT: u64 = 1000;
-
-/// The most reads of what a client sends.
-const READ_LIMIT: u64 = 100_000;
-
-/// The most bytes of one read.
-const CHUNK_SIZE: usize = 4096;
-
-/// With more bytes than these the inbox has no room for a further read. They begin with a whole request, or with none.
-const FULL: usize = 77_824;
-
-/// The most reads at a time of bytes that are no longer answered.
-const LAST_READS: usize = 64;
-
-/// What a client is at.
-#[derive(Clone, Copy, PartialEq, Eq)]
-pub(crate) enum Stage {
-    /// Nothing of a request has come.
+/// What a connection waits for.
+#[derive(Clone, Copy, Debug, PartialEq, Eq)]
+pub enum Wish {
+    /// For a request.
     Idle,
-    /// A part of a request has come.
+    /// For the rest of a request.
     Asking,
-    /// It waits for its turn, or has it.
-    Ready,
-    /// It takes its reply.
+    /// To have its reply taken.
     Taking,
-    /// It was told that no more is sent, and what still comes is read off.
+    /// For the end of what is no longer answered.
     Leaving,
-    /// It is to be let go.
-    Gone,
 }
 
-impl Stage {
-    /// For how many milliseconds a client may be at it.
-    fn patience(self) -> u64 {
+/// How a connection stands after its turn.
+#[derive(Clone, Copy, Debug, PartialEq, Eq)]
+pub enum Step {
+    /// It can go on at once.
+    Again,
+    /// It has ended, and reads off more of what still comes.
+    Leaves,
+    /// It waits for the other side, after so many requests.
+    Waits { wish: Wish, requests: usize },
+    /// It is over.
+    Over,
+    /// It was answered by a store that serves no more, and nobody is answered after it.
+    Shut,
+}
+
+impl Step {
+    /// Whether others may be answered after it.
+    pub(crate) fn goes_on(self) -> bool
+        ensures { result ≡ goes_on self }
+    {
         match self {
-            Stage::Idle | Stage::Asking | Stage::Taking => PATIENCE,
-            Stage::Leaving => LAST_PATIENCE,
-            Stage::Ready | Stage::Gone => u64::MAX,
+            Step::Shut => false,
+            Step::Again | Step::Leaves | Step::Waits { .. } | Step::Over => true,
         }
     }
 }
 
-/// How far a reply was sent.
-#[derive(Clone, Copy)]
-enum Sent {
-    All,
-    Part,
-    Failed,
-}
-
-/// One open connection.
+/// One connection, its number among all that came, and the other side of it.
 #[derive(Drop)]
-pub(crate) struct Client {
-    alloc: Global,
-    stream: TcpStream,
-    inbox: Inbox,
-    /// With fewer bytes the request is unfinished.
-    least: usize,
-    outbox: Vec<u8>,
-    sent: usize,
-    /// How many bytes the next turn has.
-    size: usize,
-    turns: u64,
-    reads: u64,
-    /// Whether more may have come than was read.
-    is_unread: bool,
-    has_ended: bool,
-    is_closing: bool,
-    stage: Stage,
-    until: u64,
+pub(crate) struct Client<P> {
+    pub(crate) number: u64,
+    pub(crate) connection: Connection,
+    pub(crate) peer: P,
+    /// A read told that no more comes.
+    pub(crate) is_over: bool,
+    /// It was told that no more is sent.
+    pub(crate) is_leaving: bool,
 }
 
-impl Client {
+impl<P: Peer> Client<P> {
     /// A newcomer.
-    pub(crate) fn new(alloc: Global, stream: TcpStream, now: u64) -> Result<Client, AllocError> {
-        let inbox = Inbox::new(alloc)?;
-        Ok(Client {
-            alloc,
-            stream,
-            inbox,
-            least: 0,
-            outbox: Vec::new(alloc),
-            sent: 0,
-            size: 0,
-            turns: 0,
-            reads: 0,
-            is_unread: true,
-            has_ended: false,
-            is_closing: false,
-            stage: Stage::Idle,
-            until: now.saturating_add(PATIENCE),
-        })
-    }
-
-    pub(crate) fn stage(&self) -> Stage {
-        self.stage
-    }
-
-    /// The millisecond at which its patience ends.
-    pub(crate) fn until(&self) -> u64 {
-        self.until
-    }
-
-    /// Whether its patience runs: it waits for what the other side sends or takes, and not for its turn.
-    pub(crate) fn waits(&self) -> bool {
-        self.stage != Stage::Ready
-    }
-
-    /// Whether it may make room for a newcomer: nothing that it asked is unanswered, and nothing unsent; and it had a
-    /// second to ask.
-    pub(crate) fn may_go(&self, now: u64) -> bool {
-        match self.stage {
-            Stage::Idle => self.until.saturating_sub(now) <= FRESH,
-            Stage::Leaving => true,
-            _ => false,
+    pub(crate) fn new(number: u64, inbox: Inbox, peer: P) -> Client<P>
+        requires came { P.came peer ≡ [] }
+        requires went { P.went peer ≡ [] }
+        ensures number { result.number ≡ number }
+        ensures kept { IsClient P.came P.went [] result }
+    {
+        Client {
+            number,
+            connection: Connection::new(inbox),
+            peer,
+            is_over: false,
+            is_leaving: false,
         }
     }
 
-    /// Hears that more may have come, or may be sent.
-    pub(crate) fn wake(&mut self) {
-        self.is_unread = true;
-    }
-
-    /// Hands out the bytes of its turn, and whether its input ends after them.
-    pub(crate) fn hand_out(&mut self) -> Result<(Vec<u8>, bool), AllocError> {
-        let size = self.size.min(self.inbox.unread().len());
-        let bytes = self.inbox.unread()[..size].to_vec(self.alloc)?;
-        self.inbox.pass(size);
-        self.least = 0;
-        Ok((bytes, self.is_closing))
-    }
-
-    /// Takes what came of its turn, and goes on.
-    pub(crate) fn take_back(&mut self, end: TurnEnd, now: u64) {
-        self.turns = self.turns.saturating_add(1);
-        match end {
-            TurnEnd::Open(reply) => {
-                self.outbox = reply;
-                self.is_closing = self.turns >= TURN_LIMIT;
-            }
-            TurnEnd::Closed(reply) => {
-                self.outbox = reply;
-                self.is_closing = true;
-            }
-            TurnEnd::Lost => {
-                self.stage = Stage::Gone;
-                return;
+    /// Has its turn: goes some steps, until it would have to wait.
+    pub(crate) fn turn<H: Responder, C: Clock>(
+        &mut self,
+        alloc: Global,
+        routes: &Routes,
+        responder: &mut H,
+        clock: &mut C,
+    ) -> Step
+        requires { (xs : List Exchange) × IsClient P.came P.went xs self.old }
+        ensures number { self.new.number ≡ self.old.number }
+        ensures turned { IsTurned (gated H.answers H.goes_on) C.now_gives P.came P.went (responder.old, true) clock.old
+            self.old (responder.new, goes_on result) clock.new self.new }
+    {
+        for _step in 0..STEPS {
+            match self.step(alloc, routes, responder, clock) {
+                Step::Again => {}
+                step => return step,
             }
         }
-        self.sent = 0;
-        self.go_on(now);
+        Step::Again
     }
 
-    /// Goes on as far as it needn't wait.
-    pub(crate) fn go_on(&mut self, now: u64) {
-        let stage = match self.send() {
-            Sent::Failed => Stage::Gone,
-            Sent::Part => Stage::Taking,
-            Sent::All if self.is_closing => self.leave(),
-            Sent::All => self.hear(),
-        };
-        if stage != self.stage {
-            self.stage = stage;
-            self.until = now.saturating_add(stage.patience());
-        }
-    }
-
-    /// Sends what waits to be sent, and forgets it once all is sent.
-    fn send(&mut self) -> Sent {
-        for _write in 0..u64::MAX {
-            let rest = self.outbox.get(self.sent..).unwrap_or(&[]);
-            if rest.is_empty() {
-                self.outbox = Vec::new(self.alloc);
-                return Sent::All;
-            }
-            match (&self.stream).write(rest) {
-                Ok(count) if count > 0 => self.sent = self.sent.saturating_add(count),
-                Err(error) if error.kind() == ErrorKind::WouldBlock => return Sent::Part,
-                _ => return Sent::Failed,
-            }
-        }
-        Sent::Failed
-    }
-
-    /// Reads what has come, and tells what it is.
-    fn hear(&mut self) -> Stage {
-        self.read_in();
-        let size = self.inbox.unread().len();
-        if size == 0 && self.has_ended {
-            return self.leave();
-        }
-        if size < self.least && !self.has_ended {
-            return self.wait(Stage::Asking);
-        }
-        self.size = size;
-        match cut_request(self.inbox.unread()) {
-            Cut::Whole { size: first, .. } => self.size = first,
-            Cut::Never => {}
-            Cut::More(_) if self.has_ended => self.is_closing = true,
-            Cut::More(_) if size == 0 => return self.wait(Stage::Idle),
-            Cut::More(least) => {
-                self.least = least;
-                return self.wait(Stage::Asking);
-            }
-        }
-        Stage::Ready
-    }
-
-    /// Waits for more, within the limit of reads.
-    fn wait(&mut self, stage: Stage) -> Stage {
-        if self.reads < READ_LIMIT {
-            stage
-        } else {
-            self.leave()
-        }
-    }
-
-    /// Reads what has come, as far as there is room for it. A read that fails is the end of the input.
-    fn read_in(&mut self) {
-        let mut chunk = [0u8; CHUNK_SIZE];
-        for _read in 0..u64::MAX {
-            if !self.is_unread || self.reads >= READ_LIMIT || self.inbox.unread().len() > FULL {
-                return;
-            }
-            match (&self.stream).read(&mut chunk) {
-                Ok(count) if count > 0 => {
-                    self.reads = self.reads.saturating_add(1);
-                    self.has_ended = self.inbox.add(&chunk[..count]).is_err();
+    /// Goes one step: looks at what waits, reads once, or sends once, none of which has to wait.
+    fn step<H: Responder, C: Clock>(
+        &mut self,
+        alloc: Global,
+        routes: &Routes,
+        responder: &mut H,
+        clock: &mut C,
+    ) -> Step
+        requires { (xs : List Exchange) × IsClient P.came P.went xs self.old }
+        ensures number { self.new.number ≡ self.old.number }
+        ensures turned { IsTurned (gated H.answers H.goes_on) C.now_gives P.came P.went (responder.old, true) clock.old
+            self.old (responder.new, goes_on result) clock.new self.new }
+    {
+        match self.connection.state() {
+            State::Looking => {
+                if self.connection.look(alloc, routes, responder, clock) {
+                    Step::Again
+                } else {
+                    Step::Shut
                 }
-                Err(error) if error.kind() == ErrorKind::WouldBlock => self.is_unread = false,
-                _ => self.has_ended = true,
             }
-            self.is_unread = self.is_unread && !self.has_ended;
+            State::Reading => self.read(),
+            State::Writing(_) => self.write(),
+            State::Ended(_) => self.leave(),
         }
     }
 
-    /// Tells the client that no more is sent, and reads off what still comes.
-    fn leave(&mut self) -> Stage {
-        if self.stage != Stage::Leaving {
-            let _shut = self.stream.shutdown(Shutdown::Write);
+    /// It waits for this.
+    fn waits(&self, wish: Wish) -> Step
+        ensures { goes_on result ≡ true }
+    {
+        Step::Waits {
+            wish,
+            requests: self.connection.requests,
         }
-        self.is_closing = true;
-        let mut chunk = [0u8; CHUNK_SIZE];
-        for _read in 0..LAST_READS {
-            if self.has_ended {
-                return Stage::Gone;
-            }
-            match (&self.stream).read(&mut chunk) {
-                Ok(count) if count > 0 => {}
-                Err(error) if error.kind() == ErrorKind::WouldBlock => return Stage::Leaving,
-                _ => self.has_ended = true,
+    }
+
+    /// Reads once.
+    fn read(&mut self) -> Step
+        requires kept { (xs : List Exchange) × IsClient P.came P.went xs self.old }
+        requires at { self.old.connection.state ≡ State.Reading }
+        ensures goes_on { goes_on result ≡ true }
+        ensures number { self.new.number ≡ self.old.number }
+        ensures kept { (xs : List Exchange) → IsClient P.came P.went xs self.old → IsClient P.came P.went xs self.new }
+    {
+        let mut chunk = [0u8; 4096];
+        match self.peer.receive(&mut chunk) {
+            Moved::Some(count) if count > 0 => self.connection.hear(&chunk[..count]),
+            Moved::Wait => return self.waits(self.connection.wish()),
+            _ => {
+                self.is_over = true;
+                self.connection.end_input();
             }
         }
-        Stage::Leaving
+        Step::Again
+    }
+
+    /// Sends once.
+    fn write(&mut self) -> Step
+        requires kept { (xs : List Exchange) × IsClient P.came P.went xs self.old }
+        requires at { (ending : Option ServeEnd) × (self.old.connection.state ≡ State.Writing ending) }
+        ensures goes_on { goes_on result ≡ true }
+        ensures number { self.new.number ≡ self.old.number }
+        ensures kept { (xs : List Exchange) → IsClient P.came P.went xs self.old → IsClient P.came P.went xs self.new }
+    {
+        match self.peer.send(&self.connection.reply, self.connection.sent) {
+            Moved::Some(count) => self.connection.sent(count),
+            Moved::Wait => return self.waits(Wish::Taking),
+            Moved::None => return Step::Over,
+        }
+        Step::Again
+    }
+
+    /// Tells the peer that no more is sent, and reads off what still comes: a socket that is closed over unread bytes
+    /// may lose its last reply.
+    fn leave(&mut self) -> Step
+        requires kept { (xs : List Exchange) × IsClient P.came P.went xs self.old }
+        requires at { (end : ServeEnd) × (self.old.connection.state ≡ State.Ended end) }
+        ensures goes_on { goes_on result ≡ true }
+        ensures number { self.new.number ≡ self.old.number }
+        ensures kept { (xs : List Exchange) → IsClient P.came P.went xs self.old → IsClient P.came P.went xs self.new }
+    {
+        self.hang_up();
+        if self.is_over {
+            return Step::Over;
+        }
+        self.read_off()
+    }
+
+    /// Sends once more, where a reply waits.
+    pub(crate) fn finish(&mut self)
+        requires { (xs : List Exchange) × IsClient P.came P.went xs self.old }
+        ensures number { self.new.number ≡ self.old.number }
+        ensures kept { (xs : List Exchange) → IsClient P.came P.went xs self.old → IsClient P.came P.went xs self.new }
+    {
+        if let State::Writing(_) = self.connection.state() {
+            let _step = self.write();
+        }
+    }
+
+    /// Tells the peer, once, that no more is sent.
+    fn hang_up(&mut self)
+        ensures number { self.new.number ≡ self.old.number }
+        ensures connection { self.new.connection ≡ self.old.connection }
+        ensures over { self.new.is_over ≡ self.old.is_over }
+        ensures kept { (xs : List Exchange) → IsClient P.came P.went xs self.old → IsClient P.came P.went xs self.new }
+    {
+        if self.is_leaving {
+            return;
+        }
+        self.is_leaving = true;
+        self.peer.end_sending();
+    }
+
+    /// Reads off once what is no longer answered.
+    fn read_off(&mut self) -> Step
+        requires at { (end : ServeEnd) × (self.old.connection.state ≡ State.Ended end) }
+        requires unended { self.old.is_over ≡ false }
+        ensures goes_on { goes_on result ≡ true }
+        ensures number { self.new.number ≡ self.old.number }
+        ensures kept { (xs : List Exchange) → IsClient P.came P.went xs self.old → IsClient P.came P.went xs self.new }
+    {
+        let mut chunk = [0u8; 4096];
+        match self.peer.receive(&mut chunk) {
+            Moved::Some(_) => Step::Leaves,
+            Moved::Wait => self.waits(Wish::Leaving),
+            Moved::None => {
+                self.is_over = true;
+                Step::Over
+            }
+        }
     }
 }

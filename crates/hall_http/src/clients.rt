@@ -1,175 +1,152 @@
-//! The open connections, and who of them is ready for a turn.
-use crate::client::{Client, Stage};
-use crate::turn::{TurnEnd, TurnLine};
+//! The open connections, each at a place of its own.
+ghost use Rattle.std.specs.Prelude.{◌≡◌, List, [], IfOk, Some, true};
+ghost use Rattle.hall_http.specs.Connection.{Exchange};
+ghost use Rattle.hall_http.specs.Steps.{gated};
+ghost use Rattle.hall_http.specs.Turns.{Turn, IsClient, IsPlaceKept, IsPlaceTurned, goes_on};
+ghost use Rattle.hall_http.specs.declared.client.Client.{Client};
+ghost use Rattle.hall_http.specs.Crowd.{AreKept, Serves};
+
+use crate::client::{Client, Step};
+use crate::connection::Clock;
+use crate::inbox::Inbox;
+use crate::peer::Peer;
+use crate::responder::Responder;
+use crate::routes::Routes;
+use http_server::Log;
 use std::alloc::{AllocError, Global};
-use std::collections::VecDeque;
 
 /// The most open connections. A process may usually have 1,024 files open.
 pub(crate) const MOST_CLIENTS: usize = 500;
 
-/// The open connections, each at a place of its own.
+/// The open connections, how many came, and those that have gone or were turned away.
 #[derive(Drop)]
-pub(crate) struct Clients {
-    alloc: Global,
-    places: Vec<Option<Client>>,
-    /// The places of those who are ready, in the order in which they became so.
-    ready: VecDeque<usize>,
-    /// How many have gone and weren't told of yet.
-    gone: u64,
-    /// No patience ends before this millisecond.
-    quiet_until: u64,
+pub struct Clients<P> {
+    pub(crate) places: Vec<Option<Client<P>>>,
+    pub(crate) count: u64,
+    pub(crate) gone: Log<P, u64>,
+    pub(crate) away: Log<P, u64>,
 }
 
-impl Clients {
-    /// None yet.
-    pub(crate) fn new(alloc: Global) -> Result<Clients, AllocError> {
-        let mut places = Vec::with_capacity(alloc, MOST_CLIENTS)?;
-        for _place in 0..MOST_CLIENTS {
+/// The connection there, if there is one, has its turn.
+fn turn_at<P: Peer, H: Responder, C: Clock>(
+    place: &mut Option<Client<P>>,
+    alloc: Global,
+    routes: &Routes,
+    responder: &mut H,
+    clock: &mut C,
+) -> Step
+    requires { (k : Client P) → place.old ≡ Some k → (xs : List Exchange) × IsClient P.came P.went xs k }
+    ensures { IsPlaceTurned (gated H.answers H.goes_on) C.now_gives P.came P.went (responder.old, true) clock.old
+        place.old (responder.new, goes_on result) clock.new place.new }
+{
+    match place {
+        Some(client) => client.turn(alloc, routes, responder, clock),
+        None => Step::Over,
+    }
+}
+
+/// Sends once more to the connection there, if there is one and its reply waits.
+fn finish_at<P: Peer>(place: &mut Option<Client<P>>)
+    requires { (k : Client P) → place.old ≡ Some k → (xs : List Exchange) × IsClient P.came P.went xs k }
+    ensures { IsPlaceKept P.came P.went place.old place.new }
+{
+    match place {
+        Some(client) => client.finish(),
+        None => {}
+    }
+}
+
+impl<P: Peer + Drop> Clients<P> {
+    /// None yet, with so many places.
+    pub fn new(alloc: Global, most: usize) -> Result<Clients<P>, AllocError>
+        ensures { IfOk result (AreKept P.came P.went []) }
+    {
+        let mut places = Vec::with_capacity(alloc, most)?;
+        for _place in 0..most {
             places.push(None)?;
         }
         Ok(Clients {
-            alloc,
             places,
-            ready: VecDeque::with_capacity(alloc, MOST_CLIENTS)?,
-            gone: 0,
-            quiet_until: u64::MAX,
+            count: 0,
+            gone: Log::new(),
+            away: Log::new(),
         })
     }
 
-    /// No patience ends before this millisecond.
-    pub(crate) fn quiet_until(&self) -> u64 {
-        self.quiet_until
-    }
-
-    /// Whether one is ready for its turn.
-    pub(crate) fn has_ready(&self) -> bool {
-        !self.ready.is_empty()
-    }
-
-    /// Tells of one that has gone, where one has that wasn't told of.
-    pub(crate) fn tell_gone(&mut self) -> bool {
-        let has_gone = self.gone > 0;
-        self.gone = self.gone.saturating_sub(1);
-        has_gone
-    }
-
-    /// A newcomer couldn't be let in.
-    pub(crate) fn turn_away(&mut self) {
-        self.gone = self.gone.saturating_add(1);
-    }
-
-    /// A place for a newcomer, where no more than so many may be here or have gone untold.
-    ///
-    /// Where all places are taken, one is freed whose client may go, whose patience ends first.
-    pub(crate) fn find_place(&mut self, most: u64, now: u64) -> Option<usize> {
-        let mut count = self.gone;
-        let mut found = None;
-        let mut first = u64::MAX;
-        let mut leaves = None;
-        for place in 0..self.places.len() {
-            match &self.places[place] {
-                None => found = Some(place),
-                Some(client) => {
-                    count = count.saturating_add(1);
-                    if client.may_go(now) && client.until() < first {
-                        first = client.until();
-                        leaves = Some(place);
-                    }
-                }
-            }
-        }
-        if count >= most {
-            return None;
-        }
-        if found.is_none() {
-            self.forget(leaves?);
-            return leaves;
-        }
-        found
-    }
-
-    /// Lets a newcomer have the place.
-    pub(crate) fn seat(&mut self, place: usize, client: Client, now: u64) {
-        if let Some(free) = self.places.get_mut(place) {
-            *free = Some(client);
-        }
-        self.wake(place, now);
-    }
-
-    /// Something befell the client's socket.
-    pub(crate) fn wake(&mut self, place: usize, now: u64) {
-        let Some(Some(client)) = self.places.get_mut(place) else {
-            return;
-        };
-        client.wake();
-        if client.stage() != Stage::Ready {
-            client.go_on(now);
-            self.settle(place);
-        }
-    }
-
-    /// The turn of the one who became ready first.
-    pub(crate) fn next_turn(&mut self) -> Option<TurnLine> {
-        let place = self.ready.pop_front()?;
-        let Some(Some(client)) = self.places.get_mut(place) else {
-            return None;
-        };
-        match client.hand_out() {
-            Ok((bytes, at_end)) => Some(TurnLine::new(self.alloc, place, bytes, at_end)),
-            Err(_) => {
-                self.forget(place);
-                None
-            }
-        }
-    }
-
-    /// Takes back what came of a turn.
-    pub(crate) fn end_turn(&mut self, place: usize, end: TurnEnd, now: u64) {
-        if let Some(Some(client)) = self.places.get_mut(place) {
-            client.take_back(end, now);
-        }
-        self.settle(place);
-    }
-
-    /// Lets go those whose patience has ended.
-    pub(crate) fn sweep(&mut self, now: u64) {
-        if now < self.quiet_until {
+    /// Lets a newcomer have the place, if it is free, or else turns it away.
+    pub(crate) fn seat(&mut self, place: usize, inbox: Inbox, peer: P)
+        requires came { P.came peer ≡ [] }
+        requires went { P.went peer ≡ [] }
+        ensures { (turns : List Turn) → AreKept P.came P.went turns self.old → AreKept P.came P.went turns self.new }
+    {
+        if self.count == u64::MAX || place >= self.places.len() || self.places[place].is_some() {
+            self.turn_away(peer);
             return;
         }
-        self.quiet_until = u64::MAX;
-        for place in 0..self.places.len() {
-            let Some(Some(client)) = self.places.get(place) else {
-                continue;
-            };
-            if client.waits() && client.until() <= now {
-                self.forget(place);
-            } else {
-                self.quiet_until = self.quiet_until.min(client.until());
-            }
+        self.places[place] = Some(Client::new(self.count, inbox, peer));
+        self.count += 1;
+    }
+
+    /// Turns a newcomer away. It is sent nothing.
+    pub(crate) fn turn_away(&mut self, peer: P)
+        requires came { P.came peer ≡ [] }
+        requires went { P.went peer ≡ [] }
+        ensures { (turns : List Turn) → AreKept P.came P.went turns self.old → AreKept P.came P.went turns self.new }
+    {
+        self.away = self.away.and(&peer, &self.count);
+    }
+
+    /// The connection at the place has its turn.
+    pub(crate) fn turn<H: Responder, C: Clock>(
+        &mut self,
+        alloc: Global,
+        routes: &Routes,
+        place: usize,
+        responder: &mut H,
+        clock: &mut C,
+    ) -> Step
+        requires { (turns : List Turn) × AreKept P.came P.went turns self.old }
+        ensures { Serves (gated H.answers H.goes_on) C.now_gives P.came P.went (responder.old, true) clock.old
+            self.old (responder.new, goes_on result) clock.new self.new }
+    {
+        if place >= self.places.len() {
+            return Step::Over;
+        }
+        turn_at(&mut self.places[place], alloc, routes, responder, clock)
+    }
+
+    /// Sends once more to each whose reply waits.
+    pub(crate) fn finish(&mut self)
+        requires { (turns : List Turn) × AreKept P.came P.went turns self.old }
+        ensures { (turns : List Turn) → AreKept P.came P.went turns self.old → AreKept P.came P.went turns self.new }
+    {
+        for place in 0..MOST_CLIENTS {
+            self.finish_one(place);
         }
     }
 
-    /// Puts a client who went on where it belongs now.
-    fn settle(&mut self, place: usize) {
-        let Some(Some(client)) = self.places.get(place) else {
+    /// Sends once more to the connection at the place, where its reply waits.
+    fn finish_one(&mut self, place: usize)
+        requires { (turns : List Turn) × AreKept P.came P.went turns self.old }
+        ensures { (turns : List Turn) → AreKept P.came P.went turns self.old → AreKept P.came P.went turns self.new }
+    {
+        if place >= self.places.len() {
+            return;
+        }
+        finish_at(&mut self.places[place]);
+    }
+
+    /// Lets the connection at the place go.
+    pub(crate) fn forget(&mut self, place: usize)
+        ensures { (turns : List Turn) → AreKept P.came P.went turns self.old → AreKept P.came P.went turns self.new }
+    {
+        if place >= self.places.len() {
+            return;
+        }
+        let Some(client) = &self.places[place] else {
             return;
         };
-        match client.stage() {
-            Stage::Ready => {
-                if self.ready.push_back(place).is_err() {
-                    self.forget(place);
-                }
-            }
-            Stage::Gone => self.forget(place),
-            _ => self.quiet_until = self.quiet_until.min(client.until()),
-        }
-    }
-
-    /// Lets the client go.
-    fn forget(&mut self, place: usize) {
-        if let Some(taken) = self.places.get_mut(place) {
-            *taken = None;
-        }
-        self.turn_away();
+        self.gone = self.gone.and(&client.peer, &client.number);
+        self.places[place] = None;
     }
 }

@@ -1,34 +1,24 @@
-//! One connection: requests are read, answered and their replies written, one after another.
-ghost use Rattle.std.specs.Prelude.{◌≡◌, [], ℕ, List, Option, IfOk, OnErr};
-ghost use Rattle.hall_desk.specs.Desk.{kept_by, SaneThen};
-ghost use Rattle.hall_desk.specs.Sane.{Sane};
-ghost use Rattle.hall_desk.specs.Promises.{HasUniqueSolutions, RightAnswersAreSolutions};
-ghost use Rattle.hall_http.specs.Head.{IsLentBy};
-ghost use Rattle.hall_http.specs.Sending.{IsExchangeMade, Refuses, EndsInput};
-ghost use Rattle.hall_http.specs.Served.{IsHandled, IsServed};
+//! One connection as steps over bytes, with no read and no write of its own: what is heard is handed in, and what is to
+//! be told is handed out.
+ghost use Rattle.std.specs.Prelude.{◌≡◌, ◌≤◌, ◌<◌, ◌+◌, ℕ, Option, length, true};
+ghost use Rattle.hall_http.specs.Head.{IsUnfinishedBelow};
+ghost use Rattle.hall_http.specs.Answered.{answer_text};
+ghost use Rattle.hall_http.specs.Steps.{pending, fresh, IsAfterHearing, IsAfterSending, IsAfterEnd, Looks, gated, then_of};
 
-use crate::device::write_all;
-use crate::head::{Cut, RawRequest, cut_from};
-use crate::inbox::{Inbox, ReadFault};
+use crate::answer::Answer;
+use crate::client::Wish;
+use crate::head::{Cut, cut_from};
+use crate::inbox::Inbox;
 use crate::responder::Responder;
 use crate::routes::Routes;
-use crate::session::{routes_and_inbox, send};
-use hall_desk::Desk;
-use hall_grid::Counted;
 use hall_policy::Moment;
-use hall_store::Store;
-use std::alloc::{AllocError, Global};
-use std::io::{Read, Write};
+use std::alloc::Global;
 
 /// The most requests of a connection.
 const REQUEST_LIMIT: usize = 1000;
 
 /// The most reads of a connection.
 const READ_LIMIT: usize = 100_000;
-
-/// The reply to bytes that are no request. It takes no memory.
-const REFUSAL: &str =
-    "HTTP/1.1 400 Bad Request\r\nContent-Type: application/json\r\nContent-Length: 13\r\n\r\n{\"form\":\"F7\"}";
 
 /// The clock of a connection.
 pub trait Clock {
@@ -52,160 +42,185 @@ pub enum ServeEnd {
     Device,
 }
 
-/// How a connection stands after a request.
-#[derive(Clone, Copy)]
-pub(crate) enum ConnectionState {
-    Open,
-    Closing,
-    Failed,
+/// What a connection is at.
+#[derive(Clone, Copy, Debug, PartialEq, Eq)]
+pub(crate) enum State {
+    /// A whole request may wait.
+    Looking,
+    /// No whole request waits, and more bytes can make one.
+    Reading,
+    /// A reply waits to be sent; after it the connection ends so, or goes on.
+    Writing(Option<ServeEnd>),
+    /// It has ended, and nothing waits to be sent.
+    Ended(ServeEnd),
 }
 
-/// Serves one connection: reads its requests, answers each in turn, and writes the replies.
-///
-/// Refused for memory, it has read nothing. A request is answered before anything more is read, and its reply written
-/// once its change is made. Bytes that are no request are answered by the fault of their form, and end the connection.
-/// The first read or write that fails ends it too, and none is tried again.
-pub fn serve<S: Store, R: Read, W: Write, C: Clock>(
-    alloc: Global,
-    desk: &mut Desk<S>,
-    reader: &mut Counted<R>,
-    writer: &mut Counted<W>,
-    clock: &mut C,
-) -> Result<ServeEnd, AllocError>
-    ensures desk { OnErr result (desk.new ≡ desk.old) }
-    ensures clock { OnErr result (clock.new ≡ clock.old) }
-    ensures reader { OnErr result (reader.new ≡ reader.old) }
-    ensures writer { OnErr result (writer.new ≡ writer.old) }
-    ensures served { IfOk result (IsServed S.content C.now_gives
-        (R.remaining reader.old.device) (R.remaining reader.new.device)
-        (W.contents writer.old.device) (W.contents writer.new.device)
-        (kept_by desk.old) clock.old (kept_by desk.new) clock.new
-        reader.old.failures reader.new.failures writer.old.failures writer.new.failures
-        reader.old.calls reader.new.calls) }
-    ensures sane { SaneThen Sane (S.content (kept_by desk.old)) (S.content (kept_by desk.new)) }
-    ensures unique { SaneThen HasUniqueSolutions (S.content (kept_by desk.old)) (S.content (kept_by desk.new)) }
-    ensures right { SaneThen RightAnswersAreSolutions (S.content (kept_by desk.old)) (S.content (kept_by desk.new)) }
-{
-    let (routes, mut inbox) = routes_and_inbox(alloc)?;
-    Ok(serve_with(alloc, &routes, &mut inbox, desk, reader, writer, clock))
+/// One connection.
+#[derive(Drop)]
+pub(crate) struct Connection {
+    pub(crate) inbox: Inbox,
+    /// With fewer bytes what waits is unfinished.
+    pub(crate) least: usize,
+    pub(crate) reply: Answer,
+    /// How many bytes of the reply were sent.
+    pub(crate) sent: usize,
+    pub(crate) requests: usize,
+    pub(crate) reads: usize,
+    pub(crate) state: State,
 }
 
-/// Serves one connection as `serve` does, with these routes and the room of this inbox, whose bytes are forgotten.
-pub(crate) fn serve_with<S: Store, R: Read, W: Write, C: Clock>(
-    alloc: Global,
-    routes: &Routes,
-    inbox: &mut Inbox,
-    desk: &mut Desk<S>,
-    reader: &mut Counted<R>,
-    writer: &mut Counted<W>,
-    clock: &mut C,
-) -> ServeEnd
-    ensures served { IsServed S.content C.now_gives
-        (R.remaining reader.old.device) (R.remaining reader.new.device)
-        (W.contents writer.old.device) (W.contents writer.new.device)
-        (kept_by desk.old) clock.old (kept_by desk.new) clock.new
-        reader.old.failures reader.new.failures writer.old.failures writer.new.failures
-        reader.old.calls reader.new.calls result }
-    ensures sane { SaneThen Sane (S.content (kept_by desk.old)) (S.content (kept_by desk.new)) }
-    ensures unique { SaneThen HasUniqueSolutions (S.content (kept_by desk.old)) (S.content (kept_by desk.new)) }
-    ensures right { SaneThen RightAnswersAreSolutions (S.content (kept_by desk.old)) (S.content (kept_by desk.new)) }
+/// What comes after a request: whether it closes the connection, and how many there were.
+fn then_of(closes: bool, requests: usize) -> Option<ServeEnd>
+    ensures { result ≡ then_of closes requests }
 {
-    inbox.clear();
-    serve_requests(alloc, routes, inbox, desk, reader, writer, clock)
+    if closes {
+        Some(ServeEnd::Closed)
+    } else if requests == REQUEST_LIMIT {
+        Some(ServeEnd::Limit)
+    } else {
+        None
+    }
 }
 
-/// Answers the requests of a connection, in their order, with an empty inbox.
-fn serve_requests<H: Responder, R: Read, W: Write, C: Clock>(
-    alloc: Global,
-    routes: &Routes,
-    inbox: &mut Inbox,
-    responder: &mut H,
-    reader: &mut Counted<R>,
-    writer: &mut Counted<W>,
-    clock: &mut C,
-) -> ServeEnd
-    requires { inbox.old ≡ [] }
-    ensures { IsHandled H.answers C.now_gives
-        (R.remaining reader.old.device) (R.remaining reader.new.device)
-        (W.contents writer.old.device) (W.contents writer.new.device) responder.old clock.old responder.new clock.new
-        reader.old.failures reader.new.failures writer.old.failures writer.new.failures
-        reader.old.calls reader.new.calls result }
-{
-    let mut requests = 0;
-    let mut reads = 0;
-    let mut least = 0;
-    while requests < REQUEST_LIMIT {
-        match cut_from(inbox.unread(), least) {
-            Cut::Whole { size, request } => {
-                let state = exchange(alloc, routes, &request, responder, writer, clock);
-                inbox.pass(size);
-                requests += 1;
-                least = 0;
-                match state {
-                    ConnectionState::Open => {}
-                    ConnectionState::Closing => return ServeEnd::Closed,
-                    ConnectionState::Failed => return ServeEnd::Device,
-                }
-            }
-            Cut::More(size) => {
-                least = size;
-                if reads == READ_LIMIT {
-                    return ServeEnd::Limit;
-                }
-                reads += 1;
-                match inbox.read_more(reader) {
-                    Ok(true) => {}
-                    Ok(false) => return end_of_input(inbox.unread(), writer),
-                    Err(ReadFault::Device) => return ServeEnd::Device,
-                    Err(ReadFault::Memory) => unreachable!(),
-                }
-            }
-            Cut::Never => return refuse(writer),
+impl Connection {
+    /// One of which nothing was heard, with the room of this inbox.
+    pub(crate) fn new(inbox: Inbox) -> Connection
+        ensures { result ≡ fresh }
+    {
+        let mut inbox = inbox;
+        inbox.clear();
+        Connection {
+            inbox,
+            least: 0,
+            reply: Answer::Nothing,
+            sent: 0,
+            requests: 0,
+            reads: 0,
+            state: State::Looking,
         }
     }
-    ServeEnd::Limit
-}
 
-/// Answers a request, and writes the reply.
-fn exchange<H: Responder, W: Write, C: Clock>(
-    alloc: Global,
-    routes: &Routes,
-    request: &RawRequest<'_>,
-    responder: &mut H,
-    writer: &mut Counted<W>,
-    clock: &mut C,
-) -> ConnectionState
-    ensures { (bytes : List ℕ) → IsLentBy bytes request.now →
-        IsExchangeMade H.answers C.now_gives responder.old clock.old bytes responder.new clock.new
-        (W.contents writer.old.device) (W.contents writer.new.device) writer.old.failures writer.new.failures result }
-{
-    let moment = clock.now();
-    let answer = responder.answer(alloc, routes, moment, request);
-    match send(writer, answer) {
-        Ok(()) if request.closes => ConnectionState::Closing,
-        Ok(()) => ConnectionState::Open,
-        Err(_) => ConnectionState::Failed,
+    /// What it is at.
+    pub(crate) fn state(&self) -> State
+        ensures { result ≡ self.now.state }
+    {
+        self.state
     }
-}
 
-/// Ends the connection at the end of the input, with these bytes left.
-fn end_of_input<W: Write>(unread: &[u8], writer: &mut Counted<W>) -> ServeEnd
-    ensures { EndsInput unread.now result
-        (W.contents writer.old.device) (W.contents writer.new.device) writer.old.failures writer.new.failures }
-{
-    if unread.is_empty() {
-        return ServeEnd::Closed;
+    /// What it waits for while it reads.
+    pub(crate) fn wish(&self) -> Wish {
+        if self.inbox.unread().is_empty() {
+            Wish::Idle
+        } else {
+            Wish::Asking
+        }
     }
-    refuse(writer)
-}
 
-/// Writes the reply to bytes that are no request.
-fn refuse<W: Write>(writer: &mut Counted<W>) -> ServeEnd
-    ensures { Refuses result
-        (W.contents writer.old.device) (W.contents writer.new.device) writer.old.failures writer.new.failures }
-{
-    match write_all(writer, REFUSAL.as_bytes()) {
-        Ok(()) => ServeEnd::BadHead,
-        Err(_) => ServeEnd::Device,
+    /// Hears some more bytes, which one read gave.
+    pub(crate) fn hear(&mut self, piece: &[u8])
+        requires room { length self.old.inbox + length piece.now ≤ 81920 }
+        requires few { self.old.reads ≤ 100000 }
+        ensures { IsAfterHearing self.old piece.now self.new }
+    {
+        match self.inbox.add(piece) {
+            Ok(()) => {}
+            Err(_) => unreachable!(),
+        }
+        self.reads += 1;
+        self.state = State::Looking;
+    }
+
+    /// Hears that the input is at its end, as one read told.
+    pub(crate) fn end_input(&mut self)
+        requires { self.old.reads ≤ 100000 }
+        ensures { IsAfterEnd self.old self.new }
+    {
+        self.reads += 1;
+        if self.inbox.unread().is_empty() {
+            self.state = State::Ended(ServeEnd::Closed);
+            return;
+        }
+        self.reply = Answer::Refusal;
+        self.sent = 0;
+        self.state = State::Writing(Some(ServeEnd::BadHead));
+    }
+
+    /// Looks at what waits: a whole request is answered, bytes that are none are refused, and else more has to be read.
+    /// The result is whether the responder goes on.
+    pub(crate) fn look<H: Responder, C: Clock>(
+        &mut self,
+        alloc: Global,
+        routes: &Routes,
+        responder: &mut H,
+        clock: &mut C,
+    ) -> bool
+        requires below { IsUnfinishedBelow self.old.least self.old.inbox }
+        requires few { self.old.requests ≤ 1000 }
+        ensures { Looks (gated H.answers H.goes_on) C.now_gives (responder.old, true) clock.old self.old
+            (responder.new, result) clock.new self.new }
+    {
+        match cut_from(self.inbox.unread(), self.least) {
+            Cut::Whole { size, request } => {
+                let moment = clock.now();
+                self.reply = responder.answer(alloc, routes, moment, &request);
+                self.requests += 1;
+                self.state = State::Writing(then_of(request.closes, self.requests));
+                self.inbox.pass(size);
+                self.sent = 0;
+                self.least = 0;
+                self.reply.goes_on()
+            }
+            Cut::More(least) => {
+                self.least = least;
+                self.state = if self.reads == READ_LIMIT {
+                    State::Ended(ServeEnd::Limit)
+                } else {
+                    State::Reading
+                };
+                true
+            }
+            Cut::Never => {
+                self.reply = Answer::Refusal;
+                self.sent = 0;
+                self.state = State::Writing(Some(ServeEnd::BadHead));
+                true
+            }
+        }
+    }
+
+    /// The bytes that wait to be sent.
+    pub(crate) fn pending(&self) -> &[u8]
+        requires { self.now.sent ≤ length (answer_text self.now.reply) }
+        ensures { result.now ≡ pending self.now }
+    {
+        &self.reply.as_bytes()[self.sent..]
+    }
+
+    /// So many of them were sent.
+    pub(crate) fn sent(&mut self, count: usize)
+        requires { count ≤ length (pending self.old) }
+        ensures { IsAfterSending self.old count self.new }
+    {
+        self.sent += count;
+        if self.sent < self.reply.as_bytes().len() {
+            return;
+        }
+        self.sent = 0;
+        self.reply = Answer::Nothing;
+        if let State::Writing(then) = self.state {
+            self.state = match then {
+                Some(end) => State::Ended(end),
+                None => State::Looking,
+            };
+        }
+    }
+
+    /// All of them were sent.
+    pub(crate) fn sent_all(&mut self)
+        requires { self.old.sent ≤ length (answer_text self.old.reply) }
+        ensures { IsAfterSending self.old (length (pending self.old)) self.new }
+    {
+        let count = self.pending().len();
+        self.sent(count);
     }
 }

@@ -1,29 +1,47 @@
-//! The system's listener: many connections at once, of which each that is ready has its turn.
-use crate::client::Client;
-use crate::clients::Clients;
-use crate::listener::{Accepted, Listener};
-use crate::turn::TurnLine;
+//! The system's sockets: who comes, whose turn it is, and who has waited too long.
+ghost use Rattle.std.specs.Prelude.{◌≡◌, ◌≢◌, IfSome};
+ghost use Rattle.hall_http.specs.declared.server.Next.TheVariants as Next;
+ghost use Rattle.hall_http.specs.Coming.{IsFreshPeer};
+ghost use Rattle.hall_http.specs.Socket.{came_of, went_of};
+
+use crate::client::{Step, Wish};
+use crate::clients::MOST_CLIENTS;
+use crate::server::{Next, Sockets};
+use crate::socket::Socket;
 use mio::event::Event;
 use mio::net::{TcpListener, TcpStream};
 use mio::{Events, Interest, Poll, Token};
-use std::alloc::Global;
+use std::collections::VecDeque;
 use std::io::ErrorKind;
-use std::marker::Model;
 use std::net::{Net, SocketAddr};
 use std::time::Duration;
 use std::{io, time};
 
-/// What the listener's events are called. No client has this place.
+/// What the listener's events are called. No connection has this place.
 const LISTENER: usize = usize::MAX;
 
 /// The most events that are told at a time.
 const MOST_EVENTS: usize = 256;
 
-/// The most newcomers that are let in at a time.
-const MOST_NEWCOMERS: usize = 64;
-
 /// For how many milliseconds at most none is let in once there was no place, or the system refused one.
 const RETRY: u64 = 1000;
+
+/// How many milliseconds a connection has for a request from its first byte on, for taking a reply, and for the first
+/// byte of the next request.
+const PATIENCE: u64 = 10_000;
+
+/// With more milliseconds left than these an idle connection has only just come, or was only just answered.
+const FRESH: u64 = 9_000;
+
+/// How many milliseconds bytes are read off that are no longer answered.
+const LAST_PATIENCE: u64 = 2_000;
+
+/// The most milliseconds of a wait, or between two waits, that count against anybody's patience. The rest of a longer
+/// time is the hall's own: a request took it, or the machine stood still.
+const LONGEST_ROUND: u64 = 1_000;
+
+/// How often at most the sockets are asked again for what else befell them.
+const MOST_ASKED: usize = 4;
 
 /// Whether newcomers wait.
 #[derive(Clone, Copy, PartialEq, Eq)]
@@ -32,50 +50,82 @@ enum Backlog {
     Empty,
     /// Perhaps.
     Waiting,
-    /// Perhaps, and there is no place.
-    Full,
-    /// Perhaps, and the system lets none in now.
-    Refused,
+    /// Perhaps, and none is let in now.
+    Later,
 }
 
-/// Connections to one address. A turn of one is a line: one request, which is there before the turn, and its reply,
-/// which is sent after it. So no turn waits for a client.
+/// What a connection waited for last, after so many requests, and the millisecond at which its patience ends.
+#[derive(Clone, Copy, PartialEq, Eq)]
+struct Wait {
+    wish: Wish,
+    requests: usize,
+    until: u64,
+}
+
+/// What is known of the connection at a place.
+#[derive(Clone, Copy, PartialEq, Eq)]
+enum Visit {
+    /// None is there.
+    Free,
+    /// It is ready, or has its turn; and what it waited for last.
+    Ready(Option<Wait>),
+    /// It waits.
+    Waiting(Wait),
+}
+
+/// Connections to one address.
 #[derive(Drop)]
 pub struct EventLoop<'r, N> {
-    alloc: Global,
     time: &'r N,
     poll: Poll,
     events: Events,
     listener: TcpListener,
     backlog: Backlog,
-    clients: Clients,
-}
-
-// Nothing is told of its sockets. Its value is so small that who names its type compares next to nothing.
-impl<'r, N> Model for EventLoop<'r, N> {
-    ghost Value = { Unit {0} };
-
-    ghost view = { λ _. tt };
+    places: Vec<Visit>,
+    /// The places of those who are ready, in the order in which they became so.
+    ready: VecDeque<usize>,
+    /// How many of them have their turn before the sockets are asked again.
+    round: usize,
+    /// All that befell the sockets was heard, and nobody had a turn since.
+    has_heard: bool,
+    /// How many connections may still come or are here.
+    left: u64,
+    /// The clock's millisecond when it was last read.
+    read: u64,
+    /// How many milliseconds have counted so far.
+    now: u64,
+    /// No patience ends before so many.
+    quiet_until: u64,
 }
 
 impl<'r, N: Net + AllocGlobal + time::Clock> EventLoop<'r, N> {
-    /// Listens on the address.
-    pub fn new(rt: &'r N, address: SocketAddr) -> io::Result<EventLoop<'r, N>> {
+    /// Listens on the address, for so many connections.
+    pub fn new(rt: &'r N, address: SocketAddr, connections: u64) -> io::Result<EventLoop<'r, N>> {
         let alloc = rt.alloc();
         let poll = Poll::new(rt)?;
         let events = Events::with_capacity(alloc, MOST_EVENTS)?;
-        let clients = Clients::new(alloc)?;
+        let mut places = Vec::with_capacity(alloc, MOST_CLIENTS)?;
+        for _place in 0..MOST_CLIENTS {
+            places.push(Visit::Free)?;
+        }
+        let ready = VecDeque::with_capacity(alloc, MOST_CLIENTS)?;
         let mut listener = TcpListener::bind(rt, address)?;
         poll.registry()
             .register(&mut listener, Token(LISTENER), Interest::READABLE)?;
         Ok(EventLoop {
-            alloc,
             time: rt,
             poll,
             events,
             listener,
             backlog: Backlog::Waiting,
-            clients,
+            places,
+            ready,
+            round: 0,
+            has_heard: false,
+            left: connections,
+            read: 0,
+            now: 0,
+            quiet_until: u64::MAX,
         })
     }
 }
@@ -85,124 +135,344 @@ impl<'r, N> EventLoop<'r, N> {
     pub fn local_addr(&self) -> io::Result<SocketAddr> {
         self.listener.local_addr()
     }
-}
 
-impl<'r, N: time::Clock> EventLoop<'r, N> {
-    /// The clock's millisecond. One that can't be read is at its end: nobody has patience left.
-    fn now(&self) -> u64 {
-        match self.time.monotonic() {
-            Ok(since) => since
-                .as_secs()
-                .saturating_mul(1000)
-                .saturating_add(since.subsec_millis() as u64),
-            Err(_) => u64::MAX,
+    /// The connection at the place is ready.
+    fn wake(&mut self, place: usize) {
+        if let Some(visit) = self.places.get_mut(place)
+            && let Visit::Waiting(wait) = *visit
+        {
+            *visit = Visit::Ready(Some(wait));
+            let _queued = self.ready.push_back(place);
         }
     }
 
-    /// Lets newcomers in, waits until something befalls a socket or a patience ends, and sees to it.
-    fn poll_once(&mut self, most: u64) -> io::Result<()> {
-        let now = self.now();
-        if self.backlog != Backlog::Empty {
-            self.accept_waiting(most, now);
+    /// What is known of the place from now on.
+    fn put(&mut self, place: usize, visit: Visit) {
+        if let Some(known) = self.places.get_mut(place) {
+            *known = visit;
         }
-        let patience = self.patience(now);
-        self.poll.poll(&mut self.events, patience)?;
-        let now = self.now();
-        for event in &self.events {
-            dispatch(event, &mut self.backlog, &mut self.clients, now);
-        }
-        self.clients.sweep(now);
-        Ok(())
     }
 
-    /// How long to wait.
-    fn patience(&self, now: u64) -> Option<Duration> {
-        if self.clients.has_ready() || self.backlog == Backlog::Waiting {
-            return Some(Duration::from_millis(0));
+    /// What the connection waits for: where it waited for the same before, its patience goes on.
+    fn wait(&self, place: usize, wish: Wish, requests: usize) -> Wait {
+        if let Some(Visit::Ready(Some(last))) = self.places.get(place)
+            && last.wish == wish
+            && last.requests == requests
+        {
+            return *last;
         }
-        let mut until = self.clients.quiet_until();
-        if matches!(self.backlog, Backlog::Full | Backlog::Refused) {
-            until = until.min(now.saturating_add(RETRY));
+        let patience = match wish {
+            Wish::Leaving => LAST_PATIENCE,
+            _ => PATIENCE,
+        };
+        Wait {
+            wish,
+            requests,
+            until: self.now.saturating_add(patience),
+        }
+    }
+
+    /// Whether the connection at the place has ended, and its patience too.
+    fn has_left(&self, place: usize) -> bool {
+        match self.places.get(place) {
+            Some(Visit::Ready(Some(wait))) => wait.wish == Wish::Leaving && wait.until <= self.now,
+            _ => false,
+        }
+    }
+
+    /// The place is free again.
+    fn free(&mut self, place: usize) {
+        if let Some(visit) = self.places.get_mut(place) {
+            *visit = Visit::Free;
+        }
+        self.left = self.left.saturating_sub(1);
+        if self.backlog == Backlog::Later {
+            self.backlog = Backlog::Waiting;
+        }
+    }
+
+    /// A free place, where one more may be here; or else the place of one that may go, whose patience ends first.
+    fn find_place(&self) -> (Option<usize>, Option<usize>) {
+        let mut count = 0u64;
+        let mut found = None;
+        let mut first = u64::MAX;
+        let mut leaves = None;
+        for place in 0..self.places.len() {
+            match self.places[place] {
+                Visit::Free => found = Some(place),
+                visit => {
+                    count = count.saturating_add(1);
+                    if let Visit::Waiting(wait) = visit
+                        && may_go(wait.wish, wait.until, self.now)
+                        && wait.until < first
+                    {
+                        first = wait.until;
+                        leaves = Some(place);
+                    }
+                }
+            }
+        }
+        if count >= self.left {
+            return (None, None);
+        }
+        (found, leaves)
+    }
+
+    /// One whose patience has ended.
+    fn expired(&mut self) -> Option<usize> {
+        if self.now < self.quiet_until {
+            return None;
+        }
+        self.quiet_until = u64::MAX;
+        for place in 0..self.places.len() {
+            if let Visit::Waiting(wait) = self.places[place] {
+                if wait.until <= self.now {
+                    self.quiet_until = 0;
+                    return Some(place);
+                }
+                self.quiet_until = self.quiet_until.min(wait.until);
+            }
+        }
+        None
+    }
+
+    /// How many milliseconds to wait, a second at most, since one that stands still waits longer than it is to; none,
+    /// until something comes.
+    fn patience(&self) -> Option<u64> {
+        if !self.ready.is_empty() || self.backlog == Backlog::Waiting {
+            return Some(0);
+        }
+        let mut until = self.quiet_until;
+        if self.backlog == Backlog::Later {
+            until = until.min(self.now.saturating_add(RETRY));
         }
         if until == u64::MAX {
             return None;
         }
-        Some(Duration::from_millis(until.saturating_sub(now)))
+        Some(until.saturating_sub(self.now).min(LONGEST_ROUND))
     }
 
-    /// Lets newcomers in, where there are places.
-    fn accept_waiting(&mut self, most: u64, now: u64) {
-        self.backlog = Backlog::Waiting;
-        for _newcomer in 0..MOST_NEWCOMERS {
-            let Some(place) = self.clients.find_place(most, now) else {
-                self.backlog = Backlog::Full;
-                return;
-            };
-            match self.listener.accept() {
-                Ok((stream, _)) => self.admit(stream, place, now),
-                Err(error) if error.kind() == ErrorKind::ConnectionAborted => {}
-                Err(error) => {
-                    self.backlog = match error.kind() {
-                        ErrorKind::WouldBlock => Backlog::Empty,
-                        _ => Backlog::Refused,
-                    };
-                    return;
-                }
+    /// Whose turn it is, of those who are ready.
+    fn first(&mut self) -> Option<Next<Socket>>
+        ensures fresh { IfSome result (λ next. IsFreshPeer came_of went_of next) }
+        ensures more { IfSome result (λ next. next ≢ Next.End) }
+    {
+        if self.round == 0 {
+            return None;
+        }
+        let place = self.ready.pop_front()?;
+        self.round -= 1;
+        if self.has_left(place) {
+            self.free(place);
+            return Some(Next::Gone(place));
+        }
+        Some(Next::Turn(place))
+    }
+
+    /// Who is let in, or has to go, now that all was heard.
+    fn judge(&mut self) -> Option<Next<Socket>>
+        ensures fresh { IfSome result (λ next. IsFreshPeer came_of went_of next) }
+        ensures more { IfSome result (λ next. next ≢ Next.End) }
+    {
+        if self.backlog == Backlog::Waiting
+            && let Some(next) = self.admit()
+        {
+            return Some(next);
+        }
+        let place = self.expired()?;
+        self.free(place);
+        Some(Next::Gone(place))
+    }
+
+    /// Lets a newcomer in, where there is one and a place for it.
+    fn admit(&mut self) -> Option<Next<Socket>>
+        ensures fresh { IfSome result (λ next. IsFreshPeer came_of went_of next) }
+        ensures more { IfSome result (λ next. next ≢ Next.End) }
+    {
+        let place = match self.find_place() {
+            (Some(place), _) => place,
+            (None, Some(place)) => {
+                self.free(place);
+                return Some(Next::Gone(place));
+            }
+            (None, None) => {
+                self.backlog = Backlog::Later;
+                return None;
+            }
+        };
+        match self.listener.accept() {
+            Ok((stream, _)) => self.seat(place, stream),
+            Err(error) => {
+                self.backlog = match error.kind() {
+                    ErrorKind::WouldBlock => Backlog::Empty,
+                    ErrorKind::ConnectionAborted => Backlog::Waiting,
+                    _ => Backlog::Later,
+                };
+                None
             }
         }
     }
 
-    /// Lets a newcomer have the place, or lets it go where it can't be set up.
-    fn admit(&mut self, mut stream: TcpStream, place: usize, now: u64) {
+    /// Gives the newcomer the place, or lets it go where it can't be set up.
+    fn seat(&mut self, place: usize, mut stream: TcpStream) -> Option<Next<Socket>>
+        ensures fresh { IfSome result (λ next. IsFreshPeer came_of went_of next) }
+        ensures more { IfSome result (λ next. next ≢ Next.End) }
+    {
         let interests = Interest::READABLE | Interest::WRITABLE;
         let set = stream.set_nodelay(true).and_then(|_| {
             self.poll
                 .registry()
                 .register(&mut stream, Token(place), interests)
         });
-        match Client::new(self.alloc, stream, now) {
-            Ok(client) if set.is_ok() => self.clients.seat(place, client, now),
-            _ => self.clients.turn_away(),
+        if set.is_err() {
+            self.left = self.left.saturating_sub(1);
+            return None;
         }
+        if let Some(visit) = self.places.get_mut(place) {
+            *visit = Visit::Ready(None);
+            let _queued = self.ready.push_back(place);
+        }
+        Some(Next::Newcomer {
+            place,
+            peer: Socket::new(stream),
+        })
     }
 }
 
-/// Hands an event on to whom it befell.
-fn dispatch(event: &Event, backlog: &mut Backlog, clients: &mut Clients, now: u64) {
+/// Whether one may make room for a newcomer: nothing that it asked is unanswered, and nothing unsent; and it had a
+/// second to ask.
+fn may_go(wish: Wish, until: u64, now: u64) -> bool {
+    match wish {
+        Wish::Idle => until.saturating_sub(now) <= FRESH,
+        Wish::Leaving => true,
+        Wish::Asking | Wish::Taking => false,
+    }
+}
+
+impl<'r, N: time::Clock> EventLoop<'r, N> {
+    /// Reads the clock. Of the milliseconds since it was last read, no more than these count; and so many do where it
+    /// can't be read.
+    fn count_time(&mut self, most: u64) {
+        let passed = match self.time.monotonic() {
+            Ok(since) => {
+                let read = since
+                    .as_secs()
+                    .saturating_mul(1000)
+                    .saturating_add(since.subsec_millis() as u64);
+                let passed = read.saturating_sub(self.read);
+                self.read = read;
+                passed.min(most)
+            }
+            Err(_) => most,
+        };
+        self.now = self.now.saturating_add(passed);
+    }
+
+    /// Waits until something befalls a socket or a patience ends. Whoever has asked by then is heard before anybody's
+    /// patience is judged.
+    fn poll_once(&mut self) -> io::Result<()> {
+        self.count_time(LONGEST_ROUND);
+        let patience = self.patience();
+        let told = self.hear(patience)?;
+        self.count_time(LONGEST_ROUND);
+        // A signal ends a wait too, and then nothing is told.
+        let is_cut = told == 0 && patience != Some(0);
+        if is_cut || told == MOST_EVENTS || self.quiet_until <= self.now {
+            self.hear_all()?;
+        }
+        if self.backlog == Backlog::Later {
+            self.backlog = Backlog::Waiting;
+        }
+        self.has_heard = true;
+        Ok(())
+    }
+
+    /// Hears all that has befallen the sockets so far, without waiting.
+    fn hear_all(&mut self) -> io::Result<()> {
+        for _asked in 0..MOST_ASKED {
+            if self.hear(Some(0))? < MOST_EVENTS {
+                return Ok(());
+            }
+        }
+        Ok(())
+    }
+
+    /// Waits at most so many milliseconds until something befalls a socket, and hears how many things did.
+    fn hear(&mut self, patience: Option<u64>) -> io::Result<usize> {
+        self.poll
+            .poll(&mut self.events, patience.map(Duration::from_millis))?;
+        let mut woken = [0usize; MOST_EVENTS];
+        let mut count = 0;
+        for event in &self.events {
+            if count < MOST_EVENTS {
+                woken[count] = place_of(event);
+                count += 1;
+            }
+        }
+        for place in &woken[..count.min(MOST_EVENTS)] {
+            if *place == LISTENER {
+                self.backlog = Backlog::Waiting;
+            } else {
+                self.wake(*place);
+            }
+        }
+        Ok(count)
+    }
+}
+
+/// Whom the event befell.
+fn place_of(event: &Event) -> usize {
     let Token(place) = event.token();
-    if place == LISTENER {
-        *backlog = Backlog::Waiting;
-    } else {
-        clients.wake(place, now);
-    }
+    place
 }
 
-// The system tells nothing of its sockets.
-impl<'r, N: time::Clock> Listener for EventLoop<'r, N> {
-    type Line = TurnLine;
+impl<'r, N: time::Clock> Sockets for EventLoop<'r, N> {
+    type Peer = Socket;
 
-    ghost accepts = { λ _ _ _ _. Unit {0} };
+    ghost is_over = { λ sockets. sockets.left ≡ 0 };
 
-    ghost lets_go = { λ _ _ _. Unit {0} };
-
-    fn accept(&mut self, most: u64) -> Accepted<TurnLine> {
+    fn next(&mut self) -> Next<Socket> {
         for _round in 0..u64::MAX {
-            if self.clients.tell_gone() {
-                return Accepted::Gone;
+            if self.left == 0 {
+                return Next::End;
             }
-            if self.poll_once(most).is_err() {
-                return Accepted::Refused;
+            if self.has_heard {
+                if let Some(next) = self.judge() {
+                    return next;
+                }
+                self.has_heard = false;
+                self.round = self.ready.len();
             }
-            if let Some(line) = self.clients.next_turn() {
-                return Accepted::Line(line);
+            if let Some(next) = self.first() {
+                return next;
+            }
+            if self.poll_once().is_err() {
+                return Next::Refused;
             }
         }
-        Accepted::Refused
+        Next::Refused
     }
 
-    fn let_go(&mut self, line: TurnLine) {
-        let (place, end) = line.into_end();
-        let now = self.now();
-        self.clients.end_turn(place, end, now);
+    fn stands(&mut self, place: usize, step: Step) {
+        match step {
+            Step::Again => {
+                let _queued = self.ready.push_back(place);
+            }
+            Step::Leaves => {
+                let wait = self.wait(place, Wish::Leaving, 0);
+                self.put(place, Visit::Ready(Some(wait)));
+                let _queued = self.ready.push_back(place);
+            }
+            Step::Waits { wish, requests } => {
+                let requests = match wish {
+                    Wish::Leaving => 0,
+                    _ => requests,
+                };
+                let wait = self.wait(place, wish, requests);
+                self.put(place, Visit::Waiting(wait));
+                self.quiet_until = self.quiet_until.min(wait.until);
+            }
+            Step::Over | Step::Shut => self.free(place),
+        }
     }
 }

@@ -2,6 +2,7 @@
 ghost use Rattle.hall_http.specs.Laws.{AreOneRequest, BeginsWithOneRequest, AskForOneThing};
 ghost use Rattle.hall_http.specs.Laws.{AreOneListOfRequests, AreOneListOfRecords, RunsCompose};
 ghost use Rattle.hall_http.specs.Told.{HasOneSpelling, RefusalsTellNothing, BytesHideOthers, BytesHideAnswers};
+ghost use Rattle.hall_http.specs.Wire.{WireHidesOthers, WireHidesAnswers};
 
 /// Bytes are at most one request and ask for at most one thing. A stream begins with at most one whole request and is at
 /// most one list of requests; an input is at most one list of records.
@@ -29,4 +30,15 @@ pub fn law_bytes()
     ensures refusals { RefusalsTellNothing }
     ensures others { BytesHideOthers }
     ensures answers { BytesHideAnswers }
+{}
+
+/// What holds of the bytes of replies in a run holds, among many connections, of those on one on which all requests with
+/// an entrant's key come, and all whole requests with a fault of form, and nothing else: they are the same where the
+/// requests of others who are entrants alone don't come; and until a sealed round's end, where two answers to the round
+/// are exchanged, they are those of the same replies with the two exchanged where answers to the round are listed. What
+/// was sent on it is a first part of these bytes, or all of them and then of the reply to bytes that are no request. Of
+/// the order of connections and of time nothing is said.
+pub fn law_wire()
+    ensures others { WireHidesOthers }
+    ensures answers { WireHidesAnswers }
 {}

@@ -1,9 +1,10 @@
 //! What answers the requests of a connection.
-ghost use Rattle.std.specs.Prelude.{◌≡◌, ℕ, List, Option};
+ghost use Rattle.std.specs.Prelude.{◌≡◌, ◌≢◌, ℕ, List, Option};
 ghost use Rattle.hall_desk.specs.Desk.{kept_by};
 ghost use Rattle.hall_http.specs.Answered.{answer_text};
 ghost use Rattle.hall_http.specs.Head.{IsLentBy};
-ghost use Rattle.hall_http.specs.Serving.{IsAnswered};
+ghost use Rattle.hall_http.specs.Serving.{GoesOn, IsAnswered};
+ghost use Rattle.hall_http.specs.declared.answer.Answer.TheVariants as Answer;
 
 use crate::answer::{Answer, answer_raw_request};
 use crate::head::RawRequest;
@@ -17,6 +18,9 @@ use std::alloc::Global;
 pub(crate) trait Responder {
     ghost answers: { Self → Option ℕ → List ℕ → List ℕ → Self → Type 0 };
 
+    /// Once it has given this reply, it can answer further requests.
+    ghost goes_on: { Self → List ℕ → Self → Type 0 };
+
     /// The answer to a request at a moment, once its change is made.
     fn answer(
         &mut self,
@@ -25,12 +29,15 @@ pub(crate) trait Responder {
         moment: Option<Moment>,
         request: &RawRequest<'_>,
     ) -> Answer
-        ensures { (bytes : List ℕ) → IsLentBy bytes request.now →
-            answers self.old moment bytes (answer_text result) self.new };
+        ensures answers { (bytes : List ℕ) → IsLentBy bytes request.now →
+            answers self.old moment bytes (answer_text result) self.new }
+        ensures goes_on { result ≢ Answer.Shut → goes_on self.old (answer_text result) self.new };
 }
 
 impl<S: Store> Responder for Desk<S> {
     ghost answers = { IsAnswered (λ desk. S.content (kept_by desk)) };
+
+    ghost goes_on = { GoesOn (λ desk. S.content (kept_by desk)) };
 
     fn answer(
         &mut self,

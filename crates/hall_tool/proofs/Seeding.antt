@@ -3,8 +3,7 @@ use Rattle.std.proofs.Common.{◌≡◌, ◌<◌, ◌≤◌, ℕ, List, ◌++◌
 use Rattle.std.specs.Prelude.{◌≢◌, OnErr, Result, Ok, Err}
 use Rattle.std.proofs.lemmas.List.{length-append}
 use Rattle.hall_policy.specs.declared.record.Person.{Person}
-use Rattle.hall_store.specs.Store.{Content, Kept, Leads, Over}
-use Rattle.hall_store.proofs.Knowing.{leads_kept}
+use Rattle.hall_store.specs.Store.{Content, Leads, Over}
 use Rattle.hall_desk.specs.Plans.{IsSeedReply}
 use Rattle.hall_desk.specs.Step.{Seed}
 use Rattle.hall_desk.specs.declared.reply.Reply.{Reply}
@@ -46,11 +45,10 @@ pub on_err : {A B : Type 0} (result : Result A B) (claim : Type 0) → claim →
 on_err (Ok a) claim holds = tt
 on_err (Err e) claim holds = holds
 
--- a list that adds nobody makes no write and leaves the world
-pub nobody_keeps : (list : List ℕ) (old new : Content) (seeded : Seeded) → Leads old new → IsSeeded list old new seeded
-    → AddsNobody seeded → Kept old new
-nobody_keeps list old new (Refused refusal) leads is nobody = is.1
-nobody_keeps list old new (Denied rule) leads (is, quiet) nobody =
-    leads_kept old new leads quiet
-    (λ honest serves. left_by old new is.0 (reply.Denied rule) (λ n e. cc) (is.2 honest) serves)
-nobody_keeps list old new (Added count) leads is nobody = absurd nobody
+-- a list that adds nobody leaves the world
+pub nobody_leaves : (list : List ℕ) (old new : Content) (seeded : Seeded) → Leads old new → IsSeeded list old new seeded
+    → AddsNobody seeded → new.honest → new.serves → new.world ≡ old.world
+nobody_leaves list old new (Refused refusal) leads is nobody = is.1.world
+nobody_leaves list old new (Denied rule) leads (is, quiet) nobody =
+    λ honest serves. left_by old new is.0 (reply.Denied rule) (λ n e. cc) (is.2 honest) serves
+nobody_leaves list old new (Added count) leads is nobody = absurd nobody

@@ -8,7 +8,7 @@ use Rattle.hall_grid.specs.Device.{Rises, Tally}
 use Rattle.sqlite.specs.State.{State}
 use Rattle.hall_sql.specs.Migrate.{Migrates, old_content_of}
 use Rattle.hall_sql.specs.Opened.{Starts, StartsOld}
-use Rattle.hall_sql.specs.Standing.{IsHall, Rested, RestedIn, content_of}
+use Rattle.hall_sql.specs.Standing.{IsHall, RestedIn, Stayed, content_of}
 use Rattle.hall_sql.specs.Tables.{old_schema}
 use Rattle.hall_sql.specs.declared.migration.Migrated.{Migrated}
 use Rattle.hall_sql.specs.declared.migration.Migrated.TheVariants.{Done, Occupied}
@@ -53,8 +53,8 @@ pub record IsMigrateRun {W : Type 0} (contents : W → Option (List ℕ)) (sourc
   pub device : IsErrOf result tool.Device → Rises writer.failures written.failures
   pub part : IsErrOf result tool.Device → (line : List ℕ) × (status : ℕ) × MigrateText source left old new line status
       × WritesPart (contents writer.device) (contents written.device) line
-  pub memory : IsErrOf result tool.Memory → Rested old new × (written ≡ writer)
-  pub store : IsErrOf result tool.Store → Rested old new × (written ≡ writer)
+  pub memory : IsErrOf result tool.Memory → Stayed old new × (written ≡ writer)
+  pub store : IsErrOf result tool.Store → Stayed old new × (written ≡ writer)
 
 -- over a source that was taken over, the target was asked for: the files handed it out, the rows were copied from the
 -- world that the source held into the one that the target held, and the files were given it back, a hall's; or they

@@ -56,7 +56,7 @@ fn serve_end(end: ServeAllEnd) -> Result<u8, CommandFault>
     match end {
         ServeAllEnd::Served => Ok(0),
         ServeAllEnd::Refused => Err(CommandFault::Client),
-        ServeAllEnd::Memory => Err(CommandFault::Tool(ToolFault::Memory)),
+        ServeAllEnd::Shut => Err(CommandFault::Tool(ToolFault::Store)),
     }
 }
 
@@ -132,8 +132,8 @@ impl<N> Task<N> for Replay<'_> {
     }
 }
 
-/// Serves so many connections on the host's port, line after line, however each ends, and tells before the first that the
-/// hall in the file at the path is served, and how many people and rounds it knows.
+/// Serves so many connections on the host's port, however each ends, and tells before the first that the hall in the
+/// file at the path is served, and how many people and rounds it knows.
 #[derive(Clone, Copy)]
 pub struct Serve<'a> {
     pub path: &'a str,
@@ -142,14 +142,12 @@ pub struct Serve<'a> {
 }
 
 impl<H: Host> Task<H> for Serve<'_> {
-    ghost use Rattle.hall_http.specs.Listener.{AreServed};
+    ghost use Rattle.hall_http.specs.Crowd.{AreServed};
     ghost use Rattle.hall_tool.specs.Tasks.{DoesServe};
 
     ghost does = { λ S R W content can_fail remaining contents task.
-        DoesServe content H.listens H.refuses H.tells H.shows
-        (AreServed H.Listener.accepts H.Listener.lets_go H.Listener.Line.hands_out H.Listener.Line.refuses
-        H.Listener.Line.hears H.Listener.Line.Reader.remaining H.Listener.Line.Writer.contents content
-        H.Clock.now_gives)
+        DoesServe content H.listens H.refuses H.tells H.shows H.ends H.Sockets.is_over
+        (AreServed content H.Clock.now_gives H.Sockets.Peer.came H.Sockets.Peer.went)
         task.path.now task.port task.connections };
 
     fn run<S: Store, R: Read, W: Write>(
@@ -160,12 +158,16 @@ impl<H: Host> Task<H> for Serve<'_> {
         _reader: &mut Counted<R>,
         _writer: &mut Counted<W>,
     ) -> Result<u8, CommandFault> {
-        let Ok(mut listener) = host.listen(self.port) else {
+        let Ok(mut sockets) = host.listen(self.port, self.connections) else {
             return Err(CommandFault::Port);
         };
         // It is served too where they can't be counted.
         host.tell(self.port, self.path, desk.census(alloc).ok());
         let mut clock = host.clock();
-        serve_end(serve_all(alloc, desk, &mut listener, &mut clock, self.connections))
+        let Ok((end, clients)) = serve_all(alloc, desk, &mut sockets, &mut clock) else {
+            return Err(CommandFault::Tool(ToolFault::Memory));
+        };
+        host.end(sockets, clients);
+        serve_end(end)
     }
 }

@@ -32,3 +32,6 @@ returns-in-None-clause-unique g c = λ h s sane. unique_solutions (g.S.ReadStore
 
 pub returns-in-None-clause-right : goal.returns-in-None-clause-right
 returns-in-None-clause-right g c = λ h s sane. right_answers (g.S.ReadStore.content (kept_by c.args.desk.now)).world sane
+
+pub returns-in-Some-clause-stops : goal.returns-in-Some-clause-stops
+returns-in-Some-clause-stops g c = c.answer_raw_request.ensures.stops c.args.bytes.now c.in-Some.ensures

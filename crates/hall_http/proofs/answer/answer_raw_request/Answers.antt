@@ -1,7 +1,10 @@
-use Rattle.std.proofs.Common.{refl, inl, inr, List, ℕ}
+use Rattle.std.proofs.Common.{◌≡◌, ◌⊎◌, refl, inl, inr, List, ℕ}
+use Rattle.hall_desk.specs.declared.reply.Reply.TheVariants.{Unavailable as NotServed}
+use Rattle.hall_http.specs.Reply.{BytesOf}
+use Rattle.hall_http.proofs.Stops.{leaves_turn}
 use Rattle.std.specs.Prelude.{Ok, Err}
 use Rattle.hall_desk.specs.Desk.{kept_by}
-use Rattle.hall_http.specs.Answered.{answer_text, Answers, AnswersFault, AnswersRequest}
+use Rattle.hall_http.specs.Answered.{answer_text, Answers, AnswersFault, AnswersRequest, IsStepReply}
 use Rattle.hall_http.specs.Request.{AsksFor}
 use Rattle.hall_http.proofs.Refusals.{unavailable_reply}
 use Rattle.hall_http.proofs.Requests.{asked_of, fault_answers, answers_bytes, request_sane, nobodys, quiet_bytes}
@@ -46,3 +49,25 @@ returns-in-Err-Form-clause-answers g c =
 
 pub returns-in-Err-Memory-clause-answers : goal.returns-in-Err-Memory-clause-answers
 returns-in-Err-Memory-clause-answers g c = λ bytes lent h. inl ((λ world. inr (inr unavailable_reply, refl)), λ s. refl)
+
+pub returns-in-Ok-clause-stops : goal.returns-in-Ok-clause-stops
+returns-in-Ok-clause-stops g c =
+    let t = c.args.moment in
+    let request = c.in-Ok.request in
+    let text : List ℕ = answer_text c.answer_request.result in
+    λ bytes lent. leaves_turn (λ before left. (made : List ℕ) × ((made ≡ text) ⊎ BytesOf NotServed text) × IsStepReply before t request made left)
+    (λ before left. (made : List ℕ) × ((made ≡ text) ⊎ BytesOf NotServed text) × Answers before t bytes made left)
+    (g.S.ReadStore.content (kept_by c.args.desk.now)) (g.S.ReadStore.content (kept_by c.answer_request.new.desk))
+    (λ before left it. (
+      it.0,
+      it.1,
+      answers_bytes before t bytes request it.0 left
+          (asked_of bytes c.args.raw.now (Ok request) lent c.in-Ok.ensures) c.answer_request.ensures.timed (inl it.2),
+    ))
+    c.answer_request.ensures.stops
+
+pub returns-in-Err-Form-clause-goes_on : goal.returns-in-Err-Form-clause-goes_on
+returns-in-Err-Form-clause-goes_on g c = λ stays told. inl refl
+
+pub returns-in-Err-Memory-clause-goes_on : goal.returns-in-Err-Memory-clause-goes_on
+returns-in-Err-Memory-clause-goes_on g c = λ stays told. inl refl

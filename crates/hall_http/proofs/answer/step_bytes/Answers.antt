@@ -1,4 +1,4 @@
-use Rattle.std.proofs.Common.{◌≡◌, ◌⊎◌, ◌∙◌, inl, inr, refl, subst}
+use Rattle.std.proofs.Common.{IfOk, ℕ, List, ◌≡◌, ◌⊎◌, ◌∙◌, inl, inr, refl, subst}
 use Rattle.std.specs.Prelude.{Result, Ok, Err, OnErr}
 use Rattle.std.specs.String.{string_bytes}
 use Rattle.hall_store.specs.Store.{Content, Made}
@@ -9,10 +9,11 @@ use Rattle.hall_desk.specs.Desk.{kept_by}
 use Rattle.hall_desk.specs.Plan.{planned_reply, planned_change}
 use Rattle.hall_desk.specs.Step.{Step}
 use Rattle.hall_desk.specs.declared.reply.Reply.{Reply}
-use Rattle.hall_desk.proofs.Stepping.{committed, planned_steps, planned_quiet, once_after}
+use Rattle.hall_desk.proofs.Stepping.{committed, same_stops, planned_steps, planned_quiet, once_after}
 use Rattle.hall_http.specs.Reply.{BytesOf}
 use Rattle.hall_http.specs.Answered.{IsStepReply}
 use Rattle.hall_store.proofs.Knowing.{kept_leads, leads_then, over_turn}
+use Rattle.hall_http.proofs.Stops.{if_err, leaves_turn, planned_leaves}
 use Rattle.hall_http.proofs.answer.step_bytes.Goals as goal
 
 pub returns-clause-ok : goal.returns-clause-ok
@@ -79,3 +80,35 @@ returns-in_err-_reply-clause-err g c =
     on_err c.from_residual-in_err-_reply.result (λ h s.
     refused Reply StoreFault (planned_change c.in_ok-plan.plan) mid new c.in_err-_reply.field-0.0 (λ none. let ok = (made.nothing none).0 in cc)
     made.made h s ∙ kept.world (made.leads.honest h) (made.leads.serves h s))
+
+pub returns-clause-stops : goal.returns-clause-stops
+returns-clause-stops g c =
+    let plan = c.in_ok-plan.plan in
+    let text = string_bytes c.in_ok-text.text in
+    let planned = c.in_ok-plan.ensures in
+    let made = c.in_ok-_reply.ensures in
+    let old = g.S.ReadStore.content (kept_by c.args.desk.now) in
+    let mid = g.S.ReadStore.content (kept_by c.plan.new.self) in
+    let new = g.S.ReadStore.content (kept_by c.commit.new.self) in
+    let written = subst (λ (reply : Reply). BytesOf reply text) c.reply.ensures c.in_ok-text.ensures in
+    leaves_turn (λ before left. Step before c.args.moment c.args.request.now (planned_reply plan) left)
+    (λ before left. (made : List ℕ) × (made ≡ string_bytes c.in_ok-text.text) × IsStepReply before c.args.moment c.args.request.now made left) old new
+    (λ before left step. (text, refl, (planned_reply plan, step, written)))
+    (planned_leaves StoreFault c.args.moment c.args.request.now old mid new plan planned.kept planned.planned made.leads
+    (λ none. same_stops g.S.ReadStore.content (kept_by c.plan.new.self) (kept_by c.commit.new.self) (made.nothing none).1) made.stops)
+
+pub returns-in_err-_reply-clause-stops : goal.returns-in_err-_reply-clause-stops
+returns-in_err-_reply-clause-stops g c =
+    let plan = c.in_ok-plan.plan in
+    let text = string_bytes c.in_ok-text.text in
+    let planned = c.in_ok-plan.ensures in
+    let made = c.in_err-_reply.ensures in
+    let old = g.S.ReadStore.content (kept_by c.args.desk.now) in
+    let mid = g.S.ReadStore.content (kept_by c.plan.new.self) in
+    let new = g.S.ReadStore.content (kept_by c.commit.new.self) in
+    let written = subst (λ (reply : Reply). BytesOf reply text) c.reply.ensures c.in_ok-text.ensures in
+    leaves_turn (λ before left. Step before c.args.moment c.args.request.now (planned_reply plan) left)
+    (λ before left. (made : List ℕ) × IfOk c.from_residual-in_err-_reply.result (λ text. made ≡ string_bytes text) × IsStepReply before c.args.moment c.args.request.now made left) old new
+    (λ before left step. (text, (if_err c.from_residual-in_err-_reply.result _ _ c.from_residual-in_err-_reply.ensures.1), (planned_reply plan, step, written)))
+    (planned_leaves StoreFault c.args.moment c.args.request.now old mid new plan planned.kept planned.planned made.leads
+    (λ none. same_stops g.S.ReadStore.content (kept_by c.plan.new.self) (kept_by c.commit.new.self) (made.nothing none).1) made.stops)

@@ -24,7 +24,7 @@ returns-in-Err g c =
     let says = rw (c.unread-in-Whole.ensures, ← late) at
     (answered_at g.S.ReadStore.content (kept_by c.records.desk) _ _ _ (kept_by c.answer_bytes-answer.new.desk)
     c.answer_bytes-answer.ensures.leads c.answer_bytes-answer.ensures.once c.answer_bytes-answer.ensures.quiet
-    c.answer_bytes-answer.ensures.answers
+    c.answer_bytes-answer.ensures.stops c.answer_bytes-answer.ensures.answers
     (λ nothing. ap kept_by (c.answer_bytes-answer.ensures.untouched nothing))) in
     unsent _ _ _ _ _ _ _ _ _ _ _ c.records.invariant.kept r c.in-Whole.start c.in-Whole.end _ _ whole says _
     _ _ _ _ c.records.invariant.few c.in-Err.ensures.part
@@ -36,7 +36,7 @@ records-preserved-in-Ok g c =
     let says = rw (c.unread-in-Whole.ensures, ← late) at
     (answered_at g.S.ReadStore.content (kept_by c.records.desk) _ _ _ (kept_by c.answer_bytes-answer.new.desk)
     c.answer_bytes-answer.ensures.leads c.answer_bytes-answer.ensures.once c.answer_bytes-answer.ensures.quiet
-    c.answer_bytes-answer.ensures.answers
+    c.answer_bytes-answer.ensures.stops c.answer_bytes-answer.ensures.answers
     (λ nothing. ap kept_by (c.answer_bytes-answer.ensures.untouched nothing))) in
     record {
       few = c.records.invariant.few;

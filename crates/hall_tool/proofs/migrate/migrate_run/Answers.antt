@@ -1,5 +1,6 @@
 use Rattle.std.proofs.Common.{rules, refl}
 use Rattle.sqlite.specs.Held.{state}
+use Rattle.hall_sql.proofs.StoreLemmas.{rested_stayed}
 use Rattle.hall_sql.proofs.TransactionLemmas.{rests_itself}
 use Rattle.hall_tool.proofs.migrate.migrate_run.Goals as goal
 
@@ -10,7 +11,7 @@ returns-in_err-line g c = record {
   same = search rules;
   device = search rules;
   part = search rules;
-  memory = λ _. (rests_itself (state g.T.Store c.args.target.now) c.in_hall.ensures, refl);
+  memory = λ _. (rested_stayed (rests_itself (state g.T.Store c.args.target.now) c.in_hall.ensures), refl);
   store = search rules;
 }
 

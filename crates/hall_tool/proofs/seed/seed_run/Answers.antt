@@ -1,5 +1,5 @@
 use Rattle.std.proofs.Common.{sym, ◌∙◌}
-use Rattle.hall_tool.proofs.Seeding.{adds_nobody, nobody_keeps, on_err}
+use Rattle.hall_tool.proofs.Seeding.{adds_nobody, nobody_leaves, on_err}
 use Rattle.hall_tool.proofs.seed.seed_run.Goals as goal
 
 pub returns-in_err-write_all-clause-left : goal.returns-in_err-write_all-clause-left
@@ -8,8 +8,8 @@ returns-in_err-write_all-clause-left g c =
     let line = c.in_ok-ending.ensures.line in
     let seeded = c.in_ok-seeded.seeded in
     on_err c.from_residual-in_err-write_all.result _
-    (nobody_keeps _ _ _ seeded c.in_ok-seeded.ensures.leads c.in_ok-seeded.ensures.seeded
-    (adds_nobody seeded part.0 part.1 (sym line.0 ∙ part.2) part.3)).world
+    (nobody_leaves _ _ _ seeded c.in_ok-seeded.ensures.leads c.in_ok-seeded.ensures.seeded
+    (adds_nobody seeded part.0 part.1 (sym line.0 ∙ part.2) part.3))
 
 pub returns-in_err-write_all-clause-part : goal.returns-in_err-write_all-clause-part
 returns-in_err-write_all-clause-part g c =

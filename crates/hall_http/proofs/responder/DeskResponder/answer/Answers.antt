@@ -5,18 +5,22 @@ use Rattle.hall_http.proofs.Refusals.{unavailable_reply}
 use Rattle.hall_http.proofs.Runs.{answered_at}
 use Rattle.hall_http.proofs.responder.DeskResponder.answer.Goals as goal
 
-pub returns-in-Some : goal.returns-in-Some
-returns-in-Some g c = λ bytes lent.
+pub returns-in-Some-clause-answers : goal.returns-in-Some-clause-answers
+returns-in-Some-clause-answers g c = λ bytes lent.
     rw c.in-Some.is
     (answered_at (λ desk. g.S.ReadStore.content (kept_by desk)) _ _ bytes _ _ c.answer_raw_request.ensures.leads
-    c.answer_raw_request.ensures.once (c.answer_raw_request.ensures.quiet bytes lent) (c.answer_raw_request.ensures.answers bytes lent)
+    c.answer_raw_request.ensures.once (c.answer_raw_request.ensures.quiet bytes lent) (c.answer_raw_request.ensures.stops bytes lent) (c.answer_raw_request.ensures.answers bytes lent)
     (c.answer_raw_request.ensures.untouched bytes lent))
 
-pub returns-in-None : goal.returns-in-None
-returns-in-None g c = λ bytes lent. rw c.in-None.is (record {
+pub returns-in-None-clause-answers : goal.returns-in-None-clause-answers
+returns-in-None-clause-answers g c = λ bytes lent. rw c.in-None.is (record {
   leads = leads_same _;
   once = omega arith;
   quiet = λ t asked at. absurd cc;
+  stops = λ h left may. inl may;
   answers = λ h. inl ((λ world. (unavailable_reply, refl)), λ s. refl);
   untouched = λ quiet. refl;
 })
+
+pub returns-in-None-clause-goes_on : goal.returns-in-None-clause-goes_on
+returns-in-None-clause-goes_on g c = λ stays told. inl refl

@@ -1,0 +1,23 @@
+use Rattle.std.proofs.Common.{◌∙◌}
+use Rattle.hall_http.proofs.Peers.{turned_then, turned_client}
+use Rattle.hall_http.specs.Steps.{gated}
+use Rattle.hall_http.proofs.client.Client.turn.Goals as goal
+
+pub step-requires : goal.step-requires
+step-requires g c =
+    turned_client g.P.Peer.came g.P.Peer.went (gated g.H.Responder.answers g.H.Responder.goes_on) g.C.Clock.now_gives _ _ _ _ _ _ c.requires
+    c.loop-step.invariant.turned
+
+pub returns-in_default : goal.returns-in_default
+returns-in_default g c = record {
+  number = c.step.ensures.number ∙ c.loop-step.invariant.number;
+  turned = turned_then g.P.Peer.came g.P.Peer.went (gated g.H.Responder.answers g.H.Responder.goes_on) g.C.Clock.now_gives _ _ _ _ _ _ _ _ _
+      c.loop-step.invariant.turned c.step.ensures.turned;
+}
+
+pub loop-step-preserved : goal.loop-step-preserved
+loop-step-preserved g c = record {
+  number = c.step.ensures.number ∙ c.loop-step.invariant.number;
+  turned = turned_then g.P.Peer.came g.P.Peer.went (gated g.H.Responder.answers g.H.Responder.goes_on) g.C.Clock.now_gives _ _ _ _ _ _ _ _ _
+      c.loop-step.invariant.turned (rw c.in-Again.is at c.step.ensures.turned);
+}

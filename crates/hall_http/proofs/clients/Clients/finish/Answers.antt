@@ -1,0 +1,7 @@
+use Rattle.hall_http.proofs.clients.Clients.finish.Goals as goal
+
+pub finish_one-requires : goal.finish_one-requires
+finish_one-requires g c = (c.requires.0, c.loop-place.invariant c.requires.0 c.requires.1)
+
+pub loop-place-preserved : goal.loop-place-preserved
+loop-place-preserved g c = λ turns kept. c.finish_one.ensures turns (c.loop-place.invariant turns kept)

@@ -1,0 +1,5 @@
+use Rattle.std.proofs.Common.{◌≡◌, ℕ, get_or, None}
+use Rattle.hall_http.proofs.clients.Clients.new.Given as goal
+
+abbrev pub invariant-loop-place : goal.invariant-loop-place
+invariant-loop-place g l = (i : ℕ) → get_or l.places.items i None ≡ None

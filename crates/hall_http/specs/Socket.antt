@@ -1,0 +1,12 @@
+-- What a socket was read and was sent.
+use Rattle.std.specs.Prelude.{◌≡◌, ℕ, List, ◌++◌, flat_map, take, drop}
+use Rattle.hall_http.specs.Answered.{answer_text}
+use Rattle.hall_http.specs.declared.socket.Socket.{Socket}
+
+-- all bytes that were read of it
+abbrev pub came_of : Socket → List ℕ
+came_of s = flat_map (λ read. take read.1 read.0) s.reads.items
+
+-- all bytes that it was sent
+abbrev pub went_of : Socket → List ℕ
+went_of s = flat_map (λ write. take write.1.1 (drop write.1.0 (answer_text write.0))) s.writes.items

@@ -1,0 +1,100 @@
+-- The steps of a connection.
+use Rattle.std.specs.Prelude.{◌≡◌, ◌≢◌, ◌<◌, ◌≤◌, ◌+◌, ◌==◌, ◌⊎◌, ℕ, Bool, true, false, if◌then◌else◌, List, [], ◌++◌, length, take, drop, Option, Some, None}
+use Rattle.hall_http.specs.Answered.{answer_text}
+use Rattle.hall_http.specs.Connection.{Exchange, Exchanged, IsOpen, IsClosing}
+use Rattle.hall_http.specs.Head.{IsUnfinished, IsUnfinishedBelow, NeverHas}
+use Rattle.hall_http.specs.declared.answer.Answer.TheVariants.{Nothing, Refusal}
+use Rattle.hall_http.specs.declared.connection.Connection.{Connection}
+use Rattle.hall_http.specs.declared.connection.ServeEnd.{ServeEnd}
+use Rattle.hall_http.specs.declared.connection.ServeEnd.TheVariants as end
+use Rattle.hall_http.specs.declared.connection.State.{State}
+use Rattle.hall_http.specs.declared.connection.State.TheVariants as state
+
+-- the bytes that wait to be sent
+abbrev pub pending : Connection → List ℕ
+pending k = drop k.sent (answer_text k.reply)
+
+-- one of which nothing was heard
+abbrev pub fresh : Connection
+fresh = record { inbox = []; least = 0; reply = Nothing; sent = 0; requests = 0; reads = 0; state = state.Looking }
+
+-- these bytes were heard
+abbrev pub IsAfterHearing : Connection → List ℕ → Connection → Type 0
+IsAfterHearing k piece l =
+    l ≡ record k { inbox = k.inbox ++ piece; reads = k.reads + 1; state = state.Looking }
+
+-- the end of the input was heard: with bytes left they are refused, and else the connection has ended
+abbrev pub IsAfterEnd : Connection → Connection → Type 0
+IsAfterEnd k l =
+    ((k.inbox ≡ []) × (l ≡ record k { reads = k.reads + 1; state = state.Ended end.Closed }))
+    ⊎ ((0 < length k.inbox)
+    × (l ≡ record k { reads = k.reads + 1; reply = Refusal; sent = 0; state = state.Writing (Some end.BadHead) }))
+
+-- what comes once all of a reply is sent
+abbrev pub after_reply : State → State
+after_reply (state.Writing (Some e)) = state.Ended e
+after_reply (state.Writing None) = state.Looking
+after_reply s = s
+
+-- so many of the bytes that waited were sent
+abbrev pub IsAfterSending : Connection → ℕ → Connection → Type 0
+IsAfterSending k count l =
+    ((count < length (pending k)) × (l ≡ record k { sent = k.sent + count }))
+    ⊎ ((count ≡ length (pending k)) × (l ≡ record k { sent = 0; reply = Nothing; state = after_reply k.state }))
+
+-- what comes after the reply to a request that closes the connection or doesn't, the so many-th
+abbrev pub then_of : Bool → ℕ → Option ServeEnd
+then_of true requests = Some end.Closed
+then_of false requests = if requests == 1000 then Some end.Limit else None
+
+-- after a request the connection ends where it closes it, or where it was the last that may come
+abbrev pub EndsAfter : List ℕ → ℕ → Option ServeEnd → Type 0
+EndsAfter request requests (Some end.Closed) = IsClosing request
+EndsAfter request requests (Some end.Limit) = IsOpen request × (requests ≡ 1000)
+EndsAfter request requests None = IsOpen request × (requests ≢ 1000)
+EndsAfter request requests (Some _) = ⊥
+
+-- a responder that goes on answers a request, and where it still goes on then, it can
+abbrev pub gated : {H : Type 0} → (H → Option ℕ → List ℕ → List ℕ → H → Type 0) → (H → List ℕ → H → Type 0)
+    → H × Bool → Option ℕ → List ℕ → List ℕ → H × Bool → Type 0
+gated answers goes_on h moment request reply i =
+    (h.1 ≡ true) × answers h.0 moment request reply i.0 × (i.1 ≡ true → goes_on h.0 reply i.0)
+
+-- a whole request stood at the front: it was answered, and its reply waits to be sent
+pub record Answers {H C : Type 0} (answers : H → Option ℕ → List ℕ → List ℕ → H → Type 0)
+    (now_gives : C → Option ℕ → C → Type 0) (h : H) (c : C) (k : Connection) (i : H) (d : C) (l : Connection) : Type 0 where
+  pub exchange : Exchange
+  pub size : ℕ
+  pub ending : Option ServeEnd
+  pub front : exchange.request ≡ take size k.inbox
+  pub exchanged : Exchanged answers now_gives h c exchange i d
+  pub reply : answer_text l.reply ≡ exchange.reply
+  pub ends : EndsAfter exchange.request (k.requests + 1) ending
+  pub left : l ≡ record k {
+    inbox = drop size k.inbox;
+    least = 0;
+    reply = l.reply;
+    sent = 0;
+    requests = k.requests + 1;
+    state = state.Writing ending;
+  }
+
+-- what waits is unfinished, and more has to be read, unless no further read may be made
+pub record Waits (k l : Connection) : Type 0 where
+  pub unfinished : IsUnfinished k.inbox
+  pub below : IsUnfinishedBelow l.least k.inbox
+  pub left : l ≡ record k {
+    least = l.least;
+    state = if k.reads == 100000 then state.Ended end.Limit else state.Reading;
+  }
+
+-- no bytes can make a request of what waits: it is refused
+pub record Refuses (k l : Connection) : Type 0 where
+  pub never : NeverHas k.inbox
+  pub left : l ≡ record k { reply = Refusal; sent = 0; state = state.Writing (Some end.BadHead) }
+
+-- it was looked at what waits
+abbrev pub Looks : {H C : Type 0} → (H → Option ℕ → List ℕ → List ℕ → H → Type 0) → (C → Option ℕ → C → Type 0)
+    → H → C → Connection → H → C → Connection → Type 0
+Looks answers now_gives h c k i d l =
+    Answers answers now_gives h c k i d l ⊎ (((i ≡ h) × (d ≡ c)) × (Waits k l ⊎ Refuses k l))
