@@ -1,9 +1,8 @@
 //! Bytes to bytes: replays, and connections.
 use crate::devices::{endless_reader, failing_reader, failing_writer};
-use crate::lines::{Listed, Seen, endless_line, listed_lines};
 use crate::opening::opening_desk;
 use hall_grid::Counted;
-use hall_http::{Accepted, Clock, ReplayFault, ServeAllEnd, ServeEnd, replay, serve, serve_all};
+use hall_http::{Clock, ReplayFault, ServeEnd, replay, serve};
 use hall_policy::Moment;
 use std::alloc::AllocGlobal;
 use std::io;
@@ -12,13 +11,13 @@ use std::net::{Net, Shutdown, TcpListener, TcpStream};
 use std::process::Abort;
 use std::test::Fail;
 
-const NO_ROUTE: &[u8] = b"\
+pub(crate) const NO_ROUTE: &[u8] = b"\
     HTTP/1.1 404 Not Found\r\n\
     Content-Type: application/json\r\n\
     Content-Length: 13\r\n\r\n\
     {\"form\":\"F6\"}";
 
-const NOT_WHOLE: &[u8] = b"\
+pub(crate) const NOT_WHOLE: &[u8] = b"\
     HTTP/1.1 400 Bad Request\r\n\
     Content-Type: application/json\r\n\
     Content-Length: 13\r\n\r\n\
@@ -107,9 +106,9 @@ const HAND_IN: &[u8] = b"\
 
 /// A clock that tells its moments in turn, the last one from then on, and counts how often it is asked.
 #[derive(Drop)]
-struct Telling<'a> {
+pub(crate) struct Telling<'a> {
     moments: &'a [u64],
-    asked: u64,
+    pub(crate) asked: u64,
 }
 
 impl Clock for Telling<'_> {
@@ -130,25 +129,25 @@ impl Clock for Telling<'_> {
 /// No moment.
 const NONE: u64 = u64::MAX;
 
-const REQUEST: &[u8] = b"GET /nothing HTTP/1.1\r\n\r\n";
+pub(crate) const REQUEST: &[u8] = b"GET /nothing HTTP/1.1\r\n\r\n";
 
-const NO_SERVICE: &[u8] = b"\
+pub(crate) const NO_SERVICE: &[u8] = b"\
     HTTP/1.1 503 Service Unavailable\r\n\
     Content-Type: application/json\r\n\
     Content-Length: 16\r\n\r\n\
     {\"fault\":\"hall\"}";
 
-const CLOSING: &[u8] = b"GET /nothing HTTP/1.1\r\nConnection: CLOSE\r\n\r\n";
+pub(crate) const CLOSING: &[u8] = b"GET /nothing HTTP/1.1\r\nConnection: CLOSE\r\n\r\n";
 
 /// What the clock tells, what a client sends, the replies that it gets, and how the connection ends.
-type Served = (
+pub(crate) type Served = (
     &'static [u64],
     &'static [&'static [u8]],
     &'static [&'static [u8]],
     ServeEnd,
 );
 
-const SERVED: [Served; 16] = [
+pub(crate) const SERVED: [Served; 16] = [
     (&[1], &[], &[], ServeEnd::Closed),
     (&[1], &[REQUEST], &[NO_ROUTE], ServeEnd::Closed),
     (
@@ -248,7 +247,7 @@ const SERVED: [Served; 16] = [
     (&[1], &[b"\0", REQUEST], &[NOT_WHOLE], ServeEnd::BadHead),
 ];
 
-fn joined(rt: &(impl AllocGlobal + Abort), parts: &[&[u8]]) -> Vec<u8> {
+pub(crate) fn joined(rt: &(impl AllocGlobal + Abort), parts: &[&[u8]]) -> Vec<u8> {
     let mut bytes = Vec::new(rt.alloc());
     for part in parts {
         bytes.extend_from_slice(part).expect(rt, "memory");
@@ -267,7 +266,7 @@ fn served<R: Read, W: Write>(
     serve(rt.alloc(), &mut desk, reader, writer, clock).expect(rt, "serve")
 }
 
-fn clock(moments: &[u64]) -> Telling<'_> {
+pub(crate) fn clock(moments: &[u64]) -> Telling<'_> {
     Telling { moments, asked: 0 }
 }
 
@@ -299,7 +298,7 @@ fn a_connection_is_served_to_its_end(rt: HostRuntime) {
 }
 
 /// How many plain requests come, what follows them, and how the connection ends after a thousand replies.
-const THOUSANDS: [(u64, &[u8], ServeEnd); 4] = [
+pub(crate) const THOUSANDS: [(u64, &[u8], ServeEnd); 4] = [
     (1001, b"", ServeEnd::Limit),
     (1000, b"", ServeEnd::Limit),
     (1000, b"\0", ServeEnd::Limit),
@@ -328,7 +327,7 @@ fn a_connection_ends_after_a_thousand_requests(rt: HostRuntime) {
 }
 
 /// A request whose head has so many bytes.
-fn long_head(rt: &(impl AllocGlobal + Abort), size: usize) -> Vec<u8> {
+pub(crate) fn long_head(rt: &(impl AllocGlobal + Abort), size: usize) -> Vec<u8> {
     let mut head = joined(rt, &[b"GET /nothing HTTP/1.1\r\nA: "]);
     head.resize(size.saturating_sub(4), b'x')
         .expect(rt, "memory");
@@ -383,72 +382,6 @@ fn a_connection_ends_at_a_device_fault(rt: HostRuntime) {
         );
         assert!(rt; ended == ServeEnd::Device);
         assert!(rt; writer.into_inner().asked == fails_at + 1);
-    }
-}
-
-#[test]
-fn a_line_is_hung_up_and_what_still_comes_is_read_off(rt: HostRuntime) {
-    let seen = Seen::new(rt.alloc());
-    let mut coming = Vec::new(rt.alloc());
-    let line = endless_line(rt.alloc(), Some(CLOSING), &seen);
-    coming.push(Accepted::Line(line)).expect(&rt, "memory");
-    let mut listener = listed_lines(coming, &seen);
-    let mut desk = opening_desk(&rt);
-    let ended = serve_all(rt.alloc(), &mut desk, &mut listener, &mut clock(&[1]), 1);
-    assert!(rt; matches!(ended, ServeAllEnd::Served));
-    assert!(rt; seen.reads_before_end.get() == CLOSING.len());
-    assert!(rt; seen.reads.get() == CLOSING.len().wrapping_add(64));
-    drop(listener);
-    assert!(rt; seen.into_written().as_slice() == NO_ROUTE);
-}
-
-/// How many connections may come, what was written on their lines, and whether that was all that could come in.
-const ALL_SERVED: [(u64, &[&[u8]], bool); 4] = [
-    (1, &[NO_ROUTE], false),
-    (3, &[NO_ROUTE], false),
-    (4, &[NO_ROUTE, NOT_WHOLE], false),
-    (5, &[NO_ROUTE, NOT_WHOLE], true),
-];
-
-/// The last one comes first: a client that is served, one that goes away, a line that can't be set up, and another
-/// client.
-fn listed<'a>(rt: &(impl AllocGlobal + Abort), seen: &'a Seen) -> Listed<'a> {
-    let mut coming = Vec::new(rt.alloc());
-    for next in [
-        Accepted::Line(endless_line(rt.alloc(), Some(b"\0"), seen)),
-        Accepted::Line(endless_line(rt.alloc(), None, seen)),
-        Accepted::Gone,
-        Accepted::Line(endless_line(rt.alloc(), Some(CLOSING), seen)),
-    ] {
-        coming.push(next).expect(rt, "memory");
-    }
-    listed_lines(coming, seen)
-}
-
-#[test]
-fn each_line_that_is_let_in_is_served(rt: HostRuntime) {
-    for (connections, replies, all) in &ALL_SERVED {
-        let seen = Seen::new(rt.alloc());
-        let mut listener = listed(&rt, &seen);
-        let mut desk = opening_desk(&rt);
-        let ended = serve_all(
-            rt.alloc(),
-            &mut desk,
-            &mut listener,
-            &mut clock(&[1]),
-            *connections,
-        );
-        assert!(rt;
-            matches!(ended, ServeAllEnd::Refused) == *all,
-            "{connections} connections"
-        );
-        drop(listener);
-        assert!(rt; seen.most_held.get() == 1, "{connections} connections");
-        let written = seen.into_written();
-        assert!(rt;
-            written == joined(&rt, replies),
-            "{connections} connections"
-        );
     }
 }
 

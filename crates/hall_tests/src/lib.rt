@@ -2,6 +2,8 @@
 #![tactic(auto)]
 
 #[cfg(test)]
+mod crowd;
+#[cfg(test)]
 mod desk;
 #[cfg(test)]
 mod devices;
@@ -12,9 +14,9 @@ mod http;
 #[cfg(test)]
 mod limited;
 #[cfg(test)]
-mod lines;
-#[cfg(test)]
 mod opening;
+#[cfg(test)]
+mod peers;
 #[cfg(test)]
 mod socket;
 #[cfg(test)]

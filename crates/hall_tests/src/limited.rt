@@ -35,6 +35,10 @@ impl ReadStore for LimitedStore {
 
     ghost can_fail = { ⊤ };
 
+    fn at_rest(&self) {
+        self.store.at_rest();
+    }
+
     fn person_by_key(&mut self, alloc: Global, key: &Key) -> Result<Option<Person>, StoreFault> {
         self.spend()?;
         self.store.person_by_key(alloc, key)

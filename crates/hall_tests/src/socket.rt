@@ -2,7 +2,7 @@
 use crate::opening::opening_desk;
 use hall_desk::Desk;
 use hall_http::{
-    Accepted, Clock, EventLoop, Host, Listener, SystemClock, SystemHost, TurnLine, serve_all,
+    Clock, EventLoop, Host, Next, Socket, Sockets, Step, SystemClock, SystemHost, serve_all,
 };
 use hall_store::Store;
 use std::io;
@@ -10,31 +10,30 @@ use std::io::Write;
 use std::net::{Ipv4Addr, Shutdown, SocketAddr, TcpStream};
 use std::test::Fail;
 
-/// A listener that lets none in once a connection has gone.
+/// Sockets that let none in, and give none a turn, once a connection has gone.
 #[derive(Drop)]
 struct Brief<'r> {
     inner: EventLoop<'r, HostRuntime>,
     has_gone: bool,
 }
 
-impl<'r> Listener for Brief<'r> {
-    type Line = TurnLine;
+impl<'r> Sockets for Brief<'r> {
+    type Peer = Socket;
 
-    ghost accepts = { λ _ _ _ _. Unit {0} };
+    ghost is_over = { λ _. Unit {0} };
 
-    ghost lets_go = { λ _ _ _. Unit {0} };
-
-    fn accept(&mut self, most: u64) -> Accepted<TurnLine> {
+    fn next(&mut self) -> Next<Socket> {
         if self.has_gone {
-            return Accepted::Refused;
+            return Next::Refused;
         }
-        let next = self.inner.accept(most);
-        self.has_gone = matches!(&next, Accepted::Gone);
+        let next = self.inner.next();
+        self.has_gone = matches!(&next, Next::Gone(_));
         next
     }
 
-    fn let_go(&mut self, line: TurnLine) {
-        self.inner.let_go(line);
+    fn stands(&mut self, place: usize, step: Step) {
+        self.has_gone = matches!(step, Step::Over);
+        self.inner.stands(place, step);
     }
 }
 
@@ -46,7 +45,7 @@ fn last_answered<S: Store>(
 ) -> io::Result<String> {
     let address = SocketAddr::from((Ipv4Addr::LOCALHOST, 0));
     let mut brief = Brief {
-        inner: EventLoop::new(rt, address)?,
+        inner: EventLoop::new(rt, address, 100)?,
         has_gone: false,
     };
     let mut connected = Vec::new(rt.alloc());
@@ -60,7 +59,8 @@ fn last_answered<S: Store>(
     };
     last.shutdown(Shutdown::Write)?;
     let mut clock = SystemClock::new(rt);
-    let _ended = serve_all(rt.alloc(), desk, &mut brief, &mut clock, 100);
+    let ended = serve_all(rt.alloc(), desk, &mut brief, &mut clock);
+    drop(ended);
     drop(brief);
     io::read_to_string(rt.alloc(), last)
 }
@@ -98,9 +98,9 @@ fn the_systems_clock_tells_seconds_of_this_century(rt: HostRuntime) {
 #[test]
 fn the_systems_host_listens_for_this_machine_alone(rt: HostRuntime) -> Result<(), Fail> {
     let mut host = SystemHost::new(&rt, rt.stderr());
-    let listener = host.listen(0)?;
+    let listener = host.listen(0, 1)?;
     assert!(rt; listener.local_addr()?.ip().is_loopback());
-    assert!(rt; host.listen(65_536).is_err());
+    assert!(rt; host.listen(65_536, 1).is_err());
     assert!(rt; host.clock().now().is_some());
     Ok(())
 }

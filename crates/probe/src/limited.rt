@@ -31,6 +31,10 @@ impl ReadStore for LimitedStore<'_> {
 
     ghost can_fail = { ⊤ };
 
+    fn at_rest(&self) {
+        self.store.at_rest();
+    }
+
     fn person_by_key(&mut self, alloc: Global, key: &Key) -> Result<Option<Person>, StoreFault> {
         spend(&mut self.left)?;
         self.store.person_by_key(alloc, key)

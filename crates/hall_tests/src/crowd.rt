@@ -1,0 +1,280 @@
+//! Many connections at once, of clients in memory.
+use crate::http::{
+    CLOSING, NO_ROUTE, NO_SERVICE, NOT_WHOLE, REQUEST, SERVED, THOUSANDS, clock, joined, long_head,
+};
+use crate::limited::LimitedStore;
+use crate::opening::opening_desk;
+use crate::peers::{After, Coming, Listed, Manner, PLAIN, Seen};
+use hall_desk::Desk;
+use hall_http::{ServeAllEnd, serve_all};
+use hall_store::MapStore;
+use std::alloc::AllocGlobal;
+use std::process::Abort;
+
+/// More turns than the clients of a test need.
+const MANY: u64 = 1_000_000;
+
+/// So many clients that saw nothing yet.
+fn unseen(rt: &(impl AllocGlobal + Abort), count: usize) -> Vec<Seen> {
+    let mut all = Vec::new(rt.alloc());
+    for _ in 0..count {
+        all.push(Seen::new(rt.alloc())).expect(rt, "memory");
+    }
+    all
+}
+
+/// The item at the place.
+fn at<'a, T>(rt: &impl Abort, items: &'a [T], place: usize) -> &'a T {
+    items.get(place).expect(rt, "place")
+}
+
+/// Serves these clients over one desk, for so many turns at most; how often the clock was asked.
+fn serve_clients(
+    rt: &(impl AllocGlobal + Abort),
+    clients: &[Coming<'_>],
+    turns: u64,
+    is_stubborn: bool,
+) -> u64 {
+    let mut coming = Vec::new(rt.alloc());
+    for client in clients {
+        coming.push(*client).expect(rt, "memory");
+    }
+    let mut listed = Listed::new(rt.alloc(), coming, turns, is_stubborn);
+    let mut desk = opening_desk(rt);
+    let mut clock = clock(&[1]);
+    let served = serve_all(rt.alloc(), &mut desk, &mut listed, &mut clock);
+    let (end, _clients) = served.expect(rt, "memory");
+    assert!(rt; matches!(end, ServeAllEnd::Served));
+    clock.asked
+}
+
+/// All at once, a byte at a call, and each call the second time.
+const MANNERS: [Manner; 4] = [
+    PLAIN,
+    Manner { most: 1, ..PLAIN },
+    Manner {
+        stalls: true,
+        ..PLAIN
+    },
+    Manner {
+        most: 7,
+        stalls: true,
+        ..PLAIN
+    },
+];
+
+/// Whether a clock tells the one moment for ever.
+fn is_plain(moments: &[u64]) -> bool {
+    matches!(moments, [1])
+}
+
+/// The connections of the table whose clock tells the one moment are served at once.
+fn sees_each_reply(rt: &(impl AllocGlobal + Abort), manner: Manner, is_stubborn: bool) {
+    let seen = unseen(rt, SERVED.len());
+    let mut sent = Vec::new(rt.alloc());
+    for (_, parts, _, _) in &SERVED {
+        sent.push(joined(rt, parts)).expect(rt, "memory");
+    }
+    let mut coming = Vec::new(rt.alloc());
+    for (place, (moments, _, _, _)) in SERVED.iter().enumerate() {
+        if is_plain(moments) {
+            let client = Coming {
+                sent: at(rt, sent.as_slice(), place).as_slice(),
+                manner,
+                seen: at(rt, seen.as_slice(), place),
+            };
+            coming.push(client).expect(rt, "memory");
+        }
+    }
+    serve_clients(rt, coming.as_slice(), MANY, is_stubborn);
+    for (place, (moments, _, replies, _)) in SERVED.iter().enumerate() {
+        if is_plain(moments) {
+            let replies = joined(rt, replies);
+            let saw = at(rt, seen.as_slice(), place);
+            assert!(rt; saw.is_sent(replies.as_slice()), "connection {place}");
+            assert!(rt; saw.ends.get() == 1, "connection {place}");
+        }
+    }
+}
+
+#[test]
+fn each_connection_is_sent_its_own_replies(rt: HostRuntime) {
+    for manner in &MANNERS {
+        sees_each_reply(&rt, *manner, false);
+        sees_each_reply(&rt, *manner, true);
+    }
+}
+
+#[test]
+fn each_connection_ends_after_a_thousand_requests(rt: HostRuntime) {
+    let seen = unseen(&rt, THOUSANDS.len());
+    let mut sent = Vec::new(rt.alloc());
+    for (count, rest, _) in &THOUSANDS {
+        let mut bytes = Vec::new(rt.alloc());
+        for _ in 0..*count {
+            bytes.extend_from_slice(REQUEST).expect(&rt, "memory");
+        }
+        bytes.extend_from_slice(rest).expect(&rt, "memory");
+        sent.push(bytes).expect(&rt, "memory");
+    }
+    let mut coming = Vec::new(rt.alloc());
+    for (bytes, seen) in sent.iter().zip(seen.iter()) {
+        let client = Coming {
+            sent: bytes.as_slice(),
+            manner: PLAIN,
+            seen,
+        };
+        coming.push(client).expect(&rt, "memory");
+    }
+    let asked = serve_clients(&rt, coming.as_slice(), MANY, false);
+    assert!(rt; asked == 4000);
+    for (place, seen) in seen.iter().enumerate() {
+        assert!(rt;
+            seen.count() == NO_ROUTE.len().wrapping_mul(1000),
+            "connection {place}"
+        );
+        assert!(rt; seen.ends.get() == 1, "connection {place}");
+    }
+}
+
+#[test]
+fn an_endless_connection_ends_after_a_hundred_thousand_reads(rt: HostRuntime) {
+    let head = long_head(&rt, 8192);
+    let seen = Seen::new(rt.alloc());
+    let endless = Coming {
+        sent: head.as_slice(),
+        manner: Manner {
+            most: 1,
+            after: After::Again,
+            ..PLAIN
+        },
+        seen: &seen,
+    };
+    let asked = serve_clients(&rt, &[endless], MANY, false);
+    assert!(rt; asked == 12);
+    assert!(rt; seen.reads_before_end.get() == 100_000);
+    assert!(rt; seen.count() == NO_ROUTE.len().wrapping_mul(12));
+}
+
+#[test]
+fn a_connection_is_hung_up_and_what_still_comes_is_read_off(rt: HostRuntime) {
+    let seen = Seen::new(rt.alloc());
+    let endless = Coming {
+        sent: CLOSING,
+        manner: Manner {
+            most: 1,
+            after: After::Again,
+            ..PLAIN
+        },
+        seen: &seen,
+    };
+    let asked = serve_clients(&rt, &[endless], 1000, false);
+    assert!(rt; asked == 1 && seen.is_sent(NO_ROUTE));
+    assert!(rt; seen.reads_before_end.get() == CLOSING.len());
+    assert!(rt; seen.reads.get() > CLOSING.len() && seen.ends.get() == 1);
+}
+
+#[test]
+fn a_connection_whose_client_breaks_off_leaves_the_others(rt: HostRuntime) {
+    for takes in 0..NO_ROUTE.len() {
+        let seen = unseen(&rt, 3);
+        let breaks = Manner { takes, ..PLAIN };
+        let mut coming = Vec::new(rt.alloc());
+        for (seen, manner) in seen.iter().zip([PLAIN, breaks, PLAIN]) {
+            let client = Coming {
+                sent: REQUEST,
+                manner,
+                seen,
+            };
+            coming.push(client).expect(&rt, "memory");
+        }
+        let asked = serve_clients(&rt, coming.as_slice(), MANY, false);
+        assert!(rt; asked == 3, "{takes} bytes");
+        let (first, last) = (at(&rt, seen.as_slice(), 0), at(&rt, seen.as_slice(), 2));
+        let broken = at(&rt, seen.as_slice(), 1);
+        assert!(rt; broken.is_sent(&NO_ROUTE[..takes]), "{takes} bytes");
+        assert!(rt;
+            first.is_sent(NO_ROUTE) && last.is_sent(NO_ROUTE),
+            "{takes} bytes"
+        );
+    }
+}
+
+/// What clients send that never end, and what they are sent before they are let go.
+const SILENT: [(&[u8], &[u8]); 4] = [
+    (b"", b""),
+    (b"GET /noth", b""),
+    (REQUEST, NO_ROUTE),
+    (b"\0", NOT_WHOLE),
+];
+
+#[test]
+fn clients_that_stall_are_let_go_and_keep_no_other_out(rt: HostRuntime) {
+    let seen = unseen(&rt, SILENT.len());
+    let mut sent = Vec::new(rt.alloc());
+    for (begun, _) in &SILENT {
+        let mut bytes = Vec::new(rt.alloc());
+        bytes.extend_from_slice(begun).expect(&rt, "memory");
+        sent.push(bytes).expect(&rt, "memory");
+    }
+    let mut coming = Vec::new(rt.alloc());
+    for (bytes, seen) in sent.iter().zip(seen.iter()) {
+        let client = Coming {
+            sent: bytes.as_slice(),
+            manner: Manner {
+                after: After::Silence,
+                ..PLAIN
+            },
+            seen,
+        };
+        coming.push(client).expect(&rt, "memory");
+    }
+    serve_clients(&rt, coming.as_slice(), 100, false);
+    for (place, (_, replies)) in SILENT.iter().enumerate() {
+        let saw = at(&rt, seen.as_slice(), place);
+        assert!(rt; saw.is_sent(replies));
+    }
+}
+
+/// A request that asks the store once, and the reply where nobody has the key.
+const ASKING: &[u8] = b"GET /rounds HTTP/1.1\r\nHall-Key: eve-key-1\r\n\r\n";
+
+const UNKNOWN: &[u8] = b"\
+    HTTP/1.1 403 Forbidden\r\n\
+    Content-Type: application/json\r\n\
+    Content-Length: 12\r\n\r\n\
+    {\"denied\":1}";
+
+#[test]
+fn nothing_is_answered_after_a_request_that_left_the_store_shut(rt: HostRuntime) {
+    for left in 0..5 {
+        let store = MapStore::new(rt.alloc());
+        let mut desk = Desk::new(LimitedStore { store, left });
+        let sent = joined(&rt, &[ASKING, ASKING, ASKING]);
+        let seen = unseen(&rt, 2);
+        let mut coming = Vec::new(rt.alloc());
+        for seen in seen.iter() {
+            let client = Coming {
+                sent: sent.as_slice(),
+                manner: PLAIN,
+                seen,
+            };
+            coming.push(client).expect(&rt, "memory");
+        }
+        let mut listed = Listed::new(rt.alloc(), coming, MANY, false);
+        let mut clock = clock(&[1]);
+        let served = serve_all(rt.alloc(), &mut desk, &mut listed, &mut clock);
+        let (end, _clients) = served.expect(&rt, "memory");
+        assert!(rt; matches!(end, ServeAllEnd::Shut), "{left} calls");
+        assert!(rt; clock.asked == left.wrapping_add(1), "{left} calls");
+        let mut told = NO_SERVICE.len();
+        for _ in 0..left {
+            told = told.wrapping_add(UNKNOWN.len());
+        }
+        let mut sent_to_all: usize = 0;
+        for seen in seen.iter() {
+            sent_to_all = sent_to_all.wrapping_add(seen.count());
+        }
+        assert!(rt; sent_to_all == told, "{left} calls");
+    }
+}
