@@ -9,30 +9,29 @@ wrong, and last how many there were; exits with 1 where one did.
 """
 import argparse
 import asyncio
+import contextlib
 import os
-import resource
 import socket
 import subprocess
 import sys
 import tempfile
 import time
 
-HERE = os.path.dirname(os.path.realpath(__file__))
-sys.path[:0] = [HERE, f"{os.path.dirname(HERE)}/bench"]
+sys.path[:0] = [os.path.dirname(os.path.realpath(__file__))]
 import files  # noqa: E402
-import wire  # noqa: E402
+from clients import LAST, LATE, MOST, PATIENCE, Client, allow_many_files, many, status  # noqa: E402
+from running import PEOPLE, PROGRAM, connected, read_off, serving  # noqa: E402
+from wire import replies, request  # noqa: E402
 
-# After how many seconds a client is cut, and how long what still comes is read off after the last reply.
-PATIENCE, LAST = 10, 2
-# How much sooner and how much later than that is well: clocks and processors.
-EARLY, LATE = 0.2, 2.0
 # Within how many seconds a good client is answered.
 SOON = 1.0
-MOST = 500
 # A listing that no socket's buffers hold, of 12 MB: a director's, of 50 long answers of so many entrants.
 ENTRANTS, ANSWER = 60, 4_000
-ASKED = wire.request("eve-key-1", "GET", "/rounds/r1").encode()
-LISTING = wire.request("dora-key", "GET", "/rounds/r2/answers").encode()
+ASKED = request("eve-key-1", "GET", "/rounds/r1").encode()
+LISTING = request("dora-key", "GET", "/rounds/r2/answers").encode()
+FLOOD = b"x" * (1 << 16)
+# How the system tells of a socket that listens.
+LISTENING = "0A"
 CLOSING = ASKED.replace(b"\r\n\r\n", b"\r\nConnection: close\r\n\r\n", 1)
 
 
@@ -44,67 +43,6 @@ def hall_file(path):
         for k in range(ENTRANTS) for n in range(1, 51))
     rows = f"INSERT INTO people VALUES {people}; INSERT INTO answers VALUES {answers}"
     files.written(path, files.TABLES, files.ROWS, rows)
-
-
-class Client:
-    """A connection, and the time since it was made."""
-
-    def __init__(self, port, room=None):
-        self.port, self.room, self.read = port, room, bytearray()
-
-    async def __aenter__(self):
-        it = socket.socket()
-        it.setsockopt(socket.IPPROTO_TCP, socket.TCP_NODELAY, 1)
-        if self.room:
-            it.setsockopt(socket.SOL_SOCKET, socket.SO_RCVBUF, self.room)
-        it.setblocking(False)
-        self.it, self.since = it, time.monotonic()
-        await asyncio.get_running_loop().sock_connect(it, ("127.0.0.1", self.port))
-        return self
-
-    async def __aexit__(self, *_):
-        self.it.close()
-
-    async def send(self, sent):
-        self.since = time.monotonic()
-        await asyncio.get_running_loop().sock_sendall(self.it, sent)
-
-    async def more(self):
-        """Whether something came; a connection may also be cut by a reset."""
-        try:
-            piece = await asyncio.get_running_loop().sock_recv(self.it, 1 << 16)
-        except (ConnectionResetError, BrokenPipeError):
-            piece = b""
-        self.read += piece
-        return piece != b""
-
-    async def reply(self):
-        """One whole reply; what came of it, where the connection ends before."""
-        while not (head := wire.REPLY.match(self.read)) or len(self.read) < head.end() + int(head[1]):
-            if not await self.more():
-                break
-        size = head.end() + int(head[1]) if head else len(self.read)
-        one, self.read = bytes(self.read[:size]), self.read[size:]
-        return one
-
-    async def rest(self):
-        while await self.more():
-            pass
-        return bytes(self.read)
-
-    def took(self):
-        return time.monotonic() - self.since
-
-    def was_cut(self, name, seconds):
-        took = self.took()
-        is_well = seconds - EARLY <= took <= seconds + LATE
-        files.check(f"{name} is cut after {took:.2f} seconds, in place of {seconds}", is_well, True)
-
-
-def status(reply):
-    """A whole reply's status; 0 where it isn't whole."""
-    head = wire.REPLY.match(reply)
-    return int(head[0][9:12]) if head and len(reply) == head.end() + int(head[1]) else 0
 
 
 async def sends_nothing(port):
@@ -138,6 +76,7 @@ async def a_byte_at_a_time(port):
 async def takes_no_reply(port):
     async with Client(port, 4096) as client:
         await client.send(LISTING)
+        await client.more(1)
         await asyncio.sleep(PATIENCE + LATE)
         files.check("a reply that isn't taken is whole", status(await client.rest()), 0)
 
@@ -147,6 +86,18 @@ async def takes_a_reply_slowly(port):
         await client.send(LISTING)
         await asyncio.sleep(PATIENCE / 2)
         files.check("a reply that is taken in time", status(await client.reply()), 200)
+
+
+async def takes_a_reply_in_bits(port):
+    """Its patience isn't begun anew with each bit that it takes."""
+    async with Client(port, 4096) as client:
+        await client.send(LISTING)
+        await client.more(1)
+        begun = time.monotonic()
+        while time.monotonic() - begun < PATIENCE + LATE:
+            await client.more(4096)
+            await asyncio.sleep(0.1)
+        files.check("a reply that is taken in bits for too long is whole", status(await client.rest()), 0)
 
 
 async def goes_on_after_the_end(port):
@@ -162,6 +113,21 @@ async def goes_on_after_the_end(port):
             pass
         client.since = begun
         client.was_cut("a client that goes on after the end", LAST)
+
+
+async def floods_after_the_end(port):
+    async with Client(port) as client:
+        await client.send(CLOSING)
+        files.check("the last reply before a flood", status(await client.reply()), 200)
+        begun = client.since
+        try:
+            while time.monotonic() - begun < PATIENCE:
+                await client.send(FLOOD)
+                await asyncio.sleep(0.001)
+        except OSError:
+            pass
+        client.since = begun
+        client.was_cut("a flood after the end", LAST, LAST)
 
 
 async def good(port, slowest):
@@ -194,6 +160,8 @@ async def in_single_bytes(port):
             await client.send(bytes([byte]))
             await asyncio.sleep(0.001)
         files.check("a request in single bytes", status(await client.reply()), 200)
+        await client.send(ASKED)
+        files.check("a request after one in single bytes", status(await client.reply()), 200)
 
 
 async def half_and_the_end(port):
@@ -205,13 +173,13 @@ async def half_and_the_end(port):
     async with Client(port) as client:
         await client.send(ASKED * 3)
         client.it.shutdown(socket.SHUT_WR)
-        files.check("three requests before the end", len(wire.replies(await client.rest())), 3)
+        files.check("three requests before the end", len(replies(await client.rest())), 3)
 
 
 async def no_request(port):
     async with Client(port) as client:
         await client.send(ASKED + b"no request\r\n\r\n" + ASKED)
-        read = wire.replies(await client.rest())
+        read = replies(await client.rest())
         files.check("what is no request", [status(it) for it in read], [200, 400])
 
 
@@ -227,28 +195,52 @@ async def a_thousand(port):
 
 async def more_than_there_is_room_for(port):
     """The idle ones make room."""
-    clients = [Client(port) for _ in range(MOST + 20)]
-    for client in clients:
-        await client.__aenter__()
-    await asyncio.sleep(SOON)
-    async with Client(port) as client:
-        await client.send(ASKED)
-        files.check("a client among many idle ones", status(await client.reply()), 200)
-        files.check("a client among many idle ones is answered soon", client.took() < SOON, True)
-    ended = [asyncio.create_task(client.rest()) for client in clients]
-    await asyncio.sleep(0.2)
-    gone = sum(it.done() for it in ended)
-    files.check(f"{gone} idle clients of {len(clients)} made room", 20 <= gone < MOST, True)
-    for it in ended:
-        it.cancel()
-    await asyncio.gather(*ended, return_exceptions=True)
-    for client in clients:
-        await client.__aexit__()
+    async with many(port, MOST + 20) as clients:
+        await asyncio.sleep(SOON)
+        async with Client(port) as client:
+            await client.send(ASKED)
+            files.check("a client among many idle ones", status(await client.reply()), 200)
+            files.check("a client among many idle ones is answered soon", client.took() < SOON, True)
+        ended = [asyncio.create_task(client.rest()) for client in clients]
+        await asyncio.sleep(0.2)
+        gone = sum(it.done() for it in ended)
+        files.check(f"{gone} idle clients of {len(clients)} made room", 20 <= gone < MOST, True)
+        for it in ended:
+            it.cancel()
+        await asyncio.gather(*ended, return_exceptions=True)
+
+
+async def a_taker_among_more_than_there_is_room_for(port):
+    """Who takes a reply makes no room, though it is the one that came first."""
+    async with Client(port, 4096) as taker:
+        await taker.send(LISTING)
+        await taker.more(4096)
+        async with many(port, MOST + 20):
+            await asyncio.sleep(3 * SOON)
+            files.check("a reply that is taken slowly in a full house", status(await taker.reply()), 200)
+
+
+async def a_full_house(port):
+    """Where nobody may go a newcomer waits, and is let in soon after somebody went."""
+    async with many(port, MOST) as clients:
+        await asyncio.gather(*(client.send(ASKED[:20]) for client in clients))
+        await asyncio.sleep(SOON)
+        async with many(port, 20) as newcomers:
+            await asyncio.gather(*(client.send(ASKED) for client in newcomers))
+            told = [asyncio.create_task(client.reply()) for client in newcomers]
+            await asyncio.wait(told, timeout=SOON)
+            files.check("newcomers that a full house answers", sum(it.done() for it in told), 0)
+            for client in clients[:len(newcomers)]:
+                client.it.close()
+            await asyncio.wait(told, timeout=3 * SOON)
+            found = [status(it.result()) if it.done() else None for it in told]
+            files.check("newcomers that came to a full house", found, [200] * len(newcomers))
 
 
 async def all_at_once(port):
     slow = [sends_nothing, half_a_request, a_byte_at_a_time, takes_no_reply]
-    once = [in_single_bytes, half_and_the_end, no_request, a_thousand, takes_a_reply_slowly, goes_on_after_the_end]
+    once = [in_single_bytes, half_and_the_end, no_request, a_thousand, takes_a_reply_slowly, takes_a_reply_in_bits,
+            goes_on_after_the_end, floods_after_the_end]
     slowest = []
     clients = [it(port) for it in slow for _ in range(5)] + [it(port) for it in once]
     clients += [pipelined(port, 50), pipelined(port, 1001)]
@@ -257,74 +249,70 @@ async def all_at_once(port):
         if isinstance(ended, Exception):
             files.check("a client", repr(ended), "no fault")
     files.check(f"the slowest of {len(slowest)} replies took {max(slowest):.3f} seconds", max(slowest) < SOON, True)
-    await more_than_there_is_room_for(port)
+    for it in (more_than_there_is_room_for, a_taker_among_more_than_there_is_room_for, a_full_house):
+        await it(port)
 
 
-def free_port():
-    with socket.socket() as it:
-        it.bind(("127.0.0.1", 0))
-        return it.getsockname()[1]
-
-
-def wait_for(port):
-    for _ in range(600):
-        try:
-            return socket.create_connection(("127.0.0.1", port)).close()
-        except ConnectionRefusedError:
-            time.sleep(0.05)
-    raise ConnectionRefusedError(port)
+def listens_here_alone(server, port):
+    """Sees that the program listens on the one port, for clients of this machine alone."""
+    folder, own, found = f"/proc/{server.pid}/fd", set(), []
+    for it in os.listdir(folder):
+        with contextlib.suppress(FileNotFoundError):
+            own.add(os.readlink(f"{folder}/{it}"))
+    for name in ("tcp", "tcp6"):
+        with open(f"/proc/net/{name}", encoding="ascii") as file:
+            rows = [line.split() for line in file.readlines()[1:]]
+        found += [row[1] for row in rows if row[3] == LISTENING and f"socket:[{row[9]}]" in own]
+    files.check("where the hall listens", found, [f"0100007F:{port:04X}"])
 
 
 def last_connections(program, path):
     """The last reply of the last connection comes whole, and then the program ends."""
-    port = free_port()
-    server = subprocess.Popen([program, "serve", "--db", path, "--port", str(port), "--connections", "3"])
-    wait_for(port)
-    clients = [socket.create_connection(("127.0.0.1", port)) for _ in range(2)]
-    for client in clients:
-        client.sendall(LISTING.replace(b"\r\n\r\n", b"\r\nConnection: close\r\n\r\n", 1))
-    time.sleep(1)
-    for client in clients:
-        read = b""
-        while piece := client.recv(1 << 16):
-            read += piece
-        files.check("a reply of the last connections", status(read), 200)
-        client.close()
-    files.check("the end after the last connection", server.wait(timeout=PATIENCE), 0)
+    with serving(path, 3, program) as (server, port):
+        connected(server, port).close()
+        clients = [connected(server, port) for _ in range(2)]
+        for client in clients:
+            client.sendall(LISTING.replace(b"\r\n\r\n", b"\r\nConnection: close\r\n\r\n", 1))
+        time.sleep(1)
+        for client in clients:
+            files.check("a reply of the last connections", status(read_off(client)), 200)
+            client.close()
+        files.check("the end after the last connection", server.wait(timeout=PATIENCE), 0)
 
 
-def told_by(program, path, ask):
-    """Serves the file while `ask` asks its port. The port, and what the hall tells on standard error."""
-    port = free_port()
-    server = subprocess.Popen([program, "serve", "--db", path, "--port", str(port)], stderr=subprocess.PIPE)
-    try:
-        wait_for(port)
-        ask(port)
-    finally:
+def told_by(program, path, known, ask):
+    """Serves the file while `ask` asks, and sees that the hall tells its address, the file and what it knows."""
+    with serving(path, 1_000_000, program, stderr=subprocess.PIPE) as (server, port):
+        connected(server, port).close()
+        ask(server, port)
         server.terminate()
         told = server.communicate()[1].decode()
-    return port, told
+    files.check("what is told", told, f"hall: serving 127.0.0.1:{port} from {path}{known}\n")
+
+
+def halls(program, room):
+    """A hall with two rounds, one with a row that is no record, and a new one."""
+    path, new = f"{room}/hall.db", f"{room}/new.db"
+    hall_file(path)
+    told_by(program, path, f", people {5 + ENTRANTS}, rounds 2", lambda _, port: asyncio.run(all_at_once(port)))
+    last_connections(program, path)
+    files.written(path, "UPDATE people SET roles = 0 WHERE name = 'e1'")
+    told_by(program, path, "", listens_here_alone)
+    subprocess.run([program, "init", "--db", new, "--people", PEOPLE], check=True, stdout=subprocess.DEVNULL)
+    told_by(program, new, ", people 6, rounds 0", listens_here_alone)
 
 
 def main():
     parser = argparse.ArgumentParser(description=__doc__, formatter_class=argparse.RawDescriptionHelpFormatter)
-    parser.add_argument("--program", default=f"{files.ROOT}/crates/hall/out/hall")
+    parser.add_argument("--program", default=PROGRAM)
     parser.add_argument("--port", type=int)
     words = parser.parse_args()
-    soft, hard = resource.getrlimit(resource.RLIMIT_NOFILE)
-    resource.setrlimit(resource.RLIMIT_NOFILE, (min(4096, hard), hard))
+    allow_many_files()
     if words.port:
         asyncio.run(all_at_once(words.port))
     else:
         with tempfile.TemporaryDirectory(prefix="hall-crowd-") as room:
-            path = f"{room}/hall.db"
-            hall_file(path)
-            port, told = told_by(words.program, path, lambda port: asyncio.run(all_at_once(port)))
-            files.check("what is told", told, f"hall: serving 127.0.0.1:{port} from {path}, people {5 + ENTRANTS}, rounds 2\n")
-            last_connections(words.program, path)
-            files.written(path, "UPDATE people SET roles = 0 WHERE name = 'e1'")
-            port, told = told_by(words.program, path, lambda _: None)
-            files.check("what is told where a row is no record", told, f"hall: serving 127.0.0.1:{port} from {path}\n")
+            halls(os.path.abspath(words.program), room)
     print(f"many clients: {files.passed} as wanted, {files.failed} not")
     sys.exit(1 if files.failed else 0)
 

@@ -9,8 +9,8 @@
    full    as dead, with ENOSPC
    short   one byte is moved
 
-   DEVICE_WHICH has a letter for each kind of call that counts: r reads, w writes and syncs; f of regular files, s of
-   sockets and other streams. Where DEVICE_SIP is set, each read of a socket gives one byte. */
+   DEVICE_WHICH has a letter for each kind of call that counts: r reads, w writes and syncs, y syncs alone; f of regular
+   files, s of sockets and other streams. Where DEVICE_SIP is set, each read of a socket gives one byte. */
 #define _GNU_SOURCE
 #include <dlfcn.h>
 #include <errno.h>
@@ -130,13 +130,18 @@ static enum turn failing(int error) {
     return FAILS;
 }
 
-/* What becomes of this call, a read or a write. Those of standard error don't count. */
+/* Whether calls of this way count: a sync is also a write. */
+static int counts(char way) {
+    const char *which = told("DEVICE_WHICH");
+    return strchr(which, way) || way == 'y' && strchr(which, 'w');
+}
+
+/* What becomes of this call, a read, a write or a sync. Those of standard error don't count. */
 static enum turn turn(int fd, char way) {
     static long count, at = -1;
-    const char *which = told("DEVICE_WHICH");
     if (at < 0)
         at = atol(told("CALL"));
-    if (fd == 2 || !strchr(which, way) || !strchr(which, is_file(fd) ? 'f' : 's') || at == 0)
+    if (fd == 2 || !counts(way) || !strchr(told("DEVICE_WHICH"), is_file(fd) ? 'f' : 's') || at == 0)
         return MADE;
     count++;
     if (count == at)
@@ -149,7 +154,7 @@ static enum turn turn(int fd, char way) {
         return ONE;
     if (count == at && is_how("fail") || count >= at && is_how("dead"))
         return failing(EIO);
-    return count >= at && is_how("full") && way == 'w' ? failing(ENOSPC) : MADE;
+    return count >= at && is_how("full") && way != 'r' ? failing(ENOSPC) : MADE;
 }
 
 /* How many bytes a read of so many is given. */
@@ -208,7 +213,7 @@ ssize_t writev(int fd, const struct iovec *parts, int count) {
 #define SYNC(name) \
     int name(int fd) { \
         NEXT(name); \
-        enum turn it = turn(fd, 'w'); \
+        enum turn it = turn(fd, 'y'); \
         if (it == FAILS) \
             return -1; \
         if (it == HALF) \

@@ -38,12 +38,12 @@ def free_port():
 
 
 @contextlib.contextmanager
-def serving(path, connections, program=PROGRAM, env=None, prepare=None):
+def serving(path, connections, program=PROGRAM, env=None, prepare=None, **streams):
     """A server over the database file, and the port that it is told. It is ended with the block."""
     port = free_port()
     words = [program, "serve", "--db", path, "--port", str(port), "--connections", str(connections)]
-    silent = {"stdin": subprocess.DEVNULL, "stderr": subprocess.DEVNULL}
-    with subprocess.Popen(words, env=env, preexec_fn=prepare, **silent) as server:
+    streams = {"stdin": subprocess.DEVNULL, "stderr": subprocess.DEVNULL} | streams
+    with subprocess.Popen(words, env=env, preexec_fn=prepare, **streams) as server:
         try:
             yield server, port
         finally:
