@@ -1,10 +1,13 @@
 #!/usr/bin/env python3
 """Proves and builds the program `hall`, crates side by side where processors and memory allow, and shows how far it is.
 
-    python3 tools/build.py
+    python3 tools/build.py [--kept]
 
-Run by ./hall. All that the kit says goes to build.log; what this prints goes to standard error.
+Run by ./hall --prove. All that the kit says goes to build.log; what this prints goes to standard error. The program is
+kept in the user's cache too: another clone of the same sources takes it from there by --kept, which makes nothing, and
+ends with 1 where none is kept.
 """
+import glob
 import os
 import re
 import shutil
@@ -18,6 +21,9 @@ sys.path.insert(0, os.path.dirname(os.path.realpath(shutil.which("rt") or "rt"))
 import rtlib  # noqa: E402
 
 ROOT = os.path.dirname(os.path.dirname(os.path.realpath(__file__)))
+# What a program is linked with, and by what.
+C_CODE = [f"{rtlib.KIT}/c/libos_c.a", f"{rtlib.KIT}/c/liblibc_c.a"]
+LINK = [f"{rtlib.KIT}/bin/rattle-link", "--target", "x86_64-unknown-linux-gnu"]
 # What one process takes at the most but for two crates, in bytes.
 MEMORY_OF_ONE = 5_000_000_000
 EVERY = 15
@@ -25,6 +31,8 @@ EVERY = 15
 MOST_OF_ONE = 4
 # So many of the last lines are told of a crate that fails.
 LAST = 20
+# So many programs are kept, of 4 MB each.
+MOST_KEPT = 8
 # How far a crate stands back behind each that is being proved and has more behind it.
 STANDS_BACK = 3
 
@@ -72,8 +80,9 @@ def program_of(crate):
 class Made:
     """What is made of a crate: a library, or the program.
 
-    As under `rt verdict` a library holds what other crates can cite of it, without its proofs, which each process of each crate above would read. It lies
-    below the folder of the library that `rt` makes, where alone rt lets files lie, and which `rt check` and `rt lib` empty when they make theirs."""
+    As under `rt verdict` a library holds what other crates can cite of it, without its proofs, which each process of
+    each crate above would read. It lies below the folder of the library that `rt` makes, where alone rt lets files lie,
+    and which `rt check` and `rt lib` empty when they make theirs."""
 
     def __init__(self, crate):
         self.crate, self.folder = crate, f"{crate.folder}/out/rlib/statements"
@@ -102,7 +111,8 @@ class Made:
         return self.build(*without(words, "--jobs", "--logic-built"), "--crate-checked", checked)
 
     def prove_over_kept(self, jobs):
-        """Proves what no check has kept, and makes a library that holds the proofs, or the program. It returns whether that is there."""
+        """Proves what no check has kept, and makes a library that holds the proofs, or the program. It returns whether
+        that is there."""
         return self.build(*self.crate.words(["--jobs", str(jobs)]), *rtlib.KEPT)
 
     def build(self, *words):
@@ -110,13 +120,14 @@ class Made:
         if not crate.is_program:
             return self.call(rtlib.RATTLE, "build", *words, "-o", crate.rlib)
         of_machine = ["--toolchain", f"{rtlib.KIT}/toolchain"]
-        linked = ["-o", program_of(crate), code, f"{rtlib.KIT}/c/libos_c.a", f"{rtlib.KIT}/c/liblibc_c.a"]
+        linked = ["-o", program_of(crate), code, *C_CODE]
         if not self.call(rtlib.RATTLE, "build", *words, *of_machine, "-o", code):
             return False
-        return self.call(f"{rtlib.KIT}/bin/rattle-link", "--target", "x86_64-unknown-linux-gnu", *of_machine, *linked)
+        return self.call(*LINK, *of_machine, *linked)
 
     def make(self, prove, jobs, stamp, out):
-        """Makes it anew by a function of these two, and returns whether it is there, made of the sources that have this stamp."""
+        """Makes it anew by a function of these two, and returns whether it is there, made of the sources that have this
+        stamp."""
         self.said, self.begun = Said(out), time.time()
         self.crate.out = self.said
         shutil.rmtree(self.folder, ignore_errors=True)
@@ -132,8 +143,9 @@ class Made:
 
 
 class Build:
-    """The crates that the program stands on and the program itself, each made once those below it are. The processors are shared by those that may be made at
-    one time, since two processes for a crate take up to twice the processor time of one. Those with less work behind them stand back a little."""
+    """The crates that the program stands on and the program itself, each made once those below it are. The processors
+    are shared by those that may be made at one time, since two processes for a crate take up to twice the processor
+    time of one. Those with less work behind them stand back a little."""
 
     def __init__(self, program, most, log):
         self.crates, self.most, self.log = [*program.below(), program], most, log
@@ -149,7 +161,8 @@ class Build:
     def tell_of(self, crate, word):
         made, place = self.made[crate], f"{self.crates.index(crate) + 1} of {len(self.crates)}"
         if made.said:
-            far = f"{made.said.proved:4} of {made.said.functions:4} functions {(time.time() - made.begun) / 60:6.1f} minutes"
+            minutes = (time.time() - made.begun) / 60
+            far = f"{made.said.proved:4} of {made.said.functions:4} functions {minutes:6.1f} minutes"
             tell(f"{crate.name:14} {place:>8}  {word:6} {far}")
 
     def make(self, crate, jobs, stands_back):
@@ -170,7 +183,8 @@ class Build:
 
     def start(self):
         """Starts what may be made now, at most as many crates as there are processors."""
-        ready = [it for it in self.crates if it not in self.done and it not in self.running and self.done.issuperset(it.below())]
+        begun = self.done | self.running
+        ready = [it for it in self.crates if it not in begun and self.done.issuperset(it.below())]
         ready.sort(key=self.behind, reverse=True)
         jobs = max(1, self.most // max(1, len(ready) + len(self.running)))
         for crate in ready[: self.most - len(self.running)]:
@@ -195,13 +209,56 @@ class Build:
         return self.failed
 
 
+def kept_at(program):
+    """Where a program that this kit proved of these sources is kept, for each clone on this machine. Whoever can write
+    there is trusted."""
+    return f"{os.environ.get('XDG_CACHE_HOME') or os.path.expanduser('~/.cache')}/hall/{program.stamp()}"
+
+
+def put(made, at, when=None):
+    """Copies a program to where one may be running, as made at this moment."""
+    beside = f"{at}.{os.getpid()}"
+    shutil.copy(made, beside)
+    if when:
+        os.utime(beside, (when, when))
+    os.replace(beside, at)
+
+
+def keep(program, made):
+    """Keeps a proved program, and those that were kept last."""
+    at = kept_at(program)
+    try:
+        os.makedirs(os.path.dirname(at), 0o700, exist_ok=True)
+        put(made, at)
+        for old in sorted(glob.glob(f"{os.path.dirname(at)}/*"), key=os.path.getmtime)[:-MOST_KEPT]:
+            os.remove(old)
+    except OSError as fault:
+        tell(f"the proved program isn't kept for other clones: {fault}")
+
+
+def take(program):
+    """Takes the program from what is kept, and returns whether it could."""
+    at, begun = kept_at(program), time.time()
+    if not os.path.isfile(at):
+        return False
+    os.makedirs(os.path.dirname(program_of(program)), exist_ok=True)
+    put(at, program_of(program), begun)
+    tell(f"taken from {at}, proved earlier of the same sources by the same kit")
+    return True
+
+
+def program_named(root, name):
+    return next(it for it in rtlib.crates_below(root) if it.name == name)
+
+
 def build(root, name):
     """Builds the program of this name in a folder of crates, and returns whether it is there."""
     # It sets handlers of signals, which a thread can't.
     rtlib.guarded()
     begun, log = time.time(), f"{root}/build.log"
-    program, most = next(it for it in rtlib.crates_below(root) if it.name == name), at_once()
-    tell(f"proving and building {len(program.below()) + 1} crates, with {most} processors; {log} has what the prover says")
+    program, most = program_named(root, name), at_once()
+    crates = len(program.below()) + 1
+    tell(f"proving and building {crates} crates, with {most} processors; {log} has what the prover says")
     made = Build(program, most, log)
     failed = made.run()
     if failed:
@@ -218,7 +275,15 @@ def main():
     # Else Python would wait for the threads.
     signal.signal(signal.SIGINT, signal.SIG_DFL)
     os.chdir(ROOT)
-    return 0 if build(ROOT, "hall") else 3
+    program = program_named(ROOT, "hall")
+    if "--kept" in sys.argv[1:]:
+        return 0 if take(program) else 1
+    stamp = program.stamp()
+    if not build(ROOT, "hall"):
+        return 3
+    if program.stamp() == stamp:
+        keep(program, program_of(program))
+    return 0
 
 
 if __name__ == "__main__":

@@ -67,14 +67,16 @@ def without_arguments(text):
 
 
 def block_of(head):
-    """How the prover names the type or trait that an `impl` or `trait` is of, by its first lines, and whether it is the impl of a trait: the type's name,
-    and then the trait's and those of its arguments."""
+    """How the prover names the type or trait that an `impl` or `trait` is of, by its first lines, and whether it is the
+    impl of a trait: the type's name, after a word for each reference to it, and then the trait's and those of its
+    arguments. It leaves out the parameters of the impl, which have one letter."""
     head = re.split(r"\{|\bwhere\b", head)[0]
     trait, _, of = re.sub(r"\w+::", "", head).rpartition(" for ")
-    words = re.findall(r"\w+", without_arguments(of))
-    name = next(it for it in words if it not in ("impl", "trait", "pub", "mut", "dyn", "unsafe"))
-    words = re.findall(r"\w\w+", re.sub(r"^[^<]*?impl(<[^>]*>)?", "", trait))
-    return name + "".join(words), bool(trait)
+    of = re.sub(r"&(?:'\w+ )?(mut )?", lambda it: "RefMut " if it[1] else "Ref ", without_arguments(of))
+    words = [it for it in re.findall(r"\w\w+", of) if it not in ("impl", "trait", "pub", "mut", "dyn", "unsafe")]
+    references = sum(it in ("Ref", "RefMut") for it in words)
+    of_trait = re.findall(r"\w\w+", re.sub(r"^[^<]*?impl(<[^>]*>)?", "", trait))
+    return "".join(it[0].upper() + it[1:] for it in words[: references + 1] + of_trait), bool(trait)
 
 
 def module_of(file):
@@ -250,7 +252,9 @@ class Crate:
 
     def note(self, ran, verdict, path):
         """What to say of a refusal that says less of the contract."""
-        own = re.findall(rf"^(?:note: )?(?:\./)?(?:proofs/{re.escape(path.replace('::', '/'))}/|src/).*: error.*", ran.stdout, re.M)
+        # An error goes on in the lines after it that stand further in.
+        file = rf"(?:note: )?(?:\./)?(?:proofs/{re.escape(path.replace('::', '/'))}/|src/)"
+        own = re.findall(rf"^{file}.*: error.*(?:\n  .*)*", ran.stdout, re.M)
         if own and all(NAMES.search(it) for it in own):
             return " (only because a proof file names what the edit took away: change a value and keep the names)"
         return " (only by a limit of the prover)" if verdict == "could not tell" else ""
