@@ -1,9 +1,11 @@
 #!/bin/bash
 # The round of README.md, "A round in ten minutes": its commands against a server on a free port of 127.0.0.1, each reply compared with what README.md
 # tells. The moments are the system's, so the round begins a few seconds after now; it ends a minute later, and is closed after one more.
+# HALL names another program than ./hall.
 # With the words PORT URL [OPTION..] the server listens on that port, and curl is asked at the URL with these options: examples/running/try.py has a proxy there.
 cd "$(dirname "${BASH_SOURCE[0]}")/../.." || exit 1
 room=$(mktemp -d)
+hall=${HALL:-./hall}
 port=${1:-$(python3 -c 'import socket; s = socket.socket(); s.bind(("127.0.0.1", 0)); print(s.getsockname()[1])')}
 url=${2:-http://127.0.0.1:$port}
 options=("${@:3}")
@@ -33,8 +35,8 @@ until_moment() {
   while [ "$(date +%s)" -lt "$1" ]; do sleep 0.2; done
 }
 
-is 'hall init' 'added 6' "$(./hall init --db "$room/hall.db" --people examples/people.csv)"
-./hall serve --db "$room/hall.db" --port "$port" --connections 15 &
+is 'hall init' 'added 6' "$("$hall" init --db "$room/hall.db" --people examples/people.csv)"
+"$hall" serve --db "$room/hall.db" --port "$port" --connections 15 &
 server=$!
 for _ in $(seq 600); do
   (exec 3<>"/dev/tcp/127.0.0.1/$port") 2>/dev/null && break
@@ -82,6 +84,6 @@ is 'the table' "$table" "$(ask nobody GET /rounds/noon/table)"
 wait "$server"
 is 'hall serve' 0 $?
 server=
-is 'hall table' "$table" "$(./hall table --db "$room/hall.db" --round noon)"
+is 'hall table' "$table" "$("$hall" table --db "$room/hall.db" --round noon)"
 [ "$failed" -eq 0 ] && echo "a round from init to table: all replies as README.md tells"
 [ "$failed" -eq 0 ]

@@ -4,6 +4,8 @@ import subprocess
 
 HERE = os.path.dirname(os.path.realpath(__file__))
 HAPROXY, NGINX = "/usr/sbin/haproxy", "/usr/sbin/nginx"
+# The page that both serve, in the place of the installed one; another one where the environment says so.
+PAGE = os.environ.get("PAGE", f"{os.path.dirname(os.path.dirname(HERE))}/clients/page")
 
 
 def placed(name, pairs):
@@ -31,21 +33,33 @@ def certificate(room):
         write(f"{room}/hall.pem", crt.read() + key.read())
 
 
+def opened(text, first):
+    """The text with the `#` taken off the lines that begin with this one."""
+    before, found, after = text.partition("\n#" + first)
+    if not found:
+        raise ValueError(f"there are no such lines: {first}")
+    lines = ("#" + first + after).split("\n")
+    return "\n".join([before, *(line.removeprefix("#") for line in lines)])
+
+
 def haproxy(path, log=subprocess.DEVNULL):
-    return subprocess.Popen([HAPROXY, "-db", "-f", path], stdout=log, stderr=subprocess.DEVNULL)
+    return subprocess.Popen([HAPROXY, "-db", "-f", path], stdout=log, stderr=subprocess.DEVNULL,
+                            env={**os.environ, "PAGE": PAGE})
 
 
-def our_haproxy(front, back, room, tls=False, log=subprocess.DEVNULL):
+def our_haproxy(front, back, room, tls=False, log=subprocess.DEVNULL, change=str):
     """HAProxy by haproxy.cfg, from the one port to the other; without TLS where none is asked for."""
     own = os.geteuid() == 0
-    write(f"{room}/haproxy.cfg", placed("haproxy.cfg", [
+    write(f"{room}/haproxy.cfg", change(placed("haproxy.cfg", [
         ("log /dev/log local0", "log stdout format raw local0"),
         ("    chroot /var/lib/haproxy\n", f"    chroot {room}\n" if own else ""),
         *([] if own else [("    user haproxy\n", ""), ("    group haproxy\n", "")]),
-        ("bind :443", f"bind 127.0.0.1:{front}"),
+        # Both kinds of addresses by one line, as in the file, but of this machine alone.
+        ("bind :::443 v4v6", f"bind :::{front} v4v6 interface lo"),
         (" ssl crt /etc/haproxy/hall.pem", f" ssl crt {room}/hall.pem" if tls else ""),
-        ("127.0.0.1:8080", f"127.0.0.1:{back}"),
-    ]))
+        ("127.0.0.1:8080 maxconn 100\n", f"127.0.0.1:{back} maxconn 100\n"),
+        ("127.0.0.1:8080 maxconn 1\n", f"127.0.0.1:{back} maxconn 1\n"),
+    ])))
     return haproxy(f"{room}/haproxy.cfg", log)
 
 
@@ -67,13 +81,16 @@ access_log off;
     return subprocess.Popen([NGINX, "-c", f"{room}/nginx.conf", "-e", f"{room}/nginx.log"])
 
 
-def our_nginx(front, back, room, tls=False):
+def our_nginx(front, back, room, tls=False, change=str):
     """nginx with nginx.conf, from the one port to the other."""
-    write(f"{room}/fragment.conf", placed("nginx.conf", [
-        ("listen 443 ssl;", f"listen 127.0.0.1:{front}{' ssl' if tls else ''};"),
+    tail = " ssl;" if tls else ";"
+    write(f"{room}/fragment.conf", change(placed("nginx.conf", [
+        ("/usr/share/hall/page", PAGE),
+        ("listen 443 ssl;", f"listen 127.0.0.1:{front}{tail}"),
+        ("listen [::]:443 ssl;", f"listen [::1]:{front}{tail}"),
         ("    ssl_certificate /etc/nginx/hall.pem;\n", f"    ssl_certificate {room}/hall.crt;\n" if tls else ""),
         ("    ssl_certificate_key /etc/nginx/hall.key;\n",
          f"    ssl_certificate_key {room}/hall.key;\n" if tls else ""),
         ("127.0.0.1:8080", f"127.0.0.1:{back}"),
-    ]))
+    ])))
     return nginx(f"{room}/fragment.conf", room)

@@ -1,225 +1,328 @@
 #!/usr/bin/env python3
-"""Runs a hall behind a real HAProxy with haproxy.cfg: its limits, clients that stall, and the round of README.md.
+"""Runs a hall behind a real HAProxy with haproxy.cfg, and behind nginx with nginx.conf, where they are installed.
 
-    python3 examples/running/try.py [--brief]
+    python3 examples/running/try.py [--brief] [--program PATH] [haproxy|nginx ..]
 
-Only ports, paths and the certificate of haproxy.cfg are replaced. With --brief the round, which takes two minutes, is
-left out. Where there is no HAProxy it says so, and exits with 0. Prints a line for each thing that went wrong, and
-last how many were tried; exits with 1 where one went wrong.
+Their limits, what they say in the hall's place, who may certify, IPv6, port 80, clients that stall; and the round of
+README.md through HAProxy. Only ports, paths and the certificate of the files are replaced, and where a line says so a
+time. With --brief the round, which takes two minutes, is left out. Prints a line for each thing that went wrong, and
+last how many were tried; exits with 1 where one went wrong, and with 77 where neither proxy is installed.
 """
 import argparse
-import http.client
+import concurrent.futures
 import os
 import shutil
-import socket
-import ssl
 import subprocess
 import sys
 import tempfile
-import threading
 import time
 
 import proxies
+import trial
+from trial import StandIn, Stalled, Trial
 
 ROOT = os.path.dirname(os.path.dirname(proxies.HERE))
-F7 = '{"form":"F7"}'
+PEOPLE = f"{ROOT}/examples/people.csv"
+F7, FAULT = '{"fault":"proxy","form":"F7"}', '{"fault":"proxy"}'
 ROUNDS = '{"rounds":[]}'
-# A request is whole in so many seconds, or its client is told so; and a moment more.
-PATIENCE = 10 + 3
+STANDS = '{"stands":"in"}'
+CERTIFICATE = "/puzzles/bob/p1/certificate"
+CHALLENGE = "/.well-known/acme-challenge/word"
+# Addresses of this machine that the files don't name.
+STRANGE, OTHER = "127.0.0.9", "127.0.0.8"
+# A request is whole in so many seconds, or its client is told so; and some more, on a machine that is busy.
+PATIENCE = 10 + 8
 
 
-class Trial:
-    """What was tried through the proxy on a port, and how much of it went wrong."""
-
-    def __init__(self, port, room):
-        self.port, self.tried, self.failed = port, 0, 0
-        self.context = ssl.create_default_context(cafile=f"{room}/hall.crt")
-
-    def wants(self, name, want, got):
-        self.tried += 1
-        if got != want:
-            self.failed += 1
-            print(f"FAILED behind HAProxy, {name}: got {got}, wanted {want}")
-
-    def line(self, source="127.0.0.1"):
-        line = socket.create_connection(("localhost", self.port), 20, (source, 0))
-        return self.context.wrap_socket(line, server_hostname="localhost")
-
-    def ask(self, method, path, key, body=None, headers=(), source="127.0.0.1"):
-        """The status and the body of the reply."""
-        line = http.client.HTTPSConnection("localhost", self.port, context=self.context, timeout=30,
-                                           source_address=(source, 0))
-        try:
-            line.putrequest(method, path, skip_accept_encoding=True)
-            for name, value in [("Hall-Key", key), *headers]:
-                line.putheader(name, value)
-            if body is not None and not any(name == "Transfer-Encoding" for name, _ in headers):
-                line.putheader("Content-Length", str(len(body)))
-            line.endheaders(body)
-            reply = line.getresponse()
-            return reply.status, reply.read().decode()
-        finally:
-            line.close()
-
-
-class Stalled(threading.Thread):
-    """A client that sends these pieces with pauses, and then nothing; what it is told, and after how long."""
-
-    def __init__(self, trial, pieces, pause=0.1):
-        super().__init__(daemon=True)
-        self.trial, self.pieces, self.pause, self.told, self.took = trial, pieces, pause, b"", None
-        self.start()
-
-    def run(self):
-        begun = time.monotonic()
-        with self.trial.line() as line:
-            try:
-                for piece in self.pieces:
-                    line.sendall(piece)
-                    if self.hears(line, self.pause):
-                        break
-                else:
-                    self.hears(line, 60)
-            except OSError:
-                pass
-        self.took = time.monotonic() - begun
-
-    def hears(self, line, patience):
-        """Whether a reply, or the end, comes in so many seconds."""
-        line.settimeout(patience)
-        try:
-            self.told = line.recv(4096)
-        except TimeoutError:
-            return False
-        return True
-
-
-def stall(trial):
+def stall(it):
     """Clients with half a head, with half a body, and with a byte a second: the hall never sees them."""
     head = b"PUT /rounds/r1 HTTP/1.1\r\nHost: a\r\nHall-Key: dora-key\r\nContent-Length: 100\r\n\r\n"
-    stalled = [Stalled(trial, [head[:30]]), Stalled(trial, [head + b"half"]),
-               Stalled(trial, [bytes([byte]) for byte in head], 1)]
+    stalled = [Stalled(it, [head[:30]]), Stalled(it, [head + b"half"]),
+               Stalled(it, [bytes([byte]) for byte in head], 1)]
     time.sleep(1)
     return stalled
 
 
-def limits(trial):
+def bodies(it):
     """What is as long as the hall takes it is answered by the hall, and what is longer by the proxy."""
-    def padded(size):
-        head = f"GET /rounds HTTP/1.1\r\nHost: localhost:{trial.port}\r\nHall-Key: eve-key-1\r\nX: \r\n\r\n"
-        return [("X", "x" * (size - len(head)))]
-
-    trial.wants("a head of 8,150 bytes", (200, ROUNDS), trial.ask("GET", "/rounds", "eve-key-1", headers=padded(8150)))
-    trial.wants("a head of 8,193 bytes", (400, F7), trial.ask("GET", "/rounds", "eve-key-1", headers=padded(8193)))
-    several = [(f"X{k}", "x") for k in range(30)]
-    trial.wants("31 headers", (200, ROUNDS), trial.ask("GET", "/rounds", "eve-key-1", headers=several[:29]))
-    trial.wants("33 headers", (400, F7), trial.ask("GET", "/rounds", "eve-key-1", headers=[*several, ("Y", "y")]))
     body = b'{"text":"' + b"x" * (65_536 - 11) + b'"}'
     told = (400, '{"field":"text","form":"F3"}')
-    trial.wants("a body of 65,536 bytes", told, trial.ask("PUT", "/puzzles/bob/p1", "bob-key-1", body))
-    trial.wants("a body of 65,537 bytes", (400, F7), trial.ask("PUT", "/puzzles/bob/p1", "bob-key-1", body + b" "))
+    it.wants("a body of 65,536 bytes", told, it.ask("PUT", "/puzzles/bob/p1", "bob-key-1", body))
+    it.wants("a body of 65,537 bytes", (400, F7), it.ask("PUT", "/puzzles/bob/p1", "bob-key-1", body + b" "))
+
+
+def heads(it):
+    """The same of heads, and of bodies whose length isn't told."""
+    def padded(size):
+        head = f"GET /rounds HTTP/1.1\r\nHost: localhost:{it.port}\r\nHall-Key: eve-key-1\r\nX: \r\n\r\n"
+        return [("X", "x" * (size - len(head)))]
+
+    it.wants("a head of 8,150 bytes", (200, ROUNDS), it.ask("GET", "/rounds", headers=padded(8150)))
+    it.wants("a head of 8,193 bytes", (400, F7), it.ask("GET", "/rounds", headers=padded(8193)))
+    several = [(f"X{k}", "x") for k in range(30)]
+    it.wants("31 headers", (200, ROUNDS), it.ask("GET", "/rounds", headers=several[:29]))
+    it.wants("33 headers", (400, F7), it.ask("GET", "/rounds", headers=[*several, ("Y", "y")]))
     chunks = b"2\r\n{}\r\n0\r\n\r\n"
-    trial.wants("a body in chunks", (400, F7),
-                trial.ask("PUT", "/puzzles/bob/p1", "bob-key-1", chunks, [("Transfer-Encoding", "chunked")]))
+    it.wants("a body in chunks", (400, F7),
+             it.ask("PUT", "/puzzles/bob/p1", "bob-key-1", chunks, [("Transfer-Encoding", "chunked")]))
 
 
-def crowded(trial):
-    """One address asks too often, here for what the proxy refuses by itself, and another is served meanwhile."""
-    line = http.client.HTTPSConnection("localhost", trial.port, context=trial.context, timeout=30,
-                                       source_address=("127.0.0.9", 0))
-    told = []
-    for _ in range(310):
-        line.request("GET", "/rounds", headers={f"X{k}": "x" for k in range(40)})
+def often(it, count, path, headers=(), source=STRANGE):
+    """The statuses of so many requests on one connection of an address, the last reply's headers, and the seconds."""
+    line = it.connection(source=source)
+    told, last, begun = [], None, time.monotonic()
+    for _ in range(count):
+        line.request("GET", path, headers={"Hall-Key": "eve-key-1", **dict(headers)})
         reply = line.getresponse()
         reply.read()
         told.append(reply.status)
+        last = reply.headers
     line.close()
-    trial.wants("an address that asks 310 times", [400] * 300 + [429] * 10, told)
-    trial.wants("another address", (200, ROUNDS), trial.ask("GET", "/rounds", "eve-key-1"))
+    return told, last, time.monotonic() - begun
 
 
-def wait_for(port):
-    for _ in range(1200):
-        try:
-            return socket.create_connection(("127.0.0.1", port)).close()
-        except ConnectionRefusedError:
-            time.sleep(0.05)
-    raise ConnectionRefusedError(port)
+def crowded(it):
+    """One address asks too often, here for what HAProxy refuses by itself, and another is served meanwhile."""
+    for last in range(9, 15):
+        told, headers, took = often(it, 310, "/rounds", [(f"X{k}", "x") for k in range(40)], f"127.0.0.{last}")
+        if took < 9:
+            it.wants("an address that asks 310 times", [400] * 300 + [429] * 10, told)
+            it.wants("when it is to come again", ("10", True), (headers["Retry-After"], trial.is_now(headers)))
+            break
+    else:
+        print("behind HAProxy: too slow today for 300 requests in 10 seconds, so their limit wasn't tried")
+    it.wants("another address", (200, ROUNDS), it.ask("GET", "/rounds"))
 
 
-def free_port():
-    with socket.socket() as it:
-        it.bind(("127.0.0.1", 0))
-        return it.getsockname()[1]
+def crowded_at_nginx(it):
+    """The same at nginx, which lets 100 requests in at once, and then 30 in a second."""
+    told, _, took = often(it, 400, "/rounds")
+    served = told.count(200)
+    it.wants("an address that asks 400 times", ([200] * 100, True, 400),
+             (told[:100], served <= 102 + 30 * took, served + told.count(429)))
+    it.wants("another address", (200, ROUNDS), it.ask("GET", "/rounds"))
 
 
-def beside(trial, back, room):
-    """Clients that stall beside others, and the limits, over a hall of its own."""
-    subprocess.run([f"{ROOT}/hall", "init", "--db", f"{room}/hall.db", "--people", f"{ROOT}/examples/people.csv"],
-                   check=True, stdout=subprocess.DEVNULL)
-    hall = subprocess.Popen([f"{ROOT}/hall", "serve", "--db", f"{room}/hall.db", "--port", str(back)],
-                            stderr=subprocess.DEVNULL)
-    try:
-        wait_for(back)
-        unread = trial.line()
-        unread.sendall(b"GET /rounds/r1/table HTTP/1.1\r\nHost: a\r\n\r\n" * 100)
-        stalled = stall(trial)
-        begun = time.monotonic()
-        for _ in range(20):
-            trial.wants("a request beside clients that stall", (200, ROUNDS), trial.ask("GET", "/rounds", "eve-key-1"))
-        took = time.monotonic() - begun
-        trial.wants("20 requests beside them in 5 seconds", True, took < 5)
-        limits(trial)
-        crowded(trial)
-        for one in stalled:
-            one.join(PATIENCE)
-            trial.wants("a client that stalls is told so, and hung up", (True, b"HTTP/1.1 408 "),
-                        (one.took is not None and one.took < PATIENCE, one.told[:13]))
-        unread.close()
-    finally:
-        hall.terminate()
-        hall.wait()
+def certificates(it, answered):
+    """Who may ask for a certificate, and who may not."""
+    body = b'{"budget":1}'
+    it.wants("a certificate, from an address that is named", answered,
+             it.ask("POST", CERTIFICATE, "bob-key-1", body))
+    status, told, headers = it.reply("POST", CERTIFICATE, "bob-key-1", body, source=OTHER)
+    it.wants("a certificate, from another address", (403, FAULT, True), (status, told, trial.is_now(headers)))
+    if trial.has_ipv6():
+        it.wants("a certificate, over IPv6", answered, it.ask("POST", CERTIFICATE, "bob-key-1", body, host="::1"))
 
 
-def run(room, brief):
-    proxies.certificate(room)
-    front, back = free_port(), free_port()
-    with open(f"{room}/log", "wb") as log:
-        proxy = proxies.our_haproxy(front, back, room, tls=True, log=log)
-    try:
-        wait_for(front)
-        trial = Trial(front, room)
-        beside(trial, back, room)
-        if not brief:
-            stall(trial)
-            words = [str(back), f"https://localhost:{front}", "--cacert", f"{room}/hall.crt"]
-            played = subprocess.run([f"{ROOT}/examples/rounds/round.sh", *words], check=False, timeout=600,
-                                    stdout=subprocess.PIPE)
-            wrong = [line for line in played.stdout.decode().splitlines() if "FAILED" in line]
-            trial.wants("the round of README.md", (0, []), (played.returncode, wrong))
-    finally:
-        proxy.terminate()
-        proxy.wait()
+def families(it):
+    """A reply of the hall, over IPv4 and IPv6, and the time that it tells."""
+    for host in ["127.0.0.1", *(["::1"] if trial.has_ipv6() else [])]:
+        status, told, headers = it.reply("GET", "/rounds", host=host)
+        it.wants(f"a reply at {host}, and its date", (200, ROUNDS, True), (status, told, trial.is_now(headers)))
+
+
+def beside(it, stalled_told, more):
+    """Clients that stall beside others, and the limits."""
+    unread = it.line()
+    unread.sendall(b"GET /rounds/r1/table HTTP/1.1\r\nHost: a\r\n\r\n" * 100)
+    stalled = stall(it)
+    begun = time.monotonic()
+    for _ in range(20):
+        it.wants("a request beside clients that stall", (200, ROUNDS), it.ask("GET", "/rounds"))
+    it.wants("20 requests beside them, sooner than those are cut", True, time.monotonic() - begun < 9)
+    for one in (families, bodies, *more):
+        one(it)
+    certificates(it, (404, '{"denied":4}'))
+    for one in stalled:
+        one.join(PATIENCE)
+        it.wants("a client that stalls is told so, and hung up", (True, stalled_told),
+                 (one.took is not None and one.took < PATIENCE, one.told[:13]))
+    it.wants("what a half body is told, in JSON", stalled_told != b"", FAULT.encode() in stalled[1].told)
+    unread.close()
+
+
+def quick(text):
+    """The file of a proxy that waits 2 seconds for the hall, and has one page of its own."""
+    page = "http-request return status 200 content-type text/plain string page if { path /own }"
+    mark = "    # What HAProxy answers by itself"
+    return (text.replace("timeout server 180s", "timeout server 2s")
+            .replace("proxy_read_timeout 180s", "proxy_read_timeout 2s")
+            .replace(mark, f"    {page}\n{mark}")
+            .replace("    location / {", "    location = /own { return 200 page; }\n    location / {", 1))
+
+
+def in_its_place(it, stand_in):
+    """What the proxy says of a hall that hangs up, is silent, or isn't there; and of many that ask at once."""
+    it.wants("a page of the proxy's own, 310 times", [200] * 310, often(it, 310, "/own")[0])
+    it.wants("then a request for the hall", (200, STANDS), it.ask("GET", "/rounds", source=STRANGE))
+    for name, path, status in (("hangs up", "/closes", 502), ("is silent", "/silent", 504)):
+        told = it.reply("GET", path)
+        it.wants(f"a hall that {name}", (status, FAULT, True), (*told[:2], trial.is_now(told[2])))
+    stand_in.gone.set()
+    while stand_in.kept:
+        time.sleep(0.05)
+    stand_in.gone.clear()
+    stand_in.most = 0
+    (one_by_one if it.name == "HAProxy" else many)(it, stand_in)
+    stand_in.end()
+    it.wants("a hall that isn't there", (503 if it.name == "HAProxy" else 502, FAULT), it.ask("GET", "/rounds"))
+
+
+def one_by_one(it, stand_in):
+    """Three certificates at once: the hall sees one after another, and all else beside it."""
+    with concurrent.futures.ThreadPoolExecutor(3) as pool:
+        asked = [pool.submit(it.ask, "POST", CERTIFICATE, "bob-key-1", b"{}") for _ in range(3)]
+        it.wants("a certificate that takes long", True, stand_in.keeps(1))
+        it.wants("a request beside it", (200, STANDS), it.ask("GET", "/rounds"))
+        stand_in.gone.set()
+        it.wants("three certificates", [(200, STANDS)] * 3, [one.result() for one in asked])
+    it.wants("certificates at once", 1, stand_in.most)
+
+
+def many(it, stand_in):
+    """Seventy requests of one address, of which the hall answers none yet: sixty are let in."""
+    with concurrent.futures.ThreadPoolExecutor(60) as pool:
+        asked = [pool.submit(it.ask, "POST", CERTIFICATE, "bob-key-1", b"{}") for _ in range(60)]
+        it.wants("sixty requests at once", True, stand_in.keeps(60))
+        more = [it.reply("POST", CERTIFICATE, "bob-key-1", b"{}") for _ in range(10)]
+        it.wants("ten more", [(429, FAULT, "10")] * 10, [(*one[:2], one[2]["Retry-After"]) for one in more])
+        stand_in.gone.set()
+        it.wants("what the sixty are told", [(200, STANDS)] * 60, [one.result() for one in asked])
+
+
+def challenges(it):
+    """Port 80, as it is opened for certificates by http-01."""
+    it.wants("a challenge", (200, STANDS), it.ask("GET", CHALLENGE))
+    it.wants("another path at port 80", 403, it.ask("GET", "/rounds")[0])
+
+
+def acme_haproxy(front, back, room):
+    """HAProxy with the lines for port 80."""
+    def opened(text):
+        text = proxies.opened(text, "frontend acme")
+        return text.replace("bind :::80 v4v6", f"bind :::{front} v4v6 interface lo").replace(
+            "127.0.0.1:8888", f"127.0.0.1:{back}")
+    return proxies.our_haproxy(trial.free_port(), trial.free_port(), room, change=opened)
+
+
+def acme_nginx(front, _, room):
+    """nginx with the lines for port 80."""
+    def opened(text):
+        text = proxies.opened(text, "server {")
+        return text.replace("listen 80;", f"listen 127.0.0.1:{front};").replace(
+            "listen [::]:80;", f"listen [::1]:{front};").replace("/var/www/hall", f"{room}/www")
+    return proxies.our_nginx(trial.free_port(), trial.free_port(), room, change=opened)
+
+
+def renewed(it, room):
+    """What certbot runs after a renewal, with a stand-in for systemd."""
+    os.makedirs(f"{room}/live", exist_ok=True)
+    for name, text in (("fullchain", "CHAIN\n"), ("privkey", "KEY\n")):
+        proxies.write(f"{room}/live/{name}.pem", text)
+    script = proxies.placed("renewed.sh", [("systemctl reload haproxy", f"echo reloaded >>{room}/reloads")])
+    proxies.write(f"{room}/renewed.sh", script.replace("/etc/haproxy/", f"{room}/live/"))
+    ran = subprocess.run(["sh", f"{room}/renewed.sh"], check=False, env={"RENEWED_LINEAGE": f"{room}/live",
+                                                                         "PATH": os.environ["PATH"]})
+    with open(f"{room}/live/hall.pem", encoding="ascii") as made, open(f"{room}/reloads", encoding="ascii") as reloads:
+        told = made.read(), reloads.read()
+    it.wants("a renewed TLS certificate", (0, "CHAIN\nKEY\n", "reloaded\n"), (ran.returncode, *told))
+    it.wants("who may read it", 0o600, os.stat(f"{room}/live/hall.pem").st_mode & 0o777)
+
+
+def at_port_80(name, start, room):
+    """Certificates by http-01: HAProxy hands the challenge on, nginx has it in a folder."""
+    front, back = trial.free_port(), trial.free_port()
+    os.makedirs(f"{room}/www/{os.path.dirname(CHALLENGE)}", exist_ok=True)
+    proxies.write(f"{room}/www/{CHALLENGE}", STANDS)
+    stand_in = StandIn(back)
+    it = Trial(name, front)
+    with trial.ended_after(start(front, back, room)):
+        trial.wait_for(front)
+        challenges(it)
+    stand_in.end()
+    if name == "HAProxy":
+        renewed(it, room)
+    return it
+
+
+def without_hall(name, start, room):
+    """A proxy before a stand-in."""
+    front, back = trial.free_port(), trial.free_port()
+    stand_in = StandIn(back)
+    it = Trial(name, front)
+    with trial.ended_after(start(front, back, room, change=quick)):
+        trial.wait_for(front)
+        in_its_place(it, stand_in)
+    return it
+
+
+def play(it, back, room, program):
+    """The round of README.md, beside clients that stall."""
+    stall(it)
+    words = [str(back), f"https://localhost:{it.port}", "--cacert", f"{room}/hall.crt"]
+    played = subprocess.run([f"{ROOT}/examples/rounds/round.sh", *words], check=False, timeout=600,
+                            env={**os.environ, "HALL": program}, stdout=subprocess.PIPE)
+    wrong = [line for line in played.stdout.decode().splitlines() if "FAILED" in line]
+    it.wants("the round of README.md", (0, []), (played.returncode, wrong))
+
+
+def behind_haproxy(room, args):
+    front, back = trial.free_port(), trial.free_port()
+    it = Trial("HAProxy", front, f"{room}/hall.crt")
+    with open(f"{room}/log", "wb") as log, trial.ended_after(
+            proxies.our_haproxy(front, back, room, tls=True, log=log)):
+        trial.wait_for(front)
+        with trial.serving(args.program, room, PEOPLE, back):
+            beside(it, b"HTTP/1.1 408 ", (heads, crowded))
+        if not args.brief:
+            play(it, back, room, args.program)
     with open(f"{room}/log", encoding="ascii", errors="replace") as log:
         logged = log.read()
-    trial.wants("requests that are logged", True, logged.count('"GET /rounds HTTP/1.1"') > 20)
-    trial.wants("keys that are logged", 0, logged.count("-key"))
-    return trial
+    it.wants("requests that are logged", True, logged.count('"GET /rounds HTTP/1.1"') > 20)
+    it.wants("keys that are logged", 0, logged.count("-key"))
+    yield it
+    yield without_hall("HAProxy", proxies.our_haproxy, room)
+    yield at_port_80("HAProxy", acme_haproxy, room)
+
+
+def behind_nginx(room, args):
+    front, back = trial.free_port(), trial.free_port()
+    it = Trial("nginx", front, f"{room}/hall.crt")
+    with trial.ended_after(proxies.our_nginx(front, back, room, tls=True)):
+        trial.wait_for(front)
+        with trial.serving(args.program, room, PEOPLE, back):
+            beside(it, b"", (crowded_at_nginx,))
+    yield it
+    yield without_hall("nginx", proxies.our_nginx, room)
+    yield at_port_80("nginx", acme_nginx, room)
+
+
+def tried(name, program, run, args):
+    """Whether a proxy was tried, and whether all was as told."""
+    missing = [it for it in (program, "openssl", "curl") if not shutil.which(it)]
+    if missing:
+        print(f"behind {name}: not run, since {missing[0]} isn't there")
+        return None
+    with tempfile.TemporaryDirectory(prefix="hall-proxy-") as room:
+        os.chmod(room, 0o755)
+        proxies.certificate(room)
+        trials = list(run(room, args))
+    count, failed = sum(it.tried for it in trials), sum(it.failed for it in trials)
+    print(f"behind {name}: {count - failed} of {count} as told")
+    return failed == 0
 
 
 def main():
     parser = argparse.ArgumentParser()
     parser.add_argument("--brief", action="store_true")
+    parser.add_argument("--program", default=os.environ.get("HALL", f"{ROOT}/crates/hall/out/hall"))
+    parser.add_argument("names", nargs="*", default=["haproxy", "nginx"])
     args = parser.parse_args()
-    for program in (proxies.HAPROXY, "openssl", "curl"):
-        if not shutil.which(program):
-            print(f"behind HAProxy: not run, since {program} isn't there")
-            return 0
-    with tempfile.TemporaryDirectory(prefix="hall-proxy-") as room:
-        os.chmod(room, 0o755)
-        trial = run(room, args.brief)
-    print(f"behind HAProxy: {trial.tried - trial.failed} of {trial.tried} as told")
-    return 1 if trial.failed else 0
+    known = {"haproxy": ("HAProxy", proxies.HAPROXY, behind_haproxy), "nginx": ("nginx", proxies.NGINX, behind_nginx)}
+    outcomes = [tried(*known[name], args) for name in args.names]
+    if all(it is None for it in outcomes):
+        return 77
+    return 1 if False in outcomes else 0
 
 
 if __name__ == "__main__":
