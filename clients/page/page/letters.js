@@ -1,0 +1,76 @@
+// Answers and protests on their way. A letter gets its token and is kept before it leaves, so that whatever happens
+// (a cut connection, a closed tab, a dead battery) the same letter goes again, and the hall takes it once.
+//
+// A letter: {id: its token, path, body, round, number, kind: "answer" or "protest", made, reply}. Without `reply` it
+// is on its way. Taken ones are dropped (the hall's own list shows them); refused ones stay until the reader has seen
+// them.
+// Each has a name of its own in the browser's store, so two tabs of one person don't overwrite each other's.
+
+import { clock } from "./clock.js";
+import { ask, newToken } from "./requests.js";
+import { dropLetter, followLetters, keepLetter, readLetters } from "./store.js";
+
+const OTHER_TAB = 5000; // milliseconds until this tab sends what another one has on its way: that one may be closed
+
+export class Letters extends EventTarget {
+  constructor(key, person) {
+    super();
+    Object.assign(this, { key, person, stop: new AbortController() });
+    this.all = new Map(readLetters(person).map((letter) => [letter.id, letter]));
+    for (const letter of this.all.values()) this.send(letter);
+    followLetters(person, this.stop.signal, (id, letter) => this.hear(id, letter));
+  }
+
+  answer(round, number, answer) {
+    this.post({ kind: "answer", round, number, body: { answer } }, (token) => `answers/${number}/${token}`);
+  }
+
+  protest(round, number, text) {
+    this.post({ kind: "protest", round, number, body: { number, text } }, (token) => `protests/${token}`);
+  }
+
+  post(content, path) {
+    const id = newToken();
+    const made = Math.floor(clock.now());
+    const letter = { id, path: `/rounds/${content.round}/${path(id)}`, made, ...content };
+    this.all.set(id, letter);
+    keepLetter(this.person, letter);
+    this.tell(letter);
+    this.send(letter);
+  }
+
+  async send(letter) {
+    if (letter.reply) return;
+    const reply = await ask("PUT", letter.path, { key: this.key, body: letter.body, signal: this.stop.signal });
+    if (!reply || !this.all.has(letter.id)) return;
+    letter.reply = reply;
+    if (reply.ok) this.drop(letter);
+    else {
+      keepLetter(this.person, letter);
+      this.tell(letter);
+    }
+  }
+
+  drop(letter) {
+    this.all.delete(letter.id);
+    dropLetter(this.person, letter.id);
+    this.tell(letter);
+  }
+
+  // What another tab did. A letter that it dropped was taken, or its refusal was seen.
+  hear(id, letter) {
+    const known = this.all.get(id);
+    if (!letter) this.all.delete(id);
+    else if (known) Object.assign(known, letter);
+    else {
+      this.all.set(id, letter);
+      setTimeout(() => this.all.has(id) && this.send(letter), OTHER_TAB);
+    }
+    this.tell(letter ?? { ...known, reply: { ok: true } });
+  }
+
+  tell(letter) { this.dispatchEvent(new CustomEvent("change", { detail: letter })); }
+
+  of(round, kind) { return [...this.all.values()].filter((letter) => letter.round === round && letter.kind === kind); }
+  waiting() { return [...this.all.values()].some((letter) => !letter.reply); }
+}

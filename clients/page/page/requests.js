@@ -1,0 +1,78 @@
+// Requests to the hall. One job: to get a reply of the hall, whatever the network does.
+//
+// A request that got none (no network; a proxy's 408, 429, 502, 503, 504; the hall's own 503; the page of a stranger
+// between) is sent again with growing pauses, until one comes. That is safe: what reads changes nothing, and what
+// writes carries a token, so that the hall does it once and gives the first reply again.
+
+import { clock } from "./clock.js";
+
+const PAUSES = [0.5, 1, 2, 4, 8, 15]; // seconds; the last one from there on
+const PATIENCE = 20; // seconds without a reply until a request counts as lost
+const FOR_GOOD = [200, 400, 403, 404]; // the statuses with which the hall answers for good
+
+// Tells the page of trouble: "trouble" with {again: seconds until the next try, status}, and "well" once a reply came.
+// "now" asks for a try at once.
+export const network = new EventTarget();
+const tell = (name, detail) => network.dispatchEvent(new CustomEvent(name, { detail }));
+
+// 120 random bits in the letters of a token.
+export function newToken() {
+  const bytes = crypto.getRandomValues(new Uint8Array(24));
+  return Array.from(bytes, (byte) => "abcdefghijklmnopqrstuvwxyz234567"[byte & 31]).join("");
+}
+
+// The hall's reply as {ok: true, value} or {ok: false, denied, form, field}; {lost: true, status} where it isn't the
+// hall's. The hall writes JSON, but for a table, which is plain text. A `fault` is the proxy's, or passes.
+function understood(status, type, text) {
+  const lost = { lost: true, status };
+  if (!FOR_GOOD.includes(status)) return lost;
+  if (type.startsWith("text/plain") && status === 200) return { ok: true, value: text };
+  if (!type.startsWith("application/json")) return lost;
+  const value = JSON.parse(text);
+  if (value.fault) return lost;
+  return status === 200 ? { ok: true, value } : { ...value, ok: false };
+}
+
+async function once(method, path, { key, body, signal }) {
+  const patience = new AbortController(), stop = () => patience.abort();
+  const timer = setTimeout(stop, PATIENCE * 1000), sent = performance.now();
+  signal?.addEventListener("abort", stop);
+  try {
+    const headers = { ...(key && { "Hall-Key": key }), ...(body && { "Content-Type": "application/json" }) };
+    const reply = await fetch(path, { method, headers, body: body && JSON.stringify(body), signal: patience.signal,
+      cache: "no-store", credentials: "omit", redirect: "error" });
+    const text = await reply.text();
+    clock.learn(reply.headers.get("Date"), sent, performance.now());
+    return understood(reply.status, reply.headers.get("Content-Type") ?? "", text);
+  } catch {
+    return { lost: true, status: 0 }; // no network, no whole reply, or no JSON: all the same to the sender
+  } finally {
+    clearTimeout(timer);
+    signal?.removeEventListener("abort", stop);
+  }
+}
+
+// Waits, or less long where the network comes back, the reader says "now", or the caller stops.
+function pause(seconds, signal) {
+  return new Promise((done) => {
+    const over = new AbortController();
+    const end = () => { clearTimeout(timer); over.abort(); done(); };
+    const timer = setTimeout(end, seconds * 1000);
+    addEventListener("online", end, { signal: over.signal });
+    network.addEventListener("now", end, { signal: over.signal });
+    signal?.addEventListener("abort", end, { signal: over.signal });
+  });
+}
+
+// The hall's reply to a request. Only a caller's `signal` ends the trying; then the reply is null.
+export async function ask(method, path, { key, body, signal } = {}) {
+  for (let tries = 0; !signal?.aborted; tries++) {
+    const reply = await once(method, path, { key, body, signal });
+    if (signal?.aborted) break;
+    if (!reply.lost) { tell("well"); return reply; }
+    const again = PAUSES[Math.min(tries, PAUSES.length - 1)] * (0.8 + 0.4 * Math.random());
+    tell("trouble", { again, status: reply.status });
+    await pause(again, signal);
+  }
+  return null;
+}

@@ -1,0 +1,120 @@
+// What remains of a round: the own answers with the solutions, protests with their rulings, and the table.
+
+import { html, refill } from "./elements.js";
+import { nameOf, picture } from "./picture.js";
+import { ask } from "./requests.js";
+import { readAnswer, readPuzzle } from "./texts.js";
+import { every, exact } from "./times.js";
+import { chip } from "./view-puzzle.js";
+import { failed, frame, note, refused } from "./view-round.js";
+import { NO_TABLE, verdict } from "./words.js";
+
+// --- the own answers
+
+function drawn(puzzle, text, words) {
+  const marks = text && readAnswer(puzzle, text);
+  return marks && html("figure", {}, picture(puzzle, marks, words), html("figcaption", {}, words));
+}
+
+function outcome({ number, text, points }, own, solution) {
+  const puzzle = readPuzzle(text), mine = own.length > 1 ? "your last answer" : "your answer";
+  const lines = own.map((answer) => html("li", {}, `${exact(answer.moment)} `, chip(answer), " ",
+    verdict(answer.verdict)?.reasons.join(" ")));
+  return html("article", { class: "outcome" }, html("h3", {}, `${number}. ${nameOf(text)} · ${points} points`),
+    own.length ? html("ol", { class: "past" }, lines) : html("p", { class: "small" }, "No answer."),
+    html("div", { class: "pair" }, drawn(puzzle, own.at(-1)?.answer, mine), drawn(puzzle, solution, "the solution")));
+}
+
+export function answersView(app, left, id) {
+  return frame(app, left, id, "answers", async (box, { sheet, now, signal }) => {
+    if (now === "before") { box.append(html("p", { class: "lead" }, "There are none before the start.")); return; }
+    const renew = async () => {
+      const answers = await app.answers(id, signal) ?? [];
+      const reply = now !== "running" ? await ask("GET", `/rounds/${id}/solutions`, { key: app.key, signal }) : null;
+      if (signal.aborted) return;
+      const solutions = reply?.ok ? reply.value.solutions : [];
+      box.replaceChildren(...sheet.puzzles.map((entry, i) =>
+        outcome(entry, answers.filter((answer) => answer.number === entry.number), solutions[i])));
+    };
+    app.letters.addEventListener("change", renew, { signal });
+    await renew();
+  });
+}
+
+// --- protests
+
+function protestForm(app, id, sheet) {
+  const which = html("select", { id: "which" }, sheet.puzzles.map(({ number, text }) =>
+    html("option", { value: number }, `${number}. ${nameOf(text)}`)));
+  const words = html("textarea", { id: "words", maxlength: 200, rows: 3, required: true, "aria-describedby": "left" });
+  const left = html("span", { class: "small", id: "left" }, "200 left");
+  words.addEventListener("input", () => {
+    const plain = /^[ -~]*$/.test(words.value);
+    words.setCustomValidity(plain ? "" : "Please use plain letters, digits and signs alone, on one line.");
+    left.textContent = `${200 - words.value.length} left`;
+  });
+  const send = (event) => {
+    event.preventDefault();
+    app.letters.protest(id, Number(which.value), words.value);
+    words.value = "";
+    left.textContent = "200 left";
+  };
+  return html("form", { class: "form", onsubmit: send }, html("h2", {}, "A protest"),
+    html("label", { for: "which" }, "Puzzle"), which,
+    html("label", { for: "words" }, "What is wrong, in at most 200 signs"), words, left,
+    html("button", { class: "main" }, "Make the protest"));
+}
+
+function protestLine({ number, text, ruling, points }) {
+  const words = ruling === "upheld" ? `upheld, ${points > 0 ? "+" : ""}${points} points` : ruling;
+  const look = { open: "wait", upheld: "good", rejected: "bad" }[ruling];
+  return html("article", { class: "protest" }, html("p", {}, html("strong", {}, `Puzzle ${number} `),
+    html("span", { class: `chip ${look}` }, words)), html("p", {}, text));
+}
+
+const NO_FORM = { before: "Protests are taken from the end on.", running: "Protests are taken from the end on.",
+  closed: "The time for protests is over.", published: "The time for protests is over." };
+
+export function protestsView(app, left, id) {
+  return frame(app, left, id, "protests", (box, { sheet, now, signal }) => {
+    const list = html("div"), said = html("div", { "aria-live": "polite" });
+    const renew = async () => {
+      said.replaceChildren(...app.letters.of(id, "protest").map((letter) =>
+        (letter.reply ? refused(app, letter) : html("p", { class: "note" }, "On its way …"))));
+      const reply = await ask("GET", `/rounds/${id}/protests`, { key: app.key, signal });
+      if (!reply?.ok) return;
+      const own = app.own(id, reply.value.protests);
+      refill(list, own.length ? own.map(protestLine) : html("p", { class: "small" }, "You made no protest."));
+    };
+    const form = now === "protests" ? protestForm(app, id, sheet) : html("p", { class: "lead" }, NO_FORM[now]);
+    box.append(form, said, list);
+    app.letters.addEventListener("change", renew, { signal });
+    if (now !== "before") every(20, signal, renew);
+  });
+}
+
+// --- the table
+
+function tableOf(text, own) {
+  const lines = text.split("\n").filter(Boolean).map((line) => line.trim().split(/ +/));
+  return html("table", {},
+    html("thead", {}, html("tr", {}, ["Rank", "Name", "Points"].map((title) => html("th", { scope: "col" }, title)))),
+    html("tbody", {}, lines.map((cells) =>
+      html("tr", { class: cells[1] === own && "own" }, cells.map((cell) => html("td", {}, cell))))));
+}
+
+export function tableView(app, left, id) {
+  return frame(app, left, id, "table", (box, { signal }) => {
+    const renew = async () => {
+      const reply = await ask("GET", `/rounds/${id}/table`, { signal });
+      if (!reply) return;
+      if (reply.denied === 15) box.replaceChildren(note("note", NO_TABLE));
+      else if (!reply.ok) box.replaceChildren(failed(reply));
+      else {
+        box.replaceChildren(tableOf(reply.value, app.nameIn(id)),
+          html("div", { class: "row screen" }, html("button", { onclick: () => print() }, "Print")));
+      }
+    };
+    every(20, signal, renew);
+  });
+}
