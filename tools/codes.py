@@ -1,6 +1,7 @@
 #!/usr/bin/env python3
 """Writes the tables of docs/HTTP.md, the routes and all codes, each with the sentence that stands beside it in the sources; that of docs/RUNNING.md,
-what is told of a fault; and the index by code of examples/README.md.
+what is told of a fault; the index by code of examples/README.md; docs/codes.json, the codes for programs; and docs/openapi.json, the description of the
+routes, bodies and replies.
 
     python3 tools/codes.py [--check]
 
@@ -10,9 +11,12 @@ no example shows a code.
 import re
 import sys
 
+import description
+import sending
 from sources import definitions, paths, read, sentence, variants, write_or_compare
 
 HTTP = "docs/HTTP.md"
+CODES, DESCRIPTION = "docs/codes.json", "docs/openapi.json"
 RUNNING = "docs/RUNNING.md"
 EXAMPLES = "examples/README.md"
 ACTIONS = "crates/hall_policy/specs/Actions.antt"
@@ -194,10 +198,18 @@ def tables():
             "texts": table(["Code", "Sentence", "With its place"], texts()),
             "names": table(["Name", "Kind", "Sentence", "Definition"], names()),
             "unavailable": table(["Status", "Body", "Sentence"], unavailable()),
+            "again": table(["Status", "By", "What it says", "Send it again"], sending.status_rows()),
         },
         RUNNING: {"advice": table(["Line"], advice())},
         EXAMPLES: {"index": table(["Code", "Shown in"], index())},
     }
+
+
+def for_programs():
+    """The texts of the files that programs read, by their paths."""
+    rows = {"denials": denials(), "forms": forms(), "texts": texts(), "names": names(), "unavailable": unavailable()}
+    told = sending.codes({name: list(of) for name, of in rows.items()}, sending.asked_of(asked(), numbers()))
+    return {CODES: sending.text_of(told), DESCRIPTION: sending.text_of(description.description(routes(), told))}
 
 
 def page(path, tables_of):
@@ -224,11 +236,12 @@ def unknown_replies():
 def check(is_check):
     """Writes the pages, or compares them; what is wrong, a line each."""
     written = [line for path, of in tables().items() for line in write_or_compare(path, page(path, of), is_check)]
+    written += [line for path, text in for_programs().items() for line in write_or_compare(path, text, is_check)]
     unshown = [f"{code} stands in no example" for code, pattern in patterns() if not any(examples_of(pattern))]
     return [*written, *unknown_replies(), *unshown]
 
 
 if __name__ == "__main__":
     wrong = check("--check" in sys.argv)
-    print("\n".join(wrong) if wrong else f"{HTTP}, {RUNNING}, {EXAMPLES}: each code has the sentence of the sources, and an example")
+    print("\n".join(wrong) if wrong else f"{HTTP}, {RUNNING}, {EXAMPLES}, {CODES}, {DESCRIPTION}: each code has the sentence of the sources, and an example")
     sys.exit(1 if wrong else 0)

@@ -1,0 +1,90 @@
+"""What is written for people and for programs: columns, CSV, JSON, moments."""
+import csv
+import datetime
+import io
+import json
+import sys
+
+
+def columns(head, rows):
+    """Rows under their heads, in columns that are as wide as need be; numbers stand right."""
+    cells = [[str(cell) for cell in row] for row in rows]
+    widths = [max(len(row[at]) for row in [head, *cells]) for at in range(len(head))]
+    is_right = [all(isinstance(row[at], int) for row in rows) and bool(rows) for at in range(len(head))]
+    for row in [head, *cells]:
+        yield "  ".join(cell.rjust(width) if right else cell.ljust(width)
+                        for cell, width, right in zip(row, widths, is_right)).rstrip()
+
+
+def csv_text(head, rows):
+    """The same as CSV."""
+    text = io.StringIO()
+    csv.writer(text, lineterminator="\n").writerows([head, *rows])
+    return text.getvalue()
+
+
+def told_in(seconds):
+    """A length of time in words."""
+    seconds = int(abs(seconds))
+    days, hours, minutes = seconds // 86_400, seconds // 3600 % 24, seconds // 60 % 60
+    if days:
+        return f"{days} d {hours} h"
+    if hours:
+        return f"{hours} h {minutes} min"
+    return f"{minutes} min {seconds % 60} s" if minutes else f"{seconds} s"
+
+
+def utc(moment):
+    return datetime.datetime.fromtimestamp(moment, datetime.timezone.utc).strftime("%Y-%m-%d %H:%M:%S UTC")
+
+
+def here(moment):
+    """The moment in the zone of this machine."""
+    at = datetime.datetime.fromtimestamp(moment, datetime.timezone.utc).astimezone()
+    return at.strftime("%a %Y-%m-%d %H:%M:%S %Z")
+
+
+def when(moment, now):
+    """The moment in UTC, in the zone of this machine, and how far away it is."""
+    far = f"in {told_in(moment - now)}" if moment > now else f"{told_in(now - moment)} ago"
+    return f"{utc(moment)}, here {here(moment)}, {far}"
+
+
+class Out:
+    """Where a command writes: sentences for people, or one JSON value for programs."""
+
+    def __init__(self, is_json):
+        self.is_json = is_json
+
+    def say(self, *lines):
+        if not self.is_json:
+            for line in lines:
+                print(line, flush=True)
+
+    def value(self, value):
+        if self.is_json:
+            json.dump(value, sys.stdout, ensure_ascii=False)
+            print()
+
+    def table(self, head, rows, value, is_csv=False):
+        """A listing: as columns, as CSV, or as the value in JSON."""
+        self.value(value)
+        if not self.is_json:
+            print(csv_text(head, rows), end="") if is_csv else self.say(*columns(head, rows))
+
+
+def note(*lines):
+    """Says something beside what is written."""
+    for line in lines:
+        print(line, file=sys.stderr, flush=True)
+
+
+def agreed(args, question):
+    """Whether whoever runs the command agrees to what can't be taken back."""
+    if args.yes:
+        return True
+    print(f"{question} [y/N] ", end="", file=sys.stderr, flush=True)
+    is_agreed = sys.stdin.readline().strip().lower() in ("y", "yes")
+    if not is_agreed:
+        note("Nothing was done.")
+    return is_agreed

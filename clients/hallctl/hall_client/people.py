@@ -1,0 +1,100 @@
+"""The people of a hall: adding a list, and keys for those who have none yet."""
+import csv
+import io
+import os
+import secrets
+
+from . import told, wire
+from .columns import note
+
+HEAD = ["name", "key", "roles"]
+# Letters and digits that can't be taken for one another when they are read from paper.
+LETTERS = "abcdefghjkmnpqrstuvwxyz23456789"
+
+
+def rows_of(path):
+    """The rows of a list, with the line that each begins on."""
+    with open(path, encoding="utf-8-sig", newline="") as file:
+        reader = csv.reader(file)
+        return [(reader.line_num, row) for row in reader if row]
+
+
+def as_list(rows):
+    text = io.StringIO()
+    csv.writer(text, lineterminator="\n").writerows([HEAD, *rows])
+    return text.getvalue().encode()
+
+
+def parts_of(content, rows):
+    """The list as bodies that a request holds: as it is, or where it is too long in parts."""
+    if len(content) <= wire.LARGEST_BODY:
+        return [content]
+    parts, part = [], []
+    for row in rows:
+        if len(as_list([*part, row])) > wire.LARGEST_BODY:
+            parts.append(as_list(part))
+            part = []
+        part.append(row)
+    return [*parts, as_list(part)]
+
+
+def add(args, hall, out):
+    """Adds the people of a list."""
+    with open(args.list, "rb") as file:
+        content = file.read()
+    parts = [content]
+    if len(content) > wire.LARGEST_BODY:
+        parts = parts_of(content, [row for _, row in rows_of(args.list)][1:])
+        note(f"{args.list} has {len(content):,} bytes, and a request holds {wire.LARGEST_BODY:,}:"
+             f" it is added in {len(parts)} parts, each of them whole or not at all")
+    added, is_again = 0, False
+    for part in parts:
+        reply = hall.done("POST", "/people", part)
+        added += reply.data()["added"]
+        is_again = is_again or reply.tries > 1
+    out.say(f"added {added}")
+    if is_again and not added:
+        out.say("It was sent more than once, so they may have been added the first time: all of them stand there now.")
+    out.value({"added": added})
+    return told.DONE
+
+
+def new_key():
+    """A key of 20 letters out of 31: some 99 bits by the system's own chance."""
+    return "-".join("".join(secrets.choice(LETTERS) for _ in range(4)) for _ in range(5))
+
+
+def written(path, rows):
+    """Puts the list in the place of the old one, whole, and for its owner's eyes alone."""
+    other = f"{path}.new"
+    with open(os.open(other, os.O_WRONLY | os.O_CREAT | os.O_TRUNC, 0o600), "wb") as file:
+        file.write(as_list(rows))
+    os.replace(other, path)
+
+
+def slip(row, url):
+    """What is handed out to a person."""
+    name, key, roles = row
+    lines = [f"Name:  {name}    ({', '.join(roles.split('+'))})", f"Key:   {key}", *([f"Hall:  {url}"] if url else []),
+             "Whoever shows this key is taken for you. Keep it to yourself: it can't be changed."]
+    return "\n".join([*lines, "- " * 36]).rstrip() + "\n"
+
+
+def keys(args, _, out):
+    """Fills the empty keys of a list, and prints slips."""
+    rows = [row for _, row in rows_of(args.list)]
+    if rows[:1] != [HEAD] or any(len(row) != 3 for row in rows):
+        note(f"{args.list} is no list of the columns name, key and roles: `hallctl check {args.list}` says where")
+        return told.REFUSED
+    rows = rows[1:]
+    filled = [row for row in rows if not row[1].strip()]
+    for row in filled:
+        row[1] = new_key()
+    if filled:
+        written(args.list, rows)
+    shown = rows if args.all else filled
+    note(f"{len(filled)} of {len(rows)} people got a new key, which stands in {args.list}; {len(shown)} slips")
+    for row in shown:
+        out.say(slip(row, args.url))
+    out.value([dict(zip(HEAD, row)) for row in shown])
+    return told.DONE
