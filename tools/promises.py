@@ -189,7 +189,7 @@ def long_lines(page_path, text):
 def wrong_pages():
     known = set(re.findall(r"\w+", "\n".join(map(read, paths("crates/*/src/*.rt") + paths("crates/*/specs/**/*.antt") + paths("crates/*/proofs/**/*.antt") + paths("tools/*.py")))))
     known |= {os.path.basename(it).split(".")[0] for it in paths("crates/*") + paths("crates/*/must-fail/*.edit") + paths("examples/**/*")}
-    known |= set(re.findall(r"\w+", "\n".join(map(read, ["crates.txt", "tools/files.py", *paths("examples/**/*.toml")]))))
+    known |= set(re.findall(r"\w+", "\n".join(map(read, ["crates.txt", "tools/files.py", *paths("examples/**/*.toml"), *paths("examples/running/*.*")]))))
     for it in [path for page in PAGES for path in paths(page)]:
         text = read(it)
         hand = text.split(MARK)[0] if it.startswith("docs/promises/") else text

@@ -112,7 +112,9 @@ class Item:
     """A function, a type, a trait, or the ghost lines of a block, as a source file has it."""
 
     def __init__(self, file, kind, name, block, doc, text):
-        self.file, self.kind, self.name, self.block, self.doc, self.text = file, kind, name, block, doc, text
+        self.file, self.kind, self.name, self.block, self.text = file, kind, name, block, text
+        # A link by a path of Rust leads nowhere on a page.
+        self.doc = [re.sub(r"\[(`[^`]+`)\]\((?:\w+::)+\w+\)", r"\1", it) for it in doc]
         self.crate = file.split("/")[1]
         self.is_public, self.body, self.scope, self.known_calls = False, "", {}, None
 
