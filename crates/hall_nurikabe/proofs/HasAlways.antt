@@ -59,7 +59,7 @@ module _ (board : Board) (kind : board.kind ≡ Nurikabe) (p : List (Option ℕ)
             ne (one_label labels d x y (a.shared c d x v lc) ld)),
       )
 
-  white_walk : (f : List ℕ) → Solves (question_of Nurikabe board) p f → (c d : ℕ) → Walk (Touch board.size) (IsSetTo p 0) c d → InIsland board.size f c d
+  pub white_walk : (f : List ℕ) → Solves (question_of Nurikabe board) p f → (c d : ℕ) → Walk (Touch board.size) (IsSetTo p 0) c d → InIsland board.size f c d
   white_walk f s c d w =
       Walk-map (Touch board.size) (Touch board.size) (IsSetTo p 0) (IsWhite board.size f) (set_white board p f part s) (λ _ _ _ _ n. n) c d w
 

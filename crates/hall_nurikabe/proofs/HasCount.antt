@@ -13,7 +13,7 @@ use Rattle.std.proofs.lemmas.Map.Views.{list_any-from_Contains, Contains-from_an
 use Rattle.hall_grid.specs.Nurikabe.{Lists}
 use Rattle.hall_nurikabe.specs.Counts.{HasCount}
 
-member_of : (xs : List ℕ) (q : ℕ) → list_any (nat_eq q) xs ≡ true → Contains xs q
+pub member_of : (xs : List ℕ) (q : ℕ) → list_any (nat_eq q) xs ≡ true → Contains xs q
 member_of xs q h = Contains-from_any eqb-true q xs h
 
 Lists-shorter : (P Q : ℕ → Type 0) (xs ys : List ℕ) → ((x : ℕ) → P x → Q x) → Lists xs P → Lists ys Q → length xs ≤ length ys
@@ -50,21 +50,24 @@ not_true true h = absurd (h refl)
 not_true false h = refl
 
 -- one more member
+pub Lists-push : (P Q : ℕ → Type 0) (xs : List ℕ) (k : ℕ) → (P k → ⊥) → ((x : ℕ) → Q x ↔ (P x ⊎ (x ≡ k))) → Lists xs P → Lists (xs ++ k ∷ []) Q
+Lists-push P Q xs k fresh more lists = record {
+  distinct = IsDistinct-push nat_eq_equiv xs k lists.distinct (not_true _ (λ h. fresh ((lists.each k).0 (member_of xs k h))));
+  each = λ x. (
+    (λ h. elim (Contains-push_cases xs k x h) [ inl m ↦ (more x).1 (inl ((lists.each x).0 m)) | inr m ↦ (more x).1 (inr (sym m)) ]),
+    (λ h. elim ((more x).0 h) [
+      | inl m ↦ Contains-append_left xs (k ∷ []) x ((lists.each x).1 m)
+      | inr m ↦ subst (λ y. Contains (xs ++ k ∷ []) y) (sym m) (Contains-push xs k)
+    ]),
+  );
+}
+
 pub HasCount-more : (P Q : ℕ → Type 0) (n k : ℕ) → (P k → ⊥) → ((x : ℕ) → Q x ↔ (P x ⊎ (x ≡ k))) → HasCount P n → HasCount Q (n + 1)
-HasCount-more P Q n k fresh more (xs, lists, e) = (
-  xs ++ k ∷ [],
-  record {
-    distinct = IsDistinct-push nat_eq_equiv xs k lists.distinct (not_true _ (λ h. fresh ((lists.each k).0 (member_of xs k h))));
-    each = λ x. (
-      (λ h. elim (Contains-push_cases xs k x h) [ inl m ↦ (more x).1 (inl ((lists.each x).0 m)) | inr m ↦ (more x).1 (inr (sym m)) ]),
-      (λ h. elim ((more x).0 h) [
-        | inl m ↦ Contains-append_left xs (k ∷ []) x ((lists.each x).1 m)
-        | inr m ↦ subst (λ y. Contains (xs ++ k ∷ []) y) (sym m) (Contains-push xs k)
-      ]),
-    );
-  },
-  let p = length_push xs k in omega arith,
-)
+HasCount-more P Q n k fresh more (xs, lists, e) = (xs ++ k ∷ [], Lists-push P Q xs k fresh more lists, let p = length_push xs k in omega arith)
+
+pub Lists-none : (P : ℕ → Type 0) → ((x : ℕ) → P x → ⊥) → Lists [] P
+Lists-none P none =
+    record { distinct = nothing_distinct; each = λ x. ((λ h. absurd (let low = h.1 in omega arith)), (λ h. absurd (none x h))) }
 
 -- numbers below an end are at most as many
 pub HasCount-bound : (P : ℕ → Type 0) (n end : ℕ) → ((x : ℕ) → P x → x < end) → HasCount P n → n ≤ end

@@ -17,3 +17,6 @@ pub mod Trials
 pub mod MustGrow
 pub mod KnowsExits
 pub mod NeedsMore
+pub mod IsFound
+pub mod MustLeave
+pub mod Passes

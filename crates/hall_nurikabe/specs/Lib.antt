@@ -5,3 +5,4 @@ pub mod Block
 pub mod Forced
 pub mod Steps
 pub mod Exit
+pub mod Group

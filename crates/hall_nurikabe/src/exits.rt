@@ -1,5 +1,5 @@
 //! Ways out of regions.
-ghost use Rattle.std.specs.Prelude.{◌≡◌, ℕ, ◌<◌, ◌⊎◌, IsTrue, IfOk, length, slice_index, slice_index_or, None, Some};
+ghost use Rattle.std.specs.Prelude.{◌≡◌, ◌↔◌, ℕ, ◌<◌, ◌⊎◌, IsTrue, IfOk, length, slice_index, slice_index_or, None, Some};
 ghost use Rattle.hall_grid.specs.Board.{cells, IsSize, Touch};
 ghost use Rattle.hall_grid.specs.Component.{AreComponents, IsLabelled};
 ghost use Rattle.hall_grid.specs.Reached.{IsMarked};
@@ -24,7 +24,7 @@ pub(crate) enum Exits {
 
 impl Exits {
     /// The same with one more cell.
-    fn with(self, cell: usize) -> Exits
+    pub(crate) fn with(self, cell: usize) -> Exits
         ensures kept { (x : ℕ) → Covers self x → Covers result x }
         ensures cell { Covers result cell }
         ensures one { (x : ℕ) → result ≡ Exits.One x → x ≡ cell }
@@ -33,6 +33,16 @@ impl Exits {
             Exits::Nowhere => Exits::One(cell),
             Exits::One(other) if other == cell => self,
             Exits::One(_) | Exits::Many => Exits::Many,
+        }
+    }
+
+    /// Whether there are two or more.
+    pub(crate) fn are_many(self) -> bool
+        ensures { IsTrue result ↔ (self ≡ Exits.Many) }
+    {
+        match self {
+            Exits::Many => true,
+            Exits::Nowhere | Exits::One(_) => false,
         }
     }
 }

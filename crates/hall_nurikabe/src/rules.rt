@@ -10,7 +10,7 @@ use std::alloc::{AllocError, Global};
 use std::marker::Model;
 
 /// Up to how many visits a search makes no trials.
-const PLAIN_VISITS: u64 = 50;
+const PLAIN_VISITS: u64 = 8;
 
 /// The rules of one puzzle, the cell to try next, how long the trail was when the deductions left nothing to find, the
 /// cell where trials go on, and counts of what a search asked.
@@ -86,14 +86,14 @@ impl Rules for NurikabeRules {
         self.visits += 1;
         let deductions = DeductionsAndTrials {
             puzzle: &self.puzzle,
-            // A search sets one place between two visits, and takes back what it set since a visit that left nothing
-            // to find.
-            settled: self.settled.min(partial.trail().len().saturating_sub(1)),
             tries: self.visits > PLAIN_VISITS,
         };
         let mut turn = Turn {
             next: self.turn,
             left: MOST_TRIED,
+            // A search sets one place between two visits, and takes back what it set since a visit that left nothing
+            // to find.
+            followed: self.settled.min(partial.trail().len().saturating_sub(1)),
         };
         let step = settle(alloc, &deductions, partial, &mut turn)?;
         self.turn = turn.next;

@@ -8,50 +8,54 @@ ghost use Rattle.hall_solve.specs.Trail.{Grows};
 ghost use Rattle.hall_solve.specs.Puzzle.{question_of};
 
 use crate::deduce::Deductions;
+use crate::follow::follow;
 use crate::judge::{WALL, WHITE};
 use hall_grid::{Puzzle, neighbours};
-use hall_solve::{Deduce, Finding, Look, Partial, Pass, Step, settle, sweep};
+use hall_solve::{Deduce, Finding, Look, Partial, Pass, sweep};
 use std::alloc::{AllocError, Global};
 
 /// How many cells a visit tries at the most.
-pub(crate) const MOST_TRIED: usize = 12;
+pub(crate) const MOST_TRIED: usize = 16;
 
-/// Where trials go on: the cell to look at next, and how many cells the visit may still try.
+/// Where trials go on: the cell to look at next, and how many cells the visit may still try. And how long the trail was
+/// when all that follows round its places was set.
 #[derive(Drop)]
 pub(crate) struct Turn {
     pub(crate) next: usize,
     pub(crate) left: usize,
+    pub(crate) followed: usize,
 }
 
-/// Tries both values at those of the cells that are open, where nothing follows before the trail is `settled` long.
+/// Tries both values at those of the cells that are open.
 #[derive(Drop)]
 struct Trials<'a> {
     puzzle: &'a Puzzle,
-    settled: usize,
     cells: &'a [usize],
     ghost kind: { puzzle.now.kind ≡ Nurikabe },
 }
 
-/// Sets the open cell to the value, and what follows; the partial filling stays as it was.
+/// Sets the open cell to the value, and what follows round it; the partial filling stays as it was.
 fn try_value(
     alloc: Global,
-    deductions: &Deductions,
+    puzzle: &Puzzle,
     partial: &mut Partial,
     cell: usize,
     value: u8,
-) -> Result<Step, AllocError>
-    requires partial { IsPartial (question_of Nurikabe deductions.now.puzzle.now) partial.old.places }
+) -> Result<Pass, AllocError>
+    requires kind { puzzle.now.kind ≡ Nurikabe }
+    requires partial { IsPartial (question_of Nurikabe puzzle.now) partial.old.places }
     requires cell { IsOpen partial.old.places cell }
     requires value { value < 2 }
-    ensures dead { IfOk result (λ step. step ≡ Step.Dead
-        → IsHopeless (question_of Nurikabe deductions.now.puzzle.now) (slice_set partial.old.places cell (Some value))) }
+    ensures dead { IfOk result (λ pass. pass ≡ Pass.Dead
+        → IsHopeless (question_of Nurikabe puzzle.now) (slice_set partial.old.places cell (Some value))) }
     ensures kept { partial.new ≡ partial.old }
 {
     let mark = partial.mark();
+    let from = partial.trail().len();
     partial.set(cell, value);
-    let step = settle(alloc, deductions, partial, &mut ());
+    let pass = follow(alloc, puzzle, partial, from);
     partial.undo_to(mark);
-    step
+    pass
 }
 
 /// Whether the cell is open and a cell beside it is set.
@@ -92,26 +96,20 @@ impl Look for Trials<'_> {
         if cell >= self.puzzle.cells() || !is_worth_trying(self.puzzle, partial, cell) {
             return Ok(Finding::Nothing);
         }
-        let deductions = Deductions {
-            puzzle: self.puzzle,
-            settled: self.settled,
-            all: false,
-        };
-        if let Step::Dead = try_value(alloc, &deductions, partial, cell, WHITE)? {
+        if let Pass::Dead = try_value(alloc, self.puzzle, partial, cell, WHITE)? {
             return Ok(Finding::Must(cell, WALL));
         }
-        if let Step::Dead = try_value(alloc, &deductions, partial, cell, WALL)? {
+        if let Pass::Dead = try_value(alloc, self.puzzle, partial, cell, WALL)? {
             return Ok(Finding::Must(cell, WHITE));
         }
         Ok(Finding::Nothing)
     }
 }
 
-/// All deductions, and trials where they are wanted and nothing else follows.
+/// What follows round the places that were set last, else all deductions, and else trials, where they are wanted.
 #[derive(Drop)]
 pub(crate) struct DeductionsAndTrials<'a> {
     pub(crate) puzzle: &'a Puzzle,
-    pub(crate) settled: usize,
     pub(crate) tries: bool,
     pub(crate) ghost kind: { puzzle.now.kind ≡ Nurikabe },
 }
@@ -127,15 +125,32 @@ impl Deduce for DeductionsAndTrials<'_> {
         partial: &mut Partial,
         turn: &mut Turn,
     ) -> Result<Pass, AllocError> {
-        let plain = Deductions {
-            puzzle: self.puzzle,
-            settled: self.settled,
-            all: true,
-        };
-        match plain.pass(alloc, partial, &mut ())? {
-            Pass::Settled if self.tries => sweep_trials(alloc, self.puzzle, partial, turn),
+        let followed = follow(alloc, self.puzzle, partial, turn.followed)?;
+        turn.followed = partial.trail().len();
+        match followed {
+            Pass::Settled => look_further(alloc, self.puzzle, partial, self.tries, turn),
             pass => Ok(pass),
         }
+    }
+}
+
+/// All deductions about the whole board, and trials where they are wanted and nothing else follows.
+fn look_further(
+    alloc: Global,
+    puzzle: &Puzzle,
+    partial: &mut Partial,
+    tries: bool,
+    turn: &mut Turn,
+) -> Result<Pass, AllocError>
+    requires kind { puzzle.now.kind ≡ Nurikabe }
+    requires partial { IsPartial (question_of Nurikabe puzzle.now) partial.old.places }
+    ensures deduced { IfOk result (IsDeduced (question_of Nurikabe puzzle.now) partial.old.places partial.new.places) }
+    ensures err { OnErr result (Narrows (question_of Nurikabe puzzle.now) partial.old.places partial.new.places) }
+    ensures grows { Grows partial.old partial.new }
+{
+    match (Deductions { puzzle }).pass(alloc, partial, &mut ())? {
+        Pass::Settled if tries => sweep_trials(alloc, puzzle, partial, turn),
+        pass => Ok(pass),
     }
 }
 
@@ -177,11 +192,9 @@ fn sweep_trials(
     ensures err { OnErr result (Narrows (question_of Nurikabe puzzle.now) partial.old.places partial.new.places) }
     ensures grows { Grows partial.old partial.new }
 {
-    let settled = partial.trail().len();
     let cells = cells_to_try(alloc, puzzle, partial, turn)?;
     let trials = Trials {
         puzzle,
-        settled,
         cells: &cells,
     };
     sweep(alloc, &trials, partial)
