@@ -1,21 +1,24 @@
 -- What a connection is once it is taken over, or is not.
-use Rattle.std.proofs.Common.{◌≡◌, inl, inr, [], true, false, IsTrue, refl, sym, ap, subst, ◌∙◌, arith}
+use Rattle.std.proofs.Common.{◌≡◌, inl, inr, [], length, true, false, IsTrue, refl, sym, ap, subst, ◌∙◌, arith}
 use Rattle.std.specs.List.{AllByRecursion}
 use Rattle.sqlite_trees.specs.declared.store.Store.{Ghosts}
 use Rattle.sqlite.specs.declared.error.Error.{Error}
-use Rattle.sqlite.specs.Effect.{Database}
+use Rattle.sqlite.specs.Effect.{Database, IsDatabase}
+use Rattle.sqlite.specs.Schema.{Schema}
+use Rattle.sqlite_catalog.specs.Listing.{IsSound}
 use Rattle.sqlite.specs.Tree.{Trees}
 use Rattle.sqlite.specs.Held.{Held, state}
-use Rattle.sqlite.specs.State.{State, HasCleanDisk, KeepsCounts, IsRolledBack, Shows}
+use Rattle.sqlite.specs.State.{State, HasCleanDisk, KeepsCounts, IsRolledBack, Shows, Survives}
 use Rattle.sqlite.specs.Steps.{FailsToCommit}
 use Rattle.hall_store.specs.Maps.{empty_world}
 use Rattle.hall_sql.specs.Tables.{no_schema, hall_schema}
 use Rattle.hall_sql.specs.Rows.{world_of}
-use Rattle.hall_sql.specs.Standing.{Lasts, AreKeyed, AreAllKeyed, Rests, IsBare, HasAdopted, HasDeclined, without_limit}
+use Rattle.hall_sql.specs.Stands.{IsBareHall}
+use Rattle.hall_sql.specs.Standing.{AddsNoOutcome, Lasts, AreKeyed, AreAllKeyed, Rests, IsBare, HasAdopted, HasDeclined, MakesAtMost, without_limit}
 use Rattle.hall_sql.specs.Inside.{Carries}
 use Rattle.hall_sql.specs.Made.{all_tables, Awaits, HasGrown}
 use Rattle.hall_sql.specs.Scan.{AreScanned}
-use Rattle.hall_sql.proofs.LastLemmas.{last_none, last_then, last_begun, last_lifted}
+use Rattle.hall_sql.proofs.LastLemmas.{last_none, last_then, last_begun, last_lifted, quiet}
 use Rattle.hall_sql.proofs.TransactionLemmas.{commit_refused}
 
 -- tables with no rows hold nobody and nothing
@@ -81,8 +84,8 @@ rests_declined old new alone settled lasts rests = record {
 
 -- the hall's tables stood
 pub scanned_adopted : (old new : State) → old.in_transaction ≡ false → (IsTrue old.is_open → old.now ≡ old.committed) → old.now.schema ≡ hall_schema
-    → Lasts old new → (HasCleanDisk new → AreScanned all_tables old new) → HasAdopted old (without_limit new)
-scanned_adopted old new alone settled has lasts scanned =
+    → Lasts old new → AddsNoOutcome old new → (HasCleanDisk new → AreScanned all_tables old new) → HasAdopted old (without_limit new)
+scanned_adopted old new alone settled has lasts quiets scanned =
     let left = λ (clean : HasCleanDisk new). (scanned clean).left in
     let was = λ (clean : HasCleanDisk new). sym (left clean).is_open ∙ (scanned clean).serves in
     record {
@@ -96,6 +99,7 @@ scanned_adopted old new alone settled has lasts scanned =
       follows = record { lasts = last_lifted old new lasts; opened = λ clean opens. was clean };
       serves = λ clean. (scanned clean).serves;
       stood = λ clean. inl (has, (left clean).now_is);
+      stops = λ clean db may. inl (quiets clean db may);
     }
 
 module _ {S : Type 0} (g : Ghosts S) (held : Held S) (settled : IsTrue (state g held).is_open → (state g held).now ≡ (state g held).committed) where
@@ -129,12 +133,37 @@ module _ {S : Type 0} (g : Ghosts S) (held : Held S) (settled : IsTrue (state g 
       let was : HasCleanDisk mid = omega (arith, lasts.clean, clean) in
       commit_refused mid end error (grown was refl).mode (fails clean))
 
+  -- what a commit of all seven may leave
+  pub grown_stops : (mid end : State) → held.schema ≡ no_schema → Carries base mid
+      → (HasCleanDisk mid → IsTrue base.in_transaction → HasGrown all_tables [] base mid)
+      → Survives mid end (λ db. db ≡ mid.now.trees) → MakesAtMost (state g held) end
+  grown_stops mid end none carries grown survives clean db may =
+      let clean_mid : HasCleanDisk mid = omega (arith, survives.clean, clean) in
+      elim (survives.crash clean db may) [
+        | inl earlier ↦ inl (carries.stops clean_mid db earlier)
+        | inr is ↦
+            let it = grown clean_mid refl in
+            let awaits = awaits_all base.now none in
+            let bare = bare_hall mid.now (it.made awaits) in
+            let sound : IsDatabase mid.now = elim (it.sound awaits) [
+              | inl same ↦ absurd (let count = ap length same in cc)
+              | inr holds ↦ holds
+            ] in
+            inr (none, subst IsBareHall (sym is) (subst (λ (schema : Schema). IsSound schema mid.now.trees) bare.is sound, bare.empty))
+      ]
+
+  -- and where nothing was committed
+  pub rolled_stops : (mid end : State) → Carries base mid → Survives mid end (λ _. ⊥) → MakesAtMost (state g held) end
+  rolled_stops mid end carries survives clean db may =
+      let clean_mid : HasCleanDisk mid = omega (arith, survives.clean, clean) in
+      inl (carries.stops clean_mid db (quiet mid end survives clean db may))
+
   -- committed, the hall stands with an empty world
   pub committed_adopted : held.in_transaction ≡ false → (mid end : State) → held.schema ≡ no_schema → Carries base mid → (HasCleanDisk mid → IsTrue base.in_transaction → HasGrown all_tables [] base mid)
-      → Lasts mid end → end.in_transaction ≡ false
+      → Lasts mid end → MakesAtMost (state g held) end → end.in_transaction ≡ false
       → (HasCleanDisk end → IsTrue mid.in_transaction × Shows mid end mid.now mid.now false × KeepsCounts mid end × (end.marks ≡ []))
       → HasAdopted (state g held) (without_limit end)
-  committed_adopted alone mid end none carries grown lasts ended ok =
+  committed_adopted alone mid end none carries grown lasts stops ended ok =
       let now : HasCleanDisk end → HasCleanDisk mid = λ (clean : HasCleanDisk end). let was : HasCleanDisk mid = omega (arith, lasts.clean, clean) in was in
       let bare : HasCleanDisk end → IsBare hall_schema end.now = λ (clean : HasCleanDisk end).
       subst (IsBare hall_schema) (sym (ok clean).1.now_is) (bare_hall mid.now ((grown (now clean) refl).made (awaits_all base.now none))) in
@@ -149,4 +178,5 @@ module _ {S : Type 0} (g : Ghosts S) (held : Held S) (settled : IsTrue (state g 
         follows = record { lasts = last_lifted (state g held) end (last_then (state g held) mid end (last_begun g held mid carries.lasts) lasts); opened = λ clean opens. (carries.kept (now clean) refl).was_open (ok clean).1.was_open };
         serves = λ clean. (ok clean).1.is_open;
         stood = λ clean. inr (none, bare clean);
+        stops = stops;
       }

@@ -1,5 +1,5 @@
 -- What calls for each item of a list leave inside a transaction.
-use Rattle.std.proofs.Common.{◌≡◌, ◌<◌, ◌+◌, ◌||◌, ◌++◌, ℕ, zero, suc, List, [], ◌∷◌, Bool, true, false, drop, take, get_or, length, IsTrue, refl, sym, ap, subst, ◌∙◌, arith}
+use Rattle.std.proofs.Common.{◌≡◌, inr, ◌<◌, ◌+◌, ◌||◌, ◌++◌, ℕ, zero, suc, List, [], ◌∷◌, Bool, true, false, drop, take, get_or, length, IsTrue, refl, sym, ap, subst, ◌∙◌, arith}
 use Rattle.std.proofs.lemmas.Bool.{and_parts, and_from}
 use Rattle.std.proofs.lemmas.List.{take_more}
 use Rattle.std.specs.List.{list_any}
@@ -32,6 +32,7 @@ pub more_grown : (tables : List HallTable) (i : ℕ) (none : HallTable) (a b c :
 more_grown tables i none a b c low so more = record {
   mode = more.mode;
   made = λ it. more.made (drop (i + 1) tables) (subst (λ l. Awaits l b.now) (next_item tables i none low) (so.made it));
+  sound = λ it. inr (more.sound (drop (i + 1) tables) (subst (λ l. Awaits l b.now) (next_item tables i none low) (so.made it)));
 }
 
 -- the next table is made on the schema that awaits it

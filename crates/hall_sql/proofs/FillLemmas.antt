@@ -151,6 +151,13 @@ six_added rows a b c d e f h people puzzles heads places answers protests = reco
   steps = record {
     mode = protests.steps.mode;
     hall = λ is. protests.steps.hall (answers.steps.hall (places.steps.hall (heads.steps.hall (puzzles.steps.hall (people.steps.hall is)))));
+    sound = λ is sound.
+        let at_b = people.steps.hall is in
+        let at_c = puzzles.steps.hall at_b in
+        let at_d = heads.steps.hall at_c in
+        let at_e = places.steps.hall at_d in
+        protests.steps.sound (answers.steps.hall at_e) (answers.steps.sound at_e (places.steps.sound at_d
+        (heads.steps.sound at_c (puzzles.steps.sound at_b (people.steps.sound is sound)))));
   };
   does = λ is.
       let at_b = people.steps.hall is in

@@ -1,19 +1,20 @@
 -- What a call inside a transaction leaves, and several after each other.
-use Rattle.std.proofs.Common.{◌≡◌, ◌⊎◌, inl, inr, ℕ, List, true, if◌then◌else◌, IsTrue, Option, Some, None, Result, OnOk, refl, sym, ap, subst, ◌∙◌, arith}
+use Rattle.std.proofs.Common.{◌≡◌, ◌⊎◌, inl, inr, ℕ, List, true, if◌then◌else◌, IsTrue, Option, Some, None, Ok, Result, OnOk, refl, sym, ap, subst, ◌∙◌, arith}
 use Rattle.std.proofs.lemmas.Result.{on_ok_weaker}
 use Rattle.sqlite_schema.specs.declared.command.Returning.{Returning}
 use Rattle.sqlite.specs.declared.error.Error.{Error}
-use Rattle.sqlite.specs.Effect.{Database}
+use Rattle.sqlite.specs.Effect.{Database, IsDatabase}
 use Rattle.sqlite.specs.Order.{Row}
 use Rattle.sqlite.specs.Listing.{understood}
 use Rattle.sqlite.specs.Clock.{timed}
-use Rattle.sqlite.specs.State.{State, HasCleanDisk, KeepsCommit, Shown, ShowsRows, FailsToQuery, IsTooLate}
-use Rattle.sqlite.proofs.Callers.{IsPlain}
+use Rattle.sqlite.specs.State.{State, HasCleanDisk, Executes, KeepsCommit, Shown, ShowsRows, FailsToQuery, IsTooLate}
+use Rattle.sqlite.proofs.Callers.{IsPlain, command_of}
 use Rattle.hall_policy.specs.World.{World}
 use Rattle.hall_sql.specs.Tables.{hall_schema}
 use Rattle.hall_sql.specs.Rows.{world_of}
 use Rattle.hall_sql.specs.Standing.{Lasts, Rests}
 use Rattle.hall_sql.specs.Inside.{IsHallData, Carries, Steps, Did, Tells}
+use Rattle.hall_sql.proofs.SoundLemmas.{IsRowWrite, ran_sound}
 use Rattle.hall_sql.proofs.LastLemmas.{last_none, last_then, quiet_none, quiet_then}
 use Rattle.hall_sql.proofs.CallLemmas.{query_refused, shown_unchanged}
 
@@ -32,15 +33,23 @@ carries_then a b c one goes two = record {
 }
 
 pub steps_then : (a b c : State) → Steps a b → Steps b c → Steps a c
-steps_then a b c one two = record { mode = two.mode; hall = λ h. two.hall (one.hall h) }
+steps_then a b c one two = record { mode = two.mode; hall = λ h. two.hall (one.hall h); sound = λ h d. two.sound (one.hall h) (one.sound h d) }
 
 -- nothing was done yet
 pub did_none : (Does : Database → Database → Type 0) (s : State) → IsTrue s.in_transaction → Does s.now s.now → Did Does s s
-did_none Does s mode nothing = record { steps = record { mode = mode; hall = λ h. h }; does = λ h. nothing }
+did_none Does s mode nothing = record { steps = record { mode = mode; hall = λ h. h; sound = λ h d. d }; does = λ h. nothing }
 
 -- one statement
-pub did : (Does : Database → Database → Type 0) (old new : State) → new.in_transaction ≡ true → (IsHallData old.now → IsHallData new.now × Does old.now new.now) → Did Does old new
-did Does old new mode it = record { steps = record { mode = mode; hall = λ h. (it h).0 }; does = λ h. (it h).1 }
+pub did : (Does : Database → Database → Type 0) (old new : State) → new.in_transaction ≡ true → (IsHallData old.now → IsDatabase old.now → IsDatabase new.now)
+    → (IsHallData old.now → IsHallData new.now × Does old.now new.now) → Did Does old new
+did Does old new mode sound it = record { steps = record { mode = mode; hall = λ h. (it h).0; sound = sound }; does = λ h. (it h).1 }
+
+-- which ran, and writes rows
+pub did_run : (Does : Database → Database → Type 0) (sql : List ℕ) (params : Row) (old new : State) (count : ℕ) → IsPlain (understood hall_schema sql)
+    → IsRowWrite (command_of (understood hall_schema sql)) → new.in_transaction ≡ true → Executes sql params old new (Ok count)
+    → (IsHallData old.now → IsHallData new.now × Does old.now new.now) → Did Does old new
+did_run Does sql params old new count plain writes mode ran it =
+    did Does old new mode (λ held d. ran_sound sql params old new count held.schema plain writes ran) it
 
 -- one call did both
 pub did_both : (One Two : Database → Database → Type 0) (a b : State) → Did One a b → Did Two a b → Did (λ x y. One x y × Two x y) a b
@@ -113,6 +122,6 @@ pub shown_did : (Means : World → Type 0) (sql : List ℕ) (params : Row) (old 
     → Shown sql params old new rows → (IsHallData old.now → Means (world_of old.now.trees)) → Did (Tells Means) old new
 shown_did Means sql params old new rows inside plain h means =
     let left = λ (it : IsHallData old.now). shown_unchanged sql params old new rows (subst (λ s. IsPlain (understood s sql)) (sym it.schema) plain) h in
-    did (Tells Means) old new (shown_mode sql params old new rows inside h) (λ it.
+    did (Tells Means) old new (shown_mode sql params old new rows inside h) (λ it. subst IsDatabase (sym (left it).0.now_is)) (λ it.
     let same = (left it).0.now_is in
     (subst IsHallData (sym same) it, record { same = same; means = means it }))

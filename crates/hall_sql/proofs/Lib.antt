@@ -11,6 +11,7 @@ pub mod MapLemmas
 pub mod FoundLemmas
 pub mod InsertLemmas
 pub mod WriteLemmas
+pub mod SoundLemmas
 pub mod StopLemmas
 pub mod UpdateLemmas
 pub mod QuietLemmas

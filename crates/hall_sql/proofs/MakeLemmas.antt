@@ -17,7 +17,7 @@ use Rattle.sqlite.specs.Command.TheVariants.{CreateTable}
 use Rattle.sqlite.specs.Change.{created, next_tree}
 use Rattle.sqlite_catalog.specs.Change.{KeepsRows}
 use Rattle.sqlite.specs.Does.{Tally, Does, lacks_sequence}
-use Rattle.sqlite.specs.Effect.{Database}
+use Rattle.sqlite.specs.Effect.{Database, IsDatabase}
 use Rattle.sqlite.specs.State.{State, mode_of, Writes}
 use Rattle.hall_sql.proofs.InsertLemmas.{went, same_value}
 
@@ -90,3 +90,10 @@ made_next table old new count ran tables it =
       uncounted = uncounted;
       lacks = it.lacks.1;
     }
+
+-- and what holds it is a database
+pub made_sound : (table : HallTable) (old new : State) (count : ℕ) → Executes (table_text table) [] old new (Ok count)
+    → (tables : List HallTable) → Awaits (table ∷ tables) old.now → IsDatabase new.now
+made_sound table old new count ran tables it =
+    let is = making_is table in
+    (runs_as (table_text table) [] old new (schema_before table) (it.bare.is ∙ it.lacks.0) CreateTable is.0 is.2 count ran).sound

@@ -2,11 +2,15 @@
 use Rattle.std.proofs.Common.{◌≡◌, ◌≢◌, ◌↔◌, [], inl, inr, ℕ, Bool, false, IsErrAnd, IsTrue, Result, Ok, Err, refl, sym, ap, subst, ◌∙◌, arith}
 use Rattle.std.specs.FinMap.{empty}
 use Rattle.sqlite.specs.Effect.{Database}
-use Rattle.sqlite.specs.State.{State, HasCleanDisk}
+use Rattle.sqlite.specs.Held.{Held, state}
+use Rattle.sqlite.specs.Schema.{Schema}
+use Rattle.sqlite.specs.State.{State, HasCleanDisk, IsLive}
+use Rattle.sqlite_catalog.specs.Listing.{IsSound}
+use Rattle.sqlite_trees.specs.declared.store.Store.{Ghosts}
 use Rattle.sqlite.specs.Tree.{Trees}
 use Rattle.hall_policy.specs.World.{World}
 use Rattle.hall_store.specs.Maps.{empty_world}
-use Rattle.hall_store.specs.Store.{Leads, Served}
+use Rattle.hall_store.specs.Store.{IsSettled, Leads, LeavesNoOther, Served}
 use Rattle.hall_store.specs.declared.fault.StoreFault.{StoreFault}
 use Rattle.hall_store.proofs.Knowing.{leads_then}
 use Rattle.hall_sql.specs.declared.migration.Migrated.{Migrated}
@@ -14,9 +18,10 @@ use Rattle.hall_sql.specs.declared.migration.Migrated.TheVariants.{Done, Occupie
 use Rattle.hall_sql.specs.declared.rows.Rows.{Rows}
 use Rattle.hall_sql.specs.AllRead.{AreAllRead, IsRead}
 use Rattle.hall_sql.specs.Fill.{AreFilled, Fills}
-use Rattle.hall_sql.specs.Migrate.{TookWorld, HoldsOther, Leaves, Migrates, StopsAtWorld, Takes, WasBefore, old_content_of}
+use Rattle.hall_sql.specs.Migrate.{TookWorld, HoldsOther, Leaves, Migrates, StandsForOld, StopsAtWorld, Takes, WasBefore, old_content_of}
 use Rattle.hall_sql.specs.Rows.{tester_in, world_of}
-use Rattle.hall_sql.specs.Standing.{AddsOutcomes, IsBare, IsHall, Rested, RestedAny, RestedIn, content_of}
+use Rattle.hall_sql.specs.Stands.{HoldsHall}
+use Rattle.hall_sql.specs.Standing.{AddsOutcomes, IsBare, IsHall, IsTabled, Rested, RestedAny, RestedIn, content_of}
 use Rattle.hall_sql.specs.declared.testers.TheConstants.{ALL_TESTERS}
 use Rattle.hall_sql.specs.Tables.{hall_schema, old_schema}
 use Rattle.hall_sql.specs.Whole.{AreRecords}
@@ -26,7 +31,7 @@ use Rattle.hall_sql.proofs.AllRead.{all_bare, bare_read, read_before, testers_re
 use Rattle.hall_sql.proofs.FillLemmas.{FillsWorlds, fills_read, fills_worlds}
 use Rattle.hall_sql.proofs.FilledWorlds.{filled_whole}
 use Rattle.hall_sql.proofs.LastLemmas.{follows_leads}
-use Rattle.hall_sql.proofs.StoreLemmas.{always, over_hall, rested_hall, rested_stayed, rests_on, stays_on}
+use Rattle.hall_sql.proofs.StoreLemmas.{always, opens_hall, over_hall, rested_hall, rested_stayed, rests_on, stays_on}
 use Rattle.hall_sql.proofs.TransactionLemmas.{rests_itself}
 use Rattle.hall_sql.proofs.WholeRows.{bare_rows, bare_world, none_counted, nothing_kept, one_rows, one_world, rows_counted}
 
@@ -123,13 +128,11 @@ filled_stops old new world rows are bare empties leads outcomes opens clean left
   | inl earlier ↦ inl (it.0, earlier, it.2)
   | inr made ↦
       let none : IsBare hall_schema old.now = empties (leads.honest clean) opens in
-      inr (
-        opens,
-        it.2 ∙ ap world_of made.2
-            ∙ filled_whole world (world_of made.0.trees) rows are
-            (subst (λ (w : World). FillsWorlds rows w (world_of made.0.trees)) (bare_empty old.now none) (fills_worlds rows old.now made.0 made.1))
-            ∙ sym (bare_world world bare),
-      )
+      let whole : world_of made.0.trees ≡ world =
+      filled_whole world (world_of made.0.trees) rows are
+      (subst (λ (w : World). FillsWorlds rows w (world_of made.0.trees)) (bare_empty old.now none) (fills_worlds rows old.now made.0 made.1))
+      ∙ sym (bare_world world bare) in
+      inr (opens, opens_hall world it.0 left (subst (HoldsHall world) (sym made.3) (made.2, whole)) it.2)
 ]
 
 -- what a stop leaves of tables that rest
@@ -217,6 +220,20 @@ pub source_told : (s : State) (result : Result Rows StoreFault) → Served (cont
 source_told s (Ok rows) told = λ clean. let it = told clean in (it.0, bare_rows (world_of s.now.trees) rows it.1)
 source_told s (Err fault) told = tt
 
+-- a stop leaves it as it could be left before
+source_stops : (was now : State) → RestedIn old_schema was now → LeavesNoOther (old_content_of was) (old_content_of now)
+source_stops was now rested clean left it = (it.0, rested.stops clean it.0 it.1, it.2)
+
+-- and at rest, while it serves, as it is
+pub source_settled : {S : Type 0} (g : Ghosts S) → ((s : S) (db : Trees) → IsTrue (g.view s).is_open → g.recovers s db → db ≡ (g.view s).committed)
+    → (held : Held S) → IsTabled old_schema (state g held) → IsLive (state g held) → IsSettled (old_content_of (state g held))
+source_settled g law held tabled live clean opens left it =
+    let s = state g held in
+    let same : it.0 ≡ s.now.trees = law held.store it.0 opens it.1 ∙ sym (ap (λ (d : Database). d.trees) (tabled.settled clean opens).0) in
+    let listed = subst (λ (schema : Schema). IsSound schema s.now.trees) (tabled.settled clean opens).1 (live opens).0 in
+    let world = without_testers (world_of s.now.trees) in
+    it.2 world (subst (λ (db : Trees). StandsForOld db world) (sym same) (listed, refl))
+
 -- ---- both
 
 -- what the target did with the rows that were read
@@ -229,6 +246,7 @@ pub migrated : (was now before after : State) (rows : Rows) (result : Result Mig
     → Migrates was now before after result
 migrated was now before after rows result rested told read leaves stops takes = record {
   source = rested;
+  kept = source_stops was now rested;
   read = λ clean. always result (AreAllRead old_schema was.now.trees) (read clean);
   target = leaves;
   stops = λ clean.
@@ -247,6 +265,7 @@ pub unmigrated : (was now before : State) (fault : StoreFault) (result : Result 
 unmigrated was now before fault (Ok done) is rested hall = absurd is
 unmigrated was now before fault (Err e) is rested hall = record {
   source = rested;
+  kept = source_stops was now rested;
   read = λ clean. tt;
   target = rested_stayed (rests_itself before hall);
   stops = λ clean h left it. inl it;

@@ -1,5 +1,5 @@
 -- What an opened store shows of the files.
-use Rattle.std.proofs.Common.{◌≡◌, inl, inr, false, true, None, IsSome, List, [], ◌∷◌, length, sym, ap, subst, refl, ◌∙◌, arith}
+use Rattle.std.proofs.Common.{◌≡◌, ◌⊎◌, inl, inr, false, true, None, IsSome, List, [], ◌∷◌, length, sym, ap, subst, refl, ◌∙◌, arith}
 use Rattle.std.proofs.Math.Logic.{∥∥₁_elim}
 use Rattle.std.specs.List.{AllZip}
 use Rattle.sqlite_trees.specs.declared.memory.MemStore.{MemStore}
@@ -19,13 +19,15 @@ use Rattle.hall_policy.specs.World.{World}
 use Rattle.hall_store.specs.Maps.{empty_world}
 use Rattle.hall_sql.specs.AdoptCause.{AdoptFails}
 use Rattle.hall_sql.specs.Tables.{no_schema, hall_schema}
-use Rattle.hall_sql.specs.Migrate.{old_content_of}
+use Rattle.hall_sql.specs.Migrate.{StandsForOld, old_content_of}
+use Rattle.hall_sql.specs.Stands.{StandsFor}
 use Rattle.hall_sql.specs.Rows.{world_of}
-use Rattle.hall_sql.specs.Standing.{IsBare, StoodOrEmpty, HasAdopted, HasAdoptedOld, content_of}
+use Rattle.hall_sql.specs.Standing.{IsBare, StoodOrEmpty, HasAdopted, HasAdoptedOld, MakesAtMost, content_of}
 use Rattle.hall_sql.specs.WholeRows.{without_testers}
-use Rattle.hall_sql.specs.Opened.{FindsAs, IsFound, MemoryServes, OneWorldIsFound, StandsFor, StandsForOld, Starts}
+use Rattle.hall_sql.specs.Opened.{FindsAs, IsFound, MemoryServes, OneWorldIsFound, Starts}
 use Rattle.hall_sql.specs.Opened.{StartsOld}
 use Rattle.hall_sql.proofs.AdoptLemmas.{bare_world}
+use Rattle.hall_sql.proofs.StoreLemmas.{opens_hall}
 
 -- the database of a connection that was taken over
 stood : (old new : State) → IsSound old.now.schema old.now.trees → StoodOrEmpty old new
@@ -84,6 +86,16 @@ starts_old image old new file adopted clean =
       found_as StandsForOld image old world has (subst (λ (d : Database). StandsForOld d.trees world) is.0.clean stands),
     )
 
+-- a bare hall opens to the empty world, so a stop while the tables are made leaves that, or what it could leave before
+pub new_hall_is_empty : (old new : State) → MakesAtMost old new → HasCleanDisk new → (left : World) → (content_of new).may_leave left
+    → (content_of old).may_leave left ⊎ ((old.now.schema ≡ no_schema) × (left ≡ empty_world))
+new_hall_is_empty old new makes clean left it = elim (makes clean it.0 it.1) [
+  | inl earlier ↦ inl (it.0, earlier, it.2)
+  | inr made ↦
+      let empty = bare_world (record { schema = hall_schema; trees = it.0 }) (record { is = refl; empty = made.1.1 }) in
+      inr (made.0, opens_hall empty_world it.0 left (made.1.0, empty) it.2)
+]
+
 -- a list with a table is not one with none
 apart : {A B : Type 0} (R : A → B → Type 0) (rows : List A) (b : B) (bs : List B) → AllZip R rows (b ∷ bs)
     → AllZip R rows [] → ⊥
@@ -93,7 +105,7 @@ apart R (row ∷ rows) b bs some none = none
 pub never_both : (db : Trees) → IsSound hall_schema db → IsSound no_schema db → ⊥
 never_both db hall none = apart _ _ _ _ hall.lists.listed.tables none.lists.listed.tables
 
-same_world : (db : Trees) (one other : World) → StandsFor db one → StandsFor db other → one ≡ other
+pub same_world : (db : Trees) (one other : World) → StandsFor db one → StandsFor db other → one ≡ other
 same_world db one other (inl a) (inl b) = a.1 ∙ sym b.1
 same_world db one other (inl a) (inr b) = absurd (never_both db a.0 b.0)
 same_world db one other (inr a) (inl b) = absurd (never_both db b.0 a.0)

@@ -17,7 +17,7 @@ use Rattle.sqlite_rules.specs.Cast.{cast_row}
 use Rattle.sqlite_rules.specs.Edit.{next_rowid}
 use Rattle.sqlite_rules.specs.Lists.{Has}
 use Rattle.sqlite_rules.proofs.ListLemmas.{has_filtered}
-use Rattle.sqlite.specs.Effect.{Database}
+use Rattle.sqlite.specs.Effect.{Database, IsDatabase}
 use Rattle.sqlite.specs.Order.{Row}
 use Rattle.sqlite.specs.Table.{Table}
 use Rattle.sqlite.specs.Term.{col, eval_all}
@@ -321,14 +321,14 @@ pub head_counted : (id : List ℕ) (old new : State) (rows : List Row) → IsTru
     → Did (CountsHeads id (length rows)) old new
 head_counted id old new rows inside shown =
     let left = λ (it : IsHallData old.now). shown_unchanged LOOK_HEAD.now (Text id ∷ []) old new rows (subst (λ s. IsPlain (understood s LOOK_HEAD.now)) (sym it.schema) look_head_is.2) shown in
-    did (CountsHeads id (length rows)) old new (shown_mode LOOK_HEAD.now (Text id ∷ []) old new rows inside shown) (λ it.
+    did (CountsHeads id (length rows)) old new (shown_mode LOOK_HEAD.now (Text id ∷ []) old new rows inside shown) (λ it. subst IsDatabase (sym (left it).0.now_is)) (λ it.
     let same = (left it).0.now_is in
     (subst IsHallData (sym same) it, record { same = same; many = head_looked id old new rows it.schema shown }))
 
 -- after a look, the head is put
 pub head_put : (count : ℕ) (round : Round) (a b c : State) → Did (CountsHeads round.id count) a b → PutsHeadOver count round b c → Did (PutsHead round) a c
 head_put count round a b c looked put =
-    did (PutsHead round) a c put.mode (λ it.
+    did (PutsHead round) a c put.mode (λ it sound. put.sound (looked.steps.hall it)) (λ it.
     let same = (looked.does it).same in
     let many = subst (λ held. HasSoManyHeads round.id held count) (sym same) (looked.does it).many in
     let done = put.puts (looked.steps.hall it) many in

@@ -27,7 +27,11 @@ use Rattle.sqlite_trees.proofs.ListLemmas.{map-map}
 use Rattle.std.proofs.Common.{codes}
 use Rattle.sqlite.specs.Schema.{Schema}
 use Rattle.hall_sql.specs.Statements.{rowids_text}
+use Rattle.hall_sql.specs.Asked.{ReturnsNothing}
+use Rattle.hall_sql.specs.Tables.{hall_schema}
 use Rattle.hall_sql.specs.Versions.{HasTable}
+use Rattle.hall_sql.proofs.ShowsNothing.{shows_nothing}
+use Rattle.sqlite.specs.Listing.{is_select}
 use Rattle.hall_sql.proofs.Versions.{AsksAll, by_version}
 use Rattle.hall_sql.specs.declared.tables.HallTable.{HallTable}
 use Rattle.hall_sql.specs.declared.tables.HallTable.TheVariants.{People, Puzzles, Rounds, Places, Answers, Protests, Testers}
@@ -157,6 +161,20 @@ pub scan_begun : {S : Type 0} (g : Ghosts S) (table : HallTable) (old new : Held
 scan_begun g table old new has begun =
     let it = begun_plain g (rowids_text table) [] old new (rowids_are old.schema table has).plain begun in
     (it.1, record { given = []; ids = []; has = it.0; read = refl; rises = tt; top = refl; met = tt })
+
+-- the hall's schema has each table
+stands : (table : HallTable) → HasTable hall_schema table
+stands People = inr refl
+stands Puzzles = inr refl
+stands Rounds = inr refl
+stands Places = inr refl
+stands Answers = inr refl
+stands Protests = inr refl
+stands Testers = refl
+
+-- so the query for its rowids shows nothing of a write
+pub rowids_quiet : (table : HallTable) → ReturnsNothing (rowids_text table)
+rowids_quiet table any = shows_nothing (rowids_text table) hall_schema any (ap is_select (rowids_are hall_schema table (stands table)).is)
 
 pub ints_chain : (i j k : ℤ) → int_cmp i j ≡ Less → int_cmp j k ≡ Less → int_cmp i k ≡ Less
 ints_chain = int_cmp_total.trans

@@ -10,23 +10,19 @@ use Rattle.sqlite.specs.Tree.{Trees}
 use Rattle.sqlite.specs.Schema.{Schema}
 use Rattle.sqlite.specs.Does.{Tally, Does}
 use Rattle.sqlite.specs.Effect.{Database, IsDatabase, SparesFrozen, is_query}
+use Rattle.sqlite_catalog.specs.Listing.{IsSound}
+use Rattle.sqlite_trees.specs.View.{doubt}
 use Rattle.sqlite.specs.Listing.{understood}
 use Rattle.sqlite.specs.State.{State, HasCleanDisk, Survives, CommitsBy, MayCommit, MayWrite, Executes, ExecutesIn, RunsAlone, Runs, Writes, IsStatement, shows_rows, is_pragma, RunsCommand, text_of, mode_of}
 use Rattle.sqlite.proofs.Callers.{IsPlain, command_of}
 use Rattle.hall_store.specs.Change.{changed}
 use Rattle.hall_store.specs.declared.change.Change.{Change}
 use Rattle.hall_sql.specs.Rows.{world_of}
+use Rattle.hall_sql.specs.Stands.{HoldsHall}
 use Rattle.hall_sql.specs.Standing.{HasMade, IsHall}
 use Rattle.hall_sql.specs.Tables.{hall_schema}
+use Rattle.hall_sql.proofs.SoundLemmas.{IsRowWrite}
 use Rattle.hall_sql.proofs.WriteLemmas.{StopsAt}
-
--- the statements that write rows
-abbrev pub IsRowWrite : Command → Type 0
-IsRowWrite (Insert at from) = Unit {0}
-IsRowWrite (InsertOr at way from clauses) = Unit {0}
-IsRowWrite (Update at q) = Unit {0}
-IsRowWrite (Delete at q) = Unit {0}
-IsRowWrite _ = ⊥
 
 -- the connection as it is left, were this committed
 abbrev left_by : State → Tally → Database → State
@@ -70,10 +66,10 @@ shows_none (Update at q) what is none = ap is_some none
 shows_none (Delete at q) what is none = ap is_some none
 shows_none _ what is none = absurd is
 
--- what a statement that writes rows may commit is what some run of it leaves
+-- what a statement that writes rows may commit is what some run of it leaves, which is sound
 module _ (sql : List ℕ) (params : Row) (old : State) (schema : Schema) (has : old.now.schema ≡ schema) (plain : IsPlain (understood schema sql))
     (is : IsRowWrite (command_of (understood schema sql))) (alone : old.in_transaction ≡ false) (opened : IsTrue old.is_open) where
-  pub commit_runs : (db : Trees) → CommitsBy sql params old db → (new : State) × (count : ℕ) × Executes sql params old new (Ok count) × (new.now.trees ≡ db)
+  pub commit_runs : (db : Trees) → CommitsBy sql params old db → (new : State) × (count : ℕ) × Executes sql params old new (Ok count) × (new.now.trees ≡ db) × IsDatabase new.now × (new.is_clean ≡ old.is_clean)
   unfolding CommitsBy ExecutesIn
   commit_runs db h =
       let c = h.0 in
@@ -86,9 +82,9 @@ module _ (sql : List ℕ) (params : Row) (old : State) (schema : Schema) (has : 
       let count = unwrap_or it.1.rows 0 in
       let ran : RunsCommand old new sql c full (Ok count) =
       as_runs old new c.returning c.command (text_of sql c) full count writes (written old alone opened c.returning c.command (text_of sql c) full it.1 it.2 it.3 it.4 it.6) in
-      (new, count, (c, h.1, rw (shows_none c.command c.returning writes bare.0) ran), sym it.5)
+      (new, count, (c, h.1, rw (shows_none c.command c.returning writes bare.0) ran), sym it.5, it.4, refl)
 
--- so where each run of it makes the change, a stop leaves the world before it or the one that the change makes
+-- so where each run of it makes the change, a stop leaves what it could leave before, or a hall of the world that the change makes
 pub stops_made : (change : Change) (sql : List ℕ) (params : Row) (old new : State) → IsHall old → IsPlain (understood hall_schema sql) → IsRowWrite (command_of (understood hall_schema sql))
     → (HasCleanDisk old → IsTrue old.is_open → (run : State) (count : ℕ) → Executes sql params old run (Ok count) → HasMade change old run)
     → Survives old new (CommitsBy sql params old) → StopsAt change old new
@@ -98,5 +94,9 @@ stops_made change sql params old new hall plain is made survives opens clean db 
       | inl earlier ↦ inl earlier
       | inr commits ↦
           let ran = commit_runs sql params old hall_schema (hall.settled was opens).1 plain is (hall.autocommit was) opens db commits in
-          inr (subst (λ (d : Trees). world_of d ≡ changed change (world_of old.now.trees)) ran.3 (made was opens ran.0 ran.1 ran.2).world)
+          let run = ran.0 in
+          let it = made was opens run ran.1 ran.2 in
+          let listed = (it.hall.settled (subst (λ b. doubt b ≡ 0) (sym ran.5) was) it.serves).1 in
+          let holds : HoldsHall (changed change (world_of old.now.trees)) run.now.trees = (subst (λ (schema : Schema). IsSound schema run.now.trees) listed ran.4, it.world) in
+          inr (subst (HoldsHall (changed change (world_of old.now.trees))) ran.3 holds)
     ]

@@ -1,11 +1,12 @@
 -- From what a statement leaves to what the trait of stores says.
-use Rattle.std.proofs.Common.{◌≡◌, ℕ, List, Option, IsTrue, Result, Ok, Err, IfOk, sym, ap, subst, ◌∙◌, arith}
+use Rattle.std.proofs.Common.{◌≡◌, inl, ℕ, List, Option, IsTrue, Result, Ok, Err, IfOk, refl, sym, ap, subst, ◌∙◌, arith}
 use Rattle.sqlite_trees.specs.declared.store.Store.{Ghosts}
 use Rattle.sqlite.specs.Tree.{Trees}
 use Rattle.sqlite.specs.Held.{Held, state}
 use Rattle.sqlite.specs.Effect.{Database}
 use Rattle.sqlite.specs.Order.{Row}
-use Rattle.sqlite.specs.State.{State, HasCleanDisk}
+use Rattle.sqlite.specs.State.{State, HasCleanDisk, IsLive}
+use Rattle.sqlite_catalog.specs.Listing.{IsSound}
 use Rattle.hall_policy.specs.World.{World}
 use Rattle.hall_store.specs.Store.{IsSettled, Kept, Served}
 use Rattle.sqlite.specs.Schema.{Schema}
@@ -13,6 +14,7 @@ use Rattle.hall_sql.specs.Tables.{hall_schema}
 use Rattle.hall_sql.specs.Rows.{world_of}
 use Rattle.hall_sql.specs.Cause.{AreRead}
 use Rattle.hall_sql.specs.Whole.{AreRecords}
+use Rattle.hall_sql.specs.Stands.{HoldsHall, OpensTo, StandsFor}
 use Rattle.hall_sql.specs.Standing.{AreKeyedIn, IsHall, IsOver, IsTabled, Rested, RestedAny, RestedIn, StayedIn, content_of}
 use Rattle.hall_sql.proofs.LastLemmas.{follows_leads, last_then, quiet_then}
 
@@ -106,8 +108,18 @@ pub read_whole : {X : Type 0} (read : Row → Option X) (sql : List ℕ) (params
 read_whole read sql params old new records it =
     record { rows = it.1.rows; records = records; reads = it.1.reads; shown = it.1.shown }
 
+-- a database that lists the hall's tables opens to the world of its rows
+pub opens_hall : (world : World) (db : Trees) (left : World) → HoldsHall world db → OpensTo StandsFor db left → left ≡ world
+opens_hall world db left holds opens = opens world (inl (holds.0, sym holds.1))
+
+-- as an open store's does
+pub lists_hall : (s : State) → IsHall s → IsLive s → HasCleanDisk s → IsTrue s.is_open → IsSound hall_schema s.now.trees
+lists_hall s hall live clean opens = subst (λ (schema : Schema). IsSound schema s.now.trees) (hall.settled clean opens).1 (live opens).0
+
 -- at rest, while the store serves, a stop leaves its world
 pub settled_at : {S : Type 0} (g : Ghosts S) → ((s : S) (db : Trees) → IsTrue (g.view s).is_open → g.recovers s db → db ≡ (g.view s).committed)
-    → (held : Held S) → IsHall (state g held) → IsSettled (content_of (state g held))
-settled_at g law held hall clean opens left it =
-    it.2 ∙ ap world_of (law held.store it.0 opens it.1 ∙ sym (ap (λ (d : Database). d.trees) (hall.settled clean opens).0))
+    → (held : Held S) → IsHall (state g held) → IsLive (state g held) → IsSettled (content_of (state g held))
+settled_at g law held hall live clean opens left it =
+    let s = state g held in
+    let same : it.0 ≡ s.now.trees = law held.store it.0 opens it.1 ∙ sym (ap (λ (d : Database). d.trees) (hall.settled clean opens).0) in
+    opens_hall (world_of s.now.trees) it.0 left (subst (HoldsHall (world_of s.now.trees)) (sym same) (lists_hall s hall live clean opens, refl)) it.2

@@ -2,16 +2,20 @@
 use Rattle.std.proofs.Common.{◌≡◌, inl, inr, [], true, false, IsTrue, Ok, Err, refl, sym, ap, subst, ◌∙◌, arith}
 use Rattle.sqlite_trees.specs.declared.store.Store.{Ghosts}
 use Rattle.sqlite.specs.declared.error.Error.{Error}
-use Rattle.sqlite.specs.Effect.{Database}
+use Rattle.sqlite.specs.Effect.{Database, IsDatabase}
+use Rattle.sqlite_catalog.specs.Listing.{IsSound}
 use Rattle.sqlite.specs.Schema.{Schema}
 use Rattle.sqlite.specs.Held.{Held, state}
 use Rattle.sqlite.specs.Tree.{Trees}
-use Rattle.sqlite.specs.State.{State, HasCleanDisk, KeepsCounts, IsRolledBack, Shows, Survives}
+use Rattle.sqlite.specs.State.{State, HasCleanDisk, IsLive, KeepsCounts, IsRolledBack, Shows, Survives}
 use Rattle.sqlite.specs.Steps.{FailsToCommit}
 use Rattle.hall_store.specs.Store.{Leads}
+use Rattle.hall_store.specs.Change.{changed}
 use Rattle.hall_store.specs.declared.change.Change.{Change}
 use Rattle.hall_sql.specs.Rows.{world_of}
 use Rattle.hall_sql.specs.Spared.{may_write, Spares}
+use Rattle.hall_sql.specs.Stands.{HoldsHall}
+use Rattle.hall_sql.specs.Tables.{hall_schema}
 use Rattle.hall_sql.specs.Standing.{AddsNoOutcome, AddsOutcomes, Lasts, AreAllKeyed, IsHall, IsTabled, Rested, RestedIn, Stayed, Wrote, content_of, without_limit}
 use Rattle.hall_sql.specs.Inside.{IsHallData, Carries, Did, Changes}
 use Rattle.hall_sql.proofs.LastLemmas.{last_none, last_then, last_begun, quiet, quiet_none, quiet_then, survived}
@@ -86,18 +90,24 @@ module _ {S : Type 0} (g : Ghosts S) (held : Held S) (hall : IsHall (state g hel
   rolled_wrote change fault mid end carries survives ended rolled =
       rested_wrote change (state g held) end fault (rolled_rested mid end carries (survived mid end _ survives) (quiet mid end survives) ended rolled)
 
+  -- the tables as the calls left them are listed
+  done_lists : (Does : Database → Database → Type 0) (mid : State) → Did Does base mid → IsHallData base.now → IsDatabase base.now → IsSound hall_schema mid.now.trees
+  done_lists Does mid done ours sound = subst (λ (schema : Schema). IsSound schema mid.now.trees) (done.steps.hall ours).schema (done.steps.sound ours sound)
+
   -- what a commit of what was done may leave
-  pub commit_outcomes : (Does : Database → Database → Type 0) (mid end : State) → Carries base mid → (HasCleanDisk mid → IsTrue base.in_transaction → Did Does base mid)
+  pub commit_outcomes : IsLive (state g held) → (Does : Database → Database → Type 0) (mid end : State) → Carries base mid
+      → (HasCleanDisk mid → IsTrue base.in_transaction → Did Does base mid)
       → Survives mid end (λ db. db ≡ mid.now.trees) → IsTrue (state g held).is_open
-      → AddsOutcomes (λ db. (d : Database) × Does (state g held).now d × (db ≡ d.trees)) (state g held) end
-  commit_outcomes Does mid end carries did survives opens clean db may =
+      → AddsOutcomes (λ db. (d : Database) × Does (state g held).now d × IsSound hall_schema d.trees × (db ≡ d.trees)) (state g held) end
+  commit_outcomes live Does mid end carries did survives opens clean db may =
       let clean_mid : HasCleanDisk mid = omega (arith, survives.clean, clean) in
       let was : HasCleanDisk base = omega (arith, carries.lasts.clean, clean_mid) in
       elim (survives.crash clean db may) [
         | inl earlier ↦ inl (carries.stops clean_mid db earlier)
         | inr is ↦
             let ours : IsHallData base.now = record { schema = (hall.settled was opens).1; keyed = hall.keyed was opens } in
-            inr (mid.now, (did clean_mid refl).does ours, is)
+            let done = did clean_mid refl in
+            inr (mid.now, done.does ours, done_lists Does mid done ours (live opens).0, is)
       ]
 
   -- and where nothing was committed
@@ -107,39 +117,36 @@ module _ {S : Type 0} (g : Ghosts S) (held : Held S) (hall : IsHall (state g hel
       inl (carries.stops clean_mid db (quiet mid end survives clean db may))
 
   -- what a commit of the change may leave
-  commit_stops : (change : Change) (mid end : State) → Carries base mid → (HasCleanDisk mid → IsTrue base.in_transaction → Did (Changes change) base mid)
+  commit_stops : IsLive (state g held) → (change : Change) (mid end : State) → Carries base mid
+      → (HasCleanDisk mid → IsTrue base.in_transaction → Did (Changes change) base mid)
       → Survives mid end (λ db. db ≡ mid.now.trees) → StopsAt change (state g held) end
-  commit_stops change mid end carries did survives opens clean db may =
-      let clean_mid : HasCleanDisk mid = omega (arith, survives.clean, clean) in
-      let was : HasCleanDisk base = omega (arith, carries.lasts.clean, clean_mid) in
-      elim (survives.crash clean db may) [
-        | inl earlier ↦ inl (carries.stops clean_mid db earlier)
-        | inr is ↦
-            let ours : IsHallData base.now = record { schema = (hall.settled was opens).1; keyed = hall.keyed was opens } in
-            inr (ap world_of is ∙ ((did clean_mid refl).does ours).world)
+  commit_stops live change mid end carries did survives opens clean db may =
+      elim (commit_outcomes live (Changes change) mid end carries did survives opens clean db may) [
+        | inl earlier ↦ inl earlier
+        | inr made ↦ inr (subst (HoldsHall (changed change (world_of base.now.trees))) (sym made.3) (made.2, made.1.world))
       ]
 
   -- so it was where the commit was refused
-  pub refused_wrote : {R E : Type 0} (change : Change) (fault : E) (error : Error) (mid end : State)
+  pub refused_wrote : {R E : Type 0} → IsLive (state g held) → (change : Change) (fault : E) (error : Error) (mid end : State)
       → Carries base mid → (HasCleanDisk mid → IsTrue base.in_transaction → Did (Changes change) base mid)
       → Survives mid end (λ db. db ≡ mid.now.trees) → end.in_transaction ≡ false
       → (HasCleanDisk end → FailsToCommit mid end error) → Wrote {R = R} change (state g held) end (Err fault)
-  refused_wrote change fault error mid end carries did survives ended fails =
+  refused_wrote live change fault error mid end carries did survives ended fails =
       let lasts = survived mid end _ survives in
-      stayed_wrote change (state g held) end fault (commit_stops change mid end carries did survives) (rolled_stayed mid end carries lasts ended (λ clean.
+      stayed_wrote change (state g held) end fault (commit_stops live change mid end carries did survives) (rolled_stayed mid end carries lasts ended (λ clean.
       let was : HasCleanDisk mid = omega (arith, lasts.clean, clean) in
       commit_refused mid end error (did was refl).steps.mode (fails clean)))
 
   -- committed, the change is made
-  pub committed_wrote : {R E : Type 0} (change : Change) (done : R) (mid end : State)
+  pub committed_wrote : {R E : Type 0} → IsLive (state g held) → (change : Change) (done : R) (mid end : State)
       → Carries base mid → (HasCleanDisk mid → IsTrue base.in_transaction → Did (Changes change) base mid)
       → Survives mid end (λ db. db ≡ mid.now.trees) → end.in_transaction ≡ false
       → (HasCleanDisk end → IsTrue mid.in_transaction × Shows mid end mid.now mid.now false × KeepsCounts mid end × (end.marks ≡ []))
       → Wrote {E = E} change (state g held) end (Ok done)
-  committed_wrote change done mid end carries did survives ended ok =
+  committed_wrote live change done mid end carries did survives ended ok =
       let lasts = survived mid end _ survives in
       made_wrote change (state g held) end done hall (last_then (state g held) mid end (last_begun g held mid carries.lasts) lasts)
-      (commit_stops change mid end carries did survives) (λ was clean.
+      (commit_stops live change mid end carries did survives) (λ was clean.
       let clean_mid : HasCleanDisk mid = omega (arith, lasts.clean, clean) in
       let shown = (ok clean).1 in
       let opened = (carries.kept clean_mid refl).was_open shown.was_open in

@@ -16,11 +16,12 @@ use Rattle.hall_store.specs.declared.change.Change.{Change}
 use Rattle.hall_sql.specs.Tables.{hall_schema}
 use Rattle.hall_sql.specs.Rows.{world_of}
 use Rattle.hall_sql.specs.Spared.{may_write, Spares}
+use Rattle.hall_sql.specs.Stands.{HoldsHall}
 use Rattle.hall_sql.specs.Standing.{AddsNoOutcome, AddsOutcomes, Lasts, AreAllKeyed, IsHall, Rested, Stayed, HasMade, Wrote, without_limit, content_of}
 use Rattle.hall_store.proofs.Knowing.{leads_then}
 use Rattle.hall_sql.proofs.LastLemmas.{follows_leads}
 use Rattle.hall_sql.proofs.SparedLemmas.{same_spared}
-use Rattle.hall_sql.proofs.StoreLemmas.{rested_stayed, stays_on}
+use Rattle.hall_sql.proofs.StoreLemmas.{opens_hall, rested_stayed, stays_on}
 
 -- a write outside a transaction is committed
 pub writes_hall : (old new : State) (command : Command) (text : List ℕ) (given : Row) (count : ℕ) → old.in_transaction ≡ false
@@ -32,16 +33,16 @@ writes_hall old new command text given count mode w has keyed = record {
   settled = λ clean opens. (sym (w.shown.committed_is ∙ ap (λ b. if b then old.committed else new.now) mode), has);
 }
 
--- where the store served, a stop leaves what it could leave before, or tables of the world that the change makes
+-- where the store served, a stop leaves what it could leave before, or a hall of the world that the change makes
 abbrev pub StopsAt : Change → State → State → Type 0
-StopsAt change old new = IsTrue old.is_open → AddsOutcomes (λ db. world_of db ≡ changed change (world_of old.now.trees)) old new
+StopsAt change old new = IsTrue old.is_open → AddsOutcomes (HoldsHall (changed change (world_of old.now.trees))) old new
 
 -- so it is told of worlds
 pub stops_at : (change : Change) (old new : State) → StopsAt change old new → IsTrue old.is_open
     → LeavesOneOf (λ before left. left ≡ changed change before) (content_of old) (content_of new)
 stops_at change old new stops opens clean left it = elim (stops opens clean it.0 it.1) [
   | inl earlier ↦ inl (it.0, earlier, it.2)
-  | inr made ↦ inr (opens, it.2 ∙ made)
+  | inr made ↦ inr (opens, opens_hall (changed change (world_of old.now.trees)) it.0 left made it.2)
 ]
 
 -- and where no outcome was added

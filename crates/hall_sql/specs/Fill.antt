@@ -4,6 +4,7 @@ use Rattle.std.specs.FinMap.{get, insert}
 use Rattle.sqlite.specs.Effect.{Database}
 use Rattle.sqlite.specs.Order.{Row}
 use Rattle.sqlite.specs.Tree.{Trees}
+use Rattle.sqlite_catalog.specs.Listing.{IsSound}
 use Rattle.hall_grid.specs.Canonical.{CanonicalText}
 use Rattle.hall_policy.specs.Sink.{HasTaken}
 use Rattle.hall_policy.specs.World.{World}
@@ -89,6 +90,6 @@ pub record Fills (rows : Rows) (old new : Database) : Type 0 where
   pub answers : HasTaken AddsAnswer with_places rows.answers.items with_answers
   pub protests : HasTaken AddsProtest with_answers rows.protests.items new
 
--- the trees are those of a database to which all records were added
+-- the trees are those of a database to which all records were added, and list the hall's tables
 abbrev pub AreFilled : Rows → Database → Trees → Type 0
-AreFilled rows held db = (d : Database) × Fills rows held d × (db ≡ d.trees)
+AreFilled rows held db = (d : Database) × Fills rows held d × IsSound hall_schema d.trees × (db ≡ d.trees)

@@ -1,7 +1,7 @@
 -- What calls inside a transaction leave.
 use Rattle.std.specs.Prelude.{◌≡◌, [], ◌∷◌, None, IsTrue}
 use Rattle.std.specs.FinMap.{get, insert}
-use Rattle.sqlite.specs.Effect.{Database}
+use Rattle.sqlite.specs.Effect.{Database, IsDatabase}
 use Rattle.sqlite.specs.State.{State, HasCleanDisk, KeepsCommit}
 use Rattle.hall_policy.specs.World.{World}
 use Rattle.hall_policy.specs.declared.record.Person.{Person}
@@ -27,10 +27,11 @@ pub record Carries (old new : State) : Type 0 where
   pub kept : HasCleanDisk new → IsTrue old.in_transaction → KeepsCommit old new
   pub stops : AddsNoOutcome old new
 
--- Where it ran, the transaction goes on, over the hall's tables.
+-- Where it ran, the transaction goes on, over the hall's tables, and what it holds is a database as before.
 pub record Steps (old new : State) : Type 0 where
   pub mode : IsTrue new.in_transaction
   pub hall : IsHallData old.now → IsHallData new.now
+  pub sound : IsHallData old.now → IsDatabase old.now → IsDatabase new.now
 
 -- a call inside a transaction ran, and did this to the hall's tables
 pub record Did (Does : Database → Database → Type 0) (old new : State) : Type 0 where

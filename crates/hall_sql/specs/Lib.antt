@@ -2,6 +2,7 @@ pub mod Tables
 pub mod Values
 pub mod Rows
 pub mod Spared
+pub mod Stands
 pub mod Standing
 pub mod Statements
 pub mod Columns

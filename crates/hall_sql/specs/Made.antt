@@ -1,10 +1,10 @@
 -- The hall's tables made one after another, on a database with none.
-use Rattle.std.specs.Prelude.{◌≡◌, ℕ, false, List, [], ◌∷◌, IsTrue}
+use Rattle.std.specs.Prelude.{◌≡◌, ◌⊎◌, ℕ, false, List, [], ◌∷◌, IsTrue}
 use Rattle.std.specs.List.{AllByRecursion}
 use Rattle.sqlite.specs.Table.{Table}
 use Rattle.sqlite.specs.Schema.{Schema}
 use Rattle.sqlite.specs.Change.{created}
-use Rattle.sqlite.specs.Effect.{Database}
+use Rattle.sqlite.specs.Effect.{Database, IsDatabase}
 use Rattle.sqlite.specs.State.{State}
 use Rattle.hall_sql.specs.Standing.{IsBare}
 use Rattle.hall_sql.specs.declared.tables.HallTable.{HallTable}
@@ -58,8 +58,10 @@ pub record Awaits (tables : List HallTable) (held : Database) : Type 0 where
 pub record Grows (table : HallTable) (old new : State) : Type 0 where
   pub mode : IsTrue new.in_transaction
   pub made : (tables : List HallTable) → Awaits (table ∷ tables) old.now → Awaits tables new.now
+  pub sound : (tables : List HallTable) → Awaits (table ∷ tables) old.now → IsDatabase new.now
 
--- of the tables that were to be made, these are still to be made
+-- of the tables that were to be made, these are still to be made; once one was made, it is a database
 pub record HasGrown (tables rest : List HallTable) (old new : State) : Type 0 where
   pub mode : IsTrue new.in_transaction
   pub made : Awaits tables old.now → Awaits rest new.now
+  pub sound : Awaits tables old.now → (rest ≡ tables) ⊎ IsDatabase new.now

@@ -2,9 +2,11 @@
 use Rattle.std.specs.Prelude.{◌≡◌, ◌≢◌, ◌⊎◌, ◌+◌, ℕ, IfOk, IsTrue, Result, Ok, Err}
 use Rattle.std.specs.FinMap.{empty, len}
 use Rattle.sqlite.specs.State.{State, HasCleanDisk}
+use Rattle.sqlite.specs.Tree.{Trees}
+use Rattle.sqlite_catalog.specs.Listing.{IsSound}
 use Rattle.hall_policy.specs.World.{World}
 use Rattle.hall_store.specs.Maps.{empty_world}
-use Rattle.hall_store.specs.Store.{Content, Leads, LeavesOneOf}
+use Rattle.hall_store.specs.Store.{Content, Leads, LeavesNoOther, LeavesOneOf}
 use Rattle.hall_store.specs.declared.fault.StoreFault.{StoreFault}
 use Rattle.hall_sql.specs.declared.migration.Found.{Found}
 use Rattle.hall_sql.specs.declared.migration.Found.TheVariants.{Nothing, These, Others}
@@ -14,12 +16,21 @@ use Rattle.hall_sql.specs.declared.rows.Rows.{Rows}
 use Rattle.hall_sql.specs.AllRead.{AreAllRead}
 use Rattle.hall_sql.specs.Rows.{world_of}
 use Rattle.hall_sql.specs.Standing.{IsBare, Rested, RestedIn, Stayed, content_of}
+use Rattle.hall_sql.specs.Stands.{OpensTo}
 use Rattle.hall_sql.specs.Tables.{hall_schema, old_schema}
 use Rattle.hall_sql.specs.WholeRows.{AreRowsOf, without_testers}
 
+-- the database lists the tables of the first version, whose rows stand for the world
+abbrev pub StandsForOld : Trees → World → Type 0
+StandsForOld db world = IsSound old_schema db × (world ≡ without_testers (world_of db))
+
 -- The content of a connection with the tables of the version before: its world is what its tables hold, and no testers.
+-- A stop leaves the worlds to which an open of that version may open what it finds.
 abbrev pub old_content_of : State → Content
-old_content_of s = record (content_of s) { world = without_testers (content_of s).world }
+old_content_of s = record (content_of s) {
+  world = without_testers (content_of s).world;
+  may_leave = λ left. (db : Trees) × s.may_leave db × OpensTo StandsForOld db left;
+}
 
 -- how many rows a world without testers is
 abbrev pub row_count : World → ℕ
@@ -71,9 +82,10 @@ StopsAtWorld world old new = LeavesOneOf (λ before left. left ≡ world) (conte
 
 -- The tables of the source are as they were, and the target takes the source's world, or is left. What it takes is told
 -- where the devices of both were honest to the end; and where the source's was, each row of the source is a record, or
--- the migration fails. A stop leaves the source, and the target's world before or the source's.
+-- the migration fails. A stop leaves the source as it could be left before, and the target so, or with the source's world.
 pub record Migrates (was now before after : State) (result : Result Migrated StoreFault) : Type 0 where
   pub source : RestedIn old_schema was now
+  pub kept : LeavesNoOther (old_content_of was) (old_content_of now)
   pub read : HasCleanDisk now → IfOk result (λ _. AreAllRead old_schema was.now.trees)
   pub target : Leaves before after result
   pub stops : HasCleanDisk now → StopsAtWorld (without_testers (world_of was.now.trees)) before after

@@ -10,17 +10,16 @@ use Rattle.sqlite.specs.Start.{FindsIn}
 use Rattle.sqlite.specs.State.{State, HasCleanDisk, Opens, IsLive}
 use Rattle.sqlite.specs.Steps.{over_memory}
 use Rattle.sqlite.specs.declared.error.Error.{Error}
-use Rattle.sqlite_catalog.specs.Listing.{IsSound}
 use Rattle.hall_policy.specs.World.{World}
 use Rattle.hall_store.specs.Store.{Content}
 use Rattle.hall_store.specs.Maps.{empty_world}
 use Rattle.hall_store.specs.declared.fault.StoreFault.{StoreFault}
 use Rattle.hall_store.specs.declared.fault.StoreFault.TheVariants.{Failed}
 use Rattle.hall_sql.specs.AdoptCause.{AdoptFails, AdoptOldFails}
-use Rattle.hall_sql.specs.Tables.{no_schema, hall_schema, old_schema}
-use Rattle.hall_sql.specs.Rows.{world_of}
-use Rattle.hall_sql.specs.Standing.{HasAdopted, HasAdoptedOld, HasDeclined, content_of}
-use Rattle.hall_sql.specs.WholeRows.{without_testers}
+use Rattle.hall_sql.specs.Tables.{old_schema}
+use Rattle.hall_sql.specs.Standing.{AddsNoOutcome, HasAdopted, HasAdoptedOld, HasDeclined, MakesAtMost, content_of}
+use Rattle.hall_sql.specs.Stands.{StandsFor}
+use Rattle.hall_sql.specs.Migrate.{StandsForOld}
 use Rattle.hall_sql.specs.declared.open.OpenFault.{OpenFault}
 use Rattle.hall_sql.specs.declared.open.OpenFault.TheVariants.{Missing, Unopened, Old, Refused}
 
@@ -28,16 +27,6 @@ use Rattle.hall_sql.specs.declared.open.OpenFault.TheVariants.{Missing, Unopened
 pub record IsFound (image : Image) (s : State) : Type 0 where
   pub opened : HasCleanDisk s → Opens s × IsLive s
   pub found : HasCleanDisk s → FindsIn image s
-
--- The database lists the hall's tables, whose rows stand for the world; or it lists no table, and the world is empty.
-abbrev pub StandsFor : Trees → World → Type 0
-StandsFor db world =
-    (IsSound hall_schema db × (world ≡ world_of db))
-    ⊎ (IsSound no_schema db × (world ≡ empty_world))
-
--- the database lists the tables of the first version, whose rows stand for the world
-abbrev pub StandsForOld : Trees → World → Type 0
-StandsForOld db world = IsSound old_schema db × (world ≡ without_testers (world_of db))
 
 -- the log and the database file hold a database that stands for the world
 pub record HoldsWorld (image : Image) (world : World) : Type 0 where
@@ -80,8 +69,8 @@ abbrev pub OpensAt : {F S : Type 0} → Ghosts S → (List ℕ → Image) → (F
 OpensAt = OpensAs HasAdopted
 
 -- Asked for the database at the path alone, the files handed out the one that they held, which was refused for this cause,
--- and took it back as it was left.
-pub record IsHandedBack {F S : Type 0} (Cause : State → State → Type 0) (g : Ghosts S) (image_at : List ℕ → Image)
+-- and took it back as it was left, also by a stop.
+pub record IsHandedBack {F S : Type 0} (Stops Cause : State → State → Type 0) (g : Ghosts S) (image_at : List ℕ → Image)
     (opens : F → List ℕ → Held S → F → Type 0) (closes : F → Held S → F → Type 0) (old : F) (path : List ℕ) (new : F)
     : Type 0 where
   pub was : Held S
@@ -90,6 +79,7 @@ pub record IsHandedBack {F S : Type 0} (Cause : State → State → Type 0) (g :
   pub opened : opens old path was between
   pub found : IsFound (image_at path) (state g was)
   pub declined : HasDeclined (state g was) (state g left)
+  pub stops : Stops (state g was) (state g left)
   pub cause : HasCleanDisk (state g left) → Cause (state g was) (state g left)
   pub closed : closes between left new
 
@@ -111,9 +101,9 @@ abbrev pub IsCauseAt : {F S : Type 0} → Ghosts S → (List ℕ → Image) → 
 IsCauseAt g image_at refuses opens closes old path new Missing = ⊥
 IsCauseAt g image_at refuses opens closes old path new (Unopened error) = refuses old path error new
 IsCauseAt g image_at refuses opens closes old path new Old =
-    IsHandedBack WasOld g image_at opens closes old path new
+    IsHandedBack MakesAtMost WasOld g image_at opens closes old path new
 IsCauseAt g image_at refuses opens closes old path new (Refused fault) =
-    IsHandedBack (IsRefusedBy fault) g image_at opens closes old path new
+    IsHandedBack MakesAtMost (IsRefusedBy fault) g image_at opens closes old path new
 
 -- the files told that there is a file at the path, and then handed out the database, of which this became
 abbrev pub OpensThere : {F S : Type 0} → Ghosts S → (List ℕ → Image) → (F → List ℕ → Bool → F → Type 0)
@@ -140,12 +130,13 @@ IsOldAsked {F} g image_at tells refuses opens closes old path (Ok (Some held)) n
 IsOldAsked {F} g image_at tells refuses opens closes old path (Ok None) new =
     tells old path true new
     ⊎ ((there : F) × tells old path false there
-    × IsHandedBack WasNotOld g image_at opens closes there path new)
+    × IsHandedBack AddsNoOutcome WasNotOld g image_at opens closes there path new)
 IsOldAsked {F} g image_at tells refuses opens closes old path (Err (Unopened error)) new =
     (there : F) × tells old path false there × refuses there path error new
 IsOldAsked {F} g image_at tells refuses opens closes old path (Err (Refused fault)) new =
     (there : F) × tells old path false there
-    × IsHandedBack (λ was left. fault ≡ Failed → AdoptOldFails was left) g image_at opens closes there path new
+    × IsHandedBack AddsNoOutcome (λ was left. fault ≡ Failed → AdoptOldFails was left) g image_at opens closes there
+    path new
 IsOldAsked g image_at tells refuses opens closes old path (Err other) new = ⊥
 
 -- ---- what the definitions give

@@ -7,7 +7,7 @@ use Rattle.sqlite_rules.specs.Edit.{next_rowid}
 use Rattle.sqlite.specs.declared.types.Value.{Value}
 use Rattle.sqlite.specs.declared.types.Value.TheVariants.{Int}
 use Rattle.sqlite.specs.Order.{Row}
-use Rattle.sqlite.specs.Effect.{Database}
+use Rattle.sqlite.specs.Effect.{Database, IsDatabase}
 use Rattle.sqlite.specs.State.{State}
 use Rattle.hall_policy.specs.World.{place_cmp, tester_cmp}
 use Rattle.hall_policy.specs.declared.record.Entry.{Entry}
@@ -42,6 +42,7 @@ pub record PutsHead (round : Round) (old new : Database) : Type 0 where
 -- a call inside a transaction ran, and put the head where so many rows stood under its id
 pub record PutsHeadOver (count : ℕ) (round : Round) (old new : State) : Type 0 where
   pub mode : IsTrue new.in_transaction
+  pub sound : IsHallData old.now → IsDatabase new.now
   pub puts : IsHallData old.now → HasSoManyHeads round.id old.now count →
       IsHallData new.now × PutsHead round old.now new.now
 

@@ -21,6 +21,7 @@ use Rattle.hall_store.specs.declared.change.Change.{Change}
 use Rattle.hall_sql.specs.Tables.{no_schema, hall_schema, old_schema}
 use Rattle.hall_sql.specs.Rows.{world_of}
 use Rattle.hall_sql.specs.Spared.{may_write, Spares}
+use Rattle.hall_sql.specs.Stands.{IsBareHall, OpensTo, StandsFor}
 
 -- the rowids of the two rows differ
 abbrev pub Apart : Row → Row → Type 0
@@ -123,8 +124,8 @@ pub record IsSelection (q : Query) (table : List Row) (params : Row) (rows : Lis
   pub shown : rows ≡ map (λ row. eval_all q.project (params ∷ row ∷ [])) found
 
 -- The content of a connection: it is honest while its disk is clean, serves while it is open, counts the disk's faults
--- and no writes, and its world is what its tables hold. A stop leaves the worlds of the databases that the next open may
--- find.
+-- and no writes, and its world is what its tables hold. A stop leaves the worlds to which the next open may open what it
+-- finds.
 abbrev pub content_of : State → Content
 content_of s = record {
   honest = HasCleanDisk s;
@@ -132,7 +133,7 @@ content_of s = record {
   faults = s.faults;
   writes = 0;
   world = world_of s.now.trees;
-  may_leave = λ left. (db : Trees) × s.may_leave db × (left ≡ world_of db);
+  may_leave = λ left. (db : Trees) × s.may_leave db × OpensTo StandsFor db left;
 }
 
 -- the table in this tree has one row more, with a rowid of its own, and each other table is as it was
@@ -184,14 +185,20 @@ StoodOrEmpty old new =
     ((old.now.schema ≡ hall_schema) × (new.now ≡ old.now))
     ⊎ ((old.now.schema ≡ no_schema) × IsBare hall_schema new.now)
 
+-- A stop in the call, or after it, leaves a database that a stop before it could leave; or there was no table, and it
+-- leaves the hall's, all of them, without a row.
+abbrev pub MakesAtMost : State → State → Type 0
+MakesAtMost old new = AddsOutcomes (λ db. (old.now.schema ≡ no_schema) × IsBareHall db) old new
+
 -- The tables of a connection on which no transaction was open became those of the schema, in this way, with no limit on
--- the steps of a query any more.
+-- the steps of a query any more. So where they stood, a stop leaves what it could leave before.
 pub record HasAdoptedIn (schema : Schema) (Stood : State → State → Type 0) (old new : State) : Type 0 where
   pub alone : old.in_transaction ≡ false
   pub hall : IsTabled schema new
   pub follows : Follows (without_limit old) new
   pub serves : HasCleanDisk new → IsTrue new.is_open
   pub stood : HasCleanDisk new → Stood old new
+  pub stops : MakesAtMost old new
 
 -- a hall's tables stood or were made
 abbrev pub HasAdopted : State → State → Type 0

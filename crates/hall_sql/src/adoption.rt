@@ -4,7 +4,7 @@ ghost use Rattle.sqlite.specs.Held.{state};
 ghost use Rattle.sqlite.specs.State.{HasCleanDisk};
 ghost use Rattle.hall_store.specs.Store.{Fails};
 ghost use Rattle.hall_sql.specs.Tables.{no_schema};
-ghost use Rattle.hall_sql.specs.Standing.{Adopts, AdoptsOld, Readies, ReadiesOld};
+ghost use Rattle.hall_sql.specs.Standing.{AddsNoOutcome, Adopts, AdoptsOld, MakesAtMost, Readies, ReadiesOld};
 ghost use Rattle.hall_sql.specs.AdoptCause.{AdoptFails, AdoptOldFails};
 
 use crate::make::make;
@@ -26,6 +26,7 @@ fn has_nothing(schema: &Schema) -> bool
 /// Makes the hall's tables where there is none, and looks through them where they stand.
 fn ready<S: Alter>(conn: &mut Connection<S>) -> Result<(), StoreFault>
     ensures readies { Readies (state S.Store conn.old) (state S.Store conn.new) result }
+    ensures stops { MakesAtMost (state S.Store conn.old) (state S.Store conn.new) }
     ensures cause { HasCleanDisk (state S.Store conn.new)
         → Fails (AdoptFails (state S.Store conn.old) (state S.Store conn.new)) result }
 {
@@ -46,6 +47,7 @@ fn ready<S: Alter>(conn: &mut Connection<S>) -> Result<(), StoreFault>
 /// on the steps of a query any more.
 pub fn adopt<S: Alter>(conn: &mut Connection<S>) -> Result<(), StoreFault>
     ensures adopts { Adopts (state S.Store conn.old) (state S.Store conn.new) result }
+    ensures stops { MakesAtMost (state S.Store conn.old) (state S.Store conn.new) }
     ensures cause { HasCleanDisk (state S.Store conn.new)
         → Fails (AdoptFails (state S.Store conn.old) (state S.Store conn.new)) result }
 {
@@ -61,6 +63,7 @@ pub fn adopt<S: Alter>(conn: &mut Connection<S>) -> Result<(), StoreFault>
 /// Looks through the tables of the version before, where they stand.
 fn ready_old<S: Alter>(conn: &mut Connection<S>) -> Result<bool, StoreFault>
     ensures readies { ReadiesOld (state S.Store conn.old) (state S.Store conn.new) result }
+    ensures stops { AddsNoOutcome (state S.Store conn.old) (state S.Store conn.new) }
     ensures cause { HasCleanDisk (state S.Store conn.new)
         → Fails (AdoptOldFails (state S.Store conn.old) (state S.Store conn.new)) result }
 {
@@ -81,6 +84,7 @@ fn ready_old<S: Alter>(conn: &mut Connection<S>) -> Result<bool, StoreFault>
 /// limit on the steps of a query any more.
 pub fn adopt_old<S: Alter>(conn: &mut Connection<S>) -> Result<bool, StoreFault>
     ensures adopts { AdoptsOld (state S.Store conn.old) (state S.Store conn.new) result }
+    ensures stops { AddsNoOutcome (state S.Store conn.old) (state S.Store conn.new) }
     ensures cause { HasCleanDisk (state S.Store conn.new)
         → Fails (AdoptOldFails (state S.Store conn.old) (state S.Store conn.new)) result }
 {

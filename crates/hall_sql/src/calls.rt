@@ -4,7 +4,7 @@ ghost use Rattle.sqlite.specs.Values.{bound};
 ghost use Rattle.sqlite.specs.Held.{state};
 ghost use Rattle.sqlite.specs.Given.{IsPlain};
 ghost use Rattle.sqlite.specs.Listing.{understood};
-ghost use Rattle.sqlite.specs.State.{HasCleanDisk, Shown, Executes, FailsToQuery, Survives, CommitsBy};
+ghost use Rattle.sqlite.specs.State.{HasCleanDisk, IsLive, Shown, Executes, FailsToQuery, Survives, CommitsBy};
 ghost use Rattle.sqlite.specs.declared.error.Error.{Error as Refusal};
 ghost use Rattle.sqlite.specs.declared.error.Error.TheVariants.{SqliteFailure};
 ghost use Rattle.sqlite.specs.declared.error.ErrorCode.TheVariants.{OutOfMemory};
@@ -27,6 +27,13 @@ pub(crate) fn fault_of(error: &Error) -> StoreFault
         Error::SqliteFailure(ErrorCode::OutOfMemory) => StoreFault::Memory,
         _ => StoreFault::Failed,
     }
+}
+
+/// Tells a proof that an open connection holds a database.
+pub(crate) fn live<S: Alter>(conn: &Connection<S>)
+    ensures { IsLive (state S.Store conn.now) }
+{
+    let _schema = conn.schema();
 }
 
 /// All rows of a query, which changes nothing.

@@ -9,7 +9,7 @@ ghost use Rattle.hall_sql.specs.Fill.{AreFilled, AddsAnswer, AddsHead, AddsPlace
 ghost use Rattle.hall_sql.specs.Inside.{Carries, Did};
 ghost use Rattle.hall_sql.specs.Standing.{AddsOutcomes, IsHall, Stayed, content_of};
 
-use crate::calls::fault_of;
+use crate::calls::{fault_of, live};
 use crate::people::add_person;
 use crate::record::Place;
 use crate::round_writes::{put_new, put_place};
@@ -139,6 +139,7 @@ pub(crate) fn fill<S: Alter>(
     if !conn.is_autocommit() {
         return Err(StoreFault::Failed);
     }
+    live(conn);
     let mut tx = conn.transaction();
     fill_inside(&mut tx, alloc, rows)?;
     match tx.commit() {

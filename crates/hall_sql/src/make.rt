@@ -4,7 +4,7 @@ ghost use Rattle.sqlite.specs.Held.{state};
 ghost use Rattle.sqlite.specs.State.{HasCleanDisk};
 ghost use Rattle.hall_sql.specs.Inside.{Carries};
 ghost use Rattle.hall_sql.specs.Tables.{no_schema};
-ghost use Rattle.hall_sql.specs.Standing.{Readies};
+ghost use Rattle.hall_sql.specs.Standing.{MakesAtMost, Readies};
 ghost use Rattle.hall_sql.specs.Made.{Awaits, Grows, HasGrown, schema_before};
 ghost use Rattle.hall_sql.specs.Cause.{IsStoreCause};
 ghost use Rattle.hall_store.specs.Store.{Fails};
@@ -54,6 +54,7 @@ pub(crate) fn make<S: Alter>(conn: &mut Connection<S>) -> Result<(), StoreFault>
         → (state S.Store conn.old).now ≡ (state S.Store conn.old).committed }
     requires bare { conn.old.schema ≡ no_schema }
     ensures readies { Readies (state S.Store conn.old) (state S.Store conn.new) result }
+    ensures stops { MakesAtMost (state S.Store conn.old) (state S.Store conn.new) }
     ensures cause { HasCleanDisk (state S.Store conn.new)
         → Fails (IsStoreCause (state S.Store conn.old) (state S.Store conn.new)) result }
 {

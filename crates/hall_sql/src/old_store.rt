@@ -2,17 +2,18 @@
 ghost use Rattle.std.specs.Prelude.{◌≡◌, IfOk, IfErr};
 ghost use Rattle.sqlite.specs.Held.{state};
 ghost use Rattle.sqlite.specs.State.{HasCleanDisk};
-ghost use Rattle.hall_store.specs.Store.{Served};
+ghost use Rattle.hall_store.specs.Store.{IsSettled, Served};
 ghost use Rattle.hall_store.specs.declared.fault.StoreFault.TheVariants.{Failed};
 ghost use Rattle.hall_sql.specs.AdoptCause.{AdoptOldFails};
 ghost use Rattle.hall_sql.specs.AllRead.{AreAllRead};
 ghost use Rattle.hall_sql.specs.Migrate.{old_content_of};
 ghost use Rattle.hall_sql.specs.OldStore.{IsTaken};
-ghost use Rattle.hall_sql.specs.Standing.{HasDeclined, IsTabled, RestedIn};
+ghost use Rattle.hall_sql.specs.Standing.{AddsNoOutcome, HasDeclined, IsTabled, RestedIn};
 ghost use Rattle.hall_sql.specs.Tables.{old_schema};
 ghost use Rattle.hall_sql.specs.WholeRows.{AreRowsOf};
 
 use crate::adoption::adopt_old;
+use crate::calls::live;
 use crate::rows::{Rows, read_rows};
 use crate::sql_store::Declined;
 use hall_store::StoreFault;
@@ -55,6 +56,7 @@ impl<S: Alter + Drop> OldStore<S> {
     pub fn over(mut conn: Connection<S>) -> Result<Taken<S>, Declined<S>>
         ensures taken { IfOk result (IsTaken S.Store conn) }
         ensures declined { IfErr result (λ declined. HasDeclined (state S.Store conn) (state S.Store declined.conn)) }
+        ensures stops { IfErr result (λ declined. AddsNoOutcome (state S.Store conn) (state S.Store declined.conn)) }
         ensures cause { IfErr result (λ declined. HasCleanDisk (state S.Store declined.conn) → declined.fault ≡ Failed
             → AdoptOldFails (state S.Store conn) (state S.Store declined.conn)) }
     {
@@ -78,6 +80,14 @@ impl<S: Alter + Drop> OldStore<S> {
         ensures { IsTabled old_schema (state S.Store self.now) }
     {
         let _conn = &self.conn;
+    }
+
+    /// Tells a proof that a stop leaves its world, while it serves.
+    pub fn at_rest(&self)
+        ensures { IsSettled (old_content_of (state S.Store self.now)) }
+    {
+        self.in_old_hall();
+        live(&self.conn);
     }
 
     /// All rows of the tables.

@@ -7,7 +7,7 @@ ghost use Rattle.hall_store.specs.Store.{Fails};
 ghost use Rattle.hall_sql.specs.Tables.{hall_schema};
 ghost use Rattle.hall_sql.specs.Standing.{IsBare, content_of};
 ghost use Rattle.hall_sql.specs.Migrate.{old_content_of};
-ghost use Rattle.hall_sql.specs.Stopped.{IsAtRest, StopsAreFound, StopsFind};
+ghost use Rattle.hall_sql.specs.Stopped.{IsAtRest, StopsAreFound, StopsFind, StopsHold, StopsLeave};
 ghost use Rattle.hall_sql.specs.Rows.{world_of};
 ghost use Rattle.sqlite.specs.Files.{file_state};
 ghost use Rattle.sqlite_store.specs.FileStore.{view};
@@ -200,9 +200,12 @@ fn at_rest<S: Alter + Drop>(store: &SqlStore<S>)
 }
 
 /// Lets go of the store. Where the device was honest, the world that is found in the files as a stop leaves them is one
-/// that a stop might leave of the store; and while it serves, it is the store's own.
+/// that a stop might leave of the store; and while it serves, they hold the store's own world, and no other.
 pub fn let_go<D: Disk + Drop>(store: SqlStore<FileStore<D>>) -> FileStore<D>
     ensures stopped { IsClean (view result) → StopsAreFound result (file_state store) }
+    ensures left { IsClean (view result) → StopsLeave result (content_of (file_state store)) }
+    ensures holds { IsClean (view result) → IsTrue (file_state store).is_open
+        → StopsHold result (world_of (file_state store).now.trees) }
     ensures rested { IsClean (view result) → IsTrue (file_state store).is_open
         → StopsFind result (world_of (file_state store).now.trees) }
 {

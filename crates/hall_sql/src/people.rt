@@ -17,7 +17,7 @@ ghost use Rattle.hall_sql.specs.Versions.{IsAnyHall};
 ghost use Rattle.hall_sql.specs.WriteCause.{RunFails, IsUnfound, ImportsOne, PersonIsRefused, ImportFails};
 ghost use Rattle.hall_sql.specs.WriteCause.{InsideFails};
 
-use crate::calls::{ask_in, fault_of, run_in};
+use crate::calls::{ask_in, fault_of, live, run_in};
 use crate::reads::{find, read_any};
 use crate::record::{at_most_one, read_all};
 use hall_policy::{Key, Name, People, Person, SomeRoles};
@@ -211,6 +211,7 @@ pub(crate) fn import<S: Alter>(
     if !conn.is_autocommit() {
         return Err(StoreFault::Failed);
     }
+    live(conn);
     let mut tx = conn.transaction();
     import_all(&mut tx, alloc, people.as_slice())?;
     match tx.commit() {

@@ -20,7 +20,7 @@ ghost use Rattle.hall_sql.specs.Cause.{IsStoreCause};
 ghost use Rattle.hall_sql.specs.WriteCause.{RunFails, SetFlagFails, PutRoundFails, InsideFails};
 ghost use Rattle.hall_sql.specs.WriteCause.{IsHeadRefused, PlaceIsRefused, ListIsRefused};
 
-use crate::calls::{ask_in, fault_of, run, run_in};
+use crate::calls::{ask_in, fault_of, live, run, run_in};
 use crate::rounds::head;
 use crate::testers::put_tester_list;
 use hall_policy::{Entry, Mode, Round, RoundId, RoundRow};
@@ -341,6 +341,7 @@ pub(crate) fn put_round<S: Alter>(
     if !conn.is_autocommit() {
         return Err(StoreFault::Failed);
     }
+    live(conn);
     let mut tx = conn.transaction();
     put_inside(&mut tx, row)?;
     match tx.commit() {

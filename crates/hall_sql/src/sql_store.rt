@@ -7,13 +7,14 @@ ghost use Rattle.hall_policy.specs.World.{World};
 ghost use Rattle.hall_store.specs.declared.fault.StoreFault.TheVariants.{Failed};
 ghost use Rattle.hall_sql.specs.AdoptCause.{AdoptFails};
 ghost use Rattle.hall_sql.specs.Migrate.{Leaves, StopsAtWorld, Takes};
-ghost use Rattle.hall_sql.specs.Standing.{HasAdopted, HasDeclined, IsHall};
+ghost use Rattle.hall_sql.specs.Standing.{HasAdopted, HasDeclined, IsHall, MakesAtMost};
 ghost use Rattle.hall_sql.specs.WholeRows.{AreRowsOf};
 
 use crate::adoption::adopt;
 use crate::answers::{
     add_answer, answer, answers_given, answers_in, answers_of, has_answered, is_number_taken,
 };
+use crate::calls::live;
 use crate::feed::{feed_answers, feed_protests};
 use crate::migration::{Migrated, take_rows};
 use crate::people::{all_people, import, person, person_by_key};
@@ -66,6 +67,7 @@ impl<S: Alter + Drop> SqlStore<S> {
     pub fn over(mut conn: Connection<S>) -> Result<SqlStore<S>, Declined<S>>
         ensures adopted { IfOk result (λ store. HasAdopted (state S.Store conn) (state S.Store store)) }
         ensures declined { IfErr result (λ declined. HasDeclined (state S.Store conn) (state S.Store declined.conn)) }
+        ensures stops { IfErr result (λ declined. MakesAtMost (state S.Store conn) (state S.Store declined.conn)) }
         ensures cause { IfErr result (λ declined. HasCleanDisk (state S.Store declined.conn) → declined.fault ≡ Failed
             → AdoptFails (state S.Store conn) (state S.Store declined.conn)) }
     {
@@ -133,6 +135,7 @@ impl<S: Alter + Drop> ReadStore for SqlStore<S> {
 
     fn at_rest(&self) {
         self.in_hall();
+        live(&self.conn);
     }
 
     fn person_by_key(&mut self, alloc: Global, key: &Key) -> Result<Option<Person>, StoreFault>

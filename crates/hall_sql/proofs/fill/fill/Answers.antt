@@ -25,7 +25,7 @@ returns-in-Ok-clause-stops g c =
     let old = state g.S.Store c.args.conn.now in
     let Among = AreFilled c.args.rows.now old.now in
     subst (λ h. IsTrue old.is_open → AddsOutcomes Among old (state g.S.Store h)) (sym same)
-    (commit_outcomes g.S.Store c.args.conn.now c.requires.hall (Fills c.args.rows.now) (state g.S.Store c.fill_inside.new.tx.conn.now) (state g.S.Store c.commit.new.self.0)
+    (commit_outcomes g.S.Store c.args.conn.now c.requires.hall c.live.ensures (Fills c.args.rows.now) (state g.S.Store c.fill_inside.new.tx.conn.now) (state g.S.Store c.commit.new.self.0)
     it.carries it.done c.in-Ok.ensures.survives)
 
 pub returns-in-Err-clause-stops : goal.returns-in-Err-clause-stops
@@ -35,7 +35,7 @@ returns-in-Err-clause-stops g c =
     let old = state g.S.Store c.args.conn.now in
     let Among = AreFilled c.args.rows.now old.now in
     subst (λ h. IsTrue old.is_open → AddsOutcomes Among old (state g.S.Store h)) (sym same)
-    (commit_outcomes g.S.Store c.args.conn.now c.requires.hall (Fills c.args.rows.now) (state g.S.Store c.fill_inside.new.tx.conn.now) (state g.S.Store c.commit.new.self.0)
+    (commit_outcomes g.S.Store c.args.conn.now c.requires.hall c.live.ensures (Fills c.args.rows.now) (state g.S.Store c.fill_inside.new.tx.conn.now) (state g.S.Store c.commit.new.self.0)
     it.carries it.done c.in-Err.ensures.survives)
 
 pub returns-in_err-fill_inside-clause-stops : goal.returns-in_err-fill_inside-clause-stops

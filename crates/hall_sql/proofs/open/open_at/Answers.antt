@@ -15,6 +15,7 @@ returns-then-is_old-clause-cause g c = record {
   opened = c.in-Ok.ensures.opened;
   found = c.in-Ok.ensures.found;
   declined = c.in-Err-over.ensures.declined;
+  stops = c.in-Err-over.ensures.stops;
   cause = λ clean. search rules;
   closed = search rules;
 }
@@ -27,6 +28,7 @@ returns-else-is_old-clause-cause g c = record {
   opened = c.in-Ok.ensures.opened;
   found = c.in-Ok.ensures.found;
   declined = c.in-Err-over.ensures.declined;
+  stops = c.in-Err-over.ensures.stops;
   cause = λ clean. (search rules, c.in-Err-over.ensures.cause clean);
   closed = search rules;
 }

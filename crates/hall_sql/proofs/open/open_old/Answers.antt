@@ -33,7 +33,8 @@ returns-in-Ok-Other-clause-asked g c =
         opened = c.in-Ok.ensures.opened;
         found = c.in-Ok.ensures.found;
         declined = taken.0;
-        cause = taken.1;
+        stops = taken.1;
+        cause = taken.2;
         closed = search rules;
       },
     )

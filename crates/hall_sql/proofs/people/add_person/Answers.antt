@@ -1,6 +1,9 @@
+use Rattle.std.proofs.Common.{sym, subst}
 use Rattle.sqlite.specs.Held.{state}
 use Rattle.hall_sql.specs.Inside.{AddsPerson}
-use Rattle.hall_sql.proofs.InsideLemmas.{did}
+use Rattle.hall_sql.proofs.InsideLemmas.{did_run}
+use Rattle.hall_sql.proofs.PeopleTexts.{add_person_is}
+use Rattle.hall_sql.proofs.SoundLemmas.{IsRowWrite}
 use Rattle.hall_sql.proofs.PeopleWrites.{person_added}
 use Rattle.hall_sql.specs.declared.people.TheConstants.{ADD_PERSON}
 use Rattle.hall_sql.proofs.CauseLemmas.{fails_as}
@@ -12,9 +15,10 @@ use Rattle.hall_sql.proofs.people.add_person.Goals as goal
 pub returns-clause-done : goal.returns-clause-done
 returns-clause-done g c clean inside =
     let it = c.in_ok-run_in.ensures in
-    did (AddsPerson c.args.person.now) (state g.S.Store c.args.tx.now.conn.now) (state g.S.Store c.run_in.new.tx.conn.now) (it.mode clean inside)
-    (person_added c.args.person.now c.in_range.ensures _ _ _
-    (rw (c.params-to_sql.ensures, c.params-to_sql-2.ensures, c.params-to_sql-3.ensures, c.as_str.ensures.text, c.as_str-2.ensures.text, c.roles_code.ensures) at (it.runs clean inside)))
+    let ran = rw (c.params-to_sql.ensures, c.params-to_sql-2.ensures, c.params-to_sql-3.ensures, c.as_str.ensures.text, c.as_str-2.ensures.text, c.roles_code.ensures)
+    at (it.runs clean inside) in
+    did_run (AddsPerson c.args.person.now) ADD_PERSON.now (person_params c.args.person.now) (state g.S.Store c.args.tx.now.conn.now) (state g.S.Store c.run_in.new.tx.conn.now) _ add_person_is.1 (subst IsRowWrite (sym add_person_is.0) tt) (it.mode clean inside) ran
+    (person_added c.args.person.now c.in_range.ensures _ _ _ ran)
 
 pub returns-in_err-run_in-clause-cause : goal.returns-in_err-run_in-clause-cause
 returns-in_err-run_in-clause-cause g c clean goes =

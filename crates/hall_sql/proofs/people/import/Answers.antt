@@ -18,7 +18,7 @@ returns-in-Ok-clause-wrote g c =
     let it = rw (c.transaction-tx.ensures.begun, c.as_slice.ensures.value) at c.in_ok-import_all.ensures in
     let end = state g.S.Store c.commit.new.self.0 in
     subst (λ h. Wrote {R = Unit} {E = StoreFault} (Import c.args.people.now) (state g.S.Store c.args.conn.now) (state g.S.Store h) (Ok tt)) (sym same)
-    (committed_wrote g.S.Store c.args.conn.now c.requires.hall (Import c.args.people.now) tt (state g.S.Store c.import_all.new.tx.conn.now) end
+    (committed_wrote g.S.Store c.args.conn.now c.requires.hall c.live.ensures (Import c.args.people.now) tt (state g.S.Store c.import_all.new.tx.conn.now) end
     it.carries it.done c.in-Ok.ensures.survives c.in-Ok.ensures.ended c.in-Ok.ensures.ok)
 
 pub returns-in-Err-clause-wrote : goal.returns-in-Err-clause-wrote
@@ -27,7 +27,7 @@ returns-in-Err-clause-wrote g c =
     let it = rw (c.transaction-tx.ensures.begun, c.as_slice.ensures.value) at c.in_ok-import_all.ensures in
     let end = state g.S.Store c.commit.new.self.0 in
     subst (λ h. Wrote {R = Unit} {E = StoreFault} (Import c.args.people.now) (state g.S.Store c.args.conn.now) (state g.S.Store h) (Err c.fault_of.result)) (sym same)
-    (refused_wrote g.S.Store c.args.conn.now c.requires.hall (Import c.args.people.now) c.fault_of.result c.in-Err.error (state g.S.Store c.import_all.new.tx.conn.now) end
+    (refused_wrote g.S.Store c.args.conn.now c.requires.hall c.live.ensures (Import c.args.people.now) c.fault_of.result c.in-Err.error (state g.S.Store c.import_all.new.tx.conn.now) end
     it.carries it.done c.in-Err.ensures.survives c.in-Err.ensures.ended c.in-Err.ensures.err)
 
 pub returns-in-Err-clause-cause : goal.returns-in-Err-clause-cause

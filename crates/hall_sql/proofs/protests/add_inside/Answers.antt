@@ -1,11 +1,17 @@
+use Rattle.std.proofs.Common.{sym, subst}
 use Rattle.sqlite.specs.Held.{state}
 use Rattle.hall_sql.specs.Fill.{AddsProtest}
-use Rattle.hall_sql.proofs.InsideLemmas.{did}
+use Rattle.hall_sql.proofs.InsideLemmas.{did_run}
+use Rattle.hall_sql.specs.declared.protests.TheConstants.{ADD_PROTEST}
+use Rattle.hall_sql.proofs.ProtestTexts.{add_protest_is}
+use Rattle.hall_sql.proofs.SoundLemmas.{IsRowWrite}
+use Rattle.hall_sql.specs.Columns.{protest_params}
 use Rattle.hall_sql.proofs.ProtestWrites.{protest_put}
 use Rattle.hall_sql.proofs.protests.add_inside.Goals as goal
 
 pub returns-clause-done : goal.returns-clause-done
 returns-clause-done g c clean inside =
     let it = c.in_ok-run_in.ensures in
-    did (λ a b. AddsProtest a c.args.row.now b) (state g.S.Store c.args.tx.now.conn.now) (state g.S.Store c.run_in.new.tx.conn.now) (it.mode clean inside)
-    (protest_put c.args.row.now c.in_range.ensures _ _ _ (rw c.columns.ensures at (it.runs clean inside)))
+    let ran = rw c.columns.ensures at (it.runs clean inside) in
+    did_run (λ a b. AddsProtest a c.args.row.now b) ADD_PROTEST.now (protest_params c.args.row.now) (state g.S.Store c.args.tx.now.conn.now) (state g.S.Store c.run_in.new.tx.conn.now) _ add_protest_is.1 (subst IsRowWrite (sym add_protest_is.0) tt) (it.mode clean inside) ran
+    (protest_put c.args.row.now c.in_range.ensures _ _ _ ran)

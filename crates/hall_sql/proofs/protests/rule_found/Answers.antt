@@ -2,7 +2,8 @@ use Rattle.sqlite.specs.Held.{state}
 use Rattle.hall_store.specs.declared.change.Change.TheVariants.{RuleProtest}
 use Rattle.hall_sql.proofs.ProtestWrites.{protest_ruled}
 use Rattle.hall_sql.proofs.WriteLemmas.{made_wrote, stayed_wrote}
-use Rattle.hall_sql.proofs.StopLemmas.{IsRowWrite, stops_made}
+use Rattle.hall_sql.proofs.SoundLemmas.{IsRowWrite}
+use Rattle.hall_sql.proofs.StopLemmas.{stops_made}
 use Rattle.hall_sql.proofs.ProtestTexts.{rule_protest_is}
 use Rattle.std.proofs.Common.{arith, Some, sym, subst}
 use Rattle.sqlite.specs.State.{HasCleanDisk}

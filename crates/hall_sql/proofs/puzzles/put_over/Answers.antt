@@ -2,7 +2,8 @@ use Rattle.sqlite.specs.Held.{state}
 use Rattle.hall_store.specs.declared.change.Change.TheVariants.{PutPuzzle}
 use Rattle.hall_sql.proofs.PuzzleWrites.{puzzle_replaced}
 use Rattle.hall_sql.proofs.WriteLemmas.{made_wrote, stayed_wrote}
-use Rattle.hall_sql.proofs.StopLemmas.{IsRowWrite, stops_made}
+use Rattle.hall_sql.proofs.SoundLemmas.{IsRowWrite}
+use Rattle.hall_sql.proofs.StopLemmas.{stops_made}
 use Rattle.hall_sql.proofs.PuzzleTexts.{replace_puzzle_is}
 use Rattle.std.proofs.Common.{arith, sym, subst}
 use Rattle.sqlite.specs.State.{HasCleanDisk}

@@ -1,20 +1,23 @@
 use Rattle.sqlite.specs.Held.{state}
 use Rattle.hall_sql.specs.RoundPuts.{DropsPlaces}
-use Rattle.hall_sql.proofs.InsideLemmas.{did}
+use Rattle.hall_sql.proofs.InsideLemmas.{did_run}
+use Rattle.hall_sql.proofs.PlaceTexts.{drop_places_is}
+use Rattle.hall_sql.proofs.SoundLemmas.{IsRowWrite}
 use Rattle.hall_sql.proofs.PlaceWrites.{places_dropped}
 use Rattle.hall_sql.specs.declared.round_writes.TheConstants.{DROP_PLACES}
 use Rattle.hall_sql.proofs.CauseLemmas.{fails_as}
 use Rattle.hall_sql.proofs.Written.{drop_places_written}
 use Rattle.hall_sql.proofs.WriteCauseLemmas.{inside_cause}
 use Rattle.sqlite.specs.declared.types.Value.TheVariants.{Text}
-use Rattle.std.proofs.Common.{[], ◌∷◌}
+use Rattle.std.proofs.Common.{[], ◌∷◌, sym, subst}
 use Rattle.hall_sql.proofs.round_writes.drop_places.Goals as goal
 
 pub returns-clause-done : goal.returns-clause-done
 returns-clause-done g c clean inside =
     let it = c.in_ok-run_in.ensures in
-    did (DropsPlaces c.args.id.now) (state g.S.Store c.args.tx.now.conn.now) (state g.S.Store c.run_in.new.tx.conn.now) (it.mode clean inside)
-    (λ held. places_dropped c.args.id.now _ _ _ held (rw (c.params-to_sql.ensures, c.as_str.ensures.text) at (it.runs clean inside)))
+    let ran = rw (c.params-to_sql.ensures, c.as_str.ensures.text) at (it.runs clean inside) in
+    did_run (DropsPlaces c.args.id.now) DROP_PLACES.now (Text c.args.id.now ∷ []) (state g.S.Store c.args.tx.now.conn.now) (state g.S.Store c.run_in.new.tx.conn.now) _ drop_places_is.1 (subst IsRowWrite (sym drop_places_is.0) tt) (it.mode clean inside) ran
+    (λ held. places_dropped c.args.id.now _ _ _ held ran)
 
 pub returns-in_err-run_in-clause-cause : goal.returns-in_err-run_in-clause-cause
 returns-in_err-run_in-clause-cause g c clean goes =

@@ -1,6 +1,9 @@
+use Rattle.std.proofs.Common.{sym, subst}
 use Rattle.hall_sql.proofs.RoundWrites.{head_added, head_inserted}
 use Rattle.hall_sql.specs.Fill.{AddsHead}
-use Rattle.hall_sql.proofs.InsideLemmas.{did}
+use Rattle.hall_sql.proofs.InsideLemmas.{did_run}
+use Rattle.hall_sql.proofs.HeadTexts.{add_head_is}
+use Rattle.hall_sql.proofs.SoundLemmas.{IsRowWrite, ran_sound}
 use Rattle.sqlite.specs.Held.{state}
 use Rattle.hall_sql.specs.declared.round_writes.TheConstants.{ADD_HEAD}
 use Rattle.hall_sql.proofs.CauseLemmas.{fails_as}
@@ -12,13 +15,20 @@ use Rattle.hall_sql.proofs.round_writes.put_new.Goals as goal
 pub returns-clause-done : goal.returns-clause-done
 returns-clause-done g c clean inside =
     let it = c.in_ok-run_in.ensures in
-    record { mode = it.mode clean inside; puts = λ held. head_added c.args.round.now c.in_range.ensures _ _ _ held (rw c.columns.ensures at (it.runs clean inside)) }
+    let ran = rw c.columns.ensures at (it.runs clean inside) in
+    record {
+      mode = it.mode clean inside;
+      sound = λ held. ran_sound ADD_HEAD.now (head_params c.args.round.now) (state g.S.Store c.args.tx.now.conn.now) (state g.S.Store c.run_in.new.tx.conn.now) _ held.schema
+          add_head_is.1 (subst IsRowWrite (sym add_head_is.0) tt) ran;
+      puts = λ held. head_added c.args.round.now c.in_range.ensures _ _ _ held ran;
+    }
 
 pub returns-clause-added : goal.returns-clause-added
 returns-clause-added g c clean inside =
     let it = c.in_ok-run_in.ensures in
-    did (λ a b. AddsHead a c.args.round.now b) (state g.S.Store c.args.tx.now.conn.now) (state g.S.Store c.run_in.new.tx.conn.now) (it.mode clean inside)
-    (λ held. head_inserted c.args.round.now c.in_range.ensures _ _ _ held (rw c.columns.ensures at (it.runs clean inside)))
+    let ran = rw c.columns.ensures at (it.runs clean inside) in
+    did_run (λ a b. AddsHead a c.args.round.now b) ADD_HEAD.now (head_params c.args.round.now) (state g.S.Store c.args.tx.now.conn.now) (state g.S.Store c.run_in.new.tx.conn.now) _ add_head_is.1 (subst IsRowWrite (sym add_head_is.0) tt) (it.mode clean inside) ran
+    (λ held. head_inserted c.args.round.now c.in_range.ensures _ _ _ held ran)
 
 pub returns-in_err-run_in-clause-cause : goal.returns-in_err-run_in-clause-cause
 returns-in_err-run_in-clause-cause g c clean goes =

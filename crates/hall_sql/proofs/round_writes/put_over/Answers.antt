@@ -1,3 +1,6 @@
+use Rattle.std.proofs.Common.{sym, subst}
+use Rattle.hall_sql.proofs.HeadTexts.{replace_head_is}
+use Rattle.hall_sql.proofs.SoundLemmas.{IsRowWrite, ran_sound}
 use Rattle.hall_sql.proofs.RoundWrites.{head_replaced}
 use Rattle.sqlite.specs.Held.{state}
 use Rattle.hall_sql.specs.declared.round_writes.TheConstants.{REPLACE_HEAD}
@@ -10,7 +13,13 @@ use Rattle.hall_sql.proofs.round_writes.put_over.Goals as goal
 pub returns-clause-done : goal.returns-clause-done
 returns-clause-done g c clean inside =
     let it = c.in_ok-run_in.ensures in
-    record { mode = it.mode clean inside; puts = λ held. head_replaced c.args.round.now c.in_range.ensures _ _ _ held (rw c.columns.ensures at (it.runs clean inside)) }
+    let ran = rw c.columns.ensures at (it.runs clean inside) in
+    record {
+      mode = it.mode clean inside;
+      sound = λ held. ran_sound REPLACE_HEAD.now (head_params c.args.round.now) (state g.S.Store c.args.tx.now.conn.now) (state g.S.Store c.run_in.new.tx.conn.now) _ held.schema
+          replace_head_is.1 (subst IsRowWrite (sym replace_head_is.0) tt) ran;
+      puts = λ held. head_replaced c.args.round.now c.in_range.ensures _ _ _ held ran;
+    }
 
 pub returns-in_err-run_in-clause-cause : goal.returns-in_err-run_in-clause-cause
 returns-in_err-run_in-clause-cause g c clean goes =

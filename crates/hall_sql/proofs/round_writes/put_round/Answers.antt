@@ -13,7 +13,7 @@ pub returns-in-Ok-clause-wrote : goal.returns-in-Ok-clause-wrote
 returns-in-Ok-clause-wrote g c =
     let it = rw c.transaction-tx.ensures.begun at c.in_ok-put_inside.ensures in
     let done : Wrote {R = Unit} {E = StoreFault} (PutRound c.args.row.now) (state g.S.Store c.args.conn.now) _ (Ok tt) =
-    committed_wrote g.S.Store c.args.conn.now c.requires.hall (PutRound c.args.row.now) tt (state g.S.Store c.put_inside.new.tx.conn.now) _
+    committed_wrote g.S.Store c.args.conn.now c.requires.hall c.live.ensures (PutRound c.args.row.now) tt (state g.S.Store c.put_inside.new.tx.conn.now) _
     it.carries it.done c.in-Ok.ensures.survives c.in-Ok.ensures.ended c.in-Ok.ensures.ok in
     search rules
 
@@ -33,5 +33,5 @@ returns-in-Err-clause-wrote g c =
     let it = rw c.transaction-tx.ensures.begun at c.in_ok-put_inside.ensures in
     let end = state g.S.Store c.commit.new.self.0 in
     subst (λ h. Wrote {R = Unit} {E = StoreFault} (PutRound c.args.row.now) (state g.S.Store c.args.conn.now) (state g.S.Store h) (Err c.fault_of.result)) (sym same)
-    (refused_wrote g.S.Store c.args.conn.now c.requires.hall (PutRound c.args.row.now) c.fault_of.result c.in-Err.error (state g.S.Store c.put_inside.new.tx.conn.now) end
+    (refused_wrote g.S.Store c.args.conn.now c.requires.hall c.live.ensures (PutRound c.args.row.now) c.fault_of.result c.in-Err.error (state g.S.Store c.put_inside.new.tx.conn.now) end
     it.carries it.done c.in-Err.ensures.survives c.in-Err.ensures.ended c.in-Err.ensures.err)

@@ -1,20 +1,23 @@
 use Rattle.sqlite.specs.Held.{state}
 use Rattle.hall_sql.specs.RoundPuts.{DropsTesters}
-use Rattle.hall_sql.proofs.InsideLemmas.{did}
+use Rattle.hall_sql.proofs.InsideLemmas.{did_run}
+use Rattle.hall_sql.proofs.TesterTexts.{drop_testers_is}
+use Rattle.hall_sql.proofs.SoundLemmas.{IsRowWrite}
 use Rattle.hall_sql.proofs.TesterWrites.{testers_dropped}
 use Rattle.hall_sql.specs.declared.testers.TheConstants.{DROP_TESTERS}
 use Rattle.hall_sql.proofs.CauseLemmas.{fails_as}
 use Rattle.hall_sql.proofs.Written.{drop_testers_written}
 use Rattle.hall_sql.proofs.WriteCauseLemmas.{inside_cause}
 use Rattle.sqlite.specs.declared.types.Value.TheVariants.{Text}
-use Rattle.std.proofs.Common.{[], ◌∷◌}
+use Rattle.std.proofs.Common.{[], ◌∷◌, sym, subst}
 use Rattle.hall_sql.proofs.testers.drop_testers.Goals as goal
 
 pub returns-clause-done : goal.returns-clause-done
 returns-clause-done g c clean inside =
     let it = c.in_ok-run_in.ensures in
-    did (DropsTesters c.args.round.now) (state g.S.Store c.args.tx.now.conn.now) (state g.S.Store c.run_in.new.tx.conn.now) (it.mode clean inside)
-    (λ held. testers_dropped c.args.round.now _ _ _ held (rw (c.params-to_sql.ensures, c.as_str.ensures.text) at (it.runs clean inside)))
+    let ran = rw (c.params-to_sql.ensures, c.as_str.ensures.text) at (it.runs clean inside) in
+    did_run (DropsTesters c.args.round.now) DROP_TESTERS.now (Text c.args.round.now ∷ []) (state g.S.Store c.args.tx.now.conn.now) (state g.S.Store c.run_in.new.tx.conn.now) _ drop_testers_is.1 (subst IsRowWrite (sym drop_testers_is.0) tt) (it.mode clean inside) ran
+    (λ held. testers_dropped c.args.round.now _ _ _ held ran)
 
 pub returns-in_err-run_in-clause-cause : goal.returns-in_err-run_in-clause-cause
 returns-in_err-run_in-clause-cause g c clean goes =

@@ -1,6 +1,9 @@
+use Rattle.std.proofs.Common.{sym, subst}
 use Rattle.sqlite.specs.Held.{state}
 use Rattle.hall_sql.specs.RoundPuts.{PutsTester}
-use Rattle.hall_sql.proofs.InsideLemmas.{did}
+use Rattle.hall_sql.proofs.InsideLemmas.{did_run}
+use Rattle.hall_sql.proofs.TesterTexts.{add_tester_is}
+use Rattle.hall_sql.proofs.SoundLemmas.{IsRowWrite}
 use Rattle.hall_sql.proofs.TesterWrites.{tester_added}
 use Rattle.hall_sql.specs.declared.testers.TheConstants.{ADD_TESTER}
 use Rattle.hall_sql.proofs.CauseLemmas.{fails_as}
@@ -12,9 +15,9 @@ use Rattle.hall_sql.proofs.testers.put_tester.Goals as goal
 pub returns-clause-done : goal.returns-clause-done
 returns-clause-done g c clean inside =
     let it = c.in_ok-run_in.ensures in
-    did (PutsTester c.args.round.now c.args.name.now) (state g.S.Store c.args.tx.now.conn.now) (state g.S.Store c.run_in.new.tx.conn.now) (it.mode clean inside)
-    (λ held. tester_added c.args.round.now _ _ _ held c.args.name.now c.as_str.ensures.of_kind c.as_str-2.ensures.of_kind
-    (rw (c.params-to_sql.ensures, c.params-to_sql-2.ensures, c.as_str.ensures.text, c.as_str-2.ensures.text) at (it.runs clean inside)))
+    let ran = rw (c.params-to_sql.ensures, c.params-to_sql-2.ensures, c.as_str.ensures.text, c.as_str-2.ensures.text) at (it.runs clean inside) in
+    did_run (PutsTester c.args.round.now c.args.name.now) ADD_TESTER.now (tester_params c.args.round.now c.args.name.now) (state g.S.Store c.args.tx.now.conn.now) (state g.S.Store c.run_in.new.tx.conn.now) _ add_tester_is.1 (subst IsRowWrite (sym add_tester_is.0) tt) (it.mode clean inside) ran
+    (λ held. tester_added c.args.round.now _ _ _ held c.args.name.now c.as_str.ensures.of_kind c.as_str-2.ensures.of_kind ran)
 
 pub returns-in_err-run_in-clause-cause : goal.returns-in_err-run_in-clause-cause
 returns-in_err-run_in-clause-cause g c clean goes =

@@ -1,0 +1,32 @@
+-- A statement that writes rows leaves a database.
+use Rattle.std.proofs.Common.{◌≡◌, ℕ, List, Ok, Option, None, refl}
+use Rattle.sqlite_schema.specs.declared.command.Command.{Command}
+use Rattle.sqlite_schema.specs.declared.command.Command.TheVariants.{Insert, InsertOr, Update, Delete}
+use Rattle.sqlite.specs.Order.{Row}
+use Rattle.sqlite.specs.Effect.{IsDatabase}
+use Rattle.sqlite.specs.Listing.{understood}
+use Rattle.sqlite.specs.State.{State, Executes, Runs}
+use Rattle.sqlite.proofs.Callers.{IsPlain, command_of, runs_as}
+use Rattle.hall_sql.specs.Tables.{hall_schema}
+
+-- the statements that write rows
+abbrev pub IsRowWrite : Command → Type 0
+IsRowWrite (Insert at from) = Unit {0}
+IsRowWrite (InsertOr at way from clauses) = Unit {0}
+IsRowWrite (Update at q) = Unit {0}
+IsRowWrite (Delete at q) = Unit {0}
+IsRowWrite _ = ⊥
+
+written_sound : (old new : State) (command : Command) (text : List ℕ) (params : Row) (count : ℕ) → IsRowWrite command → Runs old new None command text params count
+    → IsDatabase new.now
+written_sound old new (Insert at from) text params count is w = w.sound
+written_sound old new (InsertOr at way from clauses) text params count is w = w.sound
+written_sound old new (Update at q) text params count is w = w.sound
+written_sound old new (Delete at q) text params count is w = w.sound
+written_sound old new _ text params count is w = absurd is
+
+pub ran_sound : (sql : List ℕ) (params : Row) (old new : State) (count : ℕ) → old.now.schema ≡ hall_schema → IsPlain (understood hall_schema sql)
+    → IsRowWrite (command_of (understood hall_schema sql)) → Executes sql params old new (Ok count) → IsDatabase new.now
+ran_sound sql params old new count has plain is ran =
+    written_sound old new (command_of (understood hall_schema sql)) _ params count is
+    (runs_as sql params old new hall_schema has (command_of (understood hall_schema sql)) refl plain count ran)
