@@ -1,11 +1,11 @@
 -- A search of a puzzle that goes on, whatever its kind.
-use Rattle.std.proofs.Common.{◌≡◌, ℕ, ◌+◌, ◌≤◌, List, Option, refl, sym, ◌∙◌, subst, arith}
+use Rattle.std.proofs.Common.{◌≡◌, ℕ, ◌≤◌, List, Option, sym, ◌∙◌, subst}
 use Rattle.hall_grid.specs.Board.{Board}
 use Rattle.hall_grid.specs.declared.board.Kind.{Kind}
 use Rattle.hall_solve.specs.declared.paused.Search.{Search}
 use Rattle.hall_solve.specs.declared.searched.Searched.{Searched}
 use Rattle.hall_solve.specs.Question.{Question, IsSame, plain_tree, open_places}
-use Rattle.hall_solve.specs.Answer.{OutcomeOf, fewest_visits}
+use Rattle.hall_solve.specs.Answer.{OutcomeOf}
 use Rattle.hall_solve.specs.Puzzle.{question_of, start_of}
 use Rattle.hall_solve.specs.Searched.{visits_made, outcome_of, visits_of, IsSpent}
 use Rattle.hall_solve.specs.Paused.{start_of as started_at, budget_of, IsEnd, IsPause}

@@ -5,7 +5,7 @@ use Rattle.hall_policy.specs.World.{World}
 use Rattle.hall_policy.specs.declared.request.Request.{Request}
 use Rattle.hall_store.specs.Store.{Content, IsSettled}
 use Rattle.hall_desk.specs.Step.{Step}
-use Rattle.hall_desk.specs.Run.{IsLeftBy, Run, RunsWithOne}
+use Rattle.hall_desk.specs.Run.{IsLeftBy, Run}
 use Rattle.hall_desk.specs.Plans.{Steps, StopsWithin, Runs, IsStepped, AreStepped, IsNobodys, IsAvailable, NobodysAreAnswered}
 use Rattle.hall_desk.specs.declared.reply.Reply.{Reply}
 use Rattle.hall_desk.specs.declared.reply.Reply.TheVariants.{Unavailable}

@@ -9,7 +9,7 @@ ghost use Rattle.hall_desk.specs.Sane.{Sane};
 ghost use Rattle.hall_desk.specs.Promises.{HasUniqueSolutions, RightAnswersAreSolutions};
 ghost use Rattle.hall_desk.specs.Plan.{planned_reply, planned_change};
 ghost use Rattle.hall_desk.specs.Plans.{Planned, Steps, Seeds, Runs, FailsIn, IsNobodys, AreNobodys, IsAvailable};
-ghost use Rattle.hall_desk.specs.Wanted.{IsSearchFor};
+ghost use Rattle.hall_desk.specs.Wanted.{MayWait};
 ghost use Rattle.hall_desk.specs.Plans.{IsQuietPlan, IsSeedReply, AreStepped, NobodysAreAnswered, WritesIfAny, StopsWithin, LeavesRun};
 
 use crate::census::Census;
@@ -17,26 +17,30 @@ use crate::finding::Finding;
 use crate::memo::Memo;
 use crate::plan::Plan;
 use crate::planning::make_plan;
-use crate::puzzle_search::PuzzleSearch;
 use crate::reply::Reply;
 use crate::seed::seed;
 use crate::serving::still_serves;
 use crate::step::{commit, run, step};
 use crate::table_copy::{TableCopy, left_by};
-use crate::wanted::search_for;
+use crate::under_way::Searches;
+use crate::wanted::{Wanted, search_for};
 use hall_policy::{Moment, People, Request};
-use hall_store::{ReadStore, Store, StoreFault};
+use hall_store::{Change, ReadStore, Store, StoreFault};
 use std::alloc::{AllocError, Global};
 use std::marker::Model;
 
 /// What answers requests to the hall, one after another, over the world of its store; a contract sees the store.
 ///
-/// It keeps a copy of the table that it made last, until something is changed, and what a search found last.
+/// It keeps a copy of the table that it made last, until something is changed, the searches that requests wait for, and
+/// what a search found last.
 #[derive(Drop)]
 pub struct Desk<S: ReadStore> {
     store: S,
     copied: Option<TableCopy>,
     memo: Option<Memo>,
+    searches: Option<Searches>,
+    /// The device failed when the last write was to be made.
+    refuses_writes: bool,
 }
 
 impl<S: ReadStore> Model for Desk<S> {
@@ -58,6 +62,8 @@ impl<S: ReadStore> Desk<S> {
             store,
             copied: None,
             memo: None,
+            searches: None,
+            refuses_writes: false,
         }
     }
 
@@ -93,31 +99,52 @@ impl<S: ReadStore> Desk<S> {
         )
     }
 
-    /// The search that a plan of the request would make now, before its first visit. None where the request is no
-    /// Certify or isn't allowed, where a search of the puzzle came to an end before, or where what was kept last is of
-    /// the same puzzle and budget. Reads only.
-    pub fn search_for(
-        &mut self,
-        alloc: Global,
-        request: &Request,
-    ) -> Result<Option<PuzzleSearch>, StoreFault>
+    /// Works for a while on what a plan of the request needs, and tells whether to answer it now, or to ask so again. An
+    /// allowed Certify waits until its puzzle has been searched, some visits a time; one that wants the puzzle and budget
+    /// of a search under way joins it. At most eight are, one for each key; others wait until one may begin. Reads only.
+    pub fn prepare(&mut self, alloc: Global, request: &Request) -> bool
         ensures kept { Kept (S.content (kept_by self.old)) (S.content (kept_by self.new)) }
         ensures untouched { IsNobodys request.now → kept_by self.new ≡ kept_by self.old }
-        ensures fault { Fails S.can_fail result }
-        ensures told { Told (S.content (kept_by self.old)) (S.content (kept_by self.new)) result
-            (λ world found. IfSome found (IsSearchFor world request.now.action)) }
+        ensures waits { MayWait (S.content (kept_by self.new)) request.now.action result }
     {
-        search_for(alloc, &mut self.store, request, &self.memo)
+        match search_for(alloc, &mut self.store, request, &self.memo) {
+            Ok(Some(wanted)) => self.search(alloc, wanted),
+            Ok(None) | Err(_) => true,
+        }
+    }
+
+    /// Goes on with the search for a while, and tells whether a plan has what it found.
+    fn search(&mut self, alloc: Global, wanted: Wanted) -> bool
+        ensures { kept_by self.new ≡ kept_by self.old }
+    {
+        let mut searches = match self.searches.take() {
+            Some(searches) => searches,
+            None => match Searches::new(alloc) {
+                Ok(searches) => searches,
+                Err(_) => return false,
+            },
+        };
+        let found = searches.go_on(alloc, wanted);
+        self.searches = Some(searches);
+        match found {
+            Some(finding) => self.keep(alloc, finding).is_ok(),
+            None => false,
+        }
     }
 
     /// Keeps what a search found, for the plans of that puzzle and that budget. Refused, it keeps nothing.
-    pub fn keep(&mut self, alloc: Global, finding: Finding) -> Result<(), AllocError>
+    fn keep(&mut self, alloc: Global, finding: Finding) -> Result<(), AllocError>
         ensures { kept_by self.new ≡ kept_by self.old }
     {
         self.memo = None;
         let memo = Memo::of(alloc, finding)?;
         self.memo = Some(memo);
         Ok(())
+    }
+
+    /// Whether the device failed when the last write was to be made, as a full one does. No clause speaks of it.
+    pub fn refuses_writes(&self) -> bool {
+        self.refuses_writes
     }
 
     /// How many people and rounds the hall knows. Want of memory apart, it fails only over a store that can.
@@ -156,7 +183,16 @@ impl<S: Store> Desk<S> {
         ensures reply { IfOk result (λ reply. reply ≡ planned_reply plan) }
     {
         self.copied = left_by(&plan, self.copied.take());
-        commit(alloc, &mut self.store, plan)
+        let writes = is_change(&plan.change);
+        let made = commit(alloc, &mut self.store, plan);
+        if writes {
+            self.refuses_writes = match &made {
+                Ok(_) => false,
+                Err(StoreFault::Failed) => true,
+                Err(StoreFault::Memory) => self.refuses_writes,
+            };
+        }
+        made
     }
 
     /// Answers one request: a step of the hall. It makes at most one write, and none for a request that is denied,
@@ -243,5 +279,13 @@ impl<S: Store> Desk<S> {
     {
         self.copied = None;
         run(alloc, &mut self.store, requests)
+    }
+}
+
+/// Whether there is something to write.
+fn is_change(change: &Change) -> bool {
+    match change {
+        Change::Nothing => false,
+        _ => true,
     }
 }

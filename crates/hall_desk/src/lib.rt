@@ -36,18 +36,17 @@ mod step;
 mod submit;
 mod table;
 mod table_copy;
+mod under_way;
 mod verdict;
 mod wanted;
 
 pub use census::Census;
 pub use desk::Desk;
-pub use finding::Finding;
 pub use law::{
     law_accepted_answers, law_accepted_protests, law_before_start, law_others, law_records,
     law_rulings, law_sanity, law_sealed, law_steps_agree, law_tokens,
 };
 pub use plan::Plan;
-pub use puzzle_search::{Certifying, PuzzleSearch};
 pub use reply::{
     AnswerLine, ProtestLine, PuzzleLine, Reply, RoundLine, ShownPuzzle, ShownRound, StateName,
     TableText,

@@ -1,5 +1,5 @@
 //! The search of a puzzle, by the rules of its kind.
-ghost use Rattle.std.specs.Prelude.{◌≡◌, IfOk};
+ghost use Rattle.std.specs.Prelude.{◌≡◌, IfOk, IsTrue};
 ghost use Rattle.hall_desk.specs.Certifying.{IsGoneOn};
 ghost use Rattle.hall_desk.specs.Underway.{IsUnderWayOf, visits_of_kind};
 ghost use Rattle.hall_desk.specs.Finding.{IsFoundBy};
@@ -92,6 +92,21 @@ impl PuzzleSearch {
             budget,
             by_kind,
         })
+    }
+
+    /// Whether it is of this puzzle.
+    pub(crate) fn is_of_puzzle(&self, puzzle: &Puzzle) -> bool
+        ensures { IsTrue result → self.now.puzzle ≡ puzzle.now }
+    {
+        self.puzzle.is_same(puzzle)
+    }
+
+    /// Whether it is of this puzzle, within this budget.
+    pub(crate) fn is_of(&self, puzzle: &Puzzle, budget: u64) -> bool
+        ensures puzzle { IsTrue result → self.now.puzzle ≡ puzzle.now }
+        ensures budget { IsTrue result → self.now.budget ≡ budget }
+    {
+        self.is_of_puzzle(puzzle) && self.budget == budget
     }
 
     /// Goes on until it is at its end, or has made so many more visits. Refused, it is gone.

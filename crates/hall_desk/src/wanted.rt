@@ -9,20 +9,28 @@ ghost use Rattle.hall_desk.specs.Wanted.{IsSearchFor, IsSearchOfFound};
 use crate::certify_puzzle::{Certify, is_open};
 use crate::memo::Memo;
 use crate::planning::no_facts;
-use crate::puzzle_search::PuzzleSearch;
 use hall_grid::Puzzle;
-use hall_policy::{Action, Budget, Decision, Facts, Key, Moment, Request, decide};
+use hall_policy::{Action, Budget, Decision, Facts, Key, Moment, PuzzleKey, Request, decide};
 use hall_store::{ReadStore, StoreFault};
 use std::alloc::{AllocError, Global};
 
-/// The search that a plan of the request would make now, before its first visit: of the puzzle of an allowed Certify,
-/// where no search of it came to an end yet and nothing is remembered of it.
+/// A search that a plan would make: of a puzzle, which stands under this name, within a budget, for whoever has the key.
+#[derive(Drop)]
+pub(crate) struct Wanted {
+    pub(crate) key: Key,
+    pub(crate) name: PuzzleKey,
+    pub(crate) puzzle: Puzzle,
+    pub(crate) budget: u64,
+}
+
+/// The search that a plan of the request would make now: of the puzzle of an allowed Certify, where no search of it came
+/// to an end yet and nothing is remembered of it.
 pub(crate) fn search_for<S: ReadStore>(
     alloc: Global,
     store: &mut S,
     request: &Request,
     memo: &Option<Memo>,
-) -> Result<Option<PuzzleSearch>, StoreFault>
+) -> Result<Option<Wanted>, StoreFault>
     ensures kept { Kept (S.content store.old) (S.content store.new) }
     ensures untouched { IsNobodys request.now → store.new ≡ store.old }
     ensures fault { Fails S.can_fail result }
@@ -48,7 +56,7 @@ fn search_by_key<S: ReadStore>(
     action: &Action,
     pass: &Key,
     asked: &Certify,
-) -> Result<Option<PuzzleSearch>, StoreFault>
+) -> Result<Option<Wanted>, StoreFault>
     requires { action.now ≡ certify_action asked.now }
     ensures kept { Kept (S.content store.old) (S.content store.new) }
     ensures fault { Fails S.can_fail result }
@@ -69,7 +77,7 @@ fn search_by_facts<S: ReadStore>(
     pass: &Key,
     asked: &Certify,
     facts: &mut Facts,
-) -> Result<Option<PuzzleSearch>, StoreFault>
+) -> Result<Option<Wanted>, StoreFault>
     requires { action.now ≡ certify_action asked.now }
     ensures kept { Kept (S.content store.old) (S.content store.new) }
     ensures fault { Fails S.can_fail result }
@@ -77,7 +85,7 @@ fn search_by_facts<S: ReadStore>(
         (λ world found. IfSome found (IsSearchFor world action.now)) }
 {
     find_facts(alloc, store, pass, asked, facts)?;
-    search_if_allowed(alloc, facts, action, asked)
+    search_if_allowed(facts, action, pass, asked)
 }
 
 /// Looks up the caller and the puzzle.
@@ -100,11 +108,11 @@ fn find_facts<S: ReadStore>(
 
 /// The search, where the facts allow the action.
 fn search_if_allowed(
-    alloc: Global,
     facts: &Facts,
     action: &Action,
+    pass: &Key,
     asked: &Certify,
-) -> Result<Option<PuzzleSearch>, StoreFault>
+) -> Result<Option<Wanted>, StoreFault>
     ensures fault { Fails ⊥ result }
     ensures found { IfOk result (λ found. IfSome found (IsSearchOfFound facts.now.puzzle asked.now.budget)) }
 {
@@ -113,13 +121,13 @@ fn search_if_allowed(
         unreachable!()
     };
     match decide(facts, action, t) {
-        Decision::Allow => Ok(wanted(alloc, facts, asked)?),
+        Decision::Allow => Ok(search_of_found(facts, pass, asked)?),
         Decision::Deny(_) | Decision::Repeat => Ok(None),
     }
 }
 
 /// The search of the puzzle that was found, where one is wanted.
-fn wanted(alloc: Global, facts: &Facts, asked: &Certify) -> Result<Option<PuzzleSearch>, AllocError>
+fn search_of_found(facts: &Facts, pass: &Key, asked: &Certify) -> Result<Option<Wanted>, AllocError>
     ensures { IfOk result (λ found. IfSome found (IsSearchOfFound facts.now.puzzle asked.now.budget)) }
 {
     let Some(row) = &facts.puzzle else {
@@ -128,8 +136,12 @@ fn wanted(alloc: Global, facts: &Facts, asked: &Certify) -> Result<Option<Puzzle
     if !is_open(&row.state) || is_remembered(asked.memo, &row.puzzle, asked.budget) {
         return Ok(None);
     }
-    let puzzle = row.puzzle.clone()?;
-    Ok(Some(PuzzleSearch::new(alloc, puzzle, asked.budget.get())?))
+    Ok(Some(Wanted {
+        key: pass.clone()?,
+        name: asked.key.clone()?,
+        puzzle: row.puzzle.clone()?,
+        budget: asked.budget.get(),
+    }))
 }
 
 /// Whether it is remembered what a search of the puzzle within the budget found.

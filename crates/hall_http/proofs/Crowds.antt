@@ -8,7 +8,8 @@ use Rattle.std.proofs.lemmas.Option.{same_Some}
 use Rattle.std.proofs.lemmas.List.{append-nil, take-append-drop, set-get_or}
 use Rattle.std.proofs.lemmas.List.Elements.{All-nil, All-push, All-append}
 use Rattle.hall_http.specs.Served.{refusal}
-use Rattle.hall_http.specs.Connection.{Exchange, Session, AreMoments, requests_of}
+use Rattle.hall_http.specs.Connection.{Exchange, AreMoments, requests_of}
+use Rattle.hall_http.specs.Resting.{RestingSession}
 use Rattle.hall_http.specs.Crowd.{AreKept, AreTold, IsAt, HasGone, Serves}
 use Rattle.hall_http.specs.Head.{HasNone}
 use Rattle.hall_http.specs.History.{History, Stands, IsReplying, IsRefusing, Ends}
@@ -22,6 +23,7 @@ use Rattle.hall_http.specs.declared.connection.ServeEnd.TheVariants as end
 use Rattle.hall_http.specs.declared.connection.State.{State}
 use Rattle.hall_http.specs.declared.connection.State.TheVariants as state
 use Rattle.hall_http.proofs.Histories.{stands_at}
+use Rattle.hall_http.proofs.Rested.{no_session}
 use Rattle.hall_http.proofs.Numbers.{numbered, exchanges_numbered, of_none, own_more, others_same, known_more, read_at, where_is, is_there, is_still}
 
 -- what is told by a history, where these bytes were read off after its end
@@ -400,15 +402,26 @@ module _ {P : Type 0} (came went : P → List ℕ) where
       pub turned_exchanges : exchanges_of (numbered k.number more) ≡ more
       turned_exchanges = exchanges_numbered k.number more
 
+  -- nobody goes a step
+  pub serves_none : {H C : Type 0} (answers : H → Option ℕ → List ℕ → List ℕ → H → Type 0) (rests : H → H → Type 0)
+      (now_gives : C → Option ℕ → C → Type 0) (h : H) (c : C) (s : Clients P)
+      → Serves answers rests now_gives came went h c s h c s
+  serves_none answers rests now_gives h c s = λ turns kept. (
+    [],
+    no_session rests answers h,
+    refl,
+    subst (λ (all : List Turn). AreKept came went all s) (sym (append-nil turns)) kept,
+  )
+
   -- whoever stands at the place goes one step
-  module _ {H C : Type 0} (answers : H → Option ℕ → List ℕ → List ℕ → H → Type 0)
+  module _ {H C : Type 0} (answers : H → Option ℕ → List ℕ → List ℕ → H → Type 0) (rests : H → H → Type 0)
       (now_gives : C → Option ℕ → C → Type 0) (s : Clients P) (place : ℕ) (inside : place < length s.places.items)
       (old new : Option (Client P)) (is : old ≡ get_or s.places.items place old) where
-    pub turn_place : (h i : H) (c d : C) → IsPlaceTurned answers now_gives came went h c old i d new
-        → Serves answers now_gives came went h c s i d (record s { places = with_item s.places place new })
+    pub turn_place : (h i : H) (c d : C) → IsPlaceTurned answers rests now_gives came went h c old i d new
+        → Serves answers rests now_gives came went h c s i d (record s { places = with_item s.places place new })
     turn_place h i c d (inl (none, still, same, stood)) = λ turns kept. (
       [],
-      same,
+      rw same (no_session rests answers h),
       stood,
       subst (λ (all : List Turn). AreKept came went all (record s { places = with_item s.places place new }))
           (sym (append-nil turns)) (kept_same turns s (record s { places = with_item s.places place new }) items refl refl refl kept),
@@ -424,7 +437,7 @@ module _ {P : Type 0} (came went : P → List ℕ) where
         let (more, session, moments, client) = step (of k.number turns) (kept.here place k at) in
         rw now (
           numbered k.number more,
-          subst (λ (xs : List Exchange). Session answers h xs i) (sym (exchanges_numbered k.number more)) session,
+          subst (λ (xs : List Exchange). RestingSession answers rests h xs i) (sym (exchanges_numbered k.number more)) session,
           subst (λ (xs : List Exchange). AreMoments now_gives c xs d) (sym (exchanges_numbered k.number more)) moments,
           kept_turned turns s kept place inside k l at number more client,
         )

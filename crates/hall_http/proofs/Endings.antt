@@ -1,11 +1,10 @@
 -- What comes after a request.
-use Rattle.std.proofs.Common.{◌≡◌, ◌≢◌, ◌∙◌, sym, refl, arith, ℕ, ◌==◌, List, true, false, Option, Some, None, if◌then◌else◌}
+use Rattle.std.proofs.Common.{◌≡◌, ◌∙◌, sym, refl, arith, ℕ, ◌==◌, List, true, false, Some, None, if◌then◌else◌}
 use Rattle.std.specs.Prelude.{Bool}
 use Rattle.std.proofs.lemmas.Bool.{eqb-true}
-use Rattle.hall_http.specs.Head.{IsLentBy, IsWhole}
+use Rattle.hall_http.specs.Head.{IsLentBy}
 use Rattle.hall_http.specs.Connection.{IsClosing, IsOpen}
 use Rattle.hall_http.specs.Steps.{EndsAfter, then_of}
-use Rattle.hall_http.specs.declared.connection.ServeEnd.{ServeEnd}
 use Rattle.hall_http.specs.declared.connection.ServeEnd.TheVariants as end
 use Rattle.hall_http.specs.declared.head.RawRequest.{RawRequest}
 

@@ -1,5 +1,5 @@
 -- What a responder that goes on has answered, it has answered.
-use Rattle.std.proofs.Common.{◌≡◌, ap, refl, inl, inr, ℕ, List, [], ◌∷◌, Option, true}
+use Rattle.std.proofs.Common.{ap, inl, inr, ℕ, List, [], ◌∷◌, Option, true}
 use Rattle.std.specs.Prelude.{Bool}
 use Rattle.hall_http.specs.Connection.{Exchange, Session}
 use Rattle.hall_http.specs.Steps.{Looks, gated}

@@ -1,16 +1,15 @@
 -- What serving a connection over a reader and a writer keeps, and how each of its ends follows.
-use Rattle.std.proofs.Common.{◌≡◌, ◌≢◌, ◌⊎◌, ◌∙◌, sym, ap, subst, refl, arith, ℕ, ◌+◌, ◌-◌, ◌*◌, ◌<◌, ◌≤◌, inl, inr, List, [], ◌∷◌, ◌++◌}
-use Rattle.std.proofs.Common.{length, take, drop, Option, Some, None, true, false}
-use Rattle.std.specs.Prelude.{All}
+use Rattle.std.proofs.Common.{◌≡◌, ◌∙◌, sym, ap, subst, refl, arith, ℕ, ◌+◌, ◌-◌, ◌*◌, ◌≤◌, inl, inr, List, [], ◌∷◌, ◌++◌}
+use Rattle.std.proofs.Common.{length, take, drop, Option, Some, None, true}
 use Rattle.std.proofs.lemmas.List.{append-nil, take_all}
 use Rattle.std.proofs.KnownBytes.{Appends-nil, Appends-trans, Consumes-nil, Consumes-trans}
 use Rattle.std.specs.Io.KnownBytes.{Appends, Consumes, IsAtEnd}
 use Rattle.hall_grid.specs.Device.{MadeCalls, Rises}
 use Rattle.hall_http.specs.Answered.{answer_text}
-use Rattle.hall_http.specs.Connection.{Exchange, Session, AreMoments, replies_of, AreOpen}
+use Rattle.hall_http.specs.Connection.{Exchange, Session, AreMoments, replies_of}
 use Rattle.hall_http.specs.Device.{WritesPart, NoneFailed, ReadFailed, WriteFailed}
 use Rattle.hall_http.specs.Feeding.{IsFed}
-use Rattle.hall_http.specs.History.{History, nothing, then_heard, then_ended, then_answered, then_sent, reads_of, HasHistory, Stands, IsFree, IsReplying, IsRefusing, Ends, told_at}
+use Rattle.hall_http.specs.History.{History, nothing, then_heard, then_ended, then_answered, then_sent, reads_of, HasHistory, Stands, IsReplying, IsRefusing, Ends, told_at}
 use Rattle.hall_http.specs.Served.{IsHandled, Ended, IsNoRequest, refusal}
 use Rattle.hall_http.specs.Steps.{pending, fresh, IsAfterSending, Looks}
 use Rattle.hall_http.specs.declared.connection.Connection.{Connection}

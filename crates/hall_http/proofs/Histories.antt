@@ -14,6 +14,7 @@ use Rattle.hall_http.specs.History.{History, nothing, then_heard, then_ended, th
 use Rattle.hall_http.specs.Reading.{at_first, after_read, after_answer}
 use Rattle.hall_http.specs.Served.{HaveRead, IsLastRequest, MayGoOn, refusal}
 use Rattle.hall_http.specs.Steps.{pending, fresh, IsAfterHearing, IsAfterEnd, IsAfterSending, Answers, Waits, Refuses, EndsAfter, after_reply}
+use Rattle.hall_http.specs.declared.answer.Answer.{Answer}
 use Rattle.hall_http.specs.declared.answer.Answer.TheVariants.{Refusal, Nothing}
 use Rattle.hall_http.specs.declared.connection.Connection.{Connection}
 use Rattle.hall_http.specs.declared.connection.ServeEnd.{ServeEnd}
@@ -59,6 +60,29 @@ pub stands_at : (t : History) (k : Connection) (s : State) → HasHistory t k �
 stands_at t k s h e = subst (λ (s : State). Stands s t k) e h.stands
 
 module _ (t : History) (k : Connection) (h : HasHistory t k) where
+  -- no more bytes were heard, and no further request was answered
+  as_before : (over : Bool) (went : List ℕ) (least : ℕ) (reply : Answer) (sent reads : ℕ) (s : State)
+      → reads ≡ reads_of (record t { ended = over; went = went })
+      → reads_of (record t { ended = over; went = went }) ≤ 100000 → IsUnfinishedBelow least k.inbox
+      → sent ≤ length (answer_text reply)
+      → Stands s (record t { ended = over; went = went })
+      (record k { least = least; reply = reply; sent = sent; reads = reads; state = s })
+      → HasHistory (record t { ended = over; went = went })
+      (record k { least = least; reply = reply; sent = sent; reads = reads; state = s })
+  as_before over went least reply sent reads s counted seldom below inside stands = record {
+    came = h.came;
+    reading = h.reading;
+    whole = h.whole;
+    requests = h.requests;
+    few = h.few;
+    reads = counted;
+    seldom = seldom;
+    bounded = h.bounded;
+    below = below;
+    inside = inside;
+    stands = stands;
+  }
+
   -- some more bytes were heard
   module _ (at : k.state ≡ state.Reading) where
     reading_now : IsFree t × IsUnfinished k.inbox × (t.pieces < 100000)
@@ -89,38 +113,19 @@ module _ (t : History) (k : Connection) (h : HasHistory t k) where
     ended l (inl (empty, is)) =
         let (free, unfinished, seldom) = reading_now in
         let before : reads_of t ≡ t.pieces = open_reads t free.more in
-        subst (HasHistory (then_ended t)) (sym is) (record {
-          came = h.came;
-          reading = h.reading;
-          whole = h.whole;
-          requests = h.requests;
-          few = h.few;
-          reads = ap (λ n. n + 1) (h.reads ∙ before);
-          seldom = omega (arith, seldom);
-          bounded = h.bounded;
-          below = h.below;
-          inside = h.inside;
-          stands = (free.told, inl (free.goes_on, empty, refl));
-        })
+        subst (HasHistory (then_ended t)) (sym is)
+        (as_before true t.went k.least k.reply k.sent (k.reads + 1) (state.Ended end.Closed)
+        (ap (λ n. n + 1) (h.reads ∙ before)) (omega (arith, seldom)) h.below h.inside
+        (free.told, inl (free.goes_on, empty, refl)))
     ended l (inr (some, is)) =
         let (free, unfinished, seldom) = reading_now in
         let before : reads_of t ≡ t.pieces = open_reads t free.more in
-        subst (HasHistory (then_ended t)) (sym is) (record {
-          came = h.came;
-          reading = h.reading;
-          whole = h.whole;
-          requests = h.requests;
-          few = h.few;
-          reads = ap (λ n. n + 1) (h.reads ∙ before);
-          seldom = omega (arith, seldom);
-          bounded = h.bounded;
-          below = h.below;
-          inside = omega arith;
-          stands = (
-            record { reply = refusal_text; told = free.told ∙ sym (append-nil (replies_of t.exchanges)) },
-            (free.goes_on, inl (not_nil k.inbox some, unfinished, refl)),
-          );
-        })
+        subst (HasHistory (then_ended t)) (sym is)
+        (as_before true t.went k.least Refusal 0 (k.reads + 1) (state.Writing (Some end.BadHead))
+        (ap (λ n. n + 1) (h.reads ∙ before)) (omega (arith, seldom)) h.below (omega arith) (
+          record { reply = refusal_text; told = free.told ∙ sym (append-nil (replies_of t.exchanges)) },
+          (free.goes_on, inl (not_nil k.inbox some, unfinished, refl)),
+        ))
 
   -- it was looked at what waits
   module _ (at : k.state ≡ state.Looking) where
@@ -223,38 +228,19 @@ module _ (t : History) (k : Connection) (h : HasHistory t k) where
 
     pub waited : (l : Connection) → Waits k l → HasHistory t l
     waited l w =
-        subst (HasHistory t) (sym w.left) (record {
-          came = h.came;
-          reading = h.reading;
-          whole = h.whole;
-          requests = h.requests;
-          few = h.few;
-          reads = h.reads;
-          seldom = h.seldom;
-          bounded = h.bounded;
-          below = w.below;
-          inside = h.inside;
-          stands = waits_at (k.reads == 100000) refl l.least w.unfinished;
-        })
+        subst (HasHistory t) (sym w.left)
+        (as_before t.ended t.went l.least k.reply k.sent k.reads
+        (if k.reads == 100000 then state.Ended end.Limit else state.Reading) h.reads h.seldom w.below h.inside
+        (waits_at (k.reads == 100000) refl l.least w.unfinished))
 
     pub refused : (l : Connection) → Refuses k l → HasHistory t l
     refused l r =
-        subst (HasHistory t) (sym r.left) (record {
-          came = h.came;
-          reading = h.reading;
-          whole = h.whole;
-          requests = h.requests;
-          few = h.few;
-          reads = h.reads;
-          seldom = h.seldom;
-          bounded = h.bounded;
-          below = h.below;
-          inside = omega arith;
-          stands = (
-            record { reply = refusal_text; told = free_now.told ∙ sym (append-nil (replies_of t.exchanges)) },
-            (free_now.goes_on, inr (r.never, free_now.more)),
-          );
-        })
+        subst (HasHistory t) (sym r.left)
+        (as_before t.ended t.went k.least Refusal 0 k.reads (state.Writing (Some end.BadHead)) h.reads h.seldom h.below
+        (omega arith) (
+          record { reply = refusal_text; told = free_now.told ∙ sym (append-nil (replies_of t.exchanges)) },
+          (free_now.goes_on, inr (r.never, free_now.more)),
+        ))
 
   -- a part of what waits was sent
   part_sent : (told text last : List ℕ) (n count : ℕ) → text ≡ last
@@ -331,32 +317,12 @@ module _ (t : History) (k : Connection) (h : HasHistory t k) where
     pub sent : (ending : Option ServeEnd) (l : Connection) → k.state ≡ state.Writing ending → IsAfterSending k count l
         → HasHistory after l
     sent ending l at (inl (part, is)) =
-        subst (HasHistory after) (sym is) (record {
-          came = h.came;
-          reading = h.reading;
-          whole = h.whole;
-          requests = h.requests;
-          few = h.few;
-          reads = h.reads;
-          seldom = h.seldom;
-          bounded = h.bounded;
-          below = h.below;
-          inside = omega (arith, part, h.inside, length-drop k.sent (answer_text k.reply));
-          stands = subst (λ (s : State). Stands s after (record k { sent = k.sent + count })) (sym at)
-              (part_stands ending (stands_at t k (state.Writing ending) h at));
-        })
+        subst (HasHistory after) (sym is)
+        (as_before t.ended after.went k.least k.reply (k.sent + count) k.reads k.state h.reads h.seldom h.below
+        (omega (arith, part, h.inside, length-drop k.sent (answer_text k.reply)))
+        (subst (λ (s : State). Stands s after (record k { sent = k.sent + count })) (sym at)
+        (part_stands ending (stands_at t k (state.Writing ending) h at))))
     sent ending l at (inr (all, is)) =
         subst (HasHistory after) (sym (is ∙ ap (λ (s : State). record k { sent = 0; reply = Nothing; state = after_reply s }) at))
-        (record {
-          came = h.came;
-          reading = h.reading;
-          whole = h.whole;
-          requests = h.requests;
-          few = h.few;
-          reads = h.reads;
-          seldom = h.seldom;
-          bounded = h.bounded;
-          below = h.below;
-          inside = omega arith;
-          stands = whole_stands ending all (stands_at t k (state.Writing ending) h at);
-        })
+        (as_before t.ended after.went k.least Nothing 0 k.reads (after_reply (state.Writing ending)) h.reads h.seldom h.below
+        (omega arith) (whole_stands ending all (stands_at t k (state.Writing ending) h at)))

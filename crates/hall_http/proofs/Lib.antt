@@ -22,10 +22,12 @@ pub mod Told
 pub mod Endings
 pub mod Histories
 pub mod Handling
+pub mod Rested
 pub mod Peers
 pub mod Gated
 pub mod Numbers
 pub mod Crowds
+pub mod Comings
 pub mod SoFar
 pub mod Serving
 pub mod Wire

@@ -1,12 +1,13 @@
 -- What each step of a connection and its peer keeps.
-use Rattle.std.proofs.Common.{◌≡◌, ◌≢◌, ◌⊎◌, ◌∙◌, sym, ap, subst, refl, arith, ℕ, ◌+◌, ◌<◌, ◌≤◌, inl, inr, List, [], ◌∷◌, ◌++◌}
-use Rattle.std.proofs.Common.{length, take, drop, Option, Some, None, append_assoc, true, false}
+use Rattle.std.proofs.Common.{◌≡◌, ◌∙◌, sym, ap, subst, refl, ℕ, ◌<◌, ◌≤◌, inl, inr, List, [], ◌∷◌, ◌++◌}
+use Rattle.std.proofs.Common.{length, take, drop, Option, append_assoc, true, false}
 use Rattle.std.specs.Prelude.{Bool}
 use Rattle.std.proofs.lemmas.List.{append-nil}
 use Rattle.hall_http.specs.Answered.{answer_text}
 use Rattle.hall_http.specs.Turns.{IsClient, IsTurned}
-use Rattle.hall_http.specs.Connection.{Exchange, Session, AreMoments}
-use Rattle.hall_http.specs.History.{History, nothing, then_heard, then_ended, then_answered, then_sent, HasHistory}
+use Rattle.hall_http.specs.Connection.{Exchange, AreMoments}
+use Rattle.hall_http.specs.Resting.{Rests, RestingSession}
+use Rattle.hall_http.specs.History.{nothing, then_heard, then_ended, then_answered, then_sent, HasHistory}
 use Rattle.hall_http.specs.Steps.{pending, fresh, IsAfterHearing, IsAfterEnd, IsAfterSending, Looks}
 use Rattle.hall_http.specs.declared.client.Client.{Client}
 use Rattle.hall_http.specs.declared.connection.Connection.{Connection}
@@ -14,11 +15,7 @@ use Rattle.hall_http.specs.declared.connection.ServeEnd.{ServeEnd}
 use Rattle.hall_http.specs.declared.connection.State.{State}
 use Rattle.hall_http.specs.declared.connection.State.TheVariants as state
 use Rattle.hall_http.proofs.Histories.{at_the_start, heard, ended, answered, waited, refused, sent}
-
-pub session_then : {H : Type 0} (answers : H → Option ℕ → List ℕ → List ℕ → H → Type 0) (xs ys : List Exchange) (h m i : H)
-    → Session answers h xs m → Session answers m ys i → Session answers h (xs ++ ys) i
-session_then {H} answers [] ys h m i same rest = subst (λ (m : H). Session answers m ys i) same rest
-session_then answers (x ∷ xs) ys h m i (p, first, more) rest = (p, first, session_then answers xs ys p m i more rest)
+use Rattle.hall_http.proofs.Rested.{no_session, rest_session, one_session, resting_then}
 
 pub moments_then : {C : Type 0} (now_gives : C → Option ℕ → C → Type 0) (xs ys : List Exchange) (c n d : C)
     → AreMoments now_gives c xs n → AreMoments now_gives n ys d → AreMoments now_gives c (xs ++ ys) d
@@ -133,15 +130,15 @@ module _ {P : Type 0} (came went : P → List ℕ) where
         sent = same ∙ is.sent;
       }
 
-      module _ {H C : Type 0} (answers : H → Option ℕ → List ℕ → List ℕ → H → Type 0)
+      module _ {H C : Type 0} (answers : H → Option ℕ → List ℕ → List ℕ → H → Type 0) (rests : H → H → Type 0)
           (now_gives : C → Option ℕ → C → Type 0) (h i : H) (c d : C) where
         abbrev Turned : Type 0
-        Turned = (more : List Exchange) × Session answers h more i × AreMoments now_gives c more d
+        Turned = (more : List Exchange) × RestingSession answers rests h more i × AreMoments now_gives c more d
             × IsClient came went (xs ++ more) (client n l q f w)
 
         client_idle : i ≡ h → d ≡ c → IsClient came went xs (client n l q f w) → Turned
         client_idle same stood kept =
-            ([], same, stood, subst (λ (ys : List Exchange). IsClient came went ys (client n l q f w)) (sym (append-nil xs)) kept)
+            ([], rw same (no_session rests answers h), stood, subst (λ (ys : List Exchange). IsClient came went ys (client n l q f w)) (sym (append-nil xs)) kept)
 
         same_heard : k.state ≡ state.Looking → q ≡ p → came q ≡ is.history.came ++ []
         same_heard at same = ap came same ∙ heard_all (looking_off at) ∙ sym (append-nil is.history.came)
@@ -149,7 +146,7 @@ module _ {P : Type 0} (came went : P → List ℕ) where
         pub client_looked : k.state ≡ state.Looking → q ≡ p → Looks answers now_gives h c k i d l → Turned
         client_looked at same (inl a) = (
           a.exchange ∷ [],
-          (i, a.exchanged.2, refl),
+          one_session rests answers h a.exchange i a.exchanged.2,
           (d, a.exchanged.1, refl),
           record {
             history = then_answered is.history a.exchange;
@@ -162,21 +159,13 @@ module _ {P : Type 0} (came went : P → List ℕ) where
             sent = ap went same ∙ is.sent;
           },
         )
-        client_looked at same (inr ((stays, stood), inl x)) =
+        client_looked at same (inr ((stays, stood), unanswered)) =
             client_idle stays stood (record {
               history = is.history;
-              has = waited is.history k is.has at l x;
-              answered = is.answered;
-              off = [];
-              quiet = inl refl;
-              over = is.over;
-              heard = same_heard at same;
-              sent = ap went same ∙ is.sent;
-            })
-        client_looked at same (inr ((stays, stood), inr x)) =
-            client_idle stays stood (record {
-              history = is.history;
-              has = refused is.history k is.has at l x;
+              has = elim unanswered [
+                | inl x ↦ waited is.history k is.has at l x
+                | inr x ↦ refused is.history k is.has at l x
+              ];
               answered = is.answered;
               off = [];
               quiet = inl refl;
@@ -186,28 +175,45 @@ module _ {P : Type 0} (came went : P → List ℕ) where
             })
 
   -- none of its requests was answered
-  pub client_same : {H C : Type 0} (answers : H → Option ℕ → List ℕ → List ℕ → H → Type 0)
+  pub client_rests : {H C : Type 0} (answers : H → Option ℕ → List ℕ → List ℕ → H → Type 0) (rests : H → H → Type 0)
+      (now_gives : C → Option ℕ → C → Type 0) (h i : H) (c : C) (xs : List Exchange) (k : Client P) → Rests rests h i
+      → IsClient came went xs k → (more : List Exchange) × RestingSession answers rests h more i × AreMoments now_gives c more c
+      × IsClient came went (xs ++ more) k
+  client_rests answers rests now_gives h i c xs k rested kept = (
+    [],
+    rest_session rests answers h i rested,
+    refl,
+    subst (λ (ys : List Exchange). IsClient came went ys k) (sym (append-nil xs)) kept,
+  )
+
+  -- nor did the responder rest
+  pub client_same : {H C : Type 0} (answers : H → Option ℕ → List ℕ → List ℕ → H → Type 0) (rests : H → H → Type 0)
       (now_gives : C → Option ℕ → C → Type 0) (h : H) (c : C) (xs : List Exchange) (k : Client P) → IsClient came went xs k
-      → (more : List Exchange) × Session answers h more h × AreMoments now_gives c more c × IsClient came went (xs ++ more) k
-  client_same answers now_gives h c xs k kept =
-      ([], refl, refl, subst (λ (ys : List Exchange). IsClient came went ys k) (sym (append-nil xs)) kept)
+      → (more : List Exchange) × RestingSession answers rests h more h × AreMoments now_gives c more c
+      × IsClient came went (xs ++ more) k
+  client_same answers rests now_gives h c xs k kept =
+      client_rests answers rests now_gives h h c xs k ([], refl) kept
 
-  module _ {H C : Type 0} (answers : H → Option ℕ → List ℕ → List ℕ → H → Type 0) (now_gives : C → Option ℕ → C → Type 0) where
-    pub turned_start : (h : H) (c : C) (k : Client P) → IsTurned answers now_gives came went h c k h c k
-    turned_start h c k = λ xs kept. client_same answers now_gives h c xs k kept
+  module _ {H C : Type 0} (answers : H → Option ℕ → List ℕ → List ℕ → H → Type 0) (rests : H → H → Type 0)
+      (now_gives : C → Option ℕ → C → Type 0) where
+    pub turned_start : (h : H) (c : C) (k : Client P) → IsTurned answers rests now_gives came went h c k h c k
+    turned_start h c k = λ xs kept. client_same answers rests now_gives h c xs k kept
 
-    pub turned_then : (h m i : H) (c n d : C) (k l u : Client P) → IsTurned answers now_gives came went h c k m n l
-        → IsTurned answers now_gives came went m n l i d u → IsTurned answers now_gives came went h c k i d u
+    pub turned_rests : (h i : H) (c : C) (k : Client P) → Rests rests h i → IsTurned answers rests now_gives came went h c k i c k
+    turned_rests h i c k rested = λ xs kept. client_rests answers rests now_gives h i c xs k rested kept
+
+    pub turned_then : (h m i : H) (c n d : C) (k l u : Client P) → IsTurned answers rests now_gives came went h c k m n l
+        → IsTurned answers rests now_gives came went m n l i d u → IsTurned answers rests now_gives came went h c k i d u
     turned_then h m i c n d k l u first second = λ xs kept.
         let (one, session, moments, between) = first xs kept in
         let (two, later, told, after) = second (xs ++ one) between in (
           one ++ two,
-          session_then answers one two h m i session later,
+          resting_then rests answers one two h m i session later,
           moments_then now_gives one two c n d moments told,
           subst (λ (ys : List Exchange). IsClient came went ys u) (append_assoc xs one two) after,
         )
 
     pub turned_client : (h i : H) (c d : C) (k l : Client P) → (xs : List Exchange) × IsClient came went xs k
-        → IsTurned answers now_gives came went h c k i d l → (xs : List Exchange) × IsClient came went xs l
+        → IsTurned answers rests now_gives came went h c k i d l → (xs : List Exchange) × IsClient came went xs l
     turned_client h i c d k l (xs, kept) turned =
         let (more, session, moments, after) = turned xs kept in (xs ++ more, after)

@@ -70,11 +70,23 @@ run_over world (x ∷ xs) last (next, step, rest) =
     before_run world x x.moment next xs last refl step (run_over next xs last rest)
 
 -- the exchanges from a world on, which is the store's where it serves
-abbrev Onward : World → List Exchange → Content → Type 0
+abbrev pub Onward : World → List Exchange → Content → Type 0
 Onward world xs new = (last : World) × Answering world xs last × (new.serves → new.world ≡ last)
 
-onward_runs : (old : Content) (xs : List Exchange) (new : Content) → Onward old.world xs new → RunsOver old xs new
+pub onward_runs : (old : Content) (xs : List Exchange) (new : Content) → Onward old.world xs new → RunsOver old xs new
 onward_runs old xs new (last, more, stays) = (last, run_over old.world xs last more, stays)
+
+-- the first exchange, and then the others from whatever world it leaves
+pub further : (old new : Content) (x : Exchange) (xs : List Exchange) (last : Content) (world : World)
+    → (old.serves → old.world ≡ world) → (new.serves → old.serves)
+    → Over (λ before after. AnswersAt before x.moment x.request x.reply after) old new
+    → ((world : World) → (new.serves → new.world ≡ world) → Onward world xs last)
+    → Onward world (x ∷ xs) last
+further old new x xs last world own served (inl (always, left)) rest =
+    let (end, more, stays) = rest world (λ s. left s ∙ own (served s)) in (end, (world, always world, more), stays)
+further old new x xs last world own served (inr (before, after, says)) rest =
+    let (end, more, stays) = rest new.world (λ s. refl) in
+    (end, (new.world, subst (λ w. AnswersAt w x.moment x.request x.reply new.world) (own before) says, more), stays)
 
 one_moment : (t u : ℕ) → Some t ≡ Some u → t ≡ u
 one_moment t u same = cc
@@ -102,18 +114,6 @@ module _ {H : Type 0} (content : H → Content) where
       subst (λ (i : H). Leads (content h) (content i)) (sym same) (leads_same (content h))
   session_leads h (x ∷ xs) i (m, says, rest) =
       leads_then (content h) (content m) (content i) says.leads (session_leads m xs i rest)
-
-  -- the first exchange, and then the others from whatever world it leaves
-  further : (old new : Content) (x : Exchange) (xs : List Exchange) (last : Content) (world : World)
-      → (old.serves → old.world ≡ world) → (new.serves → old.serves)
-      → Over (λ before after. AnswersAt before x.moment x.request x.reply after) old new
-      → ((world : World) → (new.serves → new.world ≡ world) → Onward world xs last)
-      → Onward world (x ∷ xs) last
-  further old new x xs last world own served (inl (always, left)) rest =
-      let (end, more, stays) = rest world (λ s. left s ∙ own (served s)) in (end, (world, always world, more), stays)
-  further old new x xs last world own served (inr (before, after, says)) rest =
-      let (end, more, stays) = rest new.world (λ s. refl) in
-      (end, (new.world, subst (λ w. AnswersAt w x.moment x.request x.reply new.world) (own before) says, more), stays)
 
   onward : (h : H) (xs : List Exchange) (i : H) (world : World) → AreAnswered content h xs i
       → ((content h).serves → (content h).world ≡ world) → (content i).honest → Onward world xs (content i)

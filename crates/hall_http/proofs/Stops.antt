@@ -1,5 +1,5 @@
 -- What a stop leaves of a store whose requests are answered.
-use Rattle.std.proofs.Common.{◌≡◌, ◌⊎◌, inl, inr, ℕ, List, IsErrAnd, IfOk, Result, Ok, Err, sym, subst}
+use Rattle.std.proofs.Common.{◌≡◌, inl, inr, ℕ, IsErrAnd, IfOk, Result, Ok, Err, sym, subst}
 use Rattle.hall_policy.specs.World.{World}
 use Rattle.hall_policy.specs.declared.request.Request.{Request}
 use Rattle.hall_store.specs.Store.{Content, Kept, Leads, LeavesNoOther, LeavesOneOf}

@@ -45,7 +45,7 @@ no_request : (x : Exchange) (found : FormFault) (a : Request) → RequestOf x.re
 no_request x found a p q = let none : Err found ≡ Ok a = one_asked x.request (Err found) (Ok a) p q in absurd (cc)
 
 -- bytes that aren't made into a request, and are served, are none
-not_made_asks : (x : Exchange) → IsNotMade x → ¬ (BytesOf reply.Unavailable x.reply) → (test : Request → Bool) → AsksFor test x → ⊥
+pub not_made_asks : (x : Exchange) → IsNotMade x → ¬ (BytesOf reply.Unavailable x.reply) → (test : Request → Bool) → AsksFor test x → ⊥
 not_made_asks x (inl (moment, at, refused)) serves test (request, reads, passes) = no_request x refused.found request refused.reads reads
 not_made_asks x (inr lacking) serves test asks = serves lacking
 
@@ -59,10 +59,10 @@ made_fails x q given made test fails = elim (test q.1) as (λ b. test q.1 ≡ b 
   | false ↦ λ h. refl
 ] refl
 
-served_first : (x : Exchange) (xs : List Exchange) → AllServed (x ∷ xs) → ¬ (BytesOf reply.Unavailable x.reply)
+pub served_first : (x : Exchange) (xs : List Exchange) → AllServed (x ∷ xs) → ¬ (BytesOf reply.Unavailable x.reply)
 served_first x xs served = All-head (λ y. ¬ (BytesOf reply.Unavailable y.reply)) x xs served
 
-served_later : (x : Exchange) (xs : List Exchange) → AllServed (x ∷ xs) → AllServed xs
+pub served_later : (x : Exchange) (xs : List Exchange) → AllServed (x ∷ xs) → AllServed xs
 served_later x xs served = All-tail (λ y. ¬ (BytesOf reply.Unavailable y.reply)) x xs served
 
 -- ---- bytes that are no request
@@ -111,14 +111,14 @@ told_bytes test (x ∷ xs) requests replies texts served (inr (q, given, later, 
     inr (inr (fails, subst (λ (gs : List Reply). AreBytes test xs gs texts) (sym first) (told_bytes test xs later rest texts (served_later x xs served) made told)))
 
 -- what is asked for by the same bytes
-asks_again : (test : Request → Bool) (x y : Exchange) → y.request ≡ x.request → AsksFor test y → AsksFor test x
+pub asks_again : (test : Request → Bool) (x y : Exchange) → y.request ≡ x.request → AsksFor test y → AsksFor test x
 asks_again test x y same (request, reads, passes) = (request, subst (λ (bytes : List ℕ). RequestOf bytes (Ok request)) same reads, passes)
 
 refused_again : (x y : Exchange) → y.request ≡ x.request → IsRefused y.request y.reply → IsRefused x.request y.reply
 refused_again x y same refused = subst (λ (bytes : List ℕ). IsRefused bytes y.reply) same refused
 
 -- a request passes a test or fails it, and bytes that are refused are none
-not_both : (test : Request → Bool) (x : Exchange) → AsksFor test x → AsksForOther test x → ⊥
+pub not_both : (test : Request → Bool) (x : Exchange) → AsksFor test x → AsksForOther test x → ⊥
 not_both test x (request, reads, passes) (other, read, fails) =
     let none : test request ≡ false = ap test (same_request x request other reads read) ∙ not-true (test other) fails in
     false≢true (sym none ∙ passes)
@@ -185,7 +185,7 @@ module _ (last : World) (e : Person) where
     Same xs = (ys : List Exchange) (replies : List Reply) (texts words : List (List ℕ)) → AreWithout last e xs ys → AreBytes own xs replies texts → AreBytes own ys replies words → texts ≡ words
 
     -- others' requests have another key
-    not_others : (x : Exchange) → AsksFor own x → AsksFor (is_others last e) x → ⊥
+    pub not_others : (x : Exchange) → AsksFor own x → AsksFor (is_others last e) x → ⊥
     not_others x (request, reads, passes) (other, read, struck) =
         let same : request ≡ other = same_request x request other reads read in
         false≢true (sym (not_own last e settled there alone other.key struck) ∙ sym (ap own same) ∙ passes)

@@ -1,16 +1,24 @@
 -- All connections that came, and what each was told.
-use Rattle.std.specs.Prelude.{◌≡◌, ◌≢◌, ◌<◌, ◌⊎◌, ℕ, List, [], ◌∷◌, ◌++◌, All, Option, Some, None}
+use Rattle.std.specs.Prelude.{◌≡◌, ◌≢◌, ◌<◌, ◌+◌, ◌⊎◌, ℕ, List, [], ◌∷◌, ◌++◌, length, All, Option, Some, None}
 use Rattle.std.proofs.Common.{get_or}
 use Rattle.hall_http.specs.Turns.{Turn, exchanges_of, of, IsTold, IsClient}
+use Rattle.hall_http.specs.Coming.{Nexts, AreDone}
+use Rattle.hall_http.specs.declared.server.ServeAllEnd.{ServeAllEnd}
+use Rattle.hall_http.specs.declared.server.ServeAllEnd.TheVariants.{Served}
 use Rattle.hall_store.specs.Store.{Content, Leads}
-use Rattle.hall_http.specs.Connection.{Exchange, Session, AreMoments}
-use Rattle.hall_http.specs.Serving.{AreAnswered, RunsOver, WhileOpen}
+use Rattle.hall_http.specs.Connection.{AreMoments}
+use Rattle.hall_http.specs.Resting.{RestingSession}
+use Rattle.hall_http.specs.Serving.{AreAnsweredWhileOpen, RunsOver}
 use Rattle.hall_http.specs.declared.client.Client.{Client}
 use Rattle.hall_http.specs.declared.clients.Clients.{Clients}
 
 -- the connection at a place
 abbrev pub IsAt : {P : Type 0} → Clients P → ℕ → Client P → Type 0
 IsAt s place k = get_or s.places.items place None ≡ Some k
+
+-- how many newcomers came in: each was given a place, or was turned away
+abbrev pub came_in : {P : Type 0} → Clients P → ℕ
+came_in s = s.count + length s.away.items
 
 -- one of the connections that have gone had this number
 abbrev pub HasGone : {P : Type 0} → ℕ → List (P × ℕ) → Type 0
@@ -44,32 +52,38 @@ pub record AreKept {P : Type 0} (came went : P → List ℕ) (turns : List Turn)
   pub away : All (λ one. (came one.0 ≡ []) × (went one.0 ≡ [])) s.away.items
 
 -- some more requests of theirs were answered, one after another
-abbrev pub Serves : {H C P : Type 0} → (H → Option ℕ → List ℕ → List ℕ → H → Type 0) → (C → Option ℕ → C → Type 0)
+abbrev pub Serves : {H C P : Type 0} → (H → Option ℕ → List ℕ → List ℕ → H → Type 0) → (H → H → Type 0)
+    → (C → Option ℕ → C → Type 0)
     → (P → List ℕ) → (P → List ℕ) → H → C → Clients P → H → C → Clients P → Type 0
-Serves answers now_gives came went h c s i d u =
+Serves answers rests now_gives came went h c s i d u =
     (turns : List Turn) → AreKept came went turns s
-    → (more : List Turn) × Session answers h (exchanges_of more) i × AreMoments now_gives c (exchanges_of more) d
+    → (more : List Turn) × RestingSession answers rests h (exchanges_of more) i × AreMoments now_gives c (exchanges_of more) d
     × AreKept came went (turns ++ more) u
 
 -- requests were answered one after another by a responder, at the clock's moments, and each connection was told so
 pub record AreHandled {H C P : Type 0} (answers : H → Option ℕ → List ℕ → List ℕ → H → Type 0)
-    (now_gives : C → Option ℕ → C → Type 0) (came went : P → List ℕ) (h : H) (c : C) (i : H) (d : C) (s : Clients P)
+    (rests : H → H → Type 0) (now_gives : C → Option ℕ → C → Type 0) (came went : P → List ℕ) (h : H) (c : C) (i : H) (d : C) (s : Clients P)
     : Type 0 where
   pub turns : List Turn
-  pub session : Session answers h (exchanges_of turns) i
+  pub session : RestingSession answers rests h (exchanges_of turns) i
   pub moments : AreMoments now_gives c (exchanges_of turns) d
   pub told : AreTold came went turns s
 
 -- The requests of all connections were answered over a store, one after another, at the clock's moments, each over the
--- store that the one before it left, by the replies of a run of the hall, and none after one that a store answered by 503
--- which serves no more. And of each connection that came, the first bytes spell its requests among these, and what it was
+-- store that the one before it left and that was only read since, by the replies of a run of the hall, and none after one
+-- that a store answered by 503 which serves no more. And of each connection that came, the first bytes spell its requests among these, and what it was
 -- sent is a first part of the replies to them.
 pub record AreServed {H C P : Type 0} (content : H → Content) (now_gives : C → Option ℕ → C → Type 0)
     (came went : P → List ℕ) (old : H) (clock : C) (new : H) (later : C) (s : Clients P) : Type 0 where
   pub turns : List Turn
-  pub answered : AreAnswered content old (exchanges_of turns) new
+  pub answered : AreAnsweredWhileOpen content old (exchanges_of turns) new
   pub moments : AreMoments now_gives clock (exchanges_of turns) later
   pub leads : Leads (content old) (content new)
   pub run : (content new).honest → RunsOver (content old) (exchanges_of turns) (content new)
-  pub while_open : WhileOpen content old (exchanges_of turns) new
   pub told : AreTold came went turns s
+
+-- Serving ended so, as the sockets said: each connection that they handed out came in, and was given a place or turned
+-- away; and where all were served, all that may come have come and gone.
+abbrev pub EndsServing : {L P : Type 0} → (L → Type 0) → (L → Nexts P) → ServeAllEnd → L → L → Clients P → Type 0
+EndsServing is_over nexts end before after clients =
+    (end ≡ Served → is_over after) × AreDone end (nexts before) (nexts after) 0 (came_in clients)

@@ -1,10 +1,9 @@
 -- What a connection has heard and was told, and what is true of it.
-use Rattle.std.specs.Prelude.{◌≡◌, ◌≢◌, ◌<◌, ◌≤◌, ◌+◌, ◌⊎◌, ℕ, Bool, true, false, if◌then◌else◌, List, [], ◌∷◌, ◌++◌, length, take, All, Option, Some, None}
+use Rattle.std.specs.Prelude.{◌≡◌, ◌≢◌, ◌<◌, ◌≤◌, ◌+◌, ◌⊎◌, ℕ, Bool, true, false, if◌then◌else◌, List, [], ◌∷◌, ◌++◌, length, take, All, Some, None}
 use Rattle.hall_http.specs.Answered.{answer_text}
 use Rattle.hall_http.specs.Connection.{Exchange, requests_of, replies_of, AreOpen}
 use Rattle.hall_http.specs.Head.{IsWhole, IsUnfinished, IsUnfinishedBelow, NeverHas}
 use Rattle.hall_http.specs.Served.{HaveRead, IsLastRequest, MayGoOn, ClosesLast, HasAnsweredAll, refusal}
-use Rattle.hall_http.specs.Steps.{pending}
 use Rattle.hall_http.specs.declared.connection.Connection.{Connection}
 use Rattle.hall_http.specs.declared.connection.ServeEnd.{ServeEnd}
 use Rattle.hall_http.specs.declared.connection.ServeEnd.TheVariants as end

@@ -15,5 +15,5 @@ abbrev pub uncalled : {D : Type 0} → D → Tally D
 uncalled device = record { device = device; calls = 0; failures = 0 }
 
 -- the connections that came to its sockets, at each time that it listened
-abbrev pub ended : {N E : Type 0} → SystemHost N E → List (Clients Socket × EventLoop N)
+abbrev pub ended : {N E : Type 0} → SystemHost N E → List (Clients Socket × EventLoop N E)
 ended host = host.ended.items

@@ -20,6 +20,7 @@ pub mod Notice
 pub mod Laws
 pub mod Told
 pub mod Steps
+pub mod Resting
 pub mod Feeding
 pub mod History
 pub mod Turns

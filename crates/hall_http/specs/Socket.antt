@@ -1,5 +1,5 @@
 -- What a socket was read and was sent.
-use Rattle.std.specs.Prelude.{◌≡◌, ℕ, List, ◌++◌, flat_map, take, drop}
+use Rattle.std.specs.Prelude.{ℕ, List, flat_map, take, drop}
 use Rattle.hall_http.specs.Answered.{answer_text}
 use Rattle.hall_http.specs.declared.socket.Socket.{Socket}
 

@@ -1,5 +1,5 @@
 -- The steps of a connection.
-use Rattle.std.specs.Prelude.{◌≡◌, ◌≢◌, ◌<◌, ◌≤◌, ◌+◌, ◌==◌, ◌⊎◌, ℕ, Bool, true, false, if◌then◌else◌, List, [], ◌++◌, length, take, drop, Option, Some, None}
+use Rattle.std.specs.Prelude.{◌≡◌, ◌≢◌, ◌<◌, ◌+◌, ◌==◌, ◌⊎◌, ℕ, Bool, true, false, if◌then◌else◌, List, [], ◌++◌, length, take, drop, Option, Some, None}
 use Rattle.hall_http.specs.Answered.{answer_text}
 use Rattle.hall_http.specs.Connection.{Exchange, Exchanged, IsOpen, IsClosing}
 use Rattle.hall_http.specs.Head.{IsUnfinished, IsUnfinishedBelow, NeverHas}

@@ -1,8 +1,9 @@
 -- Many connections, and what each was told.
-use Rattle.std.specs.Prelude.{◌≡◌, ◌≢◌, ◌<◌, ◌≤◌, ◌==◌, ◌⊎◌, ℕ, List, [], ◌∷◌, ◌++◌, length, map, filter, All}
+use Rattle.std.specs.Prelude.{◌≡◌, ◌≤◌, ◌==◌, ◌⊎◌, ℕ, List, [], ◌∷◌, ◌++◌, length, map, filter, All}
 use Rattle.std.specs.Prelude.{Option, Some, None, Bool, true, false}
 use Rattle.hall_http.specs.Served.{HaveRead, refusal}
-use Rattle.hall_http.specs.Connection.{Exchange, Session, AreMoments, requests_of, replies_of}
+use Rattle.hall_http.specs.Connection.{Exchange, AreMoments, requests_of, replies_of}
+use Rattle.hall_http.specs.Resting.{RestingSession}
 use Rattle.hall_http.specs.Head.{IsWhole, HasNone}
 use Rattle.hall_http.specs.History.{History, HasHistory, Ends}
 use Rattle.hall_http.specs.declared.client.Client.{Client}
@@ -71,11 +72,12 @@ pub record IsClient {P : Type 0} (came went : P → List ℕ) (xs : List Exchang
   pub sent : went k.peer ≡ history.went
 
 -- some more of its requests were answered, one after another
-abbrev pub IsTurned : {H C P : Type 0} → (H → Option ℕ → List ℕ → List ℕ → H → Type 0) → (C → Option ℕ → C → Type 0)
+abbrev pub IsTurned : {H C P : Type 0} → (H → Option ℕ → List ℕ → List ℕ → H → Type 0) → (H → H → Type 0)
+    → (C → Option ℕ → C → Type 0)
     → (P → List ℕ) → (P → List ℕ) → H → C → Client P → H → C → Client P → Type 0
-IsTurned answers now_gives came went h c k i d l =
+IsTurned answers rests now_gives came went h c k i d l =
     (xs : List Exchange) → IsClient came went xs k
-    → (more : List Exchange) × Session answers h more i × AreMoments now_gives c more d × IsClient came went (xs ++ more) l
+    → (more : List Exchange) × RestingSession answers rests h more i × AreMoments now_gives c more d × IsClient came went (xs ++ more) l
 
 -- others may be answered after it
 abbrev pub goes_on : Step → Bool
@@ -90,9 +92,10 @@ IsPlaceKept {P} came went old new =
     × ((xs : List Exchange) → IsClient came went xs k → IsClient came went xs l))
 
 -- the connection at a place went one step, if there is one
-abbrev pub IsPlaceTurned : {H C P : Type 0} → (H → Option ℕ → List ℕ → List ℕ → H → Type 0) → (C → Option ℕ → C → Type 0)
+abbrev pub IsPlaceTurned : {H C P : Type 0} → (H → Option ℕ → List ℕ → List ℕ → H → Type 0) → (H → H → Type 0)
+    → (C → Option ℕ → C → Type 0)
     → (P → List ℕ) → (P → List ℕ) → H → C → Option (Client P) → H → C → Option (Client P) → Type 0
-IsPlaceTurned {H} {C} {P} answers now_gives came went h c old i d new =
+IsPlaceTurned {H} {C} {P} answers rests now_gives came went h c old i d new =
     ((old ≡ None) × (new ≡ None) × (i ≡ h) × (d ≡ c))
     ⊎ ((k l : Client P) × (old ≡ Some k) × (new ≡ Some l) × (l.number ≡ k.number)
-    × IsTurned answers now_gives came went h c k i d l)
+    × IsTurned answers rests now_gives came went h c k i d l)

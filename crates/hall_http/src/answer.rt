@@ -127,6 +127,21 @@ pub(crate) fn answer_raw_request<S: Store>(
     }
 }
 
+/// Works for a while on what the request needs, and tells whether to answer it now, or to ask so again. Reads only.
+pub(crate) fn prepare_raw_request<S: Store>(
+    alloc: Global,
+    routes: &Routes,
+    desk: &mut Desk<S>,
+    raw: &RawRequest<'_>,
+) -> bool
+    ensures { Kept (S.content (kept_by desk.old)) (S.content (kept_by desk.new)) }
+{
+    match request_of(alloc, routes, raw) {
+        Ok(request) => desk.prepare(alloc, &request),
+        Err(_) => true,
+    }
+}
+
 /// The answer to bytes that are no request.
 fn answer_fault(alloc: Global, fault: FormFault) -> Answer
     ensures { AnswersFault fault (answer_text result) }

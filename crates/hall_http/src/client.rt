@@ -1,5 +1,6 @@
 //! One connection and the other side of it.
 ghost use Rattle.std.specs.Prelude.{◌≡◌, List};
+ghost use Rattle.hall_http.specs.Resting.{still};
 ghost use Rattle.hall_http.specs.Steps.{gated};
 ghost use Rattle.hall_http.specs.Turns.{IsClient, IsTurned, goes_on};
 ghost use Rattle.hall_http.specs.Connection.{Exchange};
@@ -28,6 +29,8 @@ pub enum Wish {
     Taking,
     /// For the end of what is no longer answered.
     Leaving,
+    /// For the work that its request needs.
+    Searching,
 }
 
 /// How a connection stands after its turn.
@@ -39,6 +42,8 @@ pub enum Step {
     Leaves,
     /// It waits for the other side, after so many requests.
     Waits { wish: Wish, requests: usize },
+    /// Its request, after so many, needs more work before it is answered, at further turns.
+    Searches { requests: usize },
     /// It is over.
     Over,
     /// It was answered by a store that serves no more, and nobody is answered after it.
@@ -52,7 +57,8 @@ impl Step {
     {
         match self {
             Step::Shut => false,
-            Step::Again | Step::Leaves | Step::Waits { .. } | Step::Over => true,
+            Step::Again | Step::Leaves | Step::Waits { .. } | Step::Searches { .. } | Step::Over =>
+                true,
         }
     }
 }
@@ -96,8 +102,8 @@ impl<P: Peer> Client<P> {
     ) -> Step
         requires { (xs : List Exchange) × IsClient P.came P.went xs self.old }
         ensures number { self.new.number ≡ self.old.number }
-        ensures turned { IsTurned (gated H.answers H.goes_on) C.now_gives P.came P.went (responder.old, true) clock.old
-            self.old (responder.new, goes_on result) clock.new self.new }
+        ensures turned { IsTurned (gated H.answers H.goes_on) (still H.rests) C.now_gives P.came P.went
+            (responder.old, true) clock.old self.old (responder.new, goes_on result) clock.new self.new }
     {
         for _step in 0..STEPS {
             match self.step(alloc, routes, responder, clock) {
@@ -108,7 +114,7 @@ impl<P: Peer> Client<P> {
         Step::Again
     }
 
-    /// Goes one step: looks at what waits, reads once, or sends once, none of which has to wait.
+    /// Goes one step: looks at what waits, reads once, or sends once, none of which has to wait for the other side.
     fn step<H: Responder, C: Clock>(
         &mut self,
         alloc: Global,
@@ -118,20 +124,40 @@ impl<P: Peer> Client<P> {
     ) -> Step
         requires { (xs : List Exchange) × IsClient P.came P.went xs self.old }
         ensures number { self.new.number ≡ self.old.number }
-        ensures turned { IsTurned (gated H.answers H.goes_on) C.now_gives P.came P.went (responder.old, true) clock.old
-            self.old (responder.new, goes_on result) clock.new self.new }
+        ensures turned { IsTurned (gated H.answers H.goes_on) (still H.rests) C.now_gives P.came P.went
+            (responder.old, true) clock.old self.old (responder.new, goes_on result) clock.new self.new }
     {
         match self.connection.state() {
-            State::Looking => {
-                if self.connection.look(alloc, routes, responder, clock) {
-                    Step::Again
-                } else {
-                    Step::Shut
-                }
-            }
+            State::Looking => self.look(alloc, routes, responder, clock),
             State::Reading => self.read(),
             State::Writing(_) => self.write(),
             State::Ended(_) => self.leave(),
+        }
+    }
+
+    /// Looks at what waits; but a request that needs more work is kept waiting.
+    fn look<H: Responder, C: Clock>(
+        &mut self,
+        alloc: Global,
+        routes: &Routes,
+        responder: &mut H,
+        clock: &mut C,
+    ) -> Step
+        requires kept { (xs : List Exchange) × IsClient P.came P.went xs self.old }
+        requires at { self.old.connection.state ≡ State.Looking }
+        ensures number { self.new.number ≡ self.old.number }
+        ensures turned { IsTurned (gated H.answers H.goes_on) (still H.rests) C.now_gives P.came P.went
+            (responder.old, true) clock.old self.old (responder.new, goes_on result) clock.new self.new }
+    {
+        if !self.connection.prepare(alloc, routes, responder) {
+            return Step::Searches {
+                requests: self.connection.requests,
+            };
+        }
+        if self.connection.look(alloc, routes, responder, clock) {
+            Step::Again
+        } else {
+            Step::Shut
         }
     }
 

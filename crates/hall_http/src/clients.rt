@@ -1,10 +1,11 @@
 //! The open connections, each at a place of its own.
-ghost use Rattle.std.specs.Prelude.{◌≡◌, List, [], IfOk, Some, true};
+ghost use Rattle.std.specs.Prelude.{◌≡◌, ◌+◌, List, [], IfOk, Some, true};
 ghost use Rattle.hall_http.specs.Connection.{Exchange};
+ghost use Rattle.hall_http.specs.Resting.{still};
 ghost use Rattle.hall_http.specs.Steps.{gated};
 ghost use Rattle.hall_http.specs.Turns.{Turn, IsClient, IsPlaceKept, IsPlaceTurned, goes_on};
 ghost use Rattle.hall_http.specs.declared.client.Client.{Client};
-ghost use Rattle.hall_http.specs.Crowd.{AreKept, Serves};
+ghost use Rattle.hall_http.specs.Crowd.{AreKept, Serves, came_in};
 
 use crate::client::{Client, Step};
 use crate::connection::Clock;
@@ -36,7 +37,7 @@ fn turn_at<P: Peer, H: Responder, C: Clock>(
     clock: &mut C,
 ) -> Step
     requires { (k : Client P) → place.old ≡ Some k → (xs : List Exchange) × IsClient P.came P.went xs k }
-    ensures { IsPlaceTurned (gated H.answers H.goes_on) C.now_gives P.came P.went (responder.old, true) clock.old
+    ensures { IsPlaceTurned (gated H.answers H.goes_on) (still H.rests) C.now_gives P.came P.went (responder.old, true) clock.old
         place.old (responder.new, goes_on result) clock.new place.new }
 {
     match place {
@@ -59,7 +60,8 @@ fn finish_at<P: Peer>(place: &mut Option<Client<P>>)
 impl<P: Peer + Drop> Clients<P> {
     /// None yet, with so many places.
     pub fn new(alloc: Global, most: usize) -> Result<Clients<P>, AllocError>
-        ensures { IfOk result (AreKept P.came P.went []) }
+        ensures none { IfOk result (λ clients. came_in clients ≡ 0) }
+        ensures kept { IfOk result (AreKept P.came P.went []) }
     {
         let mut places = Vec::with_capacity(alloc, most)?;
         for _place in 0..most {
@@ -77,7 +79,9 @@ impl<P: Peer + Drop> Clients<P> {
     pub(crate) fn seat(&mut self, place: usize, inbox: Inbox, peer: P)
         requires came { P.came peer ≡ [] }
         requires went { P.went peer ≡ [] }
-        ensures { (turns : List Turn) → AreKept P.came P.went turns self.old → AreKept P.came P.went turns self.new }
+        ensures came { came_in self.new ≡ came_in self.old + 1 }
+        ensures kept { (turns : List Turn) → AreKept P.came P.went turns self.old →
+            AreKept P.came P.went turns self.new }
     {
         if self.count == u64::MAX || place >= self.places.len() || self.places[place].is_some() {
             self.turn_away(peer);
@@ -91,7 +95,9 @@ impl<P: Peer + Drop> Clients<P> {
     pub(crate) fn turn_away(&mut self, peer: P)
         requires came { P.came peer ≡ [] }
         requires went { P.went peer ≡ [] }
-        ensures { (turns : List Turn) → AreKept P.came P.went turns self.old → AreKept P.came P.went turns self.new }
+        ensures came { came_in self.new ≡ came_in self.old + 1 }
+        ensures kept { (turns : List Turn) → AreKept P.came P.went turns self.old →
+            AreKept P.came P.went turns self.new }
     {
         self.away = self.away.and(&peer, &self.count);
     }
@@ -106,8 +112,9 @@ impl<P: Peer + Drop> Clients<P> {
         clock: &mut C,
     ) -> Step
         requires { (turns : List Turn) × AreKept P.came P.went turns self.old }
-        ensures { Serves (gated H.answers H.goes_on) C.now_gives P.came P.went (responder.old, true) clock.old
-            self.old (responder.new, goes_on result) clock.new self.new }
+        ensures came { came_in self.new ≡ came_in self.old }
+        ensures served { Serves (gated H.answers H.goes_on) (still H.rests) C.now_gives P.came P.went
+            (responder.old, true) clock.old self.old (responder.new, goes_on result) clock.new self.new }
     {
         if place >= self.places.len() {
             return Step::Over;
@@ -118,9 +125,11 @@ impl<P: Peer + Drop> Clients<P> {
     /// Sends once more to each whose reply waits.
     pub(crate) fn finish(&mut self)
         requires { (turns : List Turn) × AreKept P.came P.went turns self.old }
-        ensures { (turns : List Turn) → AreKept P.came P.went turns self.old → AreKept P.came P.went turns self.new }
+        ensures came { came_in self.new ≡ came_in self.old }
+        ensures kept { (turns : List Turn) → AreKept P.came P.went turns self.old →
+            AreKept P.came P.went turns self.new }
     {
-        for place in 0..MOST_CLIENTS {
+        for place in 0..self.places.len() {
             self.finish_one(place);
         }
     }
@@ -128,7 +137,9 @@ impl<P: Peer + Drop> Clients<P> {
     /// Sends once more to the connection at the place, where its reply waits.
     fn finish_one(&mut self, place: usize)
         requires { (turns : List Turn) × AreKept P.came P.went turns self.old }
-        ensures { (turns : List Turn) → AreKept P.came P.went turns self.old → AreKept P.came P.went turns self.new }
+        ensures came { came_in self.new ≡ came_in self.old }
+        ensures kept { (turns : List Turn) → AreKept P.came P.went turns self.old →
+            AreKept P.came P.went turns self.new }
     {
         if place >= self.places.len() {
             return;
@@ -138,7 +149,9 @@ impl<P: Peer + Drop> Clients<P> {
 
     /// Lets the connection at the place go.
     pub(crate) fn forget(&mut self, place: usize)
-        ensures { (turns : List Turn) → AreKept P.came P.went turns self.old → AreKept P.came P.went turns self.new }
+        ensures came { came_in self.new ≡ came_in self.old }
+        ensures kept { (turns : List Turn) → AreKept P.came P.went turns self.old →
+            AreKept P.came P.went turns self.new }
     {
         if place >= self.places.len() {
             return;

@@ -3,11 +3,12 @@
 ghost use Rattle.std.specs.Prelude.{◌≡◌, ◌≤◌, ◌<◌, ◌+◌, ℕ, Option, length, true};
 ghost use Rattle.hall_http.specs.Head.{IsUnfinishedBelow};
 ghost use Rattle.hall_http.specs.Answered.{answer_text};
+ghost use Rattle.hall_http.specs.Resting.{Rests};
 ghost use Rattle.hall_http.specs.Steps.{pending, fresh, IsAfterHearing, IsAfterSending, IsAfterEnd, Looks, gated, then_of};
 
 use crate::answer::Answer;
 use crate::client::Wish;
-use crate::head::{Cut, cut_from};
+use crate::head::{Cut, cut_from, cut_request};
 use crate::inbox::Inbox;
 use crate::responder::Responder;
 use crate::routes::Routes;
@@ -145,6 +146,25 @@ impl Connection {
         self.state = State::Writing(Some(ServeEnd::BadHead));
     }
 
+    /// Works for a while on what the request that waits needs, if one does, and tells whether to look at it now.
+    pub(crate) fn prepare<H: Responder>(
+        &self,
+        alloc: Global,
+        routes: &Routes,
+        responder: &mut H,
+    ) -> bool
+        ensures { Rests H.rests responder.old responder.new }
+    {
+        let unread = self.inbox.unread();
+        if unread.len() < self.least || needs_nothing(unread) {
+            return true;
+        }
+        match cut_request(unread) {
+            Cut::Whole { request, .. } => responder.prepare(alloc, routes, &request),
+            Cut::More(_) | Cut::Never => true,
+        }
+    }
+
     /// Looks at what waits: a whole request is answered, bytes that are none are refused, and else more has to be read.
     /// The result is whether the responder goes on.
     pub(crate) fn look<H: Responder, C: Clock>(
@@ -223,4 +243,10 @@ impl Connection {
         let count = self.pending().len();
         self.sent(count);
     }
+}
+
+/// Whether the bytes begin with a method by which nothing is asked that needs work before it is answered. It spares most
+/// requests a look at their heads.
+fn needs_nothing(bytes: &[u8]) -> bool {
+    bytes.starts_with(b"GET ") || bytes.starts_with(b"PUT ")
 }

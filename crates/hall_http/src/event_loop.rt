@@ -1,18 +1,21 @@
 //! The system's sockets: who comes, whose turn it is, and who has waited too long.
 ghost use Rattle.std.specs.Prelude.{◌≡◌, ◌≢◌, IfSome};
 ghost use Rattle.hall_http.specs.declared.server.Next.TheVariants as Next;
-ghost use Rattle.hall_http.specs.Coming.{IsFreshPeer};
+ghost use Rattle.hall_http.specs.Coming.{IsFreshPeer, logged};
 ghost use Rattle.hall_http.specs.Socket.{came_of, went_of};
 
 use crate::client::{Step, Wish};
 use crate::clients::MOST_CLIENTS;
+use crate::device::write_all;
 use crate::server::{Next, Sockets};
 use crate::socket::Socket;
+use hall_grid::Counted;
+use http_server::Log;
 use mio::event::Event;
 use mio::net::{TcpListener, TcpStream};
 use mio::{Events, Interest, Poll, Token};
 use std::collections::VecDeque;
-use std::io::ErrorKind;
+use std::io::{ErrorKind, Write};
 use std::net::{Net, SocketAddr};
 use std::time::Duration;
 use std::{io, time};
@@ -32,6 +35,9 @@ const PATIENCE: u64 = 10_000;
 
 /// With more milliseconds left than these an idle connection has only just come, or was only just answered.
 const FRESH: u64 = 9_000;
+
+/// By how many milliseconds those whose requests need more work stand behind all others who may go.
+const LAST: u64 = 1 << 62;
 
 /// How many milliseconds bytes are read off that are no longer answered.
 const LAST_PATIENCE: u64 = 2_000;
@@ -71,11 +77,30 @@ enum Visit {
     Ready(Option<Wait>),
     /// It waits.
     Waiting(Wait),
+    /// Its request needs more work.
+    Searching(Wait),
 }
+
+/// What is told once writes begin to be refused, and once they are taken again.
+const REFUSED: &str =
+    "hall: the disk refuses writes: requests that write are answered 503 until it takes them again\n";
+
+const TAKEN: &str = "hall: the disk takes writes again\n";
 
 /// Connections to one address.
 #[derive(Drop)]
-pub struct EventLoop<'r, N> {
+pub struct EventLoop<'r, N, E> {
+    schedule: Schedule<'r, N>,
+    /// All that was to be done next, and the millisecond of the schedule.
+    nexts: Log<Next<Socket>, u64>,
+    /// Where it tells that writes are refused, and that they are taken again.
+    journal: Option<Counted<E>>,
+    refuses_writes: bool,
+}
+
+/// Who is here and who waits, and whose turn it is.
+#[derive(Drop)]
+struct Schedule<'r, N> {
     time: &'r N,
     poll: Poll,
     events: Events,
@@ -84,6 +109,8 @@ pub struct EventLoop<'r, N> {
     places: Vec<Visit>,
     /// The places of those who are ready, in the order in which they became so.
     ready: VecDeque<usize>,
+    /// The places of those whose requests need more work. One of them has its turn in a round, after all who are ready.
+    searching: VecDeque<usize>,
     /// How many of them have their turn before the sockets are asked again.
     round: usize,
     /// All that befell the sockets was heard, and nobody had a turn since.
@@ -98,9 +125,63 @@ pub struct EventLoop<'r, N> {
     quiet_until: u64,
 }
 
-impl<'r, N: Net + AllocGlobal + time::Clock> EventLoop<'r, N> {
+impl<'r, N: Net + AllocGlobal + time::Clock, E: Drop> EventLoop<'r, N, E> {
+    /// Listens on the address, for so many connections; and tells there, if there is a place for it, once the disk
+    /// refuses writes, and once it takes them again.
+    pub fn new(
+        rt: &'r N,
+        address: SocketAddr,
+        connections: u64,
+        journal: Option<Counted<E>>,
+    ) -> io::Result<EventLoop<'r, N, E>> {
+        Ok(EventLoop {
+            schedule: Schedule::new(rt, address, connections)?,
+            nexts: Log::new(),
+            journal,
+            refuses_writes: false,
+        })
+    }
+}
+
+impl<'r, N, E> EventLoop<'r, N, E> {
+    /// The address that it listens on.
+    pub fn local_addr(&self) -> io::Result<SocketAddr> {
+        self.schedule.listener.local_addr()
+    }
+}
+
+impl<'r, N: time::Clock, E: Write> Sockets for EventLoop<'r, N, E> {
+    type Peer = Socket;
+
+    ghost is_over = { λ sockets. sockets.schedule.left ≡ 0 };
+
+    ghost nexts = { λ sockets. logged sockets.nexts };
+
+    fn next(&mut self) -> Next<Socket> {
+        let next = self.schedule.next();
+        self.nexts = self.nexts.and(&next, &self.schedule.now);
+        next
+    }
+
+    fn stands(&mut self, place: usize, step: Step) {
+        self.schedule.stands(place, step);
+    }
+
+    fn hear_of_writes(&mut self, refuses_writes: bool) {
+        if refuses_writes == self.refuses_writes {
+            return;
+        }
+        self.refuses_writes = refuses_writes;
+        let line = if refuses_writes { REFUSED } else { TAKEN };
+        if let Some(journal) = &mut self.journal {
+            let _written = write_all(journal, line.as_bytes());
+        }
+    }
+}
+
+impl<'r, N: Net + AllocGlobal + time::Clock> Schedule<'r, N> {
     /// Listens on the address, for so many connections.
-    pub fn new(rt: &'r N, address: SocketAddr, connections: u64) -> io::Result<EventLoop<'r, N>> {
+    fn new(rt: &'r N, address: SocketAddr, connections: u64) -> io::Result<Schedule<'r, N>> {
         let alloc = rt.alloc();
         let poll = Poll::new(rt)?;
         let events = Events::with_capacity(alloc, MOST_EVENTS)?;
@@ -109,10 +190,11 @@ impl<'r, N: Net + AllocGlobal + time::Clock> EventLoop<'r, N> {
             places.push(Visit::Free)?;
         }
         let ready = VecDeque::with_capacity(alloc, MOST_CLIENTS)?;
+        let searching = VecDeque::with_capacity(alloc, MOST_CLIENTS)?;
         let mut listener = TcpListener::bind(rt, address)?;
         poll.registry()
             .register(&mut listener, Token(LISTENER), Interest::READABLE)?;
-        Ok(EventLoop {
+        Ok(Schedule {
             time: rt,
             poll,
             events,
@@ -120,6 +202,7 @@ impl<'r, N: Net + AllocGlobal + time::Clock> EventLoop<'r, N> {
             backlog: Backlog::Waiting,
             places,
             ready,
+            searching,
             round: 0,
             has_heard: false,
             left: connections,
@@ -130,12 +213,7 @@ impl<'r, N: Net + AllocGlobal + time::Clock> EventLoop<'r, N> {
     }
 }
 
-impl<'r, N> EventLoop<'r, N> {
-    /// The address that it listens on.
-    pub fn local_addr(&self) -> io::Result<SocketAddr> {
-        self.listener.local_addr()
-    }
-
+impl<'r, N> Schedule<'r, N> {
     /// The connection at the place is ready.
     fn wake(&mut self, place: usize) {
         if let Some(visit) = self.places.get_mut(place)
@@ -191,7 +269,22 @@ impl<'r, N> EventLoop<'r, N> {
         }
     }
 
-    /// A free place, where one more may be here; or else the place of one that may go, whose patience ends first.
+    /// The first of those whose requests need more work is ready.
+    fn call_searching(&mut self) {
+        for _gone in 0..self.searching.len() {
+            if let Some(place) = self.searching.pop_front()
+                && let Some(visit) = self.places.get_mut(place)
+                && let Visit::Searching(wait) = *visit
+            {
+                *visit = Visit::Ready(Some(wait));
+                let _queued = self.ready.push_back(place);
+                return;
+            }
+        }
+    }
+
+    /// A free place, where one more may be here; or else the place of one that may go, whose patience ends first. Those
+    /// whose requests need more work go last.
     fn find_place(&self) -> (Option<usize>, Option<usize>) {
         let mut count = 0u64;
         let mut found = None;
@@ -202,11 +295,10 @@ impl<'r, N> EventLoop<'r, N> {
                 Visit::Free => found = Some(place),
                 visit => {
                     count = count.saturating_add(1);
-                    if let Visit::Waiting(wait) = visit
-                        && may_go(wait.wish, wait.until, self.now)
-                        && wait.until < first
+                    if let Some(until) = self.may_go(visit)
+                        && until < first
                     {
-                        first = wait.until;
+                        first = until;
                         leaves = Some(place);
                     }
                 }
@@ -216,6 +308,23 @@ impl<'r, N> EventLoop<'r, N> {
             return (None, None);
         }
         (found, leaves)
+    }
+
+    /// When the patience of one ends that may make room for a newcomer: nothing that it asked is unanswered, and nothing
+    /// unsent; and it had a second to ask. One whose request needs more work may go too, after all others, since its search
+    /// is kept for whoever sends the request again.
+    fn may_go(&self, visit: Visit) -> Option<u64> {
+        match visit {
+            Visit::Waiting(wait) => match wait.wish {
+                Wish::Idle if wait.until.saturating_sub(self.now) <= FRESH => Some(wait.until),
+                Wish::Leaving => Some(wait.until),
+                Wish::Idle | Wish::Asking | Wish::Taking | Wish::Searching => None,
+            },
+            Visit::Searching(wait) if wait.until.saturating_sub(self.now) <= FRESH => {
+                Some(wait.until.saturating_add(LAST))
+            }
+            Visit::Free | Visit::Ready(_) | Visit::Searching(_) => None,
+        }
     }
 
     /// One whose patience has ended.
@@ -239,7 +348,8 @@ impl<'r, N> EventLoop<'r, N> {
     /// How many milliseconds to wait, a second at most, since one that stands still waits longer than it is to; none,
     /// until something comes.
     fn patience(&self) -> Option<u64> {
-        if !self.ready.is_empty() || self.backlog == Backlog::Waiting {
+        let is_busy = !self.ready.is_empty() || !self.searching.is_empty();
+        if is_busy || self.backlog == Backlog::Waiting {
             return Some(0);
         }
         let mut until = self.quiet_until;
@@ -339,17 +449,7 @@ impl<'r, N> EventLoop<'r, N> {
     }
 }
 
-/// Whether one may make room for a newcomer: nothing that it asked is unanswered, and nothing unsent; and it had a
-/// second to ask.
-fn may_go(wish: Wish, until: u64, now: u64) -> bool {
-    match wish {
-        Wish::Idle => until.saturating_sub(now) <= FRESH,
-        Wish::Leaving => true,
-        Wish::Asking | Wish::Taking => false,
-    }
-}
-
-impl<'r, N: time::Clock> EventLoop<'r, N> {
+impl<'r, N: time::Clock> Schedule<'r, N> {
     /// Reads the clock. Of the milliseconds since it was last read, no more than these count; and so many do where it
     /// can't be read.
     fn count_time(&mut self, most: u64) {
@@ -426,12 +526,12 @@ fn place_of(event: &Event) -> usize {
     place
 }
 
-impl<'r, N: time::Clock> Sockets for EventLoop<'r, N> {
-    type Peer = Socket;
-
-    ghost is_over = { λ sockets. sockets.left ≡ 0 };
-
-    fn next(&mut self) -> Next<Socket> {
+impl<'r, N: time::Clock> Schedule<'r, N> {
+    /// Waits until something is to be done.
+    fn next(&mut self) -> Next<Socket>
+        ensures fresh { IsFreshPeer came_of went_of result }
+        ensures over { result ≡ Next.End → self.new.left ≡ 0 }
+    {
         for _round in 0..u64::MAX {
             if self.left == 0 {
                 return Next::End;
@@ -441,6 +541,7 @@ impl<'r, N: time::Clock> Sockets for EventLoop<'r, N> {
                     return next;
                 }
                 self.has_heard = false;
+                self.call_searching();
                 self.round = self.ready.len();
             }
             if let Some(next) = self.first() {
@@ -453,10 +554,16 @@ impl<'r, N: time::Clock> Sockets for EventLoop<'r, N> {
         Next::Refused
     }
 
+    /// Hears how the connection at the place stands after its turn.
     fn stands(&mut self, place: usize, step: Step) {
         match step {
             Step::Again => {
                 let _queued = self.ready.push_back(place);
+            }
+            Step::Searches { requests } => {
+                let wait = self.wait(place, Wish::Searching, requests);
+                self.put(place, Visit::Searching(wait));
+                let _queued = self.searching.push_back(place);
             }
             Step::Leaves => {
                 let wait = self.wait(place, Wish::Leaving, 0);

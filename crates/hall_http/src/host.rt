@@ -64,17 +64,20 @@ pub trait Host {
 pub struct SystemHost<'r, N, E> {
     rt: &'r N,
     error: Counted<E>,
-    ended: Log<Clients<Socket>, EventLoop<'r, N>>,
+    journal: Option<Counted<E>>,
+    ended: Log<Clients<Socket>, EventLoop<'r, N, E>>,
 }
 
 impl<'r, N, E> SystemHost<'r, N, E> {
-    /// The machine that the runtime has, which tells there.
-    pub fn new(rt: &'r N, error: E) -> SystemHost<'r, N, E>
+    /// The machine that the runtime has, which tells there; and in the journal what befalls the first sockets that it
+    /// hands out.
+    pub fn new(rt: &'r N, error: E, journal: E) -> SystemHost<'r, N, E>
         ensures { told_on result ≡ uncalled error }
     {
         SystemHost {
             rt,
             error: Counted::new(error),
+            journal: Some(Counted::new(journal)),
             ended: Log::new(),
         }
     }
@@ -82,7 +85,7 @@ impl<'r, N, E> SystemHost<'r, N, E> {
 
 // The system tells nothing of its sockets and its clock.
 impl<'r, N: Net + AllocGlobal + time::Clock, E: Write + Drop> Host for SystemHost<'r, N, E> {
-    type Sockets = EventLoop<'r, N>;
+    type Sockets = EventLoop<'r, N, E>;
 
     type Clock = SystemClock<&'r N>;
 
@@ -97,7 +100,7 @@ impl<'r, N: Net + AllocGlobal + time::Clock, E: Write + Drop> Host for SystemHos
 
     ghost ends = { λ old sockets clients new. ended new ≡ ended old ++ (clients, sockets) ∷ [] };
 
-    fn listen(&mut self, port: u64, connections: u64) -> io::Result<EventLoop<'r, N>> {
+    fn listen(&mut self, port: u64, connections: u64) -> io::Result<EventLoop<'r, N, E>> {
         let Ok(port) = u16::try_from(port) else {
             return Err(io::Error::from(ErrorKind::InvalidInput));
         };
@@ -105,6 +108,7 @@ impl<'r, N: Net + AllocGlobal + time::Clock, E: Write + Drop> Host for SystemHos
             self.rt,
             SocketAddr::from((Ipv4Addr::LOCALHOST, port)),
             connections,
+            self.journal.take(),
         )
     }
 
@@ -116,7 +120,7 @@ impl<'r, N: Net + AllocGlobal + time::Clock, E: Write + Drop> Host for SystemHos
         SystemClock::new(self.rt)
     }
 
-    fn end(&mut self, sockets: EventLoop<'r, N>, clients: Clients<Socket>)
+    fn end(&mut self, sockets: EventLoop<'r, N, E>, clients: Clients<Socket>)
         ensures { ended self.new ≡ ended self.old ++ (clients, sockets.entry) ∷ [] }
     {
         self.ended = self.ended.and(&clients, &sockets);

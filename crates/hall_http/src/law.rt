@@ -2,7 +2,7 @@
 ghost use Rattle.hall_http.specs.Laws.{AreOneRequest, BeginsWithOneRequest, AskForOneThing};
 ghost use Rattle.hall_http.specs.Laws.{AreOneListOfRequests, AreOneListOfRecords, RunsCompose};
 ghost use Rattle.hall_http.specs.Told.{HasOneSpelling, RefusalsTellNothing, BytesHideOthers, BytesHideAnswers};
-ghost use Rattle.hall_http.specs.Wire.{WireHidesOthers, WireHidesAnswers};
+ghost use Rattle.hall_http.specs.Wire.{WireHidesOthers, WireHidesAnswers, WireHidesOthersOn, WireHidesAnswersOn};
 
 /// Bytes are at most one request and ask for at most one thing. A stream begins with at most one whole request and is at
 /// most one list of requests; an input is at most one list of records.
@@ -32,13 +32,23 @@ pub fn law_bytes()
     ensures answers { BytesHideAnswers }
 {}
 
-/// What holds of the bytes of replies in a run holds, among many connections, of those on one on which all requests with
-/// an entrant's key come, and all whole requests with a fault of form, and nothing else: they are the same where the
-/// requests of others who are entrants alone don't come; and until a sealed round's end, where two answers to the round
-/// are exchanged, they are those of the same replies with the two exchanged where answers to the round are listed. What
-/// was sent on it is a first part of these bytes, or all of them and then of the reply to bytes that are no request. Of
-/// the order of connections and of time nothing is said.
+/// What holds of the bytes of replies in a run holds, among many connections, of those on some of them: a set of
+/// numbers in each of two runs, one connection or several. The replies on these together, in the order in which they
+/// were given, are the same where the requests of others who are entrants alone don't come; and until a sealed round's
+/// end, where two answers to the round are exchanged, they are those of the same replies with the two exchanged where
+/// answers to the round are listed.
+///
+/// `others` and `answers` say it where all requests with an entrant's key came on these connections, and all whole
+/// requests with a fault of form, and nothing else. On which of them each came may differ between the runs. `others_on`
+/// and `answers_on` say it where each request on these connections has the entrant's key. Others may show it too, and a
+/// whole request with a fault of form may come on any; but what came on these in one run comes on those in the other.
+/// So each connection of an entrant by itself has the same replies.
+///
+/// What was sent on a connection is a first part of its replies, or all of them and then the reply to bytes that are no
+/// request. Nothing is said of time, nor of the order of what is sent on different connections.
 pub fn law_wire()
     ensures others { WireHidesOthers }
     ensures answers { WireHidesAnswers }
+    ensures others_on { WireHidesOthersOn }
+    ensures answers_on { WireHidesAnswersOn }
 {}

@@ -1,12 +1,13 @@
 //! What answers the requests of a connection.
 ghost use Rattle.std.specs.Prelude.{◌≡◌, ◌≢◌, ℕ, List, Option};
 ghost use Rattle.hall_desk.specs.Desk.{kept_by};
+ghost use Rattle.hall_store.specs.Store.{Kept};
 ghost use Rattle.hall_http.specs.Answered.{answer_text};
 ghost use Rattle.hall_http.specs.Head.{IsLentBy};
 ghost use Rattle.hall_http.specs.Serving.{GoesOn, IsAnswered};
 ghost use Rattle.hall_http.specs.declared.answer.Answer.TheVariants as Answer;
 
-use crate::answer::{Answer, answer_raw_request};
+use crate::answer::{Answer, answer_raw_request, prepare_raw_request};
 use crate::head::RawRequest;
 use crate::routes::Routes;
 use hall_desk::Desk;
@@ -20,6 +21,16 @@ pub(crate) trait Responder {
 
     /// Once it has given this reply, it can answer further requests.
     ghost goes_on: { Self → List ℕ → Self → Type 0 };
+
+    /// It has worked on what a request needs, and answered nothing.
+    ghost rests: { Self → Self → Type 0 };
+
+    /// Works for a while on what the request needs, and tells whether to answer it now, or to ask so again.
+    fn prepare(&mut self, alloc: Global, routes: &Routes, request: &RawRequest<'_>) -> bool
+        ensures { rests self.old self.new };
+
+    /// Whether the device refused the last write that was to be made. No clause speaks of it.
+    fn refuses_writes(&self) -> bool;
 
     /// The answer to a request at a moment, once its change is made.
     fn answer(
@@ -38,6 +49,16 @@ impl<S: Store> Responder for Desk<S> {
     ghost answers = { IsAnswered (λ desk. S.content (kept_by desk)) };
 
     ghost goes_on = { GoesOn (λ desk. S.content (kept_by desk)) };
+
+    ghost rests = { λ old new. Kept (S.content (kept_by old)) (S.content (kept_by new)) };
+
+    fn prepare(&mut self, alloc: Global, routes: &Routes, request: &RawRequest<'_>) -> bool {
+        prepare_raw_request(alloc, routes, self, request)
+    }
+
+    fn refuses_writes(&self) -> bool {
+        Desk::refuses_writes(self)
+    }
 
     fn answer(
         &mut self,

@@ -60,16 +60,16 @@ IsCensusTaken old new None = Kept old new
 -- they were left. Or memory was refused then, and nothing more was done. Or the machine refused, and the store is as it
 -- was. Neither reader nor writer is asked.
 abbrev pub DoesServe : {N L C P S R W : Type 0} → (S → Content) → (N → ℕ → ℕ → L → N → Type 0) → (N → ℕ → N → Type 0)
-    → (N → ℕ → List ℕ → Option Census → N → Type 0) → (N → C → Type 0) → (N → L → Clients P → N → Type 0) → (L → Type 0)
-    → (S → C → S → C → Clients P → Type 0)
+    → (N → ℕ → List ℕ → Option Census → N → Type 0) → (N → C → Type 0) → (N → L → Clients P → N → Type 0)
+    → (ServeAllEnd → L → L → Clients P → Type 0) → (S → C → S → C → Clients P → Type 0)
     → List ℕ → ℕ → ℕ → N → N → S → S → Tally R → Tally R → Tally W → Tally W → Result ℕ CommandFault → Type 0
-DoesServe {N} {L} {C} {P} {S} content listens refuses tells shows ends is_over served path port connections host asked old
+DoesServe {N} {L} {C} {P} {S} content listens refuses tells shows ends ended served path port connections host asked old
     new reader read writer written result =
     (((listening told : N) × (later : S) × (census : Option Census) × (sockets : L) × (clock : C)
     × listens host port connections sockets listening × IsCensusTaken (content old) (content later) census
     × tells listening port path census told × shows told clock
     × (((left : L) × (after : C) × (clients : Clients P) × (e : ServeAllEnd) × served later clock new after clients
-    × (e ≡ end.Served → is_over left) × ends told left clients asked × (result ≡ serve_end e))
+    × ended e sockets left clients × ends told left clients asked × (result ≡ serve_end e))
     ⊎ ((asked ≡ told) × (new ≡ later) × (result ≡ Err (Tool Memory)))))
     ⊎ (refuses host port asked × (new ≡ old) × (result ≡ Err Port)))
     × (read ≡ reader) × (written ≡ writer)

@@ -2,7 +2,7 @@
 ghost use Rattle.std.specs.Prelude.{◌≡◌, ◌⊎◌, map, string_bytes};
 ghost use Rattle.std.specs.IoError.{error_kind};
 ghost use Rattle.sqlite.specs.Held.{state};
-ghost use Rattle.hall_http.specs.Crowd.{AreServed};
+ghost use Rattle.hall_http.specs.Crowd.{AreServed, EndsServing};
 ghost use Rattle.hall_sql.specs.Opened.{IsCauseAt, IsCauseThere, IsOldAsked, OpensAt, OpensThere};
 ghost use Rattle.hall_sql.specs.Standing.{content_of};
 ghost use Rattle.hall_tool.specs.CommandRun.{IsCommandRun, UnlessMigrate};
@@ -61,8 +61,8 @@ pub fn run_words<
         (OpensThere S.Store F.image_at F.tells F.opens)
         (IsCauseThere S.Store F.image_at F.tells F.refuses F.opens F.closes) F.closes
         (DoesServe (λ s. content_of (state S.Store s)) H.listens H.refuses H.tells H.shows H.ends
-        H.Sockets.is_over (AreServed (λ s. content_of (state S.Store s)) H.Clock.now_gives H.Sockets.Peer.came
-        H.Sockets.Peer.went))
+        (EndsServing H.Sockets.is_over H.Sockets.nexts) (AreServed (λ s. content_of (state S.Store s))
+        H.Clock.now_gives H.Sockets.Peer.came H.Sockets.Peer.went))
         (λ from to. IsMigrateAt O.Store S.Store
         (IsOldAsked O.Store G.image_at G.tells G.refuses G.opens G.closes) G.image_at G.closes
         F.image_at (OpensAt S.Store F.image_at F.opens) (IsCauseAt S.Store F.image_at F.refuses F.opens F.closes)

@@ -1,7 +1,7 @@
 //! One command, run over files, an input and an output.
 ghost use Rattle.std.specs.Prelude.{◌≡◌};
 ghost use Rattle.sqlite.specs.Held.{state};
-ghost use Rattle.hall_http.specs.Crowd.{AreServed};
+ghost use Rattle.hall_http.specs.Crowd.{AreServed, EndsServing};
 ghost use Rattle.hall_sql.specs.Opened.{IsCauseAt, IsCauseThere, IsOldAsked, OpensAt, OpensThere};
 ghost use Rattle.hall_sql.specs.Standing.{content_of};
 ghost use Rattle.hall_tool.specs.CommandRun.{IsCommandRun, UnlessMigrate};
@@ -49,8 +49,8 @@ pub fn run_command<
         (OpensThere S.Store F.image_at F.tells F.opens)
         (IsCauseThere S.Store F.image_at F.tells F.refuses F.opens F.closes) F.closes
         (DoesServe (λ s. content_of (state S.Store s)) H.listens H.refuses H.tells H.shows H.ends
-        H.Sockets.is_over (AreServed (λ s. content_of (state S.Store s)) H.Clock.now_gives H.Sockets.Peer.came
-        H.Sockets.Peer.went))
+        (EndsServing H.Sockets.is_over H.Sockets.nexts) (AreServed (λ s. content_of (state S.Store s))
+        H.Clock.now_gives H.Sockets.Peer.came H.Sockets.Peer.went))
         (λ from to. IsMigrateAt O.Store S.Store
         (IsOldAsked O.Store E.image_at E.tells E.refuses E.opens E.closes) E.image_at E.closes
         F.image_at (OpensAt S.Store F.image_at F.opens) (IsCauseAt S.Store F.image_at F.refuses F.opens F.closes)

@@ -142,11 +142,12 @@ pub struct Serve<'a> {
 }
 
 impl<H: Host> Task<H> for Serve<'_> {
-    ghost use Rattle.hall_http.specs.Crowd.{AreServed};
+    ghost use Rattle.hall_http.specs.Crowd.{AreServed, EndsServing};
     ghost use Rattle.hall_tool.specs.Tasks.{DoesServe};
 
     ghost does = { λ S R W content can_fail remaining contents task.
-        DoesServe content H.listens H.refuses H.tells H.shows H.ends H.Sockets.is_over
+        DoesServe content H.listens H.refuses H.tells H.shows H.ends
+        (EndsServing H.Sockets.is_over H.Sockets.nexts)
         (AreServed content H.Clock.now_gives H.Sockets.Peer.came H.Sockets.Peer.went)
         task.path.now task.port task.connections };
 

@@ -1,4 +1,4 @@
-use Rattle.hall_http.proofs.Wire.{wire_hides_others, wire_hides_answers}
+use Rattle.hall_http.proofs.Wire.{wire_hides_others, wire_hides_answers, wire_hides_others_on, wire_hides_answers_on}
 use Rattle.hall_http.proofs.law.law_wire.Goals as goal
 
 pub returns-clause-others : goal.returns-clause-others
@@ -6,3 +6,9 @@ returns-clause-others c = wire_hides_others
 
 pub returns-clause-answers : goal.returns-clause-answers
 returns-clause-answers c = wire_hides_answers
+
+pub returns-clause-others_on : goal.returns-clause-others_on
+returns-clause-others_on c = wire_hides_others_on
+
+pub returns-clause-answers_on : goal.returns-clause-answers_on
+returns-clause-answers_on c = wire_hides_answers_on

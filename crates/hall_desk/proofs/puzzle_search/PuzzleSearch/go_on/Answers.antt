@@ -1,4 +1,4 @@
-use Rattle.std.proofs.Common.{◌≡◌, ◌+◌, subst}
+use Rattle.std.proofs.Common.{◌+◌, subst}
 use Rattle.hall_grid.specs.declared.board.Kind.TheVariants as kind
 use Rattle.hall_solve.specs.declared.paused.Searching.{Searching}
 use Rattle.hall_solve.specs.declared.paused.Searching.TheVariants.{Ended, Paused}

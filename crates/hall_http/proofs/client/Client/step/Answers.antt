@@ -1,34 +1,22 @@
-use Rattle.std.proofs.Common.{refl, sym, ◌∙◌}
-use Rattle.hall_http.proofs.Peers.{client_looked, client_same}
+use Rattle.hall_http.proofs.Peers.{client_same}
+use Rattle.hall_http.specs.Resting.{still}
 use Rattle.hall_http.specs.Steps.{gated}
 use Rattle.hall_http.proofs.client.Client.step.Goals as goal
-
-pub returns-then-look-clause-turned : goal.returns-then-look-clause-turned
-returns-then-look-clause-turned g c = λ xs is.
-    client_looked g.P.Peer.came g.P.Peer.went _ _ _ _ _ xs is _ _ _
-    (gated g.H.Responder.answers g.H.Responder.goes_on) g.C.Clock.now_gives _ _ _ _
-    (sym c.state.ensures ∙ c.in-Looking.is) refl (rw c.if-look.true at c.look.ensures)
-
-pub returns-else-look-clause-turned : goal.returns-else-look-clause-turned
-returns-else-look-clause-turned g c = λ xs is.
-    client_looked g.P.Peer.came g.P.Peer.went _ _ _ _ _ xs is _ _ _
-    (gated g.H.Responder.answers g.H.Responder.goes_on) g.C.Clock.now_gives _ _ _ _
-    (sym c.state.ensures ∙ c.in-Looking.is) refl (rw c.if-look.false at c.look.ensures)
 
 pub returns-in-Reading-clause-turned : goal.returns-in-Reading-clause-turned
 returns-in-Reading-clause-turned g c = λ xs is.
     rw c.read.ensures.goes_on
-    (client_same g.P.Peer.came g.P.Peer.went (gated g.H.Responder.answers g.H.Responder.goes_on) g.C.Clock.now_gives _ _ xs _
+    (client_same g.P.Peer.came g.P.Peer.went (gated g.H.Responder.answers g.H.Responder.goes_on) (still g.H.Responder.rests) g.C.Clock.now_gives _ _ xs _
     (c.read.ensures.kept xs is))
 
 pub returns-in-Writing-clause-turned : goal.returns-in-Writing-clause-turned
 returns-in-Writing-clause-turned g c = λ xs is.
     rw c.write.ensures.goes_on
-    (client_same g.P.Peer.came g.P.Peer.went (gated g.H.Responder.answers g.H.Responder.goes_on) g.C.Clock.now_gives _ _ xs _
+    (client_same g.P.Peer.came g.P.Peer.went (gated g.H.Responder.answers g.H.Responder.goes_on) (still g.H.Responder.rests) g.C.Clock.now_gives _ _ xs _
     (c.write.ensures.kept xs is))
 
 pub returns-in-Ended-clause-turned : goal.returns-in-Ended-clause-turned
 returns-in-Ended-clause-turned g c = λ xs is.
     rw c.leave.ensures.goes_on
-    (client_same g.P.Peer.came g.P.Peer.went (gated g.H.Responder.answers g.H.Responder.goes_on) g.C.Clock.now_gives _ _ xs _
+    (client_same g.P.Peer.came g.P.Peer.went (gated g.H.Responder.answers g.H.Responder.goes_on) (still g.H.Responder.rests) g.C.Clock.now_gives _ _ xs _
     (c.leave.ensures.kept xs is))

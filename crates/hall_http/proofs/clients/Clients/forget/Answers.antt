@@ -3,8 +3,8 @@ use Rattle.hall_http.proofs.Crowds.{kept_gone}
 use Rattle.hall_http.proofs.Numbers.{read_at}
 use Rattle.hall_http.proofs.clients.Clients.forget.Goals as goal
 
-pub returns : goal.returns
-returns g c =
+pub returns-clause-kept : goal.returns-clause-kept
+returns-clause-kept g c =
     let inside : c.args.place < length c.args.self.now.places.items =
     omega (arith, c.if-place-len.false, c.len.ensures, c.args.self.now.places.ok.0) in
     λ turns kept.

@@ -3,8 +3,8 @@ use Rattle.hall_http.proofs.Crowds.{kept_seated}
 use Rattle.hall_http.proofs.Numbers.{read_at, not_some}
 use Rattle.hall_http.proofs.clients.Clients.seat.Goals as goal
 
-pub returns : goal.returns
-returns g c =
+pub returns-clause-kept : goal.returns-clause-kept
+returns-clause-kept g c =
     let inside : c.args.place < length c.args.self.now.places.items =
     omega (arith, c.if-place-len.false, c.len.ensures, c.args.self.now.places.ok.0) in
     λ turns kept.

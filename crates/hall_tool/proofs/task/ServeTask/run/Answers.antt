@@ -34,7 +34,7 @@ returns g c = (
     search rules,
     c.tell.ensures,
     c.clock-clock.ensures,
-    inl (_, _, c.in-Ok-serve_all.clients, c.in-Ok-serve_all.end, c.in-Ok-serve_all.ensures.served, c.in-Ok-serve_all.ensures.over, c.end.ensures, c.serve_end.ensures),
+    inl (_, _, c.in-Ok-serve_all.clients, c.in-Ok-serve_all.end, c.in-Ok-serve_all.ensures.served, (c.in-Ok-serve_all.ensures.over, c.in-Ok-serve_all.ensures.done), c.end.ensures, c.serve_end.ensures),
   ),
   refl,
   refl,
