@@ -278,3 +278,55 @@ fn nothing_is_answered_after_a_request_that_left_the_store_shut(rt: HostRuntime)
         assert!(rt; sent_to_all == told, "{left} calls");
     }
 }
+
+/// A puzzle whose search takes many turns.
+const PUT_HARD: &[u8] = b"\
+    PUT /puzzles/bob/h HTTP/1.1\r\n\
+    Hall-Key: bob-key-1\r\n\
+    Content-Length: 53\r\n\r\n\
+    {\"text\":\"sudoku/9/9/k5g8j6g1g43p1g5n1g6i3m553k61n4o\"}";
+
+const CERTIFY_HARD: &[u8] = b"\
+    POST /puzzles/bob/h/certificate HTTP/1.1\r\n\
+    Hall-Key: bob-key-1\r\n\
+    Content-Length: 15\r\n\r\n\
+    {\"budget\":2000}";
+
+const READ_HARD: &[u8] = b"GET /puzzles/bob/h HTTP/1.1\r\nHall-Key: dora-key\r\n\r\n";
+
+/// What is replied to whoever puts the puzzle and certifies it, and to whoever reads it meanwhile.
+const GAVE_UP: &[u8] = b"\
+    HTTP/1.1 200 OK\r\n\
+    Content-Type: application/json\r\n\
+    Content-Length: 67\r\n\r\n\
+    {\"state\":\"new\",\"text\":\"sudoku/9/9/k5g8j6g1g43p1g5n1g6i3m553k61n4o\"}\
+    HTTP/1.1 200 OK\r\n\
+    Content-Type: application/json\r\n\
+    Content-Length: 19\r\n\r\n\
+    {\"state\":\"gave up\"}";
+
+const STILL_NEW: &[u8] = b"\
+    HTTP/1.1 200 OK\r\n\
+    Content-Type: application/json\r\n\
+    Content-Length: 94\r\n\r\n\
+    {\"author\":\"bob\",\"label\":\"h\",\"state\":\"new\",\"text\":\"sudoku/9/9/k5g8j6g1g43p1g5n1g6i3m553k61n4o\"}";
+
+#[test]
+fn others_are_answered_while_a_puzzle_is_searched(rt: HostRuntime) {
+    let hard = joined(&rt, &[PUT_HARD, CERTIFY_HARD]);
+    let seen = unseen(&rt, 2);
+    let mut coming = Vec::new(rt.alloc());
+    // The last one is let in first.
+    for (place, sent) in [READ_HARD, hard.as_slice()].iter().enumerate() {
+        let client = Coming {
+            sent,
+            manner: PLAIN,
+            seen: at(&rt, seen.as_slice(), place),
+        };
+        coming.push(client).expect(&rt, "memory");
+    }
+    let asked = serve_clients(&rt, coming.as_slice(), MANY, false);
+    assert!(rt; at(&rt, seen.as_slice(), 0).is_sent(STILL_NEW));
+    assert!(rt; at(&rt, seen.as_slice(), 1).is_sent(GAVE_UP));
+    assert!(rt; asked == 3);
+}

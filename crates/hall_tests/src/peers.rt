@@ -1,6 +1,7 @@
 //! Clients in memory, what they saw, and what lets them in and gives them turns.
-ghost use Rattle.std.specs.Prelude.{◌≤◌, flat_map, take, drop};
+ghost use Rattle.std.specs.Prelude.{◌≡◌, ◌≤◌, [], ◌∷◌, ◌++◌, flat_map, take, drop};
 ghost use Rattle.hall_http.specs.Answered.{answer_text};
+ghost use Rattle.hall_http.specs.Coming.{logged};
 
 use hall_http::{Answer, Moved, Next, Peer, Sockets, Step};
 use http_server::Log;
@@ -197,6 +198,7 @@ pub(crate) struct Listed<'a> {
     turns: u64,
     /// Whether who had its turn has the next one too, as long as it can go on.
     is_stubborn: bool,
+    nexts: Log<Next<Scripted<'a>>, usize>,
 }
 
 impl<'a> Listed<'a> {
@@ -212,7 +214,17 @@ impl<'a> Listed<'a> {
             here: VecDeque::new(alloc),
             turns,
             is_stubborn,
+            nexts: Log::new(),
         }
+    }
+
+    /// Notes what is to be done next.
+    fn noted(&mut self, next: Next<Scripted<'a>>) -> Next<Scripted<'a>>
+        ensures same { result ≡ next.entry }
+        ensures noted { logged self.new.nexts ≡ logged self.old.nexts ++ next.entry ∷ [] }
+    {
+        self.nexts = self.nexts.and(&next, &self.count);
+        next
     }
 }
 
@@ -220,6 +232,8 @@ impl<'a> Sockets for Listed<'a> {
     type Peer = Scripted<'a>;
 
     ghost is_over = { λ _. Unit {0} };
+
+    ghost nexts = { λ sockets. logged sockets.nexts };
 
     fn next(&mut self) -> Next<Scripted<'a>> {
         if let Some(coming) = self.coming.pop() {
@@ -231,16 +245,16 @@ impl<'a> Sockets for Listed<'a> {
                 reads: Log::new(),
                 writes: Log::new(),
             };
-            return Next::Newcomer { place, peer };
+            return self.noted(Next::Newcomer { place, peer });
         }
         let Some(place) = self.here.pop_front() else {
-            return Next::End;
+            return self.noted(Next::End);
         };
         if self.turns == 0 {
-            return Next::Gone(place);
+            return self.noted(Next::Gone(place));
         }
         self.turns -= 1;
-        Next::Turn(place)
+        self.noted(Next::Turn(place))
     }
 
     fn stands(&mut self, place: usize, step: Step) {
@@ -250,4 +264,6 @@ impl<'a> Sockets for Listed<'a> {
             _ => self.here.push_back(place),
         };
     }
+
+    fn hear_of_writes(&mut self, _refuses_writes: bool) {}
 }

@@ -1,20 +1,37 @@
 //! Connections over sockets.
+ghost use Rattle.std.specs.Prelude.{◌≡◌, [], ◌∷◌, ◌++◌};
+ghost use Rattle.hall_http.specs.Coming.{logged};
+
 use crate::opening::opening_desk;
 use hall_desk::Desk;
 use hall_http::{
     Clock, EventLoop, Host, Next, Socket, Sockets, Step, SystemClock, SystemHost, serve_all,
 };
 use hall_store::Store;
+use http_server::Log;
 use std::io;
-use std::io::Write;
+use std::io::{Stderr, Write};
 use std::net::{Ipv4Addr, Shutdown, SocketAddr, TcpStream};
 use std::test::Fail;
 
 /// Sockets that let none in, and give none a turn, once a connection has gone.
 #[derive(Drop)]
 struct Brief<'r> {
-    inner: EventLoop<'r, HostRuntime>,
+    inner: EventLoop<'r, HostRuntime, Stderr>,
     has_gone: bool,
+    nexts: Log<Next<Socket>, bool>,
+}
+
+impl<'r> Brief<'r> {
+    /// Notes what is to be done next.
+    fn noted(&mut self, next: Next<Socket>) -> Next<Socket>
+        ensures same { result ≡ next }
+        ensures noted { logged self.new.nexts ≡ logged self.old.nexts ++ next ∷ [] }
+    {
+        self.has_gone = self.has_gone || matches!(&next, Next::Gone(_));
+        self.nexts = self.nexts.and(&next, &self.has_gone);
+        next
+    }
 }
 
 impl<'r> Sockets for Brief<'r> {
@@ -22,18 +39,23 @@ impl<'r> Sockets for Brief<'r> {
 
     ghost is_over = { λ _. Unit {0} };
 
+    ghost nexts = { λ sockets. logged sockets.nexts };
+
     fn next(&mut self) -> Next<Socket> {
         if self.has_gone {
-            return Next::Refused;
+            return self.noted(Next::Refused);
         }
         let next = self.inner.next();
-        self.has_gone = matches!(&next, Next::Gone(_));
-        next
+        self.noted(next)
     }
 
     fn stands(&mut self, place: usize, step: Step) {
         self.has_gone = matches!(step, Step::Over);
         self.inner.stands(place, step);
+    }
+
+    fn hear_of_writes(&mut self, refuses_writes: bool) {
+        self.inner.hear_of_writes(refuses_writes);
     }
 }
 
@@ -45,8 +67,9 @@ fn last_answered<S: Store>(
 ) -> io::Result<String> {
     let address = SocketAddr::from((Ipv4Addr::LOCALHOST, 0));
     let mut brief = Brief {
-        inner: EventLoop::new(rt, address, 100)?,
+        inner: EventLoop::new(rt, address, 100, None)?,
         has_gone: false,
+        nexts: Log::new(),
     };
     let mut connected = Vec::new(rt.alloc());
     for sent in clients {
@@ -97,7 +120,7 @@ fn the_systems_clock_tells_seconds_of_this_century(rt: HostRuntime) {
 
 #[test]
 fn the_systems_host_listens_for_this_machine_alone(rt: HostRuntime) -> Result<(), Fail> {
-    let mut host = SystemHost::new(&rt, rt.stderr());
+    let mut host = SystemHost::new(&rt, rt.stderr(), rt.stderr());
     let listener = host.listen(0, 1)?;
     assert!(rt; listener.local_addr()?.ip().is_loopback());
     assert!(rt; host.listen(65_536, 1).is_err());
