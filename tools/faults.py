@@ -6,8 +6,9 @@
 Where a sync fails, the store is shut: the request under way is answered with 503 and none after it, and the program
 ends with 3 and tells why on two lines. Started again, it knows each answer that was acknowledged, and the one under way
 is told its reply when it is sent again. A full disk is no such fault: reads are answered and writes get 503, and once
-there is room the same process writes again. The disk is full by a limit of the size of files, and by a file system in
-memory, which is left out where the system lets none be mounted.
+there is room the same process writes again; one line is told as writes begin to be refused, and one as they are taken
+again. The disk is full by a limit of the size of files, and by a file system in memory, which is left out where the
+system lets none be mounted.
 Prints a line for each case that went wrong, and last how many there were; exits with 1 where one did.
 """
 import argparse
@@ -31,6 +32,11 @@ NOTHING = request("dora-key", "GET", "/nothing").encode()
 # How many answers are handed in, and how many seconds a server that met a fault may still run.
 ANSWERS, SOON = 4, 5
 ADVICE = "the database failed, "
+# What is told as writes begin to be refused, and as they are taken again.
+TOLD_OF_WRITES = [
+    "hall: the disk refuses writes: requests that write are answered 503 until it takes them again",
+    "hall: the disk takes writes again",
+]
 # The file system in memory, a page of a database in it, and how many answers fill it where some pages are left.
 ROOM, PAGE, FEW = 1 << 20, 4096, 40
 
@@ -52,19 +58,22 @@ class Files:
 
     def __init__(self, program, room):
         self.program, self.first, self.path = program, f"{room}/first.db", f"{room}/served.db"
-        self.errors = f"{room}/errors"
+        self.errors = None
         hall_file(self.first, [Entrant(place) for place in range(3)])
 
     @contextlib.contextmanager
     def served(self, env=None, path=None, **how):
-        with open(self.errors, "wb") as errors:
+        # a pipe, since no file of the server may grow where their size is limited
+        reads, writes = os.pipe()
+        os.set_blocking(reads, False)
+        with open(reads, "rb", 0) as self.errors, open(writes, "wb", 0) as errors:
             with serving(path or self.path, 1000, self.program, env, stderr=errors, **how) as it:
                 yield it
 
     def lines(self):
-        """What was told on standard error, but for the line that it serves."""
-        with open(self.errors, encoding="utf-8") as file:
-            return [line for line in file.read().splitlines() if not line.startswith("hall: serving ")]
+        """What was told on standard error since it was asked last, but for the line that it serves."""
+        said = (self.errors.read(1 << 16) or b"").decode()
+        return [line for line in said.splitlines() if not line.startswith("hall: serving ")]
 
 
 def is_shut_down(name, files_of, server, has_served):
@@ -193,6 +202,7 @@ def full_for_a_while(name, files_of, full_of, path=None):
                     wants("the write again where there is no room", step, UNAVAILABLE)
             wants("the write again where there is room", step)
             wants("a read where there is room again", entrant.listing(OPEN))
+            files.check(f"{name}: what is told of writes", files_of.lines(), TOLD_OF_WRITES)
         files.check(f"{name}: the server", server.poll(), None)
 
 

@@ -56,6 +56,7 @@ ASKED = {
     "examples/rounds/round.sh": ["hall_http::serve_all", "hall_tool::run_command"],
     "tools/crowd.py": ["hall_http::serve_all", "hall_http::EventLoop::new"],
     "tools/waiting.py": ["hall_http::serve_all", "hall_http::EventLoop::new"],
+    "tools/waits.py": ["hall_http::serve_all", "hall_desk::certify"],
     "tools/own_replies.py": ["hall_http::serve_all", "hall_http::answer_bytes"],
     "tools/faults.py": ["hall_http::serve_all", "hall_tool::run_words"],
     "tools/files.py": ["hall_sql::open_at", "hall_sql::open_there", "hall_tool::init_at", "hall_tool::task_at", "hall_tool::run_words"],

@@ -1,12 +1,13 @@
 #!/usr/bin/env python3
-"""Sees that whoever has asked is answered, however long the hall was busy or stood still.
+"""Sees that whoever has asked is answered, however long the hall searches or stands still.
 
     python3 tools/waiting.py [--program PATH]
 
-Many clients keep a connection each. Then one asks for a search that takes longer than any client has patience, or the
-hall's process is stopped for so long, as a suspended machine is. Meanwhile each of the others sends a whole request,
-and all of them are answered. How long a search takes is measured first, and one that ended too soon is made again.
-Prints a line for each case that went wrong, and last how many there were; exits with 1 where one did.
+Many clients keep a connection each. Then one asks for a search that takes longer than any client has patience, and is
+told its end; or the hall's process is stopped for so long, as a suspended machine is. Meanwhile each of the others
+sends a whole request, and all of them are answered. How long a search takes is measured first, and one that ended too
+soon is made again. Prints a line for each case that went wrong, and last how many there were; exits with 1 where one
+did.
 """
 import argparse
 import asyncio
@@ -17,6 +18,7 @@ import tempfile
 
 sys.path[:0] = [os.path.dirname(os.path.realpath(__file__))]
 import files  # noqa: E402
+from beside import HARD  # noqa: E402
 from clients import LATE, PATIENCE, Client, allow_many_files, body, many, status  # noqa: E402
 from running import PROGRAM, connected, serving  # noqa: E402
 from wire import request  # noqa: E402
@@ -28,8 +30,6 @@ LONG = PATIENCE + 0.5
 AIM, MOST_VISITS, TRIES = 13, 1_000_000, 5
 # Within how many seconds all are answered, once the hall goes on, and how many all of it may take.
 SOON, MOST_SECONDS = 20, 600
-# A puzzle whose search gives up, after as many visits as it may make.
-HARD = "nurikabe/31/31/zzzy-26zzzzzu-26zzzzq-26zzzzzzzi-26s-26zi-26zzzzzzzn-26n-26zzm-26zm-26zzzzzzzzzzzzw"
 ASKED = request("eve-key-1", "GET", "/rounds/r1").encode()
 GAVE_UP = b'{"state":"gave up"}'
 
@@ -73,7 +73,7 @@ async def budget_of(seconds, port):
 
 
 async def behind_a_search(port):
-    """All kept clients ask while the hall searches."""
+    """All kept clients ask while one waits for a search."""
     budget = await budget_of(AIM, port)
     for _ in range(TRIES):
         async with Client(port) as author, many(port, KEPT) as kept:

@@ -1,0 +1,70 @@
+#!/usr/bin/env python3
+"""Counts the instructions that `hall serve` takes for a request on a kept connection, by callgrind: the difference of a
+server that is asked so many requests more, on any machine, busy or not.
+
+    python3 bench/instructions.py [--requests N] [PROGRAM ..]
+
+For a round of 25 puzzles where others have stored 1,000 answers, as bench/serve.py makes it. Without PROGRAM it is the
+proved one.
+"""
+import argparse
+import os
+import re
+import socket
+import subprocess
+import sys
+import tempfile
+import time
+
+ROOT = os.path.dirname(os.path.dirname(os.path.realpath(__file__)))
+sys.path[:0] = [f"{ROOT}/bench", f"{ROOT}/tools"]
+from running import free_port, is_whole  # noqa: E402
+from serve import fill, requests  # noqa: E402
+from wire import request  # noqa: E402
+
+FEW = 20
+KINDS = ("ReadRound", "Submit")
+COUNTED = re.compile(r"Collected : (\d+)")
+
+
+def connected(port, server):
+    while server.poll() is None:
+        try:
+            return socket.create_connection(("127.0.0.1", port), timeout=60)
+        except ConnectionRefusedError:
+            time.sleep(0.1)
+    raise SystemExit(f"{server.args[-6]} doesn't serve")
+
+
+def instructions(program, path, kind, count):
+    """How many a server takes that is asked so often and then ends."""
+    fill(path, 1000)
+    port = free_port()
+    words = ["valgrind", "--tool=callgrind", "--callgrind-out-file=/dev/null", program, "serve", "--db", path, "--port",
+             str(port), "--connections", "1"]
+    with subprocess.Popen(words, stderr=subprocess.PIPE, text=True) as server:
+        with connected(port, server) as client:
+            for method, where, key, body in requests(kind, count):
+                client.sendall(request(key, method, where, body or "").encode())
+                reply = b""
+                while not is_whole(reply):
+                    reply += client.recv(1 << 16)
+        said = server.communicate()[1]
+    return int(COUNTED.search(said)[1])
+
+
+def main():
+    parser = argparse.ArgumentParser(description=__doc__, formatter_class=argparse.RawDescriptionHelpFormatter)
+    parser.add_argument("--requests", type=int, default=200)
+    parser.add_argument("programs", nargs="*", default=[f"{ROOT}/crates/hall/out/hall"], metavar="PROGRAM")
+    asked = parser.parse_args()
+    for program in asked.programs:
+        for kind in KINDS:
+            with tempfile.TemporaryDirectory(prefix="hall-bench-") as room:
+                few, many = (instructions(program, f"{room}/{count}.db", kind, count)
+                             for count in (FEW, FEW + asked.requests))
+            print(f"{program}: {kind} {(many - few) / asked.requests:12,.0f} instructions")
+
+
+if __name__ == "__main__":
+    main()
