@@ -73,6 +73,13 @@ class Repository:
             for name in names:
                 os.utime(f"{at}/{name}", (1, 1) if "/out" not in at else (2, 2))
 
+    def commit(self):
+        """Commits the crates, and returns the commit."""
+        git = ["git", "-C", self.room, "-c", "user.name=t", "-c", "user.email=t@t"]
+        for words in (["init", "--quiet"], ["add", "crates.txt", "crates/hall/src"], ["commit", "--quiet", "-m", "t"]):
+            subprocess.run([*git, *words], check=True)
+        return subprocess.run([*git, "rev-parse", "HEAD"], check=True, capture_output=True, text=True).stdout.strip()
+
     def run(self, *words, path="bin", **settings):
         """What ./hall writes on both streams, its status, and which scripts it called."""
         self.write("calls", "")
@@ -125,6 +132,16 @@ def test_a_build_that_is_ended_runs_nothing(here):
 def test_a_package_is_made_of_the_proved_program(here):
     wanted = ["build.py --kept", "build.py", f"package.py {PROVED} there"]
     same(here.run("--package", "there"), ("", "", 0, wanted), "the package")
+
+
+def test_a_version_tells_the_commit_and_whether_it_was_proved(here):
+    told = f"{SAYS_UNPROVED}hall: commit not known, built without proofs\n"
+    same(here.run("--version")[:3], ("unproved --version\n", told, 0), "unproved")
+    commit = here.commit()
+    same(here.run("-V", KEPT="0", HALL_PROVED="1")[1], f"hall: commit {commit}, built of proofs\n", "proved")
+    here.write("crates/hall/src/main.rt", "changed")
+    here.age()
+    same(here.run("--version")[1], f"hall: commit {commit} and changes, built of proofs\n", "of changed sources")
 
 
 def test_without_the_kit_it_says_what_is_missing(here):

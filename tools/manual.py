@@ -12,7 +12,7 @@ COMMAND = re.compile(r"^ {2,4}([a-z][a-z-]*)(?: {2,}|$)")
 # An option as help lists it, and what stands for its value.
 OPTION = re.compile(r"^ +(?:-\w, +)?(--[a-z-]+)(?:[ =](<\w+>|[A-Z_]+))?")
 # Values that are files.
-FILES = ("<F>", "<G>", "<L>", "KEY_FILE")
+FILES = ("<F>", "<G>", "<L>", "KEY_FILE", "NAMES", "PROGRAM", "SHEET")
 # Help that wraps its lines does so at this width.
 WIDTH = 100
 
@@ -84,14 +84,17 @@ def page_lines(text):
         yield ".fi"
 
 
-def page(of, version, day, others):
-    """The page of the first section for a command."""
+def page(of, version, day, others, origin=""):
+    """The page of the first section for a command, with what tells of which sources it is, in lines."""
     lines = [f'.TH {of.name.upper()} 1 "{day}" "{of.name} {version}" "User Commands"']
     lines += [".SH NAME", f"{of.name} \\- {escaped(of.summary())}", ".SH DESCRIPTION", *page_lines(of.text)]
     if of.below:
         lines.append(".SH COMMANDS")
     for it in list(of.all())[1:]:
         lines += [f".SS {escaped(it.name)}", *page_lines(it.text)]
+    if origin:
+        told = "The program says its version. What else is known of its making:"
+        lines += [".SH VERSION", told, ".PP", ".nf", *map(escaped, origin.rstrip("\n").split("\n")), ".fi"]
     lines += [".SH SEE ALSO", ", ".join(map(escaped, others))]
     # Two breaks in a row are one, and none stands under a heading.
     kept = [it for at, it in enumerate(lines) if it != ".PP" or not lines[at - 1].startswith((".S", ".PP"))]

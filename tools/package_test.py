@@ -21,6 +21,7 @@ import tempfile
 import urllib.error
 import urllib.request
 
+import clean_root
 import manual
 import package
 import running
@@ -29,6 +30,8 @@ SKIPPED_STATUS = 77
 # The exposure of the unit by `systemd-analyze security`, in tenths of a point, at the most.
 EXPOSURE = 20
 WAIT = 20
+# From the package's file to the first reply, in seconds, at the most.
+FROM_FILE_TO_REPLY = 180
 
 
 class Skipped(Exception):
@@ -69,6 +72,8 @@ class Tests:
     def __init__(self, program, room):
         self.program, self.room = program, room
         self.made = package.make(program, room)
+        self.commit = package.git("rev-parse", "HEAD")
+        self.version = os.path.basename(self.made).split("_")[1]
         self.files = f"{room}/files"
         done("dpkg-deb", "-x", self.made, self.files)
 
@@ -84,7 +89,15 @@ class Tests:
     def test_two_packages_have_the_same_bytes(self):
         again = f"{self.room}/again"
         os.mkdir(again)
-        same(package.read(package.make(self.program, again), "rb"), package.read(self.made, "rb"), "the second package")
+        # As another user makes it, elsewhere.
+        before = os.umask(0o077)
+        os.environ["TZ"] = "Pacific/Auckland"
+        try:
+            made = package.read(package.make(self.program, again), "rb")
+        finally:
+            os.umask(before)
+            del os.environ["TZ"]
+        same(made == package.read(self.made, "rb"), True, "whether the second package has the bytes of the first")
 
     def test_the_program_is_as_it_was_built(self):
         same(package.read(f"{self.files}/usr/bin/hall", "rb"), package.read(self.program, "rb"), "usr/bin/hall")
@@ -99,11 +112,21 @@ class Tests:
         said = done("lintian", "--fail-on", "error,warning", "--allow-root", self.made)
         same(said.strip(), "", "what lintian says")
 
+    def page(self, name):
+        """The words of a manual page."""
+        with gzip.open(f"{self.files}/usr/share/man/man1/{name}.1.gz", "rt", encoding="utf-8") as file:
+            return " ".join(text_of(file.read()))
+
+    def test_the_manual_page_tells_version_commit_and_whether_it_was_proved(self):
+        origin = package.read(f"{self.files}/usr/share/doc/hall/VERSION")
+        told = rf"hall {re.escape(self.version)}\ncommit {self.commit}( and changes)?\nbuilt (of|without) proofs\n"
+        assert re.match(told, origin), origin
+        assert " ".join(origin.split()) in self.page("hall"), f"hall(1) lacks {origin}"
+
     def test_manual_pages_say_what_help_says(self):
         for program in filter(os.path.isfile, (self.program, package.HALLCTL)):
             of = manual.help_of(program)
-            with gzip.open(f"{self.files}/usr/share/man/man1/{of.name}.1.gz", "rt", encoding="utf-8") as file:
-                page = " ".join(text_of(file.read()))
+            page = self.page(of.name)
             for it in of.all():
                 assert " ".join(it.text.split()) in page, f"the page {of.name}(1) lacks the help of {it.name}"
 
@@ -129,12 +152,15 @@ class Tests:
             (["hall", "serve", "--"], ["--db", "--port", "--connections", "--help"]),
             (["hall", "init", "--people", there[:-4]], [there]),
             (["hall", "serve", "--port", ""], []),
+            (["hallctl", "round", "rel"], ["release"]),
+            (["hallctl", "round", "release", "noon", "--sheet", there[:-4]], [there]),
         ):
             same(self.completed(words), wanted, f"the completion of {words}")
 
     def completed(self, words):
-        at = f"{self.files}/usr/share/bash-completion/completions/hall"
-        asked = f"source {at}; COMP_WORDS=(\"$@\"); COMP_CWORD=$(($# - 1)); _hall; printf '%s\\n' \"${{COMPREPLY[@]}}\""
+        at = f"{self.files}/usr/share/bash-completion/completions/{words[0]}"
+        given = 'COMP_WORDS=("$@"); COMP_CWORD=$(($# - 1))'
+        asked = f"source {at}; {given}; _{words[0]}; printf '%s\\n' \"${{COMPREPLY[@]}}\""
         return done("bash", "-c", asked, "bash", *words).split()
 
     def test_the_unit_is_sound_and_shut_off(self):
@@ -147,6 +173,15 @@ class Tests:
         same(done("systemd-analyze", "verify", "--man=no", unit), "", "what systemd-analyze says of the unit")
         done("systemd-analyze", "security", "--offline=true", f"--threshold={EXPOSURE}", unit)
 
+    def test_the_page_followed_word_by_word_serves_within_three_minutes(self):
+        need(*clean_root.NEEDED)
+        if os.geteuid() != 0 or not clean_root.can_be_laid_out():
+            raise Skipped("only root can lay a clean root out, where the system lets it")
+        said, reply, wanted, took = clean_root.follow(self.made, self.room)
+        same(reply, wanted, f"the reply, after {said}")
+        assert took <= FROM_FILE_TO_REPLY, f"it took {took:.0f} seconds"
+        print(f"package: from the file to {reply} by the page in {took:.1f} s")
+
     def test_a_hall_of_an_installed_package_outlives_upgrade_removal_and_purge(self):
         need("dpkg", "systemd-sysusers", "systemd-tmpfiles")
         before = package.make(self.program, self.room, version="0.0.1")
@@ -157,7 +192,10 @@ class Tests:
             with root.serving(port) as told:
                 same(told, {"denied": 1}, "the reply to a stranger")
             kept = root.database()
+            assert all(kept) and len(kept) == 2, "there is no database with its log to be kept"
+            same(root.version(), self.version.replace(package.versions()[0][0], "0.0.1"), "the version before")
             root.install(self.made)
+            same(root.version(), self.version, "the version after an upgrade")
             same(root.database(), kept, "the database after an upgrade")
             same(root.port(), port, "the port that was set, after an upgrade")
             with root.serving(port) as told:
@@ -197,6 +235,10 @@ class Root:
 
     def install(self, made):
         self.dpkg("--install", made)
+
+    def version(self):
+        """The version that is installed."""
+        return done("dpkg-query", f"--admindir={self.at}/var/lib/dpkg", "--show", "--showformat=${Version}", "hall")
 
     def ids(self):
         """The user and group that the package made."""
