@@ -165,7 +165,7 @@ def protest(day, of):
             waited = it.returncode, "sent again" in written[1]
             day.check(f"{of.id}, a ruling while the hall is down", waited, (0, True))
         else:
-            day.run("rex", *words, has=[text, f"ruled {'upheld' if upheld else 'rejected'}, {points} points"])
+            day.run("rex", *words, has=[text, f"ruled {'upheld' if upheld else 'rejected'}, {points} point"])
     day.check(f"{of.id}, open protests", day.data("dora", "protests", of.id, "--open"), [])
 
 

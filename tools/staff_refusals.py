@@ -38,6 +38,24 @@ def wrong_files(day):
     day.run(None, "check", "wrong.csv", "--program", f"{room}/nothing", status=3, has=["isn't found"])
     Path(f"{room}/wrong.csv").write_text("name,key\nbob,\n", encoding="ascii")
     day.run(None, "keys", "wrong.csv", status=2, has=["hallctl check wrong.csv"])
+    slips(day)
+
+
+def slips(day):
+    """Keys are made, and slips printed, for no list that the hall refuses; and a slip says where the hall is."""
+    path = Path(f"{day.room.room}/slips.csv")
+    without = ["--program", f"{day.room.room}/nothing"]
+    for row, words, told in (("Tom,,referee", [], ":3: F3 name"), ("tom,,judge", [], ":3: F3 roles"),
+                             ("Tom,,referee", without, ":3: F3 name"), ("bob,,referee", [], ":3: F4")):
+        text = f"name,key,roles\nbob,,author\n{row}\n"
+        path.write_text(text, encoding="ascii")
+        output = day.run(None, "keys", "slips.csv", *words, status=2, has=[f"slips.csv{told}", "No key was made"])[1]
+        day.check(f"slips and list of {row}", [output, path.read_text(encoding="ascii")], ["", text])
+    for words, has in (([], "Hall:  http"), (["--url", ""], "the slips lack the hall's address"),
+                       (without, "the names alone are looked at")):
+        path.write_text("name,key,roles\ntom,,referee\n", encoding="ascii")
+        told = ["1 of 1 person got a new key", "; 1 slip\n", "Name:  tom    (referee)", has]
+        day.run(None, "keys", *words, "slips.csv", has=told)
 
 
 def retries(day):
@@ -120,7 +138,7 @@ def rounds_refused(day):
     for name, old, new in (("missing", "r1-2", "nowhere"), ("bad", "penalty", "penality"),
                            ("lacking", 'author-2"\nlabel = "r1-2', 'author-2"\nlabel = "many')):
         Path(f"{room.room}/{name}.toml").write_text(sheet.replace(old, new), encoding="ascii")
-    told = ["denied 4", "there is no puzzle author-2/nowhere"]
+    told = ["denied 4", "where a round is put, a puzzle of the sheet isn't there", "no puzzle author-2/nowhere"]
     day.run("dora", "round", "put", "x1", "missing.toml", status=2, has=told)
     day.run("dora", "round", "put", "x1", "bad.toml", status=2, has=["refused F1", "hallctl check bad.toml"])
     day.run("dora", "round", "put", "x1", "lacking.toml", has=["number 2, author-2/many, isn't ready"])

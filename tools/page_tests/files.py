@@ -57,6 +57,7 @@ def loading(trials, modules, texts):
     preloaded = re.findall(r'<link rel="modulepreload" href="page/([\w-]+\.js)">', index)
     trials.want("every module but the first is preloaded", [*preloaded, "main.js"] and
                 sorted([*preloaded, "main.js"]) == modules, sorted(set(modules) ^ {*preloaded, "main.js"}))
+    trials.want("the page brings its icon", '<link rel="icon" href="data:image/svg+xml,' in index)
     trials.want("the page says that it isn't proved", "isn't proved" in index)
     trials.want("so does its README", "isn't proved" in read(f"{ROOT}/clients/page/README.md"))
 

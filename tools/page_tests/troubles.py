@@ -7,6 +7,8 @@ from page_tests.place import MINUTES, Place, proxies, solved, until
 
 WALLS = ".board .wall"
 FILES = {"sl": "slither.txt", "nu": "nurikabe.txt"}
+# Seconds that a round still runs in which a browser is asked something, on a busy machine too.
+ASKED_FOR = 30
 SHUT = """Storage.prototype.setItem = () => { throw new Error('full'); };
 Storage.prototype.getItem = () => { throw new Error('shut'); };"""
 # A browser in which no more than so much may be kept under one name.
@@ -41,6 +43,7 @@ def trial(program, pictures, trials):
             browser.reload()
             cut_start(place, browser, want, start)
             too_late(place, browser, want)
+            asked_at_the_end(place, browser, want)
             trials.none("the page's code had no fault", browser.faults())
         kept_nothing(place, pictures, want)
         kept_little(place, pictures, want)
@@ -80,6 +83,23 @@ def too_late(place, browser, want):
     browser.try_now()
     want("too late is told in words", browser.shows("had ended when this came", ".said"), browser.text(".said"))
     browser.picture("too-late")
+
+
+def asked_at_the_end(place, browser, want):
+    """A question that is still open as its puzzle is left, and one as the round ends."""
+    place.begin_at(time.time() - 60 * MINUTES + ASKED_FOR, "e")
+    browser.reload()
+    browser.open("e", 1, "Slitherlink")
+    browser.hand_in()
+    want("an unfinished board asks before the end", browser.shows("Not finished?", "dialog"))
+    browser.go("#/r/e")
+    want("a question goes with its puzzle", until(lambda: not browser.count("dialog")))
+    browser.open("e", 1, "Slitherlink")
+    browser.hand_in()
+    browser.shows("Not finished?", "dialog")
+    want("a question goes at the round's end", until(lambda: not browser.count("dialog")))
+    want("and the end is told in its place", browser.shows("The round is over", "button.hand", seconds=5))
+    want("and nothing was handed in", place.answers("e", "eve") == [], place.answers("e", "eve"))
 
 
 def kept_nothing(place, pictures, want):

@@ -7,7 +7,7 @@ import tempfile
 from pathlib import Path
 
 from . import told
-from .columns import note, told_in, when
+from .columns import counted, note, told_in, when
 from .local_hall import program, record, replayed, run
 from .rounds import places_of, sheet_of, times
 
@@ -105,7 +105,7 @@ def value_of(line, field):
     at = ["name", "key", "roles"].index(field) if field in ("name", "key", "roles") else 3
     if field == "key" or at >= len(cells):
         return f"the {field} is empty or has a byte or a length that isn't allowed" if field == "key" else ""
-    return f"{field}: {cells[at]!r}, of {len(cells[at])} letters"
+    return f"{field}: {cells[at]!r}, of {counted(len(cells[at]), 'letter')}"
 
 
 class SheetReader:
@@ -197,7 +197,7 @@ def wrong_in_sheet(reader, lines):
     line = line_of(lines, "start" if code == "F5" else field)
     more = "" if line else f"there is no line {field} = .. in front of the puzzles"
     if field == "puzzle":
-        line, more = None, f"the sheet has {len(blocks_of(lines)) - 1} puzzles, and may have 1 to 40"
+        line, more = None, f"the sheet has {counted(len(blocks_of(lines)) - 1, 'puzzle')}, and may have 1 to 40"
     return Found(code, field, line, more)
 
 
@@ -214,8 +214,9 @@ def say_round(data, sheet_path, hall, out):
         return
     start, end, close = times(data)
     now = hall.now()
-    out.say(f"{sheet_path} is a round sheet: {data['title']}, {data['mode']}, {len(data['puzzles'])} puzzles,"
-            f" {sum(it['points'] for it in data['puzzles'])} points",
+    points = sum(it["points"] for it in data["puzzles"])
+    out.say(f"{sheet_path} is a round sheet: {data['title']}, {data['mode']},"
+            f" {counted(len(data['puzzles']), 'puzzle')}, {counted(points, 'point')}",
             f"start  {when(start, now)}", f"end    {when(end, now)}", f"close  {when(close, now)}")
     if start <= now:
         out.say(f"Its start has come {told_in(now - start)} ago: a draft of it can't be released.")
@@ -230,7 +231,7 @@ def check(args, hall, out):
             found = wrong_in_list(ListReader(path, room), lines)
             lines = [lines[0], *map(without_key, lines[1:])] if lines else []
             if not found:
-                out.say(f"{args.file} is an entry list, of {max(len(lines) - 1, 0)} lines behind the first")
+                out.say(f"{args.file} is an entry list, of {counted(max(len(lines) - 1, 0), 'line')} behind the first")
                 note("Whether its names and keys fit with those whom a hall knows is seen as it is added.")
         else:
             reader = SheetReader(path, room)

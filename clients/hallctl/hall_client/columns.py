@@ -23,6 +23,11 @@ def csv_text(head, rows):
     return text.getvalue()
 
 
+def counted(number, name, names=None):
+    """A number with the word for one, or for several."""
+    return f"{number} {name if number == 1 else names or f'{name}s'}"
+
+
 def told_in(seconds):
     """A length of time in words."""
     seconds = int(abs(seconds))

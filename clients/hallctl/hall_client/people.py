@@ -2,12 +2,17 @@
 import csv
 import io
 import os
+import re
 import secrets
+import tempfile
 
-from . import told, wire
-from .columns import note
+from . import check, told, wire
+from .columns import counted, note
+from .local_hall import NoProgram, program
 
 HEAD = ["name", "key", "roles"]
+# What a name is, where no program `hall` is there to say so.
+NAME = re.compile(r"[a-z0-9-]{1,24}")
 # Letters and digits that can't be taken for one another when they are read from paper.
 LETTERS = "abcdefghjkmnpqrstuvwxyz23456789"
 
@@ -19,10 +24,14 @@ def rows_of(path):
         return [(reader.line_num, row) for row in reader if row]
 
 
-def as_list(rows):
+def as_csv(rows):
     text = io.StringIO()
-    csv.writer(text, lineterminator="\n").writerows([HEAD, *rows])
+    csv.writer(text, lineterminator="\n").writerows(rows)
     return text.getvalue().encode()
+
+
+def as_list(rows):
+    return as_csv([HEAD, *rows])
 
 
 def parts_of(content, rows):
@@ -80,9 +89,26 @@ def slip(row, url):
     return "\n".join([*lines, "- " * 36]).rstrip() + "\n"
 
 
+def fault_of(args, numbered):
+    """The first fault of a list whose keys are filled in, as the hall finds it, with the list's lines; none where there
+    is none. Rows come with the lines of the file that they are on."""
+    lines = [b"\n"] * numbered[-1][0]
+    for at, row in numbered:
+        lines[at - 1] = as_csv([row])
+    try:
+        path = program(args.program)
+    except NoProgram as fault:
+        note(f"the names alone are looked at, since {fault}")
+        wrong = next((at for at, row in numbered[1:] if not NAME.fullmatch(row[0])), None)
+        return wrong and check.Found("F3", "name", wrong, "a name is 1 to 24 of a-z, 0-9 and the dash"), lines
+    with tempfile.TemporaryDirectory(prefix="hallctl-keys-") as room:
+        return check.wrong_in_list(check.ListReader(path, room), lines), lines
+
+
 def keys(args, _, out):
     """Fills the empty keys of a list, and prints slips."""
-    rows = [row for _, row in rows_of(args.list)]
+    numbered = rows_of(args.list)
+    rows = [row for _, row in numbered]
     if rows[:1] != [HEAD] or any(len(row) != 3 for row in rows):
         note(f"{args.list} is no list of the columns name, key and roles: `hallctl check {args.list}` says where")
         return told.REFUSED
@@ -90,10 +116,17 @@ def keys(args, _, out):
     filled = [row for row in rows if not row[1].strip()]
     for row in filled:
         row[1] = new_key()
+    fault, lines = fault_of(args, numbered)
+    if fault:
+        note(*fault.lines(args.list, [lines[0], *map(check.without_key, lines[1:])]), "No key was made.")
+        return told.REFUSED
     if filled:
         written(args.list, rows)
     shown = rows if args.all else filled
-    note(f"{len(filled)} of {len(rows)} people got a new key, which stands in {args.list}; {len(shown)} slips")
+    note(f"{len(filled)} of {counted(len(rows), 'person', 'people')} got a new key, which stands in {args.list};"
+         f" {counted(len(shown), 'slip')}")
+    if shown and not args.url:
+        note("the slips lack the hall's address: name it by --url, or in the variable HALL_URL")
     for row in shown:
         out.say(slip(row, args.url))
     out.value([dict(zip(HEAD, row)) for row in shown])

@@ -18,10 +18,9 @@ TRY = {
     "none": ["`hall solve` on your own machine says the same, and takes nobody's time."],
     "more": ["The hall doesn't show the two solutions. Look for a place where a loop, a wall or a pair of numbers can"
              " be turned round."],
-    "gave up": ["Try with `hall solve --budget 1000000` on your own machine first: a hall that searches answers nobody"
-                " else.",
-                "If that says `one`, certify with `--budget 1000000` while no round runs; it may take hours where the"
-                " board is large and nearly empty.",
+    "gave up": ["Try with `hall solve --budget 1000000` on your own machine first, which takes nobody's time.",
+                "If that says `one`, certify with `--budget 1000000`; it may take long where the board is large and"
+                " nearly empty.",
                 "If it gives up too, add clues: how many visits were needed isn't told."],
 }
 

@@ -17,7 +17,7 @@ PUZZLES = [("p1", "sudoku/4/4/123434122143432g", 40), ("p2", "https://puzz.link/
 RIGHT, WRONG, LOOP = "1234341221434321", "1234341221434312", "110011/101101"
 # Fay: 40 and 30. Eve: 40 less a penalty of 5, and 3 points of a protest. Nobody has a whole minute left.
 TABLE = [{"rank": 1, "name": "fay", "total": 70}, {"rank": 2, "name": "eve", "total": 38}]
-BEFORE, MINUTE = 6, 60
+BEFORE, MINUTE = 10, 60
 
 
 def sheet(start):

@@ -2,7 +2,7 @@
 import csv
 
 from . import told
-from .columns import agreed, columns, csv_text, note, utc
+from .columns import agreed, columns, counted, csv_text, note, utc
 from .rounds import is_so, times
 from .wire import Refused
 
@@ -45,12 +45,12 @@ def rule(args, hall, out):
         out.say(f"{it['entrant']} on number {it['number']} of {args.round}: {it['text']}")
     if not found:
         note(f"{args.entrant} has no protest {args.token} in {args.round}: `hallctl protests {args.round}` lists them")
-    question = f"Rule it {args.ruling}{f' with {points} points' if args.ruling == 'upheld' else ''}? It is ruled once."
-    if not agreed(args, question):
+    given = f" with {counted(points, 'point')}" if args.ruling == "upheld" else ""
+    if not agreed(args, f"Rule it {args.ruling}{given}? It is ruled once."):
         return told.OTHERWISE
     path = f"/rounds/{args.round}/rulings/{args.entrant}/{args.token}"
     data = hall.put(path, {"points": points, "upheld": args.ruling == "upheld"})
-    out.say(f"ruled {data['ruled']}, {data['points']} points")
+    out.say(f"ruled {data['ruled']}, {counted(data['points'], 'point')}")
     out.value(data)
     return told.DONE
 

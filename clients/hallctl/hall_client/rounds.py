@@ -2,7 +2,7 @@
 import tomllib
 
 from . import told
-from .columns import agreed, columns, here, note, told_in, utc, when
+from .columns import agreed, columns, counted, here, note, told_in, utc, when
 from .puzzles import MEANING, texts_of
 from .wire import Refused
 
@@ -102,7 +102,7 @@ def rows_to_release(args, hall, data):
     with open(args.sheet, "rb") as file:
         places, states = places_of(sheet_of(file.read())), states_of(hall)
     if len(places) != len(data["puzzles"]):
-        counts = f"{len(places)} puzzles and the draft {len(data['puzzles'])}"
+        counts = f"{counted(len(places), 'puzzle')} and the draft {len(data['puzzles'])}"
         raise ValueError(f"{args.sheet} has {counts}: put the sheet first")
     return [[number, "/".join(it), states.get(it, "?")] for number, it in enumerate(places, 1)]
 

@@ -45,8 +45,8 @@ def sentence_of_form(data):
 def lines_of(data, status):
     """What a reply says that isn't 200, in lines: the code and its sentence, and then what to do."""
     if isinstance(data, dict) and data.get("fault") == "proxy" and status == 403:
-        yield "status 403: the proxy doesn't let this address ask for it: certificates come from named addresses alone"
-        yield "Ask whoever runs the hall to name your address (haproxy.cfg, may_certify), or to certify in your place."
+        yield "status 403: the proxy doesn't let this address ask for it"
+        yield "Ask whoever runs the hall to name your address in the proxy's file, or to ask in your place."
     elif isinstance(data, dict) and "denied" in data:
         number = data["denied"]
         yield f"denied {number}: {codes()['denials'].get(str(number), {'sentence': ''})['sentence']}"

@@ -11,8 +11,7 @@ import urllib.parse
 
 from . import told
 
-# All other requests wait behind one that takes long: a proxy tells 504 after 3 minutes. A certificate may take hours,
-# one in the queue and one in the search.
+# A proxy tells 504 after 3 minutes. A certificate may take hours, one in the queue and one in the search.
 TIMEOUT, TIMEOUT_OF_CERTIFICATE = 200, 7300
 LARGEST_BODY = 65_536
 

@@ -124,7 +124,7 @@ def parser():
     of.add("add", people.add, [word("list", "the entry list, a file")])
     commands.add("keys", people.keys, [
         word("list", "the entry list, a file, which gets the new keys"),
-        word("--all", "slips for those too who had a key", action="store_true")], needs="nothing")
+        word("--all", "slips for those too who had a key", action="store_true"), PROGRAM], needs="nothing")
     add_puzzles(commands)
     add_rounds(commands)
     add_results(commands)

@@ -24,14 +24,16 @@ export function refill(element, ...children) {
 }
 
 // Asks a question in a dialog. `choices` are [label, value]; the promise is the chosen value, "" where the reader
-// goes back. The first choice is the one that changes nothing, and has the focus.
-export function question(title, text, choices) {
+// goes back, and where the signal says that there is nothing to choose any more. The first choice is the one that
+// changes nothing, and has the focus.
+export function question(title, text, choices, signal) {
   return new Promise((done) => {
     const buttons = choices.map(([label, value], index) =>
       html("button", { class: index ? "" : "main", value, autofocus: !index }, label));
     const box = html("dialog", { "aria-label": title }, html("form", { method: "dialog" },
       html("h2", {}, title), html("p", {}, text), html("div", { class: "row" }, buttons)));
     box.addEventListener("close", () => { box.remove(); done(box.returnValue); });
+    signal?.addEventListener("abort", () => box.close());
     document.body.append(box);
     box.showModal();
   });

@@ -37,6 +37,8 @@ class Desk {
   constructor(app, signal, round, sheet, entry, puzzle) {
     Object.assign(this, { app, signal, round, sheet, entry, puzzle, number: entry.number, kind: kindOf(puzzle) });
     this.answers = [];
+    this.ended = new AbortController(); // the round is over, or the reader has left
+    signal.addEventListener("abort", () => this.ended.abort());
     document.title = `${entry.number}. ${this.kind.name} · ${round.title}`;
     const drawing = new Drawing(app.person, round.id, entry.number, entry.text, endOf(round));
     this.board = new Board(puzzle, drawing, () => this.warn(""));
@@ -66,7 +68,8 @@ class Desk {
   async handIn() {
     const { marks } = this.board, answer = writeAnswer(this.puzzle, marks);
     const why = this.kind.unfinished(this.puzzle, marks);
-    const sure = (title, text, go) => question(title, `${text} ${this.costs()}`, [["Go on drawing", ""], [go, "yes"]]);
+    const sure = (title, text, go) =>
+      question(title, `${text} ${this.costs()}`, [["Go on drawing", ""], [go, "yes"]], this.ended.signal);
     if (why && this.puzzle.kind === "sudoku") { this.warn(why); return; } // its text would be no filling at all
     if (why && !await sure("Not finished?", why, "Hand it in as it is")) return;
     if (!why && this.answers.some((old) => old.answer === answer)
@@ -94,6 +97,7 @@ class Desk {
     const letters = app.letters.of(this.round.id, "answer").filter((letter) => letter.number === number);
     const waiting = letters.some((letter) => !letter.reply);
     const right = answers.some((answer) => answer.verdict === "right");
+    if (over) this.ended.abort();
     this.undo.disabled = !board.past.length;
     this.redo.disabled = !board.future.length;
     this.pencil?.setAttribute("aria-pressed", board.pencil);
@@ -167,7 +171,8 @@ class Desk {
   }
 
   async clear() {
-    const sure = await question("Clear the board?", "Undo brings it back.", [["Keep it", ""], ["Clear", "yes"]]);
+    const sure = await question("Clear the board?", "Undo brings it back.", [["Keep it", ""], ["Clear", "yes"]],
+      this.signal);
     if (sure) this.board.clear();
   }
 
