@@ -4,6 +4,7 @@ import subprocess
 
 HERE = os.path.dirname(os.path.realpath(__file__))
 HAPROXY, NGINX = "/usr/sbin/haproxy", "/usr/sbin/nginx"
+ALPN = "alpn h2,http/1.1"
 # The page that both serve, in the place of the installed one; another one where the environment says so.
 PAGE = os.environ.get("PAGE", f"{os.path.dirname(os.path.dirname(HERE))}/clients/page")
 
@@ -56,9 +57,9 @@ def our_haproxy(front, back, room, tls=False, log=subprocess.DEVNULL, change=str
         *([] if own else [("    user haproxy\n", ""), ("    group haproxy\n", "")]),
         # Both kinds of addresses by one line, as in the file, but of this machine alone.
         ("bind :::443 v4v6", f"bind :::{front} v4v6 interface lo"),
-        (" ssl crt /etc/haproxy/hall.pem", f" ssl crt {room}/hall.pem" if tls else ""),
-        ("127.0.0.1:8080 maxconn 100\n", f"127.0.0.1:{back} maxconn 100\n"),
-        ("127.0.0.1:8080 maxconn 1\n", f"127.0.0.1:{back} maxconn 1\n"),
+        (f" ssl crt /etc/haproxy/hall.pem {ALPN}", f" ssl crt {room}/hall.pem {ALPN}" if tls else ""),
+        ("server hall 127.0.0.1:8080 ", f"server hall 127.0.0.1:{back} "),
+        ("server searching 127.0.0.1:8080 ", f"server searching 127.0.0.1:{back} "),
     ])))
     return haproxy(f"{room}/haproxy.cfg", log)
 

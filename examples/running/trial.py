@@ -14,7 +14,7 @@ class Trial:
     """What was tried through a proxy, and how much of it went wrong."""
 
     def __init__(self, name, port, certificate=None):
-        self.name, self.port, self.tried, self.failed = name, port, 0, 0
+        self.name, self.port, self.tried, self.failed, self.certificate = name, port, 0, 0, certificate
         self.context = ssl.create_default_context(cafile=certificate) if certificate else None
 
     def wants(self, name, want, got):
@@ -102,14 +102,13 @@ class StandIn(http.server.ThreadingHTTPServer):
 
     def __init__(self, port):
         super().__init__(("127.0.0.1", port), Standing)
-        self.lock, self.gone, self.kept, self.most = threading.Lock(), threading.Event(), 0, 0
+        self.lock, self.gone, self.kept = threading.Lock(), threading.Event(), 0
         threading.Thread(target=self.serve_forever, daemon=True).start()
 
     def keep(self):
-        """Keeps a client, and counts how many are kept at once."""
+        """Keeps a client, and counts how many are kept."""
         with self.lock:
             self.kept += 1
-            self.most = max(self.most, self.kept)
         self.gone.wait(60)
         with self.lock:
             self.kept -= 1
@@ -121,6 +120,13 @@ class StandIn(http.server.ThreadingHTTPServer):
                 return True
             time.sleep(0.05)
         return False
+
+    def let_go(self):
+        """Lets all go who are kept, and keeps those who come after."""
+        self.gone.set()
+        while self.kept:
+            time.sleep(0.05)
+        self.gone.clear()
 
     def handle_error(self, request, client_address):
         """Whoever hangs up is no trouble here."""

@@ -3,8 +3,8 @@
 
     python3 examples/running/try.py [--brief] [--program PATH] [haproxy|nginx ..]
 
-Their limits, what they say in the hall's place, who may certify, IPv6, port 80, clients that stall; and the round of
-README.md through HAProxy. Only ports, paths and the certificate of the files are replaced, and where a line says so a
+Their limits, what they say in the hall's place, certificates that come late, IPv6, port 80, clients that stall; and
+the round of README.md through HAProxy. Only ports, paths and the certificate of the files are replaced, and where a line says so a
 time. With --brief the round, which takes two minutes, is left out. Prints a line for each thing that went wrong, and
 last how many were tried; exits with 1 where one went wrong, and with 77 where neither proxy is installed.
 """
@@ -32,6 +32,8 @@ CHALLENGE = "/.well-known/acme-challenge/word"
 STRANGE, OTHER = "127.0.0.9", "127.0.0.8"
 # A request is whole in so many seconds, or its client is told so; and some more, on a machine that is busy.
 PATIENCE = 10 + 8
+# A certificate that comes so late: no other reply may, and no client's connection is silent for so long else.
+LATE = 16
 
 
 def stall(it):
@@ -65,6 +67,32 @@ def heads(it):
     chunks = b"2\r\n{}\r\n0\r\n\r\n"
     it.wants("a body in chunks", (400, F7),
              it.ask("PUT", "/puzzles/bob/p1", "bob-key-1", chunks, [("Transfer-Encoding", "chunked")]))
+
+
+def by_http2(it):
+    """The same by HTTP/2, which browsers speak where they can."""
+    if "HTTP2" not in subprocess.run(["curl", "--version"], capture_output=True, text=True, check=True).stdout:
+        print("behind HAProxy: curl speaks no HTTP/2 here, so that wasn't tried")
+        return
+    put = f"https://localhost:{it.port}/puzzles/bob/p1"
+    body = b'{"text":"' + b"x" * (65_536 - 11) + b'"}'
+    of_hall = '{"field":"text","form":"F3"} 2 400'
+    told = asked_by_http2(it, put.replace("/puzzles/bob/p1", "/rounds"))
+    it.wants("a request by HTTP/2", f"{ROUNDS} 2 200", told)
+    for name, wanted, sent, words in (
+        ("a body of 65,536 bytes", of_hall, body, []), ("a body of 65,537 bytes", f"{F7} 2 400", body + b" ", []),
+        ("a body that comes too slowly", "cancelled", body, ["--limit-rate", "1k"]),
+    ):
+        told = asked_by_http2(it, put, "-X", "PUT", "--data-binary", "@-", *words, body=sent)
+        it.wants(f"{name} by HTTP/2", wanted, told)
+
+
+def asked_by_http2(it, address, *words, body=b""):
+    """The body of a reply, the version of HTTP that was spoken, and the status; or that the request was cancelled."""
+    asked = ["curl", "-sS", "--http2", "--cacert", it.certificate, "-H", "Hall-Key: bob-key-1", address, *words]
+    ran = subprocess.run([*asked, "-w", " %{http_version} %{http_code}"], input=body, capture_output=True, timeout=90,
+                         check=False)
+    return "cancelled" if b"CANCEL" in ran.stderr else (ran.stdout + ran.stderr).decode()
 
 
 def often(it, count, path, headers=(), source=STRANGE):
@@ -104,12 +132,11 @@ def crowded_at_nginx(it):
 
 
 def certificates(it, answered):
-    """Who may ask for a certificate, and who may not."""
+    """A certificate, from any address."""
     body = b'{"budget":1}'
-    it.wants("a certificate, from an address that is named", answered,
-             it.ask("POST", CERTIFICATE, "bob-key-1", body))
-    status, told, headers = it.reply("POST", CERTIFICATE, "bob-key-1", body, source=OTHER)
-    it.wants("a certificate, from another address", (403, FAULT, True), (status, told, trial.is_now(headers)))
+    it.wants("a certificate", answered, it.ask("POST", CERTIFICATE, "bob-key-1", body))
+    it.wants("a certificate, from another address", answered,
+             it.ask("POST", CERTIFICATE, "bob-key-1", body, source=OTHER))
     if trial.has_ipv6():
         it.wants("a certificate, over IPv6", answered, it.ask("POST", CERTIFICATE, "bob-key-1", body, host="::1"))
 
@@ -119,6 +146,7 @@ def families(it):
     for host in ["127.0.0.1", *(["::1"] if trial.has_ipv6() else [])]:
         status, told, headers = it.reply("GET", "/rounds", host=host)
         it.wants(f"a reply at {host}, and its date", (200, ROUNDS, True), (status, told, trial.is_now(headers)))
+    it.wants("the icon for which browsers ask", (204, ""), it.ask("GET", "/favicon.ico"))
 
 
 def beside(it, stalled_told, more):
@@ -141,13 +169,22 @@ def beside(it, stalled_told, more):
     unread.close()
 
 
+# What docs/RUNNING.md adds where certificates are to come from some addresses alone.
+NAMED = """    acl may_certify src 127.0.0.1 ::1
+    http-request deny deny_status 403 if { path_end /certificate } !may_certify
+"""
+NAMED_AT_NGINX = "        allow 127.0.0.1;\n        allow ::1;\n        deny all;\n"
+
+
 def quick(text):
-    """The file of a proxy that waits 2 seconds for the hall, and has one page of its own."""
+    """The file of a proxy that waits 2 seconds for the hall, has one page of its own, and names who may certify."""
     page = "http-request return status 200 content-type text/plain string page if { path /own }"
     mark = "    # What HAProxy answers by itself"
     return (text.replace("timeout server 180s", "timeout server 2s")
             .replace("proxy_read_timeout 180s", "proxy_read_timeout 2s")
             .replace(mark, f"    {page}\n{mark}")
+            .replace("    use_backend certificates", f"{NAMED}    use_backend certificates")
+            .replace("    location ~ /certificate$ {\n", f"    location ~ /certificate$ {{\n{NAMED_AT_NGINX}")
             .replace("    location / {", "    location = /own { return 200 page; }\n    location / {", 1))
 
 
@@ -158,25 +195,27 @@ def in_its_place(it, stand_in):
     for name, path, status in (("hangs up", "/closes", 502), ("is silent", "/silent", 504)):
         told = it.reply("GET", path)
         it.wants(f"a hall that {name}", (status, FAULT, True), (*told[:2], trial.is_now(told[2])))
-    stand_in.gone.set()
-    while stand_in.kept:
-        time.sleep(0.05)
-    stand_in.gone.clear()
-    stand_in.most = 0
-    (one_by_one if it.name == "HAProxy" else many)(it, stand_in)
+    told = it.reply("POST", CERTIFICATE, "bob-key-1", b"{}", source=OTHER)
+    it.wants("a certificate, from an address that isn't named", (403, FAULT, True), (*told[:2], trial.is_now(told[2])))
+    stand_in.let_go()
+    late(it, stand_in)
+    if it.name == "nginx":
+        stand_in.let_go()
+        many(it, stand_in)
     stand_in.end()
     it.wants("a hall that isn't there", (503 if it.name == "HAProxy" else 502, FAULT), it.ask("GET", "/rounds"))
 
 
-def one_by_one(it, stand_in):
-    """Three certificates at once: the hall sees one after another, and all else beside it."""
+def late(it, stand_in):
+    """Three certificates that come late: each is told its end, and all else is answered meanwhile."""
     with concurrent.futures.ThreadPoolExecutor(3) as pool:
         asked = [pool.submit(it.ask, "POST", CERTIFICATE, "bob-key-1", b"{}") for _ in range(3)]
-        it.wants("a certificate that takes long", True, stand_in.keeps(1))
-        it.wants("a request beside it", (200, STANDS), it.ask("GET", "/rounds"))
+        it.wants("three certificates at once", True, stand_in.keeps(3))
+        it.wants("a request beside them", (200, STANDS), it.ask("GET", "/rounds"))
+        time.sleep(LATE)
+        it.wants("certificates that the hall still has", 3, stand_in.kept)
         stand_in.gone.set()
-        it.wants("three certificates", [(200, STANDS)] * 3, [one.result() for one in asked])
-    it.wants("certificates at once", 1, stand_in.most)
+        it.wants(f"three certificates after {LATE} seconds", [(200, STANDS)] * 3, [one.result() for one in asked])
 
 
 def many(it, stand_in):
@@ -273,7 +312,7 @@ def behind_haproxy(room, args):
             proxies.our_haproxy(front, back, room, tls=True, log=log)):
         trial.wait_for(front)
         with trial.serving(args.program, room, PEOPLE, back):
-            beside(it, b"HTTP/1.1 408 ", (heads, crowded))
+            beside(it, b"HTTP/1.1 408 ", (heads, by_http2, crowded))
         if not args.brief:
             play(it, back, room, args.program)
     with open(f"{room}/log", encoding="ascii", errors="replace") as log:
