@@ -43,8 +43,8 @@ WHILE, SOON, MOST_SECONDS = 2, 240, 900
 VISITS, FEW = 2_000, 300
 # How many connections may be open.
 PLACES = 500
-# A client goes when so much of its search is made, so that a second search would make 1.8 times the work of one. What is
-# taken for one search's.
+# A client goes when so much of its search is made, so that a second search would make 1.8 times the work of one. What
+# is taken for one search's.
 LEAVES, ONE_SEARCH = 0.8, 1.45
 # Small puzzles, and their solution.
 SMALL, OTHER, SOLVED = "sudoku/4/4/1234341221434321", files.SUDOKU, RIGHT

@@ -31,8 +31,8 @@ use std::marker::Model;
 
 /// What answers requests to the hall, one after another, over the world of its store; a contract sees the store.
 ///
-/// It keeps a copy of the table that it made last, until something is changed, the searches that requests wait for, and
-/// what a search found last.
+/// It keeps a copy of the table that it made last, until something is changed, the searches that requests wait for,
+/// and what a search found last.
 #[derive(Drop)]
 pub struct Desk<S: ReadStore> {
     store: S,
@@ -99,9 +99,10 @@ impl<S: ReadStore> Desk<S> {
         )
     }
 
-    /// Works for a while on what a plan of the request needs, and tells whether to answer it now, or to ask so again. An
-    /// allowed Certify waits until its puzzle has been searched, some visits a time; one that wants the puzzle and budget
-    /// of a search under way joins it. At most eight are, one for each key; others wait until one may begin. Reads only.
+    /// Works for a while on what a plan of the request needs, and tells whether to answer it now, or to ask so again.
+    /// An allowed Certify waits until its puzzle has been searched, some visits a time; one that wants the puzzle and
+    /// budget of a search under way joins it. At most eight are, one for each key; others wait until one may begin.
+    /// Reads only.
     pub fn prepare(&mut self, alloc: Global, request: &Request) -> bool
         ensures kept { Kept (S.content (kept_by self.old)) (S.content (kept_by self.new)) }
         ensures untouched { IsNobodys request.now → kept_by self.new ≡ kept_by self.old }
@@ -167,8 +168,8 @@ impl<S: ReadStore> Desk<S> {
 }
 
 impl<S: Store> Desk<S> {
-    /// Makes the plan's change by one write at most, and answers its reply. Refused, it has consumed the plan and, while
-    /// the store serves, left the world; a plan without a change is never refused, and makes no write.
+    /// Makes the plan's change by one write at most, and answers its reply. Refused, it has consumed the plan and,
+    /// while the store serves, left the world; a plan without a change is never refused, and makes no write.
     pub fn commit(&mut self, alloc: Global, plan: Plan) -> Result<Reply, StoreFault>
         requires { Asks (S.content (kept_by self.old)) (CanMake (planned_change plan)) }
         ensures leads { Leads (S.content (kept_by self.old)) (S.content (kept_by self.new)) }
@@ -196,8 +197,8 @@ impl<S: Store> Desk<S> {
     }
 
     /// Answers one request: a step of the hall. It makes at most one write, and none for a request that is denied,
-    /// repeated or has nothing to write. A fault is `Reply::Unavailable`, which a request without a key, other than for
-    /// a table, is never answered.
+    /// repeated or has nothing to write. A fault is `Reply::Unavailable`, which a request without a key, other than
+    /// for a table, is never answered.
     pub fn step(&mut self, alloc: Global, t: Moment, request: &Request) -> Reply
         ensures leads { Leads (S.content (kept_by self.old)) (S.content (kept_by self.new)) }
         ensures once { WritesOnce (S.content (kept_by self.old)) (S.content (kept_by self.new)) }
@@ -219,8 +220,8 @@ impl<S: Store> Desk<S> {
     }
 
     /// Imports the people before any request: the rule on lists alone is asked. It answers `Reply::Import`, or
-    /// `Reply::Denied` by that rule. It makes at most one write, and none where it denies. Refused, it has left the world
-    /// while the store serves; want of memory apart, it fails only over a store that can.
+    /// `Reply::Denied` by that rule. It makes at most one write, and none where it denies. Refused, it has left the
+    /// world while the store serves; want of memory apart, it fails only over a store that can.
     pub fn try_seed(&mut self, alloc: Global, people: &People) -> Result<Reply, StoreFault>
         ensures leads { Leads (S.content (kept_by self.old)) (S.content (kept_by self.new)) }
         ensures once { WritesOnce (S.content (kept_by self.old)) (S.content (kept_by self.new)) }

@@ -10,8 +10,8 @@ use std::alloc::{AllocError, Global};
 /// The most searches under way.
 const MOST_SEARCHES: usize = 8;
 
-/// A search that wasn't asked for while any were so often is one that nobody waits for. Between two turns of one of 500
-/// connections that wait each of them may have a turn 500 times, with three requests in each.
+/// A search that wasn't asked for while any were so often is one that nobody waits for. Between two turns of one of
+/// 500 connections that wait each of them may have a turn 500 times, with three requests in each.
 const FORGOTTEN: u64 = 1_000_000;
 
 /// A search under way, the key of whoever began it, the name of its puzzle, and when it was asked for last.
@@ -45,9 +45,9 @@ impl Searches {
         })
     }
 
-    /// Goes on for a while with the search that is wanted, and tells what was found if it came to its end. One that isn't
-    /// under way begins where it may, and makes no visit yet: so a request has none before its second turn. A search that
-    /// is refused memory is gone, and begins anew when it is asked for again.
+    /// Goes on for a while with the search that is wanted, and tells what was found if it came to its end. One that
+    /// isn't under way begins where it may, and makes no visit yet: so a request has none before its second turn. A
+    /// search that is refused memory is gone, and begins anew when it is asked for again.
     pub(crate) fn go_on(&mut self, alloc: Global, wanted: Wanted) -> Option<Finding> {
         self.asked = self.asked.saturating_add(1);
         let Some(place) = self.place_of(&wanted) else {
@@ -86,8 +86,8 @@ impl Searches {
         None
     }
 
-    /// A place where the search that is wanted may begin: none while another is under way for its key, and none at once
-    /// after one has ended, where the next request on that connection would always come first.
+    /// A place where the search that is wanted may begin: none while another is under way for its key, and none at
+    /// once after one has ended, where the next request on that connection would always come first.
     fn free_place(&self, wanted: &Wanted) -> Option<usize> {
         if self.asked.saturating_sub(self.ended) == 1 {
             return None;

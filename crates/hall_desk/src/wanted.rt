@@ -14,7 +14,8 @@ use hall_policy::{Action, Budget, Decision, Facts, Key, Moment, PuzzleKey, Reque
 use hall_store::{ReadStore, StoreFault};
 use std::alloc::{AllocError, Global};
 
-/// A search that a plan would make: of a puzzle, which stands under this name, within a budget, for whoever has the key.
+/// A search that a plan would make: of a puzzle, which stands under this name, within a budget, for whoever has the
+/// key.
 #[derive(Drop)]
 pub(crate) struct Wanted {
     pub(crate) key: Key,
@@ -23,8 +24,8 @@ pub(crate) struct Wanted {
     pub(crate) budget: u64,
 }
 
-/// The search that a plan of the request would make now: of the puzzle of an allowed Certify, where no search of it came
-/// to an end yet and nothing is remembered of it.
+/// The search that a plan of the request would make now: of the puzzle of an allowed Certify, where no search of it
+/// came to an end yet and nothing is remembered of it.
 pub(crate) fn search_for<S: ReadStore>(
     alloc: Global,
     store: &mut S,

@@ -35,15 +35,15 @@ abbrev pub newcomers : {P : Type 0} → Nexts P → ℕ
 newcomers [] = 0
 newcomers (one ∷ rest) = newcomer one + newcomers rest
 
--- why no more was done after these steps. `Served`: the sockets said that all have gone. `Refused`: they said that none
--- can come in, or 2^64 - 1 things were done. `Shut`: the last was a turn.
+-- why no more was done after these steps. `Served`: the sockets said that all have gone. `Refused`: they said that
+-- none can come in, or 2^64 - 1 things were done. `Shut`: the last was a turn.
 abbrev pub EndsBy : {P : Type 0} → ServeAllEnd → Nexts P → Nexts P → Type 0
 EndsBy end.Served steps last = last ≡ next.End ∷ []
 EndsBy end.Refused steps last = (last ≡ next.Refused ∷ []) ⊎ ((last ≡ []) × (length steps ≡ 18446744073709551615))
 EndsBy {P} end.Shut steps last = (last ≡ []) × (front : Nexts P) × (place : ℕ) × (steps ≡ front ++ next.Turn place ∷ [])
 
--- The sockets said these things, each of which was done, and then perhaps a last one, and none after it. As many came in
--- as there are newcomers among them: each that the sockets handed out.
+-- The sockets said these things, each of which was done, and then perhaps a last one, and none after it. As many came
+-- in as there are newcomers among them: each that the sockets handed out.
 pub record AreDone {P : Type 0} (end : ServeAllEnd) (before after : Nexts P) (few many : ℕ) : Type 0 where
   pub steps : Nexts P
   pub last : Nexts P

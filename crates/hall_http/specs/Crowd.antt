@@ -36,8 +36,8 @@ pub record AreNumbered {P : Type 0} (turns : List Turn) (s : Clients P) : Type 0
   pub found : (number : ℕ) → number < s.count
       → ((place : ℕ) × (k : Client P) × IsAt s place k × (k.number ≡ number)) ⊎ HasGone number s.gone.items
 
--- of each connection what came spells its requests among these, and what it was sent is a first part of their replies; and
--- a newcomer that was turned away was sent nothing
+-- of each connection what came spells its requests among these, and what it was sent is a first part of their
+-- replies; and a newcomer that was turned away was sent nothing
 pub record AreTold {P : Type 0} (came went : P → List ℕ) (turns : List Turn) (s : Clients P) : Type 0 where
   pub numbered : AreNumbered turns s
   pub here : (place : ℕ) (k : Client P) → IsAt s place k → IsTold (of k.number turns) (came k.peer) (went k.peer)
@@ -57,22 +57,23 @@ abbrev pub Serves : {H C P : Type 0} → (H → Option ℕ → List ℕ → List
     → (P → List ℕ) → (P → List ℕ) → H → C → Clients P → H → C → Clients P → Type 0
 Serves answers rests now_gives came went h c s i d u =
     (turns : List Turn) → AreKept came went turns s
-    → (more : List Turn) × RestingSession answers rests h (exchanges_of more) i × AreMoments now_gives c (exchanges_of more) d
+    → (more : List Turn) × RestingSession answers rests h (exchanges_of more) i
+    × AreMoments now_gives c (exchanges_of more) d
     × AreKept came went (turns ++ more) u
 
 -- requests were answered one after another by a responder, at the clock's moments, and each connection was told so
 pub record AreHandled {H C P : Type 0} (answers : H → Option ℕ → List ℕ → List ℕ → H → Type 0)
-    (rests : H → H → Type 0) (now_gives : C → Option ℕ → C → Type 0) (came went : P → List ℕ) (h : H) (c : C) (i : H) (d : C) (s : Clients P)
-    : Type 0 where
+    (rests : H → H → Type 0) (now_gives : C → Option ℕ → C → Type 0) (came went : P → List ℕ) (h : H) (c : C) (i : H)
+    (d : C) (s : Clients P) : Type 0 where
   pub turns : List Turn
   pub session : RestingSession answers rests h (exchanges_of turns) i
   pub moments : AreMoments now_gives c (exchanges_of turns) d
   pub told : AreTold came went turns s
 
--- The requests of all connections were answered over a store, one after another, at the clock's moments, each over the
--- store that the one before it left and that was only read since, by the replies of a run of the hall, and none after one
--- that a store answered by 503 which serves no more. And of each connection that came, the first bytes spell its requests among these, and what it was
--- sent is a first part of the replies to them.
+-- The requests of all connections were answered over a store, one after another, at the clock's moments, each over
+-- the store that the one before it left and that was only read since, by the replies of a run of the hall, and none
+-- after one that a store answered by 503 which serves no more. And of each connection that came, the first bytes
+-- spell its requests among these, and what it was sent is a first part of the replies to them.
 pub record AreServed {H C P : Type 0} (content : H → Content) (now_gives : C → Option ℕ → C → Type 0)
     (came went : P → List ℕ) (old : H) (clock : C) (new : H) (later : C) (s : Clients P) : Type 0 where
   pub turns : List Turn

@@ -18,8 +18,8 @@ abbrev pub AnswersAt : World → Option ℕ → List ℕ → List ℕ → World 
 AnswersAt world (Some moment) request reply after = Answers world moment request reply after
 AnswersAt world None request reply after = BytesOf NotServed reply × (after ≡ world)
 
--- the same over a store, which stays as it is where the request asks nothing of it, or the clock told no moment; at most
--- one write was made, and none for a request that has nothing to write
+-- the same over a store, which stays as it is where the request asks nothing of it, or the clock told no moment; at
+-- most one write was made, and none for a request that has nothing to write
 pub record IsAnswered {H : Type 0} (content : H → Content) (old : H) (moment : Option ℕ) (request reply : List ℕ)
     (new : H) : Type 0 where
   pub leads : Leads (content old) (content new)
@@ -44,8 +44,8 @@ GoesOn content old reply new =
     reply ≡ answer_text NoStore → (new ≡ old) ⊎ ((content new).honest → (content new).serves)
 
 -- The requests are answered over a store, one after another, each over the store that the one before it left and that
--- was only read since; and after none but the last the reply was 503 by a store that serves no more, unless that request
--- left the store as it was.
+-- was only read since; and after none but the last the reply was 503 by a store that serves no more, unless that
+-- request left the store as it was.
 abbrev pub AreAnsweredWhileOpen : {H : Type 0} → (H → Content) → H → List Exchange → H → Type 0
 AreAnsweredWhileOpen content old [] new = Kept (content old) (content new)
 AreAnsweredWhileOpen {H} content old (x ∷ xs) new =
@@ -79,7 +79,7 @@ pub record IsRunOver (old : World) (xs : List Exchange) (new : World) : Type 0 w
   pub run : Run old requests replies new
   pub made : AreMade xs requests replies
 
--- over a store, the requests of the hall have these replies in a run to some world, which is the store's where it still
--- serves
+-- over a store, the requests of the hall have these replies in a run to some world, which is the store's where it
+-- still serves
 abbrev pub RunsOver : Content → List Exchange → Content → Type 0
 RunsOver old xs new = (last : World) × IsRunOver old.world xs last × (new.serves → new.world ≡ last)

@@ -77,7 +77,8 @@ abbrev pub IsTurned : {H C P : Type 0} → (H → Option ℕ → List ℕ → Li
     → (P → List ℕ) → (P → List ℕ) → H → C → Client P → H → C → Client P → Type 0
 IsTurned answers rests now_gives came went h c k i d l =
     (xs : List Exchange) → IsClient came went xs k
-    → (more : List Exchange) × RestingSession answers rests h more i × AreMoments now_gives c more d × IsClient came went (xs ++ more) l
+    → (more : List Exchange) × RestingSession answers rests h more i × AreMoments now_gives c more d
+    × IsClient came went (xs ++ more) l
 
 -- others may be answered after it
 abbrev pub goes_on : Step → Bool

@@ -45,8 +45,8 @@ WireHidesOthers =
     ≡ replies_where certifies left.requests left.replies →
     ShowAlone e.key mine turns → ShowAlone e.key yours others → replies_on mine turns ≡ replies_on yours others
 
--- until a sealed round's end, connections that alone show e's key have together the bytes of the same replies where two
--- answers to the round are exchanged, with the two exchanged where answers to the round are listed
+-- until a sealed round's end, connections that alone show e's key have together the bytes of the same replies where
+-- two answers to the round are exchanged, with the two exchanged where answers to the round are listed
 abbrev pub WireHidesAnswers : Type 0
 WireHidesAnswers =
     (world last end : World) (r a b : List ℕ) (round : Round) (e : Person) (turns others : List Turn)
@@ -77,8 +77,8 @@ AreWithoutOn last e mine yours (turn ∷ turns) others =
     × (yours other.0 ≡ mine turn.0) × AreWithoutOn last e mine yours turns rest)
 
 -- Connections that show e's key and no other, be it one of those of e or several, have the same replies, one after
--- another, whether the requests of others who hold the role entrant alone come or don't, where what came on these comes
--- again on those. Bytes that are no request may come on any connection, and e's key on others too.
+-- another, whether the requests of others who hold the role entrant alone come or don't, where what came on these
+-- comes again on those. Bytes that are no request may come on any connection, and e's key on others too.
 abbrev pub WireHidesOthersOn : Type 0
 WireHidesOthersOn =
     (world last end : World) (e : Person) (turns others : List Turn) (mine yours : ℕ → Bool) →
@@ -90,8 +90,8 @@ WireHidesOthersOn =
     ≡ replies_where certifies left.requests left.replies →
     ShowNoOther e.key mine turns → replies_on mine turns ≡ replies_on yours others
 
--- each of the first list comes exchanged in the second, in their order; and what came on these connections, and nothing
--- else, comes on those
+-- each of the first list comes exchanged in the second, in their order; and what came on these connections, and
+-- nothing else, comes on those
 abbrev pub AreExchangedOn : List ℕ → List ℕ → List ℕ → (ℕ → Bool) → (ℕ → Bool) → List Turn → List Turn → Type 0
 AreExchangedOn r a b mine yours [] others = others ≡ []
 AreExchangedOn r a b mine yours (turn ∷ turns) others =

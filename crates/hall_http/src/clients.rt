@@ -37,8 +37,8 @@ fn turn_at<P: Peer, H: Responder, C: Clock>(
     clock: &mut C,
 ) -> Step
     requires { (k : Client P) → place.old ≡ Some k → (xs : List Exchange) × IsClient P.came P.went xs k }
-    ensures { IsPlaceTurned (gated H.answers H.goes_on) (still H.rests) C.now_gives P.came P.went (responder.old, true) clock.old
-        place.old (responder.new, goes_on result) clock.new place.new }
+    ensures { IsPlaceTurned (gated H.answers H.goes_on) (still H.rests) C.now_gives P.came P.went
+        (responder.old, true) clock.old place.old (responder.new, goes_on result) clock.new place.new }
 {
     match place {
         Some(client) => client.turn(alloc, routes, responder, clock),

@@ -165,8 +165,8 @@ impl Connection {
         }
     }
 
-    /// Looks at what waits: a whole request is answered, bytes that are none are refused, and else more has to be read.
-    /// The result is whether the responder goes on.
+    /// Looks at what waits: a whole request is answered, bytes that are none are refused, and else more has to be
+    /// read. The result is whether the responder goes on.
     pub(crate) fn look<H: Responder, C: Clock>(
         &mut self,
         alloc: Global,
@@ -245,8 +245,8 @@ impl Connection {
     }
 }
 
-/// Whether the bytes begin with a method by which nothing is asked that needs work before it is answered. It spares most
-/// requests a look at their heads.
+/// Whether the bytes begin with a method by which nothing is asked that needs work before it is answered. It spares
+/// most requests a look at their heads.
 fn needs_nothing(bytes: &[u8]) -> bool {
     bytes.starts_with(b"GET ") || bytes.starts_with(b"PUT ")
 }

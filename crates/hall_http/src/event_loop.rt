@@ -109,7 +109,8 @@ struct Schedule<'r, N> {
     places: Vec<Visit>,
     /// The places of those who are ready, in the order in which they became so.
     ready: VecDeque<usize>,
-    /// The places of those whose requests need more work. One of them has its turn in a round, after all who are ready.
+    /// The places of those whose requests need more work. One of them has its turn in a round, after all who are
+    /// ready.
     searching: VecDeque<usize>,
     /// How many of them have their turn before the sockets are asked again.
     round: usize,
@@ -283,8 +284,8 @@ impl<'r, N> Schedule<'r, N> {
         }
     }
 
-    /// A free place, where one more may be here; or else the place of one that may go, whose patience ends first. Those
-    /// whose requests need more work go last.
+    /// A free place, where one more may be here; or else the place of one that may go, whose patience ends first.
+    /// Those whose requests need more work go last.
     fn find_place(&self) -> (Option<usize>, Option<usize>) {
         let mut count = 0u64;
         let mut found = None;
@@ -310,9 +311,9 @@ impl<'r, N> Schedule<'r, N> {
         (found, leaves)
     }
 
-    /// When the patience of one ends that may make room for a newcomer: nothing that it asked is unanswered, and nothing
-    /// unsent; and it had a second to ask. One whose request needs more work may go too, after all others, since its search
-    /// is kept for whoever sends the request again.
+    /// When the patience of one ends that may make room for a newcomer: nothing that it asked is unanswered, and
+    /// nothing unsent; and it had a second to ask. One whose request needs more work may go too, after all others,
+    /// since its search is kept for whoever sends the request again.
     fn may_go(&self, visit: Visit) -> Option<u64> {
         match visit {
             Visit::Waiting(wait) => match wait.wish {

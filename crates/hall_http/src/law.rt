@@ -4,8 +4,8 @@ ghost use Rattle.hall_http.specs.Laws.{AreOneListOfRequests, AreOneListOfRecords
 ghost use Rattle.hall_http.specs.Told.{HasOneSpelling, RefusalsTellNothing, BytesHideOthers, BytesHideAnswers};
 ghost use Rattle.hall_http.specs.Wire.{WireHidesOthers, WireHidesAnswers, WireHidesOthersOn, WireHidesAnswersOn};
 
-/// Bytes are at most one request and ask for at most one thing. A stream begins with at most one whole request and is at
-/// most one list of requests; an input is at most one list of records.
+/// Bytes are at most one request and ask for at most one thing. A stream begins with at most one whole request and is
+/// at most one list of requests; an input is at most one list of records.
 pub fn law_requests()
     ensures one_request { AreOneRequest }
     ensures one_first { BeginsWithOneRequest }
@@ -14,17 +14,18 @@ pub fn law_requests()
     ensures one_record_list { AreOneListOfRecords }
 {}
 
-/// Connections, one after another, make one run: where the run over the second's exchanges begins in the world in which
-/// that over the first's ended, both are one run over the exchanges of both. While a store serves, it keeps that world.
+/// Connections, one after another, make one run: where the run over the second's exchanges begins in the world in
+/// which that over the first's ended, both are one run over the exchanges of both. While a store serves, it keeps
+/// that world.
 pub fn law_runs()
     ensures { RunsCompose }
 {}
 
-/// Equal replies have equal bytes, and bytes that are no request have one reply, whatever the world. So the bytes of the
-/// replies to an entrant alone and to what is no request are the same where the requests of others who are entrants
-/// alone don't come, if no publication is granted; and until a sealed round's end, where two answers to the round are
-/// exchanged, they are those of the same replies with the two exchanged where answers to the round are listed. In
-/// neither run a reply is 503, and each request to certify that comes in both is answered alike.
+/// Equal replies have equal bytes, and bytes that are no request have one reply, whatever the world. So the bytes of
+/// the replies to an entrant alone and to what is no request are the same where the requests of others who are
+/// entrants alone don't come, if no publication is granted; and until a sealed round's end, where two answers to the
+/// round are exchanged, they are those of the same replies with the two exchanged where answers to the round are
+/// listed. In neither run a reply is 503, and each request to certify that comes in both is answered alike.
 pub fn law_bytes()
     ensures spelling { HasOneSpelling }
     ensures refusals { RefusalsTellNothing }
@@ -39,13 +40,13 @@ pub fn law_bytes()
 /// answers to the round are listed.
 ///
 /// `others` and `answers` say it where all requests with an entrant's key came on these connections, and all whole
-/// requests with a fault of form, and nothing else. On which of them each came may differ between the runs. `others_on`
-/// and `answers_on` say it where each request on these connections has the entrant's key. Others may show it too, and a
-/// whole request with a fault of form may come on any; but what came on these in one run comes on those in the other.
-/// So each connection of an entrant by itself has the same replies.
+/// requests with a fault of form, and nothing else. On which of them each came may differ between the runs.
+/// `others_on` and `answers_on` say it where each request on these connections has the entrant's key. Others may show
+/// it too, and a whole request with a fault of form may come on any; but what came on these in one run comes on those
+/// in the other. So each connection of an entrant by itself has the same replies.
 ///
-/// What was sent on a connection is a first part of its replies, or all of them and then the reply to bytes that are no
-/// request. Nothing is said of time, nor of the order of what is sent on different connections.
+/// What was sent on a connection is a first part of its replies, or all of them and then the reply to bytes that are
+/// no request. Nothing is said of time, nor of the order of what is sent on different connections.
 pub fn law_wire()
     ensures others { WireHidesOthers }
     ensures answers { WireHidesAnswers }

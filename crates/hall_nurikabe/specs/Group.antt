@@ -18,7 +18,8 @@ use Rattle.hall_nurikabe.specs.Forced.{IsSetTo}
 abbrev pub ArePlaced : List ℕ → List ℕ → Type 0
 ArePlaced places list = (i : ℕ) → i < length list → slice_index places (slice_index list i) ≡ i
 
--- the listed cells are on the board, each once and at its place, cells of the value join them, and a single exit is open
+-- the listed cells are on the board, each once and at its place, cells of the value join them, and a single exit is
+-- open
 pub record IsFound (size : Size) (p : List (Option ℕ)) (value : ℕ) (places list : List ℕ) (exits : Exits) : Type 0 where
   pub exact : length places ≡ cells size
   pub below : (x : ℕ) → Contains list x → x < cells size

@@ -116,8 +116,8 @@ fn begin(position: &Position, from: usize, group: &mut Group) -> Result<(), Allo
     Ok(())
 }
 
-/// Finds the cells that cells of the value join to the cell, and the open cells beside them; where it is to be `short`,
-/// only up to the second of these.
+/// Finds the cells that cells of the value join to the cell, and the open cells beside them; where it is to be
+/// `short`, only up to the second of these.
 pub(crate) fn find(
     position: &Position,
     value: u8,

@@ -17,8 +17,8 @@ use std::alloc::{AllocError, Global};
 /// How many cells a visit tries at the most.
 pub(crate) const MOST_TRIED: usize = 16;
 
-/// Where trials go on: the cell to look at next, and how many cells the visit may still try. And how long the trail was
-/// when all that follows round its places was set.
+/// Where trials go on: the cell to look at next, and how many cells the visit may still try. And how long the trail
+/// was when all that follows round its places was set.
 #[derive(Drop)]
 pub(crate) struct Turn {
     pub(crate) next: usize,

@@ -24,8 +24,8 @@ use Rattle.hall_sql.specs.WholeRows.{AreRowsOf, without_testers}
 abbrev pub StandsForOld : Trees → World → Type 0
 StandsForOld db world = IsSound old_schema db × (world ≡ without_testers (world_of db))
 
--- The content of a connection with the tables of the version before: its world is what its tables hold, and no testers.
--- A stop leaves the worlds to which an open of that version may open what it finds.
+-- The content of a connection with the tables of the version before: its world is what its tables hold, and no
+-- testers. A stop leaves the worlds to which an open of that version may open what it finds.
 abbrev pub old_content_of : State → Content
 old_content_of s = record (content_of s) {
   world = without_testers (content_of s).world;
@@ -50,7 +50,8 @@ WasBefore world count old new =
     (IsBare hall_schema old.now × (count ≡ row_count world))
     ⊎ ((world_of old.now.trees ≡ world) × (count ≡ 0) × Rested old new)
 
--- The target holds the world, which it was given in so many rows, or which it held before. Each of its rows is a record.
+-- The target holds the world, which it was given in so many rows, or which it held before. Each of its rows is a
+-- record.
 pub record TookWorld (world : World) (count : ℕ) (old new : State) : Type 0 where
   pub serves : IsTrue new.is_open
   pub held : world_of new.now.trees ≡ world
@@ -80,9 +81,10 @@ Leaves old new (Err fault) = Stayed old new
 abbrev pub StopsAtWorld : World → State → State → Type 0
 StopsAtWorld world old new = LeavesOneOf (λ before left. left ≡ world) (content_of old) (content_of new)
 
--- The tables of the source are as they were, and the target takes the source's world, or is left. What it takes is told
--- where the devices of both were honest to the end; and where the source's was, each row of the source is a record, or
--- the migration fails. A stop leaves the source as it could be left before, and the target so, or with the source's world.
+-- The tables of the source are as they were, and the target takes the source's world, or is left. What it takes is
+-- told where the devices of both were honest to the end; and where the source's was, each row of the source is a
+-- record, or the migration fails. A stop leaves the source as it could be left before, and the target so, or with the
+-- source's world.
 pub record Migrates (was now before after : State) (result : Result Migrated StoreFault) : Type 0 where
   pub source : RestedIn old_schema was now
   pub kept : LeavesNoOther (old_content_of was) (old_content_of now)

@@ -53,8 +53,8 @@ AddsNoOutcome old new = HasCleanDisk new → (db : Trees) → new.may_leave db �
 abbrev pub AddsOutcomes : (Trees → Type 0) → State → State → Type 0
 AddsOutcomes Among old new = HasCleanDisk new → (db : Trees) → new.may_leave db → old.may_leave db ⊎ Among db
 
--- No transaction is open, and the steps of a query have no limit. Where the store still serves, all is committed, and the
--- tables are those of the schema.
+-- No transaction is open, and the steps of a query have no limit. Where the store still serves, all is committed, and
+-- the tables are those of the schema.
 pub record IsTabled (schema : Schema) (s : State) : Type 0 where
   pub unlimited : s.step_limit ≡ None
   pub autocommit : HasCleanDisk s → s.in_transaction ≡ false
@@ -123,9 +123,9 @@ pub record IsSelection (q : Query) (table : List Row) (params : Row) (rows : Lis
   pub sorted : IsSorted (λ a b. output_cmp q (output q (params ∷ a ∷ [])) (output q (params ∷ b ∷ []))) found
   pub shown : rows ≡ map (λ row. eval_all q.project (params ∷ row ∷ [])) found
 
--- The content of a connection: it is honest while its disk is clean, serves while it is open, counts the disk's faults
--- and no writes, and its world is what its tables hold. A stop leaves the worlds to which the next open may open what it
--- finds.
+-- The content of a connection: it is honest while its disk is clean, serves while it is open, counts the disk's
+-- faults and no writes, and its world is what its tables hold. A stop leaves the worlds to which the next open may
+-- open what it finds.
 abbrev pub content_of : State → Content
 content_of s = record {
   honest = HasCleanDisk s;
@@ -190,8 +190,8 @@ StoodOrEmpty old new =
 abbrev pub MakesAtMost : State → State → Type 0
 MakesAtMost old new = AddsOutcomes (λ db. (old.now.schema ≡ no_schema) × IsBareHall db) old new
 
--- The tables of a connection on which no transaction was open became those of the schema, in this way, with no limit on
--- the steps of a query any more. So where they stood, a stop leaves what it could leave before.
+-- The tables of a connection on which no transaction was open became those of the schema, in this way, with no limit
+-- on the steps of a query any more. So where they stood, a stop leaves what it could leave before.
 pub record HasAdoptedIn (schema : Schema) (Stood : State → State → Type 0) (old new : State) : Type 0 where
   pub alone : old.in_transaction ≡ false
   pub hall : IsTabled schema new
@@ -208,8 +208,8 @@ HasAdopted = HasAdoptedIn hall_schema StoodOrEmpty
 abbrev pub HasAdoptedOld : State → State → Type 0
 HasAdoptedOld = HasAdoptedIn old_schema (λ old new. (old.now.schema ≡ old_schema) × (new.now ≡ old.now))
 
--- A connection was refused. Its limit on the steps of a query is as it was, and so is whether a transaction is open, with
--- the savepoints of an open one; while the store serves, so are the tables and what is committed of them.
+-- A connection was refused. Its limit on the steps of a query is as it was, and so is whether a transaction is open,
+-- with the savepoints of an open one; while the store serves, so are the tables and what is committed of them.
 pub record HasDeclined (old new : State) : Type 0 where
   pub follows : Follows old new
   pub mode : HasCleanDisk new → new.in_transaction ≡ old.in_transaction
