@@ -43,7 +43,7 @@ EndsBy end.Refused steps last = (last ≡ next.Refused ∷ []) ⊎ ((last ≡ []
 EndsBy {P} end.Shut steps last = (last ≡ []) × (front : Nexts P) × (place : ℕ) × (steps ≡ front ++ next.Turn place ∷ [])
 
 -- The sockets said these things, each of which was done, and then perhaps a last one, and none after it. As many came
--- in as there are newcomers among them: each that the sockets handed out.
+-- in as there are newcomers among them.
 pub record AreDone {P : Type 0} (end : ServeAllEnd) (before after : Nexts P) (few many : ℕ) : Type 0 where
   pub steps : Nexts P
   pub last : Nexts P

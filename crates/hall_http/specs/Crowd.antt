@@ -83,8 +83,8 @@ pub record AreServed {H C P : Type 0} (content : H → Content) (now_gives : C �
   pub run : (content new).honest → RunsOver (content old) (exchanges_of turns) (content new)
   pub told : AreTold came went turns s
 
--- Serving ended so, as the sockets said: each connection that they handed out came in, and was given a place or turned
--- away; and where all were served, all that may come have come and gone.
+-- Serving ended so, as the sockets said: as many connections as they handed out came in, and were given a place or
+-- turned away; and where all were served, all that may come have come and gone.
 abbrev pub EndsServing : {L P : Type 0} → (L → Type 0) → (L → Nexts P) → ServeAllEnd → L → L → Clients P → Type 0
 EndsServing is_over nexts end before after clients =
     (end ≡ Served → is_over after) × AreDone end (nexts before) (nexts after) 0 (came_in clients)
