@@ -57,7 +57,7 @@ fn label_node<G: Graph>(
     Ok(())
 }
 
-/// The same for the nodes next to a node.
+/// Labels the nodes next to a node and puts them onto the stack, those that are members without a label.
 fn label_around<G: Graph>(
     graph: &G,
     labels: &mut [Option<usize>],

@@ -1,9 +1,11 @@
 //! Whole puzzle texts.
-ghost use Rattle.std.specs.Prelude.{◌≡◌, ◌<◌, ◌⊎◌, ◌↔◌, [], ◌==◌, position, IsTrue, IfOk, IfErr, MatchOption, MatchResult, option_copied};
+ghost use Rattle.std.specs.Prelude.{◌≡◌, ◌<◌, ◌⊎◌, ◌↔◌, [], ◌==◌, position, IsTrue, IfOk, IfErr, MatchOption};
+ghost use Rattle.std.specs.Prelude.{MatchResult, option_copied};
 ghost use Rattle.std.specs.List.{before_first, after_first};
 ghost use Rattle.hall_grid.specs.Board.{Board, HasSize};
 ghost use Rattle.hall_grid.specs.Head.{HasHead};
-ghost use Rattle.hall_grid.specs.Text.{bare, has_address, is_slash, word_of, IsSide, IsNoSide, without_final_slash, SpellsText, FaultOf};
+ghost use Rattle.hall_grid.specs.Text.{bare, has_address, is_slash, word_of, IsSide, IsNoSide, without_final_slash};
+ghost use Rattle.hall_grid.specs.Text.{SpellsText, FaultOf};
 
 use crate::board::{Kind, MOST_CELLS, MOST_SIDE, Size};
 use crate::body::parse_body;
@@ -137,7 +139,7 @@ fn parse_head(text: &[u8]) -> Result<Head<'_>, TextFault>
     Ok(Head { kind, size, body })
 }
 
-/// The puzzle that the text spells, or the first fault of the text. Want of memory may come in place of either.
+/// The puzzle that the text spells, or the first fault of the text. Out of memory may come in place of either.
 pub fn parse_puzzle(alloc: Global, text: &[u8]) -> Result<Puzzle, TextFault>
     ensures ok { IfOk result (SpellsText text.now) }
     ensures err { IfErr result (λ e. (e ≡ TextFault.Memory) ⊎ FaultOf text.now e) }

@@ -1,11 +1,13 @@
 //! Writing a puzzle's text.
-ghost use Rattle.std.specs.Prelude.{◌≡◌, ℕ, ◌+◌, ◌<◌, ◌≤◌, ◌↔◌, ◌++◌, List, length, string_bytes, IsTrue, IfOk, OnOk, Some};
+ghost use Rattle.std.specs.Prelude.{◌≡◌, ℕ, ◌+◌, ◌<◌, ◌≤◌, ◌↔◌, ◌++◌, List, length, string_bytes, IsTrue, IfOk, OnOk};
+ghost use Rattle.std.specs.Prelude.{Some};
 ghost use Rattle.hall_grid.specs.Board.{cells};
 ghost use Rattle.hall_grid.specs.Text.{word_of, SpellsText};
 ghost use Rattle.hall_grid.specs.Canonical.{IsFull, Takes, CanonicalText, head_of};
 ghost use Rattle.hall_grid.specs.Printable.{IsPrintableText};
 ghost use Rattle.hall_grid.specs.FormReading.{given_clues};
-ghost use Rattle.hall_grid.specs.Writing.{IsRunAt, IsChoice, IsShort, cell4_first, number16_bytes, written, AppendsBody};
+ghost use Rattle.hall_grid.specs.Writing.{IsRunAt, IsChoice, IsShort, cell4_first, number16_bytes, written};
+ghost use Rattle.hall_grid.specs.Writing.{AppendsBody};
 
 use crate::board::{Clue, Kind, Size};
 use crate::form::Given;
@@ -150,7 +152,7 @@ fn push_body(text: &mut String, puzzle: &Puzzle) -> Result<(), AllocError>
     Ok(())
 }
 
-/// The one canonical text of the puzzle, in at most 4,015 bytes of printable ASCII. The error is want of memory.
+/// The one canonical text of the puzzle, in at most 4,015 bytes of printable ASCII. The error means out of memory.
 pub fn write_puzzle(alloc: Global, puzzle: &Puzzle) -> Result<String, AllocError>
     ensures canonical { IfOk result (λ text. CanonicalText (string_bytes text) puzzle.now) }
     ensures reads_back { IfOk result (λ text. SpellsText (string_bytes text) puzzle.now) }

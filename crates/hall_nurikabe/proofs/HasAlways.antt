@@ -18,22 +18,10 @@ use Rattle.hall_solve.specs.Deduction.{HasAlways}
 use Rattle.hall_nurikabe.specs.Counts.{HasCount}
 use Rattle.hall_grid.specs.declared.board.Kind.TheVariants.{Nurikabe}
 use Rattle.hall_solve.specs.Puzzle.{question_of}
-use Rattle.hall_nurikabe.specs.Forced.{IsSetTo, IsOpenTo, AreRegions, AreOwners, HaveTwoOwners, IsBeside, IsBetween, AreKept}
+use Rattle.hall_nurikabe.specs.Forced.{IsSetTo, IsOpenTo, AreRegions, AreOwners, HaveTwoOwners, IsBeside, AreKept}
 use Rattle.hall_nurikabe.proofs.Marks.{numbered_below}
 use Rattle.hall_nurikabe.proofs.HasCount.{HasCount-within, HasCount-lacks, not_uncounted}
 use Rattle.hall_nurikabe.proofs.Solves.{set_wall, set_white, white_or_wall, wall_or_white, number_is_white, no_rule_broken}
-
--- an open cell is in no group
-pub unlabelled : (size : Size) (p labels : List (Option ℕ)) → AreComponents (cells size) (Touch size) (IsSetTo p 0) labels → (cell : ℕ)
-    → get_or p cell None ≡ None → get_or labels cell None ≡ None
-unlabelled size p labels a cell bare = decide (get_or labels cell None) refl
-  where
-    decide : (o : Option ℕ) → get_or labels cell None ≡ o → get_or labels cell None ≡ None
-    decide None e = e
-    decide (Some label) e =
-        let white : get_or p cell None ≡ Some 0 = labelled_member (cells size) (Touch size) (IsSetTo p 0) labels a cell label e in
-        let clash : ◌≡◌ {A = Option ℕ} None (Some 0) = sym bare ∙ white in
-        absurd (cc)
 
 module _ (board : Board) (kind : board.kind ≡ Nurikabe) (p : List (Option ℕ)) (part : IsPartial (question_of Nurikabe board) p) where
   -- what is white in a solution isn't set to wall, and the other way round
@@ -73,24 +61,6 @@ module _ (board : Board) (kind : board.kind ≡ Nurikabe) (p : List (Option ℕ)
     pub two_hopeless : HaveTwoOwners board labels → IsHopeless (question_of Nurikabe board) p
     two_hopeless (c, d, label, ne, nc, nd, lc, ld) = λ f s. no_rule_broken board f kind s.right N5 (c, d, ne, nc, nd, island f s c d label lc ld)
 
-    -- a cell between two groups with numbers
-    pub between_forced : (owners : List (Option ℕ)) (cell : ℕ) → cell < cells board.size → AreOwners board labels owners
-        → IsBetween board.size labels owners cell → HasAlways (question_of Nurikabe board) p cell 1
-    between_forced owners cell low o (x, y, c, d, ne, (u, tu, lu), (v, tv, lv), ox, oy) = λ f s.
-        let oc = o.owner x c ox in
-        let od = o.owner y d oy in
-        wall_or_white board f cell s.filling low (λ white.
-        let there = on (island f s c u x oc.1 lu) (Touch-turn board.size cell u tu) white in
-        let back = on there tv (let m = Walk-start (Touch board.size) (IsWhite board.size f) v d (island f s v d y lv od.1) in m) in
-        no_rule_broken board f kind s.right N5 (
-          c,
-          d,
-          (λ e. ne (one_label labels d x y (subst (λ z. IsLabelled labels z x) e oc.1) od.1)),
-          oc.0,
-          od.0,
-          Walk-join (Touch board.size) (IsWhite board.size f) c v d back (island f s v d y lv od.1),
-        ))
-
   -- the island of a known number has that many cells
   module _ (whole : length board.clues ≡ cells board.size) (cell given : ℕ) (clue : slice_get board.clues cell ≡ Some (Number given)) where
     white : (f : List ℕ) → Solves (question_of Nurikabe board) p f → IsWhite board.size f cell
@@ -109,31 +79,6 @@ module _ (board : Board) (kind : board.kind ≡ Nurikabe) (p : List (Option ℕ)
     counted f s none =
         not_uncounted (InIsland board.size f cell) (cells board.size) (λ x w. (Walk-end (Touch board.size) (IsWhite board.size f) cell x w).0)
         (λ m c. none (subst (HasCount (InIsland board.size f cell)) (count_is f m s c) c))
-
-    -- the group of a known number
-    module _ (labels : List (Option ℕ)) (sizes : List ℕ) (r : AreRegions board.size (IsSetTo p 0) labels sizes) (label : ℕ) (here : IsLabelled labels cell label) where
-      in_group : (f : List ℕ) → Solves (question_of Nurikabe board) p f → (x : ℕ) → IsLabelled labels x label → InIsland board.size f cell x
-      in_group f s x h = island labels r.components f s cell x label here h
-
-      pub group_count : HasCount (λ x. IsLabelled labels x label) (get_or sizes label 0)
-      group_count =
-          let a = r.components in
-          let m = Walk-start (Touch board.size) (IsSetTo p 0) label cell (a.joined cell label here) in
-          r.counted label (labelled_low m)
-        where
-          labelled_low : IsSetTo p 0 label → label < cells board.size
-          labelled_low m = let l = r.components.labelled label m in let low = labelled_below labels label l.0 l.1 in let e = r.components.exact in omega arith
-
-      pub large_hopeless : given < get_or sizes label 0 → IsHopeless (question_of Nurikabe board) p
-      large_hopeless many = λ f s. counted f s (λ c.
-          let k = HasCount-within (λ x. IsLabelled labels x label) (InIsland board.size f cell) _ given (in_group f s) group_count c in omega arith)
-
-      pub full_forced : get_or sizes label 0 ≡ given → (x : ℕ) → x < cells board.size → get_or labels x None ≡ None → IsBeside board.size labels x label
-          → HasAlways (question_of Nurikabe board) p x 1
-      full_forced full x low unlabelled (y, t, h) = λ f s. wall_or_white board f x s.filling low (λ white_x. counted f s (λ c.
-          let k = HasCount-lacks (λ x. IsLabelled labels x label) (InIsland board.size f cell) (get_or sizes label 0) given x (in_group f s)
-          (on (in_group f s y h) (Touch-turn board.size x y t) white_x) (λ l. let none : None ≡ Some label = sym unlabelled ∙ l in absurd (cc)) group_count c in
-          omega arith))
 
     -- the cells that a known number reaches without wall
     module _ (labels : List (Option ℕ)) (sizes : List ℕ) (r : AreRegions board.size (IsOpenTo p 1) labels sizes) (label : ℕ) (here : IsLabelled labels cell label) where

@@ -1,5 +1,6 @@
 -- What marks, regions and numbers of a partial filling say.
-use Rattle.std.specs.Prelude.{◌≡◌, ◌≢◌, ◌↔◌, ℕ, ◌<◌, List, length, slice_get, slice_index, slice_index_or, Option, Some, None}
+use Rattle.std.specs.Prelude.{◌≡◌, ◌≢◌, ◌↔◌, ℕ, ◌<◌, List, length, slice_get, slice_index, slice_index_or, Option, Some}
+use Rattle.std.specs.Prelude.{None}
 use Rattle.hall_grid.specs.declared.board.Size.{Size}
 use Rattle.hall_grid.specs.declared.board.Clue.TheVariants.{Number}
 use Rattle.hall_grid.specs.Board.{Board, cells, Touch}
@@ -53,21 +54,6 @@ pub record AreOwners (board : Board) (labels owners : List (Option ℕ)) : Type 
 abbrev pub HaveTwoOwners : Board → List (Option ℕ) → Type 0
 HaveTwoOwners board labels = (a b label : ℕ) × (a ≢ b) × IsNumbered board a × IsNumbered board b
     × IsLabelled labels a label × IsLabelled labels b label
-
--- cells beside the cell have different labels with numbers
-abbrev pub IsBetween : Size → List (Option ℕ) → List (Option ℕ) → ℕ → Type 0
-IsBetween size labels owners cell = (x y a b : ℕ) × (x ≢ y) × IsBeside size labels cell x × IsBeside size labels cell y
-    × (slice_index_or owners x None ≡ Some a) × (slice_index_or owners y None ≡ Some b)
-
--- a group with this owner and this size is a whole island
-abbrev pub IsFull : Board → Option ℕ → ℕ → Type 0
-IsFull board owner size =
-    (cell given : ℕ) × (owner ≡ Some cell) × (slice_get board.clues cell ≡ Some (Number given)) × (size ≡ given)
-
--- a cell beside the cell is in a group that is a whole island
-abbrev pub IsBesideFull : Board → List (Option ℕ) → List ℕ → List (Option ℕ) → ℕ → Type 0
-IsBesideFull board labels sizes owners cell = (label : ℕ) × IsBeside board.size labels cell label
-    × IsFull board (slice_index_or owners label None) (slice_index sizes label)
 
 -- the cells that are set to the value have kept their labels, and no other has one
 pub record AreKept (p : List (Option ℕ)) (value : ℕ) (old new : List (Option ℕ)) : Type 0 where

@@ -1,5 +1,6 @@
 //! Ways out of regions.
-ghost use Rattle.std.specs.Prelude.{◌≡◌, ◌↔◌, ℕ, ◌<◌, ◌⊎◌, IsTrue, IfOk, length, slice_index, slice_index_or, None, Some};
+ghost use Rattle.std.specs.Prelude.{◌≡◌, ◌↔◌, ℕ, ◌<◌, ◌⊎◌, IsTrue, IfOk, length, slice_index, slice_index_or, None};
+ghost use Rattle.std.specs.Prelude.{Some};
 ghost use Rattle.hall_grid.specs.Board.{cells, IsSize, Touch};
 ghost use Rattle.hall_grid.specs.Component.{AreComponents, IsLabelled};
 ghost use Rattle.hall_grid.specs.Reached.{IsMarked};
@@ -23,7 +24,7 @@ pub(crate) enum Exits {
 }
 
 impl Exits {
-    /// The same with one more cell.
+    /// The open cells beside a region, with one more.
     pub(crate) fn with(self, cell: usize) -> Exits
         ensures kept { (x : ℕ) → Covers self x → Covers result x }
         ensures cell { Covers result cell }

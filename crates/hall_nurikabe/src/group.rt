@@ -17,6 +17,28 @@ pub(crate) struct Group {
     pub(crate) cells: Vec<usize>,
     pub(crate) places: Vec<usize>,
     pub(crate) exits: Exits,
+    /// How much work may still be done: a group takes [`LOOK`], and 1 for each of its cells.
+    pub(crate) left: usize,
+}
+
+/// The work for a group besides that for its cells.
+const LOOK: usize = 20;
+
+/// Room for a group, and for another that is looked at meanwhile.
+#[derive(Drop)]
+pub(crate) struct Room {
+    pub(crate) group: Group,
+    pub(crate) other: Group,
+}
+
+impl Room {
+    /// Room in which no group is found yet, and no work may be done.
+    pub(crate) fn new(alloc: Global) -> Room {
+        Room {
+            group: Group::new(alloc),
+            other: Group::new(alloc),
+        }
+    }
 }
 
 impl Group {
@@ -26,7 +48,15 @@ impl Group {
             cells: Vec::new(alloc),
             places: Vec::new(alloc),
             exits: Exits::Nowhere,
+            left: 0,
         }
+    }
+
+    /// Takes the work for another group that was found.
+    pub(crate) fn pay(&mut self, other: &Group) {
+        self.left = self
+            .left
+            .saturating_sub(other.cells.len().saturating_add(LOOK));
     }
 }
 
@@ -64,7 +94,7 @@ fn see(position: &Position, value: u8, cell: usize, group: &mut Group) -> Result
     Ok(())
 }
 
-/// The same for the cells that touch a cell of the group.
+/// Adds the cells that touch a cell of the group to the group or to the exits, as each has the value or is open.
 fn see_round(
     position: &Position,
     value: u8,
@@ -86,7 +116,7 @@ fn see_round(
     Ok(())
 }
 
-/// So many places.
+/// Makes room for so many places more.
 fn make_room(count: usize, places: &mut Vec<usize>) -> Result<(), AllocError>
     ensures { OnOk result (length places.new.items ≡ count) }
 {
@@ -113,6 +143,7 @@ fn begin(position: &Position, from: usize, group: &mut Group) -> Result<(), Allo
     group.cells.push(from)?;
     group.places[from] = 0;
     group.exits = Exits::Nowhere;
+    group.left = group.left.saturating_sub(LOOK);
     Ok(())
 }
 
@@ -134,6 +165,7 @@ pub(crate) fn find(
     let mut at = 0;
     while at < group.cells.len() {
         let cell = group.cells[at];
+        group.left = group.left.saturating_sub(1);
         see_round(position, value, cell, group)?;
         at += 1;
         if short && group.exits.are_many() {

@@ -1,9 +1,11 @@
 //! Nurikabe: the judge, and the rules as a search asks them.
 #![tactic(auto)]
 
+mod between;
 mod blocks;
 mod branch;
 mod colour;
+mod cut;
 mod deduce;
 mod exits;
 mod follow;
@@ -18,6 +20,7 @@ mod round;
 mod rules;
 mod steps;
 mod trial;
+mod turn;
 
 pub use givens::start;
 pub use judge::broken;

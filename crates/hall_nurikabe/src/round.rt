@@ -142,7 +142,7 @@ fn look_at_wall(position: &Position, group: &Group) -> Finding
     leave(position, group, WALL)
 }
 
-/// What follows for the group of the cell, if it is set.
+/// The same at a position.
 fn look_at_group(position: &Position, cell: usize, group: &mut Group) -> Result<Finding, AllocError>
     requires { cell < cells position.now.puzzle.now.size }
     ensures { IfOk result
@@ -162,7 +162,7 @@ fn look_at_group(position: &Position, cell: usize, group: &mut Group) -> Result<
 }
 
 /// The cell on one of the four sides of the cell.
-fn side_of(size: Size, cell: usize, side: usize) -> Option<usize>
+pub(crate) fn side_of(size: Size, cell: usize, side: usize) -> Option<usize>
     requires size { IsSize size }
     requires cell { cell < cells size }
     ensures { IfSome result (λ other. other < cells size) }
@@ -180,10 +180,10 @@ fn cell_of(puzzle: &Puzzle, partial: &Partial, cell: usize, spot: usize) -> Opti
     requires cell { cell < cells puzzle.now.size }
     ensures { IfSome result (λ other. other < cells puzzle.now.size) }
 {
-    if spot == BLOCKS {
+    if spot == OWN {
         return Some(cell);
     }
-    let other = side_of(puzzle.size(), cell, spot.saturating_sub(BLOCKS + 1))?;
+    let other = side_of(puzzle.size(), cell, spot.saturating_sub(BLOCKS))?;
     if partial.get(other) == partial.get(cell) {
         return None;
     }
@@ -193,7 +193,10 @@ fn cell_of(puzzle: &Puzzle, partial: &Partial, cell: usize, spot: usize) -> Opti
 /// How many blocks a cell is in.
 const BLOCKS: usize = 4;
 
-/// How many spots there are round a cell: its blocks, its group, and what is beside it.
+/// The spot of a cell's own group.
+const OWN: usize = 8;
+
+/// How many spots there are round a cell: its blocks, what is beside it, and last its group.
 pub(crate) const SPOTS: usize = 9;
 
 /// What follows at one of the spots round the place of the trail.
@@ -208,12 +211,11 @@ pub(crate) fn look_round(
     requires partial { IsPartial (question_of Nurikabe puzzle.now) partial.now.places }
     ensures { IfOk result (IsSound (question_of Nurikabe puzzle.now) partial.now.places) }
 {
-    let cells = puzzle.cells();
     let Some(place) = partial.trail().get(at) else {
         return Ok(Finding::Nothing);
     };
     let cell = *place;
-    if cell >= cells {
+    if cell >= puzzle.cells() {
         return Ok(Finding::Nothing);
     }
     if spot < BLOCKS {
@@ -222,6 +224,24 @@ pub(crate) fn look_round(
     let Some(other) = cell_of(puzzle, partial, cell, spot) else {
         return Ok(Finding::Nothing);
     };
+    look_at_cell(puzzle, partial, other, group)
+}
+
+/// What follows for the group of the cell, if it is set.
+pub(crate) fn look_at_cell(
+    puzzle: &Puzzle,
+    partial: &Partial,
+    cell: usize,
+    group: &mut Group,
+) -> Result<Finding, AllocError>
+    requires kind { puzzle.now.kind ≡ Nurikabe }
+    requires partial { IsPartial (question_of Nurikabe puzzle.now) partial.now.places }
+    ensures { IfOk result (IsSound (question_of Nurikabe puzzle.now) partial.now.places) }
+{
+    let cells = puzzle.cells();
+    if cell >= cells {
+        return Ok(Finding::Nothing);
+    }
     let position = Position { puzzle, partial };
-    look_at_group(&position, other, group)
+    look_at_group(&position, cell, group)
 }

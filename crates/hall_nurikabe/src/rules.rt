@@ -2,24 +2,24 @@
 ghost use Rattle.std.specs.Prelude.{◌≡◌, IfOk};
 
 use crate::branch::next_cell;
+use crate::group::Room;
 use crate::judge::broken;
-use crate::trial::{DeductionsAndTrials, MOST_TRIED, Turn};
+use crate::trial::DeductionsAndTrials;
+use crate::turn::{Turn, WORK};
 use hall_grid::{Filling, Kind, Puzzle};
 use hall_solve::{Partial, Rules, Step, settle};
 use std::alloc::{AllocError, Global};
 use std::marker::Model;
 
-/// Up to how many visits a search makes no trials.
-const PLAIN_VISITS: u64 = 8;
-
 /// The rules of one puzzle, the cell to try next, how long the trail was when the deductions left nothing to find, the
-/// cell where trials go on, and counts of what a search asked.
+/// cell where trials go on, room for groups, and counts of what a search asked.
 #[derive(Drop)]
 pub struct NurikabeRules {
     puzzle: Puzzle,
     next: Option<usize>,
     settled: usize,
     turn: usize,
+    room: Option<Room>,
     visits: u64,
     asked: u64,
 }
@@ -50,6 +50,7 @@ impl NurikabeRules {
             next: None,
             settled: 0,
             turn: 0,
+            room: None,
             visits: 0,
             asked: 0,
         }
@@ -84,24 +85,26 @@ impl Rules for NurikabeRules {
 
     fn propagate(&mut self, alloc: Global, partial: &mut Partial) -> Result<Step, AllocError> {
         self.visits += 1;
+        let mut room = match self.room.take() {
+            Some(room) => room,
+            None => Room::new(alloc),
+        };
+        room.group.left = WORK;
+        // A search sets one place between two visits, and takes back what it set since a visit that left nothing to
+        // find.
+        let from = self.settled.min(partial.trail().len().saturating_sub(1));
+        let mut turn = Turn::new(alloc, self.puzzle.cells(), self.turn, from, room)?;
         let deductions = DeductionsAndTrials {
             puzzle: &self.puzzle,
-            tries: self.visits > PLAIN_VISITS,
-        };
-        let mut turn = Turn {
-            next: self.turn,
-            left: MOST_TRIED,
-            // A search sets one place between two visits, and takes back what it set since a visit that left nothing
-            // to find.
-            followed: self.settled.min(partial.trail().len().saturating_sub(1)),
         };
         let step = settle(alloc, &deductions, partial, &mut turn)?;
         self.turn = turn.next;
+        self.settled = turn.followed;
+        self.room = Some(turn.room);
         match step {
             Step::Dead => Ok(Step::Dead),
             Step::Live => {
-                self.settled = partial.trail().len();
-                self.next = next_cell(alloc, &self.puzzle, partial)?;
+                self.next = next_cell(alloc, &self.puzzle, partial, turn.best)?;
                 Ok(Step::Live)
             }
         }

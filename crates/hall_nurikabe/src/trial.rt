@@ -1,116 +1,173 @@
 //! Trials: of the two values of a cell, one that leaves no solution leaves the other.
-ghost use Rattle.std.specs.Prelude.{◌≡◌, ℕ, ◌<◌, IsTrue, Some, IfOk, OnErr, length, slice_set};
-ghost use Rattle.hall_grid.specs.Board.{cells};
+ghost use Rattle.std.specs.Prelude.{◌≡◌, ◌<◌, None, Some, IfOk, OnErr, slice_set};
 ghost use Rattle.hall_grid.specs.declared.board.Kind.TheVariants.{Nurikabe};
 ghost use Rattle.hall_solve.specs.Question.{IsPartial, IsHopeless, IsOpen, Narrows};
-ghost use Rattle.hall_solve.specs.Deduction.{IsDeduced};
+ghost use Rattle.hall_solve.specs.Deduction.{IsDeduced, IsSound};
 ghost use Rattle.hall_solve.specs.Trail.{Grows};
 ghost use Rattle.hall_solve.specs.Puzzle.{question_of};
 
+use crate::cut::wall_cuts;
 use crate::deduce::Deductions;
 use crate::follow::follow;
+use crate::group::Room;
 use crate::judge::{WALL, WHITE};
-use hall_grid::{Puzzle, neighbours};
-use hall_solve::{Deduce, Finding, Look, Partial, Pass, sweep};
+use crate::turn::{KEPT, Turn, next_to_try};
+use hall_grid::Puzzle;
+use hall_solve::{Deduce, Finding, Partial, Pass};
 use std::alloc::{AllocError, Global};
 
-/// How many cells a visit tries at the most.
-pub(crate) const MOST_TRIED: usize = 16;
+/// How many cells a visit tries between two passes over the board at the most.
+const MOST_TRIED: usize = 400;
 
-/// Where trials go on: the cell to look at next, and how many cells the visit may still try. And how long the trail
-/// was when all that follows round its places was set.
-#[derive(Drop)]
-pub(crate) struct Turn {
-    pub(crate) next: usize,
-    pub(crate) left: usize,
-    pub(crate) followed: usize,
-}
+/// The work for a cell in a pass over the board.
+const PASS: usize = 8;
 
-/// Tries both values at those of the cells that are open.
-#[derive(Drop)]
-struct Trials<'a> {
-    puzzle: &'a Puzzle,
-    cells: &'a [usize],
-    ghost kind: { puzzle.now.kind ≡ Nurikabe },
-}
-
-/// Sets the open cell to the value, and what follows round it; the partial filling stays as it was.
-fn try_value(
-    alloc: Global,
+/// Sets the open cell to the value, and what follows round it. Tells how many cells that sets, or nothing where it
+/// leaves no solution.
+fn set_value(
     puzzle: &Puzzle,
     partial: &mut Partial,
     cell: usize,
     value: u8,
-) -> Result<Pass, AllocError>
+    room: &mut Room,
+) -> Result<Option<usize>, AllocError>
     requires kind { puzzle.now.kind ≡ Nurikabe }
     requires partial { IsPartial (question_of Nurikabe puzzle.now) partial.old.places }
     requires cell { IsOpen partial.old.places cell }
     requires value { value < 2 }
-    ensures dead { IfOk result (λ pass. pass ≡ Pass.Dead
+    ensures dead { IfOk result (λ set. set ≡ None
+        → IsHopeless (question_of Nurikabe puzzle.now) (slice_set partial.old.places cell (Some value))) }
+    ensures grows { Grows partial.old partial.new }
+{
+    let from = partial.trail().len();
+    partial.set(cell, value);
+    match follow(puzzle, partial, from, KEPT, room)? {
+        Pass::Dead => Ok(None),
+        Pass::Settled | Pass::Advanced => Ok(Some(partial.trail().len().saturating_sub(from))),
+    }
+}
+
+/// Tells how many cells it sets to give the open cell the value, or nothing where that leaves no solution. The partial
+/// filling stays as it was.
+fn try_value(
+    puzzle: &Puzzle,
+    partial: &mut Partial,
+    cell: usize,
+    value: u8,
+    room: &mut Room,
+) -> Result<Option<usize>, AllocError>
+    requires kind { puzzle.now.kind ≡ Nurikabe }
+    requires partial { IsPartial (question_of Nurikabe puzzle.now) partial.old.places }
+    requires cell { IsOpen partial.old.places cell }
+    requires value { value < 2 }
+    ensures dead { IfOk result (λ set. set ≡ None
         → IsHopeless (question_of Nurikabe puzzle.now) (slice_set partial.old.places cell (Some value))) }
     ensures kept { partial.new ≡ partial.old }
 {
     let mark = partial.mark();
-    let from = partial.trail().len();
-    partial.set(cell, value);
-    let pass = follow(alloc, puzzle, partial, from);
+    let set = set_value(puzzle, partial, cell, value, room);
     partial.undo_to(mark);
-    pass
+    set
 }
 
-/// Whether the cell is open and a cell beside it is set.
-fn is_worth_trying(puzzle: &Puzzle, partial: &Partial, cell: usize) -> bool
-    requires cell { cell < cells puzzle.now.size }
-    requires partial { IsPartial (question_of Nurikabe puzzle.now) partial.now.places }
-    ensures { IsTrue result → IsOpen partial.now.places cell }
+/// Tries both values at the open cell. The partial filling stays as it was.
+fn try_cell(
+    puzzle: &Puzzle,
+    partial: &mut Partial,
+    cell: usize,
+    turn: &mut Turn,
+) -> Result<Finding, AllocError>
+    requires kind { puzzle.now.kind ≡ Nurikabe }
+    requires partial { IsPartial (question_of Nurikabe puzzle.now) partial.old.places }
+    requires cell { IsOpen partial.old.places cell }
+    ensures sound { IfOk result (IsSound (question_of Nurikabe puzzle.now) partial.old.places) }
+    ensures kept { partial.new ≡ partial.old }
 {
-    if partial.get(cell).is_some() {
-        return false;
+    let Some(white) = try_value(puzzle, partial, cell, WHITE, &mut turn.room)? else {
+        return Ok(Finding::Must(cell, WALL));
+    };
+    let Some(wall) = try_value(puzzle, partial, cell, WALL, &mut turn.room)? else {
+        return Ok(Finding::Must(cell, WHITE));
+    };
+    turn.rate(cell, white, wall);
+    Ok(Finding::Nothing)
+}
+
+/// Sets what follows round the places of the trail from which nothing was followed yet.
+fn follow_news(puzzle: &Puzzle, partial: &mut Partial, turn: &mut Turn) -> Result<Pass, AllocError>
+    requires kind { puzzle.now.kind ≡ Nurikabe }
+    requires partial { IsPartial (question_of Nurikabe puzzle.now) partial.old.places }
+    ensures deduced { IfOk result (IsDeduced (question_of Nurikabe puzzle.now) partial.old.places partial.new.places) }
+    ensures err { OnErr result (Narrows (question_of Nurikabe puzzle.now) partial.old.places partial.new.places) }
+    ensures grows { Grows partial.old partial.new }
+{
+    let followed = follow(puzzle, partial, turn.followed, 0, &mut turn.room);
+    if turn.room.group.left > 0 {
+        turn.followed = partial.trail().len();
     }
-    for place in neighbours(puzzle.size(), cell) {
-        if let Some(other) = place {
-            if partial.get(other).is_some() {
-                return true;
+    followed
+}
+
+/// Tries both values at the open cell, and sets the value that is left where the other leaves no solution, and what
+/// follows round it.
+fn settle_cell(
+    puzzle: &Puzzle,
+    partial: &mut Partial,
+    cell: usize,
+    turn: &mut Turn,
+) -> Result<Pass, AllocError>
+    requires kind { puzzle.now.kind ≡ Nurikabe }
+    requires partial { IsPartial (question_of Nurikabe puzzle.now) partial.old.places }
+    requires cell { IsOpen partial.old.places cell }
+    ensures deduced { IfOk result (IsDeduced (question_of Nurikabe puzzle.now) partial.old.places partial.new.places) }
+    ensures err { OnErr result (Narrows (question_of Nurikabe puzzle.now) partial.old.places partial.new.places) }
+    ensures grows { Grows partial.old partial.new }
+{
+    match try_cell(puzzle, partial, cell, turn)? {
+        Finding::Nothing => Ok(Pass::Settled),
+        Finding::Impossible => Ok(Pass::Dead),
+        Finding::Must(place, value) => {
+            partial.set(place, value);
+            turn.best = None;
+            turn.most = 0;
+            match follow_news(puzzle, partial, turn)? {
+                Pass::Dead => Ok(Pass::Dead),
+                _ => Ok(Pass::Advanced),
             }
         }
     }
-    false
 }
 
-impl Look for Trials<'_> {
-    ghost question = { λ trials. question_of Nurikabe trials.puzzle.now };
-
-    ghost spots = { λ trials. length trials.cells.now };
-
-    fn spots(&self) -> usize {
-        self.cells.len()
+/// Tries both values at one cell after another, as long as work may be done for it.
+fn try_cells(puzzle: &Puzzle, partial: &mut Partial, turn: &mut Turn) -> Result<Pass, AllocError>
+    requires kind { puzzle.now.kind ≡ Nurikabe }
+    requires partial { IsPartial (question_of Nurikabe puzzle.now) partial.old.places }
+    ensures deduced { IfOk result (IsDeduced (question_of Nurikabe puzzle.now) partial.old.places partial.new.places) }
+    ensures err { OnErr result (Narrows (question_of Nurikabe puzzle.now) partial.old.places partial.new.places) }
+    ensures grows { Grows partial.old partial.new }
+{
+    let mut pass = Pass::Settled;
+    for _ in 0..MOST_TRIED {
+        if turn.room.group.left <= KEPT {
+            return Ok(pass);
+        }
+        let Some(cell) = next_to_try(puzzle, partial, turn)? else {
+            return Ok(pass);
+        };
+        match settle_cell(puzzle, partial, cell, turn)? {
+            Pass::Settled => {}
+            Pass::Advanced => pass = Pass::Advanced,
+            Pass::Dead => return Ok(Pass::Dead),
+        }
     }
-
-    fn look(
-        &self,
-        alloc: Global,
-        partial: &mut Partial,
-        spot: usize,
-    ) -> Result<Finding, AllocError> {
-        let cell = self.cells[spot];
-        if cell >= self.puzzle.cells() || !is_worth_trying(self.puzzle, partial, cell) {
-            return Ok(Finding::Nothing);
-        }
-        if let Pass::Dead = try_value(alloc, self.puzzle, partial, cell, WHITE)? {
-            return Ok(Finding::Must(cell, WALL));
-        }
-        if let Pass::Dead = try_value(alloc, self.puzzle, partial, cell, WALL)? {
-            return Ok(Finding::Must(cell, WHITE));
-        }
-        Ok(Finding::Nothing)
-    }
+    Ok(pass)
 }
 
-/// What follows round the places that were set last, else all deductions, and else trials, where they are wanted.
+/// What follows round the places that were set last, else all deductions, and else trials; nothing more where the work
+/// of the visit is done.
 #[derive(Drop)]
 pub(crate) struct DeductionsAndTrials<'a> {
     pub(crate) puzzle: &'a Puzzle,
-    pub(crate) tries: bool,
     pub(crate) ghost kind: { puzzle.now.kind ≡ Nurikabe },
 }
 
@@ -125,21 +182,27 @@ impl Deduce for DeductionsAndTrials<'_> {
         partial: &mut Partial,
         turn: &mut Turn,
     ) -> Result<Pass, AllocError> {
-        let followed = follow(alloc, self.puzzle, partial, turn.followed)?;
-        turn.followed = partial.trail().len();
-        match followed {
-            Pass::Settled => look_further(alloc, self.puzzle, partial, self.tries, turn),
+        if turn.room.group.left == 0 {
+            return Ok(Pass::Settled);
+        }
+        match follow_news(self.puzzle, partial, turn)? {
+            Pass::Settled => look_further(alloc, self.puzzle, partial, turn),
             pass => Ok(pass),
         }
     }
 }
 
-/// All deductions about the whole board, and trials where they are wanted and nothing else follows.
+/// Takes the work for a pass over the board.
+fn pay_pass(puzzle: &Puzzle, turn: &mut Turn) {
+    let work = puzzle.cells().saturating_mul(PASS);
+    turn.room.group.left = turn.room.group.left.saturating_sub(work);
+}
+
+/// All deductions about the whole board, and what is dearer where nothing follows from them.
 fn look_further(
     alloc: Global,
     puzzle: &Puzzle,
     partial: &mut Partial,
-    tries: bool,
     turn: &mut Turn,
 ) -> Result<Pass, AllocError>
     requires kind { puzzle.now.kind ≡ Nurikabe }
@@ -148,39 +211,15 @@ fn look_further(
     ensures err { OnErr result (Narrows (question_of Nurikabe puzzle.now) partial.old.places partial.new.places) }
     ensures grows { Grows partial.old partial.new }
 {
+    pay_pass(puzzle, turn);
     match (Deductions { puzzle }).pass(alloc, partial, &mut ())? {
-        Pass::Settled if tries => sweep_trials(alloc, puzzle, partial, turn),
+        Pass::Settled => cut_or_try(alloc, puzzle, partial, turn),
         pass => Ok(pass),
     }
 }
 
-/// The cells to try next, once round the board: those that are worth it, as many as the visit may still try.
-fn cells_to_try(
-    alloc: Global,
-    puzzle: &Puzzle,
-    partial: &Partial,
-    turn: &mut Turn,
-) -> Result<Vec<usize>, AllocError>
-    requires partial { IsPartial (question_of Nurikabe puzzle.now) partial.now.places }
-{
-    let mut cells = Vec::new(alloc);
-    let count = puzzle.cells();
-    for _ in 0..count {
-        if turn.left == 0 {
-            return Ok(cells);
-        }
-        let cell = if turn.next < count { turn.next } else { 0 };
-        turn.next = cell + 1;
-        if is_worth_trying(puzzle, partial, cell) {
-            cells.push(cell)?;
-            turn.left -= 1;
-        }
-    }
-    Ok(cells)
-}
-
-/// Tries both values once at each of the cells to try next.
-fn sweep_trials(
+/// Cells without which walls fall apart, and trials where there are none.
+fn cut_or_try(
     alloc: Global,
     puzzle: &Puzzle,
     partial: &mut Partial,
@@ -192,10 +231,11 @@ fn sweep_trials(
     ensures err { OnErr result (Narrows (question_of Nurikabe puzzle.now) partial.old.places partial.new.places) }
     ensures grows { Grows partial.old partial.new }
 {
-    let cells = cells_to_try(alloc, puzzle, partial, turn)?;
-    let trials = Trials {
-        puzzle,
-        cells: &cells,
-    };
-    sweep(alloc, &trials, partial)
+    match wall_cuts(alloc, puzzle, partial)? {
+        Pass::Settled => try_cells(puzzle, partial, turn),
+        pass => {
+            pay_pass(puzzle, turn);
+            Ok(pass)
+        }
+    }
 }

@@ -116,7 +116,7 @@ pub(crate) fn consequence_of(demand: Demand, lines: usize, unset: usize) -> Cons
     }
 }
 
-/// The same where the count is a number.
+/// What the count of lines demands of the open sides, where it is a number.
 fn exact_consequence(number: usize, lines: usize, unset: usize) -> Consequence
     requires { lines + unset ≤ 4 }
     ensures { Follows (Demand.Exactly number) lines unset result }

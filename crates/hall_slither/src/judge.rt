@@ -85,7 +85,7 @@ pub(crate) fn has_other_count(puzzle: &Puzzle, lines: &[u8], more: Option<usize>
     false
 }
 
-/// The names of the rules that the filling breaks. The one error is want of memory.
+/// The names of the rules that the filling breaks. The one error means out of memory.
 ///
 /// S1: there is no line; S2: a dot has one line; S3: a dot has three or four; S4: a number isn't the count
 /// of lines on its cell's four sides; S5: the lines aren't all joined.

@@ -10,12 +10,27 @@ use hall_grid::{Size, dot_ends};
 use hall_solve::Partial;
 use std::alloc::{AllocError, Global};
 
-/// Each side once at the most; the memory is taken at once.
+/// How much work a visit does for trials.
+const WORK: usize = 26_000;
+
+/// The work for the trials of one side besides that for the sides that they set, which is 1 for each.
+const TRIAL: usize = 20;
+
+/// To look at the whole board is the work of one for so many sides.
+const SIDES_A_WORK: usize = 2;
+
+/// The sides that wait to be tried. In `sides` each stands once at the most; the memory is taken at once.
 #[derive(Drop)]
 pub(crate) struct Queue {
     sides: Vec<usize>,
     /// Whether a side stands in it.
     waits: Vec<bool>,
+    /// All sides below this one wait too, until none else does.
+    rest: usize,
+    /// Of each visit on the way to this one: how long the trail was at its end, and `rest` then.
+    left: Vec<(usize, usize)>,
+    /// How much work the visit may still do for trials.
+    work: usize,
 }
 
 impl Queue {
@@ -24,43 +39,83 @@ impl Queue {
         Ok(Queue {
             sides: Vec::with_capacity(alloc, sides)?,
             waits: vec![in alloc; false; sides]?,
+            rest: 0,
+            left: Vec::with_capacity(alloc, sides)?,
+            work: 0,
         })
     }
 
-    /// Begins with all sides, or with those beside the one that was set last.
-    pub(crate) fn start_over(&mut self, size: Size, partial: &Partial, all: bool)
-        requires size { IsSize size }
-        requires exact { length partial.now.places ≡ all_sides size }
+    /// Begins with the sides beside the one that was set last, and with what the visit before left; with all sides
+    /// where there was none.
+    pub(crate) fn start_over(&mut self, size: Size, partial: &Partial)
+        requires { IsSize size }
     {
+        self.work = WORK;
         self.sides.clear();
         for side in 0..self.waits.len() {
             self.waits[side] = false;
         }
-        match partial.trail().last() {
-            Some(side) if !all => self.put_beside_all(size, &[*side]),
-            _ => {
-                for side in 0..partial.len() {
-                    self.put(side);
+        self.rest = 0;
+        let trail = partial.trail();
+        if let Some(side) = trail.last() {
+            self.put_beside_all(size, &[*side]);
+        }
+        self.rest = self.left_before(trail.len());
+    }
+
+    /// What the last visit left whose trail was shorter than this: the one from which a search went on.
+    fn left_before(&mut self, length: usize) -> usize {
+        for _ in 0..self.left.len() {
+            if let Some((ended, rest)) = self.left.last().copied() {
+                if ended < length {
+                    return rest;
                 }
             }
+            let _ = self.left.pop();
         }
+        self.waits.len()
+    }
+
+    /// Keeps what a visit leaves that ends so.
+    pub(crate) fn end(&mut self, partial: &Partial) {
+        let _ = self.left.push((partial.trail().len(), self.rest));
+    }
+
+    /// Takes the work for the trials of a side that set so many sides.
+    pub(crate) fn pay(&mut self, set: usize) {
+        self.work = self.work.saturating_sub(set.saturating_add(TRIAL));
+    }
+
+    /// Takes the work for so many looks at the whole board.
+    pub(crate) fn pay_looks(&mut self, looks: usize) {
+        let work = looks.saturating_mul(self.waits.len() / SIDES_A_WORK);
+        self.work = self.work.saturating_sub(work);
     }
 
     /// Puts a side into it.
     pub(crate) fn put(&mut self, side: usize) {
-        if side < self.waits.len() && !self.waits[side] {
+        if side >= self.rest && side < self.waits.len() && !self.waits[side] {
             self.waits[side] = true;
             let _ = self.sides.push(side);
         }
     }
 
-    /// Takes a side out of it.
+    /// Takes a side out of it, as long as work may be done.
     pub(crate) fn take(&mut self) -> Option<usize> {
-        let side = self.sides.pop()?;
-        if side < self.waits.len() {
-            self.waits[side] = false;
+        if self.work == 0 {
+            return None;
         }
-        Some(side)
+        if let Some(side) = self.sides.pop() {
+            if side < self.waits.len() {
+                self.waits[side] = false;
+            }
+            return Some(side);
+        }
+        if self.rest == 0 {
+            return None;
+        }
+        self.rest -= 1;
+        Some(self.rest)
     }
 
     /// Puts all sides at a dot or a cell into it.

@@ -39,6 +39,7 @@ impl Deduce for Deductions<'_> {
         scratch: &mut Scratch,
     ) -> Result<Pass, AllocError> {
         let mark = partial.mark();
+        scratch.queue.pay_looks(1);
         let pass = deduce(alloc, self.puzzle, partial, scratch)?;
         if let Pass::Advanced = pass {
             scratch
@@ -155,11 +156,8 @@ impl Rules for SlitherRules {
             Some(scratch) => scratch,
             None => Scratch::new(alloc, &self.puzzle)?,
         };
-        // Tried are the sides beside the one that was set last, or all at the first visit.
         let chosen = partial.trail().last().copied();
-        scratch
-            .queue
-            .start_over(self.puzzle.size(), partial, self.visits == 1);
+        scratch.queue.start_over(self.puzzle.size(), partial);
         let deductions = Deductions {
             puzzle: &self.puzzle,
         };
@@ -167,6 +165,7 @@ impl Rules for SlitherRules {
         if matches!(step, Ok(Step::Dead)) {
             note_failure(&mut scratch.failures, chosen);
         }
+        scratch.queue.end(partial);
         self.scratch = Some(scratch);
         step
     }

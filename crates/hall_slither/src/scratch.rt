@@ -20,6 +20,8 @@ pub(crate) struct Hints {
     pub(crate) passed: Vec<usize>,
     /// The sides that would close a loop too early.
     pub(crate) early: Vec<Setting>,
+    /// How often all chains were labelled since that was asked.
+    pub(crate) looks: usize,
 }
 
 /// What a trial works in.
@@ -69,6 +71,7 @@ impl Scratch {
                     ends: LooseEnds::new(alloc, size)?,
                     passed: Vec::new(alloc),
                     early: Vec::new(alloc),
+                    looks: 0,
                 },
             },
             with_line: Vec::new(alloc),

@@ -76,6 +76,7 @@ fn clear_found(position: &mut Position, hints: &mut Hints, mark: Mark) -> Result
         ends,
         passed,
         early,
+        ..
     } = hints;
     join_since(position.puzzle, position.partial, mark, ends);
     let found = find_early(position.puzzle, position.partial, ends, passed, early);
@@ -84,7 +85,7 @@ fn clear_found(position: &mut Position, hints: &mut Hints, mark: Mark) -> Result
     set_and_follow(position, early)
 }
 
-/// The same, until there is no such side.
+/// Clears one side after another that would close a loop too early, until there is none.
 fn clear_early(position: &mut Position, hints: &mut Hints, mark: Mark) -> Result<Pass, AllocError>
     requires { mark ≤ length position.old.partial.now.trail }
     ensures followed { IsFollowed position.old.puzzle.now position.old.partial.now position.new.partial.now result }
@@ -160,6 +161,7 @@ fn follow_value(
     if !hints.ends.closed {
         return Ok(Step::Live);
     }
+    hints.looks = hints.looks.saturating_add(1);
     let pass = close_chains(alloc, puzzle, partial)?;
     Ok(step_after(pass))
 }
@@ -260,6 +262,7 @@ fn try_both(
     let line = Setting { side, value: 1 };
     let none = Setting { side, value: 0 };
     scratch.known.clear();
+    scratch.without.clear();
     let Scratch {
         colours,
         trial,
@@ -362,10 +365,15 @@ fn try_side(
     let Scratch {
         colours,
         trial,
+        with_line,
+        without,
         known,
         queue,
         ..
     } = scratch;
+    queue.pay(with_line.len().saturating_add(without.len()));
+    queue.pay_looks(trial.hints.looks);
+    trial.hints.looks = 0;
     trial.stack.clear();
     let mut position = Position {
         puzzle,
@@ -380,7 +388,8 @@ fn try_side(
     Ok(pass)
 }
 
-/// Tries both values at each side that waits, and follows at once from what each trial tells.
+/// Tries both values at each side that waits, as long as work may be done, and follows at once from what each trial
+/// tells.
 pub(crate) fn try_waiting(
     alloc: Global,
     puzzle: &Puzzle,

@@ -47,7 +47,7 @@ pub(crate) fn visit<R: Rules>(
     }
 }
 
-/// The same, and the partial filling keeps what was set.
+/// Visits the partial filling, and keeps what was set.
 fn look<R: Rules>(
     alloc: Global,
     rules: &mut R,

@@ -6,6 +6,9 @@ use Rattle.hall_grid.specs.declared.board.Size.{Size}
 use Rattle.hall_grid.specs.declared.board.Kind.TheVariants.{Sudoku}
 use Rattle.hall_grid.specs.Board.{HasSize, cells, row, col}
 use Rattle.hall_grid.specs.Sudoku.{box, box_cols, box_rows}
+use Rattle.hall_sudoku.specs.declared.unit.Unit.{Unit}
+use Rattle.hall_sudoku.specs.declared.unit.Unit.TheVariants as units
+use Rattle.hall_sudoku.specs.Unit.{unit_of}
 
 -- what the sizes of Sudoku have in common
 pub record IsSquare (size : Size) : Type 0 where
@@ -128,3 +131,8 @@ box_unit size s = record {
       let same : j ≡ k = same_cell (box_rows size) (box_cols size) size.cols s.some_rows s.some_cols s.boxed u hu j k e in
       omega arith;
 }
+
+pub unit_small : (unit : Unit) (size : Size) → HasSize Sudoku size → (cell : ℕ) → cell < cells size → unit_of unit size cell < 25
+unit_small units.Row size h cell lt = let s = square_of size h in omega (arith, (row_unit size s).small cell lt, s.few)
+unit_small units.Column size h cell lt = let s = square_of size h in omega (arith, (column_unit size s).small cell lt, s.few)
+unit_small units.Box size h cell lt = let s = square_of size h in omega (arith, (box_unit size s).small cell lt, s.few)

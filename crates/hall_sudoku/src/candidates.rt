@@ -6,6 +6,7 @@ ghost use Rattle.hall_sudoku.specs.Units.{units_question};
 ghost use Rattle.hall_sudoku.specs.Settled.{Clashes, HaveNoClash};
 ghost use Rattle.hall_sudoku.specs.Candidates.{AreTaken, AreAllTaken, IsLeft, AreCandidates, AreFilled};
 
+use crate::failures::Urgency;
 use crate::units::{MOST_UNITS, Units};
 use crate::values::Values;
 use hall_solve::Partial;
@@ -157,24 +158,30 @@ fn ties_across(
     ties
 }
 
-/// The open cell with the fewest candidates; of those the one round which most is known.
-pub(crate) fn fewest(units: &Units, candidates: &[Values], partial: &Partial) -> Option<usize>
+/// The open cell whose candidates, divided by one more than its failures, are fewest; of those the one round which most
+/// is known.
+pub(crate) fn fewest(
+    units: &Units,
+    candidates: &[Values],
+    failures: &[u32],
+    partial: &Partial,
+) -> Option<usize>
     requires exact { length partial.now.places ≡ cells units.now }
     requires room { cells units.now ≤ length candidates.now }
     ensures unset { IfSome result (IsOpen partial.now.places) }
     ensures whole { IfNone result (IsWhole partial.now.places) }
 {
     let mut best: Option<usize> = None;
-    let mut fewest = u32::MAX;
+    let mut urgency = Urgency::least();
     let mut most = 0;
     for cell in 0..partial.len() {
         if partial.get(cell).is_none() {
-            let count = candidates[cell].count();
-            if best.is_none() || count <= fewest {
+            let own = Urgency::of(candidates[cell].count(), failures, cell);
+            if best.is_none() || !urgency.exceeds(own) {
                 let ties = ties(units, candidates, partial, cell);
-                if best.is_none() || count < fewest || ties > most {
+                if best.is_none() || own.exceeds(urgency) || ties > most {
                     best = Some(cell);
-                    fewest = count;
+                    urgency = own;
                     most = ties;
                 }
             }

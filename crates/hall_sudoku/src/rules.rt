@@ -6,6 +6,7 @@ ghost use Rattle.hall_grid.specs.Answer.{IsFilling};
 ghost use Rattle.hall_solve.specs.Question.{IsPartial, IsOpen, IsWhole};
 
 use crate::candidates::{candidates, fewest};
+use crate::failures::Failures;
 use crate::judge::broken;
 use crate::narrow::narrow;
 use crate::rival::has_rival;
@@ -15,6 +16,13 @@ use hall_solve::{Partial, Rules, Step, settle};
 use std::alloc::{AllocError, Global};
 use std::marker::Model;
 
+/// After how many visits for each cell of the board a search branches by failures too. Most are over before, and fare
+/// better without.
+const PATIENCE: u64 = 4;
+
+/// The largest side on which it does. Larger boards take more visits so.
+const LARGEST_BY_FAILURES: u8 = 16;
+
 /// The rules of one puzzle, and counts of what a search asked.
 #[derive(Drop)]
 pub struct SudokuRules {
@@ -22,6 +30,7 @@ pub struct SudokuRules {
     units: Units,
     visits: u64,
     asked: u64,
+    failures: Failures,
 }
 
 impl Model for SudokuRules {
@@ -46,12 +55,21 @@ impl SudokuRules {
         ensures { IfOk result (λ r. r ≡ begun puzzle) }
     {
         let units = Units::new(alloc, puzzle.size())?;
+        let failures = Failures::new(alloc, puzzle.cells())?;
         Ok(SudokuRules {
             puzzle,
             units,
             visits: 0,
             asked: 0,
+            failures,
         })
+    }
+
+    /// How often values of each cell failed, once that is to count.
+    fn failures(&self) -> &[u32] {
+        let patience = (self.puzzle.cells() as u64).saturating_mul(PATIENCE);
+        let to_count = self.visits > patience && self.units.side() <= LARGEST_BY_FAILURES;
+        self.failures.counts(to_count)
     }
 }
 
@@ -86,7 +104,10 @@ impl Rules for SudokuRules {
 
     fn propagate(&mut self, alloc: Global, partial: &mut Partial) -> Result<Step, AllocError> {
         self.visits += 1;
-        settle(alloc, &self.units, partial, &mut ())
+        let chosen = partial.trail().last().copied();
+        let step = settle(alloc, &self.units, partial, &mut ());
+        self.failures.note(chosen, &step);
+        step
     }
 
     fn accepts(&mut self, _alloc: Global, filling: &Filling) -> Result<bool, AllocError> {
@@ -95,10 +116,11 @@ impl Rules for SudokuRules {
     }
 
     fn branch_place(&self, partial: &Partial) -> Option<usize> {
+        let failures = self.failures();
         match self.units.room() {
-            Room::Nine => place_in::<81>(&self.units, partial),
-            Room::Sixteen => place_in::<256>(&self.units, partial),
-            Room::Most => place_in::<625>(&self.units, partial),
+            Room::Nine => place_in::<81>(&self.units, failures, partial),
+            Room::Sixteen => place_in::<256>(&self.units, failures, partial),
+            Room::Most => place_in::<625>(&self.units, failures, partial),
         }
     }
 
@@ -108,7 +130,7 @@ impl Rules for SudokuRules {
 }
 
 /// The place to try values at, on a board of at most so many cells.
-fn place_in<const CELLS: usize>(units: &Units, partial: &Partial) -> Option<usize>
+fn place_in<const CELLS: usize>(units: &Units, failures: &[u32], partial: &Partial) -> Option<usize>
     requires fits { cells units.now ≤ CELLS }
     requires few { CELLS ≤ 625 }
     requires partial { IsPartial (units_question units.now) partial.now.places }
@@ -118,7 +140,7 @@ fn place_in<const CELLS: usize>(units: &Units, partial: &Partial) -> Option<usiz
     match candidates::<CELLS>(units, partial) {
         Some(mut candidates) => {
             let _ = narrow::<CELLS>(units, partial, &mut candidates);
-            fewest(units, &candidates, partial)
+            fewest(units, &candidates, failures, partial)
         }
         None => partial.first_unset(),
     }

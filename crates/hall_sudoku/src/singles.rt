@@ -167,8 +167,8 @@ fn soles(units: &Units, candidates: &[Values], partial: &mut Partial) -> Pass
     }
 }
 
-/// The same; where nothing follows, also with the candidates that pairs leave. Up to side 9 these cost more than they
-/// bring.
+/// Sets each open cell whose value follows from one cell or one unit; where none does, also from the candidates that
+/// pairs leave, which cost more than they bring up to side 9.
 fn narrowed_soles<const CELLS: usize>(
     units: &Units,
     candidates: &mut [Values],

@@ -1,16 +1,7 @@
-use Rattle.std.proofs.Common.{◌≢◌}
 use Rattle.hall_grid.specs.declared.board.Kind.TheVariants.{Nurikabe}
-use Rattle.hall_solve.specs.Question.{Narrows}
-use Rattle.hall_solve.specs.Deduction.{IsDeduced}
-use Rattle.hall_solve.specs.Trail.{Grows}
 use Rattle.hall_solve.specs.Puzzle.{question_of}
-use Rattle.hall_solve.specs.declared.deduce.Pass.TheVariants.{Dead}
+use Rattle.hall_nurikabe.proofs.Passes.{IsSoFar}
 use Rattle.hall_nurikabe.proofs.follow.follow_place.Given as goal
 
 abbrev pub invariant-loop-spot : goal.invariant-loop-spot
-invariant-loop-spot l = record {
-  narrows : Narrows (question_of Nurikabe l.puzzle) l.fn.partial.places l.partial.places;
-  deduced : IsDeduced (question_of Nurikabe l.puzzle) l.fn.partial.places l.partial.places l.pass;
-  grows : Grows l.fn.partial l.partial;
-  alive : l.pass ≢ Dead;
-}
+invariant-loop-spot l = IsSoFar (question_of Nurikabe l.puzzle) l.fn.partial l.partial l.pass

@@ -10,30 +10,30 @@ use Rattle.hall_sudoku.proofs.rules.SudokuRulesRules.propagate.Goals as goal
 pub returns-clause-live : goal.returns-clause-live
 returns-clause-live c =
     rw (← c.self.view_is)
-    (IfOk-weaker c.settle.result _ _ (λ step h is_live.
-    narrows_of c.self.inside.puzzle c.args.partial.now.places c.settle.new.partial.places c.self.invariant.0
-    (subst (λ (n : Size). Narrows (units_question n) c.args.partial.now.places c.settle.new.partial.places) c.self.invariant.1 (h is_live)))
-    c.settle.ensures.live)
+    (IfOk-weaker c.settle-step.result _ _ (λ step h is_live.
+    narrows_of c.self.inside.puzzle c.args.partial.now.places c.settle-step.new.partial.places c.self.invariant.0
+    (subst (λ (n : Size). Narrows (units_question n) c.args.partial.now.places c.settle-step.new.partial.places) c.self.invariant.1 (h is_live)))
+    c.settle-step.ensures.live)
 
 pub returns-clause-dead : goal.returns-clause-dead
 returns-clause-dead c =
     rw (← c.self.view_is)
-    (IfOk-weaker c.settle.result _ _ (λ step h is_dead.
+    (IfOk-weaker c.settle-step.result _ _ (λ step h is_dead.
     hopeless_of c.self.inside.puzzle c.args.partial.now.places c.self.invariant.0
     (subst (λ (n : Size). IsHopeless (units_question n) c.args.partial.now.places) c.self.invariant.1 (h is_dead)))
-    c.settle.ensures.dead)
+    c.settle-step.ensures.dead)
 
 pub returns-clause-err : goal.returns-clause-err
 returns-clause-err c =
     rw (← c.self.view_is)
-    (on_err_weaker c.settle.result (λ h.
-    narrows_of c.self.inside.puzzle c.args.partial.now.places c.settle.new.partial.places c.self.invariant.0
-    (subst (λ (n : Size). Narrows (units_question n) c.args.partial.now.places c.settle.new.partial.places) c.self.invariant.1 h))
-    c.settle.ensures.err)
+    (on_err_weaker c.settle-step.result (λ h.
+    narrows_of c.self.inside.puzzle c.args.partial.now.places c.settle-step.new.partial.places c.self.invariant.0
+    (subst (λ (n : Size). Narrows (units_question n) c.args.partial.now.places c.settle-step.new.partial.places) c.self.invariant.1 h))
+    c.settle-step.ensures.err)
 
 pub returns-clause-settled : goal.returns-clause-settled
 returns-clause-settled c =
     rw (← c.self.view_is)
-    (IfOk-weaker c.settle.result _ _ (λ step h is_live.
-    subst (λ (n : Size). IsSettled n c.settle.new.partial.places) c.self.invariant.1 (h is_live))
-    c.settle.ensures.settled)
+    (IfOk-weaker c.settle-step.result _ _ (λ step h is_live.
+    subst (λ (n : Size). IsSettled n c.settle-step.new.partial.places) c.self.invariant.1 (h is_live))
+    c.settle-step.ensures.settled)
