@@ -138,7 +138,7 @@ module _ (world : World) (typed : IsWorld world) where
       let rows : row ≡ same = one_row (protest_of world entrant round token) row same kept found in
       (told ∙ sym says, stored ∙ ap (λ (r : ProtestRow). record world { protests = insert world.protests key (record r { ruling = Some ruling }) }) rows ∙ sym after)
 
-  one_table_read : (id : List ℕ) (given other : Reply) → IsTableStep world id given → IsTableStep world id other → given ≡ other
+  pub one_table_read : (id : List ℕ) (given other : Reply) → IsTableStep world id given → IsTableStep world id other → given ≡ other
   one_table_read id given other (text, (row, at, (totals, are, written)), told) (script, (same, there, (others, also, writes)), says) =
       let rows : row ≡ tested_by same row.testers = one_round_row world world id row same refl refl at there in
       let texts : text ≡ script =

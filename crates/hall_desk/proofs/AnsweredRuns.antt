@@ -64,7 +64,7 @@ first_serves world caller (action.Protest id token number text) given (person, i
 first_serves world caller (action.RuleProtest id entrant token ruling) given (row, ruled, at, has, says) = told given _ tt says
 first_serves world caller _ given h = absurd h
 
-decided_serves : (d : Decision) (world : World) (caller : Option Person) (a : Action) (t : ℕ) (found : PuzzleState) (given : Reply) (new : World) → Decided d world caller a t found given new → given ≢ reply.Unavailable
+pub decided_serves : (d : Decision) (world : World) (caller : Option Person) (a : Action) (t : ℕ) (found : PuzzleState) (given : Reply) (new : World) → Decided d world caller a t found given new → given ≢ reply.Unavailable
 unfolding serves
 decided_serves (Deny k) world caller a t found given new h = told given _ tt h.0
 decided_serves Repeat world caller a t found given new h = first_serves world caller a given h.0

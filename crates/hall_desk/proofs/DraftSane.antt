@@ -229,7 +229,7 @@ draft_sane world id row places testers sane unreleased own draft secret in_range
 
 -- ---- the places of a draft that is put
 -- the round's places are its entries
-relisted_own : (places : FinMap place_cmp Entry) (id : List ℕ) (entries : List Entry) (number : ℕ) → get (relisted places id entries) (record { round = id; number = number }) ≡ entry_at entries number
+pub relisted_own : (places : FinMap place_cmp Entry) (id : List ℕ) (entries : List Entry) (number : ℕ) → get (relisted places id entries) (record { round = id; number = number }) ≡ entry_at entries number
 relisted_own places id entries number =
     let key : PlaceKey = record { round = id; number = number } in
     get-relisted places id entries key ∙ ap (λ b. if b then entry_at entries number else get places key) ((text_decides id id).1 refl)
@@ -242,7 +242,7 @@ relisted_other places id entries key other =
 
 -- ---- the testers of a draft that is put
 -- the round's testers are those of the names
-retested_own : (testers : FinMap tester_cmp (Unit {0})) (id : List ℕ) (names : List (List ℕ)) (name : List ℕ) →
+pub retested_own : (testers : FinMap tester_cmp (Unit {0})) (id : List ℕ) (names : List (List ℕ)) (name : List ℕ) →
     (get (retested testers id names) (record { round = id; name = name }) ≡ Some tt) ↔ Contains names name
 retested_own testers id names name =
     let key : TesterKey = record { round = id; name = name } in

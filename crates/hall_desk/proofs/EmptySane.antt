@@ -19,7 +19,7 @@ use Rattle.hall_store.proofs.MapWorlds.{get_found, entries_made}
 
 module _ {K : Type 0} {R : K → K → Ordering} (o : IsTotalOrder R) (X : Type 0) where
   -- nothing is found in a map of no entries
-  nowhere : (k : K) (v : X) → get (from_entries {R = R} []) k ≡ Some v → ⊥
+  pub nowhere : (k : K) (v : X) → get (from_entries {R = R} []) k ≡ Some v → ⊥
   nowhere k v found = let no : None ≡ Some v = sym (get_found o [] k) ∙ found in cc
 
   -- and none of its values counts

@@ -22,7 +22,7 @@ pub runs_are_histories : RunsAreHistories
 runs_are_histories world last requests replies run = run_history requests replies world last run
 
 -- an event of its types keeps a sane world
-event_sane : (world : World) (event : Event) (next : World) → IsTyped event → Happens world event next → Sane world → Sane next
+pub event_sane : (world : World) (event : Event) (next : World) → IsTyped event → Happens world event next → Sane world → Sane next
 event_sane world (requested t request given) next typed step sane = step_sane world t request given next typed.0 typed.1 step sane
 event_sane world (seeded people given) next typed seed sane = seed_sane world people given next typed.0 typed.1 seed sane
 

@@ -35,6 +35,9 @@ pub mod SaneTokens
 pub mod ProtestRetries
 pub mod ProtestAnswered
 pub mod Stepping
+pub mod Touching
+pub mod Authored
+pub mod Finality
 pub mod Seeding
 pub mod Rising
 pub mod VerdictOnce
@@ -46,12 +49,16 @@ pub mod RepliesAlike
 pub mod StepsAlike
 pub mod Preserving
 pub mod Changing
+pub mod OthersSteps
 pub mod OthersAlike
 pub mod SealedAlike
 pub mod AnsweredRuns
 pub mod Searches
 pub mod OthersRun
+pub mod OthersLives
 pub mod SealedRun
+pub mod SealedLives
 pub mod Certified
 pub mod GoingOn
 pub mod Wants
+pub mod Places

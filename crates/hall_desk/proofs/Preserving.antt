@@ -235,7 +235,7 @@ module _ (ex : List ℕ → List ℕ → List ℕ) (hidden : List ℕ → Bool) 
         decided_on a h d found given answered new changed p (subst (λ (x : Decision). Decided x beside caller (exchanged ex a) t found answered changed) (sym same) q)
 
 -- a world with the answers and protests of another one that is alike
-alike_world : (ex : List ℕ → List ℕ → List ℕ) (hidden : List ℕ → Bool) (Kept : List ℕ → List ℕ → Type 0) (world other : World) → AlikeFor ex hidden Kept world other →
+pub alike_world : (ex : List ℕ → List ℕ → List ℕ) (hidden : List ℕ → Bool) (Kept : List ℕ → List ℕ → Type 0) (world other : World) → AlikeFor ex hidden Kept world other →
     record world { puzzles = world.puzzles; answers = other.answers; protests = other.protests } ≡ other
 alike_world ex hidden Kept world other alike =
     let people : world.people ≡ other.people = alike.people in

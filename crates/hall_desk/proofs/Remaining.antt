@@ -423,7 +423,7 @@ step_remains world t request given new (inr (found, (Allow, none, decided))) =
     allowed_remains world (caller_of world request.key) request.action t found given new none decided
 
 -- an event of a hall's life keeps them
-event_remains : (world : World) (event : Event) (next : World) → Happens world event next → Remains world next
+pub event_remains : (world : World) (event : Event) (next : World) → Happens world event next → Remains world next
 event_remains world (requested t request given) next step = step_remains world t request given next step
 event_remains world (seeded people given) next seed = seed_remains world people given next seed
 

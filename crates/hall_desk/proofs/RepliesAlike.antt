@@ -46,14 +46,14 @@ use Rattle.hall_policy.proofs.Viewed.{left_alike, left_same}
 use Rattle.hall_desk.proofs.Listings.{same_listing}
 use Rattle.hall_desk.proofs.TableOnce.{one_table}
 
-le_unless : (a b : ℕ) → ¬ (b < a) → a ≤ b
+pub le_unless : (a b : ℕ) → ¬ (b < a) → a ≤ b
 le_unless a b h = elim (cases_order a b) [
   | inl e ↦ omega (arith, e)
   | inr (inl lt) ↦ omega (arith, lt)
   | inr (inr gt) ↦ absurd (h gt)
 ]
 
-true_unless : (b : Bool) → ¬ (b ≡ false) → b ≡ true
+pub true_unless : (b : Bool) → ¬ (b ≡ false) → b ≡ true
 true_unless true h = refl
 true_unless false h = absurd (h refl)
 

@@ -35,7 +35,8 @@ use Rattle.hall_desk.proofs.Shows.{one_row}
 use Rattle.hall_desk.proofs.StepsAlike.{same_callers, exchanged_answers}
 use Rattle.hall_desk.proofs.Preserving.{Agrees, both_stay}
 use Rattle.hall_desk.proofs.Changing.{step_changes, round_stays}
-use Rattle.hall_desk.proofs.OthersAlike.{step_of, run_of, run_remains, asks_as, e_calls}
+use Rattle.hall_desk.proofs.OthersSteps.{asks_as, e_calls}
+use Rattle.hall_desk.proofs.OthersAlike.{step_of, run_of, run_remains}
 
 -- ---- two texts exchanged
 abbrev swap : List ℕ → List ℕ → List ℕ → List ℕ
@@ -65,7 +66,7 @@ swap_twice a b x = elim (same_text x a) as (λ t. same_text x a ≡ t → swap a
 swap_apart : (a b x y : List ℕ) → swap a b x ≡ swap a b y → x ≡ y
 swap_apart a b x y same = sym (swap_twice a b x) ∙ ap (swap a b) same ∙ swap_twice a b y
 
-swapped_apart : (r a b id x y : List ℕ) → swapped r a b id x ≡ swapped r a b id y → x ≡ y
+pub swapped_apart : (r a b id x y : List ℕ) → swapped r a b id x ≡ swapped r a b id y → x ≡ y
 swapped_apart r a b id x y = elim (same_text id r) as (λ t. (if t then swap a b x else x) ≡ (if t then swap a b y else y) → x ≡ y) [
   | true ↦ λ same. swap_apart a b x y same
   | false ↦ λ same. same
@@ -74,7 +75,7 @@ swapped_apart r a b id x y = elim (same_text id r) as (λ t. (if t then swap a b
 abbrev pub in_round : List ℕ → List ℕ → Bool
 in_round r id = same_text id r
 
-swapped_plain : (r a b id : List ℕ) → in_round r id ≡ false → (x : List ℕ) → swapped r a b id x ≡ x
+pub swapped_plain : (r a b id : List ℕ) → in_round r id ≡ false → (x : List ℕ) → swapped r a b id x ≡ x
 swapped_plain r a b id other x = ap (λ t. if t then swap a b x else x) other
 
 swapped_is_answer : (r a b : List ℕ) → IsAnswer a → IsAnswer b → (id x : List ℕ) → IsAnswer x → IsAnswer (swapped r a b id x)
@@ -124,7 +125,7 @@ module _ (last : World) (e : Person) (settled : IsWorld last) (there : get last.
   HasNone world = round.published ≡ true → (key : AnswerKey) → key.round ≡ r → get world.answers key ≡ None
 
   module _ (world other : World) (typed : IsWorld world) (retyped : IsWorld other) (alike : Alike world other) (kept : get world.rounds r ≡ Some round) (none : HasNone world) (also : HasNone other) (t : ℕ) (early : t < end_of round) where
-    looks_alike : LooksAlike ex (in_round r) e t world other
+    pub looks_alike : LooksAlike ex (in_round r) e t world other
     looks_alike = record {
       own = record { answers = λ key own. alike.answers key tt; protests = λ key own. alike.protests key tt };
       sealed = λ id rd hidden at.
@@ -165,53 +166,72 @@ module _ (last : World) (e : Person) (settled : IsWorld last) (there : get last.
   abbrev pub exchange : List Asked → List Asked
   exchange list = map (exchanged_asked ex) list
 
-  -- the first request
-  module _ (q : Asked) (later : List Asked) (world other : World) (given : Reply) (replies : List Reply) (sane : Sane world) (too : Sane other) (alike : Alike world other)
-      (kept : get world.rounds r ≡ Some round) (none : HasNone world) (also : HasNone other)
-      (typed : All IsTimed (map timed (q ∷ later))) (before : All (λ asked. asked.0 < end_of round) (map timed (q ∷ later))) (run : AnsweredRun world (q ∷ later) (given ∷ replies) last) where
-    abbrev p : Asked
-    p = exchanged_asked ex q
-
+  -- a request and its exchanged form
+  module _ (q : Asked) (world other next : World) (given : Reply) (sane : Sane world) (too : Sane other) (alike : Alike world other) (kept : get world.rounds r ≡ Some round) (none : HasNone world) (also : HasNone other)
+      (is_timed : IsTimed (timed q)) (in_time : q.moment < end_of round) (first : IsAnswered world q given next) where
     abbrev caller : Option Person
     caller = caller_of world q.request.key
 
     abbrev twin : Option Person
     twin = caller_of other q.request.key
 
+    here : get other.rounds r ≡ Some round
+    here = ap (λ (m : FinMap text_cmp Round). get m r) (sym alike.rounds) ∙ kept
+
+    request_typed : IsRequest (exchanged_asked ex q).request
+    request_typed = record { key = is_timed.request.key; action = typed_exchanged ex (swapped_is_answer r a b is_a is_b) q.request.action is_timed.request.action }
+
+    pub next_sane : Sane next
+    next_sane = step_sane world q.moment q.request given next is_timed.moment is_timed.request (step_of world next q given first) sane
+
+    pub next_kept : get next.rounds r ≡ Some round
+    next_kept = round_stays world caller q.moment r round kept released in_time q.request.action first.0 q.found given next first.1 first.2 ∙ kept
+
+    pub next_none : HasNone next
+    next_none = still_none world next caller q given first.0 kept none first.1 first.2
+
+    -- both worlds stay alike, and the other one as it has to be
+    module _ (answered : Reply) (after : World) (done : IsAnswered other (exchanged_asked ex q) answered after) where
+      pub after_sane : Sane after
+      after_sane = step_sane other q.moment (exchanged_asked ex q).request answered after is_timed.moment request_typed (step_of other after (exchanged_asked ex q) answered done) too
+
+      pub after_none : HasNone after
+      after_none = still_none other after twin (exchanged_asked ex q) answered done.0 here also done.1 done.2
+
+      pub both_alike : Alike next after
+      both_alike =
+          both_stay ex (in_round r) (swapped_apart r a b) (swapped_plain r a b) All_rows world other sane.typed too.typed alike caller twin
+          (sym (same_callers world other alike.people q.request.key)) (λ person is rd. tt) q.moment q.request.action (agrees world other alike q.request.action)
+          first.0 done.0 q.found given answered next after first.1 first.2 done.1 done.2
+
+  -- the first request of a list
+  module _ (q : Asked) (later : List Asked) (world other : World) (given : Reply) (replies : List Reply) (sane : Sane world) (too : Sane other) (alike : Alike world other)
+      (kept : get world.rounds r ≡ Some round) (none : HasNone world) (also : HasNone other)
+      (typed : All IsTimed (map timed (q ∷ later))) (before : All (λ asked. asked.0 < end_of round) (map timed (q ∷ later))) (run : AnsweredRun world (q ∷ later) (given ∷ replies) last) where
     head_timed : IsTimed (timed q)
     head_timed = All-head IsTimed (timed q) (map timed later) typed
 
     pub early : q.moment < end_of round
     early = All-head (λ asked. asked.0 < end_of round) (timed q) (map timed later) before
 
-    here : get other.rounds r ≡ Some round
-    here = ap (λ (m : FinMap text_cmp Round). get m r) (sym alike.rounds) ∙ kept
-
-    request_typed : IsRequest p.request
-    request_typed = record { key = head_timed.request.key; action = typed_exchanged ex (swapped_is_answer r a b is_a is_b) q.request.action head_timed.request.action }
-
     pub still_sane : Sane run.0
-    still_sane = step_sane world q.moment q.request given run.0 head_timed.moment head_timed.request (step_of world run.0 q given run.1) sane
+    still_sane = next_sane q world other run.0 given sane too alike kept none also head_timed early run.1
 
     pub still_kept : get run.0.rounds r ≡ Some round
-    still_kept = round_stays world caller q.moment r round kept released early q.request.action run.1.0 q.found given run.0 run.1.1 run.1.2 ∙ kept
+    still_kept = next_kept q world other run.0 given sane too alike kept none also head_timed early run.1
 
     pub has_none : HasNone run.0
-    has_none = still_none world run.0 caller q given run.1.0 kept none run.1.1 run.1.2
+    has_none = next_none q world other run.0 given sane too alike kept none also head_timed early run.1
 
-    -- both worlds stay alike, and the other one as it has to be
-    module _ (answered : Reply) (after : World) (done : IsAnswered other p answered after) where
+    module _ (answered : Reply) (after : World) (done : IsAnswered other (exchanged_asked ex q) answered after) where
       pub sane_with : Sane after
-      sane_with = step_sane other q.moment p.request answered after head_timed.moment request_typed (step_of other after p answered done) too
+      sane_with = after_sane q world other run.0 given sane too alike kept none also head_timed early run.1 answered after done
 
       pub none_with : HasNone after
-      none_with = still_none other after twin p answered done.0 here also done.1 done.2
+      none_with = after_none q world other run.0 given sane too alike kept none also head_timed early run.1 answered after done
 
       pub alike_with : Alike run.0 after
-      alike_with =
-          both_stay ex (in_round r) (swapped_apart r a b) (swapped_plain r a b) All_rows world other sane.typed too.typed alike caller twin
-          (sym (same_callers world other alike.people q.request.key)) (λ person is rd. tt) q.moment q.request.action (agrees world other alike q.request.action)
-          run.1.0 done.0 q.found given answered run.0 after run.1.1 run.1.2 done.1 done.2
+      alike_with = both_alike q world other run.0 given sane too alike kept none also head_timed early run.1 answered after done
 
   abbrev Claim : List Asked → Type 0
   Claim list = (world other end : World) (replies others : List Reply) → Sane world → Sane other → Alike world other → get world.rounds r ≡ Some round → HasNone world → HasNone other →

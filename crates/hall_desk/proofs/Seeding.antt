@@ -11,13 +11,13 @@ use Rattle.hall_policy.specs.Ranges.{IsPerson}
 use Rattle.hall_policy.specs.Rules.{HasConflict}
 use Rattle.hall_policy.specs.declared.record.Person.{Person}
 use Rattle.hall_policy.specs.declared.request.Action.TheVariants.{Import}
-use Rattle.hall_store.specs.Store.{Content, Kept, Left, Leads, Made}
+use Rattle.hall_store.specs.Store.{Content, Kept, Left, Leads, LeavesOneOf, Made}
 use Rattle.hall_store.specs.Change.{changed, CanMake}
 use Rattle.hall_store.specs.declared.change.Change.{Change}
 use Rattle.hall_store.specs.declared.change.Change.TheVariants.{Nothing}
 use Rattle.hall_desk.specs.Step.{Seed}
 use Rattle.hall_desk.specs.Sane.{Sane}
-use Rattle.hall_desk.specs.Plans.{IsMadePlan, IsImportPlan, IsSeedPlan, IsSeedReply, Seeds}
+use Rattle.hall_desk.specs.Plans.{IsMadePlan, IsImportPlan, IsSeedPlan, IsSeedReply, Seeds, StopsInSeed}
 use Rattle.hall_desk.specs.declared.reply.Reply.{Reply}
 use Rattle.hall_desk.specs.declared.reply.Reply.TheVariants.{Denied}
 use Rattle.hall_desk.specs.declared.plan.Plan.{Plan}
@@ -88,6 +88,25 @@ module _ {S : Type 0} (content : S → Content) (old : Content) (mid new : S) (p
       → IfOk result (λ reply. reply ≡ plan.reply) → IfOk result (λ reply. reply ≡ Denied 20 → (content new).writes ≤ old.writes)
   seed_quiet (Ok reply) denied nothing is = λ e. quiet_commit content old mid new plan kept nothing (denied (sym is ∙ e))
   seed_quiet (Err fault) denied nothing is = tt
+
+  -- what a stop leaves
+  pub seed_stops : ((content mid).honest → old.serves → (content mid).serves) → ((content mid).honest → (content mid).serves → IsSeedPlan (content mid).world people plan)
+      → ((content mid).serves → LeavesOneOf (λ before left. left ≡ changed plan.change before) (content mid) (content new)) → StopsInSeed old people (content new)
+  seed_stops opened told stops was h left may =
+      let before = leads.honest h in
+      let serves = opened before was in
+      elim (stops serves h left may) [
+        | inl earlier ↦ inl (kept.stops before left earlier)
+        | inr made ↦
+            inr (
+              was,
+              (
+                plan.reply,
+                subst (λ (w : World). Seed w people plan.reply left) (kept.world before serves)
+                    (subst (λ (w : World). Seed (content mid).world people plan.reply w) (sym made.1) (told before serves).seeded),
+              ),
+            )
+      ]
 
 -- what a commit answers is the plan's reply
 pub seed_answered : {E : Type 0} (result : Result Reply E) (plan : Plan) → IsSeedReply plan.reply → IfOk result (λ reply. reply ≡ plan.reply) → IfOk result IsSeedReply

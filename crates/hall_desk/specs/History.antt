@@ -1,4 +1,4 @@
--- A life of a hall: requests that are answered, and lists of people that stand before any request, in any order.
+-- A life of a hall: requests that are answered, and lists of people that come by no request, in any order.
 use Rattle.std.specs.Prelude.{◌≡◌, ℕ, List, [], ◌∷◌, All}
 use Rattle.hall_policy.specs.World.{World}
 use Rattle.hall_policy.specs.Lists.{ArePeople}

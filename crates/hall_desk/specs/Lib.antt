@@ -13,6 +13,8 @@ pub mod Records
 pub mod Sane
 pub mod Promises
 pub mod ProtestPromises
+pub mod Authorship
+pub mod Final
 pub mod Plan
 pub mod Handler
 pub mod Plans
@@ -20,6 +22,7 @@ pub mod Agreement
 pub mod Without
 pub mod Exchanged
 pub mod Secrecy
+pub mod Lives
 pub mod AnsweredRun
 pub mod Alike
 pub mod Underway
@@ -27,3 +30,4 @@ pub mod Finding
 pub mod Certifying
 pub mod Memo
 pub mod Wanted
+pub mod Searches

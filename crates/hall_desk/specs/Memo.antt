@@ -1,5 +1,5 @@
 -- What a search found before its request came to be planned.
-use Rattle.std.specs.Prelude.{ℕ, Option, Some, None}
+use Rattle.std.specs.Prelude.{◌≡◌, ℕ, Option, Some, None}
 use Rattle.hall_grid.specs.Board.{Board}
 use Rattle.hall_policy.specs.declared.record.PuzzleState.{PuzzleState}
 use Rattle.hall_solve.specs.declared.searched.Visits.{Visits}
@@ -20,6 +20,13 @@ pub record MemoView : Type 0 where
 pub record IsMemo (puzzle : Board) (budget : ℕ) (state : PuzzleState) (visits : Visits) : Type 0 where
   pub found : IsFound puzzle budget state
   pub spent : HasSpent budget (reply.Certify (state_name state)) visits
+
+-- what is remembered is of a search of this puzzle within this budget
+pub record Remembers (memo : Option MemoView) (puzzle : Board) (budget : ℕ) : Type 0 where
+  pub found : MemoView
+  pub is : memo ≡ Some found
+  pub same : found.puzzle ≡ puzzle
+  pub within : found.budget ≡ budget
 
 -- where something was found, it is what a search of this puzzle within this budget may find
 abbrev pub HasFound : Board → ℕ → Option FoundState → Type 0

@@ -1,5 +1,6 @@
 -- What a plan promises, and what a step over a store leaves.
-use Rattle.std.specs.Prelude.{◌≡◌, ◌≤◌, ◌⊎◌, ℕ, List, [], ◌∷◌, Option, Some, None, true, false, ◌≢◌, Result, Ok, Err, IfErr, Contains, All}
+use Rattle.std.specs.Prelude.{◌≡◌, ◌≤◌, ◌⊎◌, ℕ, List, [], ◌∷◌, Option, Some, None, true, false, ◌≢◌, Result, Ok, Err}
+use Rattle.std.specs.Prelude.{IfErr, Contains, All}
 use Rattle.hall_store.specs.declared.change.Change.TheVariants as change
 use Rattle.hall_store.specs.declared.change.Change.TheVariants.{Nothing}
 use Rattle.std.specs.FinMap.{get}
@@ -176,13 +177,19 @@ StopsWithin old t request given new =
     LeavesOneOf (λ before left.
     (made : Reply) × ((made ≡ given) ⊎ (given ≡ reply.Unavailable)) × Step before t request made left) old new
 
+-- What a stop in the import of people, or after it, leaves of a store that served before it: a world that a stop before
+-- it could leave, or what is made of the people who stand before any request, all of them or none.
+abbrev pub StopsInSeed : Content → List Person → Content → Type 0
+StopsInSeed old people new =
+    old.serves → LeavesOneOf (λ before left. (made : Reply) × Seed before people made left) old new
+
 -- What a stop leaves of a store that served before these requests, which were answered so, is a world that they leave.
 abbrev pub LeavesRun : Content → List (ℕ × Request) → List Reply → Content → Type 0
 LeavesRun old requests replies new =
     new.honest → old.serves → (left : World) → new.may_leave left → IsLeftBy old.world requests replies left
 
--- the request has nothing to write in the world: another decision is made than to allow it, or its action has nothing to
--- write there
+-- the request has nothing to write in the world: another decision is made than to allow it, or its action has nothing
+-- to write there
 abbrev pub IsQuiet : World → ℕ → Request → Type 0
 IsQuiet world t request =
     ((decision : Decision) → First world (caller_of world request.key) request.action t decision → decision ≢ Allow)

@@ -35,7 +35,8 @@ pub(crate) struct Certify<'a> {
 impl<'a> Certify<'a> {
     /// The puzzle under the key, by a search of at most so many visits.
     pub(crate) fn of(key: &'a PuzzleKey, budget: Budget, memo: &'a Option<Memo>) -> Certify<'a>
-        ensures { certify_action result ≡ Action.Certify key.now budget }
+        ensures action { certify_action result ≡ Action.Certify key.now budget }
+        ensures memo { result.memo.now ≡ memo.now }
     {
         Certify { key, budget, memo }
     }

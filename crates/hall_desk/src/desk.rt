@@ -1,6 +1,7 @@
 //! The desk: requests, answered over the world of a store.
 ghost use Rattle.std.specs.Prelude.{◌≡◌, ◌⊎◌, ◌≤◌, ◌+◌, length, IfOk, IfSome, IsOk, IsTrue, OnErr};
-ghost use Rattle.hall_store.specs.Store.{Kept, Served, Left, Leads, LeavesOneOf, IsSettled, Made, WritesOnce, Asks, Told, Fails};
+ghost use Rattle.hall_store.specs.Store.{Kept, Served, Left, Leads, LeavesOneOf, IsSettled, Made, WritesOnce, Asks};
+ghost use Rattle.hall_store.specs.Store.{Told, Fails};
 ghost use Rattle.hall_store.specs.Change.{changed, CanMake};
 ghost use Rattle.hall_store.specs.declared.change.Change.{Change};
 ghost use Rattle.hall_desk.specs.Census.{census_of};
@@ -10,10 +11,10 @@ ghost use Rattle.hall_desk.specs.Promises.{HasUniqueSolutions, RightAnswersAreSo
 ghost use Rattle.hall_desk.specs.Plan.{planned_reply, planned_change};
 ghost use Rattle.hall_desk.specs.Plans.{Planned, Steps, Seeds, Runs, FailsIn, IsNobodys, AreNobodys, IsAvailable};
 ghost use Rattle.hall_desk.specs.Wanted.{MayWait};
-ghost use Rattle.hall_desk.specs.Plans.{IsQuietPlan, IsSeedReply, AreStepped, NobodysAreAnswered, WritesIfAny, StopsWithin, LeavesRun};
+ghost use Rattle.hall_desk.specs.Plans.{IsQuietPlan, IsSeedReply, AreStepped, NobodysAreAnswered, WritesIfAny};
+ghost use Rattle.hall_desk.specs.Plans.{StopsWithin, StopsInSeed, LeavesRun};
 
 use crate::census::Census;
-use crate::finding::Finding;
 use crate::memo::Memo;
 use crate::plan::Plan;
 use crate::planning::make_plan;
@@ -22,8 +23,8 @@ use crate::seed::seed;
 use crate::serving::still_serves;
 use crate::step::{commit, run, step};
 use crate::table_copy::{TableCopy, left_by};
-use crate::under_way::Searches;
-use crate::wanted::{Wanted, search_for};
+use crate::under_way::{Searches, search_on};
+use crate::wanted::search_for;
 use hall_policy::{Moment, People, Request};
 use hall_store::{Change, ReadStore, Store, StoreFault};
 use std::alloc::{AllocError, Global};
@@ -75,7 +76,7 @@ impl<S: ReadStore> Desk<S> {
     }
 
     /// What the request will be answered, and what it will change. Reads only, and for a request without a key, other
-    /// than for a table, not even that. Want of memory apart, it fails only over a store that can, or where the world
+    /// than for a table, not even that. Unless out of memory, it fails only over a store that can, or where the world
     /// isn't sane. What is certified is searched here, unless what was kept last is of the same puzzle and budget.
     pub fn plan(&mut self, alloc: Global, t: Moment, request: &Request) -> Result<Plan, StoreFault>
         ensures kept { Kept (S.content (kept_by self.old)) (S.content (kept_by self.new)) }
@@ -100,47 +101,18 @@ impl<S: ReadStore> Desk<S> {
     }
 
     /// Works for a while on what a plan of the request needs, and tells whether to answer it now, or to ask so again.
-    /// An allowed Certify waits until its puzzle has been searched, some visits a time; one that wants the puzzle and
-    /// budget of a search under way joins it. At most eight are, one for each key; others wait until one may begin.
-    /// Reads only.
+    /// An allowed Certify waits until its puzzle has been searched, some visits a time, and no other request does; one
+    /// that wants the puzzle and budget of a search under way joins it. At most eight are, one for each key; others
+    /// wait until one may begin. Reads only, and of a stranger's request the caller alone.
     pub fn prepare(&mut self, alloc: Global, request: &Request) -> bool
         ensures kept { Kept (S.content (kept_by self.old)) (S.content (kept_by self.new)) }
         ensures untouched { IsNobodys request.now → kept_by self.new ≡ kept_by self.old }
-        ensures waits { MayWait (S.content (kept_by self.new)) request.now.action result }
+        ensures waits { MayWait (S.content (kept_by self.new)) request.now result }
     {
         match search_for(alloc, &mut self.store, request, &self.memo) {
-            Ok(Some(wanted)) => self.search(alloc, wanted),
+            Ok(Some(wanted)) => search_on(alloc, &mut self.searches, &mut self.memo, wanted),
             Ok(None) | Err(_) => true,
         }
-    }
-
-    /// Goes on with the search for a while, and tells whether a plan has what it found.
-    fn search(&mut self, alloc: Global, wanted: Wanted) -> bool
-        ensures { kept_by self.new ≡ kept_by self.old }
-    {
-        let mut searches = match self.searches.take() {
-            Some(searches) => searches,
-            None => match Searches::new(alloc) {
-                Ok(searches) => searches,
-                Err(_) => return false,
-            },
-        };
-        let found = searches.go_on(alloc, wanted);
-        self.searches = Some(searches);
-        match found {
-            Some(finding) => self.keep(alloc, finding).is_ok(),
-            None => false,
-        }
-    }
-
-    /// Keeps what a search found, for the plans of that puzzle and that budget. Refused, it keeps nothing.
-    fn keep(&mut self, alloc: Global, finding: Finding) -> Result<(), AllocError>
-        ensures { kept_by self.new ≡ kept_by self.old }
-    {
-        self.memo = None;
-        let memo = Memo::of(alloc, finding)?;
-        self.memo = Some(memo);
-        Ok(())
     }
 
     /// Whether the device failed when the last write was to be made, as a full one does. No clause speaks of it.
@@ -148,13 +120,20 @@ impl<S: ReadStore> Desk<S> {
         self.refuses_writes
     }
 
-    /// How many people and rounds the hall knows. Want of memory apart, it fails only over a store that can.
+    /// How many people and rounds the hall knows. Unless out of memory, it fails only over a store that can.
     pub fn census(&mut self, alloc: Global) -> Result<Census, StoreFault>
         ensures kept { Kept (S.content (kept_by self.old)) (S.content (kept_by self.new)) }
         ensures served { Served (S.content (kept_by self.new)) result (λ world census. census ≡ census_of world) }
         ensures fault { Fails S.can_fail result }
     {
         Census::of(alloc, &mut self.store)
+    }
+
+    /// Tells a proof that a stop between two calls leaves the world of the store.
+    pub fn at_rest(&self)
+        ensures { IsSettled (S.content (kept_by self.now)) }
+    {
+        self.store.at_rest();
     }
 
     /// Whether no fault of its device has shut the store. It looks up one person; without memory for that it says no.
@@ -221,7 +200,7 @@ impl<S: Store> Desk<S> {
 
     /// Imports the people before any request: the rule on lists alone is asked. It answers `Reply::Import`, or
     /// `Reply::Denied` by that rule. It makes at most one write, and none where it denies. Refused, it has left the
-    /// world while the store serves; want of memory apart, it fails only over a store that can.
+    /// world while the store serves; unless out of memory, it fails only over a store that can.
     pub fn try_seed(&mut self, alloc: Global, people: &People) -> Result<Reply, StoreFault>
         ensures leads { Leads (S.content (kept_by self.old)) (S.content (kept_by self.new)) }
         ensures once { WritesOnce (S.content (kept_by self.old)) (S.content (kept_by self.new)) }
@@ -231,6 +210,8 @@ impl<S: Store> Desk<S> {
         ensures quiet { IfOk result (λ reply. reply ≡ Reply.Denied 20 →
             (S.content (kept_by self.new)).writes ≤ (S.content (kept_by self.old)).writes) }
         ensures left { OnErr result (Left (S.content (kept_by self.old)) (S.content (kept_by self.new))) }
+        ensures stops { StopsInSeed (S.content (kept_by self.old)) people.now (S.content (kept_by self.new)) }
+        ensures settled { IsSettled (S.content (kept_by self.new)) }
         ensures fault { Fails S.can_fail result }
         ensures sane { SaneThen Sane (S.content (kept_by self.old)) (S.content (kept_by self.new)) }
     {
@@ -246,6 +227,8 @@ impl<S: Store> Desk<S> {
             Seeds (S.content (kept_by self.old)) people.now result (S.content (kept_by self.new)) }
         ensures quiet { result ≡ Reply.Denied 20 →
             (S.content (kept_by self.new)).writes ≤ (S.content (kept_by self.old)).writes }
+        ensures stops { StopsInSeed (S.content (kept_by self.old)) people.now (S.content (kept_by self.new)) }
+        ensures settled { IsSettled (S.content (kept_by self.new)) }
         ensures sane { SaneThen Sane (S.content (kept_by self.old)) (S.content (kept_by self.new)) }
     {
         match self.try_seed(alloc, people) {
@@ -263,7 +246,8 @@ impl<S: Store> Desk<S> {
         requests: &[(Moment, Request)],
     ) -> Result<Vec<Reply>, AllocError>
         ensures leads { Leads (S.content (kept_by self.old)) (S.content (kept_by self.new)) }
-        ensures few { (S.content (kept_by self.new)).writes ≤ (S.content (kept_by self.old)).writes + length requests.now }
+        ensures few { (S.content (kept_by self.new)).writes
+            ≤ (S.content (kept_by self.old)).writes + length requests.now }
         ensures runs { IfOk result (λ replies. (S.content (kept_by self.new)).honest →
             Runs (S.content (kept_by self.old)) requests.now replies.items (S.content (kept_by self.new))) }
         ensures left { IfOk result (λ replies. LeavesRun (S.content (kept_by self.old)) requests.now replies.items

@@ -30,6 +30,8 @@ impl Finding {
     /// The puzzle, the budget, and what was found.
     pub(crate) fn into_parts(self) -> (Puzzle, u64, Searched)
         ensures found { IsFoundBy result.0 result.1 result.2 }
+        ensures puzzle { result.0 ≡ self.puzzle }
+        ensures budget { result.1 ≡ self.budget }
     {
         (self.puzzle, self.budget, self.searched)
     }

@@ -8,7 +8,7 @@ mod desk;
 mod finding;
 mod handler;
 mod import;
-mod law;
+pub mod laws;
 mod list_puzzles;
 mod list_rounds;
 mod memo;
@@ -42,10 +42,6 @@ mod wanted;
 
 pub use census::Census;
 pub use desk::Desk;
-pub use law::{
-    law_accepted_answers, law_accepted_protests, law_before_start, law_others, law_records,
-    law_rulings, law_sanity, law_sealed, law_steps_agree, law_tokens,
-};
 pub use plan::Plan;
 pub use reply::{
     AnswerLine, ProtestLine, PuzzleLine, Reply, RoundLine, ShownPuzzle, ShownRound, StateName,

@@ -1,6 +1,6 @@
 //! What a search found before its request came to be planned.
-ghost use Rattle.std.specs.Prelude.{◌≡◌, IfOk, IsTrue};
-ghost use Rattle.hall_desk.specs.Memo.{HasFound};
+ghost use Rattle.std.specs.Prelude.{◌≡◌, ◌↔◌, IfOk, IsTrue};
+ghost use Rattle.hall_desk.specs.Memo.{HasFound, Remembers};
 
 use crate::certify_puzzle::{FoundState, state_of};
 use crate::finding::Finding;
@@ -31,7 +31,10 @@ impl Model for Memo {
 
 impl Memo {
     /// What was found, as a state.
-    pub(crate) fn of(alloc: Global, finding: Finding) -> Result<Memo, AllocError> {
+    pub(crate) fn of(alloc: Global, finding: Finding) -> Result<Memo, AllocError>
+        ensures puzzle { IfOk result (λ memo. memo.puzzle ≡ finding.puzzle) }
+        ensures budget { IfOk result (λ memo. memo.budget ≡ finding.budget) }
+    {
         let (puzzle, budget, searched) = finding.into_parts();
         let FoundState { state, visits } = state_of(alloc, &puzzle, budget, searched)?;
         Ok(Memo {
@@ -46,6 +49,7 @@ impl Memo {
     pub(crate) fn is_of(&self, puzzle: &Puzzle, budget: u64) -> bool
         ensures puzzle { IsTrue result → self.now.puzzle ≡ puzzle.now }
         ensures budget { IsTrue result → self.now.budget ≡ budget }
+        ensures both { self.now.puzzle ≡ puzzle.now → self.now.budget ≡ budget → IsTrue result }
     {
         self.puzzle.is_same(puzzle) && self.budget == budget
     }
@@ -66,5 +70,15 @@ impl Memo {
         } else {
             Ok(None)
         }
+    }
+}
+
+/// Whether it is remembered what a search of the puzzle within the budget found.
+pub(crate) fn is_remembered(memo: &Option<Memo>, puzzle: &Puzzle, budget: u64) -> bool
+    ensures { IsTrue result ↔ Remembers memo.now puzzle.now budget }
+{
+    match memo {
+        Some(memo) => memo.is_of(puzzle, budget),
+        None => false,
     }
 }

@@ -162,7 +162,7 @@ fn deny_without_key(asked: &RequestAt, facts: &Facts) -> Plan
 }
 
 /// The number of the rule on the caller that forbids the action, if one does.
-fn caller_rule(facts: &Facts, action: &Action, t: Moment) -> Option<u8>
+pub(crate) fn caller_rule(facts: &Facts, action: &Action, t: Moment) -> Option<u8>
     ensures some { IfSome result (λ rule. IsDecidedUpTo 3 facts.now action.now t (Deny rule)) }
     ensures none { IfNone result (PassesUpTo 3 facts.now action.now t) }
 {

@@ -1,10 +1,10 @@
 //! People who are imported before any request.
 ghost use Rattle.std.specs.Prelude.{◌≡◌, ◌≤◌, IfOk, OnErr};
-ghost use Rattle.hall_store.specs.Store.{Kept, Left, Leads, WritesOnce, Told, Fails};
+ghost use Rattle.hall_store.specs.Store.{IsSettled, Kept, Left, Leads, WritesOnce, Told, Fails};
 ghost use Rattle.hall_store.specs.declared.change.Change.{Change};
 ghost use Rattle.hall_desk.specs.Desk.{SaneThen};
 ghost use Rattle.hall_desk.specs.Sane.{Sane};
-ghost use Rattle.hall_desk.specs.Plans.{IsSeedPlan, IsSeedReply, Seeds};
+ghost use Rattle.hall_desk.specs.Plans.{IsSeedPlan, IsSeedReply, Seeds, StopsInSeed};
 
 use crate::import::{any_conflict, plan_import};
 use crate::plan::Plan;
@@ -28,12 +28,16 @@ pub(crate) fn seed<S: Store>(
     ensures quiet { IfOk result (λ reply. reply ≡ Reply.Denied 20 →
         (S.content store.new).writes ≤ (S.content store.old).writes) }
     ensures left { OnErr result (Left (S.content store.old) (S.content store.new)) }
+    ensures stops { StopsInSeed (S.content store.old) people.now (S.content store.new) }
+    ensures settled { IsSettled (S.content store.new) }
     ensures fault { Fails S.can_fail result }
     ensures sane { SaneThen Sane (S.content store.old) (S.content store.new) }
 {
     // They are read for the ranges that their types keep.
     people.in_range();
-    make_seed(alloc, store, people)
+    let made = make_seed(alloc, store, people);
+    store.at_rest();
+    made
 }
 
 /// Makes the plan of the people, and commits it. It makes at most one write, and none for a list that is denied.
@@ -46,6 +50,7 @@ fn make_seed<S: Store>(alloc: Global, store: &mut S, people: &People) -> Result<
     ensures quiet { IfOk result (λ reply. reply ≡ Reply.Denied 20 →
         (S.content store.new).writes ≤ (S.content store.old).writes) }
     ensures left { OnErr result (Left (S.content store.old) (S.content store.new)) }
+    ensures stops { StopsInSeed (S.content store.old) people.now (S.content store.new) }
     ensures fault { Fails S.can_fail result }
 {
     let plan = plan_seed(alloc, store, people)?;

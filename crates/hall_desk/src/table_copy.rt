@@ -17,7 +17,7 @@ pub(crate) struct TableCopy {
     pub(crate) text: TableText,
 }
 
-/// The text of the copy, where it is this round's; an error is want of memory for it.
+/// The text of the copy, where it is this round's; an error means out of memory.
 pub(crate) fn text_of(
     alloc: Global,
     copied: &Option<TableCopy>,
@@ -35,7 +35,7 @@ pub(crate) fn text_of(
     }
 }
 
-/// A copy of the round's table; an error is want of memory for it.
+/// A copy of the round's table; an error means out of memory.
 pub(crate) fn copy_of(alloc: Global, round: &RoundId, text: &str) -> Result<TableCopy, AllocError>
     ensures { IfOk result (λ copy. (copy.round ≡ round.now) × (copy.text ≡ text.now)) }
 {

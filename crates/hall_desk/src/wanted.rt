@@ -1,16 +1,19 @@
 //! The search that a request waits for.
-ghost use Rattle.std.specs.Prelude.{◌≡◌, IfOk, IfSome};
-ghost use Rattle.std.specs.FinMap.{get};
-ghost use Rattle.hall_store.specs.Store.{Kept, Served, Told, Fails};
+ghost use Rattle.std.specs.Prelude.{◌≡◌, ◌↔◌, IfOk, IfSome, IsTrue, Some};
+ghost use Rattle.hall_policy.specs.Decided.{PassesUpTo};
+ghost use Rattle.hall_store.specs.Store.{Asks, Kept, Told, Fails};
 ghost use Rattle.hall_desk.specs.Handler.{certify_action};
+ghost use Rattle.hall_desk.specs.Lookups.{IsCaller};
+ghost use Rattle.hall_desk.specs.Memo.{Remembers};
 ghost use Rattle.hall_desk.specs.Plans.{IsNobodys};
 ghost use Rattle.hall_desk.specs.Wanted.{IsSearchFor, IsSearchOfFound};
 
 use crate::certify_puzzle::{Certify, is_open};
-use crate::memo::Memo;
-use crate::planning::no_facts;
+use crate::handler::Handler;
+use crate::memo::{Memo, is_remembered};
+use crate::planning::{RequestAt, caller_rule, no_facts};
 use hall_grid::Puzzle;
-use hall_policy::{Action, Budget, Decision, Facts, Key, Moment, PuzzleKey, Request, decide};
+use hall_policy::{Action, Decision, Facts, Key, Moment, PuzzleKey, Request};
 use hall_store::{ReadStore, StoreFault};
 use std::alloc::{AllocError, Global};
 
@@ -25,7 +28,8 @@ pub(crate) struct Wanted {
 }
 
 /// The search that a plan of the request would make now: of the puzzle of an allowed Certify, where no search of it
-/// came to an end yet and nothing is remembered of it.
+/// came to an end yet and nothing is remembered of it. Who asks is looked up first, and for a caller whom the rules
+/// forbid it nothing else.
 pub(crate) fn search_for<S: ReadStore>(
     alloc: Global,
     store: &mut S,
@@ -36,13 +40,24 @@ pub(crate) fn search_for<S: ReadStore>(
     ensures untouched { IsNobodys request.now → store.new ≡ store.old }
     ensures fault { Fails S.can_fail result }
     ensures told { Told (S.content store.old) (S.content store.new) result
-        (λ world found. IfSome found (IsSearchFor world request.now.action)) }
+        (λ world found. IfSome found (IsSearchFor world request.now)) }
+    ensures fresh { IfOk result (λ found. IfSome found
+        (λ search. ¬ (Remembers memo.now search.puzzle search.budget))) }
 {
+    // No rule that a Certify is asked speaks of the moment.
+    let Some(t) = Moment::new(0) else {
+        unreachable!()
+    };
     match &request.action {
         Action::Certify { key, budget } => match &request.key {
             Some(pass) => {
-                let asked = Certify::of(key, *budget, memo);
-                search_by_key(alloc, store, &request.action, pass, &asked)
+                let asked = RequestAt {
+                    alloc,
+                    t,
+                    request,
+                    memo,
+                };
+                search_by_key(&asked, store, pass, &Certify::of(key, *budget, memo))
             }
             None => Ok(None),
         },
@@ -52,103 +67,98 @@ pub(crate) fn search_for<S: ReadStore>(
 
 /// The search for whoever has the key.
 fn search_by_key<S: ReadStore>(
-    alloc: Global,
+    asked: &RequestAt,
     store: &mut S,
-    action: &Action,
     pass: &Key,
-    asked: &Certify,
+    certified: &Certify,
 ) -> Result<Option<Wanted>, StoreFault>
-    requires { action.now ≡ certify_action asked.now }
+    requires action { asked.now.request.now.action ≡ certify_action certified.now }
+    requires key { asked.now.request.now.key ≡ Some pass.now }
     ensures kept { Kept (S.content store.old) (S.content store.new) }
     ensures fault { Fails S.can_fail result }
     ensures told { Told (S.content store.old) (S.content store.new) result
-        (λ world found. IfSome found (IsSearchFor world action.now)) }
+        (λ world found. IfSome found (IsSearchFor world asked.now.request.now)) }
+    ensures fresh { IfOk result (λ found. IfSome found
+        (λ search. ¬ (Remembers certified.now.memo.now search.puzzle search.budget))) }
 {
     let mut facts = no_facts();
-    let found = search_by_facts(alloc, store, action, pass, asked, &mut facts);
+    let found = search_by_facts(asked, store, pass, certified, &mut facts);
     drop(facts);
     found
 }
 
-/// The same, with facts that tell of nothing yet.
+/// The search for whoever has the key, by facts that tell of nothing yet. The rules on the caller are asked before the
+/// puzzle is looked up.
 fn search_by_facts<S: ReadStore>(
-    alloc: Global,
+    asked: &RequestAt,
     store: &mut S,
-    action: &Action,
     pass: &Key,
-    asked: &Certify,
+    certified: &Certify,
     facts: &mut Facts,
 ) -> Result<Option<Wanted>, StoreFault>
-    requires { action.now ≡ certify_action asked.now }
+    requires action { asked.now.request.now.action ≡ certify_action certified.now }
+    requires key { asked.now.request.now.key ≡ Some pass.now }
     ensures kept { Kept (S.content store.old) (S.content store.new) }
     ensures fault { Fails S.can_fail result }
     ensures told { Told (S.content store.old) (S.content store.new) result
-        (λ world found. IfSome found (IsSearchFor world action.now)) }
+        (λ world found. IfSome found (IsSearchFor world asked.now.request.now)) }
+    ensures fresh { IfOk result (λ found. IfSome found
+        (λ search. ¬ (Remembers certified.now.memo.now search.puzzle search.budget))) }
 {
-    find_facts(alloc, store, pass, asked, facts)?;
-    search_if_allowed(facts, action, pass, asked)
+    facts.caller = store.person_by_key(asked.alloc, pass)?;
+    match caller_rule(facts, &asked.request.action, asked.t) {
+        Some(_) => Ok(None),
+        None => search_for_caller(asked, store, pass, certified, facts),
+    }
 }
 
-/// Looks up the caller and the puzzle.
-fn find_facts<S: ReadStore>(
-    alloc: Global,
+/// The search for a caller whom the rules on the caller let pass: of the puzzle, where the action is allowed.
+fn search_for_caller<S: ReadStore>(
+    asked: &RequestAt,
     store: &mut S,
     pass: &Key,
-    asked: &Certify,
+    certified: &Certify,
     facts: &mut Facts,
-) -> Result<(), StoreFault>
+) -> Result<Option<Wanted>, StoreFault>
+    requires action { asked.now.request.now.action ≡ certify_action certified.now }
+    requires key { asked.now.request.now.key ≡ Some pass.now }
+    requires caller { Asks (S.content store.old) (λ world. IsCaller world asked.now.request.now.key facts.old.caller) }
+    requires passed { PassesUpTo 3 facts.old asked.now.request.now.action asked.now.t }
     ensures kept { Kept (S.content store.old) (S.content store.new) }
     ensures fault { Fails S.can_fail result }
-    ensures served { Served (S.content store.new) result
-        (λ world _. facts.new.puzzle ≡ get world.puzzles asked.now.key.now) }
+    ensures told { Told (S.content store.old) (S.content store.new) result
+        (λ world found. IfSome found (IsSearchFor world asked.now.request.now)) }
+    ensures fresh { IfOk result (λ found. IfSome found
+        (λ search. ¬ (Remembers certified.now.memo.now search.puzzle search.budget))) }
 {
-    facts.caller = store.person_by_key(alloc, pass)?;
-    facts.puzzle = store.puzzle(alloc, asked.key)?;
-    Ok(())
-}
-
-/// The search, where the facts allow the action.
-fn search_if_allowed(
-    facts: &Facts,
-    action: &Action,
-    pass: &Key,
-    asked: &Certify,
-) -> Result<Option<Wanted>, StoreFault>
-    ensures fault { Fails ⊥ result }
-    ensures found { IfOk result (λ found. IfSome found (IsSearchOfFound facts.now.puzzle asked.now.budget)) }
-{
-    // No rule that this action is asked speaks of the moment.
-    let Some(t) = Moment::new(0) else {
-        unreachable!()
-    };
-    match decide(facts, action, t) {
-        Decision::Allow => Ok(search_of_found(facts, pass, asked)?),
+    match certified.decision(asked.alloc, store, asked.t, &asked.request.action, facts)? {
+        Decision::Allow => Ok(search_of_found(facts, pass, certified)?),
         Decision::Deny(_) | Decision::Repeat => Ok(None),
     }
 }
 
 /// The search of the puzzle that was found, where one is wanted.
-fn search_of_found(facts: &Facts, pass: &Key, asked: &Certify) -> Result<Option<Wanted>, AllocError>
-    ensures { IfOk result (λ found. IfSome found (IsSearchOfFound facts.now.puzzle asked.now.budget)) }
+fn search_of_found(
+    facts: &Facts,
+    pass: &Key,
+    certified: &Certify,
+) -> Result<Option<Wanted>, AllocError>
+    ensures found { IfOk result (λ found. IfSome found
+        (IsSearchOfFound facts.now.puzzle pass.now certified.now.key.now certified.now.budget)) }
+    ensures fresh { IfOk result (λ found. IfSome found
+        (λ search. ¬ (Remembers certified.now.memo.now search.puzzle search.budget))) }
 {
     let Some(row) = &facts.puzzle else {
         return Ok(None);
     };
-    if !is_open(&row.state) || is_remembered(asked.memo, &row.puzzle, asked.budget) {
+    let budget = certified.budget.get();
+    if !is_open(&row.state) || is_remembered(certified.memo, &row.puzzle, budget) {
         return Ok(None);
     }
     Ok(Some(Wanted {
         key: pass.clone()?,
-        name: asked.key.clone()?,
+        name: certified.key.clone()?,
         puzzle: row.puzzle.clone()?,
-        budget: asked.budget.get(),
+        budget,
     }))
-}
-
-/// Whether it is remembered what a search of the puzzle within the budget found.
-fn is_remembered(memo: &Option<Memo>, puzzle: &Puzzle, budget: Budget) -> bool {
-    match memo {
-        Some(memo) => memo.is_of(puzzle, budget.get()),
-        None => false,
-    }
 }

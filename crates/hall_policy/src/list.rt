@@ -52,7 +52,7 @@ pub(crate) fn is_named(names: &[Name], later: &Name) -> bool
     names.iter().any(|name| name.is_same(later))
 }
 
-/// Adds the text to those seen, and tells whether it is new. An error is want of memory, and the set stays as it was.
+/// Adds the text to those seen, and tells whether it is new. An error means out of memory, and the set stays as it was.
 pub fn is_new<K: TextKind>(
     seen: &mut BTreeSet<Checked<K>>,
     text: &Checked<K>,
@@ -120,7 +120,7 @@ impl Model for Entries {
 }
 
 impl Entries {
-    /// The list, where it has 1 to 40 puzzles and none twice. An error is want of memory.
+    /// The list, where it has 1 to 40 puzzles and none twice. An error means out of memory.
     pub fn new(list: Vec<Entry>) -> Result<Option<Entries>, AllocError>
         ensures some { IfOk result (λ made. IfSome made (λ entries. (entries ≡ list.items) × AreEntries entries)) }
         ensures none { IfOk result (λ made. IfNone made (¬ (AreEntries list.items))) }
@@ -232,7 +232,7 @@ impl Model for People {
 }
 
 impl People {
-    /// The list, where it has at most 5,000 people and no name or key twice; an error is want of memory,
+    /// The list, where it has at most 5,000 people and no name or key twice; an error means out of memory,
     /// and never the answer to a longer list.
     pub fn new(alloc: Global, people: Vec<Person>) -> Result<Option<People>, AllocError>
         ensures some { IfOk result (λ made. IfSome made (λ list. (list ≡ people.items) × ArePeople list)) }

@@ -65,7 +65,7 @@ fn lines_of(alloc: Global, totals: &[(Name, i64)], rising: &[i64]) -> Result<Vec
 }
 
 /// The lines of the table of these totals, one for each entrant: by rank, and entrants of one rank by name, byte by
-/// byte. The error is want of memory.
+/// byte. The error means out of memory.
 pub fn standings(alloc: Global, totals: &[(Name, i64)]) -> Result<Vec<Line>, AllocError>
     ensures { IfOk result (λ lines. IsStandings totals.now lines.items) }
 {

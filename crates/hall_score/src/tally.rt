@@ -16,7 +16,8 @@ use std::alloc::{AllocError, Global};
 use std::cmp::Ordering;
 
 /// Takes the protests of a round and then its answers, by entrant, number, then n, and gives the totals. It holds the
-/// round, one sum for each entrant with a protest, what the last entrant's answers give, and the totals of those before.
+/// round, one sum for each entrant with a protest, what the last entrant's answers give, and the totals of those
+/// before.
 #[derive(Drop)]
 pub struct Tally {
     pub(crate) round: RoundRow,
@@ -109,7 +110,7 @@ impl Tally {
         }
     }
 
-    /// The totals of what was taken. The error is want of memory.
+    /// The totals of what was taken. The error means out of memory.
     pub fn totals(self) -> Result<Vec<(Name, i64)>, AllocError>
         ensures { IfOk result (λ totals. (round : RoundRow) (protests : List ProtestRow) (answers : List AnswerRow)
             (fresh between : Tally) → IsTallyOf round [] [] fresh → HasTaken TakesProtest fresh protests between

@@ -1,10 +1,10 @@
--- What a reader of bytes answers: a value, the first thing that is wrong with them, or want of memory.
+-- What a reader of bytes answers: a value, the first thing that is wrong with them, or out of memory.
 use Rattle.std.specs.Prelude.{◌≡◌, Result, Ok, Err}
 use Rattle.hall_sheet.specs.declared.fault.Refusal.{Refusal}
 use Rattle.hall_sheet.specs.declared.fault.SheetFault.{SheetFault}
 use Rattle.hall_sheet.specs.declared.fault.SheetFault.TheVariants as fault
 
--- a refusal is the first thing that is wrong; want of memory says nothing of the bytes
+-- a refusal is the first thing that is wrong; out of memory says nothing of the bytes
 abbrev pub Fails : {A : Type 0} → SheetFault → Result A Refusal → Type 0
 Fails fault.Memory read = Unit {0}
 Fails (fault.Refused r) read = read ≡ Err r

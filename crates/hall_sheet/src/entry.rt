@@ -121,7 +121,7 @@ fn read_roles(text: &str) -> Option<Roles>
     with_role(roles, rest)
 }
 
-/// The same roles, of which a word names one at least.
+/// The roles that words joined by `+` name, of which there is one at least.
 fn read_some_roles(text: &str) -> Option<SomeRoles>
     ensures { result ≡ roles_in text.now }
 {

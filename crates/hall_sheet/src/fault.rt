@@ -96,7 +96,7 @@ impl fmt::Display for Refusal {
 /// Why bytes were not read.
 #[derive(Clone, Copy, Debug, PartialEq, Eq)]
 pub enum SheetFault {
-    /// Want of memory.
+    /// Out of memory.
     Memory,
     /// The bytes are no list or sheet.
     Refused(Refusal),

@@ -18,7 +18,7 @@ pub(crate) enum Version {
     First,
     /// The start is a civil time in the zone that a field of its own names.
     Second,
-    /// The same, and the sheet names who tests the round.
+    /// The start is a civil time in a zone, as in the second, and the sheet names who tests the round.
     Third,
 }
 
@@ -86,7 +86,7 @@ pub(crate) fn read_version(document: &Table) -> Result<Version, SheetFault>
     }
 }
 
-/// The same, and the first version where the sheet says none.
+/// The version that the sheet is of, or the first one where it says none.
 pub(crate) fn version_or_first(document: &Table) -> Result<Version, AllocError>
     ensures { IfOk result (λ version. version ≡ version_or_first (table_view document.now)) }
 {

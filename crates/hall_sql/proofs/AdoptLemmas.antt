@@ -11,7 +11,7 @@ use Rattle.sqlite.specs.Held.{Held, state}
 use Rattle.sqlite.specs.State.{State, HasCleanDisk, KeepsCounts, IsRolledBack, Shows, Survives}
 use Rattle.sqlite.specs.Steps.{FailsToCommit}
 use Rattle.hall_store.specs.Maps.{empty_world}
-use Rattle.hall_sql.specs.Tables.{no_schema, hall_schema}
+use Rattle.hall_sql.specs.Tables.{IsHallSchema, no_schema, hall_schema}
 use Rattle.hall_sql.specs.Rows.{world_of}
 use Rattle.hall_sql.specs.Stands.{IsBareHall}
 use Rattle.hall_sql.specs.Standing.{AddsNoOutcome, Lasts, AreKeyed, AreAllKeyed, Rests, IsBare, HasAdopted, HasDeclined, MakesAtMost, without_limit}
@@ -20,11 +20,11 @@ use Rattle.hall_sql.specs.Made.{all_tables, Awaits, HasGrown}
 use Rattle.hall_sql.specs.Scan.{AreScanned}
 use Rattle.hall_sql.proofs.LastLemmas.{last_none, last_then, last_begun, last_lifted, quiet}
 use Rattle.hall_sql.proofs.TransactionLemmas.{commit_refused}
+use Rattle.hall_sql.proofs.Wordings.{like_itself}
 
 -- tables with no rows hold nobody and nothing
-pub bare_world : (held : Database) → IsBare hall_schema held → world_of held.trees ≡ empty_world
-bare_world held bare =
-    let all = bare.empty in rw (all.0, all.1.0, all.1.1.0, all.1.1.1.0, all.1.1.1.1.0, all.1.1.1.1.1.0, all.1.1.1.1.1.1.0)
+pub bare_world : (trees : Trees) → AllByRecursion (λ table. trees table.tree ≡ []) hall_schema.tables → world_of trees ≡ empty_world
+bare_world trees all = rw (all.0, all.1.0, all.1.1.0, all.1.1.1.0, all.1.1.1.1.0, all.1.1.1.1.1.0, all.1.1.1.1.1.1.0)
 
 bare_keyed : (rows : _) → rows ≡ [] → AreKeyed rows
 bare_keyed rows none = subst AreKeyed (sym none) (record { ints = tt; distinct = tt })
@@ -83,7 +83,7 @@ rests_declined old new alone settled lasts rests = record {
     same (inr back) opens = ((back.undone opens).0 ∙ sym (settled (back.was_open opens)), (back.undone opens).1)
 
 -- the hall's tables stood
-pub scanned_adopted : (old new : State) → old.in_transaction ≡ false → (IsTrue old.is_open → old.now ≡ old.committed) → old.now.schema ≡ hall_schema
+pub scanned_adopted : (old new : State) → old.in_transaction ≡ false → (IsTrue old.is_open → old.now ≡ old.committed) → IsHallSchema old.now.schema
     → Lasts old new → AddsNoOutcome old new → (HasCleanDisk new → AreScanned all_tables old new) → HasAdopted old (without_limit new)
 scanned_adopted old new alone settled has lasts quiets scanned =
     let left = λ (clean : HasCleanDisk new). (scanned clean).left in
@@ -93,7 +93,7 @@ scanned_adopted old new alone settled has lasts quiets scanned =
       hall = record {
         unlimited = refl;
         autocommit = λ clean. (left clean).mode ∙ alone;
-        settled = λ clean opens. ((left clean).now_is ∙ settled (was clean) ∙ sym (left clean).committed_is, ap (λ (d : Database). d.schema) (left clean).now_is ∙ has);
+        settled = λ clean opens. ((left clean).now_is ∙ settled (was clean) ∙ sym (left clean).committed_is, subst (λ (d : Database). IsHallSchema d.schema) (sym (left clean).now_is) has);
         keyed = λ clean opens. subst (λ (d : Database). AreAllKeyed d.trees) (sym (left clean).now_is) (scanned clean).keyed;
       };
       follows = record { lasts = last_lifted old new lasts; opened = λ clean opens. was clean };
@@ -172,7 +172,7 @@ module _ {S : Type 0} (g : Ghosts S) (held : Held S) (settled : IsTrue (state g 
         hall = record {
           unlimited = refl;
           autocommit = λ clean. ended;
-          settled = λ clean opens. ((ok clean).1.now_is ∙ sym (ok clean).1.committed_is, (bare clean).is);
+          settled = λ clean opens. ((ok clean).1.now_is ∙ sym (ok clean).1.committed_is, subst IsHallSchema (sym (bare clean).is) (like_itself hall_schema));
           keyed = λ clean opens. all_bare_keyed end.now.trees (bare clean).empty;
         };
         follows = record { lasts = last_lifted (state g held) end (last_then (state g held) mid end (last_begun g held mid carries.lasts) lasts); opened = λ clean opens. (carries.kept (now clean) refl).was_open (ok clean).1.was_open };

@@ -30,7 +30,7 @@ use Rattle.hall_policy.specs.declared.record.ProtestRow.{ProtestRow}
 use Rattle.hall_store.specs.Maps.{empty_world}
 use Rattle.hall_sql.specs.AllRead.{AreAllRead, IsRead, StaysRead, is_record}
 use Rattle.hall_sql.specs.Rows.{answer_in, answer_of, columns_from, entry, kept, person_in, person_of, place_in, place_of, protest_in, protest_of, puzzle_row_in, puzzle_row_of, round_in, round_of, tester_in, tester_of, world_of}
-use Rattle.hall_sql.specs.Standing.{HasAdded, IsBare, IsOver, IsSelection, RestedAny}
+use Rattle.hall_sql.specs.Standing.{HasAdded, IsBareLike, IsOver, IsSelection, RestedAny}
 use Rattle.hall_sql.specs.Statements.{plain_query}
 use Rattle.hall_sql.specs.declared.people.TheConstants.{ALL_PEOPLE}
 use Rattle.hall_sql.specs.declared.puzzles.TheConstants.{ALL_PUZZLES}
@@ -38,7 +38,7 @@ use Rattle.hall_sql.specs.declared.rounds.TheConstants.{ALL_PLACES, ALL_ROUNDS}
 use Rattle.hall_sql.specs.declared.answers.TheConstants.{ALL_ANSWERS}
 use Rattle.hall_sql.specs.declared.protests.TheConstants.{ALL_PROTESTS}
 use Rattle.hall_sql.specs.declared.testers.TheConstants.{ALL_TESTERS}
-use Rattle.hall_sql.specs.Tables.{hall_schema}
+use Rattle.hall_sql.specs.Tables.{IsHallSchema, IsLike, hall_schema}
 use Rattle.hall_sql.specs.Versions.{IsAnyHall}
 use Rattle.hall_sql.specs.Whole.{AreRecords}
 use Rattle.hall_sql.proofs.AnswerTexts.{all_answers_are}
@@ -76,13 +76,16 @@ module _ {Fits : Schema → Type 0} {text : List ℕ} {tree : ℕ} {project : Li
   Reads r = IsTrue (is_some (read r))
 
   module _ (rows : List Row) (shown : Shown text [] old new rows) where
-    all : AsksAll text tree project order names hall.schema
-    all = asks hall.schema hall.fits
+    like : IsLike hall.schema old.now.schema
+    like = (hall.tabled.settled clean (shown_was_open text [] old new rows shown)).1
+
+    all : AsksAll text tree project order names old.now.schema
+    all = asks old.now.schema (hall.fits old.now.schema like)
 
     selection : IsSelection (plain_query tree [] project order) (old.now.trees tree) [] rows
     selection =
         answers_selection text [] old new tree [] project order names all.is all.unlisted all.plain (apart old.now.trees)
-        (hall.tabled.settled clean (shown_was_open text [] old new rows shown)).1 rows shown
+        refl rows shown
 
     same : IsPermutation (old.now.trees tree) selection.found
     same = subst (λ l. IsPermutation l selection.found) (filter_all (λ _. true) (old.now.trees tree) (all_of (λ _. true ≡ true) (λ _. refl) _)) selection.same
@@ -126,9 +129,9 @@ module _ (old new : State) (clean : HasCleanDisk old) where
   pub protests_read : IsAnyHall old → AreRecords protest_in ALL_PROTESTS.now [] old new → IsRead old.now.trees 12
   protests_read hall = read_all all_protests_are protest_in 7 (λ db. refl) (λ r. refl) (λ r. refl) old new hall clean
 
-  pub testers_read : IsOver (λ schema. schema ≡ hall_schema) old → AreRecords tester_in ALL_TESTERS.now [] old new → IsRead old.now.trees 14
+  pub testers_read : IsOver IsHallSchema old → AreRecords tester_in ALL_TESTERS.now [] old new → IsRead old.now.trees 14
   testers_read hall =
-      read_all (λ schema is. subst (AsksAll ALL_TESTERS.now 14 _ _ _) (sym is) all_testers_are) tester_in 2 (λ db. refl) (λ r. refl) (λ r. refl) old new hall clean
+      read_all all_testers_are tester_in 2 (λ db. refl) (λ r. refl) (λ r. refl) old new hall clean
 
 -- a table that rests was read before, where it is
 pub read_before : (tree : ℕ) (old new : State) → IsAnyHall old → RestedAny old new → HasCleanDisk new → IsTrue new.is_open
@@ -192,7 +195,7 @@ module _ {K X : Type 0} {R : K → K → Ordering} (total : IsTotalOrder R) wher
           (subst (λ o. from_entries {R = R} (option_to_list o ++ flat_map (λ r. option_to_list (read r)) rows) ≡ empty) is none)
 
 -- tables that hold nothing, and no row that is no record, have no row
-pub all_bare : (held : Database) → held.schema ≡ hall_schema → world_of held.trees ≡ empty_world → AreAllRead hall_schema held.trees → IsBare hall_schema held
+pub all_bare : (held : Database) → IsHallSchema held.schema → world_of held.trees ≡ empty_world → AreAllRead hall_schema held.trees → IsBareLike hall_schema held
 all_bare held has none each = record {
   is = has;
   empty =
@@ -207,7 +210,7 @@ all_bare held has none each = record {
 }
 
 -- and tables that have none hold no row that is no record
-pub bare_read : (held : Database) → IsBare hall_schema held → AreAllRead hall_schema held.trees
+pub bare_read : (held : Database) → IsBareLike hall_schema held → AreAllRead hall_schema held.trees
 bare_read held bare =
     let all = bare.empty in
     rw (all.0, all.1.0, all.1.1.0, all.1.1.1.0, all.1.1.1.1.0, all.1.1.1.1.1.0, all.1.1.1.1.1.1.0) (tt, (tt, (tt, (tt, (tt, (tt, (tt, tt)))))))

@@ -20,7 +20,8 @@ use Rattle.hall_policy.proofs.Orders.{answer_total, same_answer_keys}
 use Rattle.hall_store.proofs.Tests.{and_both}
 use Rattle.hall_policy.proofs.Texts.{text_decides, and_first, and_second}
 use Rattle.hall_store.specs.Store.{IsListing, IsNumberTaken, HasSubmitted, is_of}
-use Rattle.hall_sql.specs.Tables.{hall_schema}
+use Rattle.hall_sql.specs.Tables.{IsHallSchema}
+use Rattle.hall_sql.proofs.Wordings.{Wording, hall_in, worded}
 use Rattle.hall_sql.specs.Rows.{answer_in, answer_of, world_of}
 use Rattle.hall_sql.specs.Standing.{AreKeyed}
 use Rattle.hall_sql.specs.declared.answers.TheConstants.{ANSWERS_GIVEN, NUMBER_TAKEN}
@@ -129,12 +130,15 @@ module _ (db : Trees) where
       any_there (is_of entrant round) answers rows listing.whole has.2 there.0 there.1)
 
 -- what a query gives of the world's answers
-module _ (old new : State) (has : old.now.schema ≡ hall_schema) (keyed : AreKeyed (old.now.trees 9)) (sound : IsDatabase old.now)
+module _ (old new : State) (has : IsHallSchema old.now.schema) (keyed : AreKeyed (old.now.trees 9)) (sound : IsDatabase old.now)
     (rows : List Row) (out : List AnswerRow) (is : map answer_in rows ≡ map Some out) where
+  said : (u : Wording) × (old.now.schema ≡ hall_in u)
+  said = worded old.now.schema has
+
   whole : IsPermutation (flat_map (λ r. option_to_list (answer_of r)) (old.now.trees 9)) (values (world_of old.now.trees).answers)
   whole =
       let db = old.now.trees in
-      answers_listed (inr refl) db keyed (subst (λ s. IsDatabase (record { schema = s; trees = db })) has sound)
+      answers_listed {schema = old.now.schema} (inr has) db keyed sound
 
   to_agrees : (entrant round : List ℕ) (number : ℕ) (r : Row) (x : AnswerRow) → answer_of r ≡ Some x
       → list_all (holds ((Text entrant ∷ Text round ∷ Int (pos number) ∷ []) ∷ r ∷ [])) place_terms ≡ is_to entrant round number x
@@ -150,8 +154,8 @@ module _ (old new : State) (has : old.now.schema ≡ hall_schema) (keyed : AreKe
   answers_counted entrant round number shown =
       counted (is_to entrant round number) (values (world_of old.now.trees).answers) out
       (records_asked answer_in 8 ANSWERS_GIVEN.now (Text entrant ∷ Text round ∷ Int (pos number) ∷ []) 9 place_terms
-      answer_columns [] _ answers_given_is.0 answers_given_is.1 answers_given_is.2 (λ db. refl) (λ r. refl)
-      (is_to entrant round number) (to_agrees entrant round number) old new rows out has shown is _ whole)
+      answer_columns [] _ (answers_given_is said.0).0 (answers_given_is said.0).1 (answers_given_is said.0).2 (λ db. refl) (λ r. refl)
+      (is_to entrant round number) (to_agrees entrant round number) old new rows out said.1 shown is _ whole)
 
   nth_agrees : (entrant round : List ℕ) (number n : ℕ) (r : Row) (x : AnswerRow) → answer_of r ≡ Some x
       → list_all (holds ((Text entrant ∷ Text round ∷ Int (pos number) ∷ Int (pos n) ∷ []) ∷ r ∷ [])) nth_terms
@@ -170,8 +174,8 @@ module _ (old new : State) (has : old.now.schema ≡ hall_schema) (keyed : AreKe
       let db = old.now.trees in
       let test = is_nth entrant round number n in
       let same = records_asked answer_in 8 NUMBER_TAKEN.now (Text entrant ∷ Text round ∷ Int (pos number) ∷ Int (pos n) ∷ []) 9
-      nth_terms answer_columns [] _ number_taken_is.0 number_taken_is.1 number_taken_is.2 (λ db. refl) (λ r. refl) test
-      (nth_agrees entrant round number n) old new rows out has shown is (values (world_of db).answers) whole in
+      nth_terms answer_columns [] _ (number_taken_is said.0).0 (number_taken_is said.0).1 (number_taken_is said.0).2 (λ db. refl) (λ r. refl) test
+      (nth_agrees entrant round number n) old new rows out said.1 shown is (values (world_of db).answers) whole in
       any_is (length out) empty _ none
       (λ some. let one = one_passes test (answers db) out same some in passes_taken db entrant round number n one.0 one.1 one.2)
       (λ taken. let there = taken_passes db entrant round number n taken in

@@ -26,7 +26,8 @@ use Rattle.sqlite.specs.Table.{Table}
 use Rattle.sqlite.specs.Term.{Term}
 use Rattle.sqlite.specs.Tree.{Trees}
 use Rattle.hall_store.specs.Store.{IsListing, listing_cmp, is_in, is_of}
-use Rattle.hall_sql.specs.Tables.{table_at}
+use Rattle.hall_sql.specs.Tables.{IsHallSchema, table_at}
+use Rattle.hall_sql.proofs.Wordings.{Wording, hall_in, worded}
 use Rattle.hall_sql.specs.Rows.{columns_from}
 use Rattle.hall_sql.specs.Standing.{AreKeyed, AreKeyedIn, IsSelection}
 use Rattle.hall_sql.specs.Statements.{equals, plain_query}
@@ -39,7 +40,6 @@ use Rattle.hall_sql.proofs.UniqueLemmas.{equal_texts, equal_numbers, records_lis
 use Rattle.hall_policy.proofs.Orders.{answer_total, same_answer_keys}
 use Rattle.hall_policy.specs.declared.record.AnswerKey.{AnswerKey}
 use Rattle.hall_policy.specs.declared.record.AnswerRow.{AnswerRow}
-use Rattle.hall_sql.specs.Tables.{hall_schema}
 use Rattle.hall_sql.specs.Values.{name_in, token_in, within, kind_in}
 use Rattle.hall_sql.specs.Rows.{answer_in, answer_of, world_of}
 use Rattle.hall_sql.proofs.AnswerTexts.{all_answers_are, key_order, key_terms, answer_columns, answer_is}
@@ -85,12 +85,13 @@ agrees key r row is =
     (more_equal _ _ _ _ (column_is (column r 3) row.key.number key.number it.number)
     (last_equal _ _ (column_equals (column r 4) row.key.token key.token it.token))))
 
-pub answer_found : (key : AnswerKey) (old new : State) (rows : List Row) (out : List AnswerRow) → old.now.schema ≡ hall_schema
+pub answer_found : (key : AnswerKey) (old new : State) (rows : List Row) (out : List AnswerRow) → IsHallSchema old.now.schema
     → Shown ANSWER.now (key_params key) old new rows → map answer_in rows ≡ map Some out → length out ≤ 1
     → slice_get out 0 ≡ get (world_of old.now.trees).answers key
-answer_found key =
+answer_found key old new rows out has =
+    let (u, words) = worded old.now.schema has in
     asked_found answer_total same_answer_keys (λ (row : AnswerRow). row.key) answer_in 8 key ANSWER.now (key_params key) 9 key_terms answer_columns _
-    answer_is.0 answer_is.1 answer_is.2 (λ db. refl) (λ r. refl) (agrees key)
+    (answer_is u).0 (answer_is u).1 (answer_is u).2 (λ db. refl) (λ r. refl) (agrees key) old new rows out words
 
 -- ---- listings
 
@@ -190,15 +191,18 @@ all_answers_listed schema version old new has keyed sound =
     by_key old new has whole
 
 -- what a query in the order of listings gives of the world's answers
-module _ (old new : State) (has : old.now.schema ≡ hall_schema) (keyed : AreKeyed (old.now.trees 9)) (sound : IsDatabase old.now)
+module _ (old new : State) (has : IsHallSchema old.now.schema) (keyed : AreKeyed (old.now.trees 9)) (sound : IsDatabase old.now)
     (rows : List Row) (out : List AnswerRow) (is : map answer_in rows ≡ map Some out) where
+  said : (u : Wording) × (old.now.schema ≡ hall_in u)
+  said = worded old.now.schema has
+
   listed_by : (params : Row) (terms : List Term) (test : AnswerRow → Bool)
       → ((r : Row) (x : AnswerRow) → answer_of r ≡ Some x → list_all (holds (params ∷ r ∷ [])) terms ≡ test x)
       → IsSelection (plain_query 9 terms answer_columns listing_order) (old.now.trees 9) params rows → IsListing (world_of old.now.trees) test out
   listed_by params terms test agrees sel =
       let shown : map answer_in (map (columns_from 1 8) sel.found) ≡ map Some out = subst (λ l. map answer_in l ≡ map Some out) sel.shown is in
       let db = old.now.trees in
-      let whole = answers_listed (inr refl) db keyed (subst (λ s. IsDatabase (record { schema = s; trees = db })) has sound) in
+      let whole = answers_listed {schema = old.now.schema} (inr has) db keyed sound in
       record {
         whole = selection_of_values answer_in (columns_from 1 8) (λ r. list_all (holds (params ∷ r ∷ [])) terms) test agrees (db 9) sel.found out (values (world_of db).answers) sel.same shown whole;
         in_order = sorted_records answer_of (by_order params terms) listing_cmp (same_order params terms) sel.found out (read_through sel.found ∙ shown) sel.sorted;
@@ -223,10 +227,10 @@ module _ (old new : State) (has : old.now.schema ≡ hall_schema) (keyed : AreKe
       → IsListing (world_of old.now.trees) (is_in round) out
   answers_in_listed round shown =
       listed_by (Text round ∷ []) (equals 2 0 ∷ []) (is_in round) (in_agrees round)
-      (answers_selection ANSWERS_IN.now (Text round ∷ []) old new 9 (equals 2 0 ∷ []) answer_columns listing_order _ answers_in_is.0 answers_in_is.1 answers_in_is.2 refl has rows shown)
+      (answers_selection ANSWERS_IN.now (Text round ∷ []) old new 9 (equals 2 0 ∷ []) answer_columns listing_order _ (answers_in_is said.0).0 (answers_in_is said.0).1 (answers_in_is said.0).2 refl said.1 rows shown)
 
   pub answers_of_listed : (entrant round : List ℕ) → Shown ANSWERS_OF.now (Text entrant ∷ Text round ∷ []) old new rows
       → IsListing (world_of old.now.trees) (is_of entrant round) out
   answers_of_listed entrant round shown =
       listed_by (Text entrant ∷ Text round ∷ []) (equals 2 1 ∷ equals 1 0 ∷ []) (is_of entrant round) (of_agrees entrant round)
-      (answers_selection ANSWERS_OF.now (Text entrant ∷ Text round ∷ []) old new 9 (equals 2 1 ∷ equals 1 0 ∷ []) answer_columns listing_order _ answers_of_is.0 answers_of_is.1 answers_of_is.2 refl has rows shown)
+      (answers_selection ANSWERS_OF.now (Text entrant ∷ Text round ∷ []) old new 9 (equals 2 1 ∷ equals 1 0 ∷ []) answer_columns listing_order _ (answers_of_is said.0).0 (answers_of_is said.0).1 (answers_of_is said.0).2 refl said.1 rows shown)

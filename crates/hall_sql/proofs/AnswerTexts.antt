@@ -9,15 +9,15 @@ use Rattle.sqlite.specs.Listing.{understood, reads_listing}
 use Rattle.sqlite.specs.Command.TheVariants.{Select, Insert}
 use Rattle.sqlite.proofs.Callers.{IsPlain, command_of}
 use Rattle.hall_sql.specs.declared.tables.HallTable.TheVariants.{Answers}
-use Rattle.hall_sql.specs.Tables.{hall_schema}
 use Rattle.hall_sql.specs.Statements.{equals, rising, names_of, plain_query}
 use Rattle.hall_sql.specs.declared.answers.TheConstants.{ANSWER, ANSWERS_IN, ANSWERS_OF}
 use Rattle.hall_sql.specs.declared.answers.TheConstants.{ADD_ANSWER, ANSWERS_GIVEN, NUMBER_TAKEN, ALL_ANSWERS}
-use Rattle.hall_sql.specs.Asked.{IsAsked, is_whole}
+use Rattle.hall_sql.specs.Asked.{IsAsked, IsAskedIn, is_whole}
 use Rattle.hall_sql.proofs.AskedLemmas.{asked}
 use Rattle.hall_sql.specs.Versions.{IsVersion}
 use Rattle.sqlite.specs.Schema.{Schema}
 use Rattle.hall_sql.proofs.Versions.{AsksAll, by_version}
+use Rattle.hall_sql.proofs.Wordings.{Wording, by_hall, hall_in}
 
 abbrev pub answer_columns : List Term
 answer_columns =
@@ -30,81 +30,81 @@ key_terms = equals 1 0 ∷ equals 2 1 ∷ equals 3 2 ∷ equals 4 3 ∷ []
 abbrev pub answer_names : List (List ℕ)
 answer_names = names_of Answers
 
-pub answer_is : (command_of (understood hall_schema ANSWER.now)
+pub answer_is : (u : Wording) → (command_of (understood (hall_in u) ANSWER.now)
     ≡ Select (record { lets = []; body = plain_query 9 key_terms answer_columns [] }) answer_names)
-    × (reads_listing hall_schema ANSWER.now ≡ false) × IsPlain (understood hall_schema ANSWER.now)
-    × (is_whole ANSWER.now 4 (understood hall_schema ANSWER.now) ≡ true)
+    × (reads_listing (hall_in u) ANSWER.now ≡ false) × IsPlain (understood (hall_in u) ANSWER.now)
+    × (is_whole ANSWER.now 4 (understood (hall_in u) ANSWER.now) ≡ true)
 unfolding understood everything
-answer_is = (refl, refl, (refl, refl), refl)
+answer_is u = (refl, refl, (refl, refl), refl)
 
 pub answer_asked : (entrant round : List ℕ) (number : ℕ) (token : List ℕ) → IsAsked ANSWER.now (Text entrant ∷ Text round ∷ Int (pos number) ∷ Text token ∷ [])
 answer_asked entrant round number token =
-    asked ANSWER.now (Text entrant ∷ Text round ∷ Int (pos number) ∷ Text token ∷ []) 9 key_terms answer_columns [] _ answer_is.0 answer_is.1 answer_is.2 answer_is.3 refl
+    by_hall (IsAskedIn ANSWER.now (Text entrant ∷ Text round ∷ Int (pos number) ∷ Text token ∷ [])) (λ u. asked ANSWER.now (Text entrant ∷ Text round ∷ Int (pos number) ∷ Text token ∷ []) 9 key_terms answer_columns [] _ (answer_is u).0 (answer_is u).1 (answer_is u).2 (answer_is u).3 refl)
 
 -- entrant, number, n, token
 abbrev pub listing_order : List (Term × Key)
 listing_order = (col 1 1, rising) ∷ (col 1 3, rising) ∷ (col 1 5, rising) ∷ (col 1 4, rising) ∷ []
 
-pub answers_in_is : (command_of (understood hall_schema ANSWERS_IN.now)
+pub answers_in_is : (u : Wording) → (command_of (understood (hall_in u) ANSWERS_IN.now)
     ≡ Select (record { lets = []; body = plain_query 9 (equals 2 0 ∷ []) answer_columns listing_order }) answer_names)
-    × (reads_listing hall_schema ANSWERS_IN.now ≡ false) × IsPlain (understood hall_schema ANSWERS_IN.now)
-    × (is_whole ANSWERS_IN.now 1 (understood hall_schema ANSWERS_IN.now) ≡ true)
+    × (reads_listing (hall_in u) ANSWERS_IN.now ≡ false) × IsPlain (understood (hall_in u) ANSWERS_IN.now)
+    × (is_whole ANSWERS_IN.now 1 (understood (hall_in u) ANSWERS_IN.now) ≡ true)
 unfolding understood everything
-answers_in_is = (refl, refl, (refl, refl), refl)
+answers_in_is u = (refl, refl, (refl, refl), refl)
 
 pub answers_in_asked : (round : List ℕ) → IsAsked ANSWERS_IN.now (Text round ∷ [])
 answers_in_asked round =
-    asked ANSWERS_IN.now (Text round ∷ []) 9 (equals 2 0 ∷ []) answer_columns listing_order _ answers_in_is.0 answers_in_is.1 answers_in_is.2 answers_in_is.3 refl
+    by_hall (IsAskedIn ANSWERS_IN.now (Text round ∷ [])) (λ u. asked ANSWERS_IN.now (Text round ∷ []) 9 (equals 2 0 ∷ []) answer_columns listing_order _ (answers_in_is u).0 (answers_in_is u).1 (answers_in_is u).2 (answers_in_is u).3 refl)
 
-pub answers_of_is : (command_of (understood hall_schema ANSWERS_OF.now)
+pub answers_of_is : (u : Wording) → (command_of (understood (hall_in u) ANSWERS_OF.now)
     ≡ Select (record { lets = []; body = plain_query 9 (equals 2 1 ∷ equals 1 0 ∷ []) answer_columns listing_order }) answer_names)
-    × (reads_listing hall_schema ANSWERS_OF.now ≡ false) × IsPlain (understood hall_schema ANSWERS_OF.now)
-    × (is_whole ANSWERS_OF.now 2 (understood hall_schema ANSWERS_OF.now) ≡ true)
+    × (reads_listing (hall_in u) ANSWERS_OF.now ≡ false) × IsPlain (understood (hall_in u) ANSWERS_OF.now)
+    × (is_whole ANSWERS_OF.now 2 (understood (hall_in u) ANSWERS_OF.now) ≡ true)
 unfolding understood everything
-answers_of_is = (refl, refl, (refl, refl), refl)
+answers_of_is u = (refl, refl, (refl, refl), refl)
 
 pub answers_of_asked : (entrant round : List ℕ) → IsAsked ANSWERS_OF.now (Text entrant ∷ Text round ∷ [])
 answers_of_asked entrant round =
-    asked ANSWERS_OF.now (Text entrant ∷ Text round ∷ []) 9 (equals 2 1 ∷ equals 1 0 ∷ []) answer_columns listing_order _ answers_of_is.0 answers_of_is.1 answers_of_is.2 answers_of_is.3 refl
+    by_hall (IsAskedIn ANSWERS_OF.now (Text entrant ∷ Text round ∷ [])) (λ u. asked ANSWERS_OF.now (Text entrant ∷ Text round ∷ []) 9 (equals 2 1 ∷ equals 1 0 ∷ []) answer_columns listing_order _ (answers_of_is u).0 (answers_of_is u).1 (answers_of_is u).2 (answers_of_is u).3 refl)
 
 -- entrant = ?1 AND round = ?2 AND number = ?3
 abbrev pub place_terms : List Term
 place_terms = equals 1 0 ∷ equals 2 1 ∷ equals 3 2 ∷ []
 
-pub answers_given_is : (command_of (understood hall_schema ANSWERS_GIVEN.now)
+pub answers_given_is : (u : Wording) → (command_of (understood (hall_in u) ANSWERS_GIVEN.now)
     ≡ Select (record { lets = []; body = plain_query 9 place_terms answer_columns [] }) answer_names)
-    × (reads_listing hall_schema ANSWERS_GIVEN.now ≡ false) × IsPlain (understood hall_schema ANSWERS_GIVEN.now)
-    × (is_whole ANSWERS_GIVEN.now 3 (understood hall_schema ANSWERS_GIVEN.now) ≡ true)
+    × (reads_listing (hall_in u) ANSWERS_GIVEN.now ≡ false) × IsPlain (understood (hall_in u) ANSWERS_GIVEN.now)
+    × (is_whole ANSWERS_GIVEN.now 3 (understood (hall_in u) ANSWERS_GIVEN.now) ≡ true)
 unfolding understood everything
-answers_given_is = (refl, refl, (refl, refl), refl)
+answers_given_is u = (refl, refl, (refl, refl), refl)
 
 pub answers_given_asked : (entrant round : List ℕ) (number : ℕ) → IsAsked ANSWERS_GIVEN.now (Text entrant ∷ Text round ∷ Int (pos number) ∷ [])
 answers_given_asked entrant round number =
-    asked ANSWERS_GIVEN.now (Text entrant ∷ Text round ∷ Int (pos number) ∷ []) 9 place_terms answer_columns [] _ answers_given_is.0 answers_given_is.1 answers_given_is.2 answers_given_is.3 refl
+    by_hall (IsAskedIn ANSWERS_GIVEN.now (Text entrant ∷ Text round ∷ Int (pos number) ∷ [])) (λ u. asked ANSWERS_GIVEN.now (Text entrant ∷ Text round ∷ Int (pos number) ∷ []) 9 place_terms answer_columns [] _ (answers_given_is u).0 (answers_given_is u).1 (answers_given_is u).2 (answers_given_is u).3 refl)
 
 -- entrant = ?1 AND round = ?2 AND number = ?3 AND n = ?4
 abbrev pub nth_terms : List Term
 nth_terms = equals 1 0 ∷ equals 2 1 ∷ equals 3 2 ∷ equals 5 3 ∷ []
 
-pub number_taken_is : (command_of (understood hall_schema NUMBER_TAKEN.now)
+pub number_taken_is : (u : Wording) → (command_of (understood (hall_in u) NUMBER_TAKEN.now)
     ≡ Select (record { lets = []; body = plain_query 9 nth_terms answer_columns [] }) answer_names)
-    × (reads_listing hall_schema NUMBER_TAKEN.now ≡ false) × IsPlain (understood hall_schema NUMBER_TAKEN.now)
-    × (is_whole NUMBER_TAKEN.now 4 (understood hall_schema NUMBER_TAKEN.now) ≡ true)
+    × (reads_listing (hall_in u) NUMBER_TAKEN.now ≡ false) × IsPlain (understood (hall_in u) NUMBER_TAKEN.now)
+    × (is_whole NUMBER_TAKEN.now 4 (understood (hall_in u) NUMBER_TAKEN.now) ≡ true)
 unfolding understood everything
-number_taken_is = (refl, refl, (refl, refl), refl)
+number_taken_is u = (refl, refl, (refl, refl), refl)
 
 pub number_taken_asked : (entrant round : List ℕ) (number n : ℕ) → IsAsked NUMBER_TAKEN.now (Text entrant ∷ Text round ∷ Int (pos number) ∷ Int (pos n) ∷ [])
 number_taken_asked entrant round number n =
-    asked NUMBER_TAKEN.now (Text entrant ∷ Text round ∷ Int (pos number) ∷ Int (pos n) ∷ []) 9 nth_terms answer_columns [] _ number_taken_is.0 number_taken_is.1 number_taken_is.2 number_taken_is.3 refl
+    by_hall (IsAskedIn NUMBER_TAKEN.now (Text entrant ∷ Text round ∷ Int (pos number) ∷ Int (pos n) ∷ [])) (λ u. asked NUMBER_TAKEN.now (Text entrant ∷ Text round ∷ Int (pos number) ∷ Int (pos n) ∷ []) 9 nth_terms answer_columns [] _ (number_taken_is u).0 (number_taken_is u).1 (number_taken_is u).2 (number_taken_is u).3 refl)
 
 -- the rowid that is chosen, and each parameter
 abbrev pub added_terms : List Term
 added_terms = lit Null ∷ col 0 0 ∷ col 0 1 ∷ col 0 2 ∷ col 0 3 ∷ col 0 4 ∷ col 0 5 ∷ col 0 6 ∷ col 0 7 ∷ []
 
-pub add_answer_is : (command_of (understood hall_schema ADD_ANSWER.now) ≡ Insert 4 (Values added_terms 9))
-    × IsPlain (understood hall_schema ADD_ANSWER.now)
+pub add_answer_is : (u : Wording) → (command_of (understood (hall_in u) ADD_ANSWER.now) ≡ Insert 4 (Values added_terms 9))
+    × IsPlain (understood (hall_in u) ADD_ANSWER.now)
 unfolding understood everything
-add_answer_is = (refl, (refl, refl))
+add_answer_is u = (refl, (refl, refl))
 
 -- the order of keys: entrant, round, number, token
 abbrev pub key_order : List (Term × Key)
@@ -114,5 +114,5 @@ pub all_answers_are : (schema : Schema) → IsVersion schema → AsksAll ALL_ANS
 unfolding understood everything
 all_answers_are =
     by_version (AsksAll ALL_ANSWERS.now 9 answer_columns key_order answer_names)
-    (record { is = refl; unlisted = refl; plain = (refl, refl); whole = refl; typed = refl })
-    (record { is = refl; unlisted = refl; plain = (refl, refl); whole = refl; typed = refl })
+    (λ u. record { is = refl; unlisted = refl; plain = (refl, refl); whole = refl; typed = refl })
+    (λ u. record { is = refl; unlisted = refl; plain = (refl, refl); whole = refl; typed = refl })

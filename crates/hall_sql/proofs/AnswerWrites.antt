@@ -6,8 +6,6 @@ use Rattle.std.specs.List.{AllByRecursion}
 use Rattle.std.specs.FinMap.{FinMap, from_entries, get, insert}
 use Rattle.sqlite.specs.declared.types.Value.{Value}
 use Rattle.sqlite.specs.declared.types.Value.TheVariants.{Null, Int}
-use Rattle.sqlite_value.specs.Keys.{joined}
-use Rattle.sqlite_schema.specs.Names.{same_name}
 use Rattle.sqlite_schema.specs.declared.schema.Keys.TheVariants.{Enforced}
 use Rattle.sqlite_rules.specs.Action.{works}
 use Rattle.sqlite_rules.specs.Cast.{cast_row}
@@ -28,6 +26,8 @@ use Rattle.hall_policy.proofs.Orders.{answer_total, same_answer_keys}
 use Rattle.hall_policy.proofs.Reading.{kind_holds}
 use Rattle.hall_store.specs.declared.change.Change.TheVariants.{AddAnswer}
 use Rattle.hall_sql.specs.Tables.{hall_schema}
+use Rattle.hall_sql.specs.declared.tables.HallTable.TheVariants.{Answers}
+use Rattle.hall_sql.proofs.Wordings.{Wording, added_in, adds_quiet, hall_in, table_in, worded}
 use Rattle.hall_sql.specs.declared.answers.TheConstants.{ADD_ANSWER}
 use Rattle.hall_sql.specs.Columns.{answer_params}
 use Rattle.hall_sql.specs.Rows.{kept, person_of, puzzle_row_of, round_of, place_of, answer_of, protest_of, tester_of, world_of}
@@ -65,9 +65,8 @@ answer_casts : (row : AnswerRow) → cast_row answers_there (Null ∷ answer_par
 answer_casts row = rw (cast_null, cast_number row.key.number, cast_number row.n, cast_number row.moment, cast_number row.verdict)
 
 -- no foreign key acts
-quiet : (new : Row) → works hall_schema Enforced 0 9 [] (new ∷ []) ≡ []
-unfolding same_name joined
-quiet new = refl
+quiet : (u : Wording) (new : Row) → works (hall_in u) Enforced 0 9 [] (new ∷ []) ≡ []
+quiet u new = adds_quiet (hall_in u) 9 (new ∷ [])
 
 -- where the table of answers alone was written, the answers alone are changed
 pub answers_alone : (old new : Trees) (answers : FinMap answer_cmp AnswerRow)
@@ -85,15 +84,16 @@ answers_alone old new answers others is =
     (ap (λ rows. from_entries (flat_map (λ row. option_to_list (tester_of row)) rows)) (others.1.1.1.1.1.1.0 (λ same. absurd (omega (arith, same)))))
 
 -- what the INSERT of an answer adds
-module _ (row : AnswerRow) (is : IsAnswerRow row) (old new : State) (count : ℕ) (has : old.now.schema ≡ hall_schema)
+module _ (row : AnswerRow) (is : IsAnswerRow row) (old new : State) (count : ℕ) (u : Wording) (has : old.now.schema ≡ hall_in u)
     (ran : Executes ADD_ANSWER.now (answer_params row) old new (Ok count)) where
-  writes : Writes old new None (Insert 4 (Values added_terms 9)) (statement_of ADD_ANSWER.now (understood hall_schema ADD_ANSWER.now)) (answer_params row) count
-  writes = runs_as ADD_ANSWER.now (answer_params row) old new hall_schema has (Insert 4 (Values added_terms 9)) add_answer_is.0 add_answer_is.1 count ran
+  writes : Writes old new None (Insert 4 (Values added_terms 9)) (statement_of ADD_ANSWER.now (understood (hall_in u) ADD_ANSWER.now)) (answer_params row) count
+  writes = runs_as ADD_ANSWER.now (answer_params row) old new (hall_in u) has (Insert 4 (Values added_terms 9)) (add_answer_is u).0 (add_answer_is u).1 count ran
 
   adds : HasAdded hall_schema 9 (answer_params row) old.now new.now
   adds =
       let params = answer_params row in
-      inserts hall_schema 4 answers_there refl refl added_terms 9 params (Null ∷ params) params refl refl (answer_casts row) quiet old new _ count has writes
+      added_in u 9 params old.now new.now
+      (inserts (hall_in u) 4 (table_in u Answers) refl refl added_terms 9 params (Null ∷ params) params refl refl (answer_casts row) (quiet u) old new _ count has writes)
 
   with_answer : WithAnswer (world_of old.now.trees) row (world_of new.now.trees)
   with_answer fresh =
@@ -105,11 +105,12 @@ module _ (row : AnswerRow) (is : IsAnswerRow row) (old new : State) (count : ℕ
 pub answer_put : (row : AnswerRow) → IsAnswerRow row → (old new : State) (count : ℕ) → Executes ADD_ANSWER.now (answer_params row) old new (Ok count)
     → IsHallData old.now → IsHallData new.now × AddsAnswer old.now row new.now
 answer_put row is old new count ran held =
-    let it = adds row is old new count held.schema ran in (
+    let (u, words) = worded old.now.schema held.schema in
+    let it = adds row is old new count u words ran in (
       data_added 9 (answer_params row) old.now new.now it held held.keyed.1.1.1.1.0,
       record {
         row = it;
-        world = with_answer row is old new count held.schema ran;
+        world = with_answer row is old new count u words ran;
         read = added_read 9 (answer_params row) old.now new.now it (ap is_some (answer_reads row is (Int (next_rowid (old.now.trees 9))))) (λ all. all.1.1.1.1.0);
       },
     )
@@ -123,8 +124,9 @@ answer_added row is old new count hall clean fresh ran =
     let mode = hall.autocommit clean in
     let was = executed_open old new ADD_ANSWER.now params count mode ran in
     let held : IsHallData old.now = record { schema = (hall.settled clean was).1; keyed = hall.keyed clean was } in
-    let w = writes row is old new count held.schema ran in
-    let it = adds row is old new count held.schema ran in
+    let (u, words) = worded old.now.schema held.schema in
+    let w = writes row is old new count u words ran in
+    let it = adds row is old new count u words ran in
     let put = answer_put row is old new count ran held in
     let id = Int (next_rowid (old.now.trees 9)) in
     record {

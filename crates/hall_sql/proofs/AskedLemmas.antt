@@ -1,5 +1,5 @@
 -- A query of one table, as the hall asks it, fails for the store's causes alone.
-use Rattle.std.proofs.Common.{◌≡◌, ◌≢◌, ◌⊎◌, inl, inr, ℕ, List, [], ◌∷◌, length, true, false, append-nil, IsSome, Option, None, Ok, Err, sym, ap, subst, ◌∙◌}
+use Rattle.std.proofs.Common.{◌≡◌, ◌≢◌, ◌⊎◌, inl, inr, ℕ, List, [], ◌∷◌, length, true, false, append-nil, IsSome, Option, None, Ok, Err, refl, sym, ap, subst, ◌∙◌}
 use Rattle.std.proofs.lemmas.Bool.{cases_Bool, and_parts, leb-true, eqb-true}
 use Rattle.sqlite_trees.specs.declared.error.StoreError.{StoreError}
 use Rattle.sqlite_trees.specs.declared.error.StoreError.TheVariants.{OutOfMemory, Io, Corrupt, Full, Broken, Unstorable}
@@ -21,6 +21,7 @@ use Rattle.sqlite.specs.Listing.{understood, reads_listing, IsSourceOf}
 use Rattle.sqlite.specs.State.{State, HasCleanDisk, HasCause, IsNoStatement, IsNotRun, FailsToShow, FailsToQuery, store_error}
 use Rattle.sqlite.proofs.Callers.{IsPlain, command_of}
 use Rattle.hall_sql.specs.Standing.{IsTabled}
+use Rattle.hall_sql.specs.Tables.{IsLike}
 use Rattle.hall_sql.specs.Statements.{plain_query}
 use Rattle.hall_sql.specs.Asked.{IsAskedIn, IsSafe, is_whole}
 use Rattle.hall_sql.specs.Cause.{IsStoreCause}
@@ -108,9 +109,9 @@ open_cause {schema} sql params old new e asks free other has (inr h) =
     subst (λ (d : Database). RefusesToRead old.step_limit h.0.command d params e) {x = it.0} db it.2 in
     absurd (let no : false ≡ true = subst IsSome free (limited schema h.0.command old.now params e old.step_limit has safe refuses) in cc)
 
-pub asked_cause : {schema : Schema} (sql : List ℕ) (params : Row) (old new : State) (e : Error) → IsAskedIn sql params schema → IsTabled schema old → HasCleanDisk old
+pub asked_cause : {schema : Schema} (sql : List ℕ) (params : Row) (old new : State) (e : Error) → ((found : Schema) → IsLike schema found → IsAskedIn sql params found) → IsTabled schema old → HasCleanDisk old
     → e ≢ SqliteFailure code.OutOfMemory → FailsToQuery sql params old new e → IsStoreCause old new
 asked_cause sql params old new e asks hall clean other fails = elim (cases_Bool old.is_open) [
-  | inl opens ↦ open_cause sql params old new e asks hall.unlimited other (hall.settled clean opens).1 fails
+  | inl opens ↦ open_cause sql params old new e (asks old.now.schema (hall.settled clean opens).1) hall.unlimited other refl fails
   | inr shut ↦ inr shut
 ]

@@ -1,5 +1,5 @@
 -- What the calls of a connection leave.
-use Rattle.std.proofs.Common.{◌≡◌, inl, inr, ℕ, List, [], true, false, Option, Some, None, Ok, Err, IsTrue, sym, ap, subst, ◌∙◌, arith}
+use Rattle.std.proofs.Common.{◌≡◌, inl, inr, ℕ, List, [], true, false, Option, Some, None, Ok, Err, IsTrue, sym, subst, ◌∙◌, arith}
 use Rattle.std.proofs.lemmas.Bool.{cases_Bool}
 use Rattle.sqlite.specs.declared.types.Value.TheVariants.{Null}
 use Rattle.sqlite.specs.declared.error.Error.{Error}
@@ -20,6 +20,7 @@ use Rattle.sqlite.proofs.Callers.{IsPlain, command_of, reads_as}
 use Rattle.sqlite.specs.Schema.{Schema}
 use Rattle.hall_sql.specs.Statements.{plain_query}
 use Rattle.hall_sql.specs.Standing.{AddsNoOutcome, Lasts, IsTabled, AreKeyedIn, Rests, RestedIn, StayedIn, IsSelection}
+use Rattle.hall_sql.specs.Tables.{IsLike}
 use Rattle.hall_sql.proofs.Selections.{selected}
 
 failed : (old new : State) (U : Type 0) (e : Error) → Fails old new U e → Rests old new
@@ -75,7 +76,7 @@ stayed {schema} old new hall lasts h =
         unlimited = lasts.limit ∙ hall.unlimited;
         autocommit = λ clean. ends_mode old new (it clean) (hall.autocommit (before clean));
         keyed = λ clean opens. subst (λ (d : Database). AreKeyedIn schema d.trees) (sym (same clean opens).0) (hall.keyed (before clean) (was_open old new (it clean) opens));
-        settled = λ clean opens. ((same clean opens).0 ∙ (held clean opens).0 ∙ sym (same clean opens).1, ap (λ (d : Database). d.schema) (same clean opens).0 ∙ (held clean opens).1);
+        settled = λ clean opens. ((same clean opens).0 ∙ (held clean opens).0 ∙ sym (same clean opens).1, subst (λ (d : Database). IsLike schema d.schema) (sym (same clean opens).0) (held clean opens).1);
       };
       follows = record { lasts = lasts; opened = λ clean opens. was_open old new (it clean) opens };
       same = λ clean opens. (same clean opens).0;
@@ -115,11 +116,11 @@ shown_was_open sql params old new rows h = at_returning h.0.returning h.2
     at_returning (Some what) it = it.1.shown.was_open
 
 -- a plain query leaves the content as it was
-pub query_rests : {schema : Schema} (sql : List ℕ) (params : Row) (old new : State) (rows : List Row) → IsPlain (understood schema sql) → IsTabled schema old → HasCleanDisk old → Shown sql params old new rows → IsUnchanged old new
+pub query_rests : {schema : Schema} (sql : List ℕ) (params : Row) (old new : State) (rows : List Row) → ((found : Schema) → IsLike schema found → IsPlain (understood found sql)) → IsTabled schema old → HasCleanDisk old → Shown sql params old new rows → IsUnchanged old new
 query_rests sql params old new rows plain hall clean h =
     let opened = shown_was_open sql params old new rows h in
     let has = (hall.settled clean opened).1 in
-    shown_unchanged sql params old new rows (subst (λ s. IsPlain (understood s sql)) (sym has) plain) h
+    shown_unchanged sql params old new rows (plain old.now.schema has) h
 
 released_open : (old new : State) (at : ℕ) → ReleasesAt old new at → IsTrue old.is_open
 released_open old new at (inl h) = h.1.0.was_open

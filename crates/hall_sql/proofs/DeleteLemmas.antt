@@ -53,7 +53,7 @@ module _ (schema : Schema) (table : Table) (terms : List Term) (apart : (db : Tr
     pub cut : out ≡ without_all rows (ids_of (map (rowid_of params) found))
 
   pub deletes : (at : ℕ) → slice_get schema.tables at ≡ Some table → (params : Row) (old new : State) (text : List ℕ) (count : ℕ) → old.now.schema ≡ schema → Writes old new None (Delete at deletion) text params count
-      → (new.now.schema ≡ schema) × IsCut params (old.now.trees table.tree) (new.now.trees table.tree) × AllByRecursion (λ (t : Table). t.tree ≢ table.tree → new.now.trees t.tree ≡ old.now.trees t.tree) schema.tables
+      → (new.now.schema ≡ old.now.schema) × IsCut params (old.now.trees table.tree) (new.now.trees table.tree) × AllByRecursion (λ (t : Table). t.tree ≢ table.tree → new.now.trees t.tree ≡ old.now.trees t.tree) schema.tables
   deletes at there params old new text count has w =
       let db = old.now.trees in
       let done = went (rw there at (subst (λ s. Does old.step_limit (mode_of old) params (record old.now { schema = s }) text None (Delete at deletion) (Ok (w.tally, new.now))) has w.changed)) in
@@ -67,7 +67,7 @@ module _ (schema : Schema) (table : Table) (terms : List Term) (apart : (db : Tr
       let edit = edit_of db table (ids_of got.0) Given 0 [] in
       let applied = restricted_step schema db step.0 edit (restricts (taken_by db edit)) step.1 in
       let trees : new.now.trees ≡ step.0 = ap (λ (d : Database). d.trees) now ∙ ap (λ (it : Written). it.trees) (same_value step.2) in (
-        ap (λ (d : Database). d.schema) now,
+        ap (λ (d : Database). d.schema) now ∙ sym has,
         record { found = sel.found; same = sel.same; cut = ap (λ (t : Trees). t table.tree) trees ∙ applied.rows ∙ ap (λ rows. without_all (db table.tree) (ids_of rows)) sel.shown },
         subst (λ (t : Trees). AllByRecursion (λ (u : Table). u.tree ≢ table.tree → t u.tree ≡ db u.tree) schema.tables) (sym trees) applied.tables,
       )

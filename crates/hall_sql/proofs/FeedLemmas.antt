@@ -20,7 +20,9 @@ use Rattle.sqlite.proofs.Callers.{IsPlain, command_of, begins_as, given_begin, b
 use Rattle.hall_policy.specs.World.{World}
 use Rattle.hall_policy.specs.Sink.{HasTaken}
 use Rattle.hall_store.specs.Store.{Fed}
-use Rattle.hall_sql.specs.Tables.{hall_schema}
+use Rattle.sqlite.specs.Schema.{Schema}
+use Rattle.hall_sql.specs.Tables.{IsHallSchema}
+use Rattle.hall_sql.proofs.Wordings.{Wording, hall_in, worded}
 use Rattle.hall_sql.specs.Rows.{world_of}
 use Rattle.hall_sql.specs.Statements.{plain_query}
 use Rattle.hall_sql.specs.Standing.{AreAllKeyed, IsHall, Rests, Rested, IsSelection, content_of}
@@ -79,11 +81,11 @@ taken_more Takes a b c (y ∷ xs) x more t = (more.0, more.1, taken_more Takes m
 
 module _ {S X : Type 0} (g : Ghosts S) (read : Row → Option X) (sql : List ℕ) (params : Row) where
   -- a query that has begun has given no row
-  pub read_none : (old new : Held S) → IsPlain (understood hall_schema sql) → IsHall (state g old)
+  pub read_none : (old new : Held S) → ((schema : Schema) → IsHallSchema schema → IsPlain (understood schema sql)) → IsHall (state g old)
       → HasCleanDisk (state g old) → HasBegun g sql params old new → HasRead g read sql params (state g old) new []
   read_none old new plain hall clean begun =
       let has = (hall.settled clean (begun_open g sql params old new begun)).1 in
-      let it = begun_plain g sql params old new (subst (λ s. IsPlain (understood s sql)) (sym has) plain) begun in
+      let it = begun_plain g sql params old new (plain (state g old).now.schema has) begun in
       record { same = it.1; rows = []; given = it.0; reads = refl }
 
   module _ (first : State) (old new : Held S) (taken : List X) (so : HasRead g read sql params first old taken) where
@@ -99,7 +101,7 @@ module _ {S X : Type 0} (g : Ghosts S) (read : Row → Option X) (sql : List ℕ
     }
 
     -- there is no row more
-    pub read_all : IsPlain (understood hall_schema sql) → IsHall first → HasCleanDisk first → Advances g old new None
+    pub read_all : ((schema : Schema) → IsHallSchema schema → IsPlain (understood schema sql)) → IsHall first → HasCleanDisk first → Advances g old new None
         → AreAll read sql params first (state g new) taken
     read_all plain hall clean advances =
         let has = (hall.settled clean so.same.0.was_open).1 in
@@ -108,7 +110,7 @@ module _ {S X : Type 0} (g : Ghosts S) (read : Row → Option X) (sql : List ℕ
           rows = so.rows;
           reads = so.reads;
           shown = shown_since sql params first (state g old) (state g new) so.rows
-              (subst (λ s. IsPlain (understood s sql)) (sym has) plain) so.same (advances sql params so.rows so.given);
+              (plain first.now.schema has) so.same (advances sql params so.rows so.given);
         }
 
     -- what was read so far begins the answer
@@ -132,30 +134,32 @@ records read = flat_map (λ row. option_to_list (read row))
 abbrev pub Lists : {X : Type 0} → (Row → Option X) → ℕ → List Term → List Term → List (Term × Key) → Row → Database →
     (World → List X → Type 0) → Type 0
 Lists read tree terms project order params db AreRows =
-    db.schema ≡ hall_schema → AreAllKeyed db.trees → IsDatabase db → (rows : List Row)
+    IsHallSchema db.schema → AreAllKeyed db.trees → IsDatabase db → (rows : List Row)
     → IsSelection (plain_query tree terms project order) (db.trees tree) params rows
     → AreRows (world_of db.trees) (records read rows)
 
 module _ {S X : Type 0} (g : Ghosts S) (read : Row → Option X) (sql : List ℕ) (params : Row) (tree : ℕ)
     (terms project : List Term) (order : List (Term × Key)) (names : List (List ℕ))
-    (is : command_of (understood hall_schema sql)
+    (is : (u : Wording) → command_of (understood (hall_in u) sql)
     ≡ Select (record { lets = []; body = plain_query tree terms project order }) names)
-    (unlisted : reads_listing hall_schema sql ≡ false) (plain : IsPlain (understood hall_schema sql))
+    (unlisted : (u : Wording) → reads_listing (hall_in u) sql ≡ false) (plain : (u : Wording) → IsPlain (understood (hall_in u) sql))
     (apart : (db : Trees) → overlay db [] tree ≡ db tree) where
-  module _ (AreRows : World → List X → Type 0) (s : State) (has : s.now.schema ≡ hall_schema)
+  module _ (AreRows : World → List X → Type 0) (s : State) (has : IsHallSchema s.now.schema)
       (keyed : AreAllKeyed s.now.trees) (sound : IsDatabase s.now)
       (lists : Lists read tree terms project order params s.now AreRows) (taken : List X) where
     all_listed : (new : State) → AreAll read sql params s new taken → AreRows (world_of s.now.trees) taken
     all_listed new all =
-        let sel = answers_selection sql params s new tree terms project order names is unlisted plain
-        (apart s.now.trees) has all.rows all.shown in
+        let (u, words) = worded s.now.schema has in
+        let sel = answers_selection sql params s new tree terms project order names (is u) (unlisted u) (plain u)
+        (apart s.now.trees) words all.rows all.shown in
         subst (AreRows (world_of s.now.trees)) (all_read read all.rows taken all.reads) (lists has keyed sound all.rows sel)
 
     first_listed : AreFirst g read sql params s taken → (left : List X) × AreRows (world_of s.now.trees) (taken ++ left)
     first_listed first =
         let at = state g first.from in
-        let begun = begins_as sql params at at hall_schema (ap (λ (d : Database). d.schema) first.same ∙ has) _ is plain
-        unlisted first.rows first.begun in
+        let (u, words) = worded s.now.schema has in
+        let begun = begins_as sql params at at (hall_in u) (ap (λ (d : Database). d.schema) first.same ∙ words) _ (is u) (plain u)
+        (unlisted u) first.rows first.begun in
         let tail = begun.1.0 in
         let answer = subst (λ t. IsSelection (plain_query tree terms project order) t params (first.rows ++ tail))
         (apart at.now.trees ∙ ap (λ (d : Database). d.trees tree) first.same)

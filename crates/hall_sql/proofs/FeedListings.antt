@@ -1,7 +1,6 @@
 -- The rows of a round that a sink is given, are those of the world.
-use Rattle.std.proofs.Common.{◌≡◌, inr, ℕ, List, [], ◌∷◌, refl, subst}
+use Rattle.std.proofs.Common.{◌≡◌, inr, ℕ, List, [], ◌∷◌, refl}
 use Rattle.sqlite.specs.declared.types.Value.TheVariants.{Text}
-use Rattle.sqlite.specs.Effect.{IsDatabase}
 use Rattle.sqlite.specs.State.{State}
 use Rattle.hall_policy.specs.declared.record.ProtestRow.{ProtestRow}
 use Rattle.hall_policy.proofs.Orders.{protest_total, same_protest_keys}
@@ -24,7 +23,7 @@ module _ (s : State) (round : List ℕ) where
       let agrees = answers.in_agrees s s has at sound [] [] refl round in
       record {
         whole = records_selected answer_in 8 (Text round ∷ []) 9 (equals 2 0 ∷ []) answer_columns listing_order (λ r. refl) (db 9) rows sel
-            (is_in round) agrees _ (answers.answers_listed (inr refl) db at (subst (λ t. IsDatabase (record { schema = t; trees = db })) has sound));
+            (is_in round) agrees _ (answers.answers_listed {schema = s.now.schema} (inr has) db at sound);
         in_order = records_in_order answer_in 8 (Text round ∷ []) 9 (equals 2 0 ∷ []) answer_columns listing_order (λ r. refl) (db 9) rows sel
             listing_cmp (answers.same_order (Text round ∷ []) (equals 2 0 ∷ []));
       }
@@ -36,6 +35,6 @@ module _ (s : State) (round : List ℕ) where
       let at = keyed.1.1.1.1.1.0 in
       values_selected protest_in 7 (Text round ∷ []) 12 (equals 2 0 ∷ []) protest_columns key_order (λ r. refl) (db 12) rows sel
       protest_total same_protest_keys (λ (row : ProtestRow). row.key)
-      (protests.protests_listed (inr refl) db at (subst (λ t. IsDatabase (record { schema = t; trees = db })) has sound))
+      (protests.protests_listed {schema = s.now.schema} (inr has) db at sound)
       (is_protest_in round) (protests.in_agrees s s has at sound [] [] refl round)
       (protests.same_order (Text round ∷ []) (equals 2 0 ∷ []))

@@ -18,7 +18,7 @@ use Rattle.sqlite.specs.Listing.{understood, reads_listing}
 use Rattle.sqlite.specs.Command.TheVariants.{Select}
 use Rattle.sqlite.specs.State.{State, Shown}
 use Rattle.sqlite.proofs.Callers.{IsPlain, command_of}
-use Rattle.hall_sql.specs.Tables.{hall_schema}
+use Rattle.sqlite.specs.Schema.{Schema}
 use Rattle.hall_sql.specs.Statements.{plain_query}
 use Rattle.hall_sql.proofs.CallLemmas.{answers_selection}
 use Rattle.hall_sql.specs.Rows.{columns_from, entry, kept}
@@ -75,33 +75,35 @@ module _ {K X : Type 0} {R : K → K → Ordering} (total : IsTotalOrder R) (sam
       go (r ∷ []) (x ∷ y ∷ out) permuted is short = absurd (omega (arith, short))
       go (r ∷ y ∷ some) out permuted is short = absurd (let long = length_read read (r ∷ y ∷ some) out is in omega (arith, long, short))
 
--- What is asked of the text of a query by key is computed for each statement.
-module _ {K X : Type 0} {R : K → K → Ordering} (total : IsTotalOrder R) (same : IsAntisymmetric R) (key : X → K) (read : Row → Option X) (count : ℕ) (k : K)
-    (text : List ℕ) (params : Row) (tree : ℕ) (terms project : List Term) (names : List (List ℕ))
-    (is : command_of (understood hall_schema text) ≡ Select (record { lets = []; body = plain_query tree terms project [] }) names)
-    (unlisted : reads_listing hall_schema text ≡ false) (plain : IsPlain (understood hall_schema text))
-    (apart : (db : Trees) → overlay db [] tree ≡ db tree)
-    (shows : (r : Row) → eval_all project (params ∷ r ∷ []) ≡ columns_from 1 count r)
-    (agrees : (r : Row) (x : X) → read (columns_from 1 count r) ≡ Some x → list_all (holds (params ∷ r ∷ [])) terms ≡ eq_by_cmp R (key x) k) where
+-- the records of the columns that are shown are those of the rows
+module _ {X : Type 0} (read : Row → Option X) (count : ℕ) (params : Row) (project : List Term) (shows : (r : Row) → eval_all project (params ∷ r ∷ []) ≡ columns_from 1 count r) where
   reads_shown : (found_rows : List Row) → map read (map (λ r. eval_all project (params ∷ r ∷ [])) found_rows) ≡ map (λ r. read (columns_from 1 count r)) found_rows
   reads_shown [] = refl
   reads_shown (r ∷ rows) = rw (shows r) (ap (λ l. read (columns_from 1 count r) ∷ l) (reads_shown rows))
 
+-- What is asked of the text of a query by key is computed for each statement.
+module _ {K X : Type 0} {R : K → K → Ordering} (total : IsTotalOrder R) (same : IsAntisymmetric R) (key : X → K) (read : Row → Option X) (count : ℕ) (k : K)
+    {schema : Schema} (text : List ℕ) (params : Row) (tree : ℕ) (terms project : List Term) (names : List (List ℕ))
+    (is : command_of (understood schema text) ≡ Select (record { lets = []; body = plain_query tree terms project [] }) names)
+    (unlisted : reads_listing schema text ≡ false) (plain : IsPlain (understood schema text))
+    (apart : (db : Trees) → overlay db [] tree ≡ db tree)
+    (shows : (r : Row) → eval_all project (params ∷ r ∷ []) ≡ columns_from 1 count r)
+    (agrees : (r : Row) (x : X) → read (columns_from 1 count r) ≡ Some x → list_all (holds (params ∷ r ∷ [])) terms ≡ eq_by_cmp R (key x) k) where
   -- the record that a query by the key gives is the one under the key
-  pub asked_found : (old new : State) (rows : List Row) (out : List X) → old.now.schema ≡ hall_schema → Shown text params old new rows
+  pub asked_found : (old new : State) (rows : List Row) (out : List X) → old.now.schema ≡ schema → Shown text params old new rows
       → map read rows ≡ map Some out → length out ≤ 1
       → slice_get out 0 ≡ get (kept R key (λ r. read (columns_from 1 count r)) (old.now.trees tree)) k
   asked_found old new rows out has shown is_read short =
       let sel = answers_selection text params old new tree terms project [] names is unlisted plain (apart old.now.trees) has rows shown in
       one_found total same key (λ r. read (columns_from 1 count r)) k (λ r. list_all (holds (params ∷ r ∷ [])) terms) agrees (old.now.trees tree) sel.found out sel.same
-      (sym (reads_shown sel.found) ∙ ap (map read) (sym sel.shown) ∙ is_read) short
+      (sym (reads_shown read count params project shows sel.found) ∙ ap (map read) (sym sel.shown) ∙ is_read) short
 
   -- and its row is the only one under the key
-  pub asked_alone : (old new : State) (rows : List Row) (out : List X) → old.now.schema ≡ hall_schema → Shown text params old new rows
+  pub asked_alone : (old new : State) (rows : List Row) (out : List X) → old.now.schema ≡ schema → Shown text params old new rows
       → map read rows ≡ map Some out → length out ≤ 1
       → IfSome (slice_get out 0) (λ x. (r : Row) × (filter (λ r. list_all (holds (params ∷ r ∷ [])) terms) (old.now.trees tree) ≡ r ∷ [])
       × (read (columns_from 1 count r) ≡ Some x))
   asked_alone old new rows out has shown is_read short =
       let sel = answers_selection text params old new tree terms project [] names is unlisted plain (apart old.now.trees) has rows shown in
       one_alone (λ r. read (columns_from 1 count r)) (filter (λ r. list_all (holds (params ∷ r ∷ [])) terms) (old.now.trees tree)) sel.found out sel.same
-      (sym (reads_shown sel.found) ∙ ap (map read) (sym sel.shown) ∙ is_read) short
+      (sym (reads_shown read count params project shows sel.found) ∙ ap (map read) (sym sel.shown) ∙ is_read) short

@@ -10,15 +10,16 @@ use Rattle.sqlite.specs.Program.{overlay}
 use Rattle.sqlite.specs.Listing.{understood, reads_listing}
 use Rattle.sqlite.specs.Command.TheVariants.{Select, Insert, Update}
 use Rattle.sqlite.proofs.Callers.{IsPlain, command_of}
-use Rattle.hall_sql.specs.Tables.{hall_schema, table_at}
+use Rattle.hall_sql.specs.Tables.{table_at}
 use Rattle.hall_sql.specs.declared.tables.HallTable.TheVariants.{Rounds}
 use Rattle.hall_sql.specs.Statements.{equals, plain_query}
 use Rattle.hall_sql.specs.declared.rounds.TheConstants.{HEAD}
 use Rattle.hall_sql.specs.declared.round_writes.TheConstants.{LOOK_HEAD, ADD_HEAD, REPLACE_HEAD}
 use Rattle.hall_sql.proofs.UpdateLemmas.{update}
 use Rattle.hall_sql.proofs.RoundTexts.{round_columns, round_names}
-use Rattle.hall_sql.specs.Asked.{IsAsked, is_whole}
+use Rattle.hall_sql.specs.Asked.{IsAsked, IsAskedIn, is_whole}
 use Rattle.hall_sql.proofs.AskedLemmas.{asked}
+use Rattle.hall_sql.proofs.Wordings.{Wording, by_hall, hall_in, table_in}
 
 -- id = ?1
 abbrev pub id_terms : List Term
@@ -28,32 +29,32 @@ id_terms = equals 1 0 ∷ []
 abbrev pub rounds_there : Table
 rounds_there = table_at Rounds
 
-pub head_is : (command_of (understood hall_schema HEAD.now)
+pub head_is : (u : Wording) → (command_of (understood (hall_in u) HEAD.now)
     ≡ Select (record { lets = []; body = plain_query 5 id_terms round_columns [] }) round_names)
-    × (reads_listing hall_schema HEAD.now ≡ false) × IsPlain (understood hall_schema HEAD.now)
-    × (is_whole HEAD.now 1 (understood hall_schema HEAD.now) ≡ true)
+    × (reads_listing (hall_in u) HEAD.now ≡ false) × IsPlain (understood (hall_in u) HEAD.now)
+    × (is_whole HEAD.now 1 (understood (hall_in u) HEAD.now) ≡ true)
 unfolding understood everything
-head_is = (refl, refl, (refl, refl), refl)
+head_is u = (refl, refl, (refl, refl), refl)
 
 pub head_asked : (id : List ℕ) → IsAsked HEAD.now (Text id ∷ [])
 head_asked id =
-    asked HEAD.now (Text id ∷ []) 5 id_terms round_columns [] _ head_is.0 head_is.1 head_is.2 head_is.3 refl
+    by_hall (IsAskedIn HEAD.now (Text id ∷ [])) (λ u. asked HEAD.now (Text id ∷ []) 5 id_terms round_columns [] _ (head_is u).0 (head_is u).1 (head_is u).2 (head_is u).3 refl)
 
-pub look_head_is : (command_of (understood hall_schema LOOK_HEAD.now)
+pub look_head_is : (u : Wording) → (command_of (understood (hall_in u) LOOK_HEAD.now)
     ≡ Select (record { lets = []; body = plain_query 5 id_terms (col 1 1 ∷ []) [] }) (codes "id" ∷ []))
-    × (reads_listing hall_schema LOOK_HEAD.now ≡ false) × IsPlain (understood hall_schema LOOK_HEAD.now)
+    × (reads_listing (hall_in u) LOOK_HEAD.now ≡ false) × IsPlain (understood (hall_in u) LOOK_HEAD.now)
 unfolding understood everything
-look_head_is = (refl, refl, (refl, refl))
+look_head_is u = (refl, refl, (refl, refl))
 
 -- the rowid that is chosen, and each parameter
 abbrev pub added_terms : List Term
 added_terms =
     lit Null ∷ col 0 0 ∷ col 0 1 ∷ col 0 2 ∷ col 0 3 ∷ col 0 4 ∷ col 0 5 ∷ col 0 6 ∷ col 0 7 ∷ col 0 8 ∷ col 0 9 ∷ []
 
-pub add_head_is : (command_of (understood hall_schema ADD_HEAD.now) ≡ Insert 2 (Values added_terms 11))
-    × IsPlain (understood hall_schema ADD_HEAD.now)
+pub add_head_is : (u : Wording) → (command_of (understood (hall_in u) ADD_HEAD.now) ≡ Insert 2 (Values added_terms 11))
+    × IsPlain (understood (hall_in u) ADD_HEAD.now)
 unfolding understood everything
-add_head_is = (refl, (refl, refl))
+add_head_is u = (refl, (refl, refl))
 
 -- the rowid and the id that stay, and the parameters of the others
 abbrev pub replaced_terms : List Term
@@ -63,8 +64,8 @@ replaced_terms =
 pub apart : (db : Trees) → overlay db [] rounds_there.tree ≡ db rounds_there.tree
 apart db = refl
 
-pub replace_head_is : (command_of (understood hall_schema REPLACE_HEAD.now)
-    ≡ Update 2 (update hall_schema rounds_there id_terms replaced_terms apart))
-    × IsPlain (understood hall_schema REPLACE_HEAD.now)
+pub replace_head_is : (u : Wording) → (command_of (understood (hall_in u) REPLACE_HEAD.now)
+    ≡ Update 2 (update (hall_in u) (table_in u Rounds) id_terms replaced_terms apart))
+    × IsPlain (understood (hall_in u) REPLACE_HEAD.now)
 unfolding understood everything
-replace_head_is = (refl, (refl, refl))
+replace_head_is u = (refl, (refl, refl))

@@ -84,7 +84,7 @@ module _ (schema : Schema) (at : ℕ) (table : Table) (there : slice_get schema.
       let applied = one_step schema Enforced db written.0 (edit_of db table [] Chosen 0 (row ∷ [])) (quiet (with_rowid Chosen (db table.tree) (cast_row table row))) step in
       let is_new : with_rowid Chosen (db table.tree) (cast_row table row) ≡ Int (next_rowid (db table.tree)) ∷ values = ap (with_rowid Chosen (db table.tree)) casts in
       record {
-        same = ap (λ (d : Database). d.schema) now;
+        same = ap (λ (d : Database). d.schema) now ∙ sym has;
         free = not_taken _ (subst (λ r. are_fresh (db table.tree) (r ∷ []) ≡ true) is_new applied.fresh);
         put = ap (λ (d : Database). d.trees table.tree) now ∙ ap (λ (t : Trees). t table.tree) trees ∙ applied.rows ∙ ap (λ r. put_row r (db table.tree)) is_new;
         others = subst (λ (t : Trees). AllByRecursion (λ (u : Table). u.tree ≢ table.tree → t u.tree ≡ db u.tree) schema.tables) (sym (ap (λ (d : Database). d.trees) now ∙ trees)) applied.tables;

@@ -10,10 +10,10 @@ use Rattle.sqlite.specs.Clock.{timed}
 use Rattle.sqlite.specs.State.{State, HasCleanDisk, Executes, KeepsCommit, Shown, ShowsRows, FailsToQuery, IsTooLate}
 use Rattle.sqlite.proofs.Callers.{IsPlain, command_of}
 use Rattle.hall_policy.specs.World.{World}
-use Rattle.hall_sql.specs.Tables.{hall_schema}
 use Rattle.hall_sql.specs.Rows.{world_of}
 use Rattle.hall_sql.specs.Standing.{Lasts, Rests}
 use Rattle.hall_sql.specs.Inside.{IsHallData, Carries, Steps, Did, Tells}
+use Rattle.hall_sql.proofs.Wordings.{Wording, by_hall, hall_in}
 use Rattle.hall_sql.proofs.SoundLemmas.{IsRowWrite, ran_sound}
 use Rattle.hall_sql.proofs.LastLemmas.{last_none, last_then, quiet_none, quiet_then}
 use Rattle.hall_sql.proofs.CallLemmas.{query_refused, shown_unchanged}
@@ -45,8 +45,8 @@ pub did : (Does : Database → Database → Type 0) (old new : State) → new.in
 did Does old new mode sound it = record { steps = record { mode = mode; hall = λ h. (it h).0; sound = sound }; does = λ h. (it h).1 }
 
 -- which ran, and writes rows
-pub did_run : (Does : Database → Database → Type 0) (sql : List ℕ) (params : Row) (old new : State) (count : ℕ) → IsPlain (understood hall_schema sql)
-    → IsRowWrite (command_of (understood hall_schema sql)) → new.in_transaction ≡ true → Executes sql params old new (Ok count)
+pub did_run : (Does : Database → Database → Type 0) (sql : List ℕ) (params : Row) (old new : State) (count : ℕ) → ((u : Wording) → IsPlain (understood (hall_in u) sql))
+    → ((u : Wording) → IsRowWrite (command_of (understood (hall_in u) sql))) → new.in_transaction ≡ true → Executes sql params old new (Ok count)
     → (IsHallData old.now → IsHallData new.now × Does old.now new.now) → Did Does old new
 did_run Does sql params old new count plain writes mode ran it =
     did Does old new mode (λ held d. ran_sound sql params old new count held.schema plain writes ran) it
@@ -118,10 +118,10 @@ unshown_keeps sql params old new e (inl h) = rests_keep old new (query_refused o
 unshown_keeps sql params old new e (inr h) = rests_keep old new (inl h.5)
 
 -- a query that writes nothing leaves the tables and the transaction, and tells of them
-pub shown_did : (Means : World → Type 0) (sql : List ℕ) (params : Row) (old new : State) (rows : List Row) → IsTrue old.in_transaction → IsPlain (understood hall_schema sql)
+pub shown_did : (Means : World → Type 0) (sql : List ℕ) (params : Row) (old new : State) (rows : List Row) → IsTrue old.in_transaction → ((u : Wording) → IsPlain (understood (hall_in u) sql))
     → Shown sql params old new rows → (IsHallData old.now → Means (world_of old.now.trees)) → Did (Tells Means) old new
 shown_did Means sql params old new rows inside plain h means =
-    let left = λ (it : IsHallData old.now). shown_unchanged sql params old new rows (subst (λ s. IsPlain (understood s sql)) (sym it.schema) plain) h in
+    let left = λ (it : IsHallData old.now). shown_unchanged sql params old new rows (by_hall (λ s. IsPlain (understood s sql)) plain old.now.schema it.schema) h in
     did (Tells Means) old new (shown_mode sql params old new rows inside h) (λ it. subst IsDatabase (sym (left it).0.now_is)) (λ it.
     let same = (left it).0.now_is in
     (subst IsHallData (sym same) it, record { same = same; means = means it }))

@@ -28,7 +28,7 @@ use Rattle.sqlite.specs.Effect.{Database}
 use Rattle.sqlite_rules.specs.Edit.{next_rowid}
 use Rattle.hall_sql.specs.Inside.{IsHallData}
 use Rattle.hall_sql.specs.Standing.{Apart, AreDistinct, AreKeyed, HasAdded}
-use Rattle.hall_sql.specs.Tables.{hall_schema}
+use Rattle.hall_sql.specs.Tables.{IsHallSchema, hall_schema}
 
 apart_back : (r y : Row) → Apart r y → Apart y r
 apart_back r y h e = h (value_cmp_total.antisymm (rowid r) (rowid y) ∙ ap ordering_reverse e)
@@ -127,4 +127,4 @@ pub data_added : (tree : ℕ) (values : Row) (old new : Database) → HasAdded h
     → IsHallData new
 data_added tree values old new it held keyed =
     let after = added_keyed (next_rowid (old.trees tree)) values (old.trees tree) (new.trees tree) it.put it.free keyed in
-    record { schema = it.same; keyed = keyed_after tree old.trees new.trees hall_schema.tables after it.others held.keyed }
+    record { schema = subst IsHallSchema (sym it.same) held.schema; keyed = keyed_after tree old.trees new.trees hall_schema.tables after it.others held.keyed }

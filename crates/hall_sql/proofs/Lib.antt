@@ -15,6 +15,7 @@ pub mod SoundLemmas
 pub mod StopLemmas
 pub mod UpdateLemmas
 pub mod QuietLemmas
+pub mod Wordings
 pub mod ReplaceLemmas
 pub mod SparedLemmas
 pub mod ContentLemmas
@@ -82,6 +83,8 @@ pub mod RecordParts
 pub mod UnreadLemmas
 pub mod WholeRows
 pub mod RowReads
+pub mod CountLemmas
 pub mod MigrationLemmas
 pub mod FilledWorlds
+pub mod CanonicalTexts
 pub mod Laws

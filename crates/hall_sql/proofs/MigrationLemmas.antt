@@ -3,9 +3,7 @@ use Rattle.std.proofs.Common.{◌≡◌, ◌≢◌, ◌↔◌, [], inl, inr, ℕ
 use Rattle.std.specs.FinMap.{empty}
 use Rattle.sqlite.specs.Effect.{Database}
 use Rattle.sqlite.specs.Held.{Held, state}
-use Rattle.sqlite.specs.Schema.{Schema}
 use Rattle.sqlite.specs.State.{State, HasCleanDisk, IsLive}
-use Rattle.sqlite_catalog.specs.Listing.{IsSound}
 use Rattle.sqlite_trees.specs.declared.store.Store.{Ghosts}
 use Rattle.sqlite.specs.Tree.{Trees}
 use Rattle.hall_policy.specs.World.{World}
@@ -20,16 +18,18 @@ use Rattle.hall_sql.specs.AllRead.{AreAllRead, IsRead}
 use Rattle.hall_sql.specs.Fill.{AreFilled, Fills}
 use Rattle.hall_sql.specs.Migrate.{TookWorld, HoldsOther, Leaves, Migrates, StandsForOld, StopsAtWorld, Takes, WasBefore, old_content_of}
 use Rattle.hall_sql.specs.Rows.{tester_in, world_of}
-use Rattle.hall_sql.specs.Stands.{HoldsHall}
-use Rattle.hall_sql.specs.Standing.{AddsOutcomes, IsBare, IsHall, IsTabled, Rested, RestedAny, RestedIn, content_of}
+use Rattle.hall_sql.specs.Stands.{HoldsHall, ListsLike}
+use Rattle.hall_sql.specs.Standing.{AddsOutcomes, IsBareLike, IsHall, IsTabled, Rested, RestedAny, RestedIn, content_of}
 use Rattle.hall_sql.specs.declared.testers.TheConstants.{ALL_TESTERS}
 use Rattle.hall_sql.specs.Tables.{hall_schema, old_schema}
+use Rattle.hall_sql.specs.Versions.{IsAnyHall}
 use Rattle.hall_sql.specs.Whole.{AreRecords}
 use Rattle.hall_sql.specs.WholeRows.{AreRowsOf, AreSameRows, IsEmptyIn, count_of, without_testers}
 use Rattle.hall_sql.proofs.AdoptLemmas.{bare_world as bare_empty}
 use Rattle.hall_sql.proofs.AllRead.{all_bare, bare_read, read_before, testers_read}
 use Rattle.hall_sql.proofs.FillLemmas.{FillsWorlds, fills_read, fills_worlds}
 use Rattle.hall_sql.proofs.FilledWorlds.{filled_whole}
+use Rattle.hall_sql.proofs.CanonicalTexts.{fills_texts}
 use Rattle.hall_sql.proofs.LastLemmas.{follows_leads}
 use Rattle.hall_sql.proofs.StoreLemmas.{always, opens_hall, over_hall, rested_hall, rested_stayed, rests_on, stays_on}
 use Rattle.hall_sql.proofs.TransactionLemmas.{rests_itself}
@@ -90,10 +90,10 @@ pub compared : (old mid new : State) → IsHall old → RestedAny old mid → (H
     → (HasCleanDisk new → AreRecords tester_in ALL_TESTERS.now [] mid new) → HasCleanDisk new → AreAllRead hall_schema old.now.trees
 compared old mid new hall rested serves six after testers clean =
     let was : HasCleanDisk mid = omega (arith, after.follows.lasts.clean, clean) in
-    let over = over_hall hall (inr refl) in
+    let over : IsAnyHall old = over_hall hall (λ schema ours. inr ours) in
     all_seven old.now.trees (six was)
     (read_before 14 old mid over rested was (serves was)
-    (testers_read mid new was (over_hall (rested_hall {old = old} {new = mid} hall rested).tabled refl) (testers clean)))
+    (testers_read mid new was (over_hall (rested_hall {old = old} {new = mid} hall rested).tabled (λ schema ours. ours)) (testers clean)))
 
 -- ---- what a target took
 
@@ -111,14 +111,14 @@ pub filled_takes : (old new : State) (world : World) (rows : Rows) (count : ℕ)
     → HasCleanDisk new → TookWorld world count old new
 filled_takes old new world rows count are bare is empties leads filled clean =
     let it = filled clean in
-    let none : IsBare hall_schema old.now = empties (leads.honest clean) (leads.serves clean it.0) in
+    let none : IsBareLike hall_schema old.now = empties (leads.honest clean) (leads.serves clean it.0) in
     record {
       serves = it.0;
       held = filled_whole world (world_of new.now.trees) rows are
-          (subst (λ (w : World). FillsWorlds rows w (world_of new.now.trees)) (bare_empty old.now none) (fills_worlds rows old.now new.now it.1))
+          (subst (λ (w : World). FillsWorlds rows w (world_of new.now.trees)) (bare_empty old.now.trees none.empty) (fills_worlds rows old.now new.now it.1))
           ∙ sym (bare_world world bare);
       read = fills_read rows old.now new.now it.1 (bare_read old.now none);
-      before = inl (none, is ∙ rows_counted world rows are);
+      before = inl (none, is ∙ rows_counted world rows are, fills_texts rows old.now new.now it.1 none.empty.1.0);
     }
 
 -- what a stop leaves of tables that had no row, and are filled
@@ -127,10 +127,10 @@ pub filled_stops : (old new : State) (world : World) (rows : Rows) → AreRowsOf
 filled_stops old new world rows are bare empties leads outcomes opens clean left it = elim (outcomes opens clean it.0 it.1) [
   | inl earlier ↦ inl (it.0, earlier, it.2)
   | inr made ↦
-      let none : IsBare hall_schema old.now = empties (leads.honest clean) opens in
+      let none : IsBareLike hall_schema old.now = empties (leads.honest clean) opens in
       let whole : world_of made.0.trees ≡ world =
       filled_whole world (world_of made.0.trees) rows are
-      (subst (λ (w : World). FillsWorlds rows w (world_of made.0.trees)) (bare_empty old.now none) (fills_worlds rows old.now made.0 made.1))
+      (subst (λ (w : World). FillsWorlds rows w (world_of made.0.trees)) (bare_empty old.now.trees none.empty) (fills_worlds rows old.now made.0 made.1))
       ∙ sym (bare_world world bare) in
       inr (opens, opens_hall world it.0 left (subst (HoldsHall world) (sym made.3) (made.2, whole)) it.2)
 ]
@@ -165,7 +165,7 @@ leaves_after old mid new (Err fault) rested leaves = stays_on old mid new rested
 
 was_after : (old mid new : State) (world : World) (count : ℕ) → Rested old mid → HasCleanDisk mid → IsTrue mid.is_open
     → WasBefore world count mid new → WasBefore world count old new
-was_after old mid new world count rested clean opens (inl bare) = inl (subst (IsBare hall_schema) (rested.same clean opens) bare.0, bare.1)
+was_after old mid new world count rested clean opens (inl bare) = inl (subst (IsBareLike hall_schema) (rested.same clean opens) bare.0, bare.1, bare.2)
 was_after old mid new world count rested clean opens (inr held) =
     inr (subst (λ (d : Database). world_of d.trees ≡ world) (rested.same clean opens) held.0, held.1, rests_on old mid new rested held.2)
 
@@ -230,7 +230,7 @@ pub source_settled : {S : Type 0} (g : Ghosts S) → ((s : S) (db : Trees) → I
 source_settled g law held tabled live clean opens left it =
     let s = state g held in
     let same : it.0 ≡ s.now.trees = law held.store it.0 opens it.1 ∙ sym (ap (λ (d : Database). d.trees) (tabled.settled clean opens).0) in
-    let listed = subst (λ (schema : Schema). IsSound schema s.now.trees) (tabled.settled clean opens).1 (live opens).0 in
+    let listed : ListsLike old_schema s.now.trees = (s.now.schema, (tabled.settled clean opens).1, (live opens).0) in
     let world = without_testers (world_of s.now.trees) in
     it.2 world (subst (λ (db : Trees). StandsForOld db world) (sym same) (listed, refl))
 

@@ -18,9 +18,9 @@ use Rattle.sqlite_catalog.specs.Listing.{IsSound}
 use Rattle.hall_policy.specs.World.{World}
 use Rattle.hall_store.specs.Maps.{empty_world}
 use Rattle.hall_sql.specs.AdoptCause.{AdoptFails}
-use Rattle.hall_sql.specs.Tables.{no_schema, hall_schema}
+use Rattle.hall_sql.specs.Tables.{IsHallSchema, no_schema, hall_schema}
 use Rattle.hall_sql.specs.Migrate.{StandsForOld, old_content_of}
-use Rattle.hall_sql.specs.Stands.{StandsFor}
+use Rattle.hall_sql.specs.Stands.{ListsLike, StandsFor}
 use Rattle.hall_sql.specs.Rows.{world_of}
 use Rattle.hall_sql.specs.Standing.{IsBare, StoodOrEmpty, HasAdopted, HasAdoptedOld, MakesAtMost, content_of}
 use Rattle.hall_sql.specs.WholeRows.{without_testers}
@@ -28,14 +28,15 @@ use Rattle.hall_sql.specs.Opened.{FindsAs, IsFound, MemoryServes, OneWorldIsFoun
 use Rattle.hall_sql.specs.Opened.{StartsOld}
 use Rattle.hall_sql.proofs.AdoptLemmas.{bare_world}
 use Rattle.hall_sql.proofs.StoreLemmas.{opens_hall}
+use Rattle.hall_sql.proofs.Wordings.{hall_in, like_itself, worded}
 
 -- the database of a connection that was taken over
 stood : (old new : State) → IsSound old.now.schema old.now.trees → StoodOrEmpty old new
     → StandsFor old.now.trees (world_of new.now.trees)
 stood old new sound (inl same) =
-    inl (subst (λ (s : Schema). IsSound s old.now.trees) same.0 sound, ap (λ (d : Database). world_of d.trees) same.1)
+    inl ((old.now.schema, same.0, sound), ap (λ (d : Database). world_of d.trees) same.1)
 stood old new sound (inr none) =
-    inr (subst (λ (s : Schema). IsSound s old.now.trees) none.0 sound, bare_world new.now none.1)
+    inr (subst (λ (s : Schema). IsSound s old.now.trees) none.0 sound, bare_world new.now.trees none.1.empty)
 
 -- files without a byte hold no table
 from_nothing : (image : Image) (db : Trees) (world : World) → AreFoundIn image db → StandsFor db world → image.db ≡ []
@@ -45,7 +46,10 @@ from_nothing image db world (inl found) (inl stands) bytes =
     let some = found.3.found.present in
     let len : length image.db ≡ 0 = ap length bytes in
     absurd (omega (arith, some, len))
-from_nothing image db world (inr empty) (inl stands) bytes = absurd (rw empty.1.1 at stands.0.lists.listed.tables)
+from_nothing image db world (inr empty) (inl stands) bytes =
+    let (u, words) = worded stands.0.0 stands.0.1 in
+    let sound : IsSound (hall_in u) db = subst (λ (s : Schema). IsSound s db) words stands.0.2 in
+    absurd (rw empty.1.1 at sound.lists.listed.tables)
 
 -- what the database that was found stands for
 found_as : (Stands : Trees → World → Type 0) (image : Image) (s : State) (world : World) → FindsIn image s
@@ -79,7 +83,7 @@ starts_old image old new file adopted clean =
     let same = adopted.stood clean in
     let world : World = without_testers (world_of new.now.trees) in
     let stands : StandsForOld old.now.trees world = (
-      subst (λ (s : Schema). IsSound s old.now.trees) same.0 (is.1 is.0.is_open).0,
+      (old.now.schema, same.0, (is.1 is.0.is_open).0),
       ap (λ (d : Database). without_testers (world_of d.trees)) same.1,
     ) in (
       adopted.serves clean,
@@ -92,8 +96,8 @@ pub new_hall_is_empty : (old new : State) → MakesAtMost old new → HasCleanDi
 new_hall_is_empty old new makes clean left it = elim (makes clean it.0 it.1) [
   | inl earlier ↦ inl (it.0, earlier, it.2)
   | inr made ↦
-      let empty = bare_world (record { schema = hall_schema; trees = it.0 }) (record { is = refl; empty = made.1.1 }) in
-      inr (made.0, opens_hall empty_world it.0 left (made.1.0, empty) it.2)
+      let empty = bare_world it.0 made.1.1 in
+      inr (made.0, opens_hall empty_world it.0 left ((hall_schema, like_itself hall_schema, made.1.0), empty) it.2)
 ]
 
 -- a list with a table is not one with none
@@ -102,8 +106,11 @@ apart : {A B : Type 0} (R : A → B → Type 0) (rows : List A) (b : B) (bs : Li
 apart R [] b bs some none = some
 apart R (row ∷ rows) b bs some none = none
 
-pub never_both : (db : Trees) → IsSound hall_schema db → IsSound no_schema db → ⊥
-never_both db hall none = apart _ _ _ _ hall.lists.listed.tables none.lists.listed.tables
+pub never_both : (db : Trees) → ListsLike hall_schema db → IsSound no_schema db → ⊥
+never_both db hall none =
+    let (u, words) = worded hall.0 hall.1 in
+    let sound : IsSound (hall_in u) db = subst (λ (s : Schema). IsSound s db) words hall.2 in
+    apart _ _ _ _ sound.lists.listed.tables none.lists.listed.tables
 
 pub same_world : (db : Trees) (one other : World) → StandsFor db one → StandsFor db other → one ≡ other
 same_world db one other (inl a) (inl b) = a.1 ∙ sym b.1
@@ -119,13 +126,13 @@ unfolding doubt
 memory_serves held = (refl, refl)
 
 -- a database without a table that was taken over holds an empty world
-hall_is_some : no_schema ≡ hall_schema → ⊥
-hall_is_some same = let tables = ap (λ (s : Schema). length s.tables) same in cc
+hall_is_some : (schema : Schema) → schema ≡ no_schema → ¬ IsHallSchema schema
+hall_is_some schema none like = (subst IsHallSchema none like).tables
 
 pub from_empty : (old new : State) → old.now.schema ≡ no_schema → StoodOrEmpty old new
     → world_of new.now.trees ≡ empty_world
-from_empty old new none (inl same) = absurd (hall_is_some (sym none ∙ same.0))
-from_empty old new none (inr empty) = bare_world new.now empty.1
+from_empty old new none (inl same) = absurd (hall_is_some old.now.schema none same.0)
+from_empty old new none (inr empty) = bare_world new.now.trees empty.1.empty
 
 -- over memory the disk is clean
 pub empty_in_memory : (conn store : Held MemStore) → IsEmpty (state over_memory conn)
@@ -133,11 +140,8 @@ pub empty_in_memory : (conn store : Held MemStore) → IsEmpty (state over_memor
 empty_in_memory conn store empty adopted =
     from_empty (state over_memory conn) (state over_memory store) empty.2 (adopted.stood (memory_serves store).0)
 
-no_hall : no_schema ≡ hall_schema → ⊥
-no_hall same = let tables = ap (λ (s : Schema). length s.tables) same in cc
-
 made_bare : (old new : State) → old.now.schema ≡ no_schema → StoodOrEmpty old new → IsBare hall_schema new.now
-made_bare old new none (inl same) = absurd (no_hall (sym none ∙ same.0))
+made_bare old new none (inl same) = absurd (hall_is_some old.now.schema none same.0)
 made_bare old new none (inr made) = made.1
 
 pub bare_in_memory : (conn store : Held MemStore) → IsEmpty (state over_memory conn)

@@ -20,7 +20,8 @@ use Rattle.hall_policy.proofs.Orders.{text_total, same_texts}
 use Rattle.hall_store.proofs.Tests.{find-Contains}
 use Rattle.hall_policy.proofs.Texts.{text_decides}
 use Rattle.hall_store.specs.Caller.{IsKeyHolder, with_key}
-use Rattle.hall_sql.specs.Tables.{hall_schema}
+use Rattle.hall_sql.specs.Tables.{IsHallSchema}
+use Rattle.hall_sql.proofs.Wordings.{worded}
 use Rattle.hall_sql.specs.Rows.{person_in, person_of, world_of}
 use Rattle.hall_sql.specs.Standing.{AreKeyed, AreKeyedIn}
 use Rattle.hall_sql.specs.declared.people.TheConstants.{PERSON_BY_KEY, ALL_PEOPLE}
@@ -80,16 +81,17 @@ holder db key out same short =
         kept_value text_total same_texts (λ (p : Person). p.name) person_of (db 0) p
         (find-Contains (λ (p : Person). same_text p.key key) (values (world_of db).people) p (sym is)).0
 
-pub key_holder : (old new : State) → old.now.schema ≡ hall_schema → AreKeyed (old.now.trees 0) → IsDatabase old.now
+pub key_holder : (old new : State) → IsHallSchema old.now.schema → AreKeyed (old.now.trees 0) → IsDatabase old.now
     → (rows : List Row) (out : List Person) → map person_in rows ≡ map Some out → length out ≤ 1 → (key : List ℕ)
     → Shown PERSON_BY_KEY.now (Text key ∷ []) old new rows → IsKeyHolder (world_of old.now.trees) key (slice_get out 0)
 key_holder old new has keyed sound rows out is short key shown =
+    let (u, words) = worded old.now.schema has in
     let db = old.now.trees in
-    let whole = people_listed (inr refl) db keyed (subst (λ s. IsDatabase (record { schema = s; trees = db })) has sound) in
+    let whole = people_listed {schema = old.now.schema} (inr has) db keyed sound in
     holder db key out
-    (records_asked person_in 3 PERSON_BY_KEY.now (Text key ∷ []) 0 (equals 2 0 ∷ []) person_columns [] _ person_by_key_is.0
-    person_by_key_is.1 person_by_key_is.2 (λ db. refl) (λ r. refl) (λ p. same_text p.key key) (keyed_so key) old new rows
-    out has shown is (values (world_of db).people) whole) short
+    (records_asked person_in 3 PERSON_BY_KEY.now (Text key ∷ []) 0 (equals 2 0 ∷ []) person_columns [] _ (person_by_key_is u).0
+    (person_by_key_is u).1 (person_by_key_is u).2 (λ db. refl) (λ r. refl) (λ p. same_text p.key key) (keyed_so key) old new rows
+    out words shown is (values (world_of db).people) whole) short
 
 -- ORDER BY name is the order of names
 same_order : (a b : Row) (x y : Person) → person_of a ≡ Some x → person_of b ≡ Some y

@@ -10,7 +10,8 @@ use Rattle.sqlite.specs.Term.{holds}
 use Rattle.sqlite.specs.State.{State, Shown}
 use Rattle.hall_policy.specs.Text.{text_cmp, is_word_byte, is_key_byte}
 use Rattle.hall_policy.specs.declared.record.Person.{Person}
-use Rattle.hall_sql.specs.Tables.{hall_schema}
+use Rattle.hall_sql.specs.Tables.{IsHallSchema}
+use Rattle.hall_sql.proofs.Wordings.{worded}
 use Rattle.hall_sql.specs.declared.people.TheConstants.{PERSON}
 use Rattle.hall_sql.specs.Values.{name_in, key_in, roles_in}
 use Rattle.hall_sql.specs.Rows.{person_in, person_of, world_of}
@@ -32,9 +33,10 @@ named : (name : List ℕ) (r : Row) (p : Person) → person_of r ≡ Some p
     → list_all (holds ((Text name ∷ []) ∷ r ∷ [])) (equals 1 0 ∷ []) ≡ eq_by_cmp text_cmp p.name name
 named name r p is = last_equal _ _ (column_equals (column r 1) p.name name (name_column r p is))
 
-pub person_found : (name : List ℕ) (old new : State) (rows : List Row) (out : List Person) → old.now.schema ≡ hall_schema
+pub person_found : (name : List ℕ) (old new : State) (rows : List Row) (out : List Person) → IsHallSchema old.now.schema
     → Shown PERSON.now (Text name ∷ []) old new rows → map person_in rows ≡ map Some out → length out ≤ 1
     → slice_get out 0 ≡ get (world_of old.now.trees).people name
-person_found name =
+person_found name old new rows out has =
+    let (u, words) = worded old.now.schema has in
     asked_found text_total same_texts (λ (p : Person). p.name) person_in 3 name PERSON.now (Text name ∷ []) 0 (equals 1 0 ∷ []) person_columns _
-    person_is.0 person_is.1 person_is.2 (λ db. refl) (λ r. refl) (named name)
+    (person_is u).0 (person_is u).1 (person_is u).2 (λ db. refl) (λ r. refl) (named name) old new rows out words

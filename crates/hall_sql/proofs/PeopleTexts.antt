@@ -9,14 +9,14 @@ use Rattle.sqlite.specs.Source.TheVariants.{Values}
 use Rattle.sqlite.specs.declared.types.Value.TheVariants.{Null, Text}
 use Rattle.sqlite.proofs.Callers.{IsPlain, command_of}
 use Rattle.hall_sql.specs.declared.tables.HallTable.TheVariants.{People}
-use Rattle.hall_sql.specs.Tables.{hall_schema}
 use Rattle.hall_sql.specs.Statements.{equals, rising, names_of, plain_query}
 use Rattle.hall_sql.specs.declared.people.TheConstants.{PERSON, PERSON_BY_KEY, ADD_PERSON, ALL_PEOPLE}
-use Rattle.hall_sql.specs.Asked.{IsAsked, is_whole}
+use Rattle.hall_sql.specs.Asked.{IsAsked, IsAskedIn, is_whole}
 use Rattle.hall_sql.proofs.AskedLemmas.{asked}
 use Rattle.hall_sql.specs.Versions.{IsVersion}
 use Rattle.sqlite.specs.Schema.{Schema}
 use Rattle.hall_sql.proofs.Versions.{AsksAll, by_version}
+use Rattle.hall_sql.proofs.Wordings.{Wording, by_hall, hall_in}
 
 abbrev pub person_columns : List Term
 person_columns = col 1 1 ∷ col 1 2 ∷ col 1 3 ∷ []
@@ -24,36 +24,36 @@ person_columns = col 1 1 ∷ col 1 2 ∷ col 1 3 ∷ []
 abbrev pub person_names : List (List ℕ)
 person_names = names_of People
 
-pub person_is : (command_of (understood hall_schema PERSON.now)
+pub person_is : (u : Wording) → (command_of (understood (hall_in u) PERSON.now)
     ≡ Select (record { lets = []; body = plain_query 0 (equals 1 0 ∷ []) person_columns [] }) person_names)
-    × (reads_listing hall_schema PERSON.now ≡ false) × IsPlain (understood hall_schema PERSON.now)
-    × (is_whole PERSON.now 1 (understood hall_schema PERSON.now) ≡ true)
+    × (reads_listing (hall_in u) PERSON.now ≡ false) × IsPlain (understood (hall_in u) PERSON.now)
+    × (is_whole PERSON.now 1 (understood (hall_in u) PERSON.now) ≡ true)
 unfolding understood everything
-person_is = (refl, refl, (refl, refl), refl)
+person_is u = (refl, refl, (refl, refl), refl)
 
 pub person_asked : (name : List ℕ) → IsAsked PERSON.now (Text name ∷ [])
 person_asked name =
-    asked PERSON.now (Text name ∷ []) 0 (equals 1 0 ∷ []) person_columns [] _ person_is.0 person_is.1 person_is.2 person_is.3 refl
+    by_hall (IsAskedIn PERSON.now (Text name ∷ [])) (λ u. asked PERSON.now (Text name ∷ []) 0 (equals 1 0 ∷ []) person_columns [] _ (person_is u).0 (person_is u).1 (person_is u).2 (person_is u).3 refl)
 
-pub person_by_key_is : (command_of (understood hall_schema PERSON_BY_KEY.now)
+pub person_by_key_is : (u : Wording) → (command_of (understood (hall_in u) PERSON_BY_KEY.now)
     ≡ Select (record { lets = []; body = plain_query 0 (equals 2 0 ∷ []) person_columns [] }) person_names)
-    × (reads_listing hall_schema PERSON_BY_KEY.now ≡ false) × IsPlain (understood hall_schema PERSON_BY_KEY.now)
-    × (is_whole PERSON_BY_KEY.now 1 (understood hall_schema PERSON_BY_KEY.now) ≡ true)
+    × (reads_listing (hall_in u) PERSON_BY_KEY.now ≡ false) × IsPlain (understood (hall_in u) PERSON_BY_KEY.now)
+    × (is_whole PERSON_BY_KEY.now 1 (understood (hall_in u) PERSON_BY_KEY.now) ≡ true)
 unfolding understood everything
-person_by_key_is = (refl, refl, (refl, refl), refl)
+person_by_key_is u = (refl, refl, (refl, refl), refl)
 
 pub person_by_key_asked : (key : List ℕ) → IsAsked PERSON_BY_KEY.now (Text key ∷ [])
 person_by_key_asked key =
-    asked PERSON_BY_KEY.now (Text key ∷ []) 0 (equals 2 0 ∷ []) person_columns [] _ person_by_key_is.0 person_by_key_is.1 person_by_key_is.2 person_by_key_is.3 refl
+    by_hall (IsAskedIn PERSON_BY_KEY.now (Text key ∷ [])) (λ u. asked PERSON_BY_KEY.now (Text key ∷ []) 0 (equals 2 0 ∷ []) person_columns [] _ (person_by_key_is u).0 (person_by_key_is u).1 (person_by_key_is u).2 (person_by_key_is u).3 refl)
 
 -- the rowid that is chosen, and each parameter
 abbrev pub added_terms : List Term
 added_terms = lit Null ∷ col 0 0 ∷ col 0 1 ∷ col 0 2 ∷ []
 
-pub add_person_is : (command_of (understood hall_schema ADD_PERSON.now) ≡ Insert 0 (Values added_terms 4))
-    × IsPlain (understood hall_schema ADD_PERSON.now)
+pub add_person_is : (u : Wording) → (command_of (understood (hall_in u) ADD_PERSON.now) ≡ Insert 0 (Values added_terms 4))
+    × IsPlain (understood (hall_in u) ADD_PERSON.now)
 unfolding understood everything
-add_person_is = (refl, (refl, refl))
+add_person_is u = (refl, (refl, refl))
 
 -- the order of names
 abbrev pub name_order : List (Term × Key)
@@ -63,5 +63,5 @@ pub all_people_are : (schema : Schema) → IsVersion schema → AsksAll ALL_PEOP
 unfolding understood everything
 all_people_are =
     by_version (AsksAll ALL_PEOPLE.now 0 person_columns name_order person_names)
-    (record { is = refl; unlisted = refl; plain = (refl, refl); whole = refl; typed = refl })
-    (record { is = refl; unlisted = refl; plain = (refl, refl); whole = refl; typed = refl })
+    (λ u. record { is = refl; unlisted = refl; plain = (refl, refl); whole = refl; typed = refl })
+    (λ u. record { is = refl; unlisted = refl; plain = (refl, refl); whole = refl; typed = refl })

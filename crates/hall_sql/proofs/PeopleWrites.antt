@@ -1,11 +1,9 @@
 -- What the statement that writes a person leaves.
-use Rattle.std.proofs.Common.{◌≡◌, ◌≢◌, ◌||◌, ℕ, pos, [], ◌∷◌, Bool, true, false, flat_map, is_some, option_to_list, Some, Ok, refl, ap, arith}
+use Rattle.std.proofs.Common.{◌≡◌, ◌≢◌, ◌||◌, ℕ, pos, [], ◌∷◌, Bool, true, false, flat_map, is_some, option_to_list, Some, Ok, refl, sym, ap, subst, arith}
 use Rattle.std.specs.List.{AllByRecursion}
 use Rattle.std.specs.FinMap.{FinMap, from_entries, insert}
 use Rattle.sqlite.specs.declared.types.Value.{Value}
 use Rattle.sqlite.specs.declared.types.Value.TheVariants.{Null, Int}
-use Rattle.sqlite_value.specs.Keys.{joined}
-use Rattle.sqlite_schema.specs.Names.{same_name}
 use Rattle.sqlite_schema.specs.declared.schema.Keys.TheVariants.{Enforced}
 use Rattle.sqlite_rules.specs.Action.{works}
 use Rattle.sqlite_rules.specs.Cast.{cast_row}
@@ -25,7 +23,8 @@ use Rattle.hall_policy.specs.declared.record.Person.{Person}
 use Rattle.hall_policy.specs.declared.record.Roles.{Roles}
 use Rattle.hall_policy.proofs.Orders.{text_total, same_texts}
 use Rattle.hall_policy.proofs.Reading.{kind_holds}
-use Rattle.hall_sql.specs.Tables.{hall_schema, table_at}
+use Rattle.hall_sql.specs.Tables.{IsHallSchema, hall_schema, table_at}
+use Rattle.hall_sql.proofs.Wordings.{Wording, added_in, adds_quiet, hall_in, table_in, worded}
 use Rattle.hall_sql.specs.declared.tables.HallTable.TheVariants.{People}
 use Rattle.hall_sql.specs.declared.people.TheConstants.{ADD_PERSON}
 use Rattle.hall_sql.specs.Values.{roles_in}
@@ -82,9 +81,8 @@ person_casts : (person : Person) → cast_row people_there (Null ∷ person_para
 person_casts person = rw (cast_null, cast_number (roles_code person.roles))
 
 -- no foreign key acts
-quiet : (new : Row) → works hall_schema Enforced 0 0 [] (new ∷ []) ≡ []
-unfolding same_name joined
-quiet new = refl
+quiet : (u : Wording) (new : Row) → works (hall_in u) Enforced 0 0 [] (new ∷ []) ≡ []
+quiet u new = adds_quiet (hall_in u) 0 (new ∷ [])
 
 -- where the table of people alone was written, the people alone are changed
 people_alone : (old new : Trees) (people : FinMap text_cmp Person)
@@ -106,12 +104,14 @@ pub person_added : (person : Person) → IsPerson person → (old new : State) (
     → IsHallData old.now → IsHallData new.now × AddsPerson person old.now new.now
 person_added person is old new count ran it =
     let params = person_params person in
-    let w = runs_as ADD_PERSON.now params old new hall_schema it.schema (Insert 0 (Values added_terms 4)) add_person_is.0 add_person_is.1 count ran in
-    let put = inserts hall_schema 0 people_there refl refl added_terms 4 params (Null ∷ params) params refl refl (person_casts person) quiet old new _ count it.schema w in
+    let (u, words) = worded old.now.schema it.schema in
+    let w = runs_as ADD_PERSON.now params old new (hall_in u) words (Insert 0 (Values added_terms 4)) (add_person_is u).0 (add_person_is u).1 count ran in
+    let put = added_in u 0 params old.now new.now
+    (inserts (hall_in u) 0 (table_in u People) refl refl added_terms 4 params (Null ∷ params) params refl refl (person_casts person) (quiet u) old new _ count words w) in
     let id = next_rowid (old.now.trees 0) in
     let after = added_keyed id params (old.now.trees 0) (new.now.trees 0) put.put put.free it.keyed.0 in
     let own = taken_record text_total (λ (x : Person). x.name) person.name (person_of (Int id ∷ params)) person (person_reads person is (Int id)) refl in (
-      record { schema = put.same; keyed = keyed_after 0 old.now.trees new.now.trees hall_schema.tables after put.others it.keyed },
+      record { schema = subst IsHallSchema (sym put.same) it.schema; keyed = keyed_after 0 old.now.trees new.now.trees hall_schema.tables after put.others it.keyed },
       record {
         row = put;
         world = λ unknown. people_alone old.now.trees new.now.trees (insert (world_of old.now.trees).people person.name person) put.others

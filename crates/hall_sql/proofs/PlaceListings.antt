@@ -29,7 +29,8 @@ use Rattle.hall_policy.proofs.Orders.{place_total, same_place_keys, text_total}
 use Rattle.hall_policy.proofs.Texts.{text_decides}
 use Rattle.hall_store.specs.Store.{AreUsing}
 use Rattle.hall_store.proofs.Tests.{puzzle_decides}
-use Rattle.hall_sql.specs.Tables.{hall_schema}
+use Rattle.hall_sql.specs.Tables.{IsHallSchema}
+use Rattle.hall_sql.proofs.Wordings.{Wording, hall_in, worded}
 use Rattle.hall_sql.specs.Values.{name_in, within}
 use Rattle.hall_sql.specs.Rows.{kept, place_in, place_of, world_of}
 use Rattle.hall_sql.specs.Places.{has_puzzle, is_in_round, number_cmp, round_cmp, ArePlaces, ArePlacesWith, AreListed}
@@ -120,12 +121,15 @@ numbers_rise db id out same sorted =
     (λ a b p q. by_number id a b ((text_decides a.0.round id).0 p) ((text_decides b.0.round id).0 q)) sorted
 
 -- what a query gives of the places
-module _ (old new : State) (has : old.now.schema ≡ hall_schema) (keyed : AreKeyed (old.now.trees 7)) (sound : IsDatabase old.now)
+module _ (old new : State) (has : IsHallSchema old.now.schema) (keyed : AreKeyed (old.now.trees 7)) (sound : IsDatabase old.now)
     (rows : List Row) (out : List Place) (is : map place_in rows ≡ map Some out) where
+  said : (u : Wording) × (old.now.schema ≡ hall_in u)
+  said = worded old.now.schema has
+
   whole : IsPermutation (flat_map (λ r. option_to_list (place_of r)) (old.now.trees 7)) (values (placed (old.now.trees 7)))
   whole =
       let db = old.now.trees in
-      places_listed (inr refl) db keyed (subst (λ s. IsDatabase (record { schema = s; trees = db })) has sound)
+      places_listed {schema = old.now.schema} (inr has) db keyed sound
 
   with_agrees : (key : PuzzleKey) (r : Row) (x : Place) → place_of r ≡ Some x
       → list_all (holds ((Text key.author ∷ Text key.label ∷ []) ∷ r ∷ [])) puzzle_terms ≡ has_puzzle key x
@@ -150,12 +154,12 @@ module _ (old new : State) (has : old.now.schema ≡ hall_schema) (keyed : AreKe
   places_with_told key shown = record {
     whole = are_places old.now.trees (has_puzzle key) out
         (records_asked place_in 5 PLACES_WITH.now (Text key.author ∷ Text key.label ∷ []) 7 puzzle_terms place_columns
-        round_order _ places_with_is.0 places_with_is.1 places_with_is.2 (λ db. refl) (λ r. refl) (has_puzzle key)
-        (with_agrees key) old new rows out has shown is _ whole);
+        round_order _ (places_with_is said.0).0 (places_with_is said.0).1 (places_with_is said.0).2 (λ db. refl) (λ r. refl) (has_puzzle key)
+        (with_agrees key) old new rows out said.1 shown is _ whole);
     in_order =
         records_sorted place_in 5 PLACES_WITH.now (Text key.author ∷ Text key.label ∷ []) 7 puzzle_terms place_columns
-        round_order _ places_with_is.0 places_with_is.1 places_with_is.2 (λ db. refl) (λ r. refl) (has_puzzle key)
-        (with_agrees key) old new rows out has shown is round_cmp (same_rounds key);
+        round_order _ (places_with_is said.0).0 (places_with_is said.0).1 (places_with_is said.0).2 (λ db. refl) (λ r. refl) (has_puzzle key)
+        (with_agrees key) old new rows out said.1 shown is round_cmp (same_rounds key);
   }
 
   in_agrees : (id : List ℕ) (r : Row) (x : Place) → place_of r ≡ Some x
@@ -176,11 +180,11 @@ module _ (old new : State) (has : old.now.schema ≡ hall_schema) (keyed : AreKe
 
   pub places_of_told : (id : List ℕ) → Shown PLACES_OF.now (Text id ∷ []) old new rows → AreListed (world_of old.now.trees) id out
   places_of_told id shown =
-      let same = records_asked place_in 5 PLACES_OF.now (Text id ∷ []) 7 first_terms place_columns number_order _ places_of_is.0
-      places_of_is.1 places_of_is.2 (λ db. refl) (λ r. refl) (is_in_round id) (in_agrees id) old new rows out has shown
+      let same = records_asked place_in 5 PLACES_OF.now (Text id ∷ []) 7 first_terms place_columns number_order _ (places_of_is said.0).0
+      (places_of_is said.0).1 (places_of_is said.0).2 (λ db. refl) (λ r. refl) (is_in_round id) (in_agrees id) old new rows out said.1 shown
       is _ whole in
-      let sorted = records_sorted place_in 5 PLACES_OF.now (Text id ∷ []) 7 first_terms place_columns number_order _ places_of_is.0
-      places_of_is.1 places_of_is.2 (λ db. refl) (λ r. refl) (is_in_round id) (in_agrees id) old new rows out has shown
+      let sorted = records_sorted place_in 5 PLACES_OF.now (Text id ∷ []) 7 first_terms place_columns number_order _ (places_of_is said.0).0
+      (places_of_is said.0).1 (places_of_is said.0).2 (λ db. refl) (λ r. refl) (is_in_round id) (in_agrees id) old new rows out said.1 shown
       is number_cmp (same_order id) in
       record {
         whole = are_places old.now.trees (is_in_round id) out same;

@@ -6,8 +6,6 @@ use Rattle.std.specs.FinMap.{FinMap, from_entries, get, insert, get-retain_keys}
 use Rattle.std.proofs.lemmas.Map.Text.{is_eq-slice_cmp}
 use Rattle.sqlite.specs.declared.types.Value.TheVariants.{Null, Int, Text}
 use Rattle.sqlite_value.specs.Order.{column}
-use Rattle.sqlite_value.specs.Keys.{joined}
-use Rattle.sqlite_schema.specs.Names.{same_name}
 use Rattle.sqlite_schema.specs.declared.schema.Keys.TheVariants.{Enforced}
 use Rattle.sqlite_trees.specs.Tree.{rowid}
 use Rattle.sqlite_trees.proofs.ListLemmas.{map-map}
@@ -33,7 +31,9 @@ use Rattle.hall_policy.proofs.Maps.{get-insert_other}
 use Rattle.hall_policy.proofs.Orders.{text_total, place_total, same_place_keys}
 use Rattle.hall_policy.proofs.Reading.{kind_holds}
 use Rattle.hall_store.specs.Change.{without_list, with_list}
-use Rattle.hall_sql.specs.Tables.{hall_schema}
+use Rattle.hall_sql.specs.Tables.{IsHallSchema, hall_schema}
+use Rattle.hall_sql.specs.declared.tables.HallTable.TheVariants.{Places}
+use Rattle.hall_sql.proofs.Wordings.{Wording, added_in, adds_quiet, hall_in, table_in, worded}
 use Rattle.hall_sql.specs.declared.round_writes.TheConstants.{DROP_PLACES, ADD_PLACE}
 use Rattle.hall_sql.specs.Values.{name_in, within}
 use Rattle.hall_sql.specs.RoundColumns.{place_params, is_under}
@@ -84,9 +84,8 @@ places_alone old new places others is =
     (ap (kept protest_cmp (λ row. row.key) protest_of) (others.1.1.1.1.1.0 (λ same. absurd (omega (arith, same)))))
     (ap (λ rows. from_entries (flat_map (λ row. option_to_list (tester_of row)) rows)) (others.1.1.1.1.1.1.0 (λ same. absurd (omega (arith, same)))))
 
-quiet : (new : Row) → works hall_schema Enforced 0 7 [] (new ∷ []) ≡ []
-unfolding same_name joined
-quiet new = refl
+quiet : (u : Wording) (new : Row) → works (hall_in u) Enforced 0 7 [] (new ∷ []) ≡ []
+quiet u new = adds_quiet (hall_in u) 7 (new ∷ [])
 
 -- ---- the statements
 
@@ -97,12 +96,13 @@ module _ (id : List ℕ) (old new : State) (count : ℕ) (held : IsHallData old.
       let given = Text id ∷ [] in
       let keyed = held.keyed.1.1.1.0 in
       let rows = old.now.trees 7 in
-      let w = runs_as DROP_PLACES.now given old new hall_schema held.schema _ drop_places_is.0 drop_places_is.1 count ran in
-      let it = deletes hall_schema places_there (equals 1 0 ∷ []) places_apart places_restricted 3 refl given old new _ count held.schema w in
+      let (u, words) = worded old.now.schema held.schema in
+      let w = runs_as DROP_PLACES.now given old new (hall_in u) words _ (drop_places_is u).0 (drop_places_is u).1 count ran in
+      let it = deletes (hall_in u) (table_in u Places) (equals 1 0 ∷ []) places_apart (places_restricted u) 3 refl given old new _ count words w in
       let ids : ids_of (map (λ r. eval_all (col 1 0 ∷ []) (given ∷ r ∷ [])) it.1.found) ≡ ids_of it.1.found = map-map (λ r. id_in (rowid r)) (λ r. eval_all (col 1 0 ∷ []) (given ∷ r ∷ [])) it.1.found in
       let left : new.now.trees 7 ≡ filter (λ r. not (is_under id r)) rows = it.1.cut ∙ ap (without_all rows) ids ∙ cut_rows (is_under id) rows it.1.found keyed it.1.same in
       let after = subst AreKeyed (sym left) (keyed_filter (λ r. not (is_under id r)) rows keyed) in (
-        record { schema = it.0; keyed = keyed_after 7 old.now.trees new.now.trees hall_schema.tables after it.2 held.keyed },
+        record { schema = subst IsHallSchema (sym it.0) held.schema; keyed = keyed_after 7 old.now.trees new.now.trees hall_schema.tables after it.2 held.keyed },
         record {
           world = places_alone old.now.trees new.now.trees (without_list (world_of old.now.trees).places id) it.2
               (ap (λ l. from_entries (flat_map (λ row. option_to_list (place_of row)) l)) left
@@ -117,9 +117,11 @@ module _ (id : List ℕ) (old new : State) (count : ℕ) (held : IsHallData old.
       → IsHallData new.now × PutsPlace id number entry old.now new.now
   place_added number entry is_id is_number is ran =
       let given = place_params id number entry in
-      let w = runs_as ADD_PLACE.now given old new hall_schema held.schema (Insert 3 (Values added_terms 6)) add_place_is.0 add_place_is.1 count ran in
+      let (u, words) = worded old.now.schema held.schema in
+      let w = runs_as ADD_PLACE.now given old new (hall_in u) words (Insert 3 (Values added_terms 6)) (add_place_is u).0 (add_place_is u).1 count ran in
       let casts : cast_row places_there (Null ∷ given) ≡ Null ∷ given = rw (cast_null, cast_number number, cast_number entry.points) in
-      let it = inserts hall_schema 3 places_there refl refl added_terms 6 given (Null ∷ given) given refl refl casts quiet old new _ count held.schema w in
+      let it = added_in u 7 given old.now new.now
+      (inserts (hall_in u) 3 (table_in u Places) refl refl added_terms 6 given (Null ∷ given) given refl refl casts (quiet u) old new _ count words w) in
       let at = next_rowid (old.now.trees 7) in
       let after = added_keyed at given (old.now.trees 7) (new.now.trees 7) it.put it.free held.keyed.1.1.1.0 in
       let reads : place_of (Int at ∷ given) ≡ Some (place_key id number, entry) = rw (
@@ -130,7 +132,7 @@ module _ (id : List ℕ) (old new : State) (count : ℕ) (held : IsHallData old.
         is_within 1 1000 entry.points is.points,
       ) in
       let own : is_under id (Int at ∷ given) ≡ true = agrees id (Int at ∷ given) (place_key id number, entry) reads ∙ same_itself id in (
-        record { schema = it.same; keyed = keyed_after 7 old.now.trees new.now.trees hall_schema.tables after it.others held.keyed },
+        record { schema = subst IsHallSchema (sym it.same) held.schema; keyed = keyed_after 7 old.now.trees new.now.trees hall_schema.tables after it.others held.keyed },
         record {
           world = λ none. places_alone old.now.trees new.now.trees (insert (world_of old.now.trees).places (place_key id number) entry) it.others
               (put_entry place_total same_place_keys place_of (place_key id number) entry (Int at ∷ given) (old.now.trees 7) (new.now.trees 7) none reads it.free it.put);

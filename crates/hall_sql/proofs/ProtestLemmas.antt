@@ -22,7 +22,8 @@ use Rattle.hall_policy.specs.declared.record.ProtestKey.{ProtestKey}
 use Rattle.hall_policy.specs.declared.record.ProtestRow.{ProtestRow}
 use Rattle.hall_policy.proofs.Orders.{protest_total, same_protest_keys}
 use Rattle.hall_store.specs.Store.{protests_in, protests_of, is_protest_in, is_protest_of}
-use Rattle.hall_sql.specs.Tables.{hall_schema}
+use Rattle.hall_sql.specs.Tables.{IsHallSchema}
+use Rattle.hall_sql.proofs.Wordings.{Wording, hall_in, worded}
 use Rattle.hall_sql.specs.Values.{name_in, token_in, within, kind_in, ruling_in}
 use Rattle.hall_sql.specs.Rows.{protest_in, protest_of, world_of}
 use Rattle.hall_sql.specs.Columns.{IsAlone}
@@ -75,23 +76,25 @@ agrees key r row is =
     (last_equal _ _ (column_equals (column r 3) row.key.token key.token it.token)))
 
 pub protest_found : (key : ProtestKey) (old new : State) (rows : List Row) (out : List ProtestRow)
-    → old.now.schema ≡ hall_schema → Shown PROTEST.now (key_params key) old new rows
+    → IsHallSchema old.now.schema → Shown PROTEST.now (key_params key) old new rows
     → map protest_in rows ≡ map Some out → length out ≤ 1
     → slice_get out 0 ≡ get (world_of old.now.trees).protests key
-protest_found key =
+protest_found key old new rows out has =
+    let (u, words) = worded old.now.schema has in
     asked_found protest_total same_protest_keys (λ (row : ProtestRow). row.key) protest_in 7 key PROTEST.now
     (key_params key) 12 key_terms protest_columns _
-    protest_is.0 protest_is.1 protest_is.2 (λ db. refl) (λ r. refl) (agrees key)
+    (protest_is u).0 (protest_is u).1 (protest_is u).2 (λ db. refl) (λ r. refl) (agrees key) old new rows out words
 
 -- the protest that it gives stands alone under the key
 pub protest_alone : (key : ProtestKey) (old new : State) (rows : List Row) (out : List ProtestRow)
-    → old.now.schema ≡ hall_schema → Shown PROTEST.now (key_params key) old new rows
+    → IsHallSchema old.now.schema → Shown PROTEST.now (key_params key) old new rows
     → map protest_in rows ≡ map Some out → length out ≤ 1 → IfSome (slice_get out 0) (IsAlone key old)
 protest_alone key old new rows out has shown is short =
+    let (u, words) = worded old.now.schema has in
     IfSome_then (slice_get out 0)
     (asked_alone protest_total same_protest_keys (λ (row : ProtestRow). row.key) protest_in 7 key PROTEST.now
     (key_params key) 12 key_terms protest_columns _
-    protest_is.0 protest_is.1 protest_is.2 (λ db. refl) (λ r. refl) (agrees key) old new rows out has shown is short)
+    (protest_is u).0 (protest_is u).1 (protest_is u).2 (λ db. refl) (λ r. refl) (agrees key) old new rows out words shown is short)
     (λ row it. record { one = it.0; found = it.1; reads = it.2 })
 
 -- ---- listings
@@ -153,13 +156,16 @@ all_protests_listed schema version old new has keyed sound =
     (same_order [] []) old new has whole
 
 -- what a query gives of the world's protests
-module _ (old new : State) (has : old.now.schema ≡ hall_schema) (keyed : AreKeyed (old.now.trees 12)) (sound : IsDatabase old.now)
+module _ (old new : State) (has : IsHallSchema old.now.schema) (keyed : AreKeyed (old.now.trees 12)) (sound : IsDatabase old.now)
     (rows : List Row) (out : List ProtestRow) (is : map protest_in rows ≡ map Some out) where
+  said : (u : Wording) × (old.now.schema ≡ hall_in u)
+  said = worded old.now.schema has
+
   pub whole : IsPermutation (flat_map (λ r. option_to_list (protest_of r)) (old.now.trees 12))
       (values (world_of old.now.trees).protests)
   whole =
       let db = old.now.trees in
-      protests_listed (inr refl) db keyed (subst (λ s. IsDatabase (record { schema = s; trees = db })) has sound)
+      protests_listed {schema = old.now.schema} (inr has) db keyed sound
 
   pub in_agrees : (round : List ℕ) (r : Row) (x : ProtestRow) → protest_of r ≡ Some x
       → list_all (holds ((Text round ∷ []) ∷ r ∷ [])) (equals 2 0 ∷ []) ≡ is_protest_in round x
@@ -178,14 +184,14 @@ module _ (old new : State) (has : old.now.schema ≡ hall_schema) (keyed : AreKe
       → out ≡ protests_in (world_of old.now.trees) round
   protests_in_listed round shown =
       values_asked protest_in 7 PROTESTS_IN.now (Text round ∷ []) 12 (equals 2 0 ∷ []) protest_columns key_order _
-      protests_in_is.0 protests_in_is.1 protests_in_is.2 (λ db. refl) (λ r. refl) (is_protest_in round) (in_agrees round)
-      old new rows out has shown is protest_total same_protest_keys (λ (row : ProtestRow). row.key) whole
+      (protests_in_is said.0).0 (protests_in_is said.0).1 (protests_in_is said.0).2 (λ db. refl) (λ r. refl) (is_protest_in round) (in_agrees round)
+      old new rows out said.1 shown is protest_total same_protest_keys (λ (row : ProtestRow). row.key) whole
       (same_order (Text round ∷ []) (equals 2 0 ∷ []))
 
   pub protests_of_listed : (entrant round : List ℕ) → Shown PROTESTS_OF.now (Text entrant ∷ Text round ∷ []) old new rows
       → out ≡ protests_of (world_of old.now.trees) entrant round
   protests_of_listed entrant round shown =
       values_asked protest_in 7 PROTESTS_OF.now (Text entrant ∷ Text round ∷ []) 12 (equals 2 1 ∷ equals 1 0 ∷ [])
-      protest_columns key_order _ protests_of_is.0 protests_of_is.1 protests_of_is.2 (λ db. refl) (λ r. refl)
-      (is_protest_of entrant round) (of_agrees entrant round) old new rows out has shown is protest_total same_protest_keys
+      protest_columns key_order _ (protests_of_is said.0).0 (protests_of_is said.0).1 (protests_of_is said.0).2 (λ db. refl) (λ r. refl)
+      (is_protest_of entrant round) (of_agrees entrant round) old new rows out said.1 shown is protest_total same_protest_keys
       (λ (row : ProtestRow). row.key) whole (same_order (Text entrant ∷ Text round ∷ []) (equals 2 1 ∷ equals 1 0 ∷ []))

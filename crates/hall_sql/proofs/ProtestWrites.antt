@@ -34,7 +34,9 @@ use Rattle.hall_policy.proofs.Orders.{protest_total, same_protest_keys}
 use Rattle.hall_policy.proofs.Reading.{kind_holds}
 use Rattle.hall_store.specs.Change.{changed, with_ruling}
 use Rattle.hall_store.specs.declared.change.Change.TheVariants.{AddProtest, RuleProtest}
-use Rattle.hall_sql.specs.Tables.{hall_schema}
+use Rattle.hall_sql.specs.Tables.{IsHallSchema, hall_schema}
+use Rattle.hall_sql.specs.declared.tables.HallTable.TheVariants.{Protests}
+use Rattle.hall_sql.proofs.Wordings.{Wording, added_in, adds_quiet, hall_in, keeps_quiet, table_in, worded}
 use Rattle.hall_sql.specs.declared.protests.TheConstants.{ADD_PROTEST, RULE_PROTEST}
 use Rattle.hall_sql.specs.Values.{ruling_in}
 use Rattle.hall_sql.specs.Columns.{protest_params, ruling_params, ruling_code, is_protest_under, IsAlone}
@@ -80,9 +82,8 @@ protest_casts : (row : ProtestRow) → cast_row protests_there (Null ∷ protest
 protest_casts row = rw (cast_null, cast_number row.number, cast_number (ruling_code row.ruling), cast_int (ruling_points row.ruling))
 
 -- no foreign key acts
-quiet : (new : Row) → works hall_schema Enforced 0 12 [] (new ∷ []) ≡ []
-unfolding same_name joined
-quiet new = refl
+quiet : (u : Wording) (new : Row) → works (hall_in u) Enforced 0 12 [] (new ∷ []) ≡ []
+quiet u new = adds_quiet (hall_in u) 12 (new ∷ [])
 
 -- where the table of protests alone was written, the protests alone are changed
 protests_alone : (old new : Trees) (protests : FinMap protest_cmp ProtestRow)
@@ -100,15 +101,16 @@ protests_alone old new protests others is =
     (ap (λ rows. from_entries (flat_map (λ row. option_to_list (tester_of row)) rows)) (others.1.1.1.1.1.1.0 (λ same. absurd (omega (arith, same)))))
 
 -- what the INSERT of a protest adds
-module _ (row : ProtestRow) (is : IsProtestRow row) (old new : State) (count : ℕ) (has : old.now.schema ≡ hall_schema)
+module _ (row : ProtestRow) (is : IsProtestRow row) (old new : State) (count : ℕ) (u : Wording) (has : old.now.schema ≡ hall_in u)
     (ran : Executes ADD_PROTEST.now (protest_params row) old new (Ok count)) where
-  writes : Writes old new None (Insert 5 (Values added_terms 8)) (statement_of ADD_PROTEST.now (understood hall_schema ADD_PROTEST.now)) (protest_params row) count
-  writes = runs_as ADD_PROTEST.now (protest_params row) old new hall_schema has (Insert 5 (Values added_terms 8)) add_protest_is.0 add_protest_is.1 count ran
+  writes : Writes old new None (Insert 5 (Values added_terms 8)) (statement_of ADD_PROTEST.now (understood (hall_in u) ADD_PROTEST.now)) (protest_params row) count
+  writes = runs_as ADD_PROTEST.now (protest_params row) old new (hall_in u) has (Insert 5 (Values added_terms 8)) (add_protest_is u).0 (add_protest_is u).1 count ran
 
   adds : HasAdded hall_schema 12 (protest_params row) old.now new.now
   adds =
       let params = protest_params row in
-      inserts hall_schema 5 protests_there refl refl added_terms 8 params (Null ∷ params) params refl refl (protest_casts row) quiet old new _ count has writes
+      added_in u 12 params old.now new.now
+      (inserts (hall_in u) 5 (table_in u Protests) refl refl added_terms 8 params (Null ∷ params) params refl refl (protest_casts row) (quiet u) old new _ count has writes)
 
   with_protest : WithProtest (world_of old.now.trees) row (world_of new.now.trees)
   with_protest fresh =
@@ -120,11 +122,12 @@ module _ (row : ProtestRow) (is : IsProtestRow row) (old new : State) (count : �
 pub protest_put : (row : ProtestRow) → IsProtestRow row → (old new : State) (count : ℕ) → Executes ADD_PROTEST.now (protest_params row) old new (Ok count)
     → IsHallData old.now → IsHallData new.now × AddsProtest old.now row new.now
 protest_put row is old new count ran held =
-    let it = adds row is old new count held.schema ran in (
+    let (u, words) = worded old.now.schema held.schema in
+    let it = adds row is old new count u words ran in (
       data_added 12 (protest_params row) old.now new.now it held held.keyed.1.1.1.1.1.0,
       record {
         row = it;
-        world = with_protest row is old new count held.schema ran;
+        world = with_protest row is old new count u words ran;
         read = added_read 12 (protest_params row) old.now new.now it (ap is_some (protest_reads row is (Int (next_rowid (old.now.trees 12))))) (λ all. all.1.1.1.1.1.0);
       },
     )
@@ -138,8 +141,9 @@ protest_added row is old new count hall clean fresh ran =
     let mode = hall.autocommit clean in
     let was = executed_open old new ADD_PROTEST.now params count mode ran in
     let held : IsHallData old.now = record { schema = (hall.settled clean was).1; keyed = hall.keyed clean was } in
-    let w = writes row is old new count held.schema ran in
-    let it = adds row is old new count held.schema ran in
+    let (u, words) = worded old.now.schema held.schema in
+    let w = writes row is old new count u words ran in
+    let it = adds row is old new count u words ran in
     let put = protest_put row is old new count ran held in
     let id = Int (next_rowid (old.now.trees 12)) in
     record {
@@ -167,9 +171,11 @@ module _ (key : ProtestKey) (row : ProtestRow) (ruling : Ruling) (in_row : IsPro
   made = made_with hall_schema protests_there key_terms ruled_terms apart params
 
   -- what others refer to is not here, so no foreign key acts
-  ruled_quiet : (r : Row) → has_key r ≡ true → works hall_schema Enforced 0 12 (r ∷ []) (made r ∷ []) ≡ []
+  ruled_quiet : (u : Wording) (r : Row) → has_key r ≡ true → works (hall_in u) Enforced 0 12 (r ∷ []) (made r ∷ []) ≡ []
   unfolding same_name joined
-  ruled_quiet r taken = refl
+  ruled_quiet u r taken =
+      keeps_quiet u 12 (r ∷ []) (made r ∷ [])
+      (tt, ((λ a. refl, tt), (tt, ((λ a. refl, (λ a. refl, tt)), ((λ a. refl, (λ a. refl, tt)), ((λ a. refl, (λ a. refl, tt)), ((λ a. refl, (λ a. refl, tt)), tt)))))))
 
   -- the row that is made is read as the protest with its ruling
   ruled_reads : (r : Row) → protest_of r ≡ Some row → protest_of (made r) ≡ Some ruled
@@ -205,14 +211,15 @@ module _ (key : ProtestKey) (row : ProtestRow) (ruling : Ruling) (in_row : IsPro
         let was = executed_open old new RULE_PROTEST.now params count mode ran in
         let has = (hall.settled clean was).1 in
         let keyed = hall.keyed clean was in
-        let w = runs_as RULE_PROTEST.now params old new hall_schema has (Update 5 (update hall_schema protests_there key_terms ruled_terms apart)) rule_protest_is.0 rule_protest_is.1 count ran in
-        let it = updates hall_schema protests_there key_terms ruled_terms apart 5 refl params ruled_quiet old new _ count has keyed.1.1.1.1.1.0 w (ap length alone.found) in
+        let (u, words) = worded old.now.schema has in
+        let w = runs_as RULE_PROTEST.now params old new (hall_in u) words (Update 5 (update (hall_in u) (table_in u Protests) key_terms ruled_terms apart)) (rule_protest_is u).0 (rule_protest_is u).1 count ran in
+        let it = updates (hall_in u) (table_in u Protests) key_terms ruled_terms apart 5 refl params (ruled_quiet u) old new _ count words keyed.1.1.1.1.1.0 w (ap length alone.found) in
         let there = ruled_there alone in
         let own : row.key ≡ key = kept_keyed protest_total same_protest_keys (λ (x : ProtestRow). x.key) protest_of (old.now.trees 12) key row there in
         let one : alone.one ≡ it.rows.one = head_is (sym alone.found ∙ it.rows.found) in
         let reads : protest_of it.rows.one ≡ Some row = subst (λ r. protest_of r ≡ Some row) one alone.reads in
         record {
-          hall = writes_hall old new _ _ _ count mode w it.same (keyed_after 12 old.now.trees new.now.trees hall_schema.tables it.keyed it.others keyed);
+          hall = writes_hall old new _ _ _ count mode w (subst IsHallSchema (sym it.same) has) (keyed_after 12 old.now.trees new.now.trees hall_schema.tables it.keyed it.others keyed);
           was_open = was;
           serves = w.shown.is_open;
           world = protests_alone old.now.trees new.now.trees (insert (world_of old.now.trees).protests key ruled) it.others

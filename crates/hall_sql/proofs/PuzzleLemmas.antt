@@ -13,7 +13,8 @@ use Rattle.hall_policy.specs.World.{puzzle_cmp}
 use Rattle.hall_policy.proofs.Orders.{puzzle_total, same_puzzle_keys}
 use Rattle.hall_policy.specs.declared.record.PuzzleKey.{PuzzleKey}
 use Rattle.hall_policy.specs.declared.record.PuzzleRow.{PuzzleRow}
-use Rattle.hall_sql.specs.Tables.{hall_schema}
+use Rattle.hall_sql.specs.Tables.{IsHallSchema}
+use Rattle.hall_sql.proofs.Wordings.{worded}
 use Rattle.hall_sql.specs.declared.puzzles.TheConstants.{PUZZLE}
 use Rattle.hall_sql.specs.Values.{name_in, puzzle_in, state_in}
 use Rattle.hall_sql.specs.Rows.{puzzle_row_in, puzzle_row_of, world_of}
@@ -39,9 +40,10 @@ agrees key r row is =
     more_equal _ _ _ _ (column_equals (column r 1) row.key.author key.author columns.0)
     (last_equal _ _ (column_equals (column r 2) row.key.label key.label columns.1))
 
-pub puzzle_found : (key : PuzzleKey) (old new : State) (rows : List Row) (out : List PuzzleRow) → old.now.schema ≡ hall_schema
+pub puzzle_found : (key : PuzzleKey) (old new : State) (rows : List Row) (out : List PuzzleRow) → IsHallSchema old.now.schema
     → Shown PUZZLE.now (key_params key) old new rows → map puzzle_row_in rows ≡ map Some out → length out ≤ 1
     → slice_get out 0 ≡ get (world_of old.now.trees).puzzles key
-puzzle_found key =
+puzzle_found key old new rows out has =
+    let (u, words) = worded old.now.schema has in
     asked_found puzzle_total same_puzzle_keys (λ (row : PuzzleRow). row.key) puzzle_row_in 5 key PUZZLE.now (key_params key) 3 key_terms puzzle_columns _
-    puzzle_is.0 puzzle_is.1 puzzle_is.2 (λ db. refl) (λ r. refl) (agrees key)
+    (puzzle_is u).0 (puzzle_is u).1 (puzzle_is u).2 (λ db. refl) (λ r. refl) (agrees key) old new rows out words

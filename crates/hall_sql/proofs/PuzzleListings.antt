@@ -23,7 +23,8 @@ use Rattle.hall_policy.specs.Rules.{puzzles_put}
 use Rattle.hall_policy.specs.World.{World}
 use Rattle.hall_store.specs.Store.{puzzles_of}
 use Rattle.std.proofs.lemmas.List.Sums.{length-filter}
-use Rattle.hall_sql.specs.Tables.{hall_schema}
+use Rattle.hall_sql.specs.Tables.{IsHallSchema}
+use Rattle.hall_sql.proofs.Wordings.{Wording, hall_in, worded}
 use Rattle.hall_sql.specs.Rows.{puzzle_row_in, puzzle_row_of, world_of}
 use Rattle.hall_sql.specs.Standing.{AreKeyed, AreKeyedIn}
 use Rattle.hall_sql.specs.declared.puzzles.TheConstants.{ALL_PUZZLES, PUZZLES_OF}
@@ -94,13 +95,16 @@ puzzles_counted world author =
     length-filter (λ (row : PuzzleRow). same_text row.key.author author) (values world.puzzles)
 
 -- what a query in the order of keys gives of the world's puzzles
-module _ (old new : State) (has : old.now.schema ≡ hall_schema) (keyed : AreKeyed (old.now.trees 3)) (sound : IsDatabase old.now)
+module _ (old new : State) (has : IsHallSchema old.now.schema) (keyed : AreKeyed (old.now.trees 3)) (sound : IsDatabase old.now)
     (rows : List Row) (out : List PuzzleRow) (is : map puzzle_row_in rows ≡ map Some out) where
+  said : (u : Wording) × (old.now.schema ≡ hall_in u)
+  said = worded old.now.schema has
+
   whole : IsPermutation (flat_map (λ r. option_to_list (puzzle_row_of r)) (old.now.trees 3))
       (values (world_of old.now.trees).puzzles)
   whole =
       let db = old.now.trees in
-      puzzles_listed (inr refl) db keyed (subst (λ s. IsDatabase (record { schema = s; trees = db })) has sound)
+      puzzles_listed {schema = old.now.schema} (inr has) db keyed sound
 
   by_author : (author : List ℕ) (r : Row) (x : PuzzleRow) → puzzle_row_of r ≡ Some x
       → list_all (holds ((Text author ∷ []) ∷ r ∷ [])) (equals 1 0 ∷ []) ≡ same_text x.key.author author
@@ -110,6 +114,6 @@ module _ (old new : State) (has : old.now.schema ≡ hall_schema) (keyed : AreKe
       → out ≡ puzzles_of (world_of old.now.trees) author
   puzzles_of_listed author shown =
       values_asked puzzle_row_in 5 PUZZLES_OF.now (Text author ∷ []) 3 (equals 1 0 ∷ []) puzzle_columns key_order _
-      puzzles_of_is.0 puzzles_of_is.1 puzzles_of_is.2 (λ db. refl) (λ r. refl) (λ row. same_text row.key.author author)
-      (by_author author) old new rows out has shown is puzzle_total same_puzzle_keys (λ (row : PuzzleRow). row.key) whole
+      (puzzles_of_is said.0).0 (puzzles_of_is said.0).1 (puzzles_of_is said.0).2 (λ db. refl) (λ r. refl) (λ row. same_text row.key.author author)
+      (by_author author) old new rows out said.1 shown is puzzle_total same_puzzle_keys (λ (row : PuzzleRow). row.key) whole
       (same_order (Text author ∷ []) (equals 1 0 ∷ []))

@@ -43,7 +43,9 @@ use Rattle.hall_policy.proofs.Reading.{kind_holds}
 use Rattle.hall_store.specs.Change.{changed, with_state}
 use Rattle.hall_store.specs.declared.change.Change.TheVariants.{PutPuzzle, SetState}
 use Rattle.hall_sql.proofs.UniqueLemmas.{kept_keyed}
-use Rattle.hall_sql.specs.Tables.{hall_schema}
+use Rattle.hall_sql.specs.Tables.{IsHallSchema, hall_schema}
+use Rattle.hall_sql.specs.declared.tables.HallTable.TheVariants.{Puzzles}
+use Rattle.hall_sql.proofs.Wordings.{Wording, added_in, adds_quiet, hall_in, keeps_quiet, table_in, worded}
 use Rattle.hall_sql.specs.declared.puzzles.TheConstants.{LOOK_PUZZLE, ADD_PUZZLE, REPLACE_PUZZLE}
 use Rattle.hall_sql.specs.Values.{state_in}
 use Rattle.hall_sql.specs.Columns.{puzzle_params, HasSoMany, state_code, solution_of}
@@ -56,12 +58,14 @@ use Rattle.hall_sql.proofs.PuzzleTexts.{puzzles_there, key_terms, added_terms, r
 use Rattle.hall_sql.proofs.PuzzleLemmas.{key_columns}
 use Rattle.hall_sql.proofs.CallLemmas.{executed_open, answers_selection}
 use Rattle.hall_sql.proofs.ColumnLemmas.{texts_equal, column_equals, last_equal, more_equal, spelled}
+use Rattle.hall_grid.specs.Canonical.{CanonicalText}
+use Rattle.hall_sql.specs.PuzzleText.{HasPuzzleRow}
 use Rattle.hall_sql.proofs.AllRead.{added_read}
 use Rattle.hall_sql.proofs.InsertLemmas.{inserts}
 use Rattle.hall_sql.proofs.KeyedLemmas.{data_added, keyed_after}
 use Rattle.hall_sql.proofs.MapLemmas.{equal_is, put_new}
-use Rattle.hall_sql.proofs.QuietLemmas.{no_works, two_stay}
-use Rattle.hall_sql.proofs.ReplaceLemmas.{replaced_one, added_one}
+use Rattle.hall_sql.proofs.QuietLemmas.{two_stay}
+use Rattle.hall_sql.proofs.ReplaceLemmas.{replaced_one, added_one, put_alone, replaced_alone}
 use Rattle.hall_sql.proofs.SparedLemmas.{own_key, added_spared, replaced_spared, alone_spared}
 use Rattle.hall_sql.proofs.UpdateLemmas.{update, updates, passes_with, made_with}
 use Rattle.hall_sql.proofs.WriteLemmas.{writes_hall, same_worlds, cast_null, cast_number}
@@ -106,11 +110,12 @@ no_rows [] e = refl
 no_rows (x ∷ xs) e = absurd (omega (arith, e))
 
 -- how many rows the look finds
-pub puzzle_looked : (key : PuzzleKey) (old new : State) (rows : List Row) → old.now.schema ≡ hall_schema
+pub puzzle_looked : (key : PuzzleKey) (old new : State) (rows : List Row) → IsHallSchema old.now.schema
     → Shown LOOK_PUZZLE.now (Text key.author ∷ Text key.label ∷ []) old new rows → HasSoMany key old (length rows)
 puzzle_looked key old new rows has shown =
     let given = Text key.author ∷ Text key.label ∷ [] in
-    let sel = answers_selection LOOK_PUZZLE.now given old new 3 key_terms (col 1 1 ∷ []) [] _ look_puzzle_is.0 look_puzzle_is.1 look_puzzle_is.2 refl has rows shown in
+    let (u, words) = worded old.now.schema has in
+    let sel = answers_selection LOOK_PUZZLE.now given old new 3 key_terms (col 1 1 ∷ []) [] _ (look_puzzle_is u).0 (look_puzzle_is u).1 (look_puzzle_is u).2 refl words rows shown in
     sym (length_permutation _ sel.found sel.same) ∙ sym (length-map sel.found (λ r. eval_all (col 1 1 ∷ []) (given ∷ r ∷ []))) ∙ ap length (sym sel.shown)
 
 module _ (text : List ℕ) (row : PuzzleRow) (spells : SpellsText text row.puzzle) (in_key : IsPuzzleKey row.key) (in_state : IsState row.state) where
@@ -146,9 +151,8 @@ module _ (text : List ℕ) (row : PuzzleRow) (spells : SpellsText text row.puzzl
   own_row : (r : Row) → puzzle_row_of r ≡ Some row → has_key r ≡ true
   own_row r is = agrees r row is ∙ own_key puzzle_total row.key
 
-  quiet : (new : Row) → works hall_schema Enforced 0 3 [] (new ∷ []) ≡ []
-  unfolding same_name joined
-  quiet new = refl
+  quiet : (u : Wording) (new : Row) → works (hall_in u) Enforced 0 3 [] (new ∷ []) ≡ []
+  quiet u new = adds_quiet (hall_in u) 3 (new ∷ [])
 
   module _ (r : Row) (taken : has_key r ≡ true) where
     author_is : column r 1 ≡ Text row.key.author
@@ -168,20 +172,26 @@ module _ (text : List ℕ) (row : PuzzleRow) (spells : SpellsText text row.puzzl
       state_reads row.state in_state,
     )
 
+    -- the row keeps its rowid, and has the columns
+    made_is : made r ≡ column (made r) 0 ∷ params
+    made_is = rw (author_is, label_is, cast_number (state_code row.state)) refl
+
     -- the key stays, so no foreign key acts
-    made_quiet : works hall_schema Enforced 0 3 (r ∷ []) (made r ∷ []) ≡ []
+    made_quiet : (u : Wording) → works (hall_in u) Enforced 0 3 (r ∷ []) (made r ∷ []) ≡ []
     unfolding same_name joined
-    made_quiet =
+    made_quiet u =
         let stays = two_stay _ 1 2 r (made r) (rw author_is) (rw label_is) in
-        no_works hall_schema Enforced 0 3 (r ∷ []) (made r ∷ []) (tt, ((refl, tt), (tt, ((refl, (stays, tt)), ((refl, (refl, tt)), ((refl, (refl, tt)), ((refl, (refl, tt)), tt)))))))
+        keeps_quiet u 3 (r ∷ []) (made r ∷ [])
+        (tt, ((λ a. refl, tt), (tt, ((λ a. refl, (λ a. stays, tt)), ((λ a. refl, (λ a. refl, tt)), ((λ a. refl, (λ a. refl, tt)), ((λ a. refl, (λ a. refl, tt)), tt)))))))
 
   -- what the INSERT of a puzzle adds
-  module _ (old new : State) (count : ℕ) (has : old.now.schema ≡ hall_schema) (ran : Executes ADD_PUZZLE.now params old new (Ok count)) where
-    writes : Writes old new None (Insert 1 (Values added_terms 6)) (statement_of ADD_PUZZLE.now (understood hall_schema ADD_PUZZLE.now)) params count
-    writes = runs_as ADD_PUZZLE.now params old new hall_schema has (Insert 1 (Values added_terms 6)) add_puzzle_is.0 add_puzzle_is.1 count ran
+  module _ (old new : State) (count : ℕ) (u : Wording) (has : old.now.schema ≡ hall_in u) (ran : Executes ADD_PUZZLE.now params old new (Ok count)) where
+    writes : Writes old new None (Insert 1 (Values added_terms 6)) (statement_of ADD_PUZZLE.now (understood (hall_in u) ADD_PUZZLE.now)) params count
+    writes = runs_as ADD_PUZZLE.now params old new (hall_in u) has (Insert 1 (Values added_terms 6)) (add_puzzle_is u).0 (add_puzzle_is u).1 count ran
 
     adds : HasAdded hall_schema 3 params old.now new.now
-    adds = inserts hall_schema 1 puzzles_there refl refl added_terms 6 params (Null ∷ params) params refl refl puzzle_casts quiet old new _ count has writes
+    adds = added_in u 3 params old.now new.now
+        (inserts (hall_in u) 1 (table_in u Puzzles) refl refl added_terms 6 params (Null ∷ params) params refl refl puzzle_casts (quiet u) old new _ count has writes)
 
     with_puzzle : WithPuzzle (world_of old.now.trees) row (world_of new.now.trees)
     with_puzzle fresh =
@@ -193,11 +203,12 @@ module _ (text : List ℕ) (row : PuzzleRow) (spells : SpellsText text row.puzzl
   pub puzzle_put : (old new : State) (count : ℕ) → Executes ADD_PUZZLE.now params old new (Ok count)
       → IsHallData old.now → IsHallData new.now × AddsRow 3 WithPuzzle params old.now row new.now
   puzzle_put old new count ran held =
-      let it = adds old new count held.schema ran in (
+      let (u, words) = worded old.now.schema held.schema in
+      let it = adds old new count u words ran in (
         data_added 3 params old.now new.now it held held.keyed.1.0,
         record {
           row = it;
-          world = with_puzzle old new count held.schema ran;
+          world = with_puzzle old new count u words ran;
           read = added_read 3 params old.now new.now it (ap is_some (puzzle_reads (Int (next_rowid (old.now.trees 3))))) (λ all. all.1.0);
         },
       )
@@ -209,8 +220,9 @@ module _ (text : List ℕ) (row : PuzzleRow) (spells : SpellsText text row.puzzl
         let mode = hall.autocommit clean in
         let was = executed_open old new ADD_PUZZLE.now params count mode ran in
         let held : IsHallData old.now = record { schema = (hall.settled clean was).1; keyed = hall.keyed clean was } in
-        let w = writes old new count held.schema ran in
-        let it = adds old new count held.schema ran in
+        let (u, words) = worded old.now.schema held.schema in
+        let w = writes old new count u words ran in
+        let it = adds old new count u words ran in
         let put = puzzle_put old new count ran held in
         let id = next_rowid (old.now.trees 3) in
         record {
@@ -230,18 +242,52 @@ module _ (text : List ℕ) (row : PuzzleRow) (spells : SpellsText text row.puzzl
         let was = executed_open old new REPLACE_PUZZLE.now params count mode ran in
         let has = (hall.settled clean was).1 in
         let keyed = hall.keyed clean was in
-        let w = runs_as REPLACE_PUZZLE.now params old new hall_schema has (Update 1 (update hall_schema puzzles_there key_terms replaced_terms apart)) replace_puzzle_is.0 replace_puzzle_is.1 count ran in
-        let it = updates hall_schema puzzles_there key_terms replaced_terms apart 1 refl params made_quiet old new _ count has keyed.1.0 w (single was) in
+        let (u, words) = worded old.now.schema has in
+        let w = runs_as REPLACE_PUZZLE.now params old new (hall_in u) words (Update 1 (update (hall_in u) (table_in u Puzzles) key_terms replaced_terms apart)) (replace_puzzle_is u).0 (replace_puzzle_is u).1 count ran in
+        let it = updates (hall_in u) (table_in u Puzzles) key_terms replaced_terms apart 1 refl params (λ r taken. made_quiet r taken u) old new _ count words keyed.1.0 w (single was) in
         let one = it.rows.one in
         let there = has_filtered has_key (old.now.trees 3) one (subst (λ l. Has l one) (sym it.rows.found) (inl refl)) in
         record {
-          hall = writes_hall old new _ _ _ count mode w it.same (keyed_after 3 old.now.trees new.now.trees hall_schema.tables it.keyed it.others keyed);
+          hall = writes_hall old new _ _ _ count mode w (subst IsHallSchema (sym it.same) has) (keyed_after 3 old.now.trees new.now.trees hall_schema.tables it.keyed it.others keyed);
           was_open = was;
           serves = w.shown.is_open;
           world = puzzles_alone old.now.trees new.now.trees (insert (world_of old.now.trees).puzzles row.key row) it.others
               (replaced_one puzzle_total same_puzzle_keys (λ (x : PuzzleRow). x.key) puzzle_row_of row.key has_key agrees made (old.now.trees 3) (new.now.trees 3) row keyed.1.0 it.rows refl (made_reads one there.1));
           others = alone_spared (may_write (PutPuzzle row)) 3 old.now.trees new.now.trees
               (replaced_spared (may_write (PutPuzzle row) 3) has_key made (old.now.trees 3) (new.now.trees 3) keyed.1.0 it.rows there.1 (own_row (made one) (made_reads one there.1))) it.others;
+        }
+
+    -- the row that was added stands alone under the key
+    pub added_alone : CanonicalText text row.puzzle → (IsTrue old.is_open → HasSoMany row.key old 0) → Executes ADD_PUZZLE.now params old new (Ok count)
+        → HasPuzzleRow row new.now
+    added_alone canonical nobody ran =
+        let was = executed_open old new ADD_PUZZLE.now params count (hall.autocommit clean) ran in
+        let (u, words) = worded old.now.schema (hall.settled clean was).1 in
+        let it = adds old new count u words ran in
+        let id = Int (next_rowid (old.now.trees 3)) in
+        record {
+          text = text;
+          canonical = canonical;
+          rowid = id;
+          alone = put_alone has_key (old.now.trees 3) (new.now.trees 3) (id ∷ params) (own_row (id ∷ params) (puzzle_reads id)) (no_rows _ (nobody was)) it.free it.put;
+        }
+
+    -- and so does the one that took another's place
+    pub replaced_row : CanonicalText text row.puzzle → (IsTrue old.is_open → HasSoMany row.key old 1) → Executes REPLACE_PUZZLE.now params old new (Ok count)
+        → HasPuzzleRow row new.now
+    replaced_row canonical single ran =
+        let was = executed_open old new REPLACE_PUZZLE.now params count (hall.autocommit clean) ran in
+        let keyed = hall.keyed clean was in
+        let (u, words) = worded old.now.schema (hall.settled clean was).1 in
+        let w = runs_as REPLACE_PUZZLE.now params old new (hall_in u) words (Update 1 (update (hall_in u) (table_in u Puzzles) key_terms replaced_terms apart)) (replace_puzzle_is u).0 (replace_puzzle_is u).1 count ran in
+        let it = updates (hall_in u) (table_in u Puzzles) key_terms replaced_terms apart 1 refl params (λ r taken. made_quiet r taken u) old new _ count words keyed.1.0 w (single was) in
+        let one = it.rows.one in
+        let there = has_filtered has_key (old.now.trees 3) one (subst (λ l. Has l one) (sym it.rows.found) (inl refl)) in
+        record {
+          text = text;
+          canonical = canonical;
+          rowid = column (made one) 0;
+          alone = replaced_alone has_key made (old.now.trees 3) (new.now.trees 3) keyed.1.0 it.rows (own_row (made one) (made_reads one there.1)) ∙ ap (λ r. r ∷ []) (made_is one there.1);
         }
 
 -- a puzzle stands under its own key, so to put it in a state is to set the state under the key

@@ -1,18 +1,18 @@
 -- Why a read fails that asks after another, or row by row.
-use Rattle.std.proofs.Common.{◌≡◌, ◌≤◌, inl, inr, ℕ, List, [], ◌∷◌, ◌++◌, Option, Ok, sym, ap, subst, ◌∙◌, arith}
+use Rattle.std.proofs.Common.{◌≡◌, ◌≤◌, inl, inr, ℕ, List, [], ◌∷◌, ◌++◌, Option, Ok, refl, sym, subst, ◌∙◌, arith}
 use Rattle.sqlite_trees.specs.declared.store.Store.{Ghosts}
 use Rattle.sqlite.specs.Effect.{Database}
 use Rattle.sqlite.specs.Held.{Held, state}
 use Rattle.sqlite.specs.Listing.{understood, reads_listing, IsSourceOf}
 use Rattle.sqlite.specs.Order.{Row}
 use Rattle.sqlite.specs.State.{State, HasCleanDisk, IsUnchanged, Begins, Shown}
-use Rattle.sqlite.proofs.Callers.{IsPlain, given_begin, unchanged_then}
+use Rattle.sqlite.proofs.Callers.{given_begin, unchanged_then}
 use Rattle.hall_policy.specs.Sink.{HasTaken}
 use Rattle.hall_sql.specs.Asked.{IsAsked}
 use Rattle.hall_sql.specs.Cause.{FeedFails, ReadFails}
 use Rattle.hall_sql.specs.Feed.{HasRead, StepFails}
 use Rattle.hall_sql.specs.Standing.{IsHall, Lasts}
-use Rattle.hall_sql.specs.Tables.{hall_schema}
+use Rattle.hall_sql.specs.Tables.{IsHallSchema}
 use Rattle.hall_sql.proofs.AskedLemmas.{open_cause}
 use Rattle.hall_sql.proofs.CallLemmas.{shown_unchanged}
 use Rattle.hall_sql.proofs.FeedLemmas.{shown_since}
@@ -20,19 +20,16 @@ use Rattle.hall_sql.proofs.WriteCauseLemmas.{cause_over, cause_served}
 
 -- after a query that was answered
 pub after_shown : {X : Type 0} (read : Row → Option X) (first : List ℕ) (given : Row) (sql : List ℕ) (params : Row) (a b c : State)
-    → a.now.schema ≡ hall_schema → IsPlain (understood hall_schema first) → IsPlain (understood hall_schema sql) → a.faults ≤ b.faults
+    → IsHallSchema a.now.schema → IsAsked first given → IsAsked sql params → a.faults ≤ b.faults
     → (rows : List Row) → Shown first given a b rows → ReadFails read sql params b c → ReadFails read sql params a c
 after_shown read first given sql params a b c has quiet plain counts rows shown fails = go fails
   where
-    plain_here : (text : List ℕ) → IsPlain (understood hall_schema text) → IsPlain (understood a.now.schema text)
-    plain_here text it = subst (λ s. IsPlain (understood s text)) (sym has) it
-
     same : IsUnchanged a b
-    same = shown_unchanged first given a b rows (plain_here first quiet) shown
+    same = shown_unchanged first given a b rows (quiet a.now.schema has).plain shown
 
     go : ReadFails read sql params b c → ReadFails read sql params a c
     go (inl cause) = inl (cause_served a b c counts same.0.is_open cause)
-    go (inr it) = inr (it.0, shown_since sql params a b c it.0 (plain_here sql plain) same it.1, it.2)
+    go (inr it) = inr (it.0, shown_since sql params a b c it.0 (plain a.now.schema has).plain same it.1, it.2)
 
 -- ---- row by row
 
@@ -56,9 +53,9 @@ pub feed_cause : {S K X : Type 0} (g : Ghosts S) (read : Row → Option X) (Take
     → FeedFails read Takes Refuses sql params old (state g next) before sink
 feed_cause g read Takes Refuses sql params asks old hall h next before sink lasts clean more taken took so (inl it) =
     let was : HasCleanDisk old = omega (arith, lasts.clean, clean) in
-    let has : (state g h).now.schema ≡ hall_schema = ap (λ (d : Database). d.schema) so.same.0.now_is ∙ (hall.settled was so.same.0.was_open).1 in
+    let has : IsHallSchema (state g h).now.schema = subst (λ (d : Database). IsHallSchema d.schema) (sym so.same.0.now_is) (hall.settled was so.same.0.was_open).1 in
     inl (cause_over old (state g h) (state g next) lasts clean more
-    (open_cause sql params (state g h) (state g next) it.0 asks (lasts.limit ∙ hall.unlimited) it.1 has (it.2 sql params so.rows so.given)))
+    (open_cause sql params (state g h) (state g next) it.0 (asks (state g h).now.schema has) (lasts.limit ∙ hall.unlimited) it.1 refl (it.2 sql params so.rows so.given)))
 feed_cause g read Takes Refuses sql params asks old hall h next before sink lasts clean more taken took so (inr it) =
     let row = it.1 in
     let same = unchanged_then old (state g h) (state g next) so.same it.0 in

@@ -8,14 +8,14 @@ use Rattle.sqlite.specs.Listing.{understood, reads_listing}
 use Rattle.sqlite.specs.Command.TheVariants.{Select}
 use Rattle.sqlite.proofs.Callers.{IsPlain, command_of}
 use Rattle.hall_sql.specs.declared.tables.HallTable.TheVariants.{Places}
-use Rattle.hall_sql.specs.Tables.{hall_schema}
 use Rattle.hall_sql.specs.Statements.{equals, rising, names_of, plain_query}
 use Rattle.hall_sql.specs.declared.rounds.TheConstants.{PLACES_WITH, PLACES_OF, ALL_PLACES}
-use Rattle.hall_sql.specs.Asked.{IsAsked, is_whole}
+use Rattle.hall_sql.specs.Asked.{IsAsked, IsAskedIn, is_whole}
 use Rattle.hall_sql.proofs.AskedLemmas.{asked}
 use Rattle.hall_sql.specs.Versions.{IsVersion}
 use Rattle.sqlite.specs.Schema.{Schema}
 use Rattle.hall_sql.proofs.Versions.{AsksAll, by_version}
+use Rattle.hall_sql.proofs.Wordings.{Wording, by_hall, hall_in}
 
 abbrev pub place_columns : List Term
 place_columns = col 1 1 ∷ col 1 2 ∷ col 1 3 ∷ col 1 4 ∷ col 1 5 ∷ []
@@ -31,16 +31,16 @@ puzzle_terms = equals 3 0 ∷ equals 4 1 ∷ []
 abbrev pub round_order : List (Term × Key)
 round_order = (col 1 1, rising) ∷ []
 
-pub places_with_is : (command_of (understood hall_schema PLACES_WITH.now)
+pub places_with_is : (u : Wording) → (command_of (understood (hall_in u) PLACES_WITH.now)
     ≡ Select (record { lets = []; body = plain_query 7 puzzle_terms place_columns round_order }) place_names)
-    × (reads_listing hall_schema PLACES_WITH.now ≡ false) × IsPlain (understood hall_schema PLACES_WITH.now)
-    × (is_whole PLACES_WITH.now 2 (understood hall_schema PLACES_WITH.now) ≡ true)
+    × (reads_listing (hall_in u) PLACES_WITH.now ≡ false) × IsPlain (understood (hall_in u) PLACES_WITH.now)
+    × (is_whole PLACES_WITH.now 2 (understood (hall_in u) PLACES_WITH.now) ≡ true)
 unfolding understood everything
-places_with_is = (refl, refl, (refl, refl), refl)
+places_with_is u = (refl, refl, (refl, refl), refl)
 
 pub places_with_asked : (author label : List ℕ) → IsAsked PLACES_WITH.now (Text author ∷ Text label ∷ [])
 places_with_asked author label =
-    asked PLACES_WITH.now (Text author ∷ Text label ∷ []) 7 puzzle_terms place_columns round_order _ places_with_is.0 places_with_is.1 places_with_is.2 places_with_is.3 refl
+    by_hall (IsAskedIn PLACES_WITH.now (Text author ∷ Text label ∷ [])) (λ u. asked PLACES_WITH.now (Text author ∷ Text label ∷ []) 7 puzzle_terms place_columns round_order _ (places_with_is u).0 (places_with_is u).1 (places_with_is u).2 (places_with_is u).3 refl)
 
 -- id = ?1, or round = ?1
 abbrev pub first_terms : List Term
@@ -50,16 +50,16 @@ first_terms = equals 1 0 ∷ []
 abbrev pub number_order : List (Term × Key)
 number_order = (col 1 2, rising) ∷ []
 
-pub places_of_is : (command_of (understood hall_schema PLACES_OF.now)
+pub places_of_is : (u : Wording) → (command_of (understood (hall_in u) PLACES_OF.now)
     ≡ Select (record { lets = []; body = plain_query 7 first_terms place_columns number_order }) place_names)
-    × (reads_listing hall_schema PLACES_OF.now ≡ false) × IsPlain (understood hall_schema PLACES_OF.now)
-    × (is_whole PLACES_OF.now 1 (understood hall_schema PLACES_OF.now) ≡ true)
+    × (reads_listing (hall_in u) PLACES_OF.now ≡ false) × IsPlain (understood (hall_in u) PLACES_OF.now)
+    × (is_whole PLACES_OF.now 1 (understood (hall_in u) PLACES_OF.now) ≡ true)
 unfolding understood everything
-places_of_is = (refl, refl, (refl, refl), refl)
+places_of_is u = (refl, refl, (refl, refl), refl)
 
 pub places_of_asked : (id : List ℕ) → IsAsked PLACES_OF.now (Text id ∷ [])
 places_of_asked id =
-    asked PLACES_OF.now (Text id ∷ []) 7 first_terms place_columns number_order _ places_of_is.0 places_of_is.1 places_of_is.2 places_of_is.3 refl
+    by_hall (IsAskedIn PLACES_OF.now (Text id ∷ [])) (λ u. asked PLACES_OF.now (Text id ∷ []) 7 first_terms place_columns number_order _ (places_of_is u).0 (places_of_is u).1 (places_of_is u).2 (places_of_is u).3 refl)
 
 -- the order of places: round, number
 abbrev pub place_order : List (Term × Key)
@@ -69,5 +69,5 @@ pub all_places_are : (schema : Schema) → IsVersion schema → AsksAll ALL_PLAC
 unfolding understood everything
 all_places_are =
     by_version (AsksAll ALL_PLACES.now 7 place_columns place_order place_names)
-    (record { is = refl; unlisted = refl; plain = (refl, refl); whole = refl; typed = refl })
-    (record { is = refl; unlisted = refl; plain = (refl, refl); whole = refl; typed = refl })
+    (λ u. record { is = refl; unlisted = refl; plain = (refl, refl); whole = refl; typed = refl })
+    (λ u. record { is = refl; unlisted = refl; plain = (refl, refl); whole = refl; typed = refl })

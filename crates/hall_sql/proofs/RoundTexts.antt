@@ -26,5 +26,5 @@ pub all_rounds_are : (schema : Schema) → IsVersion schema → AsksAll ALL_ROUN
 unfolding understood everything
 all_rounds_are =
     by_version (AsksAll ALL_ROUNDS.now 5 round_columns id_order round_names)
-    (record { is = refl; unlisted = refl; plain = (refl, refl); whole = refl; typed = refl })
-    (record { is = refl; unlisted = refl; plain = (refl, refl); whole = refl; typed = refl })
+    (λ u. record { is = refl; unlisted = refl; plain = (refl, refl); whole = refl; typed = refl })
+    (λ u. record { is = refl; unlisted = refl; plain = (refl, refl); whole = refl; typed = refl })

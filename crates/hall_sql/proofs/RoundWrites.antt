@@ -39,7 +39,9 @@ use Rattle.hall_store.specs.Change.{changed, flagged, with_flag}
 use Rattle.hall_store.specs.declared.change.Change.TheVariants.{SetRoundFlag}
 use Rattle.hall_store.specs.declared.change.RoundFlag.{RoundFlag}
 use Rattle.hall_store.specs.declared.change.RoundFlag.TheVariants.{Released, Published}
-use Rattle.hall_sql.specs.Tables.{hall_schema}
+use Rattle.hall_sql.specs.Tables.{IsHallSchema, hall_schema}
+use Rattle.hall_sql.specs.declared.tables.HallTable.TheVariants.{Rounds}
+use Rattle.hall_sql.proofs.Wordings.{Wording, added_in, adds_quiet, by_hall, hall_in, keeps_quiet, table_in, worded}
 use Rattle.hall_sql.specs.declared.rounds.TheConstants.{HEAD}
 use Rattle.hall_sql.specs.declared.round_writes.TheConstants.{LOOK_HEAD, ADD_HEAD, REPLACE_HEAD}
 use Rattle.hall_sql.specs.Values.{mode_in, flag_in}
@@ -62,7 +64,7 @@ use Rattle.hall_sql.proofs.AllRead.{added_read}
 use Rattle.hall_sql.proofs.InsertLemmas.{inserts}
 use Rattle.hall_sql.proofs.KeyedLemmas.{data_added, keyed_after}
 use Rattle.hall_sql.proofs.MapLemmas.{put_new}
-use Rattle.hall_sql.proofs.QuietLemmas.{no_works, one_stays}
+use Rattle.hall_sql.proofs.QuietLemmas.{one_stays}
 use Rattle.hall_sql.proofs.ReplaceLemmas.{replaced_one, added_one, put_alone, replaced_alone}
 use Rattle.hall_sql.proofs.SparedLemmas.{own_key, added_spared, replaced_spared, alone_spared}
 use Rattle.hall_sql.proofs.UniqueLemmas.{kept_keyed}
@@ -76,22 +78,24 @@ use Rattle.hall_sql.proofs.WriteLemmas.{writes_hall, same_worlds, cast_null, cas
 agrees : (id : List ℕ) (r : Row) (round : Round) → round_of r ≡ Some round → is_under id r ≡ eq_by_cmp text_cmp round.id id
 agrees id r round is = last_equal _ _ (column_equals (column r 1) round.id id (id_column r round is))
 
-pub head_found : (id : List ℕ) (old new : State) (rows : List Row) (out : List Round) → old.now.schema ≡ hall_schema
+pub head_found : (id : List ℕ) (old new : State) (rows : List Row) (out : List Round) → IsHallSchema old.now.schema
     → Shown HEAD.now (Text id ∷ []) old new rows → map round_in rows ≡ map Some out → length out ≤ 1
     → slice_get out 0 ≡ get (world_of old.now.trees).rounds id
-head_found id =
+head_found id old new rows out has =
+    let (u, words) = worded old.now.schema has in
     asked_found text_total same_texts (λ (round : Round). round.id) round_in 10 id HEAD.now (Text id ∷ []) 5 id_terms round_columns _
-    head_is.0 head_is.1 head_is.2 (λ db. refl) (λ r. refl) (agrees id)
+    (head_is u).0 (head_is u).1 (head_is u).2 (λ db. refl) (λ r. refl) (agrees id) old new rows out words
 
 -- as many rows as the query gives stand under the id
-heads_counted : (id : List ℕ) (old new : State) (rows : List Row) → old.now.schema ≡ hall_schema
+heads_counted : (id : List ℕ) (old new : State) (rows : List Row) → IsHallSchema old.now.schema
     → Shown HEAD.now (Text id ∷ []) old new rows → HasSoManyHeads id old.now (length rows)
 heads_counted id old new rows has shown =
     let given = Text id ∷ [] in
-    let sel = answers_selection HEAD.now given old new 5 id_terms round_columns [] _ head_is.0 head_is.1 head_is.2 refl has rows shown in
+    let (u, words) = worded old.now.schema has in
+    let sel = answers_selection HEAD.now given old new 5 id_terms round_columns [] _ (head_is u).0 (head_is u).1 (head_is u).2 refl words rows shown in
     sym (length_permutation _ sel.found sel.same) ∙ sym (length-map sel.found (λ r. eval_all round_columns (given ∷ r ∷ []))) ∙ ap length (sym sel.shown)
 
-pub head_alone : (id : List ℕ) (old new : State) (rows : List Row) (out : List Round) (one : Option Round) → old.now.schema ≡ hall_schema
+pub head_alone : (id : List ℕ) (old new : State) (rows : List Row) (out : List Round) (one : Option Round) → IsHallSchema old.now.schema
     → Shown HEAD.now (Text id ∷ []) old new rows → map round_in rows ≡ map Some out → length out ≤ 1 → one ≡ slice_get out 0
     → IfSome one (IsHead id old)
 head_alone id old new rows [] one has shown is short first = subst (λ o. IfSome o (IsHead id old)) (sym first) tt
@@ -111,11 +115,12 @@ head_stays id old new (Some round) same head = record {
 }
 
 -- the look before a head is put
-pub head_looked : (id : List ℕ) (old new : State) (rows : List Row) → old.now.schema ≡ hall_schema
+pub head_looked : (id : List ℕ) (old new : State) (rows : List Row) → IsHallSchema old.now.schema
     → Shown LOOK_HEAD.now (Text id ∷ []) old new rows → HasSoManyHeads id old.now (length rows)
 head_looked id old new rows has shown =
     let given = Text id ∷ [] in
-    let sel = answers_selection LOOK_HEAD.now given old new 5 id_terms (col 1 1 ∷ []) [] _ look_head_is.0 look_head_is.1 look_head_is.2 refl has rows shown in
+    let (u, words) = worded old.now.schema has in
+    let sel = answers_selection LOOK_HEAD.now given old new 5 id_terms (col 1 1 ∷ []) [] _ (look_head_is u).0 (look_head_is u).1 (look_head_is u).2 refl words rows shown in
     sym (length_permutation _ sel.found sel.same) ∙ sym (length-map sel.found (λ r. eval_all (col 1 1 ∷ []) (given ∷ r ∷ []))) ∙ ap length (sym sel.shown)
 
 -- ---- what is written
@@ -182,9 +187,8 @@ module _ (round : Round) (is : IsRound round) where
   own_row : (r : Row) → round_of r ≡ Some round → is_under round.id r ≡ true
   own_row r is = agrees round.id r round is ∙ own_key text_total round.id
 
-  quiet : (new : Row) → works hall_schema Enforced 0 5 [] (new ∷ []) ≡ []
-  unfolding same_name joined
-  quiet new = refl
+  quiet : (u : Wording) (new : Row) → works (hall_in u) Enforced 0 5 [] (new ∷ []) ≡ []
+  quiet u new = adds_quiet (hall_in u) 5 (new ∷ [])
 
   module _ (r : Row) (taken : is_under round.id r ≡ true) where
     id_is : column r 1 ≡ Text round.id
@@ -208,22 +212,24 @@ module _ (round : Round) (is : IsRound round) where
     made_reads = ap round_of made_is ∙ head_reads (column (made r) 0)
 
     -- the id stays, so no foreign key acts
-    made_quiet : works hall_schema Enforced 0 5 (r ∷ []) (made r ∷ []) ≡ []
+    made_quiet : (u : Wording) → works (hall_in u) Enforced 0 5 (r ∷ []) (made r ∷ []) ≡ []
     unfolding same_name joined
-    made_quiet =
+    made_quiet u =
         let stays = one_stays _ 1 r (made r) (rw id_is) in
-        no_works hall_schema Enforced 0 5 (r ∷ []) (made r ∷ []) (tt, ((refl, tt), (tt, ((stays, (refl, tt)), ((refl, (refl, tt)), ((refl, (refl, tt)), ((stays, (refl, tt)), tt)))))))
+        keeps_quiet u 5 (r ∷ []) (made r ∷ [])
+        (tt, ((λ a. refl, tt), (tt, ((λ a. stays, (λ a. refl, tt)), ((λ a. refl, (λ a. refl, tt)), ((λ a. refl, (λ a. refl, tt)), ((λ a. stays, (λ a. refl, tt)), tt)))))))
 
   module _ (old new : State) (count : ℕ) (held : IsHallData old.now) where
     -- the UPDATE of the head under the id
     pub head_replaced : Executes REPLACE_HEAD.now params old new (Ok count) → HasSoManyHeads round.id old.now 1 → IsHallData new.now × PutsHead round old.now new.now
     head_replaced ran single =
         let keyed = held.keyed in
-        let w = runs_as REPLACE_HEAD.now params old new hall_schema held.schema (Update 2 (update hall_schema rounds_there id_terms replaced_terms apart)) replace_head_is.0 replace_head_is.1 count ran in
-        let it = updates hall_schema rounds_there id_terms replaced_terms apart 2 refl params made_quiet old new _ count held.schema keyed.1.1.0 w single in
+        let (u, words) = worded old.now.schema held.schema in
+        let w = runs_as REPLACE_HEAD.now params old new (hall_in u) words (Update 2 (update (hall_in u) (table_in u Rounds) id_terms replaced_terms apart)) (replace_head_is u).0 (replace_head_is u).1 count ran in
+        let it = updates (hall_in u) (table_in u Rounds) id_terms replaced_terms apart 2 refl params (λ r taken. made_quiet r taken u) old new _ count words keyed.1.1.0 w single in
         let one = it.rows.one in
         let there = has_filtered (is_under round.id) (old.now.trees 5) one (subst (λ l. Has l one) (sym it.rows.found) (inl refl)) in (
-          record { schema = it.same; keyed = keyed_after 5 old.now.trees new.now.trees hall_schema.tables it.keyed it.others keyed },
+          record { schema = subst IsHallSchema (sym it.same) held.schema; keyed = keyed_after 5 old.now.trees new.now.trees hall_schema.tables it.keyed it.others keyed },
           record {
             world = rounds_alone old.now.trees new.now.trees (insert (world_of old.now.trees).rounds round.id round) it.others
                 (replaced_one text_total same_texts (λ (x : Round). x.id) round_of round.id (is_under round.id) (agrees round.id) made (old.now.trees 5) (new.now.trees 5) round keyed.1.1.0 it.rows refl (made_reads one there.1));
@@ -239,8 +245,10 @@ module _ (round : Round) (is : IsRound round) where
     -- what the INSERT of a head adds
     head_adds : Executes ADD_HEAD.now params old new (Ok count) → HasAdded hall_schema 5 params old.now new.now
     head_adds ran =
-        inserts hall_schema 2 rounds_there refl refl added_terms 11 params (Null ∷ params) params refl refl head_casts quiet old new _ count held.schema
-        (runs_as ADD_HEAD.now params old new hall_schema held.schema (Insert 2 (Values added_terms 11)) add_head_is.0 add_head_is.1 count ran)
+        let (u, words) = worded old.now.schema held.schema in
+        added_in u 5 params old.now new.now
+        (inserts (hall_in u) 2 (table_in u Rounds) refl refl added_terms 11 params (Null ∷ params) params refl refl head_casts (quiet u) old new _ count words
+        (runs_as ADD_HEAD.now params old new (hall_in u) words (Insert 2 (Values added_terms 11)) (add_head_is u).0 (add_head_is u).1 count ran))
 
     -- the INSERT of a head
     pub head_inserted : Executes ADD_HEAD.now params old new (Ok count) → IsHallData new.now × AddsHead old.now round new.now
@@ -302,7 +310,8 @@ head_flagged flag round is old new count hall clean head ran =
     let mode = hall.autocommit clean in
     let was = executed_open old new REPLACE_HEAD.now (head_params put) count mode ran in
     let has = (hall.settled clean was).1 in
-    let w = runs_as REPLACE_HEAD.now (head_params put) old new hall_schema has (Update 2 (update hall_schema rounds_there id_terms replaced_terms apart)) replace_head_is.0 replace_head_is.1 count ran in
+    let (u, words) = worded old.now.schema has in
+    let w = runs_as REPLACE_HEAD.now (head_params put) old new (hall_in u) words (Update 2 (update (hall_in u) (table_in u Rounds) id_terms replaced_terms apart)) (replace_head_is u).0 (replace_head_is u).1 count ran in
     let ours : IsHallData old.now = record { schema = has; keyed = hall.keyed clean was } in
     let it = head_replaced put is old new count ours ran (subst (λ id. HasSoManyHeads id old.now 1) (sym own) head.alone) in
     record {
@@ -320,7 +329,7 @@ head_flagged flag round is old new count hall clean head ran =
 pub head_counted : (id : List ℕ) (old new : State) (rows : List Row) → IsTrue old.in_transaction → Shown LOOK_HEAD.now (Text id ∷ []) old new rows
     → Did (CountsHeads id (length rows)) old new
 head_counted id old new rows inside shown =
-    let left = λ (it : IsHallData old.now). shown_unchanged LOOK_HEAD.now (Text id ∷ []) old new rows (subst (λ s. IsPlain (understood s LOOK_HEAD.now)) (sym it.schema) look_head_is.2) shown in
+    let left = λ (it : IsHallData old.now). shown_unchanged LOOK_HEAD.now (Text id ∷ []) old new rows (by_hall (λ s. IsPlain (understood s LOOK_HEAD.now)) (λ u. (look_head_is u).2) old.now.schema it.schema) shown in
     did (CountsHeads id (length rows)) old new (shown_mode LOOK_HEAD.now (Text id ∷ []) old new rows inside shown) (λ it. subst IsDatabase (sym (left it).0.now_is)) (λ it.
     let same = (left it).0.now_is in
     (subst IsHallData (sym same) it, record { same = same; many = head_looked id old new rows it.schema shown }))

@@ -33,6 +33,7 @@ use Rattle.hall_sql.specs.Versions.{HasTable}
 use Rattle.hall_sql.proofs.ShowsNothing.{shows_nothing}
 use Rattle.sqlite.specs.Listing.{is_select}
 use Rattle.hall_sql.proofs.Versions.{AsksAll, by_version}
+use Rattle.hall_sql.proofs.Wordings.{by_hall, like_itself}
 use Rattle.hall_sql.specs.declared.tables.HallTable.{HallTable}
 use Rattle.hall_sql.specs.declared.tables.HallTable.TheVariants.{People, Puzzles, Rounds, Places, Answers, Protests, Testers}
 use Rattle.hall_sql.specs.Standing.{Apart, AreKeyed, Rests}
@@ -97,13 +98,13 @@ Rowids table schema = AsksAll (rowids_text table) (tree_of table) (col 1 0 ∷ [
 
 pub rowids_are : (schema : Schema) (table : HallTable) → HasTable schema table → Rowids table schema
 unfolding understood everything
-rowids_are schema People = by_version (Rowids People) (record { is = refl; unlisted = refl; plain = (refl, refl); whole = refl; typed = refl }) (record { is = refl; unlisted = refl; plain = (refl, refl); whole = refl; typed = refl }) schema
-rowids_are schema Puzzles = by_version (Rowids Puzzles) (record { is = refl; unlisted = refl; plain = (refl, refl); whole = refl; typed = refl }) (record { is = refl; unlisted = refl; plain = (refl, refl); whole = refl; typed = refl }) schema
-rowids_are schema Rounds = by_version (Rowids Rounds) (record { is = refl; unlisted = refl; plain = (refl, refl); whole = refl; typed = refl }) (record { is = refl; unlisted = refl; plain = (refl, refl); whole = refl; typed = refl }) schema
-rowids_are schema Places = by_version (Rowids Places) (record { is = refl; unlisted = refl; plain = (refl, refl); whole = refl; typed = refl }) (record { is = refl; unlisted = refl; plain = (refl, refl); whole = refl; typed = refl }) schema
-rowids_are schema Answers = by_version (Rowids Answers) (record { is = refl; unlisted = refl; plain = (refl, refl); whole = refl; typed = refl }) (record { is = refl; unlisted = refl; plain = (refl, refl); whole = refl; typed = refl }) schema
-rowids_are schema Protests = by_version (Rowids Protests) (record { is = refl; unlisted = refl; plain = (refl, refl); whole = refl; typed = refl }) (record { is = refl; unlisted = refl; plain = (refl, refl); whole = refl; typed = refl }) schema
-rowids_are schema Testers = λ has. subst (Rowids Testers) (sym has) (record { is = refl; unlisted = refl; plain = (refl, refl); whole = refl; typed = refl })
+rowids_are schema People = by_version (Rowids People) (λ u. record { is = refl; unlisted = refl; plain = (refl, refl); whole = refl; typed = refl }) (λ u. record { is = refl; unlisted = refl; plain = (refl, refl); whole = refl; typed = refl }) schema
+rowids_are schema Puzzles = by_version (Rowids Puzzles) (λ u. record { is = refl; unlisted = refl; plain = (refl, refl); whole = refl; typed = refl }) (λ u. record { is = refl; unlisted = refl; plain = (refl, refl); whole = refl; typed = refl }) schema
+rowids_are schema Rounds = by_version (Rowids Rounds) (λ u. record { is = refl; unlisted = refl; plain = (refl, refl); whole = refl; typed = refl }) (λ u. record { is = refl; unlisted = refl; plain = (refl, refl); whole = refl; typed = refl }) schema
+rowids_are schema Places = by_version (Rowids Places) (λ u. record { is = refl; unlisted = refl; plain = (refl, refl); whole = refl; typed = refl }) (λ u. record { is = refl; unlisted = refl; plain = (refl, refl); whole = refl; typed = refl }) schema
+rowids_are schema Answers = by_version (Rowids Answers) (λ u. record { is = refl; unlisted = refl; plain = (refl, refl); whole = refl; typed = refl }) (λ u. record { is = refl; unlisted = refl; plain = (refl, refl); whole = refl; typed = refl }) schema
+rowids_are schema Protests = by_version (Rowids Protests) (λ u. record { is = refl; unlisted = refl; plain = (refl, refl); whole = refl; typed = refl }) (λ u. record { is = refl; unlisted = refl; plain = (refl, refl); whole = refl; typed = refl }) schema
+rowids_are schema Testers = by_hall (Rowids Testers) (λ u. record { is = refl; unlisted = refl; plain = (refl, refl); whole = refl; typed = refl }) schema
 
 -- the statement sees the table's own rows
 pub apart : (db : Trees) (table : HallTable) → overlay db [] (tree_of table) ≡ db (tree_of table)
@@ -164,13 +165,13 @@ scan_begun g table old new has begun =
 
 -- the hall's schema has each table
 stands : (table : HallTable) → HasTable hall_schema table
-stands People = inr refl
-stands Puzzles = inr refl
-stands Rounds = inr refl
-stands Places = inr refl
-stands Answers = inr refl
-stands Protests = inr refl
-stands Testers = refl
+stands People = inr (like_itself hall_schema)
+stands Puzzles = inr (like_itself hall_schema)
+stands Rounds = inr (like_itself hall_schema)
+stands Places = inr (like_itself hall_schema)
+stands Answers = inr (like_itself hall_schema)
+stands Protests = inr (like_itself hall_schema)
+stands Testers = like_itself hall_schema
 
 -- so the query for its rowids shows nothing of a write
 pub rowids_quiet : (table : HallTable) → ReturnsNothing (rowids_text table)

@@ -1,5 +1,5 @@
 -- A text that is a query under one schema shows nothing of a write under any.
-use Rattle.std.proofs.Common.{◌≡◌, ◌⊎◌, inl, inr, ℕ, List, [], length, ◌==◌, Bool, true, false, if◌then◌else◌, Option, Some, None, Result, Ok, Err, refl, sym, ap, subst, ◌∙◌}
+use Rattle.std.proofs.Common.{◌≡◌, ◌⊎◌, inl, inr, ℕ, List, [], length, ◌==◌, Bool, true, false, if◌then◌else◌, Option, None, Result, Ok, Err, refl, sym, ◌∙◌}
 use Rattle.std.proofs.lemmas.Bool.{cases_Bool}
 use Rattle.sqlite_ast.specs.declared.Statement.{Statement}
 use Rattle.sqlite_ast.specs.declared.Statement.TheVariants as written
@@ -26,6 +26,8 @@ use Rattle.sqlite.specs.Order.{Row}
 use Rattle.sqlite.specs.Schema.{Schema}
 use Rattle.sqlite.specs.Listing.{understood, reads_listing, if_select, is_select, listing_schema}
 use Rattle.sqlite.proofs.Callers.{command_of}
+use Rattle.hall_sql.specs.Tables.{IsLike}
+use Rattle.hall_sql.proofs.Wordings.{like_itself}
 use Rattle.hall_sql.specs.Asked.{HasNoReturning, ReturnsNothing, IsAskedIn, IsSafe}
 
 -- it is no query
@@ -148,5 +150,6 @@ safe_query schema (Select q names) params safe = refl
 safe_query schema _ params safe = absurd safe
 
 -- so does one that is asked
-pub asked_quiet : {schema : Schema} (sql : List ℕ) (params : Row) → IsAskedIn sql params schema → ReturnsNothing sql
-asked_quiet {schema} sql params asked = λ any. shows_nothing sql schema any (safe_query schema (command_of (understood schema sql)) params asked.safe)
+pub asked_quiet : {schema : Schema} (sql : List ℕ) (params : Row) → ((found : Schema) → IsLike schema found → IsAskedIn sql params found) → ReturnsNothing sql
+asked_quiet {schema} sql params asked = λ any.
+    shows_nothing sql schema any (safe_query schema (command_of (understood schema sql)) params (asked schema (like_itself schema)).safe)

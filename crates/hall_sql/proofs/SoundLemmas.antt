@@ -1,5 +1,5 @@
 -- A statement that writes rows leaves a database.
-use Rattle.std.proofs.Common.{◌≡◌, ℕ, List, Ok, Option, None, refl}
+use Rattle.std.proofs.Common.{ℕ, List, Ok, None, refl}
 use Rattle.sqlite_schema.specs.declared.command.Command.{Command}
 use Rattle.sqlite_schema.specs.declared.command.Command.TheVariants.{Insert, InsertOr, Update, Delete}
 use Rattle.sqlite.specs.Order.{Row}
@@ -7,7 +7,8 @@ use Rattle.sqlite.specs.Effect.{IsDatabase}
 use Rattle.sqlite.specs.Listing.{understood}
 use Rattle.sqlite.specs.State.{State, Executes, Runs}
 use Rattle.sqlite.proofs.Callers.{IsPlain, command_of, runs_as}
-use Rattle.hall_sql.specs.Tables.{hall_schema}
+use Rattle.hall_sql.specs.Tables.{IsHallSchema}
+use Rattle.hall_sql.proofs.Wordings.{Wording, hall_in, worded}
 
 -- the statements that write rows
 abbrev pub IsRowWrite : Command → Type 0
@@ -25,8 +26,10 @@ written_sound old new (Update at q) text params count is w = w.sound
 written_sound old new (Delete at q) text params count is w = w.sound
 written_sound old new _ text params count is w = absurd is
 
-pub ran_sound : (sql : List ℕ) (params : Row) (old new : State) (count : ℕ) → old.now.schema ≡ hall_schema → IsPlain (understood hall_schema sql)
-    → IsRowWrite (command_of (understood hall_schema sql)) → Executes sql params old new (Ok count) → IsDatabase new.now
+pub ran_sound : (sql : List ℕ) (params : Row) (old new : State) (count : ℕ) → IsHallSchema old.now.schema → ((u : Wording) → IsPlain (understood (hall_in u) sql))
+    → ((u : Wording) → IsRowWrite (command_of (understood (hall_in u) sql))) → Executes sql params old new (Ok count) → IsDatabase new.now
 ran_sound sql params old new count has plain is ran =
-    written_sound old new (command_of (understood hall_schema sql)) _ params count is
-    (runs_as sql params old new hall_schema has (command_of (understood hall_schema sql)) refl plain count ran)
+    let it = worded old.now.schema has in
+    let schema = hall_in it.0 in
+    written_sound old new (command_of (understood schema sql)) _ params count (is it.0)
+    (runs_as sql params old new schema it.1 (command_of (understood schema sql)) refl (plain it.0) count ran)

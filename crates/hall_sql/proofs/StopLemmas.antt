@@ -1,8 +1,7 @@
 -- What a stop leaves of a call's files.
-use Rattle.std.proofs.Common.{◌≡◌, ◌⊎◌, inl, inr, ℕ, List, Bool, false, true, Ok, IsTrue, Result, OnOk, Err, Option, None, ◌||◌, is_some, if◌then◌else◌, unwrap_or, MatchBool, refl, sym, ap, subst, subst₂, ◌∙◌, arith}
-use Rattle.sqlite_resolve.specs.declared.compiled.Compiled.{Compiled}
+use Rattle.std.proofs.Common.{◌≡◌, inl, inr, ℕ, List, false, Ok, IsTrue, Option, None, ◌||◌, is_some, if◌then◌else◌, unwrap_or, refl, sym, ap, subst, ◌∙◌, arith}
 use Rattle.sqlite_schema.specs.declared.command.Command.{Command}
-use Rattle.sqlite_schema.specs.declared.command.Command.TheVariants.{Commit, Release, Insert, InsertOr, Update, Delete}
+use Rattle.sqlite_schema.specs.declared.command.Command.TheVariants.{Insert, InsertOr, Update, Delete}
 use Rattle.sqlite_schema.specs.declared.command.Returning.{Returning}
 use Rattle.sqlite.specs.Clock.{timed}
 use Rattle.sqlite.specs.Order.{Row}
@@ -10,17 +9,16 @@ use Rattle.sqlite.specs.Tree.{Trees}
 use Rattle.sqlite.specs.Schema.{Schema}
 use Rattle.sqlite.specs.Does.{Tally, Does}
 use Rattle.sqlite.specs.Effect.{Database, IsDatabase, SparesFrozen, is_query}
-use Rattle.sqlite_catalog.specs.Listing.{IsSound}
 use Rattle.sqlite_trees.specs.View.{doubt}
 use Rattle.sqlite.specs.Listing.{understood}
-use Rattle.sqlite.specs.State.{State, HasCleanDisk, Survives, CommitsBy, MayCommit, MayWrite, Executes, ExecutesIn, RunsAlone, Runs, Writes, IsStatement, shows_rows, is_pragma, RunsCommand, text_of, mode_of}
+use Rattle.sqlite.specs.State.{State, HasCleanDisk, Survives, CommitsBy, MayCommit, MayWrite, Executes, ExecutesIn, Runs, Writes, is_pragma, RunsCommand, text_of, mode_of}
 use Rattle.sqlite.proofs.Callers.{IsPlain, command_of}
 use Rattle.hall_store.specs.Change.{changed}
 use Rattle.hall_store.specs.declared.change.Change.{Change}
 use Rattle.hall_sql.specs.Rows.{world_of}
 use Rattle.hall_sql.specs.Stands.{HoldsHall}
 use Rattle.hall_sql.specs.Standing.{HasMade, IsHall}
-use Rattle.hall_sql.specs.Tables.{hall_schema}
+use Rattle.hall_sql.proofs.Wordings.{Wording, hall_in, worded}
 use Rattle.hall_sql.proofs.SoundLemmas.{IsRowWrite}
 use Rattle.hall_sql.proofs.WriteLemmas.{StopsAt}
 
@@ -85,7 +83,7 @@ module _ (sql : List ℕ) (params : Row) (old : State) (schema : Schema) (has : 
       (new, count, (c, h.1, rw (shows_none c.command c.returning writes bare.0) ran), sym it.5, it.4, refl)
 
 -- so where each run of it makes the change, a stop leaves what it could leave before, or a hall of the world that the change makes
-pub stops_made : (change : Change) (sql : List ℕ) (params : Row) (old new : State) → IsHall old → IsPlain (understood hall_schema sql) → IsRowWrite (command_of (understood hall_schema sql))
+pub stops_made : (change : Change) (sql : List ℕ) (params : Row) (old new : State) → IsHall old → ((u : Wording) → IsPlain (understood (hall_in u) sql)) → ((u : Wording) → IsRowWrite (command_of (understood (hall_in u) sql)))
     → (HasCleanDisk old → IsTrue old.is_open → (run : State) (count : ℕ) → Executes sql params old run (Ok count) → HasMade change old run)
     → Survives old new (CommitsBy sql params old) → StopsAt change old new
 stops_made change sql params old new hall plain is made survives opens clean db may =
@@ -93,10 +91,11 @@ stops_made change sql params old new hall plain is made survives opens clean db 
     elim (survives.crash clean db may) [
       | inl earlier ↦ inl earlier
       | inr commits ↦
-          let ran = commit_runs sql params old hall_schema (hall.settled was opens).1 plain is (hall.autocommit was) opens db commits in
+          let words = worded old.now.schema (hall.settled was opens).1 in
+          let ran = commit_runs sql params old (hall_in words.0) words.1 (plain words.0) (is words.0) (hall.autocommit was) opens db commits in
           let run = ran.0 in
           let it = made was opens run ran.1 ran.2 in
           let listed = (it.hall.settled (subst (λ b. doubt b ≡ 0) (sym ran.5) was) it.serves).1 in
-          let holds : HoldsHall (changed change (world_of old.now.trees)) run.now.trees = (subst (λ (schema : Schema). IsSound schema run.now.trees) listed ran.4, it.world) in
+          let holds : HoldsHall (changed change (world_of old.now.trees)) run.now.trees = ((run.now.schema, listed, ran.4), it.world) in
           inr (subst (HoldsHall (changed change (world_of old.now.trees))) ran.3 holds)
     ]

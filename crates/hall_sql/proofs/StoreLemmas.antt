@@ -6,20 +6,19 @@ use Rattle.sqlite.specs.Held.{Held, state}
 use Rattle.sqlite.specs.Effect.{Database}
 use Rattle.sqlite.specs.Order.{Row}
 use Rattle.sqlite.specs.State.{State, HasCleanDisk, IsLive}
-use Rattle.sqlite_catalog.specs.Listing.{IsSound}
 use Rattle.hall_policy.specs.World.{World}
 use Rattle.hall_store.specs.Store.{IsSettled, Kept, Served}
 use Rattle.sqlite.specs.Schema.{Schema}
-use Rattle.hall_sql.specs.Tables.{hall_schema}
+use Rattle.hall_sql.specs.Tables.{IsHallSchema, IsLike, hall_schema}
 use Rattle.hall_sql.specs.Rows.{world_of}
 use Rattle.hall_sql.specs.Cause.{AreRead}
 use Rattle.hall_sql.specs.Whole.{AreRecords}
-use Rattle.hall_sql.specs.Stands.{HoldsHall, OpensTo, StandsFor}
+use Rattle.hall_sql.specs.Stands.{HoldsHall, ListsLike, OpensTo, StandsFor}
 use Rattle.hall_sql.specs.Standing.{AreKeyedIn, IsHall, IsOver, IsTabled, Rested, RestedAny, RestedIn, StayedIn, content_of}
 use Rattle.hall_sql.proofs.LastLemmas.{follows_leads, last_then, quiet_then}
 
 -- the hall's tables are tables of a schema
-pub over_hall : {Fits : Schema → Type 0} {s : State} → IsHall s → Fits hall_schema → IsOver Fits s
+pub over_hall : {Fits : Schema → Type 0} {s : State} → IsHall s → ((schema : Schema) → IsHallSchema schema → Fits schema) → IsOver Fits s
 over_hall hall fits = record { schema = hall_schema; tabled = hall; fits = fits }
 
 -- and rest where any do
@@ -29,7 +28,7 @@ rested_hall hall rested = rested hall_schema hall
 -- what a query over tables of a schema tells has its meaning in the world that stays
 pub told_so : {schema : Schema} (old new : State) (Means : World → Type 0) → IsTabled schema old → RestedIn schema old new
     → (HasCleanDisk new → IsTrue new.is_open)
-    → (HasCleanDisk new → IsTrue old.is_open → old.now.schema ≡ schema → AreKeyedIn schema old.now.trees → Means (world_of old.now.trees))
+    → (HasCleanDisk new → IsTrue old.is_open → IsLike schema old.now.schema → AreKeyedIn schema old.now.trees → Means (world_of old.now.trees))
     → HasCleanDisk new → IsTrue new.is_open × Means (world_of new.now.trees)
 told_so old new Means hall rested serves means clean =
     let opens = serves clean in
@@ -40,7 +39,7 @@ told_so old new Means hall rested serves means clean =
 -- and so does what a read hands over, which holds in a store that serves alone
 pub told : {schema : Schema} {R E : Type 0} (old new : State) (result : Result R E) (P : R → Type 0) (Means : World → R → Type 0) → IsTabled schema old → RestedIn schema old new
     → (HasCleanDisk new → IfOk result P) → ((x : R) → P x → IsTrue new.is_open)
-    → ((x : R) → P x → HasCleanDisk new → IsTrue old.is_open → old.now.schema ≡ schema → AreKeyedIn schema old.now.trees → Means (world_of old.now.trees) x)
+    → ((x : R) → P x → HasCleanDisk new → IsTrue old.is_open → IsLike schema old.now.schema → AreKeyedIn schema old.now.trees → Means (world_of old.now.trees) x)
     → Served (content_of new) result Means
 told old new (Ok x) P Means hall rested has serves means = λ clean.
     told_so old new (λ world. Means world x) hall rested (λ now. serves x (has now)) (λ now. means x (has now) now) clean
@@ -113,8 +112,8 @@ pub opens_hall : (world : World) (db : Trees) (left : World) → HoldsHall world
 opens_hall world db left holds opens = opens world (inl (holds.0, sym holds.1))
 
 -- as an open store's does
-pub lists_hall : (s : State) → IsHall s → IsLive s → HasCleanDisk s → IsTrue s.is_open → IsSound hall_schema s.now.trees
-lists_hall s hall live clean opens = subst (λ (schema : Schema). IsSound schema s.now.trees) (hall.settled clean opens).1 (live opens).0
+pub lists_hall : (s : State) → IsHall s → IsLive s → HasCleanDisk s → IsTrue s.is_open → ListsLike hall_schema s.now.trees
+lists_hall s hall live clean opens = (s.now.schema, (hall.settled clean opens).1, (live opens).0)
 
 -- at rest, while the store serves, a stop leaves its world
 pub settled_at : {S : Type 0} (g : Ghosts S) → ((s : S) (db : Trees) → IsTrue (g.view s).is_open → g.recovers s db → db ≡ (g.view s).committed)

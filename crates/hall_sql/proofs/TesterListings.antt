@@ -18,8 +18,7 @@ use Rattle.sqlite.specs.Order.{Row}
 use Rattle.sqlite.specs.State.{State, Shown}
 use Rattle.sqlite.specs.Term.{holds}
 use Rattle.sqlite.specs.Tree.{Trees}
-use Rattle.sqlite_schema.specs.declared.schema.Constraint.TheVariants.{Unique}
-use Rattle.sqlite_schema.specs.Rules.{agree, passes}
+use Rattle.sqlite_schema.specs.Rules.{agree}
 use Rattle.sqlite_rules.proofs.ListLemmas.{all_has}
 use Rattle.sqlite_value.specs.Keys.{plain, first_key}
 use Rattle.sqlite_value.specs.Order.{column}
@@ -30,7 +29,8 @@ use Rattle.hall_policy.specs.declared.record.TesterKey.{TesterKey}
 use Rattle.hall_policy.proofs.Orders.{tester_total, same_tester_keys, text_total}
 use Rattle.hall_policy.proofs.Texts.{text_decides}
 use Rattle.hall_store.specs.Store.{AreTestersOf}
-use Rattle.hall_sql.specs.Tables.{hall_schema}
+use Rattle.hall_sql.specs.Tables.{IsHallSchema}
+use Rattle.hall_sql.proofs.Wordings.{Wording, hall_in, worded}
 use Rattle.hall_sql.specs.Values.{name_in}
 use Rattle.hall_sql.specs.Rows.{kept, tester_in, tester_of, world_of}
 use Rattle.hall_sql.specs.RoundPuts.{tester_key}
@@ -42,10 +42,12 @@ use Rattle.hall_sql.proofs.ColumnLemmas.{kind_column, column_same, and_true}
 use Rattle.hall_sql.proofs.EntryListings.{are_entries, rise_strictly}
 use Rattle.hall_sql.proofs.ListedLemmas.{by_order, records_asked, records_sorted}
 use Rattle.hall_sql.proofs.EntryLemmas.{entries_kept}
-use Rattle.hall_sql.proofs.TesterTexts.{all_testers_are, testers_there, tester_columns, tester_order, round_terms, name_order, testers_of_is}
+use Rattle.hall_sql.proofs.TesterTexts.{all_testers_are, tester_columns, tester_order, round_terms, name_order, testers_of_is}
 use Rattle.hall_sql.proofs.ValueLemmas.{no_more}
-use Rattle.hall_sql.proofs.Versions.{all_listed}
-use Rattle.hall_sql.proofs.UniqueLemmas.{equal_texts, first_not, records_listed}
+use Rattle.hall_sql.specs.declared.tables.HallTable.TheVariants.{Testers}
+use Rattle.sqlite.specs.Schema.{Schema}
+use Rattle.hall_sql.proofs.Versions.{all_listed, unique_in}
+use Rattle.hall_sql.proofs.UniqueLemmas.{equal_texts, records_listed}
 use Rattle.hall_sql.proofs.RecordParts.{tester_parts_of}
 
 abbrev pub Tester : Type 0
@@ -88,13 +90,12 @@ abbrev pub tested : List Row → FinMap tester_cmp Tester
 tested rows = kept tester_cmp key_of tester_of rows
 
 -- the table's records are these, each once
-pub testers_listed : (db : Trees) → AreKeyed (db 14) → IsDatabase (record { schema = hall_schema; trees = db })
+pub testers_listed : {schema : Schema} → IsHallSchema schema → (db : Trees) → AreKeyed (db 14) → IsDatabase (record { schema = schema; trees = db })
     → IsPermutation (flat_map (λ r. option_to_list (tester_of r)) (db 14)) (values (tested (db 14)))
-testers_listed db keyed sound =
-    let rule : AllByRecursion (λ row. passes Unique hall_schema db testers_there row ≡ true) (db 14) =
-    (sound.obeys.rules Unique).1.1.1.1.1.1.0 in
+testers_listed {schema} has db keyed sound =
+    let rule = unique_in schema Testers db has sound in
     records_listed tester_total same_tester_keys key_of tester_of (1 ∷ 2 ∷ []) (db 14) keyed agreeing
-    (λ r h. first_not _ _ (all_has _ (db 14) r rule h))
+    (λ r h. all_has _ (db 14) r rule h)
 
 -- ---- the testers of one round, in the order of their names
 
@@ -104,12 +105,15 @@ by_name id a b p q =
     ∙ ap (λ o. ordering_then o (name_cmp a b)) (tied_itself text_total id)
 
 -- what the query gives of the testers
-module _ (old new : State) (has : old.now.schema ≡ hall_schema) (keyed : AreKeyed (old.now.trees 14)) (sound : IsDatabase old.now)
+module _ (old new : State) (has : IsHallSchema old.now.schema) (keyed : AreKeyed (old.now.trees 14)) (sound : IsDatabase old.now)
     (rows : List Row) (out : List Tester) (is : map tester_in rows ≡ map Some out) (id : List ℕ) where
+  said : (u : Wording) × (old.now.schema ≡ hall_in u)
+  said = worded old.now.schema has
+
   whole : IsPermutation (flat_map (λ r. option_to_list (tester_of r)) (old.now.trees 14)) (values (tested (old.now.trees 14)))
   whole =
       let db = old.now.trees in
-      testers_listed db keyed (subst (λ s. IsDatabase (record { schema = s; trees = db })) has sound)
+      testers_listed {schema = old.now.schema} has db keyed sound
 
   in_agrees : (r : Row) (x : Tester) → tester_of r ≡ Some x → list_all (holds ((Text id ∷ []) ∷ r ∷ [])) round_terms ≡ tests_round id x
   in_agrees r x h = and_true _ ∙ column_same (column r 1) x.0.round id (has_columns r x h).round
@@ -127,11 +131,11 @@ module _ (old new : State) (has : old.now.schema ≡ hall_schema) (keyed : AreKe
 
   pub testers_of_named : Shown TESTERS_OF.now (Text id ∷ []) old new rows → AreNamed (world_of old.now.trees) id out
   testers_of_named shown =
-      let same = records_asked tester_in 2 TESTERS_OF.now (Text id ∷ []) 14 round_terms tester_columns name_order _ testers_of_is.0
-      testers_of_is.1 testers_of_is.2 (λ db. refl) (λ r. refl) (tests_round id) in_agrees old new rows out has shown
+      let same = records_asked tester_in 2 TESTERS_OF.now (Text id ∷ []) 14 round_terms tester_columns name_order _ (testers_of_is said.0).0
+      (testers_of_is said.0).1 (testers_of_is said.0).2 (λ db. refl) (λ r. refl) (tests_round id) in_agrees old new rows out said.1 shown
       is _ whole in
-      let sorted = records_sorted tester_in 2 TESTERS_OF.now (Text id ∷ []) 14 round_terms tester_columns name_order _ testers_of_is.0
-      testers_of_is.1 testers_of_is.2 (λ db. refl) (λ r. refl) (tests_round id) in_agrees old new rows out has shown
+      let sorted = records_sorted tester_in 2 TESTERS_OF.now (Text id ∷ []) 14 round_terms tester_columns name_order _ (testers_of_is said.0).0
+      (testers_of_is said.0).1 (testers_of_is said.0).2 (λ db. refl) (λ r. refl) (tests_round id) in_agrees old new rows out said.1 shown
       is name_cmp same_order in
       record {
         whole = are_entries tester_total same_tester_keys tester_of (old.now.trees 14) (tests_round id) out same;
@@ -157,13 +161,13 @@ by_tester a b x y p q =
       then-Equal (text_cmp x.0.name y.0.name),
     )
 
-pub all_testers_listed : (old new : State) → old.now.schema ≡ hall_schema → AreKeyed (old.now.trees 14) → IsDatabase old.now
+pub all_testers_listed : (old new : State) → IsHallSchema old.now.schema → AreKeyed (old.now.trees 14) → IsDatabase old.now
     → (rows : List Row) (out : List Tester) → map tester_in rows ≡ map Some out → Shown ALL_TESTERS.now [] old new rows
     → out ≡ entries (world_of old.now.trees).testers
 all_testers_listed old new has keyed sound rows out is shown =
     let db = old.now.trees in
-    let whole = testers_listed db keyed (subst (λ s. IsDatabase (record { schema = s; trees = db })) has sound) in
-    all_listed all_testers_are tester_total same_tester_keys key_of tester_in 2 (λ db. refl) (λ r. refl) by_tester old new has whole
+    let whole = testers_listed {schema = old.now.schema} has db keyed sound in
+    all_listed (all_testers_are old.now.schema has) tester_total same_tester_keys key_of tester_in 2 (λ db. refl) (λ r. refl) by_tester old new refl whole
     rows out is shown
     ∙ entries_kept tester_total same_tester_keys tester_of (db 14)
 

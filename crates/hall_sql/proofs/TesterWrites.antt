@@ -5,8 +5,6 @@ use Rattle.std.specs.List.{AllByRecursion}
 use Rattle.std.specs.FinMap.{FinMap, from_entries, get, insert, get-retain_keys}
 use Rattle.sqlite.specs.declared.types.Value.TheVariants.{Null, Int, Text}
 use Rattle.sqlite_value.specs.Order.{column}
-use Rattle.sqlite_value.specs.Keys.{joined}
-use Rattle.sqlite_schema.specs.Names.{same_name}
 use Rattle.sqlite_schema.specs.declared.schema.Keys.TheVariants.{Enforced}
 use Rattle.sqlite_trees.specs.Tree.{rowid}
 use Rattle.sqlite_trees.proofs.ListLemmas.{map-map}
@@ -33,7 +31,9 @@ use Rattle.hall_policy.proofs.Orders.{tester_total, same_tester_keys}
 use Rattle.hall_policy.proofs.Reading.{kind_holds}
 use Rattle.hall_store.specs.Change.{without_testers, with_testers}
 use Rattle.hall_store.proofs.Tests.{contained, later}
-use Rattle.hall_sql.specs.Tables.{hall_schema}
+use Rattle.hall_sql.specs.Tables.{IsHallSchema, hall_schema}
+use Rattle.hall_sql.specs.declared.tables.HallTable.TheVariants.{Testers}
+use Rattle.hall_sql.proofs.Wordings.{Wording, added_in, adds_quiet, hall_in, table_in, worded}
 use Rattle.hall_sql.specs.declared.testers.TheConstants.{DROP_TESTERS, ADD_TESTER}
 use Rattle.hall_sql.specs.Values.{name_in}
 use Rattle.hall_sql.specs.RoundColumns.{tester_params, is_under}
@@ -78,9 +78,8 @@ testers_alone old new testers others is =
     (ap (kept protest_cmp (λ row. row.key) protest_of) (others.1.1.1.1.1.0 (λ same. absurd (omega (arith, same)))))
     is
 
-quiet : (new : Row) → works hall_schema Enforced 0 14 [] (new ∷ []) ≡ []
-unfolding same_name joined
-quiet new = refl
+quiet : (u : Wording) (new : Row) → works (hall_in u) Enforced 0 14 [] (new ∷ []) ≡ []
+quiet u new = adds_quiet (hall_in u) 14 (new ∷ [])
 
 -- ---- the statements
 
@@ -91,12 +90,13 @@ module _ (id : List ℕ) (old new : State) (count : ℕ) (held : IsHallData old.
       let given = Text id ∷ [] in
       let keyed = held.keyed.1.1.1.1.1.1.0 in
       let rows = old.now.trees 14 in
-      let w = runs_as DROP_TESTERS.now given old new hall_schema held.schema _ drop_testers_is.0 drop_testers_is.1 count ran in
-      let it = deletes hall_schema testers_there (equals 1 0 ∷ []) testers_apart testers_restricted 6 refl given old new _ count held.schema w in
+      let (u, words) = worded old.now.schema held.schema in
+      let w = runs_as DROP_TESTERS.now given old new (hall_in u) words _ (drop_testers_is u).0 (drop_testers_is u).1 count ran in
+      let it = deletes (hall_in u) (table_in u Testers) (equals 1 0 ∷ []) testers_apart (testers_restricted u) 6 refl given old new _ count words w in
       let ids : ids_of (map (λ r. eval_all (col 1 0 ∷ []) (given ∷ r ∷ [])) it.1.found) ≡ ids_of it.1.found = map-map (λ r. id_in (rowid r)) (λ r. eval_all (col 1 0 ∷ []) (given ∷ r ∷ [])) it.1.found in
       let left : new.now.trees 14 ≡ without_rows id rows = it.1.cut ∙ ap (without_all rows) ids ∙ cut_rows (is_under id) rows it.1.found keyed it.1.same in
       let after = subst AreKeyed (sym left) (keyed_filter (λ r. not (is_under id r)) rows keyed) in (
-        record { schema = it.0; keyed = keyed_after 14 old.now.trees new.now.trees hall_schema.tables after it.2 held.keyed },
+        record { schema = subst IsHallSchema (sym it.0) held.schema; keyed = keyed_after 14 old.now.trees new.now.trees hall_schema.tables after it.2 held.keyed },
         record {
           world = testers_alone old.now.trees new.now.trees (without_testers (world_of old.now.trees).testers id) it.2
               (ap (λ l. from_entries (flat_map (λ row. option_to_list (tester_of row)) l)) left
@@ -111,14 +111,16 @@ module _ (id : List ℕ) (old new : State) (count : ℕ) (held : IsHallData old.
       → IsHallData new.now × PutsTester id name old.now new.now
   tester_added name is_id is_name ran =
       let given = tester_params id name in
-      let w = runs_as ADD_TESTER.now given old new hall_schema held.schema (Insert 6 (Values added_terms 3)) add_tester_is.0 add_tester_is.1 count ran in
+      let (u, words) = worded old.now.schema held.schema in
+      let w = runs_as ADD_TESTER.now given old new (hall_in u) words (Insert 6 (Values added_terms 3)) (add_tester_is u).0 (add_tester_is u).1 count ran in
       let casts : cast_row testers_there (Null ∷ given) ≡ Null ∷ given = rw cast_null in
-      let it = inserts hall_schema 6 testers_there refl refl added_terms 3 given (Null ∷ given) given refl refl casts quiet old new _ count held.schema w in
+      let it = added_in u 14 given old.now new.now
+      (inserts (hall_in u) 6 (table_in u Testers) refl refl added_terms 3 given (Null ∷ given) given refl refl casts (quiet u) old new _ count words w) in
       let at = next_rowid (old.now.trees 14) in
       let after = added_keyed at given (old.now.trees 14) (new.now.trees 14) it.put it.free held.keyed.1.1.1.1.1.1.0 in
       let reads : tester_of (Int at ∷ given) ≡ Some (tester_key id name, tt) = rw (kind_holds 1 24 is_word_byte id is_id, kind_holds 1 24 is_word_byte name is_name) in
       let own : is_under id (Int at ∷ given) ≡ true = agrees id (Int at ∷ given) (tester_key id name, tt) reads ∙ same_itself id in (
-        record { schema = it.same; keyed = keyed_after 14 old.now.trees new.now.trees hall_schema.tables after it.others held.keyed },
+        record { schema = subst IsHallSchema (sym it.same) held.schema; keyed = keyed_after 14 old.now.trees new.now.trees hall_schema.tables after it.others held.keyed },
         record {
           world = λ none. testers_alone old.now.trees new.now.trees (insert (world_of old.now.trees).testers (tester_key id name) tt) it.others
               (put_entry tester_total same_tester_keys tester_of (tester_key id name) tt (Int at ∷ given) (old.now.trees 14) (new.now.trees 14) none reads it.free it.put);

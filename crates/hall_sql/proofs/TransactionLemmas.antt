@@ -3,7 +3,6 @@ use Rattle.std.proofs.Common.{◌≡◌, inl, inr, [], true, false, IsTrue, Ok, 
 use Rattle.sqlite_trees.specs.declared.store.Store.{Ghosts}
 use Rattle.sqlite.specs.declared.error.Error.{Error}
 use Rattle.sqlite.specs.Effect.{Database, IsDatabase}
-use Rattle.sqlite_catalog.specs.Listing.{IsSound}
 use Rattle.sqlite.specs.Schema.{Schema}
 use Rattle.sqlite.specs.Held.{Held, state}
 use Rattle.sqlite.specs.Tree.{Trees}
@@ -14,8 +13,8 @@ use Rattle.hall_store.specs.Change.{changed}
 use Rattle.hall_store.specs.declared.change.Change.{Change}
 use Rattle.hall_sql.specs.Rows.{world_of}
 use Rattle.hall_sql.specs.Spared.{may_write, Spares}
-use Rattle.hall_sql.specs.Stands.{HoldsHall}
-use Rattle.hall_sql.specs.Tables.{hall_schema}
+use Rattle.hall_sql.specs.Stands.{HoldsHall, ListsLike}
+use Rattle.hall_sql.specs.Tables.{IsHallSchema, hall_schema}
 use Rattle.hall_sql.specs.Standing.{AddsNoOutcome, AddsOutcomes, Lasts, AreAllKeyed, IsHall, IsTabled, Rested, RestedIn, Stayed, Wrote, content_of, without_limit}
 use Rattle.hall_sql.specs.Inside.{IsHallData, Carries, Did, Changes}
 use Rattle.hall_sql.proofs.LastLemmas.{last_none, last_then, last_begun, quiet, quiet_none, quiet_then, survived}
@@ -39,7 +38,7 @@ pub shown_hall : (mid end : State) → IsHallData mid.now → end.in_transaction
 shown_hall mid end ours ended shown = record {
   unlimited = refl;
   autocommit = λ clean. ended;
-  settled = λ clean opens. (shown.now_is ∙ sym shown.committed_is, ap (λ (d : Database). d.schema) shown.now_is ∙ ours.schema);
+  settled = λ clean opens. (shown.now_is ∙ sym shown.committed_is, subst (λ (d : Database). IsHallSchema d.schema) (sym shown.now_is) ours.schema);
   keyed = λ clean opens. subst (λ (d : Database). AreAllKeyed d.trees) (sym shown.now_is) ours.keyed;
 }
 
@@ -70,7 +69,7 @@ module _ {S : Type 0} (g : Ghosts S) (held : Held S) (hall : IsHall (state g hel
         tabled = record {
           unlimited = lasts.limit ∙ carries.lasts.limit ∙ hall.unlimited;
           autocommit = λ clean. ended;
-          settled = λ clean opens. (((rolled clean).undone opens).0 ∙ sym ((rolled clean).undone opens).1, ap (λ (d : Database). d.schema) (same clean opens) ∙ (settled clean opens).1);
+          settled = λ clean opens. (((rolled clean).undone opens).0 ∙ sym ((rolled clean).undone opens).1, subst (λ (d : Database). IsHallSchema d.schema) (sym (same clean opens)) (settled clean opens).1);
           keyed = λ clean opens. subst (λ (d : Database). AreAllKeyed d.trees) (sym (same clean opens)) (hall.keyed (before clean) (opens_old clean opens));
         };
         follows = record { lasts = last_then (state g held) mid end (last_begun g held mid carries.lasts) lasts; opened = opens_old };
@@ -91,14 +90,14 @@ module _ {S : Type 0} (g : Ghosts S) (held : Held S) (hall : IsHall (state g hel
       rested_wrote change (state g held) end fault (rolled_rested mid end carries (survived mid end _ survives) (quiet mid end survives) ended rolled)
 
   -- the tables as the calls left them are listed
-  done_lists : (Does : Database → Database → Type 0) (mid : State) → Did Does base mid → IsHallData base.now → IsDatabase base.now → IsSound hall_schema mid.now.trees
-  done_lists Does mid done ours sound = subst (λ (schema : Schema). IsSound schema mid.now.trees) (done.steps.hall ours).schema (done.steps.sound ours sound)
+  done_lists : (Does : Database → Database → Type 0) (mid : State) → Did Does base mid → IsHallData base.now → IsDatabase base.now → ListsLike hall_schema mid.now.trees
+  done_lists Does mid done ours sound = (mid.now.schema, (done.steps.hall ours).schema, done.steps.sound ours sound)
 
   -- what a commit of what was done may leave
   pub commit_outcomes : IsLive (state g held) → (Does : Database → Database → Type 0) (mid end : State) → Carries base mid
       → (HasCleanDisk mid → IsTrue base.in_transaction → Did Does base mid)
       → Survives mid end (λ db. db ≡ mid.now.trees) → IsTrue (state g held).is_open
-      → AddsOutcomes (λ db. (d : Database) × Does (state g held).now d × IsSound hall_schema d.trees × (db ≡ d.trees)) (state g held) end
+      → AddsOutcomes (λ db. (d : Database) × Does (state g held).now d × ListsLike hall_schema d.trees × (db ≡ d.trees)) (state g held) end
   commit_outcomes live Does mid end carries did survives opens clean db may =
       let clean_mid : HasCleanDisk mid = omega (arith, survives.clean, clean) in
       let was : HasCleanDisk base = omega (arith, carries.lasts.clean, clean_mid) in

@@ -120,7 +120,7 @@ module _ (schema : Schema) (table : Table) (terms columns : List Term) (apart : 
       let it = updated params quiet old.step_limit params db done.0 keyed done.1 single in
       let trees : new.now.trees ≡ done.0.trees = ap (λ (d : Database). d.trees) now in
       record {
-        same = ap (λ (d : Database). d.schema) now;
+        same = ap (λ (d : Database). d.schema) now ∙ sym has;
         rows = subst (λ (t : Trees). IsReplaced (passes_with params) (made_with params) (db table.tree) (t table.tree)) (sym trees) it.0;
         keyed = subst (λ (t : Trees). AreKeyed (t table.tree)) (sym trees) it.1;
         others = subst (λ (t : Trees). AllByRecursion (λ (u : Table). u.tree ≢ table.tree → t u.tree ≡ db u.tree) schema.tables) (sym trees) it.2;

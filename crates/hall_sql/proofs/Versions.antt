@@ -1,5 +1,5 @@
 -- What is said of the hall's tables of either version.
-use Rattle.std.proofs.Common.{◌≡◌, inl, inr, ℕ, List, [], ◌∷◌, flat_map, map, Bool, true, false, ◌&&◌, Option, Some, option_to_list, IsTrue, Result, IfOk, refl, sym, subst, ◌∙◌}
+use Rattle.std.proofs.Common.{◌≡◌, inl, inr, ℕ, List, [], ◌∷◌, flat_map, map, Bool, true, false, ◌&&◌, Option, Some, option_to_list, IsTrue, Result, IfOk, refl, ◌∙◌}
 use Rattle.std.specs.Cmp.{IsTotalOrder}
 use Rattle.std.specs.declared.cmp.Ordering.{Ordering}
 use Rattle.std.specs.FinMap.{IsAntisymmetric, values}
@@ -33,21 +33,22 @@ use Rattle.hall_sql.specs.Rows.{columns_from, kept, world_of}
 use Rattle.hall_sql.specs.Scan.{tree_of}
 use Rattle.hall_sql.specs.Standing.{AreKeyed, AreKeyedIn, IsOver, RestedAny, content_of}
 use Rattle.hall_sql.specs.Statements.{plain_query}
-use Rattle.hall_sql.specs.Tables.{hall_schema, old_schema, table_at}
+use Rattle.hall_sql.specs.Tables.{IsHallSchema, IsOldSchema, table_at}
 use Rattle.hall_sql.specs.Versions.{IsVersion, IsAnyHall, HasTable}
 use Rattle.hall_sql.proofs.AskedLemmas.{asked}
 use Rattle.hall_sql.proofs.ListedLemmas.{by_order, values_asked}
 use Rattle.hall_sql.proofs.StoreLemmas.{told}
 use Rattle.hall_sql.proofs.UniqueLemmas.{first_not}
+use Rattle.hall_sql.proofs.Wordings.{Wording, by_hall, by_old, hall_in, old_in, trees_like}
 
 -- what holds of each version's schema
-pub by_version : (P : Schema → Type 0) → P old_schema → P hall_schema → (schema : Schema) → IsVersion schema → P schema
-by_version P before now schema (inl is) = subst P (sym is) before
-by_version P before now schema (inr is) = subst P (sym is) now
+pub by_version : (P : Schema → Type 0) → ((u : Wording) → P (old_in u)) → ((u : Wording) → P (hall_in u)) → (schema : Schema) → IsVersion schema → P schema
+by_version P before now schema (inl like) = by_old P before schema like
+by_version P before now schema (inr like) = by_hall P now schema like
 
 -- tables of a version are tables of a schema
 pub over_any : {Fits : Schema → Type 0} {s : State} → IsAnyHall s → ((schema : Schema) → IsVersion schema → Fits schema) → IsOver Fits s
-over_any hall fits = record { schema = hall.schema; tabled = hall.tabled; fits = fits hall.schema hall.fits }
+over_any hall fits = record { schema = hall.schema; tabled = hall.tabled; fits = λ found like. fits found (hall.fits found like) }
 
 -- what a query over tables of a version tells has its meaning in the world that stays
 pub told_any : {R E : Type 0} (old new : State) (result : Result R E) (P : R → Type 0) (Means : World → R → Type 0) → IsAnyHall old → RestedAny old new
@@ -56,20 +57,21 @@ pub told_any : {R E : Type 0} (old new : State) (result : Result R E) (P : R →
     → Served (content_of new) result Means
 told_any old new result P Means hall rested has serves means =
     told {schema = hall.schema} old new result P Means hall.tabled (rested hall.schema hall.tabled) has serves
-    (λ x it clean opened is keyed. means x it opened hall.schema hall.fits is keyed)
+    (λ x it clean opened like keyed.
+    means x it opened old.now.schema (hall.fits old.now.schema like) refl (trees_like (λ n. AreKeyed (old.now.trees n)) hall.schema old.now.schema like keyed))
 
 -- a table of the schema is keyed
 abbrev Keyed : ℕ → Trees → Schema → Type 0
 Keyed tree trees schema = AreKeyedIn schema trees → AreKeyed (trees tree)
 
 pub keyed_in : (schema : Schema) (table : HallTable) (trees : Trees) → HasTable schema table → Keyed (tree_of table) trees schema
-keyed_in schema People trees = by_version (Keyed 0 trees) (λ k. k.0) (λ k. k.0) schema
-keyed_in schema Puzzles trees = by_version (Keyed 3 trees) (λ k. k.1.0) (λ k. k.1.0) schema
-keyed_in schema Rounds trees = by_version (Keyed 5 trees) (λ k. k.1.1.0) (λ k. k.1.1.0) schema
-keyed_in schema Places trees = by_version (Keyed 7 trees) (λ k. k.1.1.1.0) (λ k. k.1.1.1.0) schema
-keyed_in schema Answers trees = by_version (Keyed 9 trees) (λ k. k.1.1.1.1.0) (λ k. k.1.1.1.1.0) schema
-keyed_in schema Protests trees = by_version (Keyed 12 trees) (λ k. k.1.1.1.1.1.0) (λ k. k.1.1.1.1.1.0) schema
-keyed_in schema Testers trees = λ has. subst (Keyed 14 trees) (sym has) (λ k. k.1.1.1.1.1.1.0)
+keyed_in schema People trees = by_version (Keyed 0 trees) (λ u k. k.0) (λ u k. k.0) schema
+keyed_in schema Puzzles trees = by_version (Keyed 3 trees) (λ u k. k.1.0) (λ u k. k.1.0) schema
+keyed_in schema Rounds trees = by_version (Keyed 5 trees) (λ u k. k.1.1.0) (λ u k. k.1.1.0) schema
+keyed_in schema Places trees = by_version (Keyed 7 trees) (λ u k. k.1.1.1.0) (λ u k. k.1.1.1.0) schema
+keyed_in schema Answers trees = by_version (Keyed 9 trees) (λ u k. k.1.1.1.1.0) (λ u k. k.1.1.1.1.0) schema
+keyed_in schema Protests trees = by_version (Keyed 12 trees) (λ u k. k.1.1.1.1.1.0) (λ u k. k.1.1.1.1.1.0) schema
+keyed_in schema Testers trees = by_hall (Keyed 14 trees) (λ u k. k.1.1.1.1.1.1.0) schema
 
 -- another row has the columns of the row's primary key
 abbrev is_repeated : HallTable → List Row → Row → Bool
@@ -90,25 +92,25 @@ from_rule schema table trees weaker all = all_weaker _ _ weaker (trees (tree_of 
 
 pub unique_in : (schema : Schema) (table : HallTable) (trees : Trees) → HasTable schema table → IsUnique table trees schema
 unique_in schema People trees =
-    by_version (IsUnique People trees) (λ d. from_rule old_schema People trees (λ row h. first_not _ _ h) (d.obeys.rules Unique).0)
-    (λ d. from_rule hall_schema People trees (λ row h. first_not _ _ h) (d.obeys.rules Unique).0) schema
+    by_version (IsUnique People trees) (λ u d. from_rule (old_in u) People trees (λ row h. first_not _ _ h) (d.obeys.rules Unique).0)
+    (λ u d. from_rule (hall_in u) People trees (λ row h. first_not _ _ h) (d.obeys.rules Unique).0) schema
 unique_in schema Puzzles trees =
-    by_version (IsUnique Puzzles trees) (λ d. from_rule old_schema Puzzles trees (λ row h. first_not _ _ h) (d.obeys.rules Unique).1.0)
-    (λ d. from_rule hall_schema Puzzles trees (λ row h. first_not _ _ h) (d.obeys.rules Unique).1.0) schema
+    by_version (IsUnique Puzzles trees) (λ u d. from_rule (old_in u) Puzzles trees (λ row h. first_not _ _ h) (d.obeys.rules Unique).1.0)
+    (λ u d. from_rule (hall_in u) Puzzles trees (λ row h. first_not _ _ h) (d.obeys.rules Unique).1.0) schema
 unique_in schema Rounds trees =
-    by_version (IsUnique Rounds trees) (λ d. from_rule old_schema Rounds trees (λ row h. first_not _ _ h) (d.obeys.rules Unique).1.1.0)
-    (λ d. from_rule hall_schema Rounds trees (λ row h. first_not _ _ h) (d.obeys.rules Unique).1.1.0) schema
+    by_version (IsUnique Rounds trees) (λ u d. from_rule (old_in u) Rounds trees (λ row h. first_not _ _ h) (d.obeys.rules Unique).1.1.0)
+    (λ u d. from_rule (hall_in u) Rounds trees (λ row h. first_not _ _ h) (d.obeys.rules Unique).1.1.0) schema
 unique_in schema Places trees =
-    by_version (IsUnique Places trees) (λ d. from_rule old_schema Places trees (λ row h. first_not _ _ h) (d.obeys.rules Unique).1.1.1.0)
-    (λ d. from_rule hall_schema Places trees (λ row h. first_not _ _ h) (d.obeys.rules Unique).1.1.1.0) schema
+    by_version (IsUnique Places trees) (λ u d. from_rule (old_in u) Places trees (λ row h. first_not _ _ h) (d.obeys.rules Unique).1.1.1.0)
+    (λ u d. from_rule (hall_in u) Places trees (λ row h. first_not _ _ h) (d.obeys.rules Unique).1.1.1.0) schema
 unique_in schema Answers trees =
-    by_version (IsUnique Answers trees) (λ d. from_rule old_schema Answers trees (λ row h. first_not _ _ h) (d.obeys.rules Unique).1.1.1.1.0)
-    (λ d. from_rule hall_schema Answers trees (λ row h. first_not _ _ h) (d.obeys.rules Unique).1.1.1.1.0) schema
+    by_version (IsUnique Answers trees) (λ u d. from_rule (old_in u) Answers trees (λ row h. first_not _ _ h) (d.obeys.rules Unique).1.1.1.1.0)
+    (λ u d. from_rule (hall_in u) Answers trees (λ row h. first_not _ _ h) (d.obeys.rules Unique).1.1.1.1.0) schema
 unique_in schema Protests trees =
-    by_version (IsUnique Protests trees) (λ d. from_rule old_schema Protests trees (λ row h. first_not _ _ h) (d.obeys.rules Unique).1.1.1.1.1.0)
-    (λ d. from_rule hall_schema Protests trees (λ row h. first_not _ _ h) (d.obeys.rules Unique).1.1.1.1.1.0) schema
-unique_in schema Testers trees = λ has.
-    subst (IsUnique Testers trees) (sym has) (λ d. from_rule hall_schema Testers trees (λ row h. first_not _ _ h) (d.obeys.rules Unique).1.1.1.1.1.1.0)
+    by_version (IsUnique Protests trees) (λ u d. from_rule (old_in u) Protests trees (λ row h. first_not _ _ h) (d.obeys.rules Unique).1.1.1.1.1.0)
+    (λ u d. from_rule (hall_in u) Protests trees (λ row h. first_not _ _ h) (d.obeys.rules Unique).1.1.1.1.1.0) schema
+unique_in schema Testers trees =
+    by_hall (IsUnique Testers trees) (λ u d. from_rule (hall_in u) Testers trees (λ row h. first_not _ _ h) (d.obeys.rules Unique).1.1.1.1.1.1.0) schema
 
 -- What is computed of a text over a schema: it asks for all rows of the table in this tree, in this order.
 pub record AsksAll (text : List ℕ) (tree : ℕ) (project : List Term) (order : List (Term × Key)) (names : List (List ℕ)) (schema : Schema) : Type 0 where
@@ -141,8 +143,8 @@ module _ {text : List ℕ} {tree : ℕ} {project : List Term} {order : List (Ter
         ∙ filter_all (λ _. true) (map_of (old.now.trees tree)) (all_of (λ _. true ≡ true) (λ _. refl) _)
 
 -- each of these tables is in the schema
-pub all_there : (schema : Schema) → schema ≡ hall_schema → AllByRecursion (HasTable schema) all_tables
+pub all_there : (schema : Schema) → IsHallSchema schema → AllByRecursion (HasTable schema) all_tables
 all_there schema is = (inr is, (inr is, (inr is, (inr is, (inr is, (inr is, (is, tt)))))))
 
-pub old_there : (schema : Schema) → schema ≡ old_schema → AllByRecursion (HasTable schema) old_tables
+pub old_there : (schema : Schema) → IsOldSchema schema → AllByRecursion (HasTable schema) old_tables
 old_there schema is = (inl is, (inl is, (inl is, (inl is, (inl is, (inl is, tt))))))

@@ -15,7 +15,7 @@ use Rattle.sqlite.specs.State.{State, HasCleanDisk, IsMisplaced, Escapes, EndsSc
 use Rattle.sqlite.specs.Steps.{FailsToCommit}
 use Rattle.sqlite.proofs.Callers.{IsPlain, command_of, statement_of}
 use Rattle.hall_store.specs.Store.{MoreFaults}
-use Rattle.hall_sql.specs.Tables.{hall_schema}
+use Rattle.sqlite.specs.Schema.{Schema}
 use Rattle.hall_sql.specs.Standing.{IsHall, Lasts}
 use Rattle.hall_sql.specs.Inside.{Steps, IsHallData, Carries, Did}
 use Rattle.sqlite_trees.specs.declared.store.Store.{Ghosts}
@@ -34,14 +34,14 @@ use Rattle.hall_sql.specs.declared.puzzles.TheConstants.{ADD_PUZZLE, REPLACE_PUZ
 use Rattle.hall_sql.specs.declared.round_writes.TheConstants.{ADD_HEAD, REPLACE_HEAD}
 use Rattle.hall_sql.proofs.EachLemmas.{next_item}
 use Rattle.hall_sql.specs.WriteCause.{PuzzleIsRefused, PutPuzzleFails, HeadIsRefused, IsHeadRefused}
-use Rattle.hall_sql.specs.WriteCause.{IsEdit, IsWritten, enforced, IsRefused, RunFails, Refuses, RefusesInside, RefusesToAsk, IsUnderWay}
+use Rattle.hall_sql.specs.WriteCause.{IsEdit, IsWritten, IsWrittenIn, enforced, IsRefused, RunFails, Refuses, RefusesInside, RefusesToAsk, IsUnderWay}
 use Rattle.hall_sql.proofs.AskedLemmas.{store_cause, not_run, open_cause}
 
 -- ---- one statement
 
 -- a text that was computed to be an edit
-pub written : (sql : List ℕ) (params : Row) (command : Command) → command_of (understood hall_schema sql) ≡ command → IsEdit command
-    → IsPlain (understood hall_schema sql) → is_whole sql (length params) (understood hall_schema sql) ≡ true → IsWritten sql params
+pub written : {schema : Schema} (sql : List ℕ) (params : Row) (command : Command) → command_of (understood schema sql) ≡ command → IsEdit command
+    → IsPlain (understood schema sql) → is_whole sql (length params) (understood schema sql) ≡ true → IsWrittenIn sql params schema
 written sql params command is edit plain whole = record { plain = plain; whole = whole; edits = subst IsEdit (sym is) edit }
 
 -- an edit is no command that shows rows, nor one that begins or ends a transaction
@@ -76,7 +76,7 @@ edit_stays s command edit (inr h) = elim h.1 [
 ]
 
 module _ (sql : List ℕ) (params : Row) (old new : State) (e : Error) (other : e ≢ SqliteFailure code.OutOfMemory) (free : old.step_limit ≡ None) where
-  module _ (c : Compiled) (known : understood hall_schema sql ≡ Ok c) (none : c.returning ≡ None) where
+  module _ (c : Compiled) (known : understood old.now.schema sql ≡ Ok c) (none : c.returning ≡ None) where
     is_refused : (stop : Option Error) → Does old.step_limit (mode_of old) params old.now (text_of sql c) c.returning c.command (Err stop)
         → IsRefused sql params old.now
     is_refused stop does =
@@ -93,12 +93,12 @@ module _ (sql : List ℕ) (params : Row) (old new : State) (e : Error) (other : 
       | inr large ↦ inr (is_refused None large)
     ]
 
-  executed_cause : IsWritten sql params → old.now.schema ≡ hall_schema → Executes sql params old new (Err e) → RunFails sql params old new
+  executed_cause : IsWrittenIn sql params old.now.schema → Executes sql params old new (Err e) → RunFails sql params old new
   unfolding ExecutesIn
-  executed_cause it has (inl h) = inl (not_run hall_schema sql params old new e it.plain it.whole other has h)
-  executed_cause it has (inr h) =
-      let known : understood hall_schema sql ≡ Ok h.0 = sym (ap (λ x. understood x sql) has) ∙ h.1.is in
-      let bare = subst IsPlain {x = understood hall_schema sql} known it.plain in
+  executed_cause it (inl h) = inl (not_run old.now.schema sql params old new e it.plain it.whole other refl h)
+  executed_cause it (inr h) =
+      let known : understood old.now.schema sql ≡ Ok h.0 = h.1.is in
+      let bare = subst IsPlain {x = understood old.now.schema sql} known it.plain in
       let edit : IsEdit h.0.command = subst (λ r. IsEdit (command_of r)) known it.edits in
       let shows : shows_rows false h.0 ≡ false = edit_shows h.0.command h.0.returning edit bare.0 in
       let runs : RunsCommand old new sql h.0 params (Err e) = rw (shows, bare.1, append-nil params) at h.2 in
@@ -108,31 +108,32 @@ module _ (sql : List ℕ) (params : Row) (old new : State) (e : Error) (other : 
 pub refused_cause : (sql : List ℕ) (params : Row) (old new : State) → IsWritten sql params → IsHall old → HasCleanDisk old
     → Refuses sql params old new → RunFails sql params old new
 refused_cause sql params old new it hall clean refuses = elim (cases_Bool old.is_open) [
-  | inl opens ↦ executed_cause sql params old new refuses.0 refuses.1 hall.unlimited it (hall.settled clean opens).1 refuses.2
+  | inl opens ↦ executed_cause sql params old new refuses.0 refuses.1 hall.unlimited (it old.now.schema (hall.settled clean opens).1) refuses.2
   | inr shut ↦ inl (inr shut)
 ]
 
-never_escapes : (sql : List ℕ) (params : Row) (s : State) → IsWritten sql params → s.now.schema ≡ hall_schema → ¬ (EndsScope 0 sql params s)
+never_escapes : (sql : List ℕ) (params : Row) (s : State) → IsWrittenIn sql params s.now.schema → ¬ (EndsScope 0 sql params s)
 unfolding EndsScope
-never_escapes sql params s it has h =
-    let known : understood hall_schema sql ≡ Ok h.0 = sym (ap (λ x. understood x sql) has) ∙ h.1.is in
+never_escapes sql params s it h =
+    let known : understood s.now.schema sql ≡ Ok h.0 = h.1.is in
     edit_stays s h.0.command (subst (λ r. IsEdit (command_of r)) known it.edits) h.2
 
 -- and inside
 pub inside_cause : (sql : List ℕ) (params : Row) (old new : State) → IsWritten sql params → IsUnderWay old → RefusesInside sql params old new
     → RunFails sql params old new
 inside_cause sql params old new it goes refuses = elim refuses.2 [
-  | inl ran ↦ executed_cause sql params old new refuses.0 refuses.1 goes.unlimited it goes.hall.schema ran.0
-  | inr ends ↦ absurd (never_escapes sql params old it goes.hall.schema ends.0)
+  | inl ran ↦ executed_cause sql params old new refuses.0 refuses.1 goes.unlimited (it old.now.schema goes.hall.schema) ran.0
+  | inr ends ↦ absurd (never_escapes sql params old (it old.now.schema goes.hall.schema) ends.0)
 ]
 
 pub asked_inside : (sql : List ℕ) (params : Row) (old new : State) → IsAsked sql params → IsUnderWay old → RefusesToAsk sql params old new
     → IsStoreCause old new
 asked_inside sql params old new asks goes refuses = elim refuses.2 [
-  | inl fails ↦ open_cause sql params old new refuses.0 asks goes.unlimited refuses.1 goes.hall.schema fails
+  | inl fails ↦ open_cause sql params old new refuses.0 (asks old.now.schema goes.hall.schema) goes.unlimited refuses.1 refl fails
   | inr late ↦
-      let known : understood hall_schema sql ≡ Ok late.0 = sym (ap (λ x. understood x sql) goes.hall.schema) ∙ late.1.is in
-      absurd (let no : false ≡ true = subst IsSome (subst IsPlain {x = understood hall_schema sql} known asks.plain).0 late.2 in cc)
+      let known : understood old.now.schema sql ≡ Ok late.0 = late.1.is in
+      let plain = (asks old.now.schema goes.hall.schema).plain in
+      absurd (let no : false ≡ true = subst IsSome (subst IsPlain {x = understood old.now.schema sql} known plain).0 late.2 in cc)
 ]
 
 -- ---- one call after another

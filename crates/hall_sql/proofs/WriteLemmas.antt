@@ -13,7 +13,7 @@ use Rattle.hall_policy.specs.World.{World}
 use Rattle.hall_store.specs.Store.{LeavesOneOf, Made}
 use Rattle.hall_store.specs.Change.{changed}
 use Rattle.hall_store.specs.declared.change.Change.{Change}
-use Rattle.hall_sql.specs.Tables.{hall_schema}
+use Rattle.hall_sql.specs.Tables.{IsHallSchema}
 use Rattle.hall_sql.specs.Rows.{world_of}
 use Rattle.hall_sql.specs.Spared.{may_write, Spares}
 use Rattle.hall_sql.specs.Stands.{HoldsHall}
@@ -25,7 +25,7 @@ use Rattle.hall_sql.proofs.StoreLemmas.{opens_hall, rested_stayed, stays_on}
 
 -- a write outside a transaction is committed
 pub writes_hall : (old new : State) (command : Command) (text : List ℕ) (given : Row) (count : ℕ) → old.in_transaction ≡ false
-    → (w : Writes old new None command text given count) → new.now.schema ≡ hall_schema → AreAllKeyed new.now.trees → IsHall (without_limit new)
+    → (w : Writes old new None command text given count) → IsHallSchema new.now.schema → AreAllKeyed new.now.trees → IsHall (without_limit new)
 writes_hall old new command text given count mode w has keyed = record {
   unlimited = refl;
   autocommit = λ clean. w.shown.mode ∙ mode;

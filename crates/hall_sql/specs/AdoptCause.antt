@@ -23,14 +23,14 @@ use Rattle.hall_sql.specs.declared.tables.HallTable.{HallTable}
 abbrev pub IsUnfit : Option ℤ → Row → Type 0
 IsUnfit last shown = (id : ℤ) → column shown 0 ≡ Int id → ¬ IsAbove last id
 
--- Why no next rowid is read: the query fails, though not for want of memory, or its next row is unfit.
+-- Why no next rowid is read: the query fails, though not by being out of memory, or its next row is unfit.
 abbrev pub NextFails : {S : Type 0} → Ghosts S → Held S → Held S → Option ℤ → Type 0
 NextFails g old new last =
     ((e : Error) × (e ≢ SqliteFailure OutOfMemory) × FailsToAdvance g old new e)
     ⊎ (IsUnchanged (state g old) (state g new) × (shown : Row) × Advances g old new (Some shown) × IsUnfit last shown)
 
--- Why the rowids of these tables are refused: the cause lies in the store, or the connection has a limit on the steps of
--- a query, or in one of the tables not all rowids are integers, or one stands twice.
+-- Why the rowids of these tables are refused: the cause lies in the store, or the connection has a limit on the steps
+-- of a query, or in one of the tables not all rowids are integers, or one stands twice.
 abbrev pub ScanFails : List HallTable → State → State → Type 0
 ScanFails tables old new =
     IsStoreCause old new ⊎ (IsSome old.step_limit ⊎ ¬ AllByRecursion (IsTableKeyed old) tables)

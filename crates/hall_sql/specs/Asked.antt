@@ -13,7 +13,7 @@ use Rattle.sqlite_sql.specs.Program.{ProgramOverflows}
 use Rattle.sqlite_typing.specs.Types.{accepts_program}
 use Rattle.sqlite_resolve.specs.declared.compiled.Compiled.{Compiled}
 use Rattle.sqlite_resolve.specs.declared.error.CompileError.{CompileError}
-use Rattle.hall_sql.specs.Tables.{hall_schema}
+use Rattle.hall_sql.specs.Tables.{IsHallSchema}
 
 -- it has no RETURNING
 abbrev pub HasNoReturning : Result Compiled CompileError → Type 0
@@ -43,6 +43,6 @@ pub record IsAskedIn (sql : List ℕ) (params : Row) (schema : Schema) : Type 0 
   pub whole : is_whole sql (length params) (understood schema sql) ≡ true
   pub safe : IsSafe schema (command_of (understood schema sql)) params
 
--- so it is over the hall's tables
+-- over the tables of a hall, also where another made them, the text is one query that may be asked
 abbrev pub IsAsked : List ℕ → Row → Type 0
-IsAsked sql params = IsAskedIn sql params hall_schema
+IsAsked sql params = (schema : Schema) → IsHallSchema schema → IsAskedIn sql params schema

@@ -26,7 +26,7 @@ Steps g read Takes old new before after false =
 abbrev pub IsTurnedAway : {K X : Type 0} → (Row → Option X) → (K → X → Type 0) → K → Row → Type 0
 IsTurnedAway {K} {X} read Refuses sink row = (read row ≡ None) ⊎ ((x : X) × (read row ≡ Some x) × Refuses sink x)
 
--- Why no row more is given: the query fails, though not for want of memory, or its next row is turned away.
+-- Why no row more is given: the query fails, though not by being out of memory, or its next row is turned away.
 abbrev pub StepFails : {S K X : Type 0} → Ghosts S → (Row → Option X) → (K → X → Type 0) → Held S → Held S → K → Type 0
 StepFails g read Refuses old new sink =
     ((e : Error) × (e ≢ SqliteFailure OutOfMemory) × FailsToAdvance g old new e)

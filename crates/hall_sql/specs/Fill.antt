@@ -4,7 +4,6 @@ use Rattle.std.specs.FinMap.{get, insert}
 use Rattle.sqlite.specs.Effect.{Database}
 use Rattle.sqlite.specs.Order.{Row}
 use Rattle.sqlite.specs.Tree.{Trees}
-use Rattle.sqlite_catalog.specs.Listing.{IsSound}
 use Rattle.hall_grid.specs.Canonical.{CanonicalText}
 use Rattle.hall_policy.specs.Sink.{HasTaken}
 use Rattle.hall_policy.specs.World.{World}
@@ -23,6 +22,7 @@ use Rattle.hall_sql.specs.RoundColumns.{head_params}
 use Rattle.hall_sql.specs.RoundPuts.{PutsPlace}
 use Rattle.hall_sql.specs.Rows.{world_of}
 use Rattle.hall_sql.specs.Standing.{HasAdded}
+use Rattle.hall_sql.specs.Stands.{ListsLike}
 use Rattle.hall_sql.specs.Tables.{hall_schema}
 
 -- the person stands under the name, where none stood there, and all else is as it was
@@ -35,7 +35,8 @@ abbrev pub WithPuzzle : World → PuzzleRow → World → Type 0
 WithPuzzle old row new = get old.puzzles row.key ≡ None → new ≡ record old { puzzles = insert old.puzzles row.key row }
 
 abbrev pub WithRound : World → Round → World → Type 0
-WithRound old round new = get old.rounds round.id ≡ None → new ≡ record old { rounds = insert old.rounds round.id round }
+WithRound old round new =
+    get old.rounds round.id ≡ None → new ≡ record old { rounds = insert old.rounds round.id round }
 
 abbrev pub WithPlace : World → PlaceKey × Entry → World → Type 0
 WithPlace old place new =
@@ -92,4 +93,4 @@ pub record Fills (rows : Rows) (old new : Database) : Type 0 where
 
 -- the trees are those of a database to which all records were added, and list the hall's tables
 abbrev pub AreFilled : Rows → Database → Trees → Type 0
-AreFilled rows held db = (d : Database) × Fills rows held d × IsSound hall_schema d.trees × (db ≡ d.trees)
+AreFilled rows held db = (d : Database) × Fills rows held d × ListsLike hall_schema d.trees × (db ≡ d.trees)

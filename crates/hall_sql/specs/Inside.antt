@@ -10,14 +10,14 @@ use Rattle.hall_store.specs.declared.change.Change.{Change}
 use Rattle.hall_store.specs.declared.change.Change.TheVariants.{Import}
 use Rattle.hall_sql.specs.AllRead.{StaysRead}
 use Rattle.hall_sql.specs.Columns.{person_params}
-use Rattle.hall_sql.specs.Tables.{hall_schema}
+use Rattle.hall_sql.specs.Tables.{IsHallSchema, hall_schema}
 use Rattle.hall_sql.specs.Rows.{world_of}
 use Rattle.hall_sql.specs.Spared.{may_write, Spares}
 use Rattle.hall_sql.specs.Standing.{AddsNoOutcome, AreAllKeyed, HasAdded, Lasts}
 
--- the tables are the hall's, and no two rows of one have one rowid
+-- the tables are a hall's, and no two rows of one have one rowid
 pub record IsHallData (held : Database) : Type 0 where
-  pub schema : held.schema ≡ hall_schema
+  pub schema : IsHallSchema held.schema
   pub keyed : AreAllKeyed held.trees
 
 -- Whether it ran or was refused: no fault is forgotten, only one that is counted shuts the store, and nothing is

@@ -16,10 +16,11 @@ use Rattle.sqlite_schema.specs.declared.schema.Column.{Column}
 use Rattle.hall_sql.specs.Asked.{is_whole}
 use Rattle.hall_sql.specs.Scan.{tree_of}
 use Rattle.hall_sql.specs.Statements.{equals, rising, names_of, plain_query, rowids_text}
-use Rattle.hall_sql.specs.Tables.{hall_schema, table_at}
+use Rattle.hall_sql.specs.Tables.{IsHallSchema, table_at}
 use Rattle.hall_sql.specs.Versions.{HasTable}
 use Rattle.hall_sql.specs.declared.tables.HallTable.{HallTable}
-use Rattle.hall_sql.specs.declared.tables.HallTable.TheVariants.{People, Puzzles, Rounds, Places, Answers, Protests, Testers}
+use Rattle.hall_sql.specs.declared.tables.HallTable.TheVariants.{People, Puzzles, Rounds, Places, Answers, Protests}
+use Rattle.hall_sql.specs.declared.tables.HallTable.TheVariants.{Testers}
 use Rattle.hall_sql.specs.declared.people.TheConstants.{PERSON, PERSON_BY_KEY, ALL_PEOPLE, ADD_PERSON}
 use Rattle.hall_sql.specs.declared.puzzles.TheConstants.{PUZZLE, PUZZLES_OF, ALL_PUZZLES}
 use Rattle.hall_sql.specs.declared.puzzles.TheConstants.{LOOK_PUZZLE, ADD_PUZZLE, REPLACE_PUZZLE}
@@ -90,9 +91,9 @@ pub record IsCommand (schema : Schema) (sql : List ℕ) (parameters : ℕ) (comm
   pub plain : IsPlain (understood schema sql)
   pub whole : is_whole sql parameters (understood schema sql) ≡ true
 
--- so it is over the hall's tables
+-- over the tables of a hall, also where another made them, the text is this command
 abbrev pub Is : List ℕ → ℕ → Command → Type 0
-Is = IsCommand hall_schema
+Is sql parameters command = (schema : Schema) → IsHallSchema schema → IsCommand schema sql parameters command
 
 -- it asks for all rows of the table, in the order of these columns, over the tables of each version that has the table
 abbrev pub IsListing : List ℕ → HallTable → List ℕ → Type 0

@@ -6,6 +6,7 @@ pub mod Stands
 pub mod Standing
 pub mod Statements
 pub mod Columns
+pub mod PuzzleText
 pub mod RoundColumns
 pub mod Inside
 pub mod RoundPuts
@@ -19,6 +20,7 @@ pub mod Stopped
 pub mod Whole
 pub mod Asked
 pub mod Cause
+pub mod Counts
 pub mod WriteCause
 pub mod AdoptCause
 pub mod Versions

@@ -3,7 +3,6 @@ use Rattle.std.specs.Prelude.{◌≡◌, ◌≢◌, ◌⊎◌, ◌+◌, ℕ, IfO
 use Rattle.std.specs.FinMap.{empty, len}
 use Rattle.sqlite.specs.State.{State, HasCleanDisk}
 use Rattle.sqlite.specs.Tree.{Trees}
-use Rattle.sqlite_catalog.specs.Listing.{IsSound}
 use Rattle.hall_policy.specs.World.{World}
 use Rattle.hall_store.specs.Maps.{empty_world}
 use Rattle.hall_store.specs.Store.{Content, Leads, LeavesNoOther, LeavesOneOf}
@@ -14,15 +13,16 @@ use Rattle.hall_sql.specs.declared.migration.Migrated.{Migrated}
 use Rattle.hall_sql.specs.declared.migration.Migrated.TheVariants.{Done, Occupied}
 use Rattle.hall_sql.specs.declared.rows.Rows.{Rows}
 use Rattle.hall_sql.specs.AllRead.{AreAllRead}
+use Rattle.hall_sql.specs.PuzzleText.{AreCanonical}
 use Rattle.hall_sql.specs.Rows.{world_of}
-use Rattle.hall_sql.specs.Standing.{IsBare, Rested, RestedIn, Stayed, content_of}
-use Rattle.hall_sql.specs.Stands.{OpensTo}
+use Rattle.hall_sql.specs.Standing.{IsBareLike, Rested, RestedIn, Stayed, content_of}
+use Rattle.hall_sql.specs.Stands.{ListsLike, OpensTo}
 use Rattle.hall_sql.specs.Tables.{hall_schema, old_schema}
 use Rattle.hall_sql.specs.WholeRows.{AreRowsOf, without_testers}
 
 -- the database lists the tables of the first version, whose rows stand for the world
 abbrev pub StandsForOld : Trees → World → Type 0
-StandsForOld db world = IsSound old_schema db × (world ≡ without_testers (world_of db))
+StandsForOld db world = ListsLike old_schema db × (world ≡ without_testers (world_of db))
 
 -- The content of a connection with the tables of the version before: its world is what its tables hold, and no
 -- testers. A stop leaves the worlds to which an open of that version may open what it finds.
@@ -44,10 +44,11 @@ IsFoundBeside rows held These = (world : World) → AreRowsOf world rows → wor
 IsFoundBeside rows held Others =
     (held ≢ empty_world) × ((world : World) → AreRowsOf world rows → world.testers ≡ empty → held ≢ world)
 
--- the target had no row, and was given so many; or it held the world before, and its tables are as they were
+-- the target had no row, and was given so many, each puzzle's with its canonical text; or it held the world before,
+-- and its tables are as they were
 abbrev pub WasBefore : World → ℕ → State → State → Type 0
 WasBefore world count old new =
-    (IsBare hall_schema old.now × (count ≡ row_count world))
+    (IsBareLike hall_schema old.now × (count ≡ row_count world) × AreCanonical new.now.trees)
     ⊎ ((world_of old.now.trees ≡ world) × (count ≡ 0) × Rested old new)
 
 -- The target holds the world, which it was given in so many rows, or which it held before. Each of its rows is a

@@ -1,12 +1,11 @@
 -- What a connection with the tables of the version before is.
-use Rattle.std.specs.Prelude.{◌≢◌}
 use Rattle.sqlite_trees.specs.declared.store.Store.{Ghosts}
 use Rattle.sqlite.specs.Held.{Held, state}
 use Rattle.sqlite.specs.State.{HasCleanDisk}
 use Rattle.hall_sql.specs.declared.old_store.Taken.{Taken}
 use Rattle.hall_sql.specs.declared.old_store.Taken.TheVariants.{Old, Other}
 use Rattle.hall_sql.specs.Standing.{AddsNoOutcome, HasAdoptedOld, HasDeclined}
-use Rattle.hall_sql.specs.Tables.{old_schema}
+use Rattle.hall_sql.specs.Tables.{IsOldSchema}
 
 -- it was taken over, or its tables are others, and it was left as it was, also after a stop
 abbrev pub IsTaken : {S : Type 0} → Ghosts S → Held S → Taken S → Type 0
@@ -14,4 +13,4 @@ IsTaken g conn (Old store) = HasAdoptedOld (state g conn) (state g store)
 IsTaken g conn (Other left) =
     HasDeclined (state g conn) (state g left)
     × AddsNoOutcome (state g conn) (state g left)
-    × (HasCleanDisk (state g left) → (state g conn).now.schema ≢ old_schema)
+    × (HasCleanDisk (state g left) → ¬ IsOldSchema (state g conn).now.schema)

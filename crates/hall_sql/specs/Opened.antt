@@ -1,5 +1,5 @@
 -- The world that the files at a path held.
-use Rattle.std.specs.Prelude.{◌≡◌, ◌≢◌, ◌⊎◌, ℕ, Bool, true, false, List, [], Option, Some, None, Result, Ok, Err}
+use Rattle.std.specs.Prelude.{◌≡◌, ◌⊎◌, ℕ, Bool, true, false, List, [], Option, Some, None, Result, Ok, Err}
 use Rattle.sqlite_trees.specs.declared.memory.MemStore.{MemStore}
 use Rattle.sqlite_trees.specs.declared.store.Store.{Ghosts}
 use Rattle.sqlite.specs.Recovery.{Image}
@@ -16,7 +16,7 @@ use Rattle.hall_store.specs.Maps.{empty_world}
 use Rattle.hall_store.specs.declared.fault.StoreFault.{StoreFault}
 use Rattle.hall_store.specs.declared.fault.StoreFault.TheVariants.{Failed}
 use Rattle.hall_sql.specs.AdoptCause.{AdoptFails, AdoptOldFails}
-use Rattle.hall_sql.specs.Tables.{old_schema}
+use Rattle.hall_sql.specs.Tables.{IsOldSchema}
 use Rattle.hall_sql.specs.Standing.{AddsNoOutcome, HasAdopted, HasAdoptedOld, HasDeclined, MakesAtMost, content_of}
 use Rattle.hall_sql.specs.Stands.{StandsFor}
 use Rattle.hall_sql.specs.Migrate.{StandsForOld}
@@ -68,8 +68,8 @@ abbrev pub OpensAt : {F S : Type 0} → Ghosts S → (List ℕ → Image) → (F
     → Held S → F → Type 0
 OpensAt = OpensAs HasAdopted
 
--- Asked for the database at the path alone, the files handed out the one that they held, which was refused for this cause,
--- and took it back as it was left, also by a stop.
+-- Asked for the database at the path alone, the files handed out the one that they held, which was refused for this
+-- cause, and took it back as it was left, also by a stop.
 pub record IsHandedBack {F S : Type 0} (Stops Cause : State → State → Type 0) (g : Ghosts S) (image_at : List ℕ → Image)
     (opens : F → List ℕ → Held S → F → Type 0) (closes : F → Held S → F → Type 0) (old : F) (path : List ℕ) (new : F)
     : Type 0 where
@@ -85,11 +85,11 @@ pub record IsHandedBack {F S : Type 0} (Stops Cause : State → State → Type 0
 
 -- the tables were those of the first version
 abbrev pub WasOld : State → State → Type 0
-WasOld was left = was.now.schema ≡ old_schema
+WasOld was left = IsOldSchema was.now.schema
 
 -- they were others
 abbrev pub WasNotOld : State → State → Type 0
-WasNotOld was left = was.now.schema ≢ old_schema
+WasNotOld was left = ¬ IsOldSchema was.now.schema
 
 -- they were others, and the fault has a cause
 abbrev pub IsRefusedBy : StoreFault → State → State → Type 0

@@ -1,5 +1,6 @@
 -- What the store keeps true of its connection, what a call leaves, and the content that a connection shows.
-use Rattle.std.specs.Prelude.{◌≡◌, ◌≢◌, ◌≤◌, ◌⊎◌, ℕ, Bool, true, false, List, [], ◌∷◌, map, IsTrue, Result, Ok, Err, OnOk, OnErr, None}
+use Rattle.std.specs.Prelude.{◌≡◌, ◌≢◌, ◌≤◌, ◌⊎◌, ℕ, Bool, true, false, List, [], ◌∷◌, map, IsTrue, Result, Ok, Err}
+use Rattle.std.specs.Prelude.{OnOk, OnErr, None}
 use Rattle.std.specs.List.{AllByRecursion, filter, list_all}
 use Rattle.std.specs.List.Sorted.{IsPermutation, IsSorted}
 use Rattle.std.specs.declared.cmp.Ordering.TheVariants.{Equal}
@@ -18,7 +19,7 @@ use Rattle.sqlite.specs.State.{State, HasCleanDisk, IsUnchanged, IsRolledBack}
 use Rattle.hall_store.specs.Store.{Content, MoreFaults, Makes}
 use Rattle.hall_store.specs.Change.{changed}
 use Rattle.hall_store.specs.declared.change.Change.{Change}
-use Rattle.hall_sql.specs.Tables.{no_schema, hall_schema, old_schema}
+use Rattle.hall_sql.specs.Tables.{IsLike, IsHallSchema, IsOldSchema, no_schema, hall_schema, old_schema}
 use Rattle.hall_sql.specs.Rows.{world_of}
 use Rattle.hall_sql.specs.Spared.{may_write, Spares}
 use Rattle.hall_sql.specs.Stands.{IsBareHall, OpensTo, StandsFor}
@@ -54,11 +55,11 @@ abbrev pub AddsOutcomes : (Trees → Type 0) → State → State → Type 0
 AddsOutcomes Among old new = HasCleanDisk new → (db : Trees) → new.may_leave db → old.may_leave db ⊎ Among db
 
 -- No transaction is open, and the steps of a query have no limit. Where the store still serves, all is committed, and
--- the tables are those of the schema.
+-- the tables are like those of the schema.
 pub record IsTabled (schema : Schema) (s : State) : Type 0 where
   pub unlimited : s.step_limit ≡ None
   pub autocommit : HasCleanDisk s → s.in_transaction ≡ false
-  pub settled : HasCleanDisk s → IsTrue s.is_open → (s.now ≡ s.committed) × (s.now.schema ≡ schema)
+  pub settled : HasCleanDisk s → IsTrue s.is_open → (s.now ≡ s.committed) × IsLike schema s.now.schema
   pub keyed : HasCleanDisk s → IsTrue s.is_open → AreKeyedIn schema s.now.trees
 
 -- so it is with the hall's tables
@@ -106,11 +107,11 @@ pub record RestedIn (schema : Schema) (old new : State) : Type 0 where
 abbrev pub Rested : State → State → Type 0
 Rested = RestedIn hall_schema
 
--- the tables are those of a schema that is so
+-- the tables are like those of a schema, and each schema that is like it is so
 pub record IsOver (Fits : Schema → Type 0) (s : State) : Type 0 where
   pub schema : Schema
   pub tabled : IsTabled schema s
-  pub fits : Fits schema
+  pub fits : (found : Schema) → IsLike schema found → Fits found
 
 -- the tables are as they were, while the store serves, whichever schema's they are
 abbrev pub RestedAny : State → State → Type 0
@@ -138,7 +139,7 @@ content_of s = record {
 
 -- the table in this tree has one row more, with a rowid of its own, and each other table is as it was
 pub record HasAdded (schema : Schema) (tree : ℕ) (values : Row) (old new : Database) : Type 0 where
-  pub same : new.schema ≡ schema
+  pub same : new.schema ≡ old.schema
   pub free : is_taken (old.trees tree) (Int (next_rowid (old.trees tree)) ∷ values) ≡ false
   pub put : new.trees tree ≡ put_row (Int (next_rowid (old.trees tree)) ∷ values) (old.trees tree)
   pub others : AllByRecursion (λ table. table.tree ≢ tree → new.trees table.tree ≡ old.trees table.tree) schema.tables
@@ -153,7 +154,7 @@ pub record IsReplaced (keeps : Row → Bool) (made : Row → Row) (rows out : Li
 -- so it was done to the table in this tree, and each other table is as it was
 pub record HasReplaced (schema : Schema) (tree : ℕ) (keeps : Row → Bool) (made : Row → Row) (old new : Database)
     : Type 0 where
-  pub same : new.schema ≡ schema
+  pub same : new.schema ≡ old.schema
   pub rows : IsReplaced keeps made (old.trees tree) (new.trees tree)
   pub keyed : AreKeyed (new.trees tree)
   pub others : AllByRecursion (λ table. table.tree ≢ tree → new.trees table.tree ≡ old.trees table.tree) schema.tables
@@ -179,10 +180,15 @@ pub record IsBare (schema : Schema) (held : Database) : Type 0 where
   pub is : held.schema ≡ schema
   pub empty : AllByRecursion (λ table. held.trees table.tree ≡ []) schema.tables
 
--- The hall's tables stood and are as they were, or there was nothing, and they were made and hold no row.
+-- the tables are like those of the schema, and hold no row
+pub record IsBareLike (schema : Schema) (held : Database) : Type 0 where
+  pub is : IsLike schema held.schema
+  pub empty : AllByRecursion (λ table. held.trees table.tree ≡ []) schema.tables
+
+-- A hall's tables stood and are as they were, or there was nothing, and they were made and hold no row.
 abbrev pub StoodOrEmpty : State → State → Type 0
 StoodOrEmpty old new =
-    ((old.now.schema ≡ hall_schema) × (new.now ≡ old.now))
+    (IsHallSchema old.now.schema × (new.now ≡ old.now))
     ⊎ ((old.now.schema ≡ no_schema) × IsBare hall_schema new.now)
 
 -- A stop in the call, or after it, leaves a database that a stop before it could leave; or there was no table, and it
@@ -206,7 +212,7 @@ HasAdopted = HasAdoptedIn hall_schema StoodOrEmpty
 
 -- the tables of the version before stood
 abbrev pub HasAdoptedOld : State → State → Type 0
-HasAdoptedOld = HasAdoptedIn old_schema (λ old new. (old.now.schema ≡ old_schema) × (new.now ≡ old.now))
+HasAdoptedOld = HasAdoptedIn old_schema (λ old new. IsOldSchema old.now.schema × (new.now ≡ old.now))
 
 -- A connection was refused. Its limit on the steps of a query is as it was, and so is whether a transaction is open,
 -- with the savepoints of an open one; while the store serves, so are the tables and what is committed of them.
@@ -224,13 +230,13 @@ Adopts old new (Err fault) = HasDeclined old new
 -- a connection with tables of the version before is taken over, and one with others is left
 abbrev pub AdoptsOld : {E : Type 0} → State → State → Result Bool E → Type 0
 AdoptsOld old new (Ok true) = HasAdoptedOld old new
-AdoptsOld old new (Ok false) = HasDeclined old new × (HasCleanDisk new → old.now.schema ≢ old_schema)
+AdoptsOld old new (Ok false) = HasDeclined old new × (HasCleanDisk new → ¬ IsOldSchema old.now.schema)
 AdoptsOld old new (Err fault) = HasDeclined old new
 
 -- so it did, but for a limit on the steps of a query, which is still to be lifted
 abbrev pub ReadiesOld : {E : Type 0} → State → State → Result Bool E → Type 0
 ReadiesOld old new (Ok true) = HasAdoptedOld old (without_limit new)
-ReadiesOld old new (Ok false) = HasDeclined old new × (HasCleanDisk new → old.now.schema ≢ old_schema)
+ReadiesOld old new (Ok false) = HasDeclined old new × (HasCleanDisk new → ¬ IsOldSchema old.now.schema)
 ReadiesOld old new (Err fault) = HasDeclined old new
 
 -- so it does, but for a limit on the steps of a query, which is still to be lifted

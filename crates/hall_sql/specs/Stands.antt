@@ -1,17 +1,22 @@
 -- The world for which a database stands, where a hall opens it.
 use Rattle.std.specs.Prelude.{◌≡◌, ◌⊎◌, []}
 use Rattle.std.specs.List.{AllByRecursion}
+use Rattle.sqlite.specs.Schema.{Schema}
 use Rattle.sqlite.specs.Tree.{Trees}
 use Rattle.sqlite_catalog.specs.Listing.{IsSound}
 use Rattle.hall_policy.specs.World.{World}
 use Rattle.hall_store.specs.Maps.{empty_world}
 use Rattle.hall_sql.specs.Rows.{world_of}
-use Rattle.hall_sql.specs.Tables.{no_schema, hall_schema}
+use Rattle.hall_sql.specs.Tables.{IsLike, no_schema, hall_schema}
+
+-- the database lists tables like those of the schema
+abbrev pub ListsLike : Schema → Trees → Type 0
+ListsLike wanted db = (found : Schema) × IsLike wanted found × IsSound found db
 
 -- The database lists the hall's tables, whose rows stand for the world; or it lists no table, and the world is empty.
 abbrev pub StandsFor : Trees → World → Type 0
 StandsFor db world =
-    (IsSound hall_schema db × (world ≡ world_of db))
+    (ListsLike hall_schema db × (world ≡ world_of db))
     ⊎ (IsSound no_schema db × (world ≡ empty_world))
 
 -- An open finds this world in the database, where it finds any. Of a database that stands for none it holds of each
@@ -25,4 +30,4 @@ IsBareHall db = IsSound hall_schema db × AllByRecursion (λ table. db table.tre
 
 -- the database lists the hall's tables, whose rows are the world
 abbrev pub HoldsHall : World → Trees → Type 0
-HoldsHall world db = IsSound hall_schema db × (world_of db ≡ world)
+HoldsHall world db = ListsLike hall_schema db × (world_of db ≡ world)

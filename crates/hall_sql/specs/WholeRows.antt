@@ -4,7 +4,7 @@ use Rattle.std.specs.FinMap.{entries, empty}
 use Rattle.sqlite.specs.State.{State, HasCleanDisk}
 use Rattle.hall_policy.specs.World.{World}
 use Rattle.hall_sql.specs.declared.rows.Rows.{Rows}
-use Rattle.hall_sql.specs.Standing.{IsBare}
+use Rattle.hall_sql.specs.Standing.{IsBareLike}
 use Rattle.hall_sql.specs.Tables.{hall_schema}
 
 -- the rows are all that the world keeps but its testers, each list in the order of its keys
@@ -38,4 +38,4 @@ without_testers world = record world { testers = empty }
 
 -- the tables have no row, where that can be told
 abbrev pub IsEmptyIn : State → Type 0
-IsEmptyIn s = HasCleanDisk s → IsTrue s.is_open → IsBare hall_schema s.now
+IsEmptyIn s = HasCleanDisk s → IsTrue s.is_open → IsBareLike hall_schema s.now

@@ -18,6 +18,7 @@ use Rattle.sqlite.specs.Given.{IsPlain}
 use Rattle.sqlite.specs.Held.{Held, state}
 use Rattle.sqlite.specs.Listing.{understood}
 use Rattle.sqlite.specs.Order.{Row}
+use Rattle.sqlite.specs.Schema.{Schema}
 use Rattle.sqlite.specs.State.{State, HasCleanDisk, Executes, ExecutesInside, FailsToQuery, IsTooLate, Shown}
 use Rattle.hall_grid.specs.Canonical.{CanonicalText}
 use Rattle.hall_policy.specs.declared.record.Entry.{Entry}
@@ -49,7 +50,7 @@ use Rattle.hall_sql.specs.declared.round_writes.TheConstants.{ADD_HEAD, REPLACE_
 use Rattle.hall_sql.specs.declared.protests.TheConstants.{RULE_PROTEST, PROTEST}
 use Rattle.hall_sql.specs.declared.testers.TheConstants.{DROP_TESTERS, ADD_TESTER}
 use Rattle.hall_sql.specs.Standing.{HasAdded}
-use Rattle.hall_sql.specs.Tables.{hall_schema}
+use Rattle.hall_sql.specs.Tables.{IsHallSchema, hall_schema}
 
 -- ---- one statement
 
@@ -60,29 +61,33 @@ IsEdit (Update at q) = Unit
 IsEdit (Delete at q) = Unit
 IsEdit _ = ⊥
 
--- over the hall's tables the text is one statement that writes rows, of these parameters
-pub record IsWritten (sql : List ℕ) (params : Row) : Type 0 where
-  pub plain : IsPlain (understood hall_schema sql)
-  pub whole : is_whole sql (length params) (understood hall_schema sql) ≡ true
-  pub edits : IsEdit (command_of (understood hall_schema sql))
+-- over the tables of the schema the text is one statement that writes rows, of these parameters
+pub record IsWrittenIn (sql : List ℕ) (params : Row) (schema : Schema) : Type 0 where
+  pub plain : IsPlain (understood schema sql)
+  pub whole : is_whole sql (length params) (understood schema sql) ≡ true
+  pub edits : IsEdit (command_of (understood schema sql))
+
+-- over the tables of a hall, also where another made them, the text is one statement that writes rows
+abbrev pub IsWritten : List ℕ → Row → Type 0
+IsWritten sql params = (schema : Schema) → IsHallSchema schema → IsWrittenIn sql params schema
 
 -- the keys between tables are to hold after each statement
 abbrev pub enforced : Mode
 enforced = record { keys = Enforced; in_doubt = false; may_wait = false }
 
--- A rule of the tables refuses what the statement would make of them, or a row that it would make is too large to be kept,
--- or no rowid is left for it.
+-- A rule of the tables refuses what the statement would make of them, or a row that it would make is too large to be
+-- kept, or no rowid is left for it.
 abbrev pub IsRefused : List ℕ → Row → Database → Type 0
 IsRefused sql params db =
     (stop : Option Error)
-    × Does None enforced params db (statement_of sql (understood hall_schema sql)) None
-    (command_of (understood hall_schema sql)) (Err stop)
+    × Does None enforced params db (statement_of sql (understood db.schema sql)) None
+    (command_of (understood db.schema sql)) (Err stop)
 
 -- Why a statement that writes rows fails: the cause lies in the store, or it is refused over the tables as they were.
 abbrev pub RunFails : List ℕ → Row → State → State → Type 0
 RunFails sql params old new = IsStoreCause old new ⊎ IsRefused sql params old.now
 
--- the connection refused the statement, though not for want of memory
+-- the connection refused the statement, though not by being out of memory
 abbrev pub Refuses : List ℕ → Row → State → State → Type 0
 Refuses sql params old new = (e : Error) × (e ≢ SqliteFailure OutOfMemory) × Executes sql params old new (Err e)
 

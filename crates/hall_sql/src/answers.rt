@@ -21,6 +21,7 @@ ghost use Rattle.hall_sql.specs.Versions.{IsAnyHall};
 ghost use Rattle.hall_sql.specs.WriteCause.{Ran, RunFails};
 
 use crate::calls::{run, run_in};
+use crate::counts::count;
 use crate::reads::{find, read, read_any};
 use hall_policy::{AnswerKey, AnswerNumber, AnswerRow, Name, PuzzleNumber, RoundId};
 use hall_store::StoreFault;
@@ -131,7 +132,6 @@ const ANSWERS_GIVEN: &str =
 /// How many answers the entrant gave to the round's puzzle of that number.
 pub(crate) fn answers_given<S: Alter>(
     conn: &mut Connection<S>,
-    alloc: Global,
     entrant: &Name,
     round: &RoundId,
     number: PuzzleNumber,
@@ -149,13 +149,11 @@ pub(crate) fn answers_given<S: Alter>(
         (state S.Store conn.old) (state S.Store conn.new)) result }
 {
     let _schema = conn.schema();
-    let rows = read::<S, AnswerRow>(
+    count::<S, AnswerRow>(
         conn,
-        alloc,
         ANSWERS_GIVEN,
         params![entrant.as_str(), round.as_str(), number.get() as u32],
-    )?;
-    Ok(rows.len() as u64)
+    )
 }
 
 /// The entrant's n-th answer to the round's puzzle of the number.
@@ -166,7 +164,6 @@ const NUMBER_TAKEN: &str =
 /// Whether an answer of the entrant to the round's puzzle of that number is the n-th.
 pub(crate) fn is_number_taken<S: Alter>(
     conn: &mut Connection<S>,
-    alloc: Global,
     entrant: &Name,
     round: &RoundId,
     number: PuzzleNumber,
@@ -185,9 +182,8 @@ pub(crate) fn is_number_taken<S: Alter>(
         (state S.Store conn.new)) result }
 {
     let _schema = conn.schema();
-    let rows = read::<S, AnswerRow>(
+    let count = count::<S, AnswerRow>(
         conn,
-        alloc,
         NUMBER_TAKEN,
         params![
             entrant.as_str(),
@@ -196,13 +192,12 @@ pub(crate) fn is_number_taken<S: Alter>(
             n.get() as u32
         ],
     )?;
-    Ok(!rows.is_empty())
+    Ok(count != 0)
 }
 
 /// Whether the entrant has an answer in the round.
 pub(crate) fn has_answered<S: Alter>(
     conn: &mut Connection<S>,
-    alloc: Global,
     entrant: &Name,
     round: &RoundId,
 ) -> Result<bool, StoreFault>
@@ -217,7 +212,9 @@ pub(crate) fn has_answered<S: Alter>(
         (ReadFails answer_in ANSWERS_OF.now (Text entrant.now ∷ Text round.now ∷ []) (state S.Store conn.old)
         (state S.Store conn.new)) result }
 {
-    Ok(!answers_of(conn, alloc, entrant, round)?.is_empty())
+    let _schema = conn.schema();
+    let count = count::<S, AnswerRow>(conn, ANSWERS_OF, params![entrant.as_str(), round.as_str()])?;
+    Ok(count != 0)
 }
 
 /// All answers, in the order of their keys.

@@ -19,7 +19,7 @@ use hall_store::StoreFault;
 use sqlite::types::ValueRef;
 use sqlite::{Alter, Connection, Error, ErrorCode, Row, Transaction};
 
-/// Want of memory, or that the store failed.
+/// Out of memory, or that the store failed.
 pub(crate) fn fault_of(error: &Error) -> StoreFault
     ensures { result ≡ Failed → error.now ≢ SqliteFailure OutOfMemory }
 {

@@ -4,6 +4,7 @@
 mod adoption;
 mod answers;
 mod calls;
+mod counts;
 mod feed;
 mod fill;
 mod law;

@@ -23,6 +23,7 @@ ghost use Rattle.hall_sql.specs.Versions.{IsAnyHall};
 ghost use Rattle.hall_sql.specs.WriteCause.{Ran, RunFails, RuleFails};
 
 use crate::calls::{run, run_in};
+use crate::counts::count;
 use crate::reads::{find, read, read_any};
 use hall_policy::{Name, ProtestKey, ProtestRow, RoundId, Ruling};
 use hall_store::StoreFault;
@@ -97,7 +98,6 @@ pub(crate) fn protests_of<S: Alter>(
 /// How many protests of the entrant in the round are kept.
 pub(crate) fn protests_made<S: Alter>(
     conn: &mut Connection<S>,
-    alloc: Global,
     entrant: &Name,
     round: &RoundId,
 ) -> Result<u64, StoreFault>
@@ -112,7 +112,8 @@ pub(crate) fn protests_made<S: Alter>(
         (ReadFails protest_in PROTESTS_OF.now (Text entrant.now ∷ Text round.now ∷ []) (state S.Store conn.old)
         (state S.Store conn.new)) result }
 {
-    Ok(protests_of(conn, alloc, entrant, round)?.len() as u64)
+    let _schema = conn.schema();
+    count::<S, ProtestRow>(conn, PROTESTS_OF, params![entrant.as_str(), round.as_str()])
 }
 
 /// The protests of the round, by entrant, then token.

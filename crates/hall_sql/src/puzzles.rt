@@ -12,6 +12,7 @@ ghost use Rattle.hall_store.specs.declared.change.Change.TheVariants.{PutPuzzle,
 ghost use Rattle.sqlite.specs.Values.{bound};
 ghost use Rattle.hall_sql.specs.Fill.{AddsPuzzle};
 ghost use Rattle.hall_sql.specs.Inside.{Carries, Did};
+ghost use Rattle.hall_sql.specs.PuzzleText.{HasPuzzleRow};
 ghost use Rattle.hall_sql.specs.Columns.{puzzle_params, HasSoMany, state_code, solution_of};
 ghost use Rattle.hall_sql.specs.Standing.{IsHall, Rested, Stayed, RestedAny, Wrote, content_of, Lasts};
 ghost use Rattle.sqlite.specs.declared.types.Value.TheVariants.{Text};
@@ -250,8 +251,11 @@ fn put_new<S: Alter>(
 ) -> Result<(), StoreFault>
     requires hall { IsHall (state S.Store conn.old) }
     requires spells { SpellsText text.now row.now.puzzle }
+    requires canonical { CanonicalText text.now row.now.puzzle }
     requires found { HasCleanDisk (state S.Store conn.old) → HasSoMany row.now.key (state S.Store conn.old) 0 }
     ensures wrote { Wrote (PutPuzzle row.now) (state S.Store conn.old) (state S.Store conn.new) result }
+    ensures text { HasCleanDisk (state S.Store conn.new)
+        → OnOk result (HasPuzzleRow row.now (state S.Store conn.new).now) }
     ensures cause { HasCleanDisk (state S.Store conn.new) → Fails (RunFails ADD_PUZZLE.now
         (puzzle_params text.now row.now) (state S.Store conn.old) (state S.Store conn.new)) result }
 {
@@ -270,8 +274,11 @@ fn put_over<S: Alter>(
 ) -> Result<(), StoreFault>
     requires hall { IsHall (state S.Store conn.old) }
     requires spells { SpellsText text.now row.now.puzzle }
+    requires canonical { CanonicalText text.now row.now.puzzle }
     requires found { HasCleanDisk (state S.Store conn.old) → HasSoMany row.now.key (state S.Store conn.old) 1 }
     ensures wrote { Wrote (PutPuzzle row.now) (state S.Store conn.old) (state S.Store conn.new) result }
+    ensures text { HasCleanDisk (state S.Store conn.new)
+        → OnOk result (HasPuzzleRow row.now (state S.Store conn.new).now) }
     ensures cause { HasCleanDisk (state S.Store conn.new) → Fails (RunFails REPLACE_PUZZLE.now
         (puzzle_params text.now row.now) (state S.Store conn.old) (state S.Store conn.new)) result }
 {
@@ -294,6 +301,8 @@ fn put_found<S: Alter>(
     requires canonical { CanonicalText text.now row.now.puzzle }
     requires found { HasCleanDisk (state S.Store conn.old) → HasSoMany row.now.key (state S.Store conn.old) count }
     ensures wrote { Wrote (PutPuzzle row.now) (state S.Store conn.old) (state S.Store conn.new) result }
+    ensures text { HasCleanDisk (state S.Store conn.new)
+        → OnOk result (HasPuzzleRow row.now (state S.Store conn.new).now) }
     ensures cause { HasCleanDisk (state S.Store conn.new) → Fails (IsStoreCause (state S.Store conn.old)
         (state S.Store conn.new) ⊎ PuzzleIsRefused row.now count (state S.Store conn.old).now) result }
 {
@@ -312,6 +321,8 @@ pub(crate) fn put_puzzle<S: Alter>(
 ) -> Result<(), StoreFault>
     requires hall { IsHall (state S.Store conn.old) }
     ensures wrote { Wrote (PutPuzzle row.now) (state S.Store conn.old) (state S.Store conn.new) result }
+    ensures text { HasCleanDisk (state S.Store conn.new)
+        → OnOk result (HasPuzzleRow row.now (state S.Store conn.new).now) }
     ensures cause { HasCleanDisk (state S.Store conn.new) → Fails (PutPuzzleFails row.now
         (state S.Store conn.old) (state S.Store conn.new)) result }
 {

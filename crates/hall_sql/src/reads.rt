@@ -25,7 +25,8 @@ pub(crate) fn read_any<S: Alter, T: Record + Drop>(
     requires asks { IsOver (IsAskedIn sql.now (bound params.now)) (state S.Store conn.old) }
     ensures rested { RestedAny (state S.Store conn.old) (state S.Store conn.new) }
     ensures read { HasCleanDisk (state S.Store conn.new) → IfOk result (λ records.
-        AreRead T.Record.read sql.now (bound params.now) (state S.Store conn.old) (state S.Store conn.new) records.items) }
+        AreRead T.Record.read sql.now (bound params.now) (state S.Store conn.old) (state S.Store conn.new)
+        records.items) }
     ensures cause { HasCleanDisk (state S.Store conn.new) → Fails
         (ReadFails T.Record.read sql.now (bound params.now) (state S.Store conn.old) (state S.Store conn.new)) result }
 {
@@ -33,7 +34,7 @@ pub(crate) fn read_any<S: Alter, T: Record + Drop>(
     read_all(alloc, &rows)
 }
 
-/// So it is over the hall's tables.
+/// All rows of the query as records, over the hall's tables.
 pub(crate) fn read<S: Alter, T: Record + Drop>(
     conn: &mut Connection<S>,
     alloc: Global,
@@ -44,7 +45,8 @@ pub(crate) fn read<S: Alter, T: Record + Drop>(
     requires hall { IsHall (state S.Store conn.old) }
     ensures rested { Rested (state S.Store conn.old) (state S.Store conn.new) }
     ensures read { HasCleanDisk (state S.Store conn.new) → IfOk result (λ records.
-        AreRead T.Record.read sql.now (bound params.now) (state S.Store conn.old) (state S.Store conn.new) records.items) }
+        AreRead T.Record.read sql.now (bound params.now) (state S.Store conn.old) (state S.Store conn.new)
+        records.items) }
     ensures cause { HasCleanDisk (state S.Store conn.new) → Fails
         (ReadFails T.Record.read sql.now (bound params.now) (state S.Store conn.old) (state S.Store conn.new)) result }
 {

@@ -1,5 +1,6 @@
 //! How a row of a table gives a record.
-ghost use Rattle.std.specs.Prelude.{◌≡◌, ◌≢◌, ◌≤◌, ◌<◌, ℕ, ℤ, List, map, length, slice_get, Option, Some, None, FitsSigned};
+ghost use Rattle.std.specs.Prelude.{◌≡◌, ◌≢◌, ◌≤◌, ◌<◌, ℕ, ℤ, List, map, length, slice_get, Option, Some, None};
+ghost use Rattle.std.specs.Prelude.{FitsSigned};
 ghost use Rattle.std.specs.Prelude.{IfOk, IfErr, IfSome, IfNone};
 ghost use Rattle.std.specs.Int.{w32};
 ghost use Rattle.sqlite.specs.Order.{Row as Columns};
@@ -54,7 +55,7 @@ fn text_at<K: TextKind>(row: &Row, at: usize) -> Result<Checked<K>, StoreFault>
 }
 
 /// The number in a column.
-fn number_at<const LEAST: u64, const MOST: u64>(
+pub(crate) fn number_at<const LEAST: u64, const MOST: u64>(
     row: &Row,
     at: usize,
 ) -> Result<Within<LEAST, MOST>, StoreFault>
@@ -82,7 +83,7 @@ fn roles_at(row: &Row, at: usize) -> Result<SomeRoles, StoreFault>
     SomeRoles::new(roles).ok_or(StoreFault::Failed)
 }
 
-/// Want of memory, or that the text spells no puzzle.
+/// Out of memory, or that the text spells no puzzle.
 fn text_fault(fault: &TextFault) -> StoreFault
     ensures { result ≡ Failed → fault.now ≢ NoMemory }
 {
@@ -211,7 +212,7 @@ fn answer_key_at(row: &Row) -> Result<AnswerKey, StoreFault>
 }
 
 /// The verdict whose bits stand in a column.
-fn verdict_at(row: &Row, at: usize) -> Result<Broken, StoreFault>
+pub(crate) fn verdict_at(row: &Row, at: usize) -> Result<Broken, StoreFault>
     ensures verdict { IfOk result (λ verdict. within 0 65535 (column row.now at) ≡ Some verdict) }
     ensures unread { Fails (within 0 65535 (column row.now at) ≡ None) result }
 {
@@ -272,7 +273,7 @@ fn unpointed(code: u32) -> Option<Option<Ruling>>
 }
 
 /// The ruling whose code and points stand in two columns; none while the protest is open.
-fn ruling_at(
+pub(crate) fn ruling_at(
     row: &Row,
     code_at_place: usize,
     points_at_place: usize,

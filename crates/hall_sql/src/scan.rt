@@ -81,7 +81,7 @@ fn check_rowids<S: Alter>(conn: &mut Connection<S>, table: HallTable) -> Result<
     Err(StoreFault::Memory)
 }
 
-/// So of each of the tables.
+/// Refused where in one of the tables a rowid is no integer or stands twice.
 pub(crate) fn check_all_rowids<S: Alter>(
     conn: &mut Connection<S>,
     tables: &[HallTable],

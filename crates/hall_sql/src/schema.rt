@@ -1,8 +1,10 @@
-//! Whether a database has the hall's schema: its tables and indexes are compared with what the hall says of each.
+//! Whether a database has a hall's schema: its tables and indexes are compared with what the hall says of each.
 ghost use Rattle.std.specs.Prelude.{◌≡◌, true, false, map, take, IsTrue, [], ◌∷◌, None};
+ghost use Rattle.std.specs.List.{AllByRecursion, AllZip};
 ghost use Rattle.sqlite_value.specs.Keys.{plain};
 ghost use Rattle.hall_sql.specs.Tables.{column_of, lent_reference, lent_table, lent_index, table_at};
-ghost use Rattle.hall_sql.specs.Tables.{old_schema, hall_schema};
+ghost use Rattle.hall_sql.specs.Tables.{AreLikeReferences, IsFoundIn, IsHallSchema, IsLikeReference, IsLikeTable};
+ghost use Rattle.hall_sql.specs.Tables.{IsOldSchema, IsWanted};
 
 use crate::tables::{ALL, HallTable, INDEXES, IndexForm, OLD, ReferenceForm, TableForm, form_of};
 use sqlite_items::Items;
@@ -37,42 +39,75 @@ fn are_places(found: &Items<usize>, wanted: &[usize]) -> bool
     found.as_slice() == wanted
 }
 
-/// The keys refer to this table, with this action, at once.
-fn refers_to(reference: &Reference, parent: &str, action: Action) -> bool
+/// The keys refer to this table, with this action ON DELETE, at once.
+fn refers_to(reference: &Reference, parent: &str, on_delete: Action) -> bool
     ensures parent { IsTrue result → reference.now.parent ≡ parent.now }
-    ensures on_delete { IsTrue result → reference.now.on_delete ≡ action }
-    ensures on_update { IsTrue result → reference.now.on_update ≡ action }
+    ensures on_delete { IsTrue result → reference.now.on_delete ≡ on_delete }
     ensures at_once { IsTrue result → reference.now.is_deferred ≡ false }
-    ensures only { reference.now.parent ≡ parent.now → reference.now.on_delete ≡ action
-        → reference.now.on_update ≡ action → reference.now.is_deferred ≡ false → IsTrue result }
+    ensures only { reference.now.parent ≡ parent.now → reference.now.on_delete ≡ on_delete
+        → reference.now.is_deferred ≡ false → IsTrue result }
 {
-    is_name(&reference.parent, parent)
-        && reference.on_delete == action
-        && reference.on_update == action
-        && !reference.is_deferred
+    is_name(&reference.parent, parent) && reference.on_delete == on_delete && !reference.is_deferred
 }
 
 fn is_reference(reference: &Reference, form: &ReferenceForm) -> bool
-    ensures is { IsTrue result → reference.now ≡ lent_reference form.now }
-    ensures only { reference.now ≡ lent_reference form.now → IsTrue result }
+    ensures is { IsTrue result → IsLikeReference (lent_reference form.now) reference.now }
+    ensures only { IsLikeReference (lent_reference form.now) reference.now → IsTrue result }
 {
-    let (places, parent, parent_columns, action) = *form;
+    let (places, parent, parent_columns, on_delete) = *form;
     are_places(&reference.columns, places)
         && are_names(reference.parent_columns.as_slice(), parent_columns)
-        && refers_to(reference, parent, action)
+        && refers_to(reference, parent, on_delete)
 }
 
-fn are_references(references: &[Reference], forms: &[ReferenceForm]) -> bool
-    ensures is { IsTrue result → references.now ≡ map lent_reference forms.now }
-    ensures only { references.now ≡ map lent_reference forms.now → IsTrue result }
+/// The reference is one of these.
+fn is_wanted(forms: &[ReferenceForm], reference: &Reference) -> bool
+    ensures is { IsTrue result → IsWanted (map lent_reference forms.now) reference.now }
+    ensures only { IsWanted (map lent_reference forms.now) reference.now → IsTrue result }
 {
-    let [reference, rest @ ..] = references else {
-        return forms.is_empty();
-    };
     let [form, others @ ..] = forms else {
         return false;
     };
-    is_reference(reference, form) && are_references(rest, others)
+    is_reference(reference, form) || is_wanted(others, reference)
+}
+
+fn are_wanted(forms: &[ReferenceForm], references: &[Reference]) -> bool
+    ensures is { IsTrue result → AllByRecursion (IsWanted (map lent_reference forms.now)) references.now }
+    ensures only { AllByRecursion (IsWanted (map lent_reference forms.now)) references.now → IsTrue result }
+{
+    let [reference, rest @ ..] = references else {
+        return true;
+    };
+    is_wanted(forms, reference) && are_wanted(forms, rest)
+}
+
+/// One of the references is this.
+fn is_found(references: &[Reference], form: &ReferenceForm) -> bool
+    ensures is { IsTrue result → IsFoundIn references.now (lent_reference form.now) }
+    ensures only { IsFoundIn references.now (lent_reference form.now) → IsTrue result }
+{
+    let [reference, rest @ ..] = references else {
+        return false;
+    };
+    is_reference(reference, form) || is_found(rest, form)
+}
+
+fn are_found(references: &[Reference], forms: &[ReferenceForm]) -> bool
+    ensures is { IsTrue result → AllByRecursion (IsFoundIn references.now) (map lent_reference forms.now) }
+    ensures only { AllByRecursion (IsFoundIn references.now) (map lent_reference forms.now) → IsTrue result }
+{
+    let [form, others @ ..] = forms else {
+        return true;
+    };
+    is_found(references, form) && are_found(references, others)
+}
+
+/// The references are these, in any order.
+fn are_references(references: &[Reference], forms: &[ReferenceForm]) -> bool
+    ensures is { IsTrue result → AreLikeReferences (map lent_reference forms.now) references.now }
+    ensures only { AreLikeReferences (map lent_reference forms.now) references.now → IsTrue result }
+{
+    references.len() == forms.len() && are_wanted(forms, references) && are_found(references, forms)
 }
 
 /// The column has this name and kind, is NOT NULL in a STRICT table, and has nothing else.
@@ -169,8 +204,8 @@ fn is_plain(table: &Table) -> bool
 }
 
 fn is_table(table: &Table, form: &TableForm) -> bool
-    ensures is { IsTrue result → table.now ≡ lent_table form.now }
-    ensures only { table.now ≡ lent_table form.now → IsTrue result }
+    ensures is { IsTrue result → IsLikeTable (lent_table form.now) table.now }
+    ensures only { IsLikeTable (lent_table form.now) table.now → IsTrue result }
 {
     let (name, tree, columns, primary, further, references) = *form;
     is_name(&table.name, name)
@@ -182,8 +217,8 @@ fn is_table(table: &Table, form: &TableForm) -> bool
 }
 
 fn are_tables(tables: &[Table], wanted: &[HallTable]) -> bool
-    ensures is { IsTrue result → tables.now ≡ map table_at wanted.now }
-    ensures only { tables.now ≡ map table_at wanted.now → IsTrue result }
+    ensures is { IsTrue result → AllZip IsLikeTable (map table_at wanted.now) tables.now }
+    ensures only { AllZip IsLikeTable (map table_at wanted.now) tables.now → IsTrue result }
 {
     let [table, rest @ ..] = tables else {
         return wanted.is_empty();
@@ -220,20 +255,21 @@ fn are_indexes(indexes: &[Index], forms: &[IndexForm]) -> bool
     is_index(index, form) && are_indexes(rest, others)
 }
 
-/// The database has the hall's six tables of the version before, without testers, and their indexes, and nothing else.
+/// The database has tables like the hall's six of the version before, without testers, and their indexes, and nothing
+/// else.
 pub(crate) fn is_old_schema(schema: &Schema) -> bool
-    ensures is { IsTrue result → schema.now ≡ old_schema }
-    ensures only { schema.now ≡ old_schema → IsTrue result }
+    ensures is { IsTrue result → IsOldSchema schema.now }
+    ensures only { IsOldSchema schema.now → IsTrue result }
 {
     are_tables(schema.tables.as_slice(), &OLD)
         && are_indexes(schema.indexes.as_slice(), &INDEXES[..8])
         && schema.views.is_empty()
 }
 
-/// The database has the hall's seven tables and their indexes, and nothing else.
+/// The database has tables like the hall's seven and their indexes, and nothing else.
 pub(crate) fn is_hall_schema(schema: &Schema) -> bool
-    ensures is { IsTrue result → schema.now ≡ hall_schema }
-    ensures only { schema.now ≡ hall_schema → IsTrue result }
+    ensures is { IsTrue result → IsHallSchema schema.now }
+    ensures only { IsHallSchema schema.now → IsTrue result }
 {
     are_tables(schema.tables.as_slice(), &ALL)
         && are_indexes(schema.indexes.as_slice(), &INDEXES)

@@ -117,7 +117,8 @@ impl<S: Alter + Drop> ReadStore for SqlStore<S> {
     ghost use Rattle.hall_store.specs.Store.{HasSubmitted, IsProtestOpen, protests_of, protests_in};
     ghost use Rattle.hall_store.specs.Store.{Fed, IsRefusedNext};
     ghost use Rattle.hall_store.specs.declared.fault.StoreFault.TheVariants.{Failed};
-    ghost use Rattle.hall_sql.specs.Rows.{person_in, puzzle_row_in, round_in, place_in, tester_in, answer_in, protest_in};
+    ghost use Rattle.hall_sql.specs.Rows.{person_in, puzzle_row_in, round_in, place_in, tester_in, answer_in};
+    ghost use Rattle.hall_sql.specs.Rows.{protest_in};
     ghost use Rattle.hall_sql.specs.declared.people.TheConstants.{PERSON, PERSON_BY_KEY, ALL_PEOPLE};
     ghost use Rattle.hall_sql.specs.declared.puzzles.TheConstants.{PUZZLE, ALL_PUZZLES, PUZZLES_OF};
     ghost use Rattle.hall_sql.specs.declared.rounds.TheConstants.{ALL_ROUNDS, PLACES_WITH};
@@ -331,7 +332,7 @@ impl<S: Alter + Drop> ReadStore for SqlStore<S> {
 
     fn answers_given(
         &mut self,
-        alloc: Global,
+        _alloc: Global,
         entrant: &Name,
         round: &RoundId,
         number: PuzzleNumber,
@@ -349,12 +350,12 @@ impl<S: Alter + Drop> ReadStore for SqlStore<S> {
             (ReadFails answer_in ANSWERS_GIVEN.now (Text entrant.now ∷ Text round.now ∷ Int (pos number) ∷ [])
             (state S.Store self.old) (state S.Store self.new)) result }
     {
-        answers_given(&mut self.conn, alloc, entrant, round, number)
+        answers_given(&mut self.conn, entrant, round, number)
     }
 
     fn is_number_taken(
         &mut self,
-        alloc: Global,
+        _alloc: Global,
         entrant: &Name,
         round: &RoundId,
         number: PuzzleNumber,
@@ -374,7 +375,7 @@ impl<S: Alter + Drop> ReadStore for SqlStore<S> {
             (Text entrant.now ∷ Text round.now ∷ Int (pos number) ∷ Int (pos n) ∷ []) (state S.Store self.old)
             (state S.Store self.new)) result }
     {
-        is_number_taken(&mut self.conn, alloc, entrant, round, number, n)
+        is_number_taken(&mut self.conn, entrant, round, number, n)
     }
 
     fn answers_of(
@@ -439,7 +440,7 @@ impl<S: Alter + Drop> ReadStore for SqlStore<S> {
 
     fn has_answered(
         &mut self,
-        alloc: Global,
+        _alloc: Global,
         entrant: &Name,
         round: &RoundId,
     ) -> Result<bool, StoreFault>
@@ -455,7 +456,7 @@ impl<S: Alter + Drop> ReadStore for SqlStore<S> {
             (ReadFails answer_in ANSWERS_OF.now (Text entrant.now ∷ Text round.now ∷ []) (state S.Store self.old)
             (state S.Store self.new)) result }
     {
-        has_answered(&mut self.conn, alloc, entrant, round)
+        has_answered(&mut self.conn, entrant, round)
     }
 
     fn protest(&mut self, alloc: Global, key: &ProtestKey) -> Result<Option<ProtestRow>, StoreFault>
@@ -477,7 +478,7 @@ impl<S: Alter + Drop> ReadStore for SqlStore<S> {
 
     fn protests_made(
         &mut self,
-        alloc: Global,
+        _alloc: Global,
         entrant: &Name,
         round: &RoundId,
     ) -> Result<u64, StoreFault>
@@ -493,7 +494,7 @@ impl<S: Alter + Drop> ReadStore for SqlStore<S> {
             (ReadFails protest_in PROTESTS_OF.now (Text entrant.now ∷ Text round.now ∷ []) (state S.Store self.old)
             (state S.Store self.new)) result }
     {
-        protests_made(&mut self.conn, alloc, entrant, round)
+        protests_made(&mut self.conn, entrant, round)
     }
 
     fn has_open_protest(&mut self, alloc: Global, round: &RoundId) -> Result<bool, StoreFault>
@@ -580,10 +581,12 @@ impl<S: Alter + Drop> Store for SqlStore<S> {
     ghost use Rattle.hall_store.specs.Store.{Fails, Asks};
     ghost use Rattle.hall_store.specs.Change.{CanAddAnswer, CanAddProtest};
     ghost use Rattle.hall_store.specs.declared.change.Change.TheVariants.{Import, PutPuzzle, SetState, PutRound};
-    ghost use Rattle.hall_store.specs.declared.change.Change.TheVariants.{SetRoundFlag, AddAnswer, AddProtest, RuleProtest};
+    ghost use Rattle.hall_store.specs.declared.change.Change.TheVariants.{SetRoundFlag, AddAnswer, AddProtest};
+    ghost use Rattle.hall_store.specs.declared.change.Change.TheVariants.{RuleProtest};
     ghost use Rattle.hall_sql.specs.declared.answers.TheConstants.{ADD_ANSWER};
     ghost use Rattle.hall_sql.specs.declared.protests.TheConstants.{ADD_PROTEST};
     ghost use Rattle.hall_sql.specs.Columns.{answer_params, protest_params};
+    ghost use Rattle.hall_sql.specs.PuzzleText.{HasPuzzleRow};
     ghost use Rattle.hall_sql.specs.WriteCause.{ImportFails, PutPuzzleFails, PutRoundFails, RuleFails, RunFails};
     ghost use Rattle.hall_sql.specs.WriteCause.{SetFlagFails, SetStateFails};
     ghost use Rattle.hall_sql.specs.RoundPuts.{PutsRows};
@@ -599,6 +602,8 @@ impl<S: Alter + Drop> Store for SqlStore<S> {
 
     fn put_puzzle(&mut self, alloc: Global, row: PuzzleRow) -> Result<(), StoreFault>
         ensures wrote { Wrote (PutPuzzle row) (state S.Store self.old) (state S.Store self.new) result }
+        ensures text { HasCleanDisk (state S.Store self.new)
+            → OnOk result (HasPuzzleRow row (state S.Store self.new).now) }
         ensures cause { HasCleanDisk (state S.Store self.new) → Fails
             (PutPuzzleFails row (state S.Store self.old) (state S.Store self.new)) result }
     {

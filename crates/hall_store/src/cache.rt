@@ -99,7 +99,7 @@ impl Cache {
         }
     }
 
-    /// Keeps a copy of the person with the key; an error is want of memory for it.
+    /// Keeps a copy of the person with the key; an error means out of memory.
     pub(crate) fn keep_person(&mut self, key: &Key, person: &Person) -> Result<(), AllocError>
         ensures people { IsNoted text_cmp self.old.people self.new.people key.now person.now }
         ensures few { length self.old.people.entries ≤ 5000 → length self.new.people.entries ≤ 5000 }
@@ -110,7 +110,7 @@ impl Cache {
         note(&mut self.people, MOST_PEOPLE, key, person.clone()?)
     }
 
-    /// Keeps a copy of the round; an error is want of memory for it.
+    /// Keeps a copy of the round; an error means out of memory.
     pub(crate) fn keep_round(&mut self, id: &RoundId, row: &RoundRow) -> Result<(), AllocError>
         ensures rounds { IsNoted text_cmp self.old.rounds self.new.rounds id.now row.now }
         ensures few { length self.old.rounds.entries ≤ 1000 → length self.new.rounds.entries ≤ 1000 }
@@ -121,7 +121,7 @@ impl Cache {
         note(&mut self.rounds, MOST_ROUNDS, id, row.clone()?)
     }
 
-    /// Keeps a copy of the puzzle; an error is want of memory for it.
+    /// Keeps a copy of the puzzle; an error means out of memory.
     pub(crate) fn keep_puzzle(&mut self, key: &PuzzleKey, row: &PuzzleRow) -> Result<(), AllocError>
         ensures puzzles { IsNoted puzzle_cmp self.old.puzzles self.new.puzzles key.now row.now }
         ensures few { length self.old.puzzles.entries ≤ 1000 → length self.new.puzzles.entries ≤ 1000 }
@@ -184,7 +184,7 @@ fn make_room<K: Ord + Drop, V: Drop>(map: &mut BTreeMap<K, V>, most: usize)
     }
 }
 
-/// Puts the value under the key of a map that is to have so many entries at the most; an error is want of memory for it.
+/// Puts the value under the key of a map that is to have so many entries at the most; an error means out of memory.
 fn note<K: Ord + Drop, V: Drop>(
     map: &mut BTreeMap<K, V>,
     most: usize,

@@ -12,12 +12,13 @@ use std::alloc::Global;
 /// A read may change what keeps the world, as a connection is, and leaves the world. What a call says of its answer and
 /// of what it leaves holds where the device was honest, and, where the call is refused, while the store still serves: a
 /// store that a fault of its device has shut answers nothing more.
-/// A call is refused for want of memory, or as failed: by a store that can fail, or, where rows are fed, by the sink.
+/// A call is refused as out of memory, or as failed: by a store that can fail, or, where rows are fed, by the sink.
 pub trait ReadStore: Drop {
     ghost use Rattle.std.specs.Prelude.{◌≡◌, ◌↔◌, ◌⊎◌, IsTrue, IfErr};
     ghost use Rattle.std.specs.FinMap.{get, values};
     ghost use Rattle.hall_policy.specs.Rules.{answers_given, protests_made, puzzles_put};
-    ghost use Rattle.hall_store.specs.Store.{Content, Kept, IsSettled, Served, Fails, puzzles_of, IsRoundKept, AreTestersOf};
+    ghost use Rattle.hall_store.specs.Store.{Content, Kept, IsSettled, Served, Fails, puzzles_of, IsRoundKept};
+    ghost use Rattle.hall_store.specs.Store.{AreTestersOf};
     ghost use Rattle.hall_store.specs.Store.{AreUsing, IsNumberTaken, IsListing, is_of, is_in};
     ghost use Rattle.hall_store.specs.Store.{HasSubmitted, IsProtestOpen, protests_of, protests_in, Fed, IsRefusedNext};
     ghost use Rattle.hall_store.specs.Caller.{IsKeyHolder};
@@ -26,7 +27,7 @@ pub trait ReadStore: Drop {
     // The world, and while it can be told.
     ghost content: { Self → Content };
 
-    // Whether a call may be refused for another cause than want of memory.
+    // Whether a call may be refused for another cause than being out of memory.
     ghost can_fail: { Type 0 };
 
     /// Tells a proof that a stop between two calls leaves the world.
@@ -242,10 +243,12 @@ pub trait ReadStore: Drop {
 /// is as of a `ReadStore`.
 pub trait Store: ReadStore {
     ghost use Rattle.hall_store.specs.Store.{Fails, Asks, Makes};
-    ghost use Rattle.hall_store.specs.Change.{CanImport, CanPutPuzzle, CanSetState, CanPutRound, CanSetFlag, CanAddAnswer};
+    ghost use Rattle.hall_store.specs.Change.{CanImport, CanPutPuzzle, CanSetState, CanPutRound, CanSetFlag};
+    ghost use Rattle.hall_store.specs.Change.{CanAddAnswer};
     ghost use Rattle.hall_store.specs.Change.{CanAddProtest, CanRuleProtest};
     ghost use Rattle.hall_store.specs.declared.change.Change.TheVariants.{Import, PutPuzzle, SetState, PutRound};
-    ghost use Rattle.hall_store.specs.declared.change.Change.TheVariants.{SetRoundFlag, AddAnswer, AddProtest, RuleProtest};
+    ghost use Rattle.hall_store.specs.declared.change.Change.TheVariants.{SetRoundFlag, AddAnswer, AddProtest};
+    ghost use Rattle.hall_store.specs.declared.change.Change.TheVariants.{RuleProtest};
 
     /// Adds the people of the list whose names are unknown.
     fn import(&mut self, alloc: Global, people: &People) -> Result<(), StoreFault>

@@ -16,7 +16,7 @@ use Rattle.hall_sql.proofs.answers.add_answer.Goals as goal
 pub returns-in-Ok-clause-wrote : goal.returns-in-Ok-clause-wrote
 returns-in-Ok-clause-wrote g c =
     made_wrote (AddAnswer c.args.row.now) (state g.S.Store c.args.conn.now) (state g.S.Store c.write.new.conn) tt c.requires.hall c.write.ensures.lasts
-    (stops_made (AddAnswer c.args.row.now) ADD_ANSWER.now (answer_params c.args.row.now) (state g.S.Store c.args.conn.now) (state g.S.Store c.write.new.conn) c.requires.hall add_answer_is.1 (subst IsRowWrite (sym add_answer_is.0) tt)
+    (stops_made (AddAnswer c.args.row.now) ADD_ANSWER.now (answer_params c.args.row.now) (state g.S.Store c.args.conn.now) (state g.S.Store c.write.new.conn) c.requires.hall (λ u. (add_answer_is u).1) (λ u. subst IsRowWrite (sym (add_answer_is u).0) tt)
     (λ was opened run count ran. answer_added c.args.row.now c.in_range.ensures (state g.S.Store c.args.conn.now) run count c.requires.hall was (λ opened. (c.requires.can was opened).fresh) ran)
     c.write.ensures.survives)
     (λ was clean. answer_added c.args.row.now c.in_range.ensures _ _ _ c.requires.hall was (λ opened. (c.requires.can was opened).fresh) (c.in-Ok.ensures.runs clean))
@@ -30,7 +30,7 @@ returns-in-Err-clause-cause g c clean failed =
 pub returns-in-Err-clause-wrote : goal.returns-in-Err-clause-wrote
 returns-in-Err-clause-wrote g c =
     stayed_wrote (AddAnswer c.args.row.now) (state g.S.Store c.args.conn.now) (state g.S.Store c.write.new.conn) c.in-Err.fault
-    (stops_made (AddAnswer c.args.row.now) ADD_ANSWER.now (answer_params c.args.row.now) (state g.S.Store c.args.conn.now) (state g.S.Store c.write.new.conn) c.requires.hall add_answer_is.1 (subst IsRowWrite (sym add_answer_is.0) tt)
+    (stops_made (AddAnswer c.args.row.now) ADD_ANSWER.now (answer_params c.args.row.now) (state g.S.Store c.args.conn.now) (state g.S.Store c.write.new.conn) c.requires.hall (λ u. (add_answer_is u).1) (λ u. subst IsRowWrite (sym (add_answer_is u).0) tt)
     (λ was opened run count ran. answer_added c.args.row.now c.in_range.ensures (state g.S.Store c.args.conn.now) run count c.requires.hall was (λ opened. (c.requires.can was opened).fresh) ran)
     c.write.ensures.survives)
     c.in-Err.ensures.refused

@@ -13,5 +13,5 @@ pub returns-clause-done : goal.returns-clause-done
 returns-clause-done g c clean inside =
     let it = c.in_ok-run_in.ensures in
     let ran = rw c.columns.ensures at (it.runs clean inside) in
-    did_run (λ a b. AddsAnswer a c.args.row.now b) ADD_ANSWER.now (answer_params c.args.row.now) (state g.S.Store c.args.tx.now.conn.now) (state g.S.Store c.run_in.new.tx.conn.now) _ add_answer_is.1 (subst IsRowWrite (sym add_answer_is.0) tt) (it.mode clean inside) ran
+    did_run (λ a b. AddsAnswer a c.args.row.now b) ADD_ANSWER.now (answer_params c.args.row.now) (state g.S.Store c.args.tx.now.conn.now) (state g.S.Store c.run_in.new.tx.conn.now) _ (λ u. (add_answer_is u).1) (λ u. subst IsRowWrite (sym (add_answer_is u).0) tt) (it.mode clean inside) ran
     (answer_put c.args.row.now c.in_range.ensures _ _ _ ran)

@@ -1,18 +1,37 @@
-use Rattle.std.proofs.Common.{rules, ◌≡◌, ◌==◌, length}
+use Rattle.hall_sql.specs.declared.answers.TheConstants.{ANSWERS_OF}
+use Rattle.hall_sql.specs.Rows.{answer_in}
+use Rattle.sqlite.specs.declared.types.Value.TheVariants.{Text}
+use Rattle.std.proofs.Common.{◌==◌, ◌↔◌, IsTrue, not, ap, [], ◌∷◌}
 use Rattle.sqlite.specs.Held.{state}
+use Rattle.hall_store.specs.Store.{HasSubmitted}
 use Rattle.hall_sql.proofs.AnswerCounts.{listing_tells}
+use Rattle.hall_sql.proofs.AnswerLemmas.{answers_of_listed}
+use Rattle.hall_sql.proofs.AnswerTexts.{answers_of_asked}
 use Rattle.hall_sql.proofs.CauseLemmas.{fails_as}
+use Rattle.hall_sql.proofs.StoreLemmas.{told_so, read_whole}
 use Rattle.hall_sql.proofs.answers.has_answered.Goals as goal
 
-pub returns-clause-served : goal.returns-clause-served
-returns-clause-served g c clean =
-    let told = c.in_ok-answers_of.ensures.served clean in
-    let none : c.is_empty.result ≡ (length c.in_ok-answers_of.field-0.items == 0) = search rules in (
-      told.0,
-      listing_tells (state g.S.Store c.answers_of.new.conn).now.trees c.args.entrant.now c.args.round.now
-          c.in_ok-answers_of.field-0.items c.is_empty.result none told.1,
-    )
+pub count-requires-clause-asks : goal.count-requires-clause-asks
+count-requires-clause-asks g c = rw (c.params-to_sql.ensures, c.params-to_sql-2.ensures, c.as_str.ensures.text, c.as_str-2.ensures.text) (answers_of_asked c.args.entrant.now c.args.round.now)
 
-pub returns-in_err-answers_of-clause-cause : goal.returns-in_err-answers_of-clause-cause
-returns-in_err-answers_of-clause-cause g c clean =
-    fails_as c.from_residual.result _ _ c.from_residual.ensures.1 (c.in_err-answers_of.ensures.cause clean)
+pub returns-clause-served : goal.returns-clause-served
+returns-clause-served g c =
+    let old = state g.S.Store c.args.conn.now in
+    let new = state g.S.Store c.count.new.conn in
+    let counted = rw (c.params-to_sql.ensures, c.params-to_sql-2.ensures, c.as_str.ensures.text, c.as_str-2.ensures.text) at c.in_ok-count.ensures.counted in
+    told_so old new (λ world. IsTrue (not (c.in_ok-count.count == 0)) ↔ HasSubmitted world c.args.entrant.now c.args.round.now) c.requires.hall
+    c.count.ensures.rested (λ clean. (counted clean).are.0)
+    (λ clean opened has keyed. let it = counted clean in
+    listing_tells old.now.trees c.args.entrant.now c.args.round.now it.records (c.in_ok-count.count == 0) (ap (λ count. count == 0) it.many)
+    (answers_of_listed old new has keyed.1.1.1.1.0 (c.schema-schema.ensures.live opened).0 it.are.1.rows it.records it.are.1.reads
+    c.args.entrant.now c.args.round.now it.are.1.shown))
+
+pub returns-clause-whole : goal.returns-clause-whole
+returns-clause-whole g c clean =
+    let it = (rw (c.params-to_sql.ensures, c.params-to_sql-2.ensures, c.as_str.ensures.text, c.as_str-2.ensures.text) at c.in_ok-count.ensures.counted) clean in
+    read_whole answer_in ANSWERS_OF.now (Text c.args.entrant.now ∷ Text c.args.round.now ∷ [])
+    (state g.S.Store c.args.conn.now) (state g.S.Store c.count.new.conn) it.records it.are
+
+pub returns-in_err-count-clause-cause : goal.returns-in_err-count-clause-cause
+returns-in_err-count-clause-cause g c clean =
+    fails_as c.from_residual.result _ _ c.from_residual.ensures.1 ((rw (c.params-to_sql.ensures, c.params-to_sql-2.ensures, c.as_str.ensures.text, c.as_str-2.ensures.text) at c.in_err-count.ensures.cause) clean)

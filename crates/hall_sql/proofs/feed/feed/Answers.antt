@@ -36,7 +36,7 @@ feed-init g c =
         λ clean.
             let was : HasCleanDisk (state g.S.Store c.args.conn.now) = omega (arith, it.survives.clean, clean) in
             read_none g.S.Store g.T.Record.read c.args.sql.now (bound c.args.params.now) c.args.conn.now c.in-Ok.rows.conn.now
-            c.requires.asks.plain c.requires.hall was (it.begun clean),
+            (λ schema ours. (c.requires.asks schema ours).plain) c.requires.hall was (it.begun clean),
       ),
     )
 
@@ -82,7 +82,7 @@ returns-then-not-branch-clause-fed g c =
             subst (λ h. IsTrue (state g.S.Store h).is_open) (sym same) last.0.0.is_open,
             subst (λ h. AreAll g.T.Record.read c.args.sql.now (bound c.args.params.now) old (state g.S.Store h) so.0) (sym same)
                 (read_all g.S.Store g.T.Record.read c.args.sql.now (bound c.args.params.now) old before after so.0
-                (so.2 mid) c.requires.asks.plain c.requires.hall was last.1),
+                (so.2 mid) (λ schema ours. (c.requires.asks schema ours).plain) c.requires.hall was last.1),
           ),
     )
 

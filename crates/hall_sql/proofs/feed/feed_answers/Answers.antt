@@ -18,7 +18,7 @@ returns-clause-fed g c =
     let old = state g.S.Store c.args.conn.now in
     let params = Text c.args.round.now ∷ [] in
     fed_rows g.S.Store answer_in ANSWERS_IN.now params 9 (equals 2 0 ∷ []) answer_columns listing_order _
-    answers_in_is.0 answers_in_is.1 answers_in_is.2 (λ db. refl) g.K.Sink.takes (λ world rows. IsListing world (is_in c.args.round.now) rows)
+    (λ u. (answers_in_is u).0) (λ u. (answers_in_is u).1) (λ u. (answers_in_is u).2) (λ db. refl) g.K.Sink.takes (λ world rows. IsListing world (is_in c.args.round.now) rows)
     old (state g.S.Store c.feed.new.conn) c.args.sink.now c.feed.new.sink c.feed.result c.requires.hall c.feed.ensures.rested
     (λ opened. (c.schema-schema.ensures.live opened).0) (answers_in_selected old c.args.round.now)
     (rw (c.params-to_sql.ensures, c.as_str.ensures.text) at c.feed.ensures.fed)

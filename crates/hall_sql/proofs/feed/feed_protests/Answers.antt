@@ -18,7 +18,7 @@ returns-clause-fed g c =
     let old = state g.S.Store c.args.conn.now in
     let params = Text c.args.round.now ∷ [] in
     fed_rows g.S.Store protest_in PROTESTS_IN.now params 12 (equals 2 0 ∷ []) protest_columns key_order _
-    protests_in_is.0 protests_in_is.1 protests_in_is.2 (λ db. refl) g.K.Sink.takes (λ world rows. rows ≡ protests_in world c.args.round.now)
+    (λ u. (protests_in_is u).0) (λ u. (protests_in_is u).1) (λ u. (protests_in_is u).2) (λ db. refl) g.K.Sink.takes (λ world rows. rows ≡ protests_in world c.args.round.now)
     old (state g.S.Store c.feed.new.conn) c.args.sink.now c.feed.new.sink c.feed.result c.requires.hall c.feed.ensures.rested
     (λ opened. (c.schema-schema.ensures.live opened).0) (protests_in_selected old c.args.round.now)
     (rw (c.params-to_sql.ensures, c.as_str.ensures.text) at c.feed.ensures.fed)

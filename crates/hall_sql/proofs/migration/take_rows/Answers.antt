@@ -4,7 +4,7 @@ use Rattle.sqlite.specs.State.{HasCleanDisk}
 use Rattle.hall_sql.specs.declared.migration.Found.{Found}
 use Rattle.hall_sql.specs.Migrate.{IsFoundBeside}
 use Rattle.hall_sql.specs.Rows.{world_of}
-use Rattle.hall_sql.proofs.MigrationLemmas.{found_bare, had_taken, is_left, leaves_leads, rested_stops, stops_after}
+use Rattle.hall_sql.proofs.MigrationLemmas.{found_bare, had_taken, is_left, leaves_after, leaves_leads, rested_stops, stops_after}
 use Rattle.hall_sql.proofs.migration.take_rows.Goals as goal
 
 pub returns-in-These-clause-takes : goal.returns-in-These-clause-takes
@@ -50,3 +50,8 @@ returns-in-Nothing-clause-stops g c world own bare =
     let told = subst (λ (f : Found). HasCleanDisk s1 → IsTrue s1.is_open × IsFoundBeside c.args.rows.now (world_of s1.now.trees) f)
     c.in-Nothing.is it.served in
     stops_after s0 s1 s2 world it.rested (λ clean. (told clean).0) (leaves_leads s1 s2 c.fill_counted.result c.fill_counted.ensures.leaves) (c.fill_counted.ensures.stops world own bare)
+
+pub returns-in-Nothing-clause-leaves : goal.returns-in-Nothing-clause-leaves
+returns-in-Nothing-clause-leaves g c =
+    leaves_after (state g.T.Store c.args.conn.now) (state g.T.Store c.compare.new.conn) (state g.T.Store c.fill_counted.new.conn) c.fill_counted.result
+    c.in_ok-compare.ensures.rested c.fill_counted.ensures.leaves

@@ -17,7 +17,7 @@ returns-clause-done g c clean inside =
     let it = c.in_ok-run_in.ensures in
     let ran = rw (c.params-to_sql.ensures, c.params-to_sql-2.ensures, c.params-to_sql-3.ensures, c.as_str.ensures.text, c.as_str-2.ensures.text, c.roles_code.ensures)
     at (it.runs clean inside) in
-    did_run (AddsPerson c.args.person.now) ADD_PERSON.now (person_params c.args.person.now) (state g.S.Store c.args.tx.now.conn.now) (state g.S.Store c.run_in.new.tx.conn.now) _ add_person_is.1 (subst IsRowWrite (sym add_person_is.0) tt) (it.mode clean inside) ran
+    did_run (AddsPerson c.args.person.now) ADD_PERSON.now (person_params c.args.person.now) (state g.S.Store c.args.tx.now.conn.now) (state g.S.Store c.run_in.new.tx.conn.now) _ (λ u. (add_person_is u).1) (λ u. subst IsRowWrite (sym (add_person_is u).0) tt) (it.mode clean inside) ran
     (person_added c.args.person.now c.in_range.ensures _ _ _ ran)
 
 pub returns-in_err-run_in-clause-cause : goal.returns-in_err-run_in-clause-cause

@@ -1,14 +1,14 @@
 use Rattle.hall_sql.specs.declared.protests.TheConstants.{PROTEST}
 use Rattle.hall_sql.specs.Rows.{protest_in}
 use Rattle.sqlite.specs.declared.types.Value.TheVariants.{Text}
-use Rattle.std.proofs.Common.{arith, ◌≡◌, ◌∙◌, sym, ap, subst, filter, IfSome, [], ◌∷◌}
+use Rattle.std.proofs.Common.{arith, ◌∙◌, sym, ap, subst, filter, IfSome, [], ◌∷◌}
 use Rattle.std.proofs.lemmas.Option.{IfSome_then}
 use Rattle.std.proofs.lemmas.Result.{IfOk-weaker}
 use Rattle.sqlite.specs.Effect.{Database}
 use Rattle.sqlite.specs.Held.{state}
 use Rattle.sqlite.specs.State.{HasCleanDisk}
 use Rattle.hall_sql.specs.Columns.{is_protest_under, IsAlone}
-use Rattle.hall_sql.specs.Tables.{hall_schema}
+use Rattle.hall_sql.specs.Tables.{IsHallSchema}
 use Rattle.hall_sql.proofs.ProtestTexts.{protest_asked}
 use Rattle.hall_sql.proofs.ProtestLemmas.{protest_found, protest_alone}
 use Rattle.hall_sql.proofs.StoreLemmas.{told, read_whole}
@@ -33,7 +33,7 @@ returns-clause-alone g c clean =
     let rested = c.find.ensures.rested in
     let was : HasCleanDisk old = omega (arith, rested.follows.lasts.clean, clean) in
     IfOk-weaker c.find.result (IsFound protest_in PROTEST.now (Text key.entrant ∷ Text key.round ∷ Text key.token ∷ []) old new) _ (λ o it.
-    let has : old.now.schema ≡ hall_schema = (c.requires.hall.settled was (rested.follows.opened clean it.are.0)).1 in
+    let has : IsHallSchema old.now.schema = (c.requires.hall.settled was (rested.follows.opened clean it.are.0)).1 in
     let alone = protest_alone key old new it.are.1.rows it.records has it.are.1.shown it.are.1.reads it.few in
     IfSome_then o (subst (λ found. IfSome found (IsAlone key old)) (sym it.is) alone)
     (λ row one. record {

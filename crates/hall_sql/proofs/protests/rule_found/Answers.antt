@@ -16,7 +16,7 @@ use Rattle.hall_sql.proofs.protests.rule_found.Goals as goal
 pub returns-in-Ok-clause-wrote : goal.returns-in-Ok-clause-wrote
 returns-in-Ok-clause-wrote g c =
     made_wrote (RuleProtest c.args.key.now c.args.ruling) (state g.S.Store c.args.conn.now) (state g.S.Store c.write_ruling.new.conn) tt c.requires.hall c.write_ruling.ensures.lasts
-    (stops_made (RuleProtest c.args.key.now c.args.ruling) RULE_PROTEST.now (ruling_params c.args.key.now (Some c.args.ruling)) (state g.S.Store c.args.conn.now) (state g.S.Store c.write_ruling.new.conn) c.requires.hall rule_protest_is.1 (subst IsRowWrite (sym rule_protest_is.0) tt)
+    (stops_made (RuleProtest c.args.key.now c.args.ruling) RULE_PROTEST.now (ruling_params c.args.key.now (Some c.args.ruling)) (state g.S.Store c.args.conn.now) (state g.S.Store c.write_ruling.new.conn) c.requires.hall (λ u. (rule_protest_is u).1) (λ u. subst IsRowWrite (sym (rule_protest_is u).0) tt)
     (λ was opened run count ran. protest_ruled c.args.key.now c.args.row.now c.args.ruling c.in_range.ensures c.write_ruling.ensures.in_range (state g.S.Store c.args.conn.now) run count c.requires.hall was (c.requires.alone was) ran)
     c.write_ruling.ensures.survives)
     (λ was clean. protest_ruled c.args.key.now c.args.row.now c.args.ruling c.in_range.ensures c.write_ruling.ensures.in_range _ _ _ c.requires.hall was (c.requires.alone was) (c.in-Ok.ensures.runs clean))
@@ -30,7 +30,7 @@ returns-in-Err-clause-cause g c clean failed =
 pub returns-in-Err-clause-wrote : goal.returns-in-Err-clause-wrote
 returns-in-Err-clause-wrote g c =
     stayed_wrote (RuleProtest c.args.key.now c.args.ruling) (state g.S.Store c.args.conn.now) (state g.S.Store c.write_ruling.new.conn) c.in-Err.fault
-    (stops_made (RuleProtest c.args.key.now c.args.ruling) RULE_PROTEST.now (ruling_params c.args.key.now (Some c.args.ruling)) (state g.S.Store c.args.conn.now) (state g.S.Store c.write_ruling.new.conn) c.requires.hall rule_protest_is.1 (subst IsRowWrite (sym rule_protest_is.0) tt)
+    (stops_made (RuleProtest c.args.key.now c.args.ruling) RULE_PROTEST.now (ruling_params c.args.key.now (Some c.args.ruling)) (state g.S.Store c.args.conn.now) (state g.S.Store c.write_ruling.new.conn) c.requires.hall (λ u. (rule_protest_is u).1) (λ u. subst IsRowWrite (sym (rule_protest_is u).0) tt)
     (λ was opened run count ran. protest_ruled c.args.key.now c.args.row.now c.args.ruling c.in_range.ensures c.write_ruling.ensures.in_range (state g.S.Store c.args.conn.now) run count c.requires.hall was (c.requires.alone was) ran)
     c.write_ruling.ensures.survives)
     c.in-Err.ensures.refused

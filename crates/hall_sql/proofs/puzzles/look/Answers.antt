@@ -3,9 +3,8 @@ use Rattle.sqlite.specs.Held.{state}
 use Rattle.sqlite.specs.Effect.{Database}
 use Rattle.sqlite.specs.State.{HasCleanDisk}
 use Rattle.std.specs.List.{filter}
-use Rattle.hall_sql.specs.Tables.{hall_schema}
+use Rattle.hall_sql.specs.Tables.{IsHallSchema}
 use Rattle.hall_sql.specs.Columns.{stands_under}
-use Rattle.hall_sql.proofs.PuzzleTexts.{look_puzzle_is}
 use Rattle.hall_sql.proofs.PuzzleWrites.{puzzle_looked}
 use Rattle.sqlite.specs.declared.types.Value.TheVariants.{Text}
 use Rattle.hall_sql.specs.declared.puzzles.TheConstants.{LOOK_PUZZLE}
@@ -17,7 +16,7 @@ use Rattle.hall_sql.proofs.Written.{look_puzzle_asked}
 use Rattle.hall_sql.proofs.puzzles.look.Goals as goal
 
 pub ask-requires : goal.ask-requires
-ask-requires g c = record { plain = over_hall c.requires.hall look_puzzle_is.2; quiet = asked_quiet LOOK_PUZZLE.now (Text [] ∷ Text [] ∷ []) (look_puzzle_asked [] []) }
+ask-requires g c = record { plain = over_hall c.requires.hall (λ schema ours. (look_puzzle_asked [] [] schema ours).plain); quiet = asked_quiet LOOK_PUZZLE.now (Text [] ∷ Text [] ∷ []) (look_puzzle_asked [] []) }
 
 pub returns-clause-rested : goal.returns-clause-rested
 returns-clause-rested g c = rested_hall c.requires.hall c.ask.ensures.rested
@@ -31,7 +30,7 @@ returns-clause-found g c clean =
     let opens = c.in_ok-ask.ensures.serves clean in
     let was : HasCleanDisk (state g.S.Store c.args.conn.now) = omega (arith, rested.follows.lasts.clean, clean) in
     let opened = rested.follows.opened clean opens in
-    let has : (state g.S.Store c.args.conn.now).now.schema ≡ hall_schema = (c.requires.hall.settled was opened).1 in
+    let has : IsHallSchema (state g.S.Store c.args.conn.now).now.schema = (c.requires.hall.settled was opened).1 in
     let many = puzzle_looked c.args.key.now (state g.S.Store c.args.conn.now) (state g.S.Store c.ask.new.conn) c.in_ok-ask.field-0.items has (rw (c.params-to_sql.ensures, c.params-to_sql-2.ensures, c.as_str.ensures.text, c.as_str-2.ensures.text) at (c.in_ok-ask.ensures.shown clean)) in
     let count : length c.in_ok-ask.field-0.items ≡ c.len.result = search rules in
     subst (λ (d : Database). length (filter (stands_under c.args.key.now) (d.trees 3)) ≡ c.len.result) (sym (rested.same clean opens)) (many ∙ count)

@@ -1,6 +1,6 @@
 use Rattle.sqlite.specs.Held.{state}
 use Rattle.hall_store.specs.declared.change.Change.TheVariants.{PutPuzzle}
-use Rattle.hall_sql.proofs.PuzzleWrites.{puzzle_added}
+use Rattle.hall_sql.proofs.PuzzleWrites.{added_alone, puzzle_added}
 use Rattle.hall_sql.proofs.WriteLemmas.{made_wrote, stayed_wrote}
 use Rattle.hall_sql.proofs.SoundLemmas.{IsRowWrite}
 use Rattle.hall_sql.proofs.StopLemmas.{stops_made}
@@ -16,7 +16,7 @@ use Rattle.hall_sql.proofs.puzzles.put_new.Goals as goal
 pub returns-in-Ok-clause-wrote : goal.returns-in-Ok-clause-wrote
 returns-in-Ok-clause-wrote g c =
     made_wrote (PutPuzzle c.args.row.now) (state g.S.Store c.args.conn.now) (state g.S.Store c.write.new.conn) tt c.requires.hall c.write.ensures.lasts
-    (stops_made (PutPuzzle c.args.row.now) ADD_PUZZLE.now (puzzle_params c.args.text.now c.args.row.now) (state g.S.Store c.args.conn.now) (state g.S.Store c.write.new.conn) c.requires.hall add_puzzle_is.1 (subst IsRowWrite (sym add_puzzle_is.0) tt)
+    (stops_made (PutPuzzle c.args.row.now) ADD_PUZZLE.now (puzzle_params c.args.text.now c.args.row.now) (state g.S.Store c.args.conn.now) (state g.S.Store c.write.new.conn) c.requires.hall (λ u. (add_puzzle_is u).1) (λ u. subst IsRowWrite (sym (add_puzzle_is u).0) tt)
     (λ was opened run count ran. puzzle_added c.args.text.now c.args.row.now c.requires.spells c.in_range.ensures c.write.ensures.in_range (state g.S.Store c.args.conn.now) run count c.requires.hall was (λ opened. c.requires.found was) ran)
     c.write.ensures.survives)
     (λ was clean. puzzle_added c.args.text.now c.args.row.now c.requires.spells c.in_range.ensures c.write.ensures.in_range _ _ _ c.requires.hall was (λ opened. c.requires.found was) (c.in-Ok.ensures.runs clean))
@@ -30,7 +30,13 @@ returns-in-Err-clause-cause g c clean failed =
 pub returns-in-Err-clause-wrote : goal.returns-in-Err-clause-wrote
 returns-in-Err-clause-wrote g c =
     stayed_wrote (PutPuzzle c.args.row.now) (state g.S.Store c.args.conn.now) (state g.S.Store c.write.new.conn) c.in-Err.fault
-    (stops_made (PutPuzzle c.args.row.now) ADD_PUZZLE.now (puzzle_params c.args.text.now c.args.row.now) (state g.S.Store c.args.conn.now) (state g.S.Store c.write.new.conn) c.requires.hall add_puzzle_is.1 (subst IsRowWrite (sym add_puzzle_is.0) tt)
+    (stops_made (PutPuzzle c.args.row.now) ADD_PUZZLE.now (puzzle_params c.args.text.now c.args.row.now) (state g.S.Store c.args.conn.now) (state g.S.Store c.write.new.conn) c.requires.hall (λ u. (add_puzzle_is u).1) (λ u. subst IsRowWrite (sym (add_puzzle_is u).0) tt)
     (λ was opened run count ran. puzzle_added c.args.text.now c.args.row.now c.requires.spells c.in_range.ensures c.write.ensures.in_range (state g.S.Store c.args.conn.now) run count c.requires.hall was (λ opened. c.requires.found was) ran)
     c.write.ensures.survives)
     c.in-Err.ensures.refused
+
+pub returns-in-Ok-clause-text : goal.returns-in-Ok-clause-text
+returns-in-Ok-clause-text g c clean =
+    let was : HasCleanDisk (state g.S.Store c.args.conn.now) = omega (arith, c.write.ensures.lasts.clean, clean) in
+    added_alone c.args.text.now c.args.row.now c.requires.spells c.in_range.ensures c.write.ensures.in_range _ _ _ c.requires.hall was c.requires.canonical
+    (λ opened. c.requires.found was) (c.in-Ok.ensures.runs clean)

@@ -11,7 +11,7 @@ use Rattle.hall_sql.proofs.reads.read_any.Goals as goal
 pub ask-requires : goal.ask-requires
 ask-requires g c =
     let over = c.requires.asks in
-    record { plain = record { schema = over.schema; tabled = over.tabled; fits = over.fits.plain }; quiet = asked_quiet c.args.sql.now (bound c.args.params.now) over.fits }
+    record { plain = record { schema = over.schema; tabled = over.tabled; fits = λ found like. (over.fits found like).plain }; quiet = asked_quiet c.args.sql.now (bound c.args.params.now) over.fits }
 
 pub returns-in_err-rows-clause-cause : goal.returns-in_err-rows-clause-cause
 returns-in_err-rows-clause-cause g c clean =

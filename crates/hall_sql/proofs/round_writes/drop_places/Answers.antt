@@ -16,7 +16,7 @@ pub returns-clause-done : goal.returns-clause-done
 returns-clause-done g c clean inside =
     let it = c.in_ok-run_in.ensures in
     let ran = rw (c.params-to_sql.ensures, c.as_str.ensures.text) at (it.runs clean inside) in
-    did_run (DropsPlaces c.args.id.now) DROP_PLACES.now (Text c.args.id.now ∷ []) (state g.S.Store c.args.tx.now.conn.now) (state g.S.Store c.run_in.new.tx.conn.now) _ drop_places_is.1 (subst IsRowWrite (sym drop_places_is.0) tt) (it.mode clean inside) ran
+    did_run (DropsPlaces c.args.id.now) DROP_PLACES.now (Text c.args.id.now ∷ []) (state g.S.Store c.args.tx.now.conn.now) (state g.S.Store c.run_in.new.tx.conn.now) _ (λ u. (drop_places_is u).1) (λ u. subst IsRowWrite (sym (drop_places_is u).0) tt) (it.mode clean inside) ran
     (λ held. places_dropped c.args.id.now _ _ _ held ran)
 
 pub returns-in_err-run_in-clause-cause : goal.returns-in_err-run_in-clause-cause

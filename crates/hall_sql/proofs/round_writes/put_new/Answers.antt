@@ -19,7 +19,7 @@ returns-clause-done g c clean inside =
     record {
       mode = it.mode clean inside;
       sound = λ held. ran_sound ADD_HEAD.now (head_params c.args.round.now) (state g.S.Store c.args.tx.now.conn.now) (state g.S.Store c.run_in.new.tx.conn.now) _ held.schema
-          add_head_is.1 (subst IsRowWrite (sym add_head_is.0) tt) ran;
+          (λ u. (add_head_is u).1) (λ u. subst IsRowWrite (sym (add_head_is u).0) tt) ran;
       puts = λ held. head_added c.args.round.now c.in_range.ensures _ _ _ held ran;
     }
 
@@ -27,7 +27,7 @@ pub returns-clause-added : goal.returns-clause-added
 returns-clause-added g c clean inside =
     let it = c.in_ok-run_in.ensures in
     let ran = rw c.columns.ensures at (it.runs clean inside) in
-    did_run (λ a b. AddsHead a c.args.round.now b) ADD_HEAD.now (head_params c.args.round.now) (state g.S.Store c.args.tx.now.conn.now) (state g.S.Store c.run_in.new.tx.conn.now) _ add_head_is.1 (subst IsRowWrite (sym add_head_is.0) tt) (it.mode clean inside) ran
+    did_run (λ a b. AddsHead a c.args.round.now b) ADD_HEAD.now (head_params c.args.round.now) (state g.S.Store c.args.tx.now.conn.now) (state g.S.Store c.run_in.new.tx.conn.now) _ (λ u. (add_head_is u).1) (λ u. subst IsRowWrite (sym (add_head_is u).0) tt) (it.mode clean inside) ran
     (λ held. head_inserted c.args.round.now c.in_range.ensures _ _ _ held ran)
 
 pub returns-in_err-run_in-clause-cause : goal.returns-in_err-run_in-clause-cause

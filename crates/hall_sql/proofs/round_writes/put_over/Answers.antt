@@ -17,7 +17,7 @@ returns-clause-done g c clean inside =
     record {
       mode = it.mode clean inside;
       sound = λ held. ran_sound REPLACE_HEAD.now (head_params c.args.round.now) (state g.S.Store c.args.tx.now.conn.now) (state g.S.Store c.run_in.new.tx.conn.now) _ held.schema
-          replace_head_is.1 (subst IsRowWrite (sym replace_head_is.0) tt) ran;
+          (λ u. (replace_head_is u).1) (λ u. subst IsRowWrite (sym (replace_head_is u).0) tt) ran;
       puts = λ held. head_replaced c.args.round.now c.in_range.ensures _ _ _ held ran;
     }
 

@@ -26,7 +26,7 @@ returns-clause-done g c clean inside =
       c.as_str-3.ensures.text,
       c.get.ensures.value,
     ) at (it.runs clean inside) in
-    did_run (PutsPlace c.args.id.now c.args.number c.args.entry.now) ADD_PLACE.now (place_params c.args.id.now c.args.number c.args.entry.now) (state g.S.Store c.args.tx.now.conn.now) (state g.S.Store c.run_in.new.tx.conn.now) _ add_place_is.1 (subst IsRowWrite (sym add_place_is.0) tt) (it.mode clean inside) ran
+    did_run (PutsPlace c.args.id.now c.args.number c.args.entry.now) ADD_PLACE.now (place_params c.args.id.now c.args.number c.args.entry.now) (state g.S.Store c.args.tx.now.conn.now) (state g.S.Store c.run_in.new.tx.conn.now) _ (λ u. (add_place_is u).1) (λ u. subst IsRowWrite (sym (add_place_is u).0) tt) (it.mode clean inside) ran
     (λ held. place_added c.args.id.now _ _ _ held c.args.number c.args.entry.now c.as_str.ensures.of_kind c.requires.numbered c.entry_in_range.ensures ran)
 
 pub returns-in_err-run_in-clause-cause : goal.returns-in_err-run_in-clause-cause

@@ -17,7 +17,7 @@ use Rattle.hall_sql.proofs.round_writes.set_flag.Goals as goal
 pub returns-in-Ok-clause-wrote : goal.returns-in-Ok-clause-wrote
 returns-in-Ok-clause-wrote g c =
     made_wrote (SetRoundFlag c.args.round.id c.args.flag) (state g.S.Store c.args.conn.now) (state g.S.Store c.run.new.conn) tt c.requires.hall c.run.ensures.lasts
-    (stops_made (SetRoundFlag c.args.round.id c.args.flag) REPLACE_HEAD.now (head_params (flagged c.args.flag c.args.round)) (state g.S.Store c.args.conn.now) (state g.S.Store c.run.new.conn) c.requires.hall replace_head_is.1 (subst IsRowWrite (sym replace_head_is.0) tt)
+    (stops_made (SetRoundFlag c.args.round.id c.args.flag) REPLACE_HEAD.now (head_params (flagged c.args.flag c.args.round)) (state g.S.Store c.args.conn.now) (state g.S.Store c.run.new.conn) c.requires.hall (λ u. (replace_head_is u).1) (λ u. subst IsRowWrite (sym (replace_head_is u).0) tt)
     (λ was opened run count ran. head_flagged c.args.flag c.args.round (rw c.flagged-flagged.ensures at c.in_range.ensures) (state g.S.Store c.args.conn.now) run count c.requires.hall was (c.requires.found was) ran)
     (rw (c.columns.ensures, c.flagged-flagged.ensures) at c.run.ensures.survives))
     (λ was clean. head_flagged c.args.flag c.args.round (rw c.flagged-flagged.ensures at c.in_range.ensures) _ _ _ c.requires.hall was (c.requires.found was) (rw (c.columns.ensures, c.flagged-flagged.ensures) at (c.in-Ok.ensures.runs clean)))
@@ -32,7 +32,7 @@ returns-clause-cause g c clean failed =
 pub returns-clause-wrote : goal.returns-clause-wrote
 returns-clause-wrote g c =
     stayed_wrote (SetRoundFlag c.args.round.id c.args.flag) (state g.S.Store c.args.conn.now) (state g.S.Store c.run.new.conn) c.in-Err.fault
-    (stops_made (SetRoundFlag c.args.round.id c.args.flag) REPLACE_HEAD.now (head_params (flagged c.args.flag c.args.round)) (state g.S.Store c.args.conn.now) (state g.S.Store c.run.new.conn) c.requires.hall replace_head_is.1 (subst IsRowWrite (sym replace_head_is.0) tt)
+    (stops_made (SetRoundFlag c.args.round.id c.args.flag) REPLACE_HEAD.now (head_params (flagged c.args.flag c.args.round)) (state g.S.Store c.args.conn.now) (state g.S.Store c.run.new.conn) c.requires.hall (λ u. (replace_head_is u).1) (λ u. subst IsRowWrite (sym (replace_head_is u).0) tt)
     (λ was opened run count ran. head_flagged c.args.flag c.args.round (rw c.flagged-flagged.ensures at c.in_range.ensures) (state g.S.Store c.args.conn.now) run count c.requires.hall was (c.requires.found was) ran)
     (rw (c.columns.ensures, c.flagged-flagged.ensures) at c.run.ensures.survives))
     c.in-Err.ensures.refused

@@ -1,11 +1,11 @@
 use Rattle.hall_sql.specs.declared.rounds.TheConstants.{HEAD}
 use Rattle.hall_sql.specs.Rows.{round_in}
 use Rattle.sqlite.specs.declared.types.Value.TheVariants.{Text}
-use Rattle.std.proofs.Common.{arith, ◌≡◌, ◌∙◌, [], ◌∷◌}
+use Rattle.std.proofs.Common.{arith, ◌∙◌, [], ◌∷◌}
 use Rattle.std.proofs.lemmas.Result.{IfOk-weaker}
 use Rattle.sqlite.specs.Held.{state}
 use Rattle.sqlite.specs.State.{HasCleanDisk}
-use Rattle.hall_sql.specs.Tables.{hall_schema}
+use Rattle.hall_sql.specs.Tables.{IsHallSchema}
 use Rattle.hall_sql.proofs.HeadTexts.{head_asked}
 use Rattle.hall_sql.proofs.RoundWrites.{head_found, head_alone, head_stays}
 use Rattle.hall_sql.proofs.StoreLemmas.{told, read_whole}
@@ -29,7 +29,7 @@ returns-clause-alone g c clean =
     let rested = c.find.ensures.rested in
     let was : HasCleanDisk old = omega (arith, rested.follows.lasts.clean, clean) in
     IfOk-weaker c.find.result (IsFound round_in HEAD.now (Text c.args.id.now ∷ []) old new) _ (λ found it.
-    let has : old.now.schema ≡ hall_schema = (c.requires.hall.settled was (rested.follows.opened clean it.are.0)).1 in
+    let has : IsHallSchema old.now.schema = (c.requires.hall.settled was (rested.follows.opened clean it.are.0)).1 in
     head_stays c.args.id.now old new found (rested.same clean it.are.0)
     (head_alone c.args.id.now old new it.are.1.rows it.records found has it.are.1.shown it.are.1.reads it.few it.is))
     ((rw (c.params-to_sql.ensures, c.as_str.ensures.text) at c.find.ensures.found) clean)

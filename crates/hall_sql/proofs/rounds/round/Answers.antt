@@ -74,7 +74,7 @@ returns-in_err-places-clause-cause g c clean =
     let whole = c.in_ok-head.ensures.whole late in
     fails_as c.from_residual-in_err-places.result _ _ c.from_residual-in_err-places.ensures.1 (λ failed.
     inr (inl (after_shown place_in HEAD.now (Text id ∷ []) PLACES_OF.now (Text id ∷ []) old mid (state g.S.Store c.places_of.new.conn)
-    (c.requires.hall.settled was opens).1 (head_asked id).plain (places_of_asked id).plain rested.follows.lasts.counts whole.rows whole.shown
+    (c.requires.hall.settled was opens).1 (head_asked id) (places_of_asked id) rested.follows.lasts.counts whole.rows whole.shown
     (c.in_err-places.ensures.cause clean failed))))
 
 pub returns-in_err-names-clause-cause : goal.returns-in_err-names-clause-cause
@@ -95,9 +95,9 @@ returns-in_err-names-clause-cause g c clean =
     let places = c.in_ok-places.ensures.whole last in
     fails_as c.from_residual-in_err-names.result _ _ c.from_residual-in_err-names.ensures.1 (λ failed.
     inr (inr (inl (after_shown tester_in HEAD.now (Text id ∷ []) TESTERS_OF.now (Text id ∷ []) old headed new
-    (c.requires.hall.settled was opens).1 (head_asked id).plain (testers_of_asked id).plain first.follows.lasts.counts head.rows head.shown
+    (c.requires.hall.settled was opens).1 (head_asked id) (testers_of_asked id) first.follows.lasts.counts head.rows head.shown
     (after_shown tester_in PLACES_OF.now (Text id ∷ []) TESTERS_OF.now (Text id ∷ []) headed listed new
-    (first.tabled.settled late opened).1 (places_of_asked id).plain (testers_of_asked id).plain second.follows.lasts.counts places.rows places.shown
+    (first.tabled.settled late opened).1 (places_of_asked id) (testers_of_asked id) second.follows.lasts.counts places.rows places.shown
     (c.in_err-names.ensures.cause clean failed))))))
 
 pub returns-clause-cause : goal.returns-clause-cause

@@ -11,7 +11,7 @@ use Rattle.hall_sql.proofs.Versions.{asked_all}
 use Rattle.hall_sql.proofs.testers.all_testers.Goals as goal
 
 pub read-requires-clause-asks : goal.read-requires-clause-asks
-read-requires-clause-asks g c = asked_all all_testers_are
+read-requires-clause-asks g c = λ schema ours. asked_all (all_testers_are schema ours)
 
 pub returns-clause-served : goal.returns-clause-served
 returns-clause-served g c =

@@ -16,7 +16,7 @@ pub returns-clause-done : goal.returns-clause-done
 returns-clause-done g c clean inside =
     let it = c.in_ok-run_in.ensures in
     let ran = rw (c.params-to_sql.ensures, c.params-to_sql-2.ensures, c.as_str.ensures.text, c.as_str-2.ensures.text) at (it.runs clean inside) in
-    did_run (PutsTester c.args.round.now c.args.name.now) ADD_TESTER.now (tester_params c.args.round.now c.args.name.now) (state g.S.Store c.args.tx.now.conn.now) (state g.S.Store c.run_in.new.tx.conn.now) _ add_tester_is.1 (subst IsRowWrite (sym add_tester_is.0) tt) (it.mode clean inside) ran
+    did_run (PutsTester c.args.round.now c.args.name.now) ADD_TESTER.now (tester_params c.args.round.now c.args.name.now) (state g.S.Store c.args.tx.now.conn.now) (state g.S.Store c.run_in.new.tx.conn.now) _ (λ u. (add_tester_is u).1) (λ u. subst IsRowWrite (sym (add_tester_is u).0) tt) (it.mode clean inside) ran
     (λ held. tester_added c.args.round.now _ _ _ held c.args.name.now c.as_str.ensures.of_kind c.as_str-2.ensures.of_kind ran)
 
 pub returns-in_err-run_in-clause-cause : goal.returns-in_err-run_in-clause-cause
